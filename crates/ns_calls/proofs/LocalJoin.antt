@@ -1,0 +1,142 @@
+-- The reply to a join, and to its answer, rests on the entries of the device's shard alone.
+use Rattle.std.proofs.Common.{◌≡◌, ℕ, ◌+◌, ◌%◌, Bool, true, false, not, cond, eqb, List, [], ◌∷◌, filter, map, length, Option, option_map, option_to_list, count_by, unwrap_or, nat_le, refl, sym, ap, ◌∙◌, inl, inr}
+use Rattle.std.proofs.lemmas.Bool.{eq-eqb, false≢true}
+use Rattle.std.proofs.lemmas.Bool.Decides.{eqb_tells}
+use Rattle.std.specs.Option.{option_and_then}
+use Rattle.std.specs.List.{list_any}
+use Rattle.ns_types.specs.declared.identity.DevEui.{DevEui}
+use Rattle.ns_types.specs.declared.ticket.Ticket.{Ticket}
+use Rattle.ns_types.specs.declared.heard.Heard.{Heard}
+use Rattle.ns_types.specs.Identity.{shard_of}
+use Rattle.ns_types.specs.Ticket.{dev_eui, join_eui, nonce}
+use Rattle.ns_roster.specs.Network.{Network, is_known}
+use Rattle.ns_calls.specs.declared.call.Call.{Call}
+use Rattle.ns_calls.specs.declared.call.Call.TheVariants as call
+use Rattle.ns_calls.specs.declared.call.Outcome.{Outcome}
+use Rattle.ns_calls.specs.declared.call.Outcome.TheVariants as outcome
+use Rattle.ns_calls.specs.declared.call.Reply.{Reply}
+use Rattle.ns_calls.specs.declared.call.Reply.TheVariants as reply
+use Rattle.ns_calls.specs.declared.call.Entry.{Entry}
+use Rattle.ns_types.specs.Cases.{first_case, when}
+use Rattle.ns_calls.specs.Ask.{maximum, from_last}
+use Rattle.ns_calls.specs.History.{Acceptance, same_device, same_ticket, acceptance_in, asking_in, ending_in, ticket_copy_in, is_ticket, asks_for, ends_ticket, acceptances, greatest_nonce, next_session, open_tickets, is_ticket_open, ticket_count, copies_of_ticket, ticket_copies}
+use Rattle.ns_calls.specs.Answer.{answer_join, answer_join_reply, address, is_failed, most_copies, most_tickets}
+use Rattle.ns_calls.specs.Legal.{shard_of_call, of_shard}
+use Rattle.ns_calls.proofs.TicketLemmas.{same_ticket-eq}
+use Rattle.ns_calls.proofs.LocalLemmas.{bool_tells, filter_map-own, list_any-own, count_by-own, still_open-own, from_last-own}
+
+-- whether an entry, and whether a ticket, is of shard k
+abbrev here : ℕ → Entry → Bool
+here k e = eqb (shard_of_call e.call) k
+
+abbrev own : ℕ → Ticket → Bool
+own k t = eqb (shard_of (dev_eui t)) k
+
+other_device : (k d e : ℕ) → e % 16 ≡ k → eqb (d % 16) k ≡ false → eqb d e ≡ false
+other_device k d e h n =
+    elim (eqb_tells d e) [
+      | inl same ↦ absurd (false≢true (sym n ∙ eq-eqb (d % 16) k (ap (λ m. m % 16) same.1 ∙ h)))
+      | inr differs ↦ differs.0
+    ]
+
+other_ticket : (k : ℕ) (t u : Ticket) → own k t ≡ true → own k u ≡ false → same_ticket t u ≡ false
+other_ticket k t u mine other =
+    elim (bool_tells (same_ticket t u)) [
+      | inl same ↦ absurd (false≢true (sym other ∙ (ap (own k) (sym (same_ticket-eq t u same)) ∙ mine)))
+      | inr differs ↦ differs
+    ]
+
+none_single : {X : Type 0} (q : X → Bool) (x : X) → q x ≡ false → filter q (x ∷ []) ≡ []
+none_single {X} q x h = ap (λ b. cond {A = List X} b (x ∷ []) []) h
+
+-- ---- what entries of other shards don't say
+
+acceptance-other : (k : ℕ) (eui : DevEui) → shard_of eui ≡ k → (c : Call) (r : Reply) → eqb (shard_of_call c) k ≡ false → filter (λ a. same_device a.eui eui) (option_to_list (acceptance_in c r)) ≡ []
+acceptance-other k eui h (call.JoinReply ticket (outcome.Success answer)) (reply.Accepted device session addr) n =
+    let a : Acceptance = record { eui = dev_eui ticket; session = session; ticket = ticket; answer = answer } in
+    none_single (λ (b : Acceptance). same_device b.eui eui) a (other_device k (dev_eui ticket).0 eui.0 h n)
+acceptance-other k eui h _ _ n = refl
+
+asking-other : (k : ℕ) (c : Call) (r : Reply) → eqb (shard_of_call c) k ≡ false → filter (own k) (option_to_list (asking_in c r)) ≡ []
+asking-other k (call.Join ticket heard) (reply.Ask asked) n = ap (λ b. cond b (ticket ∷ []) []) n
+asking-other k _ _ n = refl
+
+asks-other : (k : ℕ) (t : Ticket) → own k t ≡ true → (c : Call) (r : Reply) → eqb (shard_of_call c) k ≡ false → is_ticket t (asking_in c r) ≡ false
+asks-other k t mine (call.Join ticket heard) (reply.Ask asked) n = other_ticket k t ticket mine n
+asks-other k t mine _ _ n = refl
+
+ends-other : (k : ℕ) (t : Ticket) → own k t ≡ true → (c : Call) (r : Reply) → eqb (shard_of_call c) k ≡ false → is_ticket t (ending_in c r) ≡ false
+ends-other k t mine (call.JoinReply ticket outcome) (reply.Accepted eui session addr) n = other_ticket k t ticket mine n
+ends-other k t mine (call.JoinReply ticket outcome) reply.JoinRefused n = other_ticket k t ticket mine n
+ends-other k t mine (call.JoinReply ticket outcome) (reply.JoinStale greatest) n = other_ticket k t ticket mine n
+ends-other k t mine _ _ n = refl
+
+copy-other : (k : ℕ) (t : Ticket) → own k t ≡ true → (c : Call) (r : Reply) → eqb (shard_of_call c) k ≡ false → filter (λ x. same_ticket t x.0) (option_to_list (ticket_copy_in c r)) ≡ []
+copy-other k t mine (call.Join ticket heard) (reply.Ask asked) n = none_single (λ (x : Ticket × Heard). same_ticket t x.0) (ticket, heard) (other_ticket k t ticket mine n)
+copy-other k t mine (call.Join ticket heard) (reply.JoinCopied place) n = none_single (λ (x : Ticket × Heard). same_ticket t x.0) (ticket, heard) (other_ticket k t ticket mine n)
+copy-other k t mine _ _ n = refl
+
+-- ---- what a shard's entries say of its devices and tickets
+
+pub acceptances-own : (k : ℕ) (eui : DevEui) → shard_of eui ≡ k → (h : List Entry) → acceptances (of_shard k h) eui ≡ acceptances h eui
+acceptances-own k eui mine h = filter_map-own (here k) (λ e. acceptance_in e.call e.reply) (λ a. same_device a.eui eui) (λ e n. acceptance-other k eui mine e.call e.reply n) h
+
+pub open_tickets-own : (k : ℕ) (h : List Entry) → filter (own k) (open_tickets (of_shard k h)) ≡ filter (own k) (open_tickets h)
+open_tickets-own k h = still_open-own (λ e. asking_in e.call e.reply) ends_ticket (here k) (own k) (λ e n. asking-other k e.call e.reply n) (λ t e mine n. ends-other k t mine e.call e.reply n) h
+
+pub is_ticket_open-own : (k : ℕ) (t : Ticket) → own k t ≡ true → (h : List Entry) → is_ticket_open (of_shard k h) t ≡ is_ticket_open h t
+is_ticket_open-own k t mine h =
+    let outside = λ (u : Ticket) (n : own k u ≡ false). other_ticket k t u mine n in
+    sym (list_any-own (own k) (same_ticket t) outside (open_tickets (of_shard k h)))
+    ∙ (ap (list_any (same_ticket t)) (open_tickets-own k h) ∙ list_any-own (own k) (same_ticket t) outside (open_tickets h))
+
+pub ticket_count-own : (k : ℕ) (eui : DevEui) → shard_of eui ≡ k → (h : List Entry) → ticket_count (of_shard k h) eui ≡ ticket_count h eui
+ticket_count-own k eui mine h =
+    let of_device = λ (u : Ticket). same_device (dev_eui u) eui in
+    let outside = λ (u : Ticket) (n : own k u ≡ false). other_device k (dev_eui u).0 eui.0 mine n in
+    sym (count_by-own (own k) of_device outside (open_tickets (of_shard k h)))
+    ∙ (ap (count_by of_device) (open_tickets-own k h) ∙ count_by-own (own k) of_device outside (open_tickets h))
+
+pub ticket_copies-own : (k : ℕ) (t : Ticket) → own k t ≡ true → (h : List Entry) → ticket_copies (of_shard k h) t ≡ ticket_copies h t
+ticket_copies-own k t mine h =
+    ap (λ es. copies_of_ticket es t) (from_last-own (here k) (asks_for t) (λ e n. asks-other k t mine e.call e.reply n) h)
+    ∙ ap (map (λ c. c.1)) (filter_map-own (here k) (λ e. ticket_copy_in e.call e.reply) (λ x. same_ticket t x.0) (λ e n. copy-other k t mine e.call e.reply n) (from_last (asks_for t) h))
+
+-- ---- the replies
+
+-- the reply to a join, by what is asked of the history
+abbrev join_from : Network → Ticket → Option ℕ → Bool → ℕ → ℕ → Reply
+join_from net t greatest is_open copies count = first_case (
+    when (not (is_known net (dev_eui t) (join_eui t))) reply.NoDevice
+    ∷ option_map (λ g. reply.NonceOld (record { 0 = g })) (option_and_then (λ g. when (nat_le (nonce t).0 g) g) greatest)
+    ∷ when is_open (cond (nat_le (copies + 1) most_copies) (reply.JoinCopied (copies + 1)) reply.JoinCrowded)
+    ∷ when (nat_le most_tickets count) reply.JoinBusy
+    ∷ []) (reply.Ask t)
+
+abbrev join_reply_from : Network → Ticket → Outcome → Bool → Option ℕ → ℕ → Reply
+join_reply_from net t o is_open greatest session = first_case (
+    when (not is_open) reply.NoTicket
+    ∷ when (is_failed o) reply.JoinRefused
+    ∷ option_map (λ g. reply.JoinStale (record { 0 = g })) (option_and_then (λ g. when (nat_le (nonce t).0 g) g) greatest)
+    ∷ []) (reply.Accepted (dev_eui t) session (address net (dev_eui t)))
+
+pub answer_join-own : (net : Network) (h : List Entry) (t : Ticket) → answer_join net (of_shard (shard_of (dev_eui t)) h) t ≡ answer_join net h t
+answer_join-own net h t =
+    let k : ℕ = shard_of (dev_eui t) in
+    let eui : DevEui = dev_eui t in
+    let part : List Entry = of_shard k h in
+    let mine : own k t ≡ true = eq-eqb k k refl in
+    ap (λ g. join_from net t g (is_ticket_open part t) (length (ticket_copies part t)) (ticket_count part eui)) (ap (λ accepted. maximum (map (λ a. (nonce a.ticket).0) accepted)) (acceptances-own k eui refl h))
+    ∙ (ap (λ b. join_from net t (greatest_nonce h eui) b (length (ticket_copies part t)) (ticket_count part eui)) (is_ticket_open-own k t mine h)
+    ∙ (ap (λ hs. join_from net t (greatest_nonce h eui) (is_ticket_open h t) (length hs) (ticket_count part eui)) (ticket_copies-own k t mine h)
+    ∙ ap (λ n. join_from net t (greatest_nonce h eui) (is_ticket_open h t) (length (ticket_copies h t)) n) (ticket_count-own k eui refl h)))
+
+pub answer_join_reply-own : (net : Network) (h : List Entry) (t : Ticket) (o : Outcome) → answer_join_reply net (of_shard (shard_of (dev_eui t)) h) t o ≡ answer_join_reply net h t o
+answer_join_reply-own net h t o =
+    let k : ℕ = shard_of (dev_eui t) in
+    let eui : DevEui = dev_eui t in
+    let part : List Entry = of_shard k h in
+    let mine : own k t ≡ true = eq-eqb k k refl in
+    let same = acceptances-own k eui refl h in
+    ap (λ b. join_reply_from net t o b (greatest_nonce part eui) (next_session part eui)) (is_ticket_open-own k t mine h)
+    ∙ ap (λ accepted. join_reply_from net t o (is_ticket_open h t) (maximum (map (λ a. (nonce a.ticket).0) accepted)) (unwrap_or (maximum (map (λ a. a.session) accepted)) 0 + 1)) same

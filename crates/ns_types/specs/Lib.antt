@@ -1,0 +1,4 @@
+pub mod Identity
+pub mod Heard
+pub mod Ticket
+pub mod Cases
