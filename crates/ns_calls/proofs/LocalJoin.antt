@@ -18,21 +18,21 @@ use Rattle.ns_calls.specs.declared.call.Reply.{Reply}
 use Rattle.ns_calls.specs.declared.call.Reply.TheVariants as reply
 use Rattle.ns_calls.specs.declared.call.Entry.{Entry}
 use Rattle.ns_types.specs.Cases.{first_case, when}
-use Rattle.ns_calls.specs.Ask.{maximum, from_last}
+use Rattle.ns_calls.specs.Queries.{maximum, from_last}
 use Rattle.ns_calls.specs.History.{Acceptance, same_device, same_ticket, acceptance_in, asking_in, ending_in, ticket_copy_in, is_ticket, asks_for, ends_ticket, acceptances, greatest_nonce, next_session, open_tickets, is_ticket_open, ticket_count, copies_of_ticket, ticket_copies}
-use Rattle.ns_calls.specs.Answer.{answer_join, answer_join_reply, address, is_failed, most_copies, most_tickets}
-use Rattle.ns_calls.specs.Legal.{shard_of_call, of_shard}
+use Rattle.ns_calls.specs.Reply.{reply_to_join, reply_to_join_reply, address, is_failed, most_copies, most_tickets}
+use Rattle.ns_calls.specs.Shards.{shard_of_call, of_shard}
 use Rattle.ns_calls.proofs.TicketLemmas.{same_ticket-eq}
 use Rattle.ns_calls.proofs.LocalLemmas.{bool_tells, filter_map-own, list_any-own, count_by-own, still_open-own, from_last-own}
 
 -- whether an entry, and whether a ticket, is of shard k
-abbrev here : ℕ → Entry → Bool
+abbrev pub here : ℕ → Entry → Bool
 here k e = eqb (shard_of_call e.call) k
 
 abbrev own : ℕ → Ticket → Bool
 own k t = eqb (shard_of (dev_eui t)) k
 
-other_device : (k d e : ℕ) → e % 16 ≡ k → eqb (d % 16) k ≡ false → eqb d e ≡ false
+pub other_device : (k d e : ℕ) → e % 16 ≡ k → eqb (d % 16) k ≡ false → eqb d e ≡ false
 other_device k d e h n =
     elim (eqb_tells d e) [
       | inl same ↦ absurd (false≢true (sym n ∙ eq-eqb (d % 16) k (ap (λ m. m % 16) same.1 ∙ h)))
@@ -46,14 +46,14 @@ other_ticket k t u mine other =
       | inr differs ↦ differs
     ]
 
-none_single : {X : Type 0} (q : X → Bool) (x : X) → q x ≡ false → filter q (x ∷ []) ≡ []
+pub none_single : {X : Type 0} (q : X → Bool) (x : X) → q x ≡ false → filter q (x ∷ []) ≡ []
 none_single {X} q x h = ap (λ b. cond {A = List X} b (x ∷ []) []) h
 
 -- ---- what entries of other shards don't say
 
 acceptance-other : (k : ℕ) (eui : DevEui) → shard_of eui ≡ k → (c : Call) (r : Reply) → eqb (shard_of_call c) k ≡ false → filter (λ a. same_device a.eui eui) (option_to_list (acceptance_in c r)) ≡ []
-acceptance-other k eui h (call.JoinReply ticket (outcome.Success answer)) (reply.Accepted device session addr) n =
-    let a : Acceptance = record { eui = dev_eui ticket; session = session; ticket = ticket; answer = answer } in
+acceptance-other k eui h (call.JoinReply ticket (outcome.Success join_ans)) (reply.Accepted device session addr) n =
+    let a : Acceptance = record { eui = dev_eui ticket; session = session; ticket = ticket; join_ans = join_ans } in
     none_single (λ (b : Acceptance). same_device b.eui eui) a (other_device k (dev_eui ticket).0 eui.0 h n)
 acceptance-other k eui h _ _ n = refl
 
@@ -120,23 +120,23 @@ join_reply_from net t o is_open greatest session = first_case (
     ∷ option_map (λ g. reply.JoinStale (record { 0 = g })) (option_and_then (λ g. when (nat_le (nonce t).0 g) g) greatest)
     ∷ []) (reply.Accepted (dev_eui t) session (address net (dev_eui t)))
 
-pub answer_join-own : (net : Network) (h : List Entry) (t : Ticket) → answer_join net (of_shard (shard_of (dev_eui t)) h) t ≡ answer_join net h t
-answer_join-own net h t =
+pub reply_to_join-own : (net : Network) (h : List Entry) (t : Ticket) → reply_to_join net (of_shard (shard_of (dev_eui t)) h) t ≡ reply_to_join net h t
+reply_to_join-own net h t =
     let k : ℕ = shard_of (dev_eui t) in
     let eui : DevEui = dev_eui t in
     let part : List Entry = of_shard k h in
     let mine : own k t ≡ true = eq-eqb k k refl in
     ap (λ g. join_from net t g (is_ticket_open part t) (length (ticket_copies part t)) (ticket_count part eui)) (ap (λ accepted. maximum (map (λ a. (nonce a.ticket).0) accepted)) (acceptances-own k eui refl h))
-    ∙ (ap (λ b. join_from net t (greatest_nonce h eui) b (length (ticket_copies part t)) (ticket_count part eui)) (is_ticket_open-own k t mine h)
-    ∙ (ap (λ hs. join_from net t (greatest_nonce h eui) (is_ticket_open h t) (length hs) (ticket_count part eui)) (ticket_copies-own k t mine h)
-    ∙ ap (λ n. join_from net t (greatest_nonce h eui) (is_ticket_open h t) (length (ticket_copies h t)) n) (ticket_count-own k eui refl h)))
+    ∙ (ap (λ b. join_from net t (greatest_nonce net h eui) b (length (ticket_copies part t)) (ticket_count part eui)) (is_ticket_open-own k t mine h)
+    ∙ (ap (λ hs. join_from net t (greatest_nonce net h eui) (is_ticket_open h t) (length hs) (ticket_count part eui)) (ticket_copies-own k t mine h)
+    ∙ ap (λ n. join_from net t (greatest_nonce net h eui) (is_ticket_open h t) (length (ticket_copies h t)) n) (ticket_count-own k eui refl h)))
 
-pub answer_join_reply-own : (net : Network) (h : List Entry) (t : Ticket) (o : Outcome) → answer_join_reply net (of_shard (shard_of (dev_eui t)) h) t o ≡ answer_join_reply net h t o
-answer_join_reply-own net h t o =
+pub reply_to_join_reply-own : (net : Network) (h : List Entry) (t : Ticket) (o : Outcome) → reply_to_join_reply net (of_shard (shard_of (dev_eui t)) h) t o ≡ reply_to_join_reply net h t o
+reply_to_join_reply-own net h t o =
     let k : ℕ = shard_of (dev_eui t) in
     let eui : DevEui = dev_eui t in
     let part : List Entry = of_shard k h in
     let mine : own k t ≡ true = eq-eqb k k refl in
     let same = acceptances-own k eui refl h in
-    ap (λ b. join_reply_from net t o b (greatest_nonce part eui) (next_session part eui)) (is_ticket_open-own k t mine h)
+    ap (λ b. join_reply_from net t o b (greatest_nonce net part eui) (next_session part eui)) (is_ticket_open-own k t mine h)
     ∙ ap (λ accepted. join_reply_from net t o (is_ticket_open h t) (maximum (map (λ a. (nonce a.ticket).0) accepted)) (unwrap_or (maximum (map (λ a. a.session) accepted)) 0 + 1)) same

@@ -1,7 +1,8 @@
 -- The layout of the gateways' datagrams, which is this server's own. Numbers have their highest byte first.
-use Rattle.std.specs.Prelude.{◌≡◌, ℕ, ◌+◌, ◌<◌, ◌≤◌, ◌^◌, not, ◌||◌, ◌==◌, nat_lt, List, ◌∷◌, ◌++◌, length, take, drop, slice_index, Result, Ok, Err, ℤ, FitsSigned, if◌then◌else◌}
+use Rattle.std.specs.Prelude.{◌≡◌, ℕ, ◌+◌, ◌<◌, ◌≤◌, ◌^◌, not, ◌||◌, ◌==◌, nat_lt, List, [], ◌∷◌, ◌++◌, length, take, drop, slice_index, Option, None, Some, Result, Ok, Err, ℤ, FitsSigned}
 use Rattle.std.specs.Int.{w16, w32, w64, to_be_bytes, from_be_bytes, cast_signed, cast_unsigned}
 use Rattle.std.specs.List.{All}
+use Rattle.ns_types.specs.Cases.{when, first_of}
 use Rattle.ns_types.specs.declared.heard.Heard.{Heard}
 use Rattle.ns_types.specs.declared.heard.Target.{Target}
 use Rattle.ns_link.specs.declared.LinkFault.{LinkFault}
@@ -24,11 +25,19 @@ up_datagram h frame =
     0x01 ∷ 0x01 ∷ to_be_bytes w64 h.gateway.0 ++ to_be_bytes w64 h.moment ++ to_be_bytes w32 h.freq
     ++ (h.dr ∷ two_complement h.rssi ++ two_complement h.snr ++ (length frame ∷ frame))
 
+-- the bytes before a frame of n bytes that a gateway is to send
+abbrev pub down_header : Target → ℕ → List ℕ
+down_header t n =
+    0x01 ∷ 0x81 ∷ to_be_bytes w64 t.gateway.0 ++ to_be_bytes w64 t.moment ++ to_be_bytes w32 t.freq
+    ++ (t.dr ∷ 0 ∷ 0 ∷ 0 ∷ 0 ∷ n ∷ [])
+
 -- the datagram of a frame that a gateway is to send
 abbrev pub down_datagram : Target → List ℕ → List ℕ
-down_datagram t frame =
-    0x01 ∷ 0x81 ∷ to_be_bytes w64 t.gateway.0 ++ to_be_bytes w64 t.moment ++ to_be_bytes w32 t.freq
-    ++ (t.dr ∷ 0 ∷ 0 ∷ 0 ∷ 0 ∷ length frame ∷ frame)
+down_datagram t frame = down_header t (length frame) ++ frame
+
+-- each is a byte
+abbrev pub AreBytes : List ℕ → Type 0
+AreBytes bytes = All (λ b. b < 256) bytes
 
 -- the bytes are the datagram of this frame, heard so
 pub record IsUpDatagram (bytes : List ℕ) (h : Heard) (frame : List ℕ) : Type 0 where
@@ -41,7 +50,7 @@ pub record IsUpDatagram (bytes : List ℕ) (h : Heard) (frame : List ℕ) : Type
   pub rssi : FitsSigned w16 h.rssi
   pub snr : FitsSigned w16 h.snr
   pub frame_len : length frame ≤ 255
-  pub frame_bytes : All (λ b. b < 256) frame
+  pub frame_bytes : AreBytes frame
 
 -- how a datagram says that its frame was heard
 abbrev pub heard_of : List ℕ → Heard
@@ -54,13 +63,22 @@ heard_of bytes = record {
   snr = cast_signed w16 (from_be_bytes w16 (take 2 (drop 25 bytes)));
 }
 
+-- the first fault of bytes that are no uplink's datagram, in the order of the numbers G1 to G6
+abbrev pub link_fault : List ℕ → Option LinkFault
+link_fault bytes = first_of (
+    when (nat_lt (length bytes) 28) Short
+    ∷ when (not (slice_index bytes 0 == 1)) Version
+    ∷ when (not (slice_index bytes 1 == 1)) Kind
+    ∷ when (not (length bytes == 28 + slice_index bytes 27)) Length
+    ∷ when (nat_lt (heard_of bytes).freq lowest_frequency || nat_lt highest_frequency (heard_of bytes).freq) Frequency
+    ∷ when (nat_lt 7 (heard_of bytes).dr) DataRate
+    ∷ [])
+
+-- a value, or the fault where there is one
+abbrev pub unless : {X : Type 0} → Option LinkFault → X → Result X LinkFault
+unless None x = Ok x
+unless (Some fault) x = Err fault
+
 -- what a datagram holds, or its first fault
 abbrev pub datagram_of : List ℕ → Result (Heard × List ℕ) LinkFault
-datagram_of bytes =
-    if nat_lt (length bytes) 28 then Err Short
-    else if not (slice_index bytes 0 == 1) then Err Version
-    else if not (slice_index bytes 1 == 1) then Err Kind
-    else if not (length bytes == 28 + slice_index bytes 27) then Err Length
-    else if nat_lt (heard_of bytes).freq lowest_frequency || nat_lt highest_frequency (heard_of bytes).freq then Err Frequency
-    else if nat_lt 7 (heard_of bytes).dr then Err DataRate
-    else Ok (heard_of bytes, drop 28 bytes)
+datagram_of bytes = unless (link_fault bytes) (heard_of bytes, drop 28 bytes)

@@ -11,9 +11,14 @@ abbrev pub dir_byte : Dir → ℕ
 dir_byte Up = 0
 dir_byte Down = 1
 
+-- the shape of the blocks B0 (4.4) and A i (4.3.3.1): the direction, the address and the whole 32-bit counter between two bytes
+abbrev pub frame_block : ℕ → Dir → ℕ → ℕ → ℕ → List ℕ
+frame_block first dir addr counter last =
+    first ∷ 0 ∷ 0 ∷ 0 ∷ 0 ∷ dir_byte dir ∷ to_le_bytes w32 addr ++ to_le_bytes w32 counter ++ 0 ∷ last ∷ []
+
 -- the block before the frame, whose length without the MIC is len (4.4)
 abbrev pub block_b0 : Dir → ℕ → ℕ → ℕ → List ℕ
-block_b0 dir addr counter len = 0x49 ∷ 0 ∷ 0 ∷ 0 ∷ 0 ∷ dir_byte dir ∷ to_le_bytes w32 addr ++ to_le_bytes w32 counter ++ 0 ∷ len ∷ []
+block_b0 dir addr counter len = frame_block 0x49 dir addr counter len
 
 -- the MIC of a data frame: signed is the frame without it, counter the whole 32-bit counter (4.4)
 abbrev pub mic : List ℕ → Dir → ℕ → ℕ → List ℕ → List ℕ

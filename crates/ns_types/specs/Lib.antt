@@ -2,3 +2,4 @@ pub mod Identity
 pub mod Heard
 pub mod Ticket
 pub mod Cases
+pub mod Streams

@@ -2,10 +2,10 @@
 use Rattle.std.proofs.Common.{◌≡◌, ℕ, ◌+◌, ◌-◌, ◌*◌, ◌/◌, ◌%◌, ◌<◌, List, [], ◌∷◌, ◌++◌, length, take, drop, Option, None, Some, IfNone, refl, sym, ap, ◌∙◌, arith, length-append}
 use Rattle.std.proofs.Math.Seq.{take-append_seam, drop-append_seam, drop-append-add}
 use Rattle.std.proofs.lemmas.List.{append_assoc}
-use Rattle.std.specs.Int.{w16, w32, to_le_bytes}
-use Rattle.std.proofs.lemmas.Nat.{from_le_bytes-to_le_bytes_2, from_le_bytes-to_le_bytes_4}
-use Rattle.ns_views.specs.Grammar.{DataFields, IsDataFrame, mhdr, ported, frame_before_mic}
-use Rattle.ns_views.specs.Frame.{ftype_of, signed, port_and_payload, first_byte, data_fields}
+use Rattle.std.specs.Int.{w16, w32, w64, to_le_bytes}
+use Rattle.std.proofs.lemmas.Nat.{from_le_bytes-to_le_bytes_2, from_le_bytes-to_le_bytes_4, from_le_bytes-to_le_bytes_8}
+use Rattle.ns_views.specs.Grammar.{DataFields, JoinFields, IsDataFrame, IsJoinRequest, join_request, mhdr, ported, frame_before_mic}
+use Rattle.ns_views.specs.Frame.{ftype_of, signed, port_and_payload, first_byte, data_fields, join_fields}
 
 -- the last four bytes, and those before them
 front : (s m : List ℕ) → length m ≡ 4 → take (length (s ++ m) - 4) (s ++ m) ≡ s
@@ -22,14 +22,14 @@ second_part : (n : ℕ) (o r : List ℕ) → length o ≡ n → drop n (o ++ r) 
 second_part n o r h = rw (← h) (drop-append_seam o r)
 
 -- the frame with these parts
-abbrev frame : ℕ → DataFields → List ℕ
+abbrev pub frame : ℕ → DataFields → List ℕ
 frame reserved d = frame_before_mic reserved d ++ d.mic
 
 -- the eight bytes up to the options
 abbrev head : ℕ → DataFields → List ℕ
 head reserved d = mhdr d.ftype reserved ∷ to_le_bytes w32 d.addr ++ (d.fctrl ∷ to_le_bytes w16 d.fcnt16)
 
-ftype-is : (reserved : ℕ) (d : DataFields) → reserved < 8 → ftype_of (frame reserved d) ≡ d.ftype
+pub ftype-is : (reserved : ℕ) (d : DataFields) → reserved < 8 → ftype_of (frame reserved d) ≡ d.ftype
 ftype-is reserved d h = byte d.ftype reserved h
   where
     byte : (t r : ℕ) → r < 8 → (t * 32 + r * 4) / 32 ≡ t
@@ -77,3 +77,23 @@ data_fields-frame bytes d h =
     let e_payload = ap (drop 1) e_ported ∙ payload-is d.port d.payload h.no_port in
     let e_mic = back (frame_before_mic reserved d) d.mic h.mic in
     ap data_fields h.parts.2 ∙ same_fields (data_fields (frame reserved d)) d e_ftype e_addr refl e_fcnt e_fopts e_port e_payload e_mic
+
+-- the fields of a Join-Request that is made of these fields
+request : ℕ → ℕ → ℕ → List ℕ → JoinFields
+request join_eui dev_eui nonce mic = record { join_eui = join_eui; dev_eui = dev_eui; nonce = nonce; mic = mic }
+
+request-same : (c d : JoinFields) → c.join_eui ≡ d.join_eui → c.dev_eui ≡ d.dev_eui → c.nonce ≡ d.nonce → c.mic ≡ d.mic →
+    request c.join_eui c.dev_eui c.nonce c.mic ≡ request d.join_eui d.dev_eui d.nonce d.mic
+request-same c d e f g h = cc
+
+same_request : (c d : JoinFields) → c.join_eui ≡ d.join_eui → c.dev_eui ≡ d.dev_eui → c.nonce ≡ d.nonce → c.mic ≡ d.mic → c ≡ d
+unfolding request
+same_request c d e f g h = request-same c d e f g h
+
+pub join_fields-request : (bytes : List ℕ) (j : JoinFields) → IsJoinRequest bytes j → join_fields bytes ≡ j
+join_fields-request bytes j h =
+    let r = h.parts.0 in
+    let e_join = from_le_bytes-to_le_bytes_8 j.join_eui h.join_eui in
+    let e_dev = from_le_bytes-to_le_bytes_8 j.dev_eui h.dev_eui in
+    let e_nonce = from_le_bytes-to_le_bytes_2 j.nonce h.nonce in
+    ap join_fields h.parts.2 ∙ same_request (join_fields (mhdr join_request r ∷ to_le_bytes w64 j.join_eui ++ to_le_bytes w64 j.dev_eui ++ to_le_bytes w16 j.nonce ++ j.mic)) j e_join e_dev e_nonce refl

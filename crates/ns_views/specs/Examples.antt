@@ -1,8 +1,9 @@
 -- Examples of frames: an uplink's fields, and the first fault of bytes that are no uplink.
 use Rattle.std.specs.Prelude.{◌≡◌, ℕ, List, [], ◌∷◌, take, replicate, ◌++◌, None, Some}
 use Rattle.ns_views.specs.declared.ViewFault.TheVariants.{TooShort, Major, FrameType, Options, JoinLength, TooLong}
-use Rattle.ns_views.specs.Grammar.{DataFields}
-use Rattle.ns_views.specs.Frame.{data_fields, signed, view_fault}
+use Rattle.ns_views.specs.Grammar.{DataFields, JoinFields}
+use Rattle.ns_views.specs.Frame.{data_fields, join_fields, signed, view_fault, parts_fault}
+use Rattle.ns_views.specs.Parts.{with_payload}
 
 -- an unconfirmed uplink with four bytes of payload
 abbrev pub uplink : List ℕ
@@ -13,6 +14,17 @@ join = (0x0 ∷ 0x4 ∷ 0x3 ∷ 0x2 ∷ 0x1 ∷ 0x4 ∷ 0x3 ∷ 0x2 ∷ 0x1 ∷ 
 
 abbrev pub uplink_fields : DataFields
 uplink_fields = record { ftype = 2; addr = 0x49be7df1; fctrl = 0; fcnt16 = 2; fopts = []; port = Some 1; payload = (0x95 ∷ 0x43 ∷ 0x78 ∷ 0x76 ∷ []); mic = (0x2b ∷ 0x11 ∷ 0xff ∷ 0xd ∷ []) }
+
+abbrev pub join_fields_read : JoinFields
+join_fields_read = record { join_eui = 0x102030401020304; dev_eui = 0xd; nonce = 1; mic = (0x1 ∷ 0x0 ∷ 0x0 ∷ 0x0 ∷ []) }
+
+-- a frame whose payload is to be written: the fault, and the frame after it
+abbrev pub Parts : Type 0
+Parts =
+    (parts_fault uplink ≡ None)
+    × (parts_fault join ≡ Some FrameType)
+    × (parts_fault (take 22 join) ≡ Some JoinLength)
+    × (with_payload uplink (0x6a ∷ 0xbc ∷ 0x87 ∷ 0x89 ∷ []) ≡ (0x40 ∷ 0xf1 ∷ 0x7d ∷ 0xbe ∷ 0x49 ∷ 0x0 ∷ 0x2 ∷ 0x0 ∷ 0x1 ∷ 0x6a ∷ 0xbc ∷ 0x87 ∷ 0x89 ∷ 0x2b ∷ 0x11 ∷ 0xff ∷ 0xd ∷ []))
 
 -- the first fault of each, in turn
 abbrev pub Faults : Type 0
@@ -32,6 +44,7 @@ Faults =
 abbrev pub Fields : Type 0
 Fields =
     (data_fields uplink ≡ uplink_fields)
+    × (join_fields join ≡ join_fields_read)
     × (signed uplink ≡ take 13 uplink)
     × ((data_fields (0x40 ∷ 0xf1 ∷ 0x7d ∷ 0xbe ∷ 0x49 ∷ 0x0 ∷ 0x2 ∷ 0x0 ∷ 0x0 ∷ 0x0 ∷ 0x0 ∷ 0x0 ∷ [])).port ≡ None)
     × ((data_fields (0x40 ∷ 0xf1 ∷ 0x7d ∷ 0xbe ∷ 0x49 ∷ 0x0 ∷ 0x2 ∷ 0x0 ∷ 0x5 ∷ 0x0 ∷ 0x0 ∷ 0x0 ∷ 0x0 ∷ [])).port ≡ Some 5)

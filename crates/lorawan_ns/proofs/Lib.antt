@@ -1,0 +1,4 @@
+pub mod LineLemmas
+pub mod Digits
+pub mod FrameTypes
+pub mod Told

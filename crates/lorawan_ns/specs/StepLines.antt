@@ -1,0 +1,94 @@
+-- The step lines of a text: what stands between line feeds, and the step that each line asks for.
+use Rattle.std.specs.Prelude.{ℕ, ◌+◌, ◌-◌, ◌*◌, ◌^◌, Bool, ◌&&◌, ◌==◌, nat_le, nat_lt, List, [], ◌∷◌, length, take, drop, map, position, fold, slice_index, codes, bytes_eq, Option, None, option_map, option_and_then, if◌then◌else◌}
+use Rattle.std.specs.List.{list_all, slice_split}
+use Rattle.std.specs.Result.{result_ok}
+use Rattle.std.specs.Int.{w64, from_be_bytes}
+use Rattle.hex.specs.Hex.{decode_of, decode_sized}
+use Rattle.ns_types.specs.Cases.{when}
+use Rattle.ns_types.specs.declared.identity.DevEui.{DevEui}
+use Rattle.ns_types.specs.declared.identity.WindowName.{WindowName}
+use Rattle.ns_types.specs.declared.ticket.Ticket.{Ticket}
+use Rattle.ns_shard.specs.declared.step.Act.{Act}
+use Rattle.ns_shard.specs.declared.step.Act.TheVariants.{Datagram, Answer, Lost, Close}
+
+-- ---- lines
+
+-- the parts, but for an empty last one
+abbrev pub without_empty_last : List (List ℕ) → List (List ℕ)
+without_empty_last [] = []
+without_empty_last (x ∷ []) = if length x == 0 then [] else x ∷ []
+without_empty_last (x ∷ y ∷ more) = x ∷ without_empty_last (y ∷ more)
+
+-- what stands between line feeds; what follows the last one is a line where it isn't empty
+unfoldable pub raw_lines : List ℕ → List (List ℕ)
+raw_lines text = without_empty_last (slice_split (λ b. b == 10) text)
+
+-- the line without one carriage return at its end
+unfoldable pub without_return : List ℕ → List ℕ
+without_return line = if slice_index line (length line - 1) == 13 then take (length line - 1) line else line
+
+-- ---- words, parted by one space
+
+-- the text before the first space and the text behind it, where there is a space
+unfoldable pub parted : List ℕ → Option (List ℕ × List ℕ)
+parted text = option_map (λ i. (take i text, drop (i + 1) text)) (position (λ b. b == 32) text)
+
+abbrev pub is_digit : ℕ → Bool
+is_digit b = nat_le 48 b && nat_le b 57
+
+abbrev pub decimal_value : List ℕ → ℕ
+decimal_value = fold (λ n digit. n * 10 + (digit - 48)) 0
+
+-- one or more decimal digits whose value fits 32 bits
+unfoldable pub number : List ℕ → Option ℕ
+number text = when (nat_lt 0 (length text) && list_all is_digit text && nat_lt (decimal_value text) (2 ^ 32)) (decimal_value text)
+
+-- 16 hex digits
+abbrev pub eui : List ℕ → Option DevEui
+eui text = option_map (λ bytes. record { 0 = from_be_bytes w64 bytes }) (result_ok (decode_sized text 8))
+
+-- 46 hex digits
+abbrev pub ticket : List ℕ → Option Ticket
+ticket text = option_map (λ bytes. record { 0 = bytes }) (result_ok (decode_sized text 23))
+
+-- ---- steps
+
+-- `heard HEX`: one byte or more
+unfoldable pub heard : List ℕ → Option Act
+heard text = option_and_then (λ bytes. when (nat_lt 0 (length bytes)) (Datagram bytes)) (result_ok (decode_of text))
+
+-- `answer TICKET TEXT`
+unfoldable pub answered : List ℕ → Option Act
+answered text = option_and_then (λ words. option_map (λ t. Answer t words.1) (ticket words.0)) (parted text)
+
+-- `lost TICKET`
+unfoldable pub lost : List ℕ → Option Act
+lost text = option_map Lost (ticket text)
+
+-- `SESSION FCNT`
+unfoldable pub counters : List ℕ → Option (ℕ × ℕ)
+counters text = option_and_then (λ words. option_and_then (λ session. option_map (λ fcnt. (session, fcnt)) (number words.1)) (number words.0)) (parted text)
+
+abbrev pub window : DevEui → ℕ × ℕ → WindowName
+window device numbers = record { eui = device; session = numbers.0; fcnt = numbers.1 }
+
+-- `close EUI SESSION FCNT`
+unfoldable pub closed : List ℕ → Option Act
+closed text = option_and_then (λ words. option_and_then (λ device. option_map (λ numbers. Close (window device numbers)) (counters words.1)) (eui words.0)) (parted text)
+
+-- the step that a first word asks for, with the text behind it
+unfoldable pub act : List ℕ → List ℕ → Option Act
+act word text =
+    if bytes_eq word (codes "heard") then heard text
+    else if bytes_eq word (codes "answer") then answered text
+    else if bytes_eq word (codes "lost") then lost text
+    else if bytes_eq word (codes "close") then closed text
+    else None
+
+-- the step that a line asks for, where it is a step line
+unfoldable pub step : List ℕ → Option Act
+step line = option_and_then (λ words. act words.0 words.1) (parted (without_return line))
+
+-- the steps of a text, in order, and nothing for each line that is no step line
+abbrev pub steps : List ℕ → List (Option Act)
+steps text = map step (raw_lines text)

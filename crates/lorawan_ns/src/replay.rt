@@ -1,0 +1,73 @@
+//! A run of recorded steps, from a source of step lines to a sink of answer lines.
+
+ghost use Rattle.std.specs.Prelude.{◌≡◌, ◌⊎◌, false, true, flat_map, OnOk, IfErr, IfOk, IfSome};
+ghost use Rattle.std.specs.Arc.{arc_value};
+ghost use Rattle.std.specs.Io.KnownBytes.{Appends};
+ghost use Rattle.ns_types.specs.Streams.{AppendsFront};
+ghost use Rattle.lorawan_ns.specs.Output.{output};
+
+use crate::plain::run;
+use crate::step_lines::steps;
+use crate::taken::text_of;
+use ns_roster::Roster;
+use ns_types::{ReadFault, Sink, Source, read_all, write_all};
+use std::alloc::{AllocError, Global};
+use std::sync::Arc;
+
+/// Why a run ended early.
+#[derive(Clone, Copy, Debug, PartialEq, Eq)]
+pub enum ReplayFault {
+    /// A growth was refused. Nothing was written.
+    NoMemory,
+    /// The reader failed, and nothing was written; or the writer failed, and has a beginning of the text.
+    Io,
+}
+
+// The lines that a text of step lines is answered, each with a line feed.
+fn answered(alloc: Global, roster: &Roster, input: &[u8]) -> Result<Vec<u8>, AllocError>
+    ensures { IfOk result (λ v. v.items ≡ output roster.now input.now) }
+{
+    let lines = steps(alloc, input)?;
+    let all = run(alloc, roster, lines.as_slice())?;
+    text_of(alloc, all.as_slice())
+}
+
+/// Reads step lines to the end, and then writes the lines of their answers.
+///
+/// What is written is the refusal lines and the plain server's answers over the steps of the bytes read, in order, each line with a
+/// line feed. `Io` comes only where the reader or the writer failed.
+pub fn replay<R: Source, W: Sink>(
+    alloc: Global,
+    roster: Arc<Roster>,
+    reader: &mut R,
+    writer: &mut W,
+) -> Result<(), ReplayFault>
+    requires reader_sound { R.Stream.has_failed reader.old ≡ false }
+    requires writer_sound { W.Stream.has_failed writer.old ≡ false }
+
+    // What is written is the answers' lines, or where the writer fails a beginning of them.
+    ensures ok { OnOk result (IfSome (R.left reader.old)
+        (λ input. Appends (W.taken writer.old) (W.taken writer.new) (output (arc_value roster) input))) }
+    ensures front { (writer.new ≡ writer.old) ⊎ IfSome (R.left reader.old)
+        (λ input. AppendsFront (W.taken writer.old) (W.taken writer.new) (output (arc_value roster) input)) }
+
+    // When each fault comes, and that nothing was written before the end was read.
+    ensures sound { OnOk result ((R.Stream.has_failed reader.new ≡ false) × (W.Stream.has_failed writer.new ≡ false)) }
+    ensures io { result ≡ Err ReplayFault.Io
+        → (R.Stream.has_failed reader.new ≡ true) ⊎ (W.Stream.has_failed writer.new ≡ true) }
+    ensures memory { result ≡ Err ReplayFault.NoMemory → writer.new ≡ writer.old }
+    ensures unread { R.Stream.has_failed reader.new ≡ true → writer.new ≡ writer.old }
+{
+    let input = match read_all(alloc, reader) {
+        Ok(input) => input,
+        Err(ReadFault::NoMemory) => return Err(ReplayFault::NoMemory),
+        Err(ReadFault::Io) => return Err(ReplayFault::Io),
+    };
+    let Ok(text) = answered(alloc, &roster, input.as_slice()) else {
+        return Err(ReplayFault::NoMemory);
+    };
+    match write_all(writer, text.as_slice()) {
+        Ok(()) => Ok(()),
+        Err(_) => Err(ReplayFault::Io),
+    }
+}

@@ -1,0 +1,202 @@
+//! Step lines: the steps that a text of lines asks for.
+
+ghost use Rattle.std.specs.Prelude.{◌≡◌, ◌≢◌, ◌<◌, ◌∷◌, [], length, map, option_map, Some, None, MatchOption, IfOk, IfSome, IsSome, position, ◌==◌};
+ghost use Rattle.lorawan_ns.specs.StepLines.{raw_lines, without_return, parted, number, eui, ticket, heard, answered, lost, counters, closed, act, step, steps};
+
+use hex::{FromHex, FromHexError};
+use ns_shard::{Act, OwnedBytes};
+use ns_types::{DevEui, Ticket, WindowName};
+use std::alloc::{AllocError, Global};
+
+// Where a byte first stands.
+fn place_of(byte: u8, text: &[u8]) -> Option<usize>
+    ensures value { result ≡ position (λ b. b == byte) text.now }
+    ensures within { IfSome result (λ i. i < length text.now) }
+{
+    text.iter().position(|b| *b == byte)
+}
+
+// The bytes up to the first line feed, and what follows it.
+fn next_line(rest: &[u8]) -> Option<(&[u8], &[u8])>
+    ensures cases { MatchOption result (raw_lines rest.now ≡ [])
+        (λ p. raw_lines rest.now ≡ p.0.now ∷ raw_lines p.1.now) }
+    ensures shorter { IfSome result (λ p. length p.1.now < length rest.now) }
+{
+    if rest.is_empty() {
+        return None;
+    }
+    match place_of(b'\n', rest) {
+        Some(end) => Some((&rest[..end], &rest[end + 1..])),
+        None => Some((rest, &rest[rest.len()..])),
+    }
+}
+
+// The line without one carriage return at its end.
+#[tactic(auto, unfolding(crate::specs::StepLines::without_return))]
+fn without_return(line: &[u8]) -> &[u8]
+    ensures { result.now ≡ without_return line.now }
+{
+    if !line.is_empty() && line[line.len() - 1] == b'\r' {
+        &line[..line.len() - 1]
+    } else {
+        line
+    }
+}
+
+// The text before the first space and the text behind it.
+#[tactic(auto, unfolding(crate::specs::StepLines::parted))]
+fn parted(text: &[u8]) -> Option<(&[u8], &[u8])>
+    ensures { option_map (λ p. (p.0.now, p.1.now)) result ≡ parted text.now }
+{
+    match place_of(b' ', text) {
+        Some(at) => Some((&text[..at], &text[at + 1..])),
+        None => None,
+    }
+}
+
+// The value of decimal digits.
+#[tactic(auto, unfolding(crate::specs::StepLines::number))]
+fn number(text: &[u8]) -> Option<u32>
+    ensures { result ≡ number text.now }
+{
+    if text.is_empty() {
+        return None;
+    }
+    let mut value = 0u64;
+    'digits: for digit in text {
+        if !digit.is_ascii_digit() {
+            return None;
+        }
+        value = value * 10 + u64::from(*digit - b'0');
+        if value > u64::from(u32::MAX) {
+            return None;
+        }
+    }
+    Some(value as u32)
+}
+
+// The device of 16 hex digits.
+fn eui(text: &[u8]) -> Option<DevEui>
+    ensures { result ≡ eui text.now }
+{
+    let bytes = <[u8; 8]>::from_hex(text).ok()?;
+    Some(DevEui(u64::from_be_bytes(bytes)))
+}
+
+// The ticket of 46 hex digits.
+fn ticket(text: &[u8]) -> Option<Ticket>
+    ensures { result ≡ ticket text.now }
+{
+    let bytes = <[u8; 23]>::from_hex(text).ok()?;
+    Some(Ticket(bytes))
+}
+
+// The step of the text behind `heard`.
+#[tactic(auto, unfolding(crate::specs::StepLines::heard))]
+fn heard(alloc: Global, text: &[u8]) -> Result<Option<Act>, AllocError>
+    ensures { IfOk result (λ a. a ≡ heard text.now) }
+{
+    match hex::decode(alloc, text) {
+        Ok(bytes) => {
+            if bytes.is_empty() {
+                Ok(None)
+            } else {
+                Ok(Some(Act::Datagram(OwnedBytes::new(bytes))))
+            }
+        }
+        Err(error) => {
+            if error == FromHexError::OutOfMemory {
+                Err(AllocError)
+            } else {
+                Ok(None)
+            }
+        }
+    }
+}
+
+// The step of the text behind `answer`.
+#[tactic(auto, unfolding(crate::specs::StepLines::answered))]
+fn answered(alloc: Global, text: &[u8]) -> Result<Option<Act>, AllocError>
+    ensures { IfOk result (λ a. a ≡ answered text.now) }
+{
+    let Some((word, body)) = parted(text) else {
+        return Ok(None);
+    };
+    let Some(ticket) = ticket(word) else {
+        return Ok(None);
+    };
+    let body = OwnedBytes::new(Vec::from_slice(alloc, body)?);
+    Ok(Some(Act::Answer { ticket, body }))
+}
+
+// The step of the text behind `lost`.
+#[tactic(auto, unfolding(crate::specs::StepLines::lost))]
+fn lost(text: &[u8]) -> Option<Act>
+    ensures { result ≡ lost text.now }
+{
+    Some(Act::Lost {
+        ticket: ticket(text)?,
+    })
+}
+
+// The session and the counter of the text behind a device.
+#[tactic(auto, unfolding(crate::specs::StepLines::counters))]
+fn counters(text: &[u8]) -> Option<(u32, u32)>
+    ensures { result ≡ counters text.now }
+{
+    let (session, fcnt) = parted(text)?;
+    Some((number(session)?, number(fcnt)?))
+}
+
+// The step of the text behind `close`.
+#[tactic(auto, unfolding(crate::specs::StepLines::closed))]
+fn closed(text: &[u8]) -> Option<Act>
+    ensures { result ≡ closed text.now }
+{
+    let (device, text) = parted(text)?;
+    let eui = eui(device)?;
+    let (session, fcnt) = counters(text)?;
+    Some(Act::Close(WindowName { eui, session, fcnt }))
+}
+
+// The step that a first word asks for, with the text behind it.
+#[tactic(auto, unfolding(crate::specs::StepLines::act))]
+fn act(alloc: Global, word: &[u8], text: &[u8]) -> Result<Option<Act>, AllocError>
+    ensures { IfOk result (λ a. a ≡ act word.now text.now) }
+{
+    if word == b"heard".as_slice() {
+        heard(alloc, text)
+    } else if word == b"answer".as_slice() {
+        answered(alloc, text)
+    } else if word == b"lost".as_slice() {
+        Ok(lost(text))
+    } else if word == b"close".as_slice() {
+        Ok(closed(text))
+    } else {
+        Ok(None)
+    }
+}
+
+// The step that a line asks for.
+#[tactic(auto, unfolding(crate::specs::StepLines::step))]
+fn step(alloc: Global, line: &[u8]) -> Result<Option<Act>, AllocError>
+    ensures { IfOk result (λ a. a ≡ step line.now) }
+{
+    match parted(without_return(line)) {
+        Some((word, text)) => act(alloc, word, text),
+        None => Ok(None),
+    }
+}
+
+/// The steps of a text, in order, and nothing for each line that is no step line.
+pub fn steps(alloc: Global, text: &[u8]) -> Result<Vec<Option<Act>>, AllocError>
+    ensures { IfOk result (λ v. v.items ≡ steps text.now) }
+{
+    let mut found = Vec::new(alloc);
+    let mut rest = text;
+    'lines: while let Some((line, others)) = next_line(rest) {
+        found.push(step(alloc, line)?)?;
+        rest = others;
+    }
+    Ok(found)
+}

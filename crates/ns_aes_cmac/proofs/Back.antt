@@ -1,0 +1,188 @@
+-- The inverse cipher, by the same look-ups and shuffles.
+use Rattle.std.proofs.Common.{◌≡◌, ℕ, eqb, true, List, [], ◌∷◌, map, length, bit_xor, refl, sym, ap, ◌∙◌, eqb-true}
+use Rattle.std.proofs.lemmas.Nat.{xor_comm}
+use Rattle.std.proofs.lemmas.Simd.{zip2_of_maps, map-map}
+use lib.Lanes.{zip2}
+use lib.ListN.{get_or}
+use Rattle.ns_aes_cmac.specs.Aes.{product_of_bits, multiply, multiplicative_inverse, inverse_s_box, xor_bytes, mix_columns_by, sum_of_products, inverse_mix_columns, inverse_shift_rows, inverse_sub_bytes, round_keys_by, round_keys, inverse_rounds, unaes}
+use Rattle.ns_aes_cmac.proofs.Bytes.{all_below, all_below-at}
+use Rattle.ns_aes_cmac.specs.declared.substitution.TheConstants.{BACK_INTO_LO, BACK_INTO_HI, BACK_I, BACK_J}
+use Rattle.ns_aes_cmac.specs.declared.round.TheConstants.{TIMES_9_LO, TIMES_9_HI, TIMES_11_LO, TIMES_11_HI, TIMES_13_LO, TIMES_13_HI, TIMES_14_LO, TIMES_14_HI}
+use Rattle.ns_aes_cmac.specs.Lookups.{look_at, half_i, half_j, by_halves}
+use Rattle.ns_aes_cmac.proofs.Lanes.{IsBlock, map_agree}
+use Rattle.ns_aes_cmac.proofs.Mix.{sixteen, picked, joined, turned, zip2_xor}
+
+abbrev into : ℕ → ℕ
+into b = by_halves BACK_INTO_LO BACK_INTO_HI b
+
+abbrev back : ℕ → ℕ
+back b = bit_xor (look_at BACK_I (half_i (into b))) (look_at BACK_J (half_j (into b)))
+
+all_back : all_below (λ b. eqb (back b) (inverse_s_box b)) 256 ≡ true
+unfolding product_of_bits multiplicative_inverse inverse_s_box half_i half_j
+all_back = refl
+
+pub inverse_substituted : (v : List ℕ) {w i j r : List ℕ} → IsBlock v → w ≡ map into v → i ≡ map half_i w → j ≡ map half_j w
+    → r ≡ zip2 bit_xor (map (look_at BACK_I) i) (map (look_at BACK_J) j) → r ≡ inverse_sub_bytes v
+inverse_substituted v {w} {i} {j} {r} block ew ei ej er =
+    let ti = ap (map (look_at BACK_I)) (ei ∙ ap (map half_i) ew ∙ map-map half_i into v) ∙ map-map (look_at BACK_I) (λ b. half_i (into b)) v in
+    let tj = ap (map (look_at BACK_J)) (ej ∙ ap (map half_j) ew ∙ map-map half_j into v) ∙ map-map (look_at BACK_J) (λ b. half_j (into b)) v in
+    er ∙ zip2_of_maps bit_xor (λ b. look_at BACK_I (half_i (into b))) (λ b. look_at BACK_J (half_j (into b))) v ti tj
+    ∙ map_agree back inverse_s_box v block.1 (λ b h. eqb-true _ _ (all_below-at (λ b. eqb (back b) (inverse_s_box b)) 256 all_back b h))
+
+all_9 : all_below (λ b. eqb (by_halves TIMES_9_LO TIMES_9_HI b) (multiply 9 b)) 256 ≡ true
+unfolding product_of_bits
+all_9 = refl
+
+times_9 : (v : List ℕ) → IsBlock v → map (by_halves TIMES_9_LO TIMES_9_HI) v ≡ map (multiply 9) v
+times_9 v block = map_agree (by_halves TIMES_9_LO TIMES_9_HI) (multiply 9) v block.1 (λ b h. eqb-true _ _ (all_below-at (λ b. eqb (by_halves TIMES_9_LO TIMES_9_HI b) (multiply 9 b)) 256 all_9 b h))
+
+all_11 : all_below (λ b. eqb (by_halves TIMES_11_LO TIMES_11_HI b) (multiply 11 b)) 256 ≡ true
+unfolding product_of_bits
+all_11 = refl
+
+times_11 : (v : List ℕ) → IsBlock v → map (by_halves TIMES_11_LO TIMES_11_HI) v ≡ map (multiply 11) v
+times_11 v block = map_agree (by_halves TIMES_11_LO TIMES_11_HI) (multiply 11) v block.1 (λ b h. eqb-true _ _ (all_below-at (λ b. eqb (by_halves TIMES_11_LO TIMES_11_HI b) (multiply 11 b)) 256 all_11 b h))
+
+all_13 : all_below (λ b. eqb (by_halves TIMES_13_LO TIMES_13_HI b) (multiply 13 b)) 256 ≡ true
+unfolding product_of_bits
+all_13 = refl
+
+times_13 : (v : List ℕ) → IsBlock v → map (by_halves TIMES_13_LO TIMES_13_HI) v ≡ map (multiply 13) v
+times_13 v block = map_agree (by_halves TIMES_13_LO TIMES_13_HI) (multiply 13) v block.1 (λ b h. eqb-true _ _ (all_below-at (λ b. eqb (by_halves TIMES_13_LO TIMES_13_HI b) (multiply 13 b)) 256 all_13 b h))
+
+all_14 : all_below (λ b. eqb (by_halves TIMES_14_LO TIMES_14_HI b) (multiply 14 b)) 256 ≡ true
+unfolding product_of_bits
+all_14 = refl
+
+times_14 : (v : List ℕ) → IsBlock v → map (by_halves TIMES_14_LO TIMES_14_HI) v ≡ map (multiply 14) v
+times_14 v block = map_agree (by_halves TIMES_14_LO TIMES_14_HI) (multiply 14) v block.1 (λ b h. eqb-true _ _ (all_below-at (λ b. eqb (by_halves TIMES_14_LO TIMES_14_HI b) (multiply 14 b)) 256 all_14 b h))
+
+abbrev turn_0 : List ℕ
+turn_0 = 0 ∷ 1 ∷ 2 ∷ 3 ∷ 4 ∷ 5 ∷ 6 ∷ 7 ∷ 8 ∷ 9 ∷ 10 ∷ 11 ∷ 12 ∷ 13 ∷ 14 ∷ 15 ∷ []
+
+abbrev turn_1 : List ℕ
+turn_1 = 1 ∷ 2 ∷ 3 ∷ 0 ∷ 5 ∷ 6 ∷ 7 ∷ 4 ∷ 9 ∷ 10 ∷ 11 ∷ 8 ∷ 13 ∷ 14 ∷ 15 ∷ 12 ∷ []
+
+abbrev turn_2 : List ℕ
+turn_2 = 2 ∷ 3 ∷ 0 ∷ 1 ∷ 6 ∷ 7 ∷ 4 ∷ 5 ∷ 10 ∷ 11 ∷ 8 ∷ 9 ∷ 14 ∷ 15 ∷ 12 ∷ 13 ∷ []
+
+abbrev turn_3 : List ℕ
+turn_3 = 3 ∷ 0 ∷ 1 ∷ 2 ∷ 7 ∷ 4 ∷ 5 ∷ 6 ∷ 11 ∷ 8 ∷ 9 ∷ 10 ∷ 15 ∷ 12 ∷ 13 ∷ 14 ∷ []
+
+abbrev mix_by_code : List ℕ → List ℕ → List ℕ → List ℕ → List ℕ
+mix_by_code a b c d = zip2 bit_xor (zip2 bit_xor (picked turn_0 a) (picked turn_1 b)) (zip2 bit_xor (picked turn_2 c) (picked turn_3 d))
+
+abbrev code_row : ℕ → ℕ → ℕ → ℕ → ℕ
+code_row w x y z = bit_xor (bit_xor (multiply 14 w) (multiply 11 x)) (bit_xor (multiply 13 y) (multiply 9 z))
+
+module _ (w x y z : ℕ) where
+  row_1 : code_row x y z w ≡ sum_of_products 9 14 11 13 w x y z
+  row_1 = turned (multiply 14 x) (multiply 11 y) (multiply 13 z) (multiply 9 w)
+
+  row_2 : code_row y z w x ≡ sum_of_products 13 9 14 11 w x y z
+  row_2 = xor_comm (bit_xor (multiply 14 y) (multiply 11 z)) (bit_xor (multiply 13 w) (multiply 9 x))
+
+  row_3 : code_row z w x y ≡ sum_of_products 11 13 9 14 w x y z
+  row_3 = sym (turned (multiply 11 w) (multiply 13 x) (multiply 9 y) (multiply 14 z))
+
+mixed_of : (v : List ℕ) → length v ≡ 16 → mix_by_code (map (multiply 14) v) (map (multiply 11) v) (map (multiply 13) v) (map (multiply 9) v) ≡ inverse_mix_columns v
+unfolding mix_columns_by
+mixed_of v long =
+    sixteen (λ v. mix_by_code (map (multiply 14) v) (map (multiply 11) v) (map (multiply 13) v) (map (multiply 9) v) ≡ inverse_mix_columns v)
+    (λ a0 a1 a2 a3 a4 a5 a6 a7 a8 a9 a10 a11 a12 a13 a14 a15.
+    joined (refl) (
+    joined (row_1 a0 a1 a2 a3) (
+    joined (row_2 a0 a1 a2 a3) (
+    joined (row_3 a0 a1 a2 a3) (
+    joined (refl) (
+    joined (row_1 a4 a5 a6 a7) (
+    joined (row_2 a4 a5 a6 a7) (
+    joined (row_3 a4 a5 a6 a7) (
+    joined (refl) (
+    joined (row_1 a8 a9 a10 a11) (
+    joined (row_2 a8 a9 a10 a11) (
+    joined (row_3 a8 a9 a10 a11) (
+    joined (refl) (
+    joined (row_1 a12 a13 a14 a15) (
+    joined (row_2 a12 a13 a14 a15) (
+    joined (row_3 a12 a13 a14 a15) (
+    refl)))))))))))))))))
+    v long
+
+pub mixed_is : (v a b c d : List ℕ) → IsBlock v → a ≡ map (by_halves TIMES_14_LO TIMES_14_HI) v → b ≡ map (by_halves TIMES_11_LO TIMES_11_HI) v → c ≡ map (by_halves TIMES_13_LO TIMES_13_HI) v → d ≡ map (by_halves TIMES_9_LO TIMES_9_HI) v
+    → mix_by_code a b c d ≡ inverse_mix_columns v
+mixed_is v a b c d block ea eb ec ed =
+    ap (λ l. mix_by_code l b c d) (ea ∙ times_14 v block)
+    ∙ ap (λ l. mix_by_code (map (multiply 14) v) l c d) (eb ∙ times_11 v block)
+    ∙ ap (λ l. mix_by_code (map (multiply 14) v) (map (multiply 11) v) l d) (ec ∙ times_13 v block)
+    ∙ ap (λ l. mix_by_code (map (multiply 14) v) (map (multiply 11) v) (map (multiply 13) v) l) (ed ∙ times_9 v block)
+    ∙ mixed_of v block.0
+
+abbrev back_rows : List ℕ
+back_rows = 0 ∷ 13 ∷ 10 ∷ 7 ∷ 4 ∷ 1 ∷ 14 ∷ 11 ∷ 8 ∷ 5 ∷ 2 ∷ 15 ∷ 12 ∷ 9 ∷ 6 ∷ 3 ∷ []
+
+shifted : (v : List ℕ) → length v ≡ 16 → picked back_rows v ≡ inverse_shift_rows v
+shifted v long = sixteen (λ v. picked back_rows v ≡ inverse_shift_rows v) (λ a0 a1 a2 a3 a4 a5 a6 a7 a8 a9 a10 a11 a12 a13 a14 a15. refl) v long
+
+pub last_is : (key v r : List ℕ) → length v ≡ 16 → r ≡ inverse_sub_bytes (picked back_rows v) → zip2 bit_xor key r ≡ xor_bytes key (inverse_sub_bytes (inverse_shift_rows v))
+last_is key v r long e = zip2_xor key r ∙ ap (xor_bytes key) (e ∙ ap inverse_sub_bytes (shifted v long))
+
+abbrev final : List ℕ → List ℕ → List ℕ
+final k s = xor_bytes k (inverse_sub_bytes (inverse_shift_rows s))
+
+abbrev full : List ℕ → List ℕ → List ℕ
+full k s = inverse_mix_columns (final k s)
+
+step : (k l : List ℕ) (ks : List (List ℕ)) (s v : List ℕ) → v ≡ full k s → inverse_rounds (k ∷ l ∷ ks) s ≡ inverse_rounds (l ∷ ks) v
+unfolding inverse_rounds
+step k l ks s v e = ap (inverse_rounds (l ∷ ks)) (sym e)
+
+end : (k s v : List ℕ) → v ≡ final k s → inverse_rounds (k ∷ []) s ≡ v
+unfolding inverse_rounds
+end k s v e = sym e
+
+ten : (k1 k2 k3 k4 k5 k6 k7 k8 k9 k10 : List ℕ) (v0 v1 v2 v3 v4 v5 v6 v7 v8 v9 r : List ℕ)
+    → v1 ≡ full k1 v0
+    → v2 ≡ full k2 v1
+    → v3 ≡ full k3 v2
+    → v4 ≡ full k4 v3
+    → v5 ≡ full k5 v4
+    → v6 ≡ full k6 v5
+    → v7 ≡ full k7 v6
+    → v8 ≡ full k8 v7
+    → v9 ≡ full k9 v8
+    → r ≡ final k10 v9
+    → inverse_rounds (k1 ∷ k2 ∷ k3 ∷ k4 ∷ k5 ∷ k6 ∷ k7 ∷ k8 ∷ k9 ∷ k10 ∷ []) v0 ≡ r
+ten k1 k2 k3 k4 k5 k6 k7 k8 k9 k10 v0 v1 v2 v3 v4 v5 v6 v7 v8 v9 r e1 e2 e3 e4 e5 e6 e7 e8 e9 e10 =
+    step k1 k2 (k3 ∷ k4 ∷ k5 ∷ k6 ∷ k7 ∷ k8 ∷ k9 ∷ k10 ∷ []) v0 v1 e1 ∙
+    step k2 k3 (k4 ∷ k5 ∷ k6 ∷ k7 ∷ k8 ∷ k9 ∷ k10 ∷ []) v1 v2 e2 ∙
+    step k3 k4 (k5 ∷ k6 ∷ k7 ∷ k8 ∷ k9 ∷ k10 ∷ []) v2 v3 e3 ∙
+    step k4 k5 (k6 ∷ k7 ∷ k8 ∷ k9 ∷ k10 ∷ []) v3 v4 e4 ∙
+    step k5 k6 (k7 ∷ k8 ∷ k9 ∷ k10 ∷ []) v4 v5 e5 ∙
+    step k6 k7 (k8 ∷ k9 ∷ k10 ∷ []) v5 v6 e6 ∙
+    step k7 k8 (k9 ∷ k10 ∷ []) v6 v7 e7 ∙
+    step k8 k9 (k10 ∷ []) v7 v8 e8 ∙
+    step k9 k10 ([]) v8 v9 e9 ∙
+    end k10 v9 r e10
+
+abbrev key_at : List (List ℕ) → ℕ → List ℕ
+key_at ks i = get_or ks i []
+
+pub unaes_is : (ks : List (List ℕ)) (key block : List ℕ) (v1 v2 v3 v4 v5 v6 v7 v8 v9 r : List ℕ) → ks ≡ key ∷ round_keys key
+    → v1 ≡ full (key_at ks 9) (zip2 bit_xor (key_at ks 10) block)
+    → v2 ≡ full (key_at ks 8) v1
+    → v3 ≡ full (key_at ks 7) v2
+    → v4 ≡ full (key_at ks 6) v3
+    → v5 ≡ full (key_at ks 5) v4
+    → v6 ≡ full (key_at ks 4) v5
+    → v7 ≡ full (key_at ks 3) v6
+    → v8 ≡ full (key_at ks 2) v7
+    → v9 ≡ full (key_at ks 1) v8
+    → r ≡ final (key_at ks 0) v9
+    → r ≡ unaes key block
+unfolding unaes round_keys_by
+unaes_is ks key block v1 v2 v3 v4 v5 v6 v7 v8 v9 r e e1 e2 e3 e4 e5 e6 e7 e8 e9 e10 =
+    sym (ten (key_at ks 9) (key_at ks 8) (key_at ks 7) (key_at ks 6) (key_at ks 5) (key_at ks 4) (key_at ks 3) (key_at ks 2) (key_at ks 1) (key_at ks 0) (zip2 bit_xor (key_at ks 10) block) v1 v2 v3 v4 v5 v6 v7 v8 v9 r e1 e2 e3 e4 e5 e6 e7 e8 e9 e10)
+    ∙ ap (λ l. inverse_rounds (key_at l 9 ∷ key_at l 8 ∷ key_at l 7 ∷ key_at l 6 ∷ key_at l 5 ∷ key_at l 4 ∷ key_at l 3 ∷ key_at l 2 ∷ key_at l 1 ∷ key_at l 0 ∷ []) (zip2 bit_xor (key_at ks 10) block)) e
+    ∙ ap (inverse_rounds (key_at (key ∷ round_keys key) 9 ∷ key_at (key ∷ round_keys key) 8 ∷ key_at (key ∷ round_keys key) 7 ∷ key_at (key ∷ round_keys key) 6 ∷ key_at (key ∷ round_keys key) 5 ∷ key_at (key ∷ round_keys key) 4 ∷ key_at (key ∷ round_keys key) 3 ∷ key_at (key ∷ round_keys key) 2 ∷ key_at (key ∷ round_keys key) 1 ∷ key_at (key ∷ round_keys key) 0 ∷ [])) (zip2_xor (key_at ks 10) block ∙ ap (λ l. xor_bytes (key_at l 10) block) e)

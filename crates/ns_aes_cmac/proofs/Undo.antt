@@ -1,0 +1,605 @@
+-- Deciphering undoes enciphering, and the other way round.
+use Rattle.std.proofs.Common.{◌≡◌, ℕ, zero, suc, ◌/◌, ◌%◌, ◌<◌, eqb, Bool, true, false, List, [], ◌∷◌, map, length, bit_xor, refl, sym, ap, subst, ◌∙◌, arith, eqb-true, if◌then◌else◌, ◌==◌}
+use Rattle.std.proofs.lemmas.Nat.{xor_comm, xor_lt}
+use Rattle.std.proofs.lemmas.List.{length-map}
+use Rattle.std.proofs.lemmas.Simd.{Each1-from_get_or}
+use lib.Bits.{xor_assoc, xor_self, xor_zero_r}
+use lib.Lanes.{Each1, zip2}
+use Rattle.ns_aes_cmac.specs.Aes.{xtime, product_of_bits, multiply, multiplicative_inverse, s_box, inverse_s_box, sub_bytes, inverse_sub_bytes, shift_rows, inverse_shift_rows, sum_of_products, mix_columns_by, mix_columns, inverse_mix_columns, xor_bytes, next_round_key, round_keys_by, round_keys, round_constants, aes, unaes, IsBlock}
+use Rattle.ns_aes_cmac.proofs.Bytes.{all_below, all_below-at}
+use Rattle.ns_aes_cmac.proofs.Mix.{sixteen, joined, zip2_xor}
+use Rattle.ns_aes_cmac.proofs.Rounds.{aes_is, key_at}
+use Rattle.ns_aes_cmac.proofs.Back.{unaes_is}
+
+-- n bytes
+abbrev Bytes : ℕ → List ℕ → Type 0
+Bytes n l = (length l ≡ n) × Each1 (λ b. b < 256) l
+
+xor_byte : (a b : ℕ) → a < 256 → b < 256 → bit_xor a b < 256
+xor_byte a b = xor_lt 8 a b
+
+-- (a b) (c d) with the middle ones changed round
+swap : (a b c d : ℕ) → bit_xor (bit_xor a b) (bit_xor c d) ≡ bit_xor (bit_xor a c) (bit_xor b d)
+swap a b c d =
+    xor_assoc a b (bit_xor c d) ∙ ap (bit_xor a) (sym (xor_assoc b c d) ∙ ap (λ n. bit_xor n d) (xor_comm b c) ∙ xor_assoc c b d) ∙ sym (xor_assoc a c (bit_xor b d))
+
+-- ---- the product is linear
+
+xtime_pairs : all_below (λ x. all_below (λ y. eqb (xtime (bit_xor x y)) (bit_xor (xtime x) (xtime y))) 256) 256 ≡ true
+xtime_pairs = refl
+
+xtime_xor : (x y : ℕ) → x < 256 → y < 256 → xtime (bit_xor x y) ≡ bit_xor (xtime x) (xtime y)
+xtime_xor x y fx fy = eqb-true _ _ (all_below-at (λ y. eqb (xtime (bit_xor x y)) (bit_xor (xtime x) (xtime y))) 256 (all_below-at (λ x. all_below (λ y. eqb (xtime (bit_xor x y)) (bit_xor (xtime x) (xtime y))) 256) 256 xtime_pairs x fx) y fy)
+
+-- a function of a byte that gives a byte, by a test of each
+byte_by : (f : ℕ → ℕ) → all_below (λ b. eqb (f b % 256) (f b)) 256 ≡ true → (b : ℕ) → b < 256 → f b < 256
+byte_by f test b fb = subst (λ n. n < 256) (eqb-true _ _ (all_below-at (λ b. eqb (f b % 256) (f b)) 256 test b fb)) (omega arith)
+
+all_xtime : all_below (λ b. eqb (xtime b % 256) (xtime b)) 256 ≡ true
+all_xtime = refl
+
+all_s_box : all_below (λ b. eqb (s_box b % 256) (s_box b)) 256 ≡ true
+unfolding product_of_bits multiplicative_inverse s_box
+all_s_box = refl
+
+all_inverse_s_box : all_below (λ b. eqb (inverse_s_box b % 256) (inverse_s_box b)) 256 ≡ true
+unfolding product_of_bits multiplicative_inverse inverse_s_box
+all_inverse_s_box = refl
+
+if_xor : (t : Bool) (x y : ℕ) → (if t then bit_xor x y else 0) ≡ bit_xor (if t then x else 0) (if t then y else 0)
+if_xor true x y = refl
+if_xor false x y = refl
+
+if_byte : (t : Bool) (x : ℕ) → x < 256 → (if t then x else 0) < 256
+if_byte true x fx = fx
+if_byte false x fx = omega arith
+
+product_xor : (n a x y : ℕ) → x < 256 → y < 256 → product_of_bits n a (bit_xor x y) ≡ bit_xor (product_of_bits n a x) (product_of_bits n a y)
+unfolding product_of_bits
+product_xor zero a x y fx fy = refl
+product_xor (suc n) a x y fx fy =
+    ap (λ m. bit_xor m (product_of_bits n (a / 2) (xtime (bit_xor x y)))) (if_xor (a % 2 == 1) x y)
+    ∙ ap (bit_xor (bit_xor (if a % 2 == 1 then x else 0) (if a % 2 == 1 then y else 0))) (ap (product_of_bits n (a / 2)) (xtime_xor x y fx fy) ∙ product_xor n (a / 2) (xtime x) (xtime y) (byte_by xtime all_xtime x fx) (byte_by xtime all_xtime y fy))
+    ∙ swap (if a % 2 == 1 then x else 0) (if a % 2 == 1 then y else 0) (product_of_bits n (a / 2) (xtime x)) (product_of_bits n (a / 2) (xtime y))
+
+product_byte : (n a x : ℕ) → x < 256 → product_of_bits n a x < 256
+unfolding product_of_bits
+product_byte zero a x fx = omega arith
+product_byte (suc n) a x fx = xor_byte _ _ (if_byte (a % 2 == 1) x fx) (product_byte n (a / 2) (xtime x) (byte_by xtime all_xtime x fx))
+
+sum_byte : (a b c d w x y z : ℕ) → w < 256 → x < 256 → y < 256 → z < 256 → sum_of_products a b c d w x y z < 256
+sum_byte a b c d w x y z fw fx fy fz = xor_byte _ _ (xor_byte _ _ (product_byte 8 a w fw) (product_byte 8 b x fx)) (xor_byte _ _ (product_byte 8 c y fy) (product_byte 8 d z fz))
+
+-- ---- two matrices, one after the other
+
+-- a product of four sums
+spread : (m p q r s : ℕ) → p < 256 → q < 256 → r < 256 → s < 256
+    → multiply m (bit_xor (bit_xor p q) (bit_xor r s)) ≡ bit_xor (bit_xor (multiply m p) (multiply m q)) (bit_xor (multiply m r) (multiply m s))
+spread m p q r s fp fq fr fs =
+    product_xor 8 m (bit_xor p q) (bit_xor r s) (xor_byte p q fp fq) (xor_byte r s fr fs)
+    ∙ ap (λ n. bit_xor n (multiply m (bit_xor r s))) (product_xor 8 m p q fp fq)
+    ∙ ap (bit_xor (bit_xor (multiply m p) (multiply m q))) (product_xor 8 m r s fr fs)
+
+abbrev four : ℕ → ℕ → ℕ → ℕ → ℕ
+four a b c d = bit_xor (bit_xor a b) (bit_xor c d)
+
+-- two sums of four, added place by place
+added : (a0 a1 a2 a3 b0 b1 b2 b3 : ℕ) → bit_xor (four a0 a1 a2 a3) (four b0 b1 b2 b3) ≡ four (bit_xor a0 b0) (bit_xor a1 b1) (bit_xor a2 b2) (bit_xor a3 b3)
+added a0 a1 a2 a3 b0 b1 b2 b3 =
+    swap (bit_xor a0 a1) (bit_xor a2 a3) (bit_xor b0 b1) (bit_xor b2 b3)
+    ∙ ap (λ n. bit_xor n (bit_xor (bit_xor a2 a3) (bit_xor b2 b3))) (swap a0 a1 b0 b1)
+    ∙ ap (bit_xor (bit_xor (bit_xor a0 b0) (bit_xor a1 b1))) (swap a2 a3 b2 b3)
+
+-- four sums of four, by columns
+by_columns : (a0 a1 a2 a3 b0 b1 b2 b3 c0 c1 c2 c3 d0 d1 d2 d3 : ℕ)
+    → four (four a0 a1 a2 a3) (four b0 b1 b2 b3) (four c0 c1 c2 c3) (four d0 d1 d2 d3) ≡ four (four a0 b0 c0 d0) (four a1 b1 c1 d1) (four a2 b2 c2 d2) (four a3 b3 c3 d3)
+by_columns a0 a1 a2 a3 b0 b1 b2 b3 c0 c1 c2 c3 d0 d1 d2 d3 =
+    ap (λ n. bit_xor n (bit_xor (four c0 c1 c2 c3) (four d0 d1 d2 d3))) (added a0 a1 a2 a3 b0 b1 b2 b3)
+    ∙ ap (bit_xor (four (bit_xor a0 b0) (bit_xor a1 b1) (bit_xor a2 b2) (bit_xor a3 b3))) (added c0 c1 c2 c3 d0 d1 d2 d3)
+    ∙ added (bit_xor a0 b0) (bit_xor a1 b1) (bit_xor a2 b2) (bit_xor a3 b3) (bit_xor c0 d0) (bit_xor c1 d1) (bit_xor c2 d2) (bit_xor c3 d3)
+
+-- an entry of the product of two matrices, times a byte: a row a b c d, and a column p q r s
+abbrev entry : ℕ → ℕ → ℕ → ℕ → ℕ → ℕ → ℕ → ℕ → ℕ → ℕ
+entry a b c d p q r s x = four (multiply a (multiply p x)) (multiply b (multiply q x)) (multiply c (multiply r x)) (multiply d (multiply s x))
+
+-- a row a b c d of one matrix, after another whose first row is p q r s
+module _ (a b c d p q r s w x y z : ℕ) (fw : w < 256) (fx : x < 256) (fy : y < 256) (fz : z < 256) where
+  row_of_both : sum_of_products a b c d (sum_of_products p q r s w x y z) (sum_of_products s p q r w x y z) (sum_of_products r s p q w x y z) (sum_of_products q r s p w x y z)
+      ≡ four (entry a b c d p s r q w) (entry a b c d q p s r x) (entry a b c d r q p s y) (entry a b c d s r q p z)
+  row_of_both =
+      ap (λ n. bit_xor (bit_xor n (multiply b (sum_of_products s p q r w x y z))) (bit_xor (multiply c (sum_of_products r s p q w x y z)) (multiply d (sum_of_products q r s p w x y z)))) (out a p q r s)
+      ∙ ap (λ n. bit_xor (bit_xor (parts a p q r s) n) (bit_xor (multiply c (sum_of_products r s p q w x y z)) (multiply d (sum_of_products q r s p w x y z)))) (out b s p q r)
+      ∙ ap (λ n. bit_xor (bit_xor (parts a p q r s) (parts b s p q r)) (bit_xor n (multiply d (sum_of_products q r s p w x y z)))) (out c r s p q)
+      ∙ ap (λ n. bit_xor (bit_xor (parts a p q r s) (parts b s p q r)) (bit_xor (parts c r s p q) n)) (out d q r s p)
+      ∙ by_columns (multiply a (multiply p w)) (multiply a (multiply q x)) (multiply a (multiply r y)) (multiply a (multiply s z))
+      (multiply b (multiply s w)) (multiply b (multiply p x)) (multiply b (multiply q y)) (multiply b (multiply r z))
+      (multiply c (multiply r w)) (multiply c (multiply s x)) (multiply c (multiply p y)) (multiply c (multiply q z))
+      (multiply d (multiply q w)) (multiply d (multiply r x)) (multiply d (multiply s y)) (multiply d (multiply p z))
+    where
+      parts : ℕ → ℕ → ℕ → ℕ → ℕ → ℕ
+      parts m e f g h = four (multiply m (multiply e w)) (multiply m (multiply f x)) (multiply m (multiply g y)) (multiply m (multiply h z))
+
+      out : (m e f g h : ℕ) → multiply m (sum_of_products e f g h w x y z) ≡ parts m e f g h
+      out m e f g h = spread m (multiply e w) (multiply f x) (multiply g y) (multiply h z) (product_byte 8 e w fw) (product_byte 8 f x fx) (product_byte 8 g y fy) (product_byte 8 h z fz)
+
+-- of a product of matrices that is the identity: an entry is 1 or 0
+abbrev is_one_at : (ℕ → ℕ) → Type 0
+is_one_at f = all_below (λ b. eqb (f b) b) 256 ≡ true
+
+abbrev is_zero_at : (ℕ → ℕ) → Type 0
+is_zero_at f = all_below (λ b. eqb (f b) 0) 256 ≡ true
+
+one_at : (f : ℕ → ℕ) → is_one_at f → (b : ℕ) → b < 256 → f b ≡ b
+one_at f test b fb = eqb-true _ _ (all_below-at (λ b. eqb (f b) b) 256 test b fb)
+
+zero_at : (f : ℕ → ℕ) → is_zero_at f → (b : ℕ) → b < 256 → f b ≡ 0
+zero_at f test b fb = eqb-true _ _ (all_below-at (λ b. eqb (f b) 0) 256 test b fb)
+
+four_is : {a b c d p q r s : ℕ} → a ≡ p → b ≡ q → c ≡ r → d ≡ s → four a b c d ≡ four p q r s
+four_is {a} {b} {c} {d} {p} {q} {r} {s} e f g h =
+    ap (λ n. bit_xor (bit_xor n b) (bit_xor c d)) e ∙ ap (λ n. bit_xor (bit_xor p n) (bit_xor c d)) f ∙ ap (λ n. bit_xor (bit_xor p q) (bit_xor n d)) g ∙ ap (λ n. bit_xor (bit_xor p q) (bit_xor r n)) h
+
+forth_0_0 : is_one_at (entry 14 11 13 9 2 1 1 3)
+unfolding product_of_bits
+forth_0_0 = refl
+
+forth_0_1 : is_zero_at (entry 14 11 13 9 3 2 1 1)
+unfolding product_of_bits
+forth_0_1 = refl
+
+forth_0_2 : is_zero_at (entry 14 11 13 9 1 3 2 1)
+unfolding product_of_bits
+forth_0_2 = refl
+
+forth_0_3 : is_zero_at (entry 14 11 13 9 1 1 3 2)
+unfolding product_of_bits
+forth_0_3 = refl
+
+forth_1_0 : is_zero_at (entry 9 14 11 13 2 1 1 3)
+unfolding product_of_bits
+forth_1_0 = refl
+
+forth_1_1 : is_one_at (entry 9 14 11 13 3 2 1 1)
+unfolding product_of_bits
+forth_1_1 = refl
+
+forth_1_2 : is_zero_at (entry 9 14 11 13 1 3 2 1)
+unfolding product_of_bits
+forth_1_2 = refl
+
+forth_1_3 : is_zero_at (entry 9 14 11 13 1 1 3 2)
+unfolding product_of_bits
+forth_1_3 = refl
+
+forth_2_0 : is_zero_at (entry 13 9 14 11 2 1 1 3)
+unfolding product_of_bits
+forth_2_0 = refl
+
+forth_2_1 : is_zero_at (entry 13 9 14 11 3 2 1 1)
+unfolding product_of_bits
+forth_2_1 = refl
+
+forth_2_2 : is_one_at (entry 13 9 14 11 1 3 2 1)
+unfolding product_of_bits
+forth_2_2 = refl
+
+forth_2_3 : is_zero_at (entry 13 9 14 11 1 1 3 2)
+unfolding product_of_bits
+forth_2_3 = refl
+
+forth_3_0 : is_zero_at (entry 11 13 9 14 2 1 1 3)
+unfolding product_of_bits
+forth_3_0 = refl
+
+forth_3_1 : is_zero_at (entry 11 13 9 14 3 2 1 1)
+unfolding product_of_bits
+forth_3_1 = refl
+
+forth_3_2 : is_zero_at (entry 11 13 9 14 1 3 2 1)
+unfolding product_of_bits
+forth_3_2 = refl
+
+forth_3_3 : is_one_at (entry 11 13 9 14 1 1 3 2)
+unfolding product_of_bits
+forth_3_3 = refl
+
+module _ (w x y z : ℕ) (fw : w < 256) (fx : x < 256) (fy : y < 256) (fz : z < 256) where
+  forth_row_0 : sum_of_products 14 11 13 9 (sum_of_products 2 3 1 1 w x y z) (sum_of_products 1 2 3 1 w x y z) (sum_of_products 1 1 2 3 w x y z) (sum_of_products 3 1 1 2 w x y z) ≡ w
+  forth_row_0 =
+      row_of_both 14 11 13 9 2 3 1 1 w x y z fw fx fy fz
+      ∙ four_is (one_at (entry 14 11 13 9 2 1 1 3) forth_0_0 w fw)
+      (zero_at (entry 14 11 13 9 3 2 1 1) forth_0_1 x fx)
+      (zero_at (entry 14 11 13 9 1 3 2 1) forth_0_2 y fy)
+      (zero_at (entry 14 11 13 9 1 1 3 2) forth_0_3 z fz)
+      ∙ ap (λ n. bit_xor n 0) (xor_zero_r w) ∙ xor_zero_r w
+
+  forth_row_1 : sum_of_products 9 14 11 13 (sum_of_products 2 3 1 1 w x y z) (sum_of_products 1 2 3 1 w x y z) (sum_of_products 1 1 2 3 w x y z) (sum_of_products 3 1 1 2 w x y z) ≡ x
+  forth_row_1 =
+      row_of_both 9 14 11 13 2 3 1 1 w x y z fw fx fy fz
+      ∙ four_is (zero_at (entry 9 14 11 13 2 1 1 3) forth_1_0 w fw)
+      (one_at (entry 9 14 11 13 3 2 1 1) forth_1_1 x fx)
+      (zero_at (entry 9 14 11 13 1 3 2 1) forth_1_2 y fy)
+      (zero_at (entry 9 14 11 13 1 1 3 2) forth_1_3 z fz)
+      ∙ xor_zero_r x
+
+  forth_row_2 : sum_of_products 13 9 14 11 (sum_of_products 2 3 1 1 w x y z) (sum_of_products 1 2 3 1 w x y z) (sum_of_products 1 1 2 3 w x y z) (sum_of_products 3 1 1 2 w x y z) ≡ y
+  forth_row_2 =
+      row_of_both 13 9 14 11 2 3 1 1 w x y z fw fx fy fz
+      ∙ four_is (zero_at (entry 13 9 14 11 2 1 1 3) forth_2_0 w fw)
+      (zero_at (entry 13 9 14 11 3 2 1 1) forth_2_1 x fx)
+      (one_at (entry 13 9 14 11 1 3 2 1) forth_2_2 y fy)
+      (zero_at (entry 13 9 14 11 1 1 3 2) forth_2_3 z fz)
+      ∙ xor_zero_r y
+
+  forth_row_3 : sum_of_products 11 13 9 14 (sum_of_products 2 3 1 1 w x y z) (sum_of_products 1 2 3 1 w x y z) (sum_of_products 1 1 2 3 w x y z) (sum_of_products 3 1 1 2 w x y z) ≡ z
+  forth_row_3 =
+      row_of_both 11 13 9 14 2 3 1 1 w x y z fw fx fy fz
+      ∙ four_is (zero_at (entry 11 13 9 14 2 1 1 3) forth_3_0 w fw)
+      (zero_at (entry 11 13 9 14 3 2 1 1) forth_3_1 x fx)
+      (zero_at (entry 11 13 9 14 1 3 2 1) forth_3_2 y fy)
+      (one_at (entry 11 13 9 14 1 1 3 2) forth_3_3 z fz)
+      ∙ refl
+
+mixed_forth : (v : List ℕ) → Bytes 16 v → inverse_mix_columns (mix_columns v) ≡ v
+unfolding mix_columns_by
+mixed_forth v bytes =
+    sixteen (λ v. Each1 (λ b. b < 256) v → inverse_mix_columns (mix_columns v) ≡ v)
+    (λ a0 a1 a2 a3 a4 a5 a6 a7 a8 a9 a10 a11 a12 a13 a14 a15 f.
+    joined (forth_row_0 a0 a1 a2 a3 f.0 f.1.0 f.1.1.0 f.1.1.1.0) (
+    joined (forth_row_1 a0 a1 a2 a3 f.0 f.1.0 f.1.1.0 f.1.1.1.0) (
+    joined (forth_row_2 a0 a1 a2 a3 f.0 f.1.0 f.1.1.0 f.1.1.1.0) (
+    joined (forth_row_3 a0 a1 a2 a3 f.0 f.1.0 f.1.1.0 f.1.1.1.0) (
+    joined (forth_row_0 a4 a5 a6 a7 f.1.1.1.1.0 f.1.1.1.1.1.0 f.1.1.1.1.1.1.0 f.1.1.1.1.1.1.1.0) (
+    joined (forth_row_1 a4 a5 a6 a7 f.1.1.1.1.0 f.1.1.1.1.1.0 f.1.1.1.1.1.1.0 f.1.1.1.1.1.1.1.0) (
+    joined (forth_row_2 a4 a5 a6 a7 f.1.1.1.1.0 f.1.1.1.1.1.0 f.1.1.1.1.1.1.0 f.1.1.1.1.1.1.1.0) (
+    joined (forth_row_3 a4 a5 a6 a7 f.1.1.1.1.0 f.1.1.1.1.1.0 f.1.1.1.1.1.1.0 f.1.1.1.1.1.1.1.0) (
+    joined (forth_row_0 a8 a9 a10 a11 f.1.1.1.1.1.1.1.1.0 f.1.1.1.1.1.1.1.1.1.0 f.1.1.1.1.1.1.1.1.1.1.0 f.1.1.1.1.1.1.1.1.1.1.1.0) (
+    joined (forth_row_1 a8 a9 a10 a11 f.1.1.1.1.1.1.1.1.0 f.1.1.1.1.1.1.1.1.1.0 f.1.1.1.1.1.1.1.1.1.1.0 f.1.1.1.1.1.1.1.1.1.1.1.0) (
+    joined (forth_row_2 a8 a9 a10 a11 f.1.1.1.1.1.1.1.1.0 f.1.1.1.1.1.1.1.1.1.0 f.1.1.1.1.1.1.1.1.1.1.0 f.1.1.1.1.1.1.1.1.1.1.1.0) (
+    joined (forth_row_3 a8 a9 a10 a11 f.1.1.1.1.1.1.1.1.0 f.1.1.1.1.1.1.1.1.1.0 f.1.1.1.1.1.1.1.1.1.1.0 f.1.1.1.1.1.1.1.1.1.1.1.0) (
+    joined (forth_row_0 a12 a13 a14 a15 f.1.1.1.1.1.1.1.1.1.1.1.1.0 f.1.1.1.1.1.1.1.1.1.1.1.1.1.0 f.1.1.1.1.1.1.1.1.1.1.1.1.1.1.0 f.1.1.1.1.1.1.1.1.1.1.1.1.1.1.1.0) (
+    joined (forth_row_1 a12 a13 a14 a15 f.1.1.1.1.1.1.1.1.1.1.1.1.0 f.1.1.1.1.1.1.1.1.1.1.1.1.1.0 f.1.1.1.1.1.1.1.1.1.1.1.1.1.1.0 f.1.1.1.1.1.1.1.1.1.1.1.1.1.1.1.0) (
+    joined (forth_row_2 a12 a13 a14 a15 f.1.1.1.1.1.1.1.1.1.1.1.1.0 f.1.1.1.1.1.1.1.1.1.1.1.1.1.0 f.1.1.1.1.1.1.1.1.1.1.1.1.1.1.0 f.1.1.1.1.1.1.1.1.1.1.1.1.1.1.1.0) (
+    joined (forth_row_3 a12 a13 a14 a15 f.1.1.1.1.1.1.1.1.1.1.1.1.0 f.1.1.1.1.1.1.1.1.1.1.1.1.1.0 f.1.1.1.1.1.1.1.1.1.1.1.1.1.1.0 f.1.1.1.1.1.1.1.1.1.1.1.1.1.1.1.0) (
+    refl)))))))))))))))))
+    v bytes.0 bytes.1
+
+back_0_0 : is_one_at (entry 2 3 1 1 14 9 13 11)
+unfolding product_of_bits
+back_0_0 = refl
+
+back_0_1 : is_zero_at (entry 2 3 1 1 11 14 9 13)
+unfolding product_of_bits
+back_0_1 = refl
+
+back_0_2 : is_zero_at (entry 2 3 1 1 13 11 14 9)
+unfolding product_of_bits
+back_0_2 = refl
+
+back_0_3 : is_zero_at (entry 2 3 1 1 9 13 11 14)
+unfolding product_of_bits
+back_0_3 = refl
+
+back_1_0 : is_zero_at (entry 1 2 3 1 14 9 13 11)
+unfolding product_of_bits
+back_1_0 = refl
+
+back_1_1 : is_one_at (entry 1 2 3 1 11 14 9 13)
+unfolding product_of_bits
+back_1_1 = refl
+
+back_1_2 : is_zero_at (entry 1 2 3 1 13 11 14 9)
+unfolding product_of_bits
+back_1_2 = refl
+
+back_1_3 : is_zero_at (entry 1 2 3 1 9 13 11 14)
+unfolding product_of_bits
+back_1_3 = refl
+
+back_2_0 : is_zero_at (entry 1 1 2 3 14 9 13 11)
+unfolding product_of_bits
+back_2_0 = refl
+
+back_2_1 : is_zero_at (entry 1 1 2 3 11 14 9 13)
+unfolding product_of_bits
+back_2_1 = refl
+
+back_2_2 : is_one_at (entry 1 1 2 3 13 11 14 9)
+unfolding product_of_bits
+back_2_2 = refl
+
+back_2_3 : is_zero_at (entry 1 1 2 3 9 13 11 14)
+unfolding product_of_bits
+back_2_3 = refl
+
+back_3_0 : is_zero_at (entry 3 1 1 2 14 9 13 11)
+unfolding product_of_bits
+back_3_0 = refl
+
+back_3_1 : is_zero_at (entry 3 1 1 2 11 14 9 13)
+unfolding product_of_bits
+back_3_1 = refl
+
+back_3_2 : is_zero_at (entry 3 1 1 2 13 11 14 9)
+unfolding product_of_bits
+back_3_2 = refl
+
+back_3_3 : is_one_at (entry 3 1 1 2 9 13 11 14)
+unfolding product_of_bits
+back_3_3 = refl
+
+module _ (w x y z : ℕ) (fw : w < 256) (fx : x < 256) (fy : y < 256) (fz : z < 256) where
+  back_row_0 : sum_of_products 2 3 1 1 (sum_of_products 14 11 13 9 w x y z) (sum_of_products 9 14 11 13 w x y z) (sum_of_products 13 9 14 11 w x y z) (sum_of_products 11 13 9 14 w x y z) ≡ w
+  back_row_0 =
+      row_of_both 2 3 1 1 14 11 13 9 w x y z fw fx fy fz
+      ∙ four_is (one_at (entry 2 3 1 1 14 9 13 11) back_0_0 w fw)
+      (zero_at (entry 2 3 1 1 11 14 9 13) back_0_1 x fx)
+      (zero_at (entry 2 3 1 1 13 11 14 9) back_0_2 y fy)
+      (zero_at (entry 2 3 1 1 9 13 11 14) back_0_3 z fz)
+      ∙ ap (λ n. bit_xor n 0) (xor_zero_r w) ∙ xor_zero_r w
+
+  back_row_1 : sum_of_products 1 2 3 1 (sum_of_products 14 11 13 9 w x y z) (sum_of_products 9 14 11 13 w x y z) (sum_of_products 13 9 14 11 w x y z) (sum_of_products 11 13 9 14 w x y z) ≡ x
+  back_row_1 =
+      row_of_both 1 2 3 1 14 11 13 9 w x y z fw fx fy fz
+      ∙ four_is (zero_at (entry 1 2 3 1 14 9 13 11) back_1_0 w fw)
+      (one_at (entry 1 2 3 1 11 14 9 13) back_1_1 x fx)
+      (zero_at (entry 1 2 3 1 13 11 14 9) back_1_2 y fy)
+      (zero_at (entry 1 2 3 1 9 13 11 14) back_1_3 z fz)
+      ∙ xor_zero_r x
+
+  back_row_2 : sum_of_products 1 1 2 3 (sum_of_products 14 11 13 9 w x y z) (sum_of_products 9 14 11 13 w x y z) (sum_of_products 13 9 14 11 w x y z) (sum_of_products 11 13 9 14 w x y z) ≡ y
+  back_row_2 =
+      row_of_both 1 1 2 3 14 11 13 9 w x y z fw fx fy fz
+      ∙ four_is (zero_at (entry 1 1 2 3 14 9 13 11) back_2_0 w fw)
+      (zero_at (entry 1 1 2 3 11 14 9 13) back_2_1 x fx)
+      (one_at (entry 1 1 2 3 13 11 14 9) back_2_2 y fy)
+      (zero_at (entry 1 1 2 3 9 13 11 14) back_2_3 z fz)
+      ∙ xor_zero_r y
+
+  back_row_3 : sum_of_products 3 1 1 2 (sum_of_products 14 11 13 9 w x y z) (sum_of_products 9 14 11 13 w x y z) (sum_of_products 13 9 14 11 w x y z) (sum_of_products 11 13 9 14 w x y z) ≡ z
+  back_row_3 =
+      row_of_both 3 1 1 2 14 11 13 9 w x y z fw fx fy fz
+      ∙ four_is (zero_at (entry 3 1 1 2 14 9 13 11) back_3_0 w fw)
+      (zero_at (entry 3 1 1 2 11 14 9 13) back_3_1 x fx)
+      (zero_at (entry 3 1 1 2 13 11 14 9) back_3_2 y fy)
+      (one_at (entry 3 1 1 2 9 13 11 14) back_3_3 z fz)
+      ∙ refl
+
+mixed_back : (v : List ℕ) → Bytes 16 v → mix_columns (inverse_mix_columns v) ≡ v
+unfolding mix_columns_by
+mixed_back v bytes =
+    sixteen (λ v. Each1 (λ b. b < 256) v → mix_columns (inverse_mix_columns v) ≡ v)
+    (λ a0 a1 a2 a3 a4 a5 a6 a7 a8 a9 a10 a11 a12 a13 a14 a15 f.
+    joined (back_row_0 a0 a1 a2 a3 f.0 f.1.0 f.1.1.0 f.1.1.1.0) (
+    joined (back_row_1 a0 a1 a2 a3 f.0 f.1.0 f.1.1.0 f.1.1.1.0) (
+    joined (back_row_2 a0 a1 a2 a3 f.0 f.1.0 f.1.1.0 f.1.1.1.0) (
+    joined (back_row_3 a0 a1 a2 a3 f.0 f.1.0 f.1.1.0 f.1.1.1.0) (
+    joined (back_row_0 a4 a5 a6 a7 f.1.1.1.1.0 f.1.1.1.1.1.0 f.1.1.1.1.1.1.0 f.1.1.1.1.1.1.1.0) (
+    joined (back_row_1 a4 a5 a6 a7 f.1.1.1.1.0 f.1.1.1.1.1.0 f.1.1.1.1.1.1.0 f.1.1.1.1.1.1.1.0) (
+    joined (back_row_2 a4 a5 a6 a7 f.1.1.1.1.0 f.1.1.1.1.1.0 f.1.1.1.1.1.1.0 f.1.1.1.1.1.1.1.0) (
+    joined (back_row_3 a4 a5 a6 a7 f.1.1.1.1.0 f.1.1.1.1.1.0 f.1.1.1.1.1.1.0 f.1.1.1.1.1.1.1.0) (
+    joined (back_row_0 a8 a9 a10 a11 f.1.1.1.1.1.1.1.1.0 f.1.1.1.1.1.1.1.1.1.0 f.1.1.1.1.1.1.1.1.1.1.0 f.1.1.1.1.1.1.1.1.1.1.1.0) (
+    joined (back_row_1 a8 a9 a10 a11 f.1.1.1.1.1.1.1.1.0 f.1.1.1.1.1.1.1.1.1.0 f.1.1.1.1.1.1.1.1.1.1.0 f.1.1.1.1.1.1.1.1.1.1.1.0) (
+    joined (back_row_2 a8 a9 a10 a11 f.1.1.1.1.1.1.1.1.0 f.1.1.1.1.1.1.1.1.1.0 f.1.1.1.1.1.1.1.1.1.1.0 f.1.1.1.1.1.1.1.1.1.1.1.0) (
+    joined (back_row_3 a8 a9 a10 a11 f.1.1.1.1.1.1.1.1.0 f.1.1.1.1.1.1.1.1.1.0 f.1.1.1.1.1.1.1.1.1.1.0 f.1.1.1.1.1.1.1.1.1.1.1.0) (
+    joined (back_row_0 a12 a13 a14 a15 f.1.1.1.1.1.1.1.1.1.1.1.1.0 f.1.1.1.1.1.1.1.1.1.1.1.1.1.0 f.1.1.1.1.1.1.1.1.1.1.1.1.1.1.0 f.1.1.1.1.1.1.1.1.1.1.1.1.1.1.1.0) (
+    joined (back_row_1 a12 a13 a14 a15 f.1.1.1.1.1.1.1.1.1.1.1.1.0 f.1.1.1.1.1.1.1.1.1.1.1.1.1.0 f.1.1.1.1.1.1.1.1.1.1.1.1.1.1.0 f.1.1.1.1.1.1.1.1.1.1.1.1.1.1.1.0) (
+    joined (back_row_2 a12 a13 a14 a15 f.1.1.1.1.1.1.1.1.1.1.1.1.0 f.1.1.1.1.1.1.1.1.1.1.1.1.1.0 f.1.1.1.1.1.1.1.1.1.1.1.1.1.1.0 f.1.1.1.1.1.1.1.1.1.1.1.1.1.1.1.0) (
+    joined (back_row_3 a12 a13 a14 a15 f.1.1.1.1.1.1.1.1.1.1.1.1.0 f.1.1.1.1.1.1.1.1.1.1.1.1.1.0 f.1.1.1.1.1.1.1.1.1.1.1.1.1.1.0 f.1.1.1.1.1.1.1.1.1.1.1.1.1.1.1.0) (
+    refl)))))))))))))))))
+    v bytes.0 bytes.1
+
+-- ---- the other steps
+
+shifted_forth : (v : List ℕ) → length v ≡ 16 → inverse_shift_rows (shift_rows v) ≡ v
+shifted_forth v long = sixteen (λ v. inverse_shift_rows (shift_rows v) ≡ v) (λ a0 a1 a2 a3 a4 a5 a6 a7 a8 a9 a10 a11 a12 a13 a14 a15. refl) v long
+
+shifted_back : (v : List ℕ) → length v ≡ 16 → shift_rows (inverse_shift_rows v) ≡ v
+shifted_back v long = sixteen (λ v. shift_rows (inverse_shift_rows v) ≡ v) (λ a0 a1 a2 a3 a4 a5 a6 a7 a8 a9 a10 a11 a12 a13 a14 a15. refl) v long
+
+map_undone : (f g : ℕ → ℕ) → is_one_at (λ b. g (f b)) → (v : List ℕ) → Each1 (λ b. b < 256) v → map g (map f v) ≡ v
+map_undone f g test [] fits = refl
+map_undone f g test (x ∷ xs) fits = joined (one_at (λ b. g (f b)) test x fits.0) (map_undone f g test xs fits.1)
+
+s_box_forth : is_one_at (λ b. inverse_s_box (s_box b))
+unfolding product_of_bits multiplicative_inverse s_box inverse_s_box
+s_box_forth = refl
+
+s_box_back : is_one_at (λ b. s_box (inverse_s_box b))
+unfolding product_of_bits multiplicative_inverse s_box inverse_s_box
+s_box_back = refl
+
+twice_added : (k v : List ℕ) → length v ≡ length k → xor_bytes k (xor_bytes k v) ≡ v
+unfolding xor_bytes
+twice_added [] [] e = refl
+twice_added [] (y ∷ ys) e = absurd (omega (arith, e))
+twice_added (x ∷ xs) [] e = refl
+twice_added (x ∷ xs) (y ∷ ys) e = joined (sym (xor_assoc x x y) ∙ ap (λ n. bit_xor n y) (xor_self x)) (twice_added xs ys (omega (arith, e)))
+
+-- ---- each step gives bytes
+
+mapped_bytes : (f : ℕ → ℕ) → ((b : ℕ) → b < 256 → f b < 256) → (v : List ℕ) → Each1 (λ b. b < 256) v → Each1 (λ b. b < 256) (map f v)
+mapped_bytes f h [] fits = tt
+mapped_bytes f h (x ∷ xs) fits = (h x fits.0, mapped_bytes f h xs fits.1)
+
+sub_bytes-bytes : (v : List ℕ) → Bytes 16 v → Bytes 16 (sub_bytes v)
+sub_bytes-bytes v bytes = (length-map v s_box ∙ bytes.0, mapped_bytes s_box (byte_by s_box all_s_box) v bytes.1)
+
+inverse_sub_bytes-bytes : (v : List ℕ) → Bytes 16 v → Bytes 16 (inverse_sub_bytes v)
+inverse_sub_bytes-bytes v bytes = (length-map v inverse_s_box ∙ bytes.0, mapped_bytes inverse_s_box (byte_by inverse_s_box all_inverse_s_box) v bytes.1)
+
+shift_rows-bytes : (v : List ℕ) → Bytes 16 v → Bytes 16 (shift_rows v)
+shift_rows-bytes v bytes = sixteen (λ v. Each1 (λ b. b < 256) v → Bytes 16 (shift_rows v)) (λ a0 a1 a2 a3 a4 a5 a6 a7 a8 a9 a10 a11 a12 a13 a14 a15 f. (refl, (f.0, (f.1.1.1.1.1.0, (f.1.1.1.1.1.1.1.1.1.1.0, (f.1.1.1.1.1.1.1.1.1.1.1.1.1.1.1.0, (f.1.1.1.1.0, (f.1.1.1.1.1.1.1.1.1.0, (f.1.1.1.1.1.1.1.1.1.1.1.1.1.1.0, (f.1.1.1.0, (f.1.1.1.1.1.1.1.1.0, (f.1.1.1.1.1.1.1.1.1.1.1.1.1.0, (f.1.1.0, (f.1.1.1.1.1.1.1.0, (f.1.1.1.1.1.1.1.1.1.1.1.1.0, (f.1.0, (f.1.1.1.1.1.1.0, (f.1.1.1.1.1.1.1.1.1.1.1.0, tt)))))))))))))))))) v bytes.0 bytes.1
+
+inverse_shift_rows-bytes : (v : List ℕ) → Bytes 16 v → Bytes 16 (inverse_shift_rows v)
+inverse_shift_rows-bytes v bytes = sixteen (λ v. Each1 (λ b. b < 256) v → Bytes 16 (inverse_shift_rows v)) (λ a0 a1 a2 a3 a4 a5 a6 a7 a8 a9 a10 a11 a12 a13 a14 a15 f. (refl, (f.0, (f.1.1.1.1.1.1.1.1.1.1.1.1.1.0, (f.1.1.1.1.1.1.1.1.1.1.0, (f.1.1.1.1.1.1.1.0, (f.1.1.1.1.0, (f.1.0, (f.1.1.1.1.1.1.1.1.1.1.1.1.1.1.0, (f.1.1.1.1.1.1.1.1.1.1.1.0, (f.1.1.1.1.1.1.1.1.0, (f.1.1.1.1.1.0, (f.1.1.0, (f.1.1.1.1.1.1.1.1.1.1.1.1.1.1.1.0, (f.1.1.1.1.1.1.1.1.1.1.1.1.0, (f.1.1.1.1.1.1.1.1.1.0, (f.1.1.1.1.1.1.0, (f.1.1.1.0, tt)))))))))))))))))) v bytes.0 bytes.1
+
+mix_columns-bytes : (v : List ℕ) → Bytes 16 v → Bytes 16 (mix_columns v)
+unfolding mix_columns_by
+mix_columns-bytes v bytes =
+    sixteen (λ v. Each1 (λ b. b < 256) v → Bytes 16 (mix_columns v)) (λ a0 a1 a2 a3 a4 a5 a6 a7 a8 a9 a10 a11 a12 a13 a14 a15 f. (refl, (sum_byte 2 3 1 1 a0 a1 a2 a3 f.0 f.1.0 f.1.1.0 f.1.1.1.0, (sum_byte 1 2 3 1 a0 a1 a2 a3 f.0 f.1.0 f.1.1.0 f.1.1.1.0, (sum_byte 1 1 2 3 a0 a1 a2 a3 f.0 f.1.0 f.1.1.0 f.1.1.1.0, (sum_byte 3 1 1 2 a0 a1 a2 a3 f.0 f.1.0 f.1.1.0 f.1.1.1.0, (sum_byte 2 3 1 1 a4 a5 a6 a7 f.1.1.1.1.0 f.1.1.1.1.1.0 f.1.1.1.1.1.1.0 f.1.1.1.1.1.1.1.0, (sum_byte 1 2 3 1 a4 a5 a6 a7 f.1.1.1.1.0 f.1.1.1.1.1.0 f.1.1.1.1.1.1.0 f.1.1.1.1.1.1.1.0, (sum_byte 1 1 2 3 a4 a5 a6 a7 f.1.1.1.1.0 f.1.1.1.1.1.0 f.1.1.1.1.1.1.0 f.1.1.1.1.1.1.1.0, (sum_byte 3 1 1 2 a4 a5 a6 a7 f.1.1.1.1.0 f.1.1.1.1.1.0 f.1.1.1.1.1.1.0 f.1.1.1.1.1.1.1.0, (sum_byte 2 3 1 1 a8 a9 a10 a11 f.1.1.1.1.1.1.1.1.0 f.1.1.1.1.1.1.1.1.1.0 f.1.1.1.1.1.1.1.1.1.1.0 f.1.1.1.1.1.1.1.1.1.1.1.0, (sum_byte 1 2 3 1 a8 a9 a10 a11 f.1.1.1.1.1.1.1.1.0 f.1.1.1.1.1.1.1.1.1.0 f.1.1.1.1.1.1.1.1.1.1.0 f.1.1.1.1.1.1.1.1.1.1.1.0, (sum_byte 1 1 2 3 a8 a9 a10 a11 f.1.1.1.1.1.1.1.1.0 f.1.1.1.1.1.1.1.1.1.0 f.1.1.1.1.1.1.1.1.1.1.0 f.1.1.1.1.1.1.1.1.1.1.1.0, (sum_byte 3 1 1 2 a8 a9 a10 a11 f.1.1.1.1.1.1.1.1.0 f.1.1.1.1.1.1.1.1.1.0 f.1.1.1.1.1.1.1.1.1.1.0 f.1.1.1.1.1.1.1.1.1.1.1.0, (sum_byte 2 3 1 1 a12 a13 a14 a15 f.1.1.1.1.1.1.1.1.1.1.1.1.0 f.1.1.1.1.1.1.1.1.1.1.1.1.1.0 f.1.1.1.1.1.1.1.1.1.1.1.1.1.1.0 f.1.1.1.1.1.1.1.1.1.1.1.1.1.1.1.0, (sum_byte 1 2 3 1 a12 a13 a14 a15 f.1.1.1.1.1.1.1.1.1.1.1.1.0 f.1.1.1.1.1.1.1.1.1.1.1.1.1.0 f.1.1.1.1.1.1.1.1.1.1.1.1.1.1.0 f.1.1.1.1.1.1.1.1.1.1.1.1.1.1.1.0, (sum_byte 1 1 2 3 a12 a13 a14 a15 f.1.1.1.1.1.1.1.1.1.1.1.1.0 f.1.1.1.1.1.1.1.1.1.1.1.1.1.0 f.1.1.1.1.1.1.1.1.1.1.1.1.1.1.0 f.1.1.1.1.1.1.1.1.1.1.1.1.1.1.1.0, (sum_byte 3 1 1 2 a12 a13 a14 a15 f.1.1.1.1.1.1.1.1.1.1.1.1.0 f.1.1.1.1.1.1.1.1.1.1.1.1.1.0 f.1.1.1.1.1.1.1.1.1.1.1.1.1.1.0 f.1.1.1.1.1.1.1.1.1.1.1.1.1.1.1.0, tt)))))))))))))))))) v bytes.0 bytes.1
+
+inverse_mix_columns-bytes : (v : List ℕ) → Bytes 16 v → Bytes 16 (inverse_mix_columns v)
+unfolding mix_columns_by
+inverse_mix_columns-bytes v bytes =
+    sixteen (λ v. Each1 (λ b. b < 256) v → Bytes 16 (inverse_mix_columns v)) (λ a0 a1 a2 a3 a4 a5 a6 a7 a8 a9 a10 a11 a12 a13 a14 a15 f. (refl, (sum_byte 14 11 13 9 a0 a1 a2 a3 f.0 f.1.0 f.1.1.0 f.1.1.1.0, (sum_byte 9 14 11 13 a0 a1 a2 a3 f.0 f.1.0 f.1.1.0 f.1.1.1.0, (sum_byte 13 9 14 11 a0 a1 a2 a3 f.0 f.1.0 f.1.1.0 f.1.1.1.0, (sum_byte 11 13 9 14 a0 a1 a2 a3 f.0 f.1.0 f.1.1.0 f.1.1.1.0, (sum_byte 14 11 13 9 a4 a5 a6 a7 f.1.1.1.1.0 f.1.1.1.1.1.0 f.1.1.1.1.1.1.0 f.1.1.1.1.1.1.1.0, (sum_byte 9 14 11 13 a4 a5 a6 a7 f.1.1.1.1.0 f.1.1.1.1.1.0 f.1.1.1.1.1.1.0 f.1.1.1.1.1.1.1.0, (sum_byte 13 9 14 11 a4 a5 a6 a7 f.1.1.1.1.0 f.1.1.1.1.1.0 f.1.1.1.1.1.1.0 f.1.1.1.1.1.1.1.0, (sum_byte 11 13 9 14 a4 a5 a6 a7 f.1.1.1.1.0 f.1.1.1.1.1.0 f.1.1.1.1.1.1.0 f.1.1.1.1.1.1.1.0, (sum_byte 14 11 13 9 a8 a9 a10 a11 f.1.1.1.1.1.1.1.1.0 f.1.1.1.1.1.1.1.1.1.0 f.1.1.1.1.1.1.1.1.1.1.0 f.1.1.1.1.1.1.1.1.1.1.1.0, (sum_byte 9 14 11 13 a8 a9 a10 a11 f.1.1.1.1.1.1.1.1.0 f.1.1.1.1.1.1.1.1.1.0 f.1.1.1.1.1.1.1.1.1.1.0 f.1.1.1.1.1.1.1.1.1.1.1.0, (sum_byte 13 9 14 11 a8 a9 a10 a11 f.1.1.1.1.1.1.1.1.0 f.1.1.1.1.1.1.1.1.1.0 f.1.1.1.1.1.1.1.1.1.1.0 f.1.1.1.1.1.1.1.1.1.1.1.0, (sum_byte 11 13 9 14 a8 a9 a10 a11 f.1.1.1.1.1.1.1.1.0 f.1.1.1.1.1.1.1.1.1.0 f.1.1.1.1.1.1.1.1.1.1.0 f.1.1.1.1.1.1.1.1.1.1.1.0, (sum_byte 14 11 13 9 a12 a13 a14 a15 f.1.1.1.1.1.1.1.1.1.1.1.1.0 f.1.1.1.1.1.1.1.1.1.1.1.1.1.0 f.1.1.1.1.1.1.1.1.1.1.1.1.1.1.0 f.1.1.1.1.1.1.1.1.1.1.1.1.1.1.1.0, (sum_byte 9 14 11 13 a12 a13 a14 a15 f.1.1.1.1.1.1.1.1.1.1.1.1.0 f.1.1.1.1.1.1.1.1.1.1.1.1.1.0 f.1.1.1.1.1.1.1.1.1.1.1.1.1.1.0 f.1.1.1.1.1.1.1.1.1.1.1.1.1.1.1.0, (sum_byte 13 9 14 11 a12 a13 a14 a15 f.1.1.1.1.1.1.1.1.1.1.1.1.0 f.1.1.1.1.1.1.1.1.1.1.1.1.1.0 f.1.1.1.1.1.1.1.1.1.1.1.1.1.1.0 f.1.1.1.1.1.1.1.1.1.1.1.1.1.1.1.0, (sum_byte 11 13 9 14 a12 a13 a14 a15 f.1.1.1.1.1.1.1.1.1.1.1.1.0 f.1.1.1.1.1.1.1.1.1.1.1.1.1.0 f.1.1.1.1.1.1.1.1.1.1.1.1.1.1.0 f.1.1.1.1.1.1.1.1.1.1.1.1.1.1.1.0, tt)))))))))))))))))) v bytes.0 bytes.1
+
+xor_bytes-bytes : (n : ℕ) (k v : List ℕ) → Bytes n k → Bytes n v → Bytes n (xor_bytes k v)
+unfolding xor_bytes
+xor_bytes-bytes n [] v bk bv = bk
+xor_bytes-bytes n (x ∷ xs) [] bk bv = bv
+xor_bytes-bytes n (x ∷ xs) (y ∷ ys) bk bv =
+    let size : length (x ∷ xs) ≡ n = bk.0 in
+    let size' : length (y ∷ ys) ≡ n = bv.0 in
+    let rest = xor_bytes-bytes (length xs) xs ys (refl, bk.1.1) (omega (arith, size, size'), bv.1.1) in
+    let long : length (xor_bytes xs ys) ≡ length xs = rest.0 in
+    (omega (arith, long, size), (xor_byte x y bk.1.0 bv.1.0, rest.1))
+
+next_round_key-bytes : (rcon : ℕ) (k : List ℕ) → rcon < 256 → Bytes 16 k → Bytes 16 (next_round_key rcon k)
+unfolding next_round_key xor_bytes
+next_round_key-bytes rcon k fr bytes =
+    let z : 0 < 256 = omega arith in
+    sixteen (λ k. Each1 (λ b. b < 256) k → Bytes 16 (next_round_key rcon k)) (λ a0 a1 a2 a3 a4 a5 a6 a7 a8 a9 a10 a11 a12 a13 a14 a15 f. (refl, (xor_byte _ _ (f.0) (xor_byte _ _ (byte_by s_box all_s_box a13 (f.1.1.1.1.1.1.1.1.1.1.1.1.1.0)) fr), (xor_byte _ _ (f.1.0) (xor_byte _ _ (byte_by s_box all_s_box a14 (f.1.1.1.1.1.1.1.1.1.1.1.1.1.1.0)) z), (xor_byte _ _ (f.1.1.0) (xor_byte _ _ (byte_by s_box all_s_box a15 (f.1.1.1.1.1.1.1.1.1.1.1.1.1.1.1.0)) z), (xor_byte _ _ (f.1.1.1.0) (xor_byte _ _ (byte_by s_box all_s_box a12 (f.1.1.1.1.1.1.1.1.1.1.1.1.0)) z), (xor_byte _ _ (f.1.1.1.1.0) (xor_byte _ _ (f.0) (xor_byte _ _ (byte_by s_box all_s_box a13 (f.1.1.1.1.1.1.1.1.1.1.1.1.1.0)) fr)), (xor_byte _ _ (f.1.1.1.1.1.0) (xor_byte _ _ (f.1.0) (xor_byte _ _ (byte_by s_box all_s_box a14 (f.1.1.1.1.1.1.1.1.1.1.1.1.1.1.0)) z)), (xor_byte _ _ (f.1.1.1.1.1.1.0) (xor_byte _ _ (f.1.1.0) (xor_byte _ _ (byte_by s_box all_s_box a15 (f.1.1.1.1.1.1.1.1.1.1.1.1.1.1.1.0)) z)), (xor_byte _ _ (f.1.1.1.1.1.1.1.0) (xor_byte _ _ (f.1.1.1.0) (xor_byte _ _ (byte_by s_box all_s_box a12 (f.1.1.1.1.1.1.1.1.1.1.1.1.0)) z)), (xor_byte _ _ (f.1.1.1.1.1.1.1.1.0) (xor_byte _ _ (f.1.1.1.1.0) (xor_byte _ _ (f.0) (xor_byte _ _ (byte_by s_box all_s_box a13 (f.1.1.1.1.1.1.1.1.1.1.1.1.1.0)) fr))), (xor_byte _ _ (f.1.1.1.1.1.1.1.1.1.0) (xor_byte _ _ (f.1.1.1.1.1.0) (xor_byte _ _ (f.1.0) (xor_byte _ _ (byte_by s_box all_s_box a14 (f.1.1.1.1.1.1.1.1.1.1.1.1.1.1.0)) z))), (xor_byte _ _ (f.1.1.1.1.1.1.1.1.1.1.0) (xor_byte _ _ (f.1.1.1.1.1.1.0) (xor_byte _ _ (f.1.1.0) (xor_byte _ _ (byte_by s_box all_s_box a15 (f.1.1.1.1.1.1.1.1.1.1.1.1.1.1.1.0)) z))), (xor_byte _ _ (f.1.1.1.1.1.1.1.1.1.1.1.0) (xor_byte _ _ (f.1.1.1.1.1.1.1.0) (xor_byte _ _ (f.1.1.1.0) (xor_byte _ _ (byte_by s_box all_s_box a12 (f.1.1.1.1.1.1.1.1.1.1.1.1.0)) z))), (xor_byte _ _ (f.1.1.1.1.1.1.1.1.1.1.1.1.0) (xor_byte _ _ (f.1.1.1.1.1.1.1.1.0) (xor_byte _ _ (f.1.1.1.1.0) (xor_byte _ _ (f.0) (xor_byte _ _ (byte_by s_box all_s_box a13 (f.1.1.1.1.1.1.1.1.1.1.1.1.1.0)) fr)))), (xor_byte _ _ (f.1.1.1.1.1.1.1.1.1.1.1.1.1.0) (xor_byte _ _ (f.1.1.1.1.1.1.1.1.1.0) (xor_byte _ _ (f.1.1.1.1.1.0) (xor_byte _ _ (f.1.0) (xor_byte _ _ (byte_by s_box all_s_box a14 (f.1.1.1.1.1.1.1.1.1.1.1.1.1.1.0)) z)))), (xor_byte _ _ (f.1.1.1.1.1.1.1.1.1.1.1.1.1.1.0) (xor_byte _ _ (f.1.1.1.1.1.1.1.1.1.1.0) (xor_byte _ _ (f.1.1.1.1.1.1.0) (xor_byte _ _ (f.1.1.0) (xor_byte _ _ (byte_by s_box all_s_box a15 (f.1.1.1.1.1.1.1.1.1.1.1.1.1.1.1.0)) z)))), (xor_byte _ _ (f.1.1.1.1.1.1.1.1.1.1.1.1.1.1.1.0) (xor_byte _ _ (f.1.1.1.1.1.1.1.1.1.1.1.0) (xor_byte _ _ (f.1.1.1.1.1.1.1.0) (xor_byte _ _ (f.1.1.1.0) (xor_byte _ _ (byte_by s_box all_s_box a12 (f.1.1.1.1.1.1.1.1.1.1.1.1.0)) z)))), tt)))))))))))))))))) k bytes.0 bytes.1
+
+round_keys_by-bytes : (rcons : List ℕ) (k : List ℕ) → Each1 (λ r. r < 256) rcons → Bytes 16 k → Each1 (Bytes 16) (round_keys_by rcons k)
+unfolding round_keys_by
+round_keys_by-bytes [] k fr bytes = tt
+round_keys_by-bytes (rcon ∷ rcons) k fr bytes =
+    let next = next_round_key-bytes rcon k fr.0 bytes in
+    (next, round_keys_by-bytes rcons (next_round_key rcon k) fr.1 next)
+
+keys-bytes : (key : List ℕ) → Bytes 16 key → Each1 (Bytes 16) (key ∷ round_keys key)
+keys-bytes key bytes = (bytes, round_keys_by-bytes round_constants key (omega arith, (omega arith, (omega arith, (omega arith, (omega arith, (omega arith, (omega arith, (omega arith, (omega arith, (omega arith, tt)))))))))) bytes)
+
+-- ---- a round there and back
+
+abbrev full : List ℕ → List ℕ → List ℕ
+full k s = xor_bytes k (mix_columns (shift_rows (sub_bytes s)))
+
+abbrev inverse_full : List ℕ → List ℕ → List ℕ
+inverse_full k s = inverse_mix_columns (xor_bytes k (inverse_sub_bytes (inverse_shift_rows s)))
+
+abbrev mid : List ℕ → List ℕ
+mid s = shift_rows (sub_bytes s)
+
+abbrev inverse_mid : List ℕ → List ℕ
+inverse_mid s = inverse_sub_bytes (inverse_shift_rows s)
+
+mid-bytes : (s : List ℕ) → Bytes 16 s → Bytes 16 (mid s)
+mid-bytes s bytes = shift_rows-bytes (sub_bytes s) (sub_bytes-bytes s bytes)
+
+inverse_mid-bytes : (s : List ℕ) → Bytes 16 s → Bytes 16 (inverse_mid s)
+inverse_mid-bytes s bytes = inverse_sub_bytes-bytes (inverse_shift_rows s) (inverse_shift_rows-bytes s bytes)
+
+mid_forth : (s : List ℕ) → Bytes 16 s → inverse_mid (mid s) ≡ s
+mid_forth s bytes = ap inverse_sub_bytes (shifted_forth (sub_bytes s) (sub_bytes-bytes s bytes).0) ∙ map_undone s_box inverse_s_box s_box_forth s bytes.1
+
+mid_back : (s : List ℕ) → Bytes 16 s → mid (inverse_mid s) ≡ s
+mid_back s bytes =
+    ap shift_rows (map_undone inverse_s_box s_box s_box_back (inverse_shift_rows s) (inverse_shift_rows-bytes s bytes).1) ∙ shifted_back s bytes.0
+
+full-bytes : (k s : List ℕ) → Bytes 16 k → Bytes 16 s → Bytes 16 (full k s)
+full-bytes k s bk bs = xor_bytes-bytes 16 k (mix_columns (mid s)) bk (mix_columns-bytes (mid s) (mid-bytes s bs))
+
+inverse_full-bytes : (k s : List ℕ) → Bytes 16 k → Bytes 16 s → Bytes 16 (inverse_full k s)
+inverse_full-bytes k s bk bs = inverse_mix_columns-bytes (xor_bytes k (inverse_mid s)) (xor_bytes-bytes 16 k (inverse_mid s) bk (inverse_mid-bytes s bs))
+
+undone : (k v : List ℕ) → Bytes 16 k → Bytes 16 v → xor_bytes k (xor_bytes k v) ≡ v
+undone k v bk bv = twice_added k v (bv.0 ∙ sym bk.0)
+
+round_forth : (k s : List ℕ) → Bytes 16 k → Bytes 16 s → mid s ≡ inverse_full k (mid (full k s))
+round_forth k s bk bs =
+    sym (ap (λ l. inverse_mix_columns (xor_bytes k l)) (mid_forth (full k s) (full-bytes k s bk bs))
+    ∙ ap inverse_mix_columns (undone k (mix_columns (mid s)) bk (mix_columns-bytes (mid s) (mid-bytes s bs))) ∙ mixed_forth (mid s) (mid-bytes s bs))
+
+round_back : (k s : List ℕ) → Bytes 16 k → Bytes 16 s → inverse_mid s ≡ full k (inverse_mid (inverse_full k s))
+round_back k s bk bs =
+    sym (ap (λ l. xor_bytes k (mix_columns l)) (mid_back (inverse_full k s) (inverse_full-bytes k s bk bs))
+    ∙ ap (xor_bytes k) (mixed_back (xor_bytes k (inverse_mid s)) (xor_bytes-bytes 16 k (inverse_mid s) bk (inverse_mid-bytes s bs))) ∙ undone k (inverse_mid s) bk (inverse_mid-bytes s bs))
+
+-- ---- the whole cipher
+
+bytes_of : (b : List ℕ) → IsBlock b → Bytes 16 b
+bytes_of b is = (is.0, Each1-from_get_or (λ x. x < 256) b 0 (λ i h. is.1 i 0 h))
+
+pub deciphered : (key b : List ℕ) → IsBlock key → IsBlock b → unaes key (aes key b) ≡ b
+unfolding round_keys_by
+deciphered key b is_key is_block =
+    let ks : List (List ℕ) = key ∷ round_keys key in
+    let g : Each1 (Bytes 16) (key ∷ round_keys key) = keys-bytes key (bytes_of key is_key) in
+    let s0 = xor_bytes (key_at ks 0) b in
+    let b0 : Bytes 16 s0 = xor_bytes-bytes 16 (key_at ks 0) b (g.0) (bytes_of b is_block) in
+    let s1 = full (key_at ks 1) s0 in
+    let b1 : Bytes 16 s1 = full-bytes (key_at ks 1) s0 (g.1.0) b0 in
+    let s2 = full (key_at ks 2) s1 in
+    let b2 : Bytes 16 s2 = full-bytes (key_at ks 2) s1 (g.1.1.0) b1 in
+    let s3 = full (key_at ks 3) s2 in
+    let b3 : Bytes 16 s3 = full-bytes (key_at ks 3) s2 (g.1.1.1.0) b2 in
+    let s4 = full (key_at ks 4) s3 in
+    let b4 : Bytes 16 s4 = full-bytes (key_at ks 4) s3 (g.1.1.1.1.0) b3 in
+    let s5 = full (key_at ks 5) s4 in
+    let b5 : Bytes 16 s5 = full-bytes (key_at ks 5) s4 (g.1.1.1.1.1.0) b4 in
+    let s6 = full (key_at ks 6) s5 in
+    let b6 : Bytes 16 s6 = full-bytes (key_at ks 6) s5 (g.1.1.1.1.1.1.0) b5 in
+    let s7 = full (key_at ks 7) s6 in
+    let b7 : Bytes 16 s7 = full-bytes (key_at ks 7) s6 (g.1.1.1.1.1.1.1.0) b6 in
+    let s8 = full (key_at ks 8) s7 in
+    let b8 : Bytes 16 s8 = full-bytes (key_at ks 8) s7 (g.1.1.1.1.1.1.1.1.0) b7 in
+    let s9 = full (key_at ks 9) s8 in
+    let b9 : Bytes 16 s9 = full-bytes (key_at ks 9) s8 (g.1.1.1.1.1.1.1.1.1.0) b8 in
+    let end = xor_bytes (key_at ks 10) (mid s9) in
+    let start : s0 ≡ zip2 bit_xor (key_at ks 0) b = sym (zip2_xor (key_at ks 0) b) in
+    let is : end ≡ aes key b = aes_is ks key b s1 s2 s3 s4 s5 s6 s7 s8 s9 end refl (ap (full (key_at ks 1)) start) refl refl refl refl refl refl refl refl refl in
+    let first : zip2 bit_xor (key_at ks 10) (aes key b) ≡ mid s9 = zip2_xor (key_at ks 10) (aes key b) ∙ ap (xor_bytes (key_at ks 10)) (sym is) ∙ undone (key_at ks 10) (mid s9) (g.1.1.1.1.1.1.1.1.1.1.0) (mid-bytes s9 b9) in
+    sym (unaes_is ks key (aes key b) (mid s8) (mid s7) (mid s6) (mid s5) (mid s4) (mid s3) (mid s2) (mid s1) (mid s0) b refl
+    (round_forth (key_at ks 9) s8 (g.1.1.1.1.1.1.1.1.1.0) b8 ∙ ap (inverse_full (key_at ks 9)) (sym first))
+    (round_forth (key_at ks 8) s7 (g.1.1.1.1.1.1.1.1.0) b7)
+    (round_forth (key_at ks 7) s6 (g.1.1.1.1.1.1.1.0) b6)
+    (round_forth (key_at ks 6) s5 (g.1.1.1.1.1.1.0) b5)
+    (round_forth (key_at ks 5) s4 (g.1.1.1.1.1.0) b4)
+    (round_forth (key_at ks 4) s3 (g.1.1.1.1.0) b3)
+    (round_forth (key_at ks 3) s2 (g.1.1.1.0) b2)
+    (round_forth (key_at ks 2) s1 (g.1.1.0) b1)
+    (round_forth (key_at ks 1) s0 (g.1.0) b0)
+    (sym (ap (xor_bytes (key_at ks 0)) (mid_forth s0 b0) ∙ undone (key_at ks 0) b (g.0) (bytes_of b is_block))))
+
+pub enciphered : (key b : List ℕ) → IsBlock key → IsBlock b → aes key (unaes key b) ≡ b
+unfolding round_keys_by
+enciphered key b is_key is_block =
+    let ks : List (List ℕ) = key ∷ round_keys key in
+    let g : Each1 (Bytes 16) (key ∷ round_keys key) = keys-bytes key (bytes_of key is_key) in
+    let s0 = xor_bytes (key_at ks 10) b in
+    let b0 : Bytes 16 s0 = xor_bytes-bytes 16 (key_at ks 10) b (g.1.1.1.1.1.1.1.1.1.1.0) (bytes_of b is_block) in
+    let s1 = inverse_full (key_at ks 9) s0 in
+    let b1 : Bytes 16 s1 = inverse_full-bytes (key_at ks 9) s0 (g.1.1.1.1.1.1.1.1.1.0) b0 in
+    let s2 = inverse_full (key_at ks 8) s1 in
+    let b2 : Bytes 16 s2 = inverse_full-bytes (key_at ks 8) s1 (g.1.1.1.1.1.1.1.1.0) b1 in
+    let s3 = inverse_full (key_at ks 7) s2 in
+    let b3 : Bytes 16 s3 = inverse_full-bytes (key_at ks 7) s2 (g.1.1.1.1.1.1.1.0) b2 in
+    let s4 = inverse_full (key_at ks 6) s3 in
+    let b4 : Bytes 16 s4 = inverse_full-bytes (key_at ks 6) s3 (g.1.1.1.1.1.1.0) b3 in
+    let s5 = inverse_full (key_at ks 5) s4 in
+    let b5 : Bytes 16 s5 = inverse_full-bytes (key_at ks 5) s4 (g.1.1.1.1.1.0) b4 in
+    let s6 = inverse_full (key_at ks 4) s5 in
+    let b6 : Bytes 16 s6 = inverse_full-bytes (key_at ks 4) s5 (g.1.1.1.1.0) b5 in
+    let s7 = inverse_full (key_at ks 3) s6 in
+    let b7 : Bytes 16 s7 = inverse_full-bytes (key_at ks 3) s6 (g.1.1.1.0) b6 in
+    let s8 = inverse_full (key_at ks 2) s7 in
+    let b8 : Bytes 16 s8 = inverse_full-bytes (key_at ks 2) s7 (g.1.1.0) b7 in
+    let s9 = inverse_full (key_at ks 1) s8 in
+    let b9 : Bytes 16 s9 = inverse_full-bytes (key_at ks 1) s8 (g.1.0) b8 in
+    let end = xor_bytes (key_at ks 0) (inverse_mid s9) in
+    let start : s0 ≡ zip2 bit_xor (key_at ks 10) b = sym (zip2_xor (key_at ks 10) b) in
+    let is : end ≡ unaes key b = unaes_is ks key b s1 s2 s3 s4 s5 s6 s7 s8 s9 end refl (ap (inverse_full (key_at ks 9)) start) refl refl refl refl refl refl refl refl refl in
+    let first : zip2 bit_xor (key_at ks 0) (unaes key b) ≡ inverse_mid s9 = zip2_xor (key_at ks 0) (unaes key b) ∙ ap (xor_bytes (key_at ks 0)) (sym is) ∙ undone (key_at ks 0) (inverse_mid s9) (g.0) (inverse_mid-bytes s9 b9) in
+    sym (aes_is ks key (unaes key b) (inverse_mid s8) (inverse_mid s7) (inverse_mid s6) (inverse_mid s5) (inverse_mid s4) (inverse_mid s3) (inverse_mid s2) (inverse_mid s1) (inverse_mid s0) b refl
+    (round_back (key_at ks 1) s8 (g.1.0) b8 ∙ ap (full (key_at ks 1)) (sym first))
+    (round_back (key_at ks 2) s7 (g.1.1.0) b7)
+    (round_back (key_at ks 3) s6 (g.1.1.1.0) b6)
+    (round_back (key_at ks 4) s5 (g.1.1.1.1.0) b5)
+    (round_back (key_at ks 5) s4 (g.1.1.1.1.1.0) b4)
+    (round_back (key_at ks 6) s3 (g.1.1.1.1.1.1.0) b3)
+    (round_back (key_at ks 7) s2 (g.1.1.1.1.1.1.1.0) b2)
+    (round_back (key_at ks 8) s1 (g.1.1.1.1.1.1.1.1.0) b1)
+    (round_back (key_at ks 9) s0 (g.1.1.1.1.1.1.1.1.1.0) b0)
+    (sym (ap (xor_bytes (key_at ks 10)) (mid_back s0 b0) ∙ undone (key_at ks 10) b (g.1.1.1.1.1.1.1.1.1.1.0) (bytes_of b is_block))))

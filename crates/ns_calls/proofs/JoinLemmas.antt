@@ -1,0 +1,169 @@
+-- The joins that a legal history accepts.
+use Rattle.std.proofs.Common.{◌≡◌, ◌⊎◌, ℕ, ◌+◌, ◌<◌, ◌≤◌, Bool, true, false, not, List, [], ◌∷◌, ◌++◌, map, nat_le, unwrap_or, Option, None, Some, option_map, refl, sym, ap, subst, ◌∙◌, arith, inl, inr}
+use Rattle.std.specs.List.{AllByRecursion}
+use Rattle.std.specs.Option.{option_and_then}
+use Rattle.std.proofs.lemmas.List.{append-nil, map-append}
+use Rattle.std.proofs.lemmas.Option.{none-some, same_Some}
+use Rattle.std.proofs.lemmas.Bool.Decides.{nat_tests}
+use Rattle.ns_types.specs.declared.identity.DevEui.{DevEui}
+use Rattle.ns_types.specs.declared.identity.DevAddr.{DevAddr}
+use Rattle.ns_types.specs.declared.ticket.Ticket.{Ticket}
+use Rattle.ns_types.specs.Cases.{first_case, when}
+use Rattle.ns_types.specs.Ticket.{dev_eui, nonce}
+use Rattle.ns_secure.specs.Counter.{Exceeds}
+use Rattle.ns_roster.specs.Network.{Network}
+use Rattle.ns_calls.specs.declared.call.JoinAns.{JoinAns}
+use Rattle.ns_calls.specs.declared.call.Outcome.{Outcome}
+use Rattle.ns_calls.specs.declared.call.Outcome.TheVariants as outcome
+use Rattle.ns_calls.specs.declared.call.Call.{Call}
+use Rattle.ns_calls.specs.declared.call.Call.TheVariants as call
+use Rattle.ns_calls.specs.declared.call.Reply.{Reply}
+use Rattle.ns_calls.specs.declared.call.Reply.TheVariants as reply
+use Rattle.ns_calls.specs.declared.call.Entry.{Entry}
+use Rattle.ns_calls.specs.Queries.{maximum, greater}
+use Rattle.ns_calls.specs.History.{Acceptance, acceptance_in, acceptances, same_device, greatest_nonce, next_session, is_ticket_open}
+use Rattle.ns_calls.specs.Reply.{spent_by, is_failed, address}
+use Rattle.ns_calls.specs.Legal.{IsLegal, entry_for, with_call}
+use Rattle.ns_calls.specs.Headline.{Rises, NoncesRise, nonces_up_to, SessionsAreBounded}
+use Rattle.ns_calls.proofs.Lists.{said, said-push, said-cases, All-push, Exceeds-each, Rises-push}
+use Rattle.ns_calls.proofs.QueryLemmas.{maximum-push}
+use Rattle.ns_calls.proofs.Induction.{legal_induction}
+
+-- the reply to the answer to a join, by what is asked of the history
+abbrev pub join_reply_by : Bool → Bool → Option ℕ → Reply → Reply
+join_reply_by is_open failed stale accepted = first_case (
+    when (not is_open) reply.NoTicket
+    ∷ when failed reply.JoinRefused
+    ∷ option_map (λ g. reply.JoinStale (record { 0 = g })) stale
+    ∷ []) accepted
+
+abbrev acceptance_of : Ticket → ℕ → JoinAns → Acceptance
+acceptance_of t session join = record { eui = dev_eui t; session = session; ticket = t; join_ans = join }
+
+-- what is accepted is the answer to an open ticket whose nonce isn't spent
+pub accepted-cases : (t : Ticket) (o : Outcome) (is_open : Bool) (stale : Option ℕ) (eui : DevEui) (session : ℕ) (addr : DevAddr) →
+    let said_by : Option Acceptance = acceptance_in (call.JoinReply t o) (join_reply_by is_open (is_failed o) stale (reply.Accepted eui session addr)) in
+    (said_by ≡ None) ⊎ ((join : JoinAns) × (o ≡ outcome.Success join) × (is_open ≡ true) × (stale ≡ None) × (said_by ≡ Some (acceptance_of t session join)))
+accepted-cases t outcome.Failed true stale eui session addr = inl refl
+accepted-cases t outcome.Failed false stale eui session addr = inl refl
+accepted-cases t (outcome.Success join) true None eui session addr = inr (join, refl, refl, refl, refl)
+accepted-cases t (outcome.Success join) true (Some g) eui session addr = inl refl
+accepted-cases t (outcome.Success join) false stale eui session addr = inl refl
+
+unspent : (greatest : Option ℕ) (n : ℕ) → option_and_then (λ g. when (nat_le n g) g) greatest ≡ None → Exceeds greatest n
+unspent None n is = tt
+unspent (Some g) n is = step (nat_le n g) refl is
+  where
+    step : (b : Bool) → nat_le n g ≡ b → when b g ≡ None → g < n
+    step true tells none = absurd (cc none)
+    step false tells none = grind (arith, nat_tests)
+
+-- what a call adds to the joins accepted of a device: nothing, or the join of its next session with a greater nonce
+pub record NewAcceptance (net : Network) (h : List Entry) (eui : DevEui) (now : List Acceptance) : Type 0 where
+  pub a : Acceptance
+  pub joined : now ≡ acceptances h eui ++ a ∷ []
+  pub device : same_device a.eui eui ≡ true
+  pub session : a.session ≡ next_session h eui
+  pub nonce_above : Exceeds (greatest_nonce net h eui) (nonce a.ticket).0
+
+pub same_device-eq : (d e : DevEui) → same_device d e ≡ true → d ≡ e
+same_device-eq d e is =
+    let same : d.0 ≡ e.0 = grind (arith, nat_tests) in
+    ap (λ (n : ℕ). let x : DevEui = record { 0 = n } in x) same
+
+pub acceptances-cases : (net : Network) (h : List Entry) (number : ℕ) (c : Call) (eui : DevEui) →
+    let now : List Acceptance = acceptances (with_call net h number c) eui in
+    (now ≡ acceptances h eui) ⊎ NewAcceptance net h eui now
+acceptances-cases net h number c eui =
+    let e : Entry = entry_for net h number c in
+    let asked : Acceptance → Bool = λ a. same_device a.eui eui in
+    let says : Entry → Option Acceptance = λ x. acceptance_in x.call x.reply in
+    let pushed = said-push says asked h e in
+    elim (said-cases says asked e) [
+      | inl nothing ↦ inl (pushed ∙ (ap (λ ys. acceptances h eui ++ ys) nothing ∙ append-nil (acceptances h eui)))
+      | inr one ↦ inr (new c one)
+    ]
+  where
+    new : (d : Call) →
+        let x : Entry = entry_for net h number d in
+        let test : Acceptance → Bool = λ a. same_device a.eui eui in
+        let tells : Entry → Option Acceptance = λ y. acceptance_in y.call y.reply in
+        ((a : Acceptance) × (tells x ≡ Some a) × (test a ≡ true) × (said tells test x ≡ a ∷ [])) → NewAcceptance net h eui (acceptances (with_call net h number d) eui)
+    new (call.Uplink frame heard) one = absurd (cc one.1)
+    new (call.Join t heard) one = absurd (cc one.1)
+    new (call.Close w) one = absurd (cc one.1)
+    new (call.JoinReply t o) one =
+        let x : Entry = entry_for net h number (call.JoinReply t o) in
+        elim (accepted-cases t o (is_ticket_open h t) (spent_by net h t) (dev_eui t) (next_session h (dev_eui t)) (address net (dev_eui t))) [
+          | inl none ↦ absurd (none-some one.0 (sym none ∙ one.1))
+          | inr found ↦
+              (let here : acceptance_of t (next_session h (dev_eui t)) found.0 ≡ one.0 = same_Some _ one.0 (sym found.4 ∙ one.1) in
+              let mine : dev_eui t ≡ one.0.eui = ap (λ (a : Acceptance). a.eui) here in
+              let is : one.0.eui ≡ eui = same_device-eq one.0.eui eui one.2 in
+              let session_is : next_session h (dev_eui t) ≡ one.0.session = ap (λ (a : Acceptance). a.session) here in
+              let ticket_is : t ≡ one.0.ticket = ap (λ (a : Acceptance). a.ticket) here in
+              let device_is : dev_eui t ≡ eui = mine ∙ is in
+              let above : Exceeds (greatest_nonce net h (dev_eui t)) (nonce t).0 = unspent (greatest_nonce net h (dev_eui t)) (nonce t).0 found.3 in
+              record {
+                a = one.0;
+                joined = said-push (λ (y : Entry). acceptance_in y.call y.reply) (λ (a : Acceptance). same_device a.eui eui) h x ∙ ap (λ ys. acceptances h eui ++ ys) one.3;
+                device = one.2;
+                session = sym session_is ∙ ap (next_session h) device_is;
+                nonce_above = subst (λ (d : DevEui). Exceeds (greatest_nonce net h d) (nonce one.0.ticket).0) device_is (subst (λ (u : Ticket). Exceeds (greatest_nonce net h (dev_eui t)) (nonce u).0) ticket_is above);
+              })
+        ]
+
+-- ---- nonces rise
+
+nonces_step : (net : Network) (h : List Entry) (number : ℕ) (c : Call) → NoncesRise h → NoncesRise (with_call net h number c)
+nonces_step net h number c rises eui =
+    elim (acceptances-cases net h number c eui) [
+      | inl same ↦ subst (λ joins. Rises (map (λ a. (nonce a.ticket).0) joins)) (sym same) (rises eui)
+      | inr new ↦
+          (let nonces : List ℕ = map (λ a. (nonce a.ticket).0) (acceptances h eui) in
+          let more : Rises (nonces ++ (nonce new.a.ticket).0 ∷ []) = Rises-push nonces _ (rises eui) (Exceeds-each nonces _ new.nonce_above) in
+          subst (λ joins. Rises (map (λ a. (nonce a.ticket).0) joins)) (sym new.joined) (rw map-append more))
+    ]
+
+pub nonces_rise : (net : Network) (h : List Entry) → IsLegal net h → NoncesRise h
+nonces_rise net h legal = legal_induction net NoncesRise (λ eui. tt) (λ g number c ok rises. nonces_step net g number c rises) h legal
+
+-- ---- sessions are bounded
+
+-- the bound, of any two lists of sessions and nonces
+bounded_more : (sessions nonces : Option ℕ) (n : ℕ) → unwrap_or sessions 0 + 1 ≤ nonces_up_to nonces + 1 → Exceeds nonces n →
+    (unwrap_or (greater sessions (Some (unwrap_or sessions 0 + 1))) 0 + 1 ≤ nonces_up_to (greater nonces (Some n)) + 1) × (unwrap_or sessions 0 + 1 ≤ n + 1)
+bounded_more None None n bound above = (omega (arith, bound), omega (arith, bound))
+bounded_more None (Some g) n bound above = (omega (arith, bound, above), omega (arith, bound, above))
+bounded_more (Some s) None n bound above = (omega (arith, bound), omega (arith, bound))
+bounded_more (Some s) (Some g) n bound above = (omega (arith, bound, above), omega (arith, bound, above))
+
+sessions_step : (net : Network) (h : List Entry) (number : ℕ) (c : Call) → SessionsAreBounded net h → SessionsAreBounded net (with_call net h number c)
+sessions_step net h number c bounded = record {
+  next = λ eui. (each_device eui).0;
+  each = λ eui. (each_device eui).1;
+}
+  where
+    each_device : (eui : DevEui) → (next_session (with_call net h number c) eui ≤ nonces_up_to (greatest_nonce net (with_call net h number c) eui) + 1)
+        × AllByRecursion (λ a. a.session ≤ (nonce a.ticket).0 + 1) (acceptances (with_call net h number c) eui)
+    each_device eui =
+        let Holds = λ (joins : List Acceptance). (unwrap_or (maximum (map (λ (a : Acceptance). a.session) joins)) 0 + 1 ≤ nonces_up_to (maximum (map (λ (a : Acceptance). (nonce a.ticket).0) joins)) + 1)
+        × AllByRecursion (λ (a : Acceptance). a.session ≤ (nonce a.ticket).0 + 1) joins in
+        elim (acceptances-cases net h number c eui) [
+          | inl same ↦ subst Holds (sym same) (bounded.next eui, bounded.each eui)
+          | inr new ↦
+              (let joins : List Acceptance = acceptances h eui in
+              let sessions : List ℕ = map (λ (a : Acceptance). a.session) joins in
+              let nonces : List ℕ = map (λ (a : Acceptance). (nonce a.ticket).0) joins in
+              let more = bounded_more (maximum sessions) (maximum nonces) (nonce new.a.ticket).0 (bounded.next eui) new.nonce_above in
+              let top_session : maximum (map (λ (a : Acceptance). a.session) (joins ++ new.a ∷ [])) ≡ greater (maximum sessions) (Some (next_session h eui)) =
+              ap maximum (map-append (λ (a : Acceptance). a.session) joins (new.a ∷ [])) ∙ (maximum-push sessions new.a.session ∙ ap (λ s. greater (maximum sessions) (Some s)) new.session) in
+              let top_nonce : maximum (map (λ (a : Acceptance). (nonce a.ticket).0) (joins ++ new.a ∷ [])) ≡ greater (maximum nonces) (Some (nonce new.a.ticket).0) =
+              ap maximum (map-append (λ (a : Acceptance). (nonce a.ticket).0) joins (new.a ∷ [])) ∙ maximum-push nonces (nonce new.a.ticket).0 in
+              let here : new.a.session ≤ (nonce new.a.ticket).0 + 1 = subst (λ s. s ≤ (nonce new.a.ticket).0 + 1) (sym new.session) more.1 in
+              subst Holds (sym new.joined) (rw (top_session, top_nonce) more.0, All-push (λ (a : Acceptance). a.session ≤ (nonce a.ticket).0 + 1) joins new.a (bounded.each eui) here))
+        ]
+
+pub sessions_bounded : (net : Network) (h : List Entry) → IsLegal net h → SessionsAreBounded net h
+sessions_bounded net h legal =
+    legal_induction net (SessionsAreBounded net) (record { next = λ eui. omega arith; each = λ eui. tt }) (λ g number c ok bounded. sessions_step net g number c bounded) h legal

@@ -1,0 +1,271 @@
+-- What goes out, and with which replies.
+use Rattle.std.proofs.Common.{◌≡◌, ◌⊎◌, ℕ, ◌+◌, ◌<◌, Bool, true, false, not, ◌&&◌, ◌||◌, cond, List, [], ◌∷◌, ◌++◌, filter, filter_map, map, length, nat_le, Option, None, Some, IfSome, option_map, option_to_list, length-append, refl, sym, ap, subst, ◌∙◌, arith, inl, inr}
+use Rattle.std.specs.Prelude.{IsSome, is_some}
+use Rattle.std.specs.List.{AllByRecursion, list_any, cons_option}
+use Rattle.std.specs.Option.{option_and_then}
+use Rattle.ns_types.specs.declared.identity.DevAddr.{DevAddr}
+use Rattle.ns_types.specs.declared.identity.DevEui.{DevEui}
+use Rattle.ns_types.specs.declared.identity.WindowName.{WindowName}
+use Rattle.ns_types.specs.declared.heard.Heard.{Heard}
+use Rattle.ns_types.specs.declared.ticket.Ticket.{Ticket}
+use Rattle.ns_types.specs.Cases.{first_case, when}
+use Rattle.ns_types.specs.Identity.{same_window}
+use Rattle.ns_types.specs.Ticket.{dev_eui, join_eui}
+use Rattle.ns_types.specs.Heard.{best, rx1}
+use Rattle.ns_views.specs.Frame.{data_fields}
+use Rattle.ns_secure.specs.Counter.{above, below}
+use Rattle.ns_roster.specs.Network.{Network, is_known, ack_delay}
+use Rattle.ns_calls.specs.declared.call.JoinAns.{JoinAns}
+use Rattle.ns_calls.specs.declared.call.Outcome.{Outcome}
+use Rattle.ns_calls.specs.declared.call.Outcome.TheVariants as outcome
+use Rattle.ns_calls.specs.declared.call.Call.{Call}
+use Rattle.ns_calls.specs.declared.call.Call.TheVariants as call
+use Rattle.ns_calls.specs.declared.call.Reply.{Reply}
+use Rattle.ns_calls.specs.declared.call.Reply.TheVariants as reply
+use Rattle.ns_calls.specs.declared.call.Entry.{Entry}
+use Rattle.ns_calls.specs.Accept.{accept_bytes}
+use Rattle.ns_calls.specs.Queries.{from_last}
+use Rattle.ns_calls.specs.History.{Opening, opening_in, asking_in, window_copy_in, ticket_copy_in, closes, is_ticket, asks_for, ends_ticket, same_ticket, open_windows, open_window, window_copies, is_ticket_open, ticket_count, ticket_copies, copies_of_ticket, session_join, next_session, window_count}
+use Rattle.ns_calls.specs.Reply.{reply_to, window_with, first_fit, copy_reply, open_reply, most_copies, most_windows, most_tickets, spent_by, join_copy_reply, is_failed, address, ack_number}
+use Rattle.ns_calls.specs.Out.{uplink_of, uplink_out, downlink_out, downlink_to, ack_frame, ack_downlink, join_accept_delay}
+use Rattle.ns_calls.specs.Legal.{IsLegal, entry_for, with_call}
+use Rattle.ns_calls.specs.Headline.{WindowsHaveCopies, hands_out_uplink, hands_out_downlink, GoesOut}
+use Rattle.ns_calls.proofs.LocalLemmas.{bool_tells}
+use Rattle.ns_calls.proofs.Lists.{All-append, All-filter, All-weaker, find-has}
+use Rattle.ns_calls.proofs.PushLemmas.{open_windows-push, window_copies-push}
+use Rattle.ns_calls.proofs.TicketLemmas.{is_ticket_open-cons}
+use Rattle.ns_calls.proofs.Induction.{legal_induction}
+use Rattle.ns_calls.proofs.JoinLemmas.{join_reply_by}
+use Rattle.ns_calls.proofs.UplinkLemmas.{uplink_reply_by}
+use Rattle.ns_calls.proofs.WindowLemmas.{same_window-refl}
+use Rattle.ns_calls.proofs.KeyLemmas.{sessions_have_joins}
+
+-- ---- an open window has a copy
+
+opening-copy : (c : Call) (r : Reply) → IfSome (opening_in c r) (λ o. window_copy_in c r ≡ Some (o.window, o.heard))
+opening-copy (call.Uplink frame heard) (reply.Opened w) = refl
+opening-copy _ _ = tt
+
+copies-stay : (h : List Entry) (e : Entry) (w : WindowName) → 0 < length (window_copies h w) → 0 < length (window_copies (h ++ e ∷ []) w)
+copies-stay h e w some =
+    let more : List Heard = map (λ (c : WindowName × Heard). c.1) (filter (λ (c : WindowName × Heard). same_window c.0 w) (option_to_list (window_copy_in e.call e.reply))) in
+    let is : length (window_copies (h ++ e ∷ []) w) ≡ length (window_copies h w) + length more = ap length (window_copies-push h e w) ∙ length-append (window_copies h w) more in
+    omega (arith, is, some)
+
+copies-new : (h : List Entry) (e : Entry) (o : Opening) → window_copy_in e.call e.reply ≡ Some (o.window, o.heard) → 0 < length (window_copies (h ++ e ∷ []) o.window)
+copies-new h e o copied =
+    let asked : WindowName × Heard → Bool = λ c. same_window c.0 o.window in
+    let told : List (WindowName × Heard) → List Heard = λ cs. map (λ (c : WindowName × Heard). c.1) cs in
+    let here : told (filter asked (option_to_list (window_copy_in e.call e.reply))) ≡ o.heard ∷ [] =
+    ap (λ c. told (filter asked (option_to_list c))) copied ∙ ap (λ b. told (cond {A = List (WindowName × Heard)} b ((o.window, o.heard) ∷ []) [])) (same_window-refl o.window) in
+    let is : length (window_copies (h ++ e ∷ []) o.window) ≡ length (window_copies h o.window) + 1 =
+    ap length (window_copies-push h e o.window ∙ ap (λ hs. window_copies h o.window ++ hs) here) ∙ length-append (window_copies h o.window) (o.heard ∷ []) in
+    omega (arith, is)
+
+copies_step : (net : Network) (h : List Entry) (number : ℕ) (c : Call) → WindowsHaveCopies h → WindowsHaveCopies (with_call net h number c)
+copies_step net h number c copied =
+    subst (AllByRecursion Copied) (sym (open_windows-push h e))
+    (All-append Copied (filter stay (open_windows h)) (option_to_list (opening_in e.call e.reply))
+    (All-filter Copied stay (open_windows h) (All-weaker (λ (o : Opening). 0 < length (window_copies h o.window)) Copied (λ o some. copies-stay h e o.window some) (open_windows h) copied))
+    (new (opening_in e.call e.reply) (opening-copy e.call e.reply)))
+  where
+    e : Entry
+    e = entry_for net h number c
+
+    Copied : Opening → Type 0
+    Copied o = 0 < length (window_copies (h ++ e ∷ []) o.window)
+
+    stay : Opening → Bool
+    stay o = not (closes o.window e)
+
+    new : (o : Option Opening) → IfSome o (λ x. window_copy_in e.call e.reply ≡ Some (x.window, x.heard)) → AllByRecursion Copied (option_to_list o)
+    new None is = tt
+    new (Some o) is = (copies-new h e o is, tt)
+
+pub windows_have_copies : (net : Network) (h : List Entry) → IsLegal net h → WindowsHaveCopies h
+windows_have_copies net h legal = legal_induction net WindowsHaveCopies tt (λ g number c ok copied. copies_step net g number c copied) h legal
+
+best-some : (copies : List Heard) → 0 < length copies → is_some (best copies) ≡ true
+best-some [] some = absurd (omega (arith, some))
+best-some (c ∷ cs) some = refl
+
+-- ---- an open ticket has a copy
+
+or_true : (a b : Bool) → (a || b) ≡ true → (a ≡ true) ⊎ (b ≡ true)
+or_true true b is = inl refl
+or_true false b is = inr is
+
+and_left : (a b : Bool) → (a && b) ≡ true → a ≡ true
+and_left true b is = refl
+and_left false b is = is
+
+or_right : (a : Bool) → (a || true) ≡ true
+or_right true = refl
+or_right false = refl
+
+-- an open ticket was asked for
+pub open-asked : (h : List Entry) (t : Ticket) → is_ticket_open h t ≡ true → list_any (asks_for t) h ≡ true
+open-asked [] t is = absurd (cc is)
+open-asked (e ∷ es) t is =
+    elim (or_true (asks_for t e && not (list_any (ends_ticket t) es)) (is_ticket_open es t) (sym (is_ticket_open-cons e es t) ∙ is)) [
+      | inl here ↦ ap (λ b. b || list_any (asks_for t) es) (and_left (asks_for t e) _ here)
+      | inr later ↦ ap (λ b. asks_for t e || b) (open-asked es t later) ∙ or_right (asks_for t e)
+    ]
+
+-- the last element that passes, and those after it
+from_last-first : {E : Type 0} (test : E → Bool) (es : List E) → list_any test es ≡ true → (x : E) × (rest : List E) × (from_last test es ≡ x ∷ rest) × (test x ≡ true)
+from_last-first test [] is = absurd (cc is)
+from_last-first {E} test (e ∷ es) is =
+    let whole : Bool → Bool → List E = λ any this. cond any (from_last test es) (cond this (e ∷ es) []) in
+    elim (bool_tells (list_any test es)) [
+      | inl later ↦
+          (let found = from_last-first test es later in
+          (found.0, found.1, ap (λ b. whole b (test e)) later ∙ found.2, found.3))
+      | inr last_one ↦
+          (let here : test e ≡ true = sym (or_none (test e)) ∙ (ap (λ b. test e || b) (sym last_one) ∙ is) in
+          (e, es, ap (λ b. whole b (test e)) last_one ∙ ap (λ b. whole false b) here, here))
+    ]
+  where
+    or_none : (a : Bool) → (a || false) ≡ a
+    or_none true = refl
+    or_none false = refl
+
+-- an entry that asks for a ticket adds a copy to it
+asking-copy : (t : Ticket) (c : Call) (r : Reply) → is_ticket t (asking_in c r) ≡ true → (u : Ticket) × (heard : Heard) × (ticket_copy_in c r ≡ Some (u, heard)) × (same_ticket t u ≡ true)
+asking-copy t (call.Join u heard) (reply.Ask asked) is = (u, heard, refl, is)
+asking-copy t _ _ is = absurd (cc is)
+
+asked-copies : (t : Ticket) (x : Entry) (rest : List Entry) → asks_for t x ≡ true → 0 < length (copies_of_ticket (x ∷ rest) t)
+asked-copies t x rest is =
+    let copy = asking-copy t x.call x.reply is in
+    let says : Entry → Option (Ticket × Heard) = λ e. ticket_copy_in e.call e.reply in
+    let asked : Ticket × Heard → Bool = λ c. same_ticket t c.0 in
+    let told : List (Ticket × Heard) → List Heard = λ cs. map (λ (c : Ticket × Heard). c.1) cs in
+    let first : copies_of_ticket (x ∷ rest) t ≡ copy.1 ∷ told (filter asked (filter_map says rest)) =
+    ap (λ o. told (filter asked (cons_option o (filter_map says rest)))) copy.2
+    ∙ ap (λ b. told (cond {A = List (Ticket × Heard)} b ((copy.0, copy.1) ∷ filter asked (filter_map says rest)) (filter asked (filter_map says rest)))) copy.3 in
+    subst (λ hs. 0 < length hs) (sym first) (omega arith)
+
+pub open-heard : (h : List Entry) (t : Ticket) → is_ticket_open h t ≡ true → is_some (best (ticket_copies h t)) ≡ true
+open-heard h t is =
+    let found = from_last-first (asks_for t) h (open-asked h t is) in
+    best-some (ticket_copies h t) (subst (λ es. 0 < length (copies_of_ticket es t)) (sym found.2) (asked-copies t found.0 found.1 found.3))
+
+-- ---- the replies with which nothing goes out
+
+IsQuiet : Reply → Type 0
+IsQuiet r = (hands_out_uplink r ≡ false) × (hands_out_downlink r ≡ false)
+
+quiet_cond : (b : Bool) (r s : Reply) → IsQuiet r → IsQuiet s → IsQuiet (cond b r s)
+quiet_cond true r s quiet other = quiet
+quiet_cond false r s quiet other = other
+
+quiet_first : (cases : List (Option Reply)) (otherwise : Reply) → AllByRecursion (λ o. IfSome o IsQuiet) cases → IsQuiet otherwise → IsQuiet (first_case cases otherwise)
+quiet_first [] otherwise all last = last
+quiet_first (None ∷ cases) otherwise all last = quiet_first cases otherwise all.1 last
+quiet_first (Some r ∷ cases) otherwise all last = all.0
+
+quiet_map : {X : Type 0} (f : X → Reply) (o : Option X) → ((x : X) → IsQuiet (f x)) → IfSome (option_map f o) IsQuiet
+quiet_map f None quiet = tt
+quiet_map f (Some x) quiet = quiet x
+
+quiet_when : (b : Bool) (r : Reply) → IsQuiet r → IfSome (when b r) IsQuiet
+quiet_when true r quiet = quiet
+quiet_when false r quiet = tt
+
+uplink-quiet : (h : List Entry) (copied : Option Opening) (fresh stale : Option WindowName) → IsQuiet (uplink_reply_by h copied fresh stale)
+unfolding IsQuiet
+uplink-quiet h copied fresh stale =
+    let cases : List (Option Reply) = option_map (λ (o : Opening). copy_reply h o.window) copied ∷ option_map (open_reply h) fresh ∷ option_map (λ (w : WindowName). reply.Old w.eui w.session w.fcnt) stale ∷ [] in
+    quiet_first cases reply.NoSession (
+      quiet_map (λ (o : Opening). copy_reply h o.window) copied (λ o. quiet_cond (nat_le (length (window_copies h o.window) + 1) most_copies) (reply.Copied o.window (length (window_copies h o.window) + 1)) (reply.Crowded o.window) (refl, refl) (refl, refl)),
+      (
+        quiet_map (open_reply h) fresh (λ w. quiet_cond (nat_le most_windows (window_count h w.eui)) (reply.Busy w.eui) (reply.Opened w) (refl, refl) (refl, refl)),
+        (quiet_map (λ (w : WindowName). reply.Old w.eui w.session w.fcnt) stale (λ w. (refl, refl)), tt),
+      ),
+    ) (refl, refl)
+
+join-quiet : (net : Network) (h : List Entry) (t : Ticket) (heard : Heard) → IsQuiet (reply_to net h (call.Join t heard))
+unfolding IsQuiet
+join-quiet net h t heard =
+    let cases : List (Option Reply) =
+    when (not (is_known net (dev_eui t) (join_eui t))) reply.NoDevice
+    ∷ option_map (λ g. reply.NonceOld (record { 0 = g })) (spent_by net h t)
+    ∷ when (is_ticket_open h t) (join_copy_reply h t)
+    ∷ when (nat_le most_tickets (ticket_count h (dev_eui t))) reply.JoinBusy
+    ∷ [] in
+    quiet_first cases (reply.Ask t) (
+      quiet_when (not (is_known net (dev_eui t) (join_eui t))) reply.NoDevice (refl, refl),
+      (
+        quiet_map (λ g. reply.NonceOld (record { 0 = g })) (spent_by net h t) (λ g. (refl, refl)),
+        (
+          quiet_when (is_ticket_open h t) (join_copy_reply h t)
+              (quiet_cond (nat_le (length (ticket_copies h t) + 1) most_copies) (reply.JoinCopied (length (ticket_copies h t) + 1)) reply.JoinCrowded (refl, refl) (refl, refl)),
+          (quiet_when (nat_le most_tickets (ticket_count h (dev_eui t))) reply.JoinBusy (refl, refl), tt),
+        ),
+      ),
+    ) (refl, refl)
+
+-- ---- what goes out
+
+out_of_join_reply : (net : Network) (h : List Entry) (t : Ticket) (o : Outcome) (is_open : Bool) → (is_open ≡ true → is_some (best (ticket_copies h t)) ≡ true) → (stale : Option ℕ) (eui : DevEui) (session : ℕ) (addr : DevAddr) →
+    let r : Reply = join_reply_by is_open (is_failed o) stale (reply.Accepted eui session addr) in
+    (false ≡ hands_out_uplink r) × (is_some (downlink_out net h (call.JoinReply t o) r) ≡ hands_out_downlink r)
+out_of_join_reply net h t outcome.Failed true heard stale eui session addr = (refl, refl)
+out_of_join_reply net h t outcome.Failed false heard stale eui session addr = (refl, refl)
+out_of_join_reply net h t (outcome.Success join) true heard None eui session addr = (refl, step (best (ticket_copies h t)) (heard refl))
+  where
+    step : (o : Option Heard) → is_some o ≡ true → is_some (option_map (λ copy. downlink_to (accept_bytes join.accept) (rx1 copy 0 join_accept_delay)) o) ≡ true
+    step None some = some
+    step (Some copy) some = refl
+out_of_join_reply net h t (outcome.Success join) true heard (Some g) eui session addr = (refl, refl)
+out_of_join_reply net h t (outcome.Success join) false heard stale eui session addr = (refl, refl)
+
+ack-goes_out : (net : Network) (h : List Entry) (o : Opening) (n : ℕ) → IsSome (session_join h o.window.eui o.window.session) → is_some (best (window_copies h o.window)) ≡ true → is_some (ack_downlink net h o n) ≡ true
+ack-goes_out net h o n keyed heard = step (session_join h o.window.eui o.window.session) (best (window_copies h o.window)) keyed heard
+  where
+    step : (j : Option JoinAns) (c : Option Heard) → IsSome j → is_some c ≡ true →
+        is_some (option_and_then (λ (join : JoinAns). option_map (λ copy. downlink_to (ack_frame join.nwk.0 (data_fields o.frame).addr n) (rx1 copy net.rx1_offset (ack_delay net))) c) j) ≡ true
+    step None c some heard = some
+    step (Some join) None some heard = heard
+    step (Some join) (Some copy) some heard = refl
+
+out_of_close : (net : Network) (h : List Entry) (w : WindowName) (found : Option Opening) → open_window h w ≡ found
+    → IfSome found (λ o. IsSome (session_join h o.window.eui o.window.session) × (0 < length (window_copies h o.window))) →
+    let r : Reply = first_case (option_map (λ o. reply.Closed w (ack_number h o)) found ∷ []) reply.NoWindow in
+    (is_some (uplink_out h (call.Close w) r) ≡ hands_out_uplink r) × (is_some (downlink_out net h (call.Close w) r) ≡ hands_out_downlink r)
+out_of_close net h w None is whole = (refl, refl)
+out_of_close net h w (Some o) is whole =
+    (ap (λ found. is_some (option_map (uplink_of h) found)) is, step (ack_number h o))
+  where
+    step : (ack : Option ℕ) → is_some (downlink_out net h (call.Close w) (reply.Closed w ack)) ≡ is_some ack
+    step None = refl
+    step (Some n) = ap (λ found. is_some (option_and_then (λ x. ack_downlink net h x n) found)) is ∙ ack-goes_out net h o n whole.0 (best-some (window_copies h o.window) whole.1)
+
+All-both : {X : Type 0} (P Q : X → Type 0) (xs : List X) → AllByRecursion P xs → AllByRecursion Q xs → AllByRecursion (λ x. P x × Q x) xs
+All-both P Q [] all other = tt
+All-both P Q (x ∷ xs) all other = ((all.0, other.0), All-both P Q xs all.1 other.1)
+
+IfSome-weaker : {X : Type 0} (P Q : X → Type 0) (o : Option X) → ((x : X) → P x → Q x) → IfSome o P → IfSome o Q
+IfSome-weaker P Q None weaker holds = tt
+IfSome-weaker P Q (Some x) weaker holds = weaker x holds
+
+pub goes_out : (net : Network) (h : List Entry) (c : Call) → IsLegal net h → GoesOut net h c
+unfolding IsQuiet
+goes_out net h (call.Uplink frame heard) legal =
+    let quiet = uplink-quiet h (window_with h frame) (first_fit above net h frame) (first_fit below net h frame) in
+    record { uplink = sym quiet.0; downlink = sym quiet.1 }
+goes_out net h (call.Join t heard) legal =
+    let quiet = join-quiet net h t heard in
+    record { uplink = sym quiet.0; downlink = sym quiet.1 }
+goes_out net h (call.JoinReply t o) legal =
+    let is = out_of_join_reply net h t o (is_ticket_open h t) (open-heard h t) (spent_by net h t) (dev_eui t) (next_session h (dev_eui t)) (address net (dev_eui t)) in
+    record { uplink = is.0; downlink = is.1 }
+goes_out net h (call.Close w) legal =
+    let Whole : Opening → Type 0 = λ o. IsSome (session_join h o.window.eui o.window.session) × (0 < length (window_copies h o.window)) in
+    let each : AllByRecursion Whole (open_windows h) =
+    All-both (λ (o : Opening). IsSome (session_join h o.window.eui o.window.session)) (λ (o : Opening). 0 < length (window_copies h o.window)) (open_windows h) (sessions_have_joins net h legal).of_windows (windows_have_copies net h legal) in
+    let found : IfSome (open_window h w) Whole =
+    IfSome-weaker (λ o. Whole o × (same_window o.window w ≡ true)) Whole (open_window h w) (λ o both. both.0) (find-has Whole (λ (o : Opening). same_window o.window w) (open_windows h) each) in
+    let is = out_of_close net h w (open_window h w) refl found in
+    record { uplink = is.0; downlink = is.1 }

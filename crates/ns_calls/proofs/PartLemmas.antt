@@ -1,0 +1,287 @@
+-- The reply to a call, and what goes out, rest on the entries of the call's shard alone.
+use Rattle.std.proofs.Common.{◌≡◌, ℕ, ◌+◌, ◌==◌, Bool, true, false, not, ◌&&◌, cond, eqb, List, [], ◌∷◌, filter, filter_map, find, length, nat_le, nat_lt, ◌^◌, bytes_eq, unwrap_or, Option, None, Some, IfSome, option_map, refl, ap, ◌∙◌}
+use Rattle.std.specs.List.{AllByRecursion, list_any}
+use Rattle.std.specs.Option.{option_and_then, option_map_or}
+use Rattle.std.proofs.lemmas.Bool.{eq-eqb}
+use Rattle.std.proofs.lemmas.Slice.Eq.{bytes_eq-Decides}
+use Rattle.std.specs.Prelude.{is_none}
+use Rattle.ns_types.specs.declared.identity.Key.{Key}
+use Rattle.ns_types.specs.declared.identity.DevEui.{DevEui}
+use Rattle.ns_types.specs.declared.identity.WindowName.{WindowName}
+use Rattle.ns_types.specs.declared.heard.Heard.{Heard}
+use Rattle.ns_types.specs.declared.ticket.Ticket.{Ticket}
+use Rattle.ns_types.specs.Cases.{first_case, when}
+use Rattle.ns_types.specs.Identity.{shard_of, same_window}
+use Rattle.ns_types.specs.Ticket.{dev_eui, join_eui}
+use Rattle.ns_types.specs.Heard.{best, rx1}
+use Rattle.ns_views.specs.Frame.{data_fields, is_confirmed}
+use Rattle.ns_secure.specs.declared.Dir.TheVariants.{Up}
+use Rattle.ns_secure.specs.Cipher.{cipher}
+use Rattle.ns_secure.specs.Counter.{above, below}
+use Rattle.ns_roster.specs.Network.{Network, is_known, ack_delay}
+use Rattle.ns_calls.specs.declared.call.JoinAns.{JoinAns}
+use Rattle.ns_calls.specs.declared.call.Outcome.{Outcome}
+use Rattle.ns_calls.specs.declared.call.Outcome.TheVariants as outcome
+use Rattle.ns_calls.specs.declared.call.Call.{Call}
+use Rattle.ns_calls.specs.declared.call.Call.TheVariants as call
+use Rattle.ns_calls.specs.declared.call.Reply.{Reply}
+use Rattle.ns_calls.specs.declared.call.Reply.TheVariants as reply
+use Rattle.ns_calls.specs.declared.call.Entry.{Entry}
+use Rattle.ns_calls.specs.declared.answer.Uplink.{Uplink}
+use Rattle.ns_calls.specs.declared.answer.Downlink.{Downlink}
+use Rattle.ns_calls.specs.Accept.{accept_bytes}
+use Rattle.ns_calls.specs.Queries.{last, maximum}
+use Rattle.ns_calls.specs.History.{Acceptance, Opening, Closing, acceptances, openings, closings, first_and_other, session_join, next_session, open_windows, open_window, window_count, window_copies, ticket_copies, is_ticket_open, ticket_count}
+use Rattle.ns_calls.specs.Reply.{first_fit, window_with, copy_reply, open_reply, most_copies, most_windows, most_tickets, reply_to, reply_to_uplink, spent_by, join_copy_reply, is_failed, address, ack_number}
+use Rattle.ns_calls.specs.Out.{payload_key, uplink_of, uplink_out, downlink_out, downlink_to, ack_frame, ack_downlink, join_accept_delay, out}
+use Rattle.ns_calls.specs.Legal.{IsLegal, entry_for}
+use Rattle.ns_calls.specs.Shards.{shard_of_call, of_shard, NamesOwnDevice}
+use Rattle.ns_calls.proofs.Lists.{All-push, find-has}
+use Rattle.ns_calls.proofs.Induction.{legal_induction}
+use Rattle.ns_calls.proofs.LocalJoin.{acceptances-own, ticket_copies-own, reply_to_join-own, reply_to_join_reply-own}
+use Rattle.ns_calls.proofs.UplinkLemmas.{uplink_reply_by}
+use Rattle.ns_calls.proofs.JoinLemmas.{join_reply_by}
+use Rattle.ns_calls.proofs.WindowLemmas.{same_window-eq}
+use Rattle.ns_calls.proofs.ShardLemmas.{Housed, AllHoused, IsOfItsFrame, InShard, shard_of_frame, openings-own, closings-own, window_copies-own, window_count-own, open_window-own, open_windows-framed, window_with-own, first_fit-own, first_fit-names}
+
+-- ---- what holds of the reply by its cases
+
+pub case-has : (P : Reply → Type 0) (cases : List (Option Reply)) (otherwise : Reply) → AllByRecursion (λ o. IfSome o P) cases → P otherwise → P (first_case cases otherwise)
+case-has P [] otherwise all holds = holds
+case-has P (None ∷ cases) otherwise all holds = case-has P cases otherwise all.1 holds
+case-has P (Some r ∷ cases) otherwise all holds = all.0
+
+map-has : {X : Type 0} (P : Reply → Type 0) (Q : X → Type 0) (f : X → Reply) (o : Option X) → IfSome o Q → ((x : X) → Q x → P (f x)) → IfSome (option_map f o) P
+map-has P Q f None holds gives = tt
+map-has P Q f (Some x) holds gives = gives x holds
+
+when-has : (P : Reply → Type 0) (b : Bool) (r : Reply) → P r → IfSome (when b r) P
+when-has P true r holds = holds
+when-has P false r holds = tt
+
+either-has : (P : Reply → Type 0) (b : Bool) (r s : Reply) → P r → P s → P (cond b r s)
+either-has P true r s one other = one
+either-has P false r s one other = other
+
+always : {X : Type 0} (o : Option X) → IfSome o (λ _. Unit {0})
+always None = tt
+always (Some x) = tt
+
+-- ---- each reply names a device of its call's shard
+
+-- the open window of an equal frame is of the shard of its address
+window_with-names : (h : List Entry) → AllHoused h → (frame : List ℕ) → IfSome (window_with h frame) (λ o. shard_of o.window.eui ≡ shard_of_frame frame)
+window_with-names h housed frame =
+    weaker (window_with h frame) (find-has IsOfItsFrame test (open_windows h) (open_windows-framed h housed))
+  where
+    test : Opening → Bool
+    test o = bytes_eq o.frame frame
+
+    weaker : (o : Option Opening) → IfSome o (λ x. IsOfItsFrame x × (test x ≡ true)) → IfSome o (λ x. shard_of x.window.eui ≡ shard_of_frame frame)
+    weaker None holds = tt
+    weaker (Some x) holds = holds.0 ∙ ap (λ (bytes : List ℕ). shard_of_frame bytes) ((bytes_eq-Decides x.frame frame).0 holds.1)
+
+names-uplink : (net : Network) → AllByRecursion (InShard net) net.devices → (h : List Entry) → AllHoused h → (frame : List ℕ) (heard : Heard) → NamesOwnDevice (call.Uplink frame heard) (reply_to net h (call.Uplink frame heard))
+names-uplink net own h housed frame heard =
+    let c : Call = call.Uplink frame heard in
+    let P : Reply → Type 0 = NamesOwnDevice c in
+    let Mine : WindowName → Type 0 = λ w. shard_of w.eui ≡ shard_of_frame frame in
+    let cases : List (Option Reply) =
+    option_map (λ (o : Opening). copy_reply h o.window) (window_with h frame)
+    ∷ option_map (open_reply h) (first_fit above net h frame)
+    ∷ option_map (λ (w : WindowName). reply.Old w.eui w.session w.fcnt) (first_fit below net h frame) ∷ [] in
+    case-has P cases reply.NoSession (
+      map-has P (λ (o : Opening). Mine o.window) (λ (o : Opening). copy_reply h o.window) (window_with h frame) (window_with-names h housed frame)
+          (λ o mine. either-has P (nat_le (length (window_copies h o.window) + 1) most_copies) (reply.Copied o.window (length (window_copies h o.window) + 1)) (reply.Crowded o.window) mine mine),
+      (
+        map-has P Mine (open_reply h) (first_fit above net h frame) (first_fit-names above net own h frame)
+            (λ w mine. either-has P (nat_le most_windows (window_count h w.eui)) (reply.Busy w.eui) (reply.Opened w) mine mine),
+        (map-has P Mine (λ (w : WindowName). reply.Old w.eui w.session w.fcnt) (first_fit below net h frame) (first_fit-names below net own h frame) (λ w mine. mine), tt),
+      ),
+    ) tt
+
+names-join : (net : Network) (h : List Entry) (t : Ticket) (heard : Heard) → NamesOwnDevice (call.Join t heard) (reply_to net h (call.Join t heard))
+names-join net h t heard =
+    let P : Reply → Type 0 = NamesOwnDevice (call.Join t heard) in
+    let cases : List (Option Reply) =
+    when (not (is_known net (dev_eui t) (join_eui t))) reply.NoDevice
+    ∷ option_map (λ g. reply.NonceOld (record { 0 = g })) (spent_by net h t)
+    ∷ when (is_ticket_open h t) (join_copy_reply h t)
+    ∷ when (nat_le most_tickets (ticket_count h (dev_eui t))) reply.JoinBusy ∷ [] in
+    case-has P cases (reply.Ask t) (
+      when-has P (not (is_known net (dev_eui t) (join_eui t))) reply.NoDevice tt,
+      (
+        map-has P (λ _. Unit {0}) (λ g. reply.NonceOld (record { 0 = g })) (spent_by net h t) (always (spent_by net h t)) (λ g _. tt),
+        (
+          when-has P (is_ticket_open h t) (join_copy_reply h t)
+              (either-has P (nat_le (length (ticket_copies h t) + 1) most_copies) (reply.JoinCopied (length (ticket_copies h t) + 1)) reply.JoinCrowded tt tt),
+          (when-has P (nat_le most_tickets (ticket_count h (dev_eui t))) reply.JoinBusy tt, tt),
+        ),
+      ),
+    ) refl
+
+names-join_reply : (net : Network) (h : List Entry) (t : Ticket) (o : Outcome) → NamesOwnDevice (call.JoinReply t o) (reply_to net h (call.JoinReply t o))
+names-join_reply net h t o = step (is_ticket_open h t) (is_failed o) (spent_by net h t)
+  where
+    step : (is_open failed : Bool) (stale : Option ℕ) → NamesOwnDevice (call.JoinReply t o) (join_reply_by is_open failed stale (reply.Accepted (dev_eui t) (next_session h (dev_eui t)) (address net (dev_eui t))))
+    step false failed stale = tt
+    step true true stale = tt
+    step true false (Some g) = tt
+    step true false None = refl
+
+names-close : (net : Network) (h : List Entry) (w : WindowName) → NamesOwnDevice (call.Close w) (reply_to net h (call.Close w))
+names-close net h w = step (open_window h w)
+  where
+    step : (found : Option Opening) → NamesOwnDevice (call.Close w) (first_case (option_map (λ (o : Opening). reply.Closed w (ack_number h o)) found ∷ []) reply.NoWindow)
+    step None = tt
+    step (Some o) = refl
+
+pub names-own : (net : Network) → AllByRecursion (InShard net) net.devices → (h : List Entry) → AllHoused h → (c : Call) → NamesOwnDevice c (reply_to net h c)
+names-own net own h housed (call.Uplink frame heard) = names-uplink net own h housed frame heard
+names-own net own h housed (call.Join t heard) = names-join net h t heard
+names-own net own h housed (call.JoinReply t o) = names-join_reply net h t o
+names-own net own h housed (call.Close w) = names-close net h w
+
+pub legal-housed : (net : Network) → AllByRecursion (InShard net) net.devices → (h : List Entry) → IsLegal net h → AllHoused h
+legal-housed net own h legal = legal_induction net AllHoused tt (λ g number c ok housed. All-push Housed g (entry_for net g number c) housed (names-own net own g housed c)) h legal
+
+-- ---- the reply
+
+uplink_by-own : (g h : List Entry) (copied : Option Opening) (fresh stale : Option WindowName) → IfSome copied (λ o. window_copies g o.window ≡ window_copies h o.window) → IfSome fresh (λ w. window_count g w.eui ≡ window_count h w.eui) →
+    uplink_reply_by g copied fresh stale ≡ uplink_reply_by h copied fresh stale
+uplink_by-own g h (Some o) fresh stale copies counts =
+    ap (λ (hs : List Heard). cond (nat_le (length hs + 1) most_copies) (reply.Copied o.window (length hs + 1)) (reply.Crowded o.window)) copies
+uplink_by-own g h None (Some w) stale copies counts = ap (λ n. cond (nat_le most_windows n) (reply.Busy w.eui) (reply.Opened w)) counts
+uplink_by-own g h None None (Some w) copies counts = refl
+uplink_by-own g h None None None copies counts = refl
+
+IfSome-weaker : {X : Type 0} (P Q : X → Type 0) (o : Option X) → ((x : X) → P x → Q x) → IfSome o P → IfSome o Q
+IfSome-weaker P Q None weaker holds = tt
+IfSome-weaker P Q (Some x) weaker holds = weaker x holds
+
+uplink-own : (net : Network) → AllByRecursion (InShard net) net.devices → (h : List Entry) → AllHoused h → (frame : List ℕ) → reply_to_uplink net (of_shard (shard_of_frame frame) h) frame ≡ reply_to_uplink net h frame
+uplink-own net own h housed frame =
+    let k : ℕ = shard_of_frame frame in
+    let part : List Entry = of_shard k h in
+    let copied = window_with-own k frame refl h housed in
+    let fresh = first_fit-own above net own h housed frame in
+    let stale = first_fit-own below net own h housed frame in
+    ap (λ o. uplink_reply_by part o (first_fit above net part frame) (first_fit below net part frame)) copied
+    ∙ (ap (λ o. uplink_reply_by part (window_with h frame) o (first_fit below net part frame)) fresh
+    ∙ (ap (λ o. uplink_reply_by part (window_with h frame) (first_fit above net h frame) o) stale
+    ∙ uplink_by-own part h (window_with h frame) (first_fit above net h frame) (first_fit below net h frame)
+    (IfSome-weaker (λ (o : Opening). shard_of o.window.eui ≡ k) (λ (o : Opening). window_copies part o.window ≡ window_copies h o.window) (window_with h frame) (λ o mine. window_copies-own k o.window mine h housed) (window_with-names h housed frame))
+    (IfSome-weaker (λ (w : WindowName). shard_of w.eui ≡ k) (λ (w : WindowName). window_count part w.eui ≡ window_count h w.eui) (first_fit above net h frame) (λ w mine. window_count-own k w.eui mine h housed) (first_fit-names above net own h frame))))
+
+-- whether a session is live, and its next acknowledgement number, by what is told of the device
+abbrev live_by : ℕ → List Acceptance → List Opening → Bool
+live_by session joins opened = list_any (λ s. s == session) (first_and_other (option_map (λ o. o.window.session) (last opened)) (option_map (λ a. a.session) (last joins)))
+
+abbrev next_by : ℕ → List Closing → Option ℕ
+next_by session closed =
+    let n : ℕ = unwrap_or (option_map (λ n. n + 1) (maximum (filter_map (λ c. c.ack) (filter (λ c. c.window.session == session) closed)))) 0 in
+    when (nat_lt n (2 ^ 32)) n
+
+abbrev ack_by : Opening → List Acceptance → List Opening → List Closing → Option ℕ
+ack_by o joins opened closed = cond (is_confirmed o.frame && live_by o.window.session joins opened) (next_by o.window.session closed) None
+
+ack-own : (k : ℕ) (h : List Entry) → AllHoused h → (o : Opening) → shard_of o.window.eui ≡ k → ack_number (of_shard k h) o ≡ ack_number h o
+ack-own k h housed o mine =
+    let eui : DevEui = o.window.eui in
+    let part : List Entry = of_shard k h in
+    ap (λ joins. ack_by o joins (openings part eui) (closings part eui)) (acceptances-own k eui mine h)
+    ∙ (ap (λ opened. ack_by o (acceptances h eui) opened (closings part eui)) (openings-own k eui mine h housed)
+    ∙ ap (λ closed. ack_by o (acceptances h eui) (openings h eui) closed) (closings-own k eui mine h))
+
+-- what is found under a name has that name
+named : (h : List Entry) (w : WindowName) → IfSome (open_window h w) (λ o. shard_of o.window.eui ≡ shard_of w.eui)
+named h w = weaker (open_window h w) (find-has (λ _. Unit {0}) (λ (o : Opening). same_window o.window w) (open_windows h) (each (open_windows h)))
+  where
+    each : (os : List Opening) → AllByRecursion (λ _. Unit {0}) os
+    each [] = tt
+    each (o ∷ os) = (tt, each os)
+
+    weaker : (o : Option Opening) → IfSome o (λ x. Unit {0} × (same_window x.window w ≡ true)) → IfSome o (λ x. shard_of x.window.eui ≡ shard_of w.eui)
+    weaker None holds = tt
+    weaker (Some x) holds = ap (λ (v : WindowName). shard_of v.eui) (same_window-eq x.window w holds.1)
+
+map-same : {X Y : Type 0} (f g : X → Y) (o : Option X) → IfSome o (λ x. f x ≡ g x) → option_map f o ≡ option_map g o
+map-same f g None same = refl
+map-same f g (Some x) same = ap Some same
+
+close-own : (h : List Entry) → AllHoused h → (net : Network) (w : WindowName) → reply_to net (of_shard (shard_of w.eui) h) (call.Close w) ≡ reply_to net h (call.Close w)
+close-own h housed net w =
+    let k : ℕ = shard_of w.eui in
+    let part : List Entry = of_shard k h in
+    let replied : List Entry → Opening → Reply = λ g o. reply.Closed w (ack_number g o) in
+    ap (λ found. first_case (option_map (replied part) found ∷ []) reply.NoWindow) (open_window-own k w refl h housed)
+    ∙ ap (λ r. first_case (r ∷ []) reply.NoWindow) (map-same (replied part) (replied h) (open_window h w)
+    (IfSome-weaker (λ (o : Opening). shard_of o.window.eui ≡ k) (λ (o : Opening). replied part o ≡ replied h o) (open_window h w) (λ o mine. ap (reply.Closed w) (ack-own k h housed o mine)) (named h w)))
+
+pub reply-own : (net : Network) → AllByRecursion (InShard net) net.devices → (h : List Entry) → AllHoused h → (c : Call) → reply_to net (of_shard (shard_of_call c) h) c ≡ reply_to net h c
+reply-own net own h housed (call.Uplink frame heard) = uplink-own net own h housed frame
+reply-own net own h housed (call.Join t heard) = reply_to_join-own net h t
+reply-own net own h housed (call.JoinReply t o) = reply_to_join_reply-own net h t o
+reply-own net own h housed (call.Close w) = close-own h housed net w
+
+-- ---- what goes out
+
+session_join-own : (k : ℕ) (eui : DevEui) → shard_of eui ≡ k → (h : List Entry) (session : ℕ) → session_join (of_shard k h) eui session ≡ session_join h eui session
+session_join-own k eui mine h session = ap (λ joins. option_map (λ (a : Acceptance). a.join_ans) (find (λ (a : Acceptance). a.session == session) joins)) (acceptances-own k eui mine h)
+
+-- an uplink, by the answer that made its session and by its copies
+abbrev uplink_by : Opening → Option JoinAns → List Heard → Uplink
+uplink_by o join copies =
+    let fields = data_fields o.frame in
+    let key : Option Key = option_and_then (payload_key fields.port) join in
+    record {
+      window = o.window;
+      addr = record { 0 = fields.addr };
+      port = fields.port;
+      fopts = fields.fopts;
+      sealed = is_none key && nat_lt 0 (length fields.payload);
+      payload = option_map_or (λ k. cipher k.0 Up fields.addr o.window.fcnt fields.payload) key fields.payload;
+      copies = record { items = copies };
+    }
+
+uplink_of-same : (g h : List Entry) (o : Opening) → session_join g o.window.eui o.window.session ≡ session_join h o.window.eui o.window.session → window_copies g o.window ≡ window_copies h o.window → uplink_of g o ≡ uplink_of h o
+uplink_of-same g h o joins copies =
+    ap (λ join. uplink_by o join (window_copies g o.window)) joins ∙ ap (λ hs. uplink_by o (session_join h o.window.eui o.window.session) hs) copies
+
+ack_downlink-same : (net : Network) (g h : List Entry) (o : Opening) (n : ℕ) → session_join g o.window.eui o.window.session ≡ session_join h o.window.eui o.window.session → window_copies g o.window ≡ window_copies h o.window → ack_downlink net g o n ≡ ack_downlink net h o n
+ack_downlink-same net g h o n joins copies =
+    let by : Option JoinAns → List Heard → Option Downlink = λ join hs.
+    option_and_then (λ (j : JoinAns). option_map (λ copy. downlink_to (ack_frame j.nwk.0 (data_fields o.frame).addr n) (rx1 copy net.rx1_offset (ack_delay net))) (best hs)) join in
+    ap (λ join. by join (window_copies g o.window)) joins ∙ ap (λ hs. by (session_join h o.window.eui o.window.session) hs) copies
+
+uplink_out-own : (k : ℕ) (h : List Entry) → AllHoused h → (c : Call) (r : Reply) → shard_of_call c ≡ k → uplink_out (of_shard k h) c r ≡ uplink_out h c r
+uplink_out-own k h housed (call.Close w) (reply.Closed closed ack) mine =
+    ap (option_map (uplink_of (of_shard k h))) (open_window-own k w mine h housed)
+    ∙ map-same (uplink_of (of_shard k h)) (uplink_of h) (open_window h w)
+    (IfSome-weaker (λ (o : Opening). shard_of o.window.eui ≡ shard_of w.eui) (λ (o : Opening). uplink_of (of_shard k h) o ≡ uplink_of h o) (open_window h w)
+    (λ o named_so. uplink_of-same (of_shard k h) h o (session_join-own k o.window.eui (named_so ∙ mine) h o.window.session) (window_copies-own k o.window (named_so ∙ mine) h housed)) (named h w))
+uplink_out-own k h housed _ _ mine = refl
+
+and_then-same : {X Y : Type 0} (f g : X → Option Y) (o : Option X) → IfSome o (λ x. f x ≡ g x) → option_and_then f o ≡ option_and_then g o
+and_then-same f g None same = refl
+and_then-same f g (Some x) same = same
+
+own-ticket : (k : ℕ) (t : Ticket) → shard_of (dev_eui t) ≡ k → eqb (shard_of (dev_eui t)) k ≡ true
+own-ticket k t mine = eq-eqb (shard_of (dev_eui t)) k mine
+
+downlink_out-own : (net : Network) (k : ℕ) (h : List Entry) → AllHoused h → (c : Call) (r : Reply) → shard_of_call c ≡ k → downlink_out net (of_shard k h) c r ≡ downlink_out net h c r
+downlink_out-own net k h housed (call.JoinReply t (outcome.Success join)) (reply.Accepted eui session addr) mine =
+    ap (λ hs. option_map (λ copy. downlink_to (accept_bytes join.accept) (rx1 copy 0 join_accept_delay)) (best hs)) (ticket_copies-own k t (own-ticket k t mine) h)
+downlink_out-own net k h housed (call.Close w) (reply.Closed closed (Some n)) mine =
+    ap (option_and_then (λ (o : Opening). ack_downlink net (of_shard k h) o n)) (open_window-own k w mine h housed)
+    ∙ and_then-same (λ (o : Opening). ack_downlink net (of_shard k h) o n) (λ (o : Opening). ack_downlink net h o n) (open_window h w)
+    (IfSome-weaker (λ (o : Opening). shard_of o.window.eui ≡ shard_of w.eui) (λ (o : Opening). ack_downlink net (of_shard k h) o n ≡ ack_downlink net h o n) (open_window h w)
+    (λ o named_so. ack_downlink-same net (of_shard k h) h o n (session_join-own k o.window.eui (named_so ∙ mine) h o.window.session) (window_copies-own k o.window (named_so ∙ mine) h housed)) (named h w))
+downlink_out-own net k h housed _ _ mine = refl
+
+pub out-own : (net : Network) (h : List Entry) → AllHoused h → (e : Entry) → out net (of_shard (shard_of_call e.call) h) e ≡ out net h e
+out-own net h housed e =
+    let k : ℕ = shard_of_call e.call in
+    let uplink = uplink_out-own k h housed e.call e.reply refl in
+    let downlink = downlink_out-own net k h housed e.call e.reply refl in
+    λ i. record { uplink = uplink i; downlink = downlink i }

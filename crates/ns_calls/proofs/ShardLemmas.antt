@@ -1,0 +1,230 @@
+-- What the entries of one shard say of it is what all entries say of it, where each reply names a device of its call's shard.
+use Rattle.std.proofs.Common.{◌≡◌, ℕ, ◌==◌, Bool, true, false, not, ◌&&◌, eqb, List, [], ◌∷◌, filter, filter_map, map, find, count_by, bytes_eq, Option, None, Some, IfSome, option_map, option_to_list, refl, sym, ap, ◌∙◌, arith}
+use Rattle.std.specs.List.{AllByRecursion, list_any}
+use Rattle.std.specs.Option.{option_and_then, option_map_or}
+use Rattle.std.proofs.lemmas.Bool.{eq-eqb}
+use Rattle.std.proofs.lemmas.Bool.Decides.{nat_tests}
+use Rattle.std.proofs.lemmas.Slice.Eq.{bytes_eq-Decides}
+use Rattle.ns_types.specs.declared.identity.DevEui.{DevEui}
+use Rattle.ns_types.specs.declared.identity.WindowName.{WindowName}
+use Rattle.ns_types.specs.declared.heard.Heard.{Heard}
+use Rattle.ns_types.specs.Cases.{when}
+use Rattle.ns_types.specs.Identity.{shard_of, shard_of_addr, same_window}
+use Rattle.ns_views.specs.Frame.{data_fields}
+use Rattle.ns_secure.specs.Integrity.{mic_fits}
+use Rattle.ns_roster.specs.declared.Device.{Device}
+use Rattle.ns_roster.specs.Network.{Network, device_addr}
+use Rattle.ns_calls.specs.declared.call.JoinAns.{JoinAns}
+use Rattle.ns_calls.specs.declared.call.Call.{Call}
+use Rattle.ns_calls.specs.declared.call.Call.TheVariants as call
+use Rattle.ns_calls.specs.declared.call.Reply.{Reply}
+use Rattle.ns_calls.specs.declared.call.Reply.TheVariants as reply
+use Rattle.ns_calls.specs.declared.call.Entry.{Entry}
+use Rattle.ns_calls.specs.Queries.{first, last, maximum}
+use Rattle.ns_calls.specs.History.{Acceptance, Opening, Closing, opening_in, closing_in, window_copy_in, closes, same_device, acceptances, openings, closings, first_and_other, live, session_join, greatest_counter, open_windows, open_window, window_count, window_copies}
+use Rattle.ns_calls.specs.Reply.{window_of, session_fit, device_fit, devices_at, first_fit, window_with}
+use Rattle.ns_calls.specs.Shards.{shard_of_call, of_shard, NamesOwnDevice}
+use Rattle.ns_calls.proofs.LocalLemmas.{All-each, filter_map-own, filter_map-own_of, still_open-own_of, count_by-own}
+use Rattle.ns_calls.proofs.LocalJoin.{here, other_device, none_single, acceptances-own}
+use Rattle.ns_calls.proofs.Lists.{All-append, All-filter, All-weaker, All-passed, filter_map-same, first-gives, first-gives_of, find-own}
+use Rattle.ns_calls.proofs.WindowLemmas.{same_window-eq}
+
+-- the reply of an entry names a device of its call's shard
+abbrev pub Housed : Entry → Type 0
+Housed e = NamesOwnDevice e.call e.reply
+
+abbrev pub AllHoused : List Entry → Type 0
+AllHoused h = AllByRecursion Housed h
+
+-- whether a window's device is of shard k
+abbrev pub own_window : ℕ → WindowName → Bool
+own_window k w = eqb (shard_of w.eui) k
+
+elsewhere : (k : ℕ) (eui : DevEui) (c : Call) → shard_of eui ≡ shard_of_call c → eqb (shard_of_call c) k ≡ false → eqb (shard_of eui) k ≡ false
+elsewhere k eui c housed n = ap (λ s. eqb s k) housed ∙ n
+
+other_window : (k : ℕ) (v w : WindowName) → shard_of w.eui ≡ k → own_window k v ≡ false → same_window v w ≡ false
+other_window k v w mine other = ap (λ b. b && (v.session == w.session) && (v.fcnt == w.fcnt)) (other_device k v.eui.0 w.eui.0 mine other)
+
+-- ---- what entries of other shards don't say
+
+opening-other : (k : ℕ) (eui : DevEui) → shard_of eui ≡ k → (c : Call) (r : Reply) → NamesOwnDevice c r → eqb (shard_of_call c) k ≡ false → filter (λ o. same_device o.window.eui eui) (option_to_list (opening_in c r)) ≡ []
+opening-other k eui mine (call.Uplink frame heard) (reply.Opened w) housed n =
+    let o : Opening = record { window = w; frame = frame; heard = heard } in
+    none_single (λ (x : Opening). same_device x.window.eui eui) o (other_device k w.eui.0 eui.0 mine (elsewhere k w.eui (call.Uplink frame heard) housed n))
+opening-other k eui mine _ _ housed n = refl
+
+closing-other : (k : ℕ) (eui : DevEui) → shard_of eui ≡ k → (c : Call) (r : Reply) → eqb (shard_of_call c) k ≡ false → filter (λ x. same_device x.window.eui eui) (option_to_list (closing_in c r)) ≡ []
+closing-other k eui mine (call.Close w) (reply.Closed closed ack) n =
+    let c : Closing = record { window = w; ack = ack } in
+    none_single (λ (x : Closing). same_device x.window.eui eui) c (other_device k w.eui.0 eui.0 mine n)
+closing-other k eui mine _ _ n = refl
+
+copy-other : (k : ℕ) (w : WindowName) → shard_of w.eui ≡ k → (c : Call) (r : Reply) → NamesOwnDevice c r → eqb (shard_of_call c) k ≡ false → filter (λ x. same_window x.0 w) (option_to_list (window_copy_in c r)) ≡ []
+copy-other k w mine (call.Uplink frame heard) (reply.Opened v) housed n =
+    none_single (λ (x : WindowName × Heard). same_window x.0 w) (v, heard) (other_window k v w mine (elsewhere k v.eui (call.Uplink frame heard) housed n))
+copy-other k w mine (call.Uplink frame heard) (reply.Copied v place) housed n =
+    none_single (λ (x : WindowName × Heard). same_window x.0 w) (v, heard) (other_window k v w mine (elsewhere k v.eui (call.Uplink frame heard) housed n))
+copy-other k w mine _ _ housed n = refl
+
+opens-other : (k : ℕ) (c : Call) (r : Reply) → NamesOwnDevice c r → eqb (shard_of_call c) k ≡ false → filter (λ o. own_window k o.window) (option_to_list (opening_in c r)) ≡ []
+opens-other k (call.Uplink frame heard) (reply.Opened w) housed n =
+    let o : Opening = record { window = w; frame = frame; heard = heard } in
+    none_single (λ (x : Opening). own_window k x.window) o (elsewhere k w.eui (call.Uplink frame heard) housed n)
+opens-other k _ _ housed n = refl
+
+closes-other : (k : ℕ) (w : WindowName) → own_window k w ≡ true → (c : Call) (r : Reply) → eqb (shard_of_call c) k ≡ false → option_map_or (λ (x : Closing). same_window x.window w) (closing_in c r) false ≡ false
+closes-other k w mine (call.Close v) (reply.Closed closed ack) n = other_window k v w (grind (arith, nat_tests, mine)) n
+closes-other k w mine _ _ n = refl
+
+-- ---- what a shard's entries say of its devices and windows
+
+housed_each : (Q : Entry → Type 0) (k : ℕ) → ((e : Entry) → Housed e → here k e ≡ false → Q e) → (h : List Entry) → AllHoused h → AllByRecursion (λ e. here k e ≡ false → Q e) h
+housed_each Q k tells h housed = All-weaker Housed (λ e. here k e ≡ false → Q e) tells h housed
+
+pub openings-own : (k : ℕ) (eui : DevEui) → shard_of eui ≡ k → (h : List Entry) → AllHoused h → openings (of_shard k h) eui ≡ openings h eui
+openings-own k eui mine h housed =
+    filter_map-own_of (here k) (λ e. opening_in e.call e.reply) (λ o. same_device o.window.eui eui) h
+    (housed_each (λ e. filter (λ (o : Opening). same_device o.window.eui eui) (option_to_list (opening_in e.call e.reply)) ≡ []) k (λ e is n. opening-other k eui mine e.call e.reply is n) h housed)
+
+pub closings-own : (k : ℕ) (eui : DevEui) → shard_of eui ≡ k → (h : List Entry) → closings (of_shard k h) eui ≡ closings h eui
+closings-own k eui mine h = filter_map-own (here k) (λ e. closing_in e.call e.reply) (λ c. same_device c.window.eui eui) (λ e n. closing-other k eui mine e.call e.reply n) h
+
+pub window_copies-own : (k : ℕ) (w : WindowName) → shard_of w.eui ≡ k → (h : List Entry) → AllHoused h → window_copies (of_shard k h) w ≡ window_copies h w
+window_copies-own k w mine h housed =
+    ap (map (λ (c : WindowName × Heard). c.1))
+    (filter_map-own_of (here k) (λ e. window_copy_in e.call e.reply) (λ c. same_window c.0 w) h
+    (housed_each (λ e. filter (λ (c : WindowName × Heard). same_window c.0 w) (option_to_list (window_copy_in e.call e.reply)) ≡ []) k (λ e is n. copy-other k w mine e.call e.reply is n) h housed))
+
+pub open_windows-own : (k : ℕ) (h : List Entry) → AllHoused h → filter (λ o. own_window k o.window) (open_windows (of_shard k h)) ≡ filter (λ o. own_window k o.window) (open_windows h)
+open_windows-own k h housed =
+    still_open-own_of (λ e. opening_in e.call e.reply) (λ o e. closes o.window e) (here k) (λ o. own_window k o.window) (λ o e mine n. closes-other k o.window mine e.call e.reply n) h
+    (housed_each (λ e. filter (λ (o : Opening). own_window k o.window) (option_to_list (opening_in e.call e.reply)) ≡ []) k (λ e is n. opens-other k e.call e.reply is n) h housed)
+
+pub window_count-own : (k : ℕ) (eui : DevEui) → shard_of eui ≡ k → (h : List Entry) → AllHoused h → window_count (of_shard k h) eui ≡ window_count h eui
+window_count-own k eui mine h housed =
+    let of_device = λ (o : Opening). same_device o.window.eui eui in
+    let own = λ (o : Opening). own_window k o.window in
+    let outside = λ (o : Opening) (n : own o ≡ false). other_device k o.window.eui.0 eui.0 mine n in
+    sym (count_by-own own of_device outside (open_windows (of_shard k h)))
+    ∙ (ap (count_by of_device) (open_windows-own k h housed) ∙ count_by-own own of_device outside (open_windows h))
+
+-- what is found among the open windows, where it is of the shard
+found-own : (k : ℕ) (h : List Entry) → AllHoused h → (test : Opening → Bool) → AllByRecursion (λ o. test o ≡ true → own_window k o.window ≡ true) (open_windows (of_shard k h))
+    → AllByRecursion (λ o. test o ≡ true → own_window k o.window ≡ true) (open_windows h) → find test (open_windows (of_shard k h)) ≡ find test (open_windows h)
+found-own k h housed test part whole =
+    let own = λ (o : Opening). own_window k o.window in
+    sym (find-own own test (open_windows (of_shard k h)) part) ∙ (ap (find test) (open_windows-own k h housed) ∙ find-own own test (open_windows h) whole)
+
+named-own : (k : ℕ) (w : WindowName) → shard_of w.eui ≡ k → (o : Opening) → same_window o.window w ≡ true → own_window k o.window ≡ true
+named-own k w mine o is = eq-eqb (shard_of o.window.eui) k (ap (λ (v : WindowName). shard_of v.eui) (same_window-eq o.window w is) ∙ mine)
+
+pub open_window-own : (k : ℕ) (w : WindowName) → shard_of w.eui ≡ k → (h : List Entry) → AllHoused h → open_window (of_shard k h) w ≡ open_window h w
+open_window-own k w mine h housed =
+    let test = λ (o : Opening). same_window o.window w in
+    let Own = λ (o : Opening). test o ≡ true → own_window k o.window ≡ true in
+    found-own k h housed test (All-each Own (named-own k w mine) (open_windows (of_shard k h))) (All-each Own (named-own k w mine) (open_windows h))
+
+-- the device of an open window is of the shard of its frame's address
+abbrev pub IsOfItsFrame : Opening → Type 0
+IsOfItsFrame o = shard_of o.window.eui ≡ shard_of_addr (record { 0 = (data_fields o.frame).addr })
+
+opening-framed : (c : Call) (r : Reply) → NamesOwnDevice c r → AllByRecursion IsOfItsFrame (option_to_list (opening_in c r))
+opening-framed (call.Uplink frame heard) (reply.Opened w) housed = (housed, tt)
+opening-framed _ _ housed = tt
+
+pub open_windows-framed : (h : List Entry) → AllHoused h → AllByRecursion IsOfItsFrame (open_windows h)
+open_windows-framed [] housed = tt
+open_windows-framed (e ∷ es) housed =
+    let opened : List Opening = option_to_list (opening_in e.call e.reply) in
+    let stays : Opening → Bool = λ o. not (list_any (λ x. closes o.window x) es) in
+    All-append IsOfItsFrame (filter stays opened) (open_windows es) (All-filter IsOfItsFrame stays opened (opening-framed e.call e.reply housed.0)) (open_windows-framed es housed.1)
+
+abbrev pub shard_of_frame : List ℕ → ℕ
+shard_of_frame frame = shard_of_addr (record { 0 = (data_fields frame).addr })
+
+equal_frame : (k : ℕ) (frame : List ℕ) → shard_of_frame frame ≡ k → (o : Opening) → IsOfItsFrame o → bytes_eq o.frame frame ≡ true → own_window k o.window ≡ true
+equal_frame k frame mine o framed is =
+    let same : o.frame ≡ frame = (bytes_eq-Decides o.frame frame).0 is in
+    eq-eqb (shard_of o.window.eui) k (framed ∙ (ap (λ (bytes : List ℕ). shard_of_addr (record { 0 = (data_fields bytes).addr })) same ∙ mine))
+
+pub AllHoused-part : (k : ℕ) (h : List Entry) → AllHoused h → AllHoused (of_shard k h)
+AllHoused-part k h housed = All-filter Housed (here k) h housed
+
+pub window_with-own : (k : ℕ) (frame : List ℕ) → shard_of_frame frame ≡ k → (h : List Entry) → AllHoused h → window_with (of_shard k h) frame ≡ window_with h frame
+window_with-own k frame mine h housed =
+    let test = λ (o : Opening). bytes_eq o.frame frame in
+    let Own = λ (o : Opening). test o ≡ true → own_window k o.window ≡ true in
+    found-own k h housed test
+    (All-weaker IsOfItsFrame Own (λ o framed. equal_frame k frame mine o framed) (open_windows (of_shard k h)) (open_windows-framed (of_shard k h) (AllHoused-part k h housed)))
+    (All-weaker IsOfItsFrame Own (λ o framed. equal_frame k frame mine o framed) (open_windows h) (open_windows-framed h housed))
+
+-- ---- what fits
+
+-- what fits, by the joins and the openings of the device
+abbrev fit_by : (Option ℕ → ℕ → Option ℕ) → List ℕ → DevEui → List Acceptance → List Opening → Option WindowName
+fit_by recover frame eui joins opened =
+    first (filter_map (λ session.
+    option_and_then (λ counter.
+    when (option_map_or (λ join. mic_fits frame join.nwk.0 counter) (option_map (λ a. a.join_ans) (find (λ a. a.session == session) joins)) false) (window_of eui session counter))
+    (recover (maximum (map (λ o. o.window.fcnt) (filter (λ o. o.window.session == session) opened))) (data_fields frame).fcnt16))
+    (first_and_other (option_map (λ o. o.window.session) (last opened)) (option_map (λ a. a.session) (last joins))))
+
+pub device_fit-own : (recover : Option ℕ → ℕ → Option ℕ) (k : ℕ) (eui : DevEui) → shard_of eui ≡ k → (h : List Entry) → AllHoused h → (frame : List ℕ) →
+    device_fit recover (of_shard k h) frame eui ≡ device_fit recover h frame eui
+device_fit-own recover k eui mine h housed frame =
+    ap (λ joins. fit_by recover frame eui joins (openings (of_shard k h) eui)) (acceptances-own k eui mine h)
+    ∙ ap (λ opened. fit_by recover frame eui (acceptances h eui) opened) (openings-own k eui mine h housed)
+
+-- the devices of an address are of its shard
+abbrev pub InShard : Network → Device → Type 0
+InShard net d = shard_of_addr (device_addr net d) ≡ shard_of d.eui
+
+devices-own : (net : Network) (addr : ℕ) → AllByRecursion (InShard net) net.devices → AllByRecursion (λ d. shard_of d.eui ≡ shard_of_addr (record { 0 = addr })) (devices_at net addr)
+devices-own net addr own =
+    let test = λ (d : Device). (device_addr net d).0 == addr in
+    All-weaker (λ d. InShard net d × (test d ≡ true)) (λ d. shard_of d.eui ≡ shard_of_addr (record { 0 = addr })) (λ d both. same d both.0 both.1) (devices_at net addr) (All-passed (InShard net) test net.devices own)
+  where
+    same : (d : Device) → InShard net d → ((device_addr net d).0 == addr) ≡ true → shard_of d.eui ≡ shard_of_addr (record { 0 = addr })
+    same d in_shard is =
+        let equal : (device_addr net d).0 ≡ addr = grind (arith, nat_tests, is) in
+        sym in_shard ∙ ap (λ (n : ℕ). shard_of_addr (record { 0 = n })) equal
+
+pub first_fit-own : (recover : Option ℕ → ℕ → Option ℕ) (net : Network) → AllByRecursion (InShard net) net.devices → (h : List Entry) → AllHoused h → (frame : List ℕ) →
+    first_fit recover net (of_shard (shard_of_frame frame) h) frame ≡ first_fit recover net h frame
+first_fit-own recover net own h housed frame =
+    let k : ℕ = shard_of_frame frame in
+    let devices : List Device = devices_at net (data_fields frame).addr in
+    ap first (filter_map-same (λ (d : Device). device_fit recover (of_shard k h) frame d.eui) (λ (d : Device). device_fit recover h frame d.eui) devices (each devices (devices-own net (data_fields frame).addr own)))
+  where
+    each : (ds : List Device) → AllByRecursion (λ d. shard_of d.eui ≡ shard_of_addr (record { 0 = (data_fields frame).addr })) ds →
+        AllByRecursion (λ d. device_fit recover (of_shard (shard_of_frame frame) h) frame d.eui ≡ device_fit recover h frame d.eui) ds
+    each ds mine = All-weaker (λ (d : Device). shard_of d.eui ≡ shard_of_addr (record { 0 = (data_fields frame).addr })) (λ (d : Device). device_fit recover (of_shard (shard_of_frame frame) h) frame d.eui ≡ device_fit recover h frame d.eui)
+        (λ d is. device_fit-own recover (shard_of_frame frame) d.eui is h housed frame) ds mine
+
+-- what fits names a device of the frame's shard
+session_fit-names : (recover : Option ℕ → ℕ → Option ℕ) (h : List Entry) (frame : List ℕ) (eui : DevEui) (session : ℕ) → IfSome (session_fit recover h frame eui session) (λ w. w.eui ≡ eui)
+session_fit-names recover h frame eui session = step (recover (greatest_counter h eui session) (data_fields frame).fcnt16)
+  where
+    test : (n : ℕ) (b : Bool) → IfSome (when b (window_of eui session n)) (λ w. w.eui ≡ eui)
+    test n true = refl
+    test n false = tt
+
+    step : (o : Option ℕ) → IfSome (option_and_then (λ counter. when (option_map_or (λ (join : JoinAns). mic_fits frame join.nwk.0 counter) (session_join h eui session) false) (window_of eui session counter)) o) (λ w. w.eui ≡ eui)
+    step None = tt
+    step (Some n) = test n (option_map_or (λ (join : JoinAns). mic_fits frame join.nwk.0 n) (session_join h eui session) false)
+
+IfSome-weaker : {X : Type 0} (P Q : X → Type 0) (o : Option X) → ((x : X) → P x → Q x) → IfSome o P → IfSome o Q
+IfSome-weaker P Q None weaker holds = tt
+IfSome-weaker P Q (Some x) weaker holds = weaker x holds
+
+pub first_fit-names : (recover : Option ℕ → ℕ → Option ℕ) (net : Network) → AllByRecursion (InShard net) net.devices → (h : List Entry) (frame : List ℕ) →
+    IfSome (first_fit recover net h frame) (λ w. shard_of w.eui ≡ shard_of_addr (record { 0 = (data_fields frame).addr }))
+first_fit-names recover net own h frame =
+    let Mine = λ (w : WindowName). shard_of w.eui ≡ shard_of_addr (record { 0 = (data_fields frame).addr }) in
+    let devices : List Device = devices_at net (data_fields frame).addr in
+    first-gives_of Mine (λ (d : Device). device_fit recover h frame d.eui) devices
+    (All-weaker (λ (d : Device). shard_of d.eui ≡ shard_of_addr (record { 0 = (data_fields frame).addr })) (λ (d : Device). IfSome (device_fit recover h frame d.eui) Mine)
+    (λ d is. IfSome-weaker (λ (w : WindowName). w.eui ≡ d.eui) Mine (device_fit recover h frame d.eui) (λ w names. ap shard_of names ∙ is)
+    (first-gives (λ (w : WindowName). w.eui ≡ d.eui) (session_fit recover h frame d.eui) (session_fit-names recover h frame d.eui) (live h d.eui)))
+    devices (devices-own net (data_fields frame).addr own))

@@ -1,0 +1,76 @@
+-- What is promised of the history of a run, in its own words.
+use Rattle.std.specs.Prelude.{◌≡◌, ℕ, ◌+◌, ◌<◌, ◌≤◌, Bool, true, false, List, [], ◌∷◌, length, map, filter_map, count_by, Option, None, Some, IsSome, is_some}
+use Rattle.std.specs.List.{AllByRecursion}
+use Rattle.ns_types.specs.declared.identity.DevEui.{DevEui}
+use Rattle.ns_types.specs.declared.identity.WindowName.{WindowName}
+use Rattle.ns_types.specs.Identity.{same_window}
+use Rattle.ns_types.specs.Ticket.{nonce}
+use Rattle.ns_roster.specs.Network.{Network}
+use Rattle.ns_calls.specs.declared.call.Call.{Call}
+use Rattle.ns_calls.specs.declared.call.Reply.{Reply}
+use Rattle.ns_calls.specs.declared.call.Reply.TheVariants.{Accepted, Closed}
+use Rattle.ns_calls.specs.declared.call.Entry.{Entry}
+use Rattle.ns_calls.specs.History.{acceptances, next_session, greatest_nonce, session_counters, opening_in, closing_in, open_windows, session_join, live, window_copies}
+use Rattle.ns_calls.specs.Out.{answer}
+
+-- each number is greater than all before it
+abbrev pub Rises : List ℕ → Type 0
+Rises [] = Unit {0}
+Rises (n ∷ ns) = AllByRecursion (λ m. n < m) ns × Rises ns
+
+-- the nonces that are accepted of a device strictly rise, so none is accepted twice
+abbrev pub NoncesRise : List Entry → Type 0
+NoncesRise h = (eui : DevEui) → Rises (map (λ a. (nonce a.ticket).0) (acceptances h eui))
+
+-- the counters that are opened in a session of a device strictly rise
+abbrev pub CountersRise : List Entry → Type 0
+CountersRise h = (eui : DevEui) (session : ℕ) → Rises (session_counters h eui session)
+
+-- how many entries open a window of this name, how many close it, and how many such windows are open
+abbrev pub opening_count : List Entry → WindowName → ℕ
+opening_count h w = count_by (λ o. same_window o.window w) (filter_map (λ e. opening_in e.call e.reply) h)
+
+abbrev pub closing_count : List Entry → WindowName → ℕ
+closing_count h w = count_by (λ c. same_window c.window w) (filter_map (λ e. closing_in e.call e.reply) h)
+
+abbrev pub open_count : List Entry → WindowName → ℕ
+open_count h w = count_by (λ o. same_window o.window w) (open_windows h)
+
+-- a name opens at most once, and closes at most once: it is open from its opening to its closing
+pub record WindowsOpenOnce (h : List Entry) : Type 0 where
+  pub opens : (w : WindowName) → opening_count h w ≤ 1
+  pub closes : (w : WindowName) → closing_count h w + open_count h w ≡ opening_count h w
+
+-- how many nonces there are up to the greatest one
+abbrev pub nonces_up_to : Option ℕ → ℕ
+nonces_up_to None = 0
+nonces_up_to (Some greatest) = greatest + 1
+
+-- there are no more sessions than nonces, so the number of a session is at most its nonce and 1
+pub record SessionsAreBounded (net : Network) (h : List Entry) : Type 0 where
+  pub next : (eui : DevEui) → next_session h eui ≤ nonces_up_to (greatest_nonce net h eui) + 1
+  pub each : (eui : DevEui) → AllByRecursion (λ a. a.session ≤ (nonce a.ticket).0 + 1) (acceptances h eui)
+
+-- each live session has the join server's answer that made it, and so has the session of each open window
+pub record SessionsHaveJoins (h : List Entry) : Type 0 where
+  pub of_live : (eui : DevEui) → AllByRecursion (λ session. IsSome (session_join h eui session)) (live h eui)
+  pub of_windows : AllByRecursion (λ o. IsSome (session_join h o.window.eui o.window.session)) (open_windows h)
+
+-- each open window has a copy
+abbrev pub WindowsHaveCopies : List Entry → Type 0
+WindowsHaveCopies h = AllByRecursion (λ o. 0 < length (window_copies h o.window)) (open_windows h)
+
+-- the replies with which an uplink goes out, and those with which a downlink does
+abbrev pub hands_out_uplink : Reply → Bool
+hands_out_uplink (Closed window ack) = true
+hands_out_uplink _ = false
+
+abbrev pub hands_out_downlink : Reply → Bool
+hands_out_downlink (Accepted eui session addr) = true
+hands_out_downlink (Closed window ack) = is_some ack
+hands_out_downlink _ = false
+
+-- the answer to a call has an uplink and a downlink exactly where its reply says so
+pub record GoesOut (net : Network) (h : List Entry) (call : Call) : Type 0 where
+  pub uplink : is_some (answer net h call).uplink ≡ hands_out_uplink (answer net h call).reply
+  pub downlink : is_some (answer net h call).downlink ≡ hands_out_downlink (answer net h call).reply

@@ -1,0 +1,21 @@
+-- Merges of the shards' histories.
+use Rattle.std.specs.Prelude.{ℕ, ◌≡◌, List, take, Some, slice_get}
+use Rattle.ns_roster.specs.Network.{Network}
+use Rattle.ns_calls.specs.declared.call.Entry.{Entry}
+use Rattle.ns_calls.specs.Shards.{shard_of_call, IsMerge}
+use Rattle.ns_calls.specs.Out.{out}
+use Rattle.ns_calls.specs.Legal.{IsLegal, IsHistory}
+
+-- each list is a history of the shard of its place
+abbrev pub AreHistories : Network → List (List Entry) → Type 0
+AreHistories net lists = (k : ℕ) (h : List Entry) → slice_get lists k ≡ Some h → IsHistory net k h
+
+-- what goes out at an entry of the merged list is what goes out at it in its own shard
+abbrev pub SendsAlike : Network → List (List Entry) → List Entry → Type 0
+SendsAlike net lists merged =
+    (n : ℕ) (e : Entry) → slice_get merged n ≡ Some e
+    → (h : List Entry) × (slice_get lists (shard_of_call e.call) ≡ Some h) × (slice_get h e.number ≡ Some e) × (out net (take n merged) e ≡ out net (take e.number h) e)
+
+-- every merge of these histories is a legal history of the one plain server, and what goes out is the same at each entry
+abbrev pub MergesAreLegal : Network → List (List Entry) → Type 0
+MergesAreLegal net lists = (merged : List Entry) → IsMerge lists merged → IsLegal net merged × SendsAlike net lists merged

@@ -1,0 +1,134 @@
+-- The plain server: the reply to a call, from the roster and the entries before it.
+use Rattle.std.specs.Prelude.{ℕ, ◌+◌, Bool, true, false, not, ◌&&◌, ◌==◌, nat_le, List, [], ◌∷◌, length, filter, filter_map, find, Option, None, option_map, option_and_then, unwrap_or, bytes_eq, if◌then◌else◌}
+use Rattle.std.specs.Option.{option_map_or}
+use Rattle.ns_types.specs.declared.identity.DevEui.{DevEui}
+use Rattle.ns_types.specs.declared.identity.DevAddr.{DevAddr}
+use Rattle.ns_types.specs.declared.identity.WindowName.{WindowName}
+use Rattle.ns_types.specs.declared.ticket.Ticket.{Ticket}
+use Rattle.ns_types.specs.Cases.{first_case, when}
+use Rattle.ns_types.specs.Ticket.{dev_eui, join_eui, nonce}
+use Rattle.ns_views.specs.Frame.{data_fields, is_confirmed}
+use Rattle.ns_secure.specs.Counter.{above, below}
+use Rattle.ns_secure.specs.Integrity.{mic_fits}
+use Rattle.ns_roster.specs.declared.Device.{Device}
+use Rattle.ns_roster.specs.Network.{Network, device, device_addr, is_known}
+use Rattle.ns_calls.specs.declared.call.Outcome.{Outcome}
+use Rattle.ns_calls.specs.declared.call.Outcome.TheVariants.{Failed, Success}
+use Rattle.ns_calls.specs.declared.call.Call.{Call}
+use Rattle.ns_calls.specs.declared.call.Call.TheVariants as call
+use Rattle.ns_calls.specs.declared.call.Reply.{Reply}
+use Rattle.ns_calls.specs.declared.call.Reply.TheVariants.{Opened, Copied, Crowded, Old, NoSession, Busy, Ask, JoinCopied, JoinCrowded, NonceOld, NoDevice, JoinBusy, Accepted, JoinRefused, JoinStale, NoTicket, Closed, NoWindow}
+use Rattle.ns_calls.specs.declared.call.Entry.{Entry}
+use Rattle.ns_calls.specs.Queries.{first}
+use Rattle.ns_calls.specs.History.{Opening, greatest_nonce, next_session, session_join, live, is_live, greatest_counter, next_ack_number, open_windows, open_window, window_count, window_copies, is_ticket_open, ticket_count, ticket_copies}
+
+-- how many copies a window or a ticket has at most
+abbrev pub most_copies : ℕ
+most_copies = 16
+
+-- how many windows and how many tickets of a device are open at most
+abbrev pub most_windows : ℕ
+most_windows = 8
+
+abbrev pub most_tickets : ℕ
+most_tickets = 4
+
+-- ---- an uplink
+
+-- whether the frame's MIC is that of the window's session at the window's counter (LoRaWAN L2 1.0.4, 4.4)
+abbrev pub fits : List Entry → List ℕ → WindowName → Bool
+fits h frame w = option_map_or (λ join. mic_fits frame join.nwk.0 w.fcnt) (session_join h w.eui w.session) false
+
+-- the window of a session with this counter
+abbrev pub window_of : DevEui → ℕ → ℕ → WindowName
+window_of eui session counter = record { eui = eui; session = session; fcnt = counter }
+
+-- the window that the frame has in a session, where its MIC fits at the counter that recover gives
+abbrev pub session_fit : (Option ℕ → ℕ → Option ℕ) → List Entry → List ℕ → DevEui → ℕ → Option WindowName
+session_fit recover h frame eui session =
+    option_and_then (λ counter. when (fits h frame (window_of eui session counter)) (window_of eui session counter))
+    (recover (greatest_counter h eui session) (data_fields frame).fcnt16)
+
+-- the window of the first live session of a device that fits
+abbrev pub device_fit : (Option ℕ → ℕ → Option ℕ) → List Entry → List ℕ → DevEui → Option WindowName
+device_fit recover h frame eui = first (filter_map (session_fit recover h frame eui) (live h eui))
+
+-- the devices with an address, in the roster's order
+abbrev pub devices_at : Network → ℕ → List Device
+devices_at net addr = filter (λ d. (device_addr net d).0 == addr) net.devices
+
+-- the window of the first of the devices with the frame's address that fits
+abbrev pub first_fit : (Option ℕ → ℕ → Option ℕ) → Network → List Entry → List ℕ → Option WindowName
+first_fit recover net h frame = first (filter_map (λ d. device_fit recover h frame d.eui) (devices_at net (data_fields frame).addr))
+
+-- the open window of an equal frame
+abbrev pub window_with : List Entry → List ℕ → Option Opening
+window_with h frame = find (λ o. bytes_eq o.frame frame) (open_windows h)
+
+-- one more copy of an open window
+abbrev pub copy_reply : List Entry → WindowName → Reply
+copy_reply h w = let place = length (window_copies h w) + 1 in if nat_le place most_copies then Copied w place else Crowded w
+
+-- a window that is to be opened
+abbrev pub open_reply : List Entry → WindowName → Reply
+open_reply h w = if nat_le most_windows (window_count h w.eui) then Busy w.eui else Opened w
+
+abbrev pub reply_to_uplink : Network → List Entry → List ℕ → Reply
+reply_to_uplink net h frame = first_case (
+    option_map (λ o. copy_reply h o.window) (window_with h frame)
+    ∷ option_map (open_reply h) (first_fit above net h frame)
+    ∷ option_map (λ w. Old w.eui w.session w.fcnt) (first_fit below net h frame)
+    ∷ []) NoSession
+
+-- ---- a join
+
+-- the greatest nonce of the device, where the ticket's is at most that
+abbrev pub spent_by : Network → List Entry → Ticket → Option ℕ
+spent_by net h t = option_and_then (λ g. when (nat_le (nonce t).0 g) g) (greatest_nonce net h (dev_eui t))
+
+-- one more copy of an open ticket
+abbrev pub join_copy_reply : List Entry → Ticket → Reply
+join_copy_reply h t = let place = length (ticket_copies h t) + 1 in if nat_le place most_copies then JoinCopied place else JoinCrowded
+
+abbrev pub reply_to_join : Network → List Entry → Ticket → Reply
+reply_to_join net h t = first_case (
+    when (not (is_known net (dev_eui t) (join_eui t))) NoDevice
+    ∷ option_map (λ g. NonceOld (record { 0 = g })) (spent_by net h t)
+    ∷ when (is_ticket_open h t) (join_copy_reply h t)
+    ∷ when (nat_le most_tickets (ticket_count h (dev_eui t))) JoinBusy
+    ∷ []) (Ask t)
+
+-- ---- the answer to a join
+
+-- the device's address: an open ticket's device is one of the roster's
+abbrev pub address : Network → DevEui → DevAddr
+address net eui = unwrap_or (option_map (device_addr net) (device net eui)) (record { 0 = 0 })
+
+abbrev pub is_failed : Outcome → Bool
+is_failed Failed = true
+is_failed (Success join_ans) = false
+
+abbrev pub reply_to_join_reply : Network → List Entry → Ticket → Outcome → Reply
+reply_to_join_reply net h t outcome = first_case (
+    when (not (is_ticket_open h t)) NoTicket
+    ∷ when (is_failed outcome) JoinRefused
+    ∷ option_map (λ g. JoinStale (record { 0 = g })) (spent_by net h t)
+    ∷ []) (Accepted (dev_eui t) (next_session h (dev_eui t)) (address net (dev_eui t)))
+
+-- ---- a closing
+
+-- the number of the acknowledgement, where one is owed and there is a number for it
+abbrev pub ack_number : List Entry → Opening → Option ℕ
+ack_number h o =
+    if is_confirmed o.frame && is_live h o.window.eui o.window.session then next_ack_number h o.window.eui o.window.session else None
+
+abbrev pub reply_to_close : List Entry → WindowName → Reply
+reply_to_close h w = first_case (option_map (λ o. Closed w (ack_number h o)) (open_window h w) ∷ []) NoWindow
+
+-- ---- any call
+
+abbrev pub reply_to : Network → List Entry → Call → Reply
+reply_to net h (call.Uplink frame heard) = reply_to_uplink net h frame
+reply_to net h (call.Join ticket heard) = reply_to_join net h ticket
+reply_to net h (call.JoinReply ticket outcome) = reply_to_join_reply net h ticket outcome
+reply_to net h (call.Close window) = reply_to_close h window

@@ -1,0 +1,226 @@
+//! The lines of an answer, which `replay` and the server print.
+ghost use Rattle.std.specs.Prelude.{◌≡◌, ◌+◌, ◌*◌, ◌≤◌, ◌++◌, ◌∷◌, [], length, map, decimal, codes, flat_map};
+ghost use Rattle.arrayvec.specs.ArrayString.{array_string_len};
+ghost use Rattle.hex.specs.Hex.{encode_lower};
+ghost use Rattle.ns_calls.specs.Text.{text, reply_text, up_text, down_text, window_text, optional_text, bytes_text, gateways_text, number_text, eui_text, address_text, wide};
+
+use crate::answer::{Answer, Downlink, Uplink};
+use crate::call::Reply;
+pub use crate::put::Line;
+use crate::put::{put_address, put_decimal, put_hex, put_identity};
+use arrayvec::ArrayVec;
+use ns_types::{Heard, WindowName};
+
+// A space and a number.
+fn put_number(line: &mut Line, n: u64)
+    requires { array_string_len line.old + 21 ≤ 1024 }
+    ensures bytes { line.new.bytes ≡ line.old.bytes ++ number_text n }
+    ensures len { array_string_len line.new ≤ array_string_len line.old + 21 }
+{
+    line.push_str(" ");
+    put_decimal(line, n);
+}
+
+// A space and an identity.
+#[tactic(auto, unfolding(crate::specs::Text::wide))]
+fn put_eui(line: &mut Line, n: u64)
+    requires { array_string_len line.old + 17 ≤ 1024 }
+    ensures bytes { line.new.bytes ≡ line.old.bytes ++ eui_text n }
+    ensures len { array_string_len line.new ≡ array_string_len line.old + 17 }
+{
+    line.push_str(" ");
+    put_identity(line, n);
+}
+
+// A window's name.
+#[tactic(auto, unfolding(crate::specs::Text::window_text))]
+fn put_window(line: &mut Line, name: &WindowName)
+    requires { array_string_len line.old + 59 ≤ 1024 }
+    ensures bytes { line.new.bytes ≡ line.old.bytes ++ window_text name.now }
+    ensures len { array_string_len line.new ≤ array_string_len line.old + 59 }
+{
+    put_eui(line, name.eui.0);
+    put_number(line, u64::from(name.session));
+    put_number(line, u64::from(name.fcnt));
+}
+
+// A space and a number, or a dash.
+fn put_optional(line: &mut Line, ack: Option<u32>)
+    requires { array_string_len line.old + 21 ≤ 1024 }
+    ensures bytes { line.new.bytes ≡ line.old.bytes ++ optional_text ack }
+    ensures len { array_string_len line.new ≤ array_string_len line.old + 21 }
+{
+    match ack {
+        Some(n) => put_number(line, u64::from(n)),
+        None => line.push_str(" -"),
+    }
+}
+
+// A space and bytes in hex, or a dash.
+#[tactic(auto, unfolding(crate::specs::Text::bytes_text))]
+fn put_bytes(line: &mut Line, bytes: &[u8])
+    requires { array_string_len line.old + 2 + 2 * length bytes.now ≤ 1024 }
+    ensures bytes { line.new.bytes ≡ line.old.bytes ++ bytes_text bytes.now }
+    ensures len { array_string_len line.new ≤ array_string_len line.old + 2 + 2 * length bytes.now }
+{
+    if bytes.is_empty() {
+        line.push_str(" -");
+    } else {
+        line.push_str(" ");
+        put_hex(line, bytes);
+    }
+}
+
+// The line of a reply.
+#[tactic(auto, unfolding(crate::specs::Text::reply_text, crate::specs::Text::address_text))]
+fn reply_line(reply: &Reply) -> Line
+    ensures { result.bytes ≡ reply_text reply.now }
+{
+    let mut line = Line::new();
+    match reply {
+        Reply::Opened { window } => {
+            line.push_str("opened");
+            put_window(&mut line, window);
+        }
+        Reply::Copied { window, place } => {
+            line.push_str("copied");
+            put_window(&mut line, window);
+            put_number(&mut line, u64::from(*place));
+        }
+        Reply::Crowded { window } => {
+            line.push_str("crowded");
+            put_window(&mut line, window);
+        }
+        Reply::Old { eui, session, fcnt } => {
+            line.push_str("old");
+            put_eui(&mut line, eui.0);
+            put_number(&mut line, u64::from(*session));
+            put_number(&mut line, u64::from(*fcnt));
+        }
+        Reply::NoSession => line.push_str("nosession"),
+        Reply::Busy { eui } => {
+            line.push_str("busy");
+            put_eui(&mut line, eui.0);
+        }
+        Reply::Ask { ticket } => {
+            line.push_str("ask ");
+            put_hex(&mut line, &ticket.0);
+        }
+        Reply::JoinCopied { place } => {
+            line.push_str("joincopied");
+            put_number(&mut line, u64::from(*place));
+        }
+        Reply::JoinCrowded => line.push_str("joincrowded"),
+        Reply::NonceOld { greatest } => {
+            line.push_str("nonceold");
+            put_number(&mut line, u64::from(greatest.0));
+        }
+        Reply::NoDevice => line.push_str("nodevice"),
+        Reply::JoinBusy => line.push_str("joinbusy"),
+        Reply::Accepted { eui, session, addr } => {
+            line.push_str("accepted");
+            put_eui(&mut line, eui.0);
+            put_number(&mut line, u64::from(*session));
+            line.push_str(" ");
+            put_address(&mut line, addr.0);
+        }
+        Reply::JoinRefused => line.push_str("joinrefused"),
+        Reply::JoinStale { greatest } => {
+            line.push_str("joinstale");
+            put_number(&mut line, u64::from(greatest.0));
+        }
+        Reply::NoTicket => line.push_str("noticket"),
+        Reply::Closed { window, ack } => {
+            line.push_str("closed");
+            put_window(&mut line, window);
+            put_optional(&mut line, *ack);
+        }
+        Reply::NoWindow => line.push_str("nowindow"),
+    }
+    line
+}
+
+// A comma and a gateway for each of some copies.
+fn put_more_gateways(line: &mut Line, copies: &[Heard])
+    requires { array_string_len line.old + 17 * length copies.now ≤ 1024 }
+    ensures bytes { line.new.bytes
+        ≡ line.old.bytes ++ flat_map (λ c. codes "," ++ wide c.gateway.0) copies.now }
+    ensures len { array_string_len line.new ≡ array_string_len line.old + 17 * length copies.now }
+{
+    for copy in copies {
+        put_comma(line, copy);
+    }
+}
+
+// A comma and the gateway of a copy.
+#[tactic(auto, unfolding(crate::specs::Text::wide))]
+fn put_comma(line: &mut Line, copy: &Heard)
+    requires { array_string_len line.old + 17 ≤ 1024 }
+    ensures bytes { line.new.bytes ≡ line.old.bytes ++ (codes "," ++ wide copy.now.gateway.0) }
+    ensures len { array_string_len line.new ≡ array_string_len line.old + 17 }
+{
+    line.push_str(",");
+    put_identity(line, copy.gateway.0);
+}
+
+// The gateways of copies.
+#[tactic(auto, unfolding(crate::specs::Text::gateways_text, crate::specs::Text::wide))]
+fn put_gateways(line: &mut Line, copies: &[Heard])
+    requires { array_string_len line.old + 17 * length copies.now ≤ 1024 }
+    ensures bytes { line.new.bytes ≡ line.old.bytes ++ gateways_text copies.now }
+{
+    if let Some((first, others)) = copies.split_first() {
+        put_identity(line, first.gateway.0);
+        put_more_gateways(line, others);
+    }
+}
+
+/// The `up` line of an uplink: `up E S N PORT KIND OPTS BYTES COUNT GATEWAYS`, at most 843 bytes. `KIND` is `sealed` where the
+/// payload is as received, else `plain`; a port, options or payload that is missing is `-`.
+#[tactic(auto, unfolding(crate::specs::Text::up_text))]
+pub fn up_line(uplink: &Uplink) -> Line
+    ensures { result.bytes ≡ up_text uplink.now }
+{
+    let mut line = Line::new();
+    line.push_str("up");
+    put_window(&mut line, &uplink.window);
+    put_optional(&mut line, uplink.port.map(u32::from));
+    line.push_str(if uplink.sealed { " sealed" } else { " plain" });
+    put_bytes(&mut line, uplink.fopts.as_slice());
+    put_bytes(&mut line, uplink.payload.as_slice());
+    put_number(&mut line, uplink.copies.len() as u64);
+    line.push_str(" ");
+    put_gateways(&mut line, uplink.copies.as_slice());
+    line
+}
+
+// The line of a downlink.
+#[tactic(auto, unfolding(crate::specs::Text::down_text))]
+fn down_line(downlink: &Downlink) -> Line
+    ensures { result.bytes ≡ down_text downlink.now }
+{
+    let mut line = Line::new();
+    line.push_str("down");
+    put_eui(&mut line, downlink.target.gateway.0);
+    put_number(&mut line, downlink.target.moment);
+    put_number(&mut line, u64::from(downlink.target.freq));
+    put_number(&mut line, u64::from(downlink.target.dr));
+    put_bytes(&mut line, downlink.frame.as_slice());
+    line
+}
+
+/// The lines of an answer: that of the reply, then the `up` line and the `down` line where they go out. Identities are in
+/// lower-case hex of full width, bytes in hex, other numbers in decimal.
+pub fn lines(answer: &Answer) -> ArrayVec<Line, 3>
+    ensures { map (λ l. l.bytes) result.items ≡ text answer.now }
+{
+    let mut lines = ArrayVec::new();
+    lines.push(reply_line(&answer.reply));
+    if let Some(uplink) = &answer.uplink {
+        lines.push(up_line(uplink));
+    }
+    if let Some(downlink) = &answer.downlink {
+        lines.push(down_line(downlink));
+    }
+    lines
+}

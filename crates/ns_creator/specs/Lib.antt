@@ -1,0 +1,5 @@
+pub mod DataFrame
+pub mod JoinFrame
+pub mod Built
+pub mod Laws
+pub mod Faults

@@ -1,0 +1,4 @@
+pub mod Device
+pub mod Accept
+pub mod Faults
+pub mod Laws

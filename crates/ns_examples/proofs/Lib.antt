@@ -1,0 +1,9 @@
+pub mod FirstJoin
+pub mod SecondJoin
+pub mod NonceZero
+pub mod SharedSlot
+pub mod LastCounter
+pub mod CopyLimit
+pub mod WindowLimit
+pub mod SharedAddress
+pub mod JoinLimits

@@ -1,0 +1,67 @@
+//! The runs, each as the contract of a function that does nothing.
+
+ghost use Rattle.ns_examples.specs.FirstJoin.{FirstJoin, FirstJoinLines, FirstJoinDatagrams};
+ghost use Rattle.ns_examples.specs.SecondJoin.{SecondJoin};
+ghost use Rattle.ns_examples.specs.NonceZero.{NonceZero, SealedLines};
+ghost use Rattle.ns_examples.specs.SharedSlot.{SharedSlot};
+ghost use Rattle.ns_examples.specs.LastCounter.{LastCounter};
+ghost use Rattle.ns_examples.specs.CopyLimit.{CopyLimit};
+ghost use Rattle.ns_examples.specs.WindowLimit.{WindowLimit};
+ghost use Rattle.ns_examples.specs.SharedAddress.{SharedAddress};
+ghost use Rattle.ns_examples.specs.JoinLimits.{JoinLimits};
+ghost use Rattle.ns_examples.specs.FirstWindow.{FirstWindow};
+
+/// A device joins, sends a frame that two gateways hear, and joins again: the answers, their lines, and the calls that
+/// datagrams make.
+pub fn first_join()
+    ensures answers { FirstJoin }
+    ensures lines { FirstJoinLines }
+    ensures datagrams { FirstJoinDatagrams }
+{}
+
+/// Acknowledgements, a join beside a session that lives, a payload that stays sealed, a counter beyond 65535.
+pub fn second_join()
+    ensures { SecondJoin }
+{}
+
+/// DevNonce 0, a join that is refused and asked for again, an AppSKey that is kept back.
+pub fn nonce_zero()
+    ensures answers { NonceZero }
+    ensures lines { SealedLines }
+{}
+
+/// Two devices with one slot, and a frame of neither.
+pub fn shared_slot()
+    ensures { SharedSlot }
+{}
+
+/// The last counter of a session.
+pub fn last_counter()
+    ensures { LastCounter }
+{}
+
+/// Sixteen copies of an uplink, and one more.
+pub fn copy_limit()
+    ensures { CopyLimit }
+{}
+
+/// Eight open windows of a device, and one more uplink.
+pub fn window_limit()
+    ensures { WindowLimit }
+{}
+
+/// Two devices at one address, and an acknowledgement whose moment passes 2^64 microseconds.
+pub fn shared_address()
+    ensures { SharedAddress }
+{}
+
+/// Four open tickets of a device and one more; sixteen copies of a Join-Request and one more.
+pub fn join_limits()
+    ensures { JoinLimits }
+{}
+
+/// The first receive window of an acknowledgement: RxDelay 0 and 1 both mean a second, the moment wraps, and the data rate
+/// stops at DR0. Of equal copies the first is the best.
+pub fn first_window()
+    ensures { FirstWindow }
+{}

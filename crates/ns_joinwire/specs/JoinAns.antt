@@ -1,0 +1,38 @@
+-- What a join server's text answers to a transaction, or its first fault (TS002, JoinAns; this server's profile).
+use Rattle.std.specs.Prelude.{ℕ, List, ◌==◌, ◌≡◌, ◌≢◌, ◌&&◌, Bool, true, false, ⊤, bytes_eq, codes, Result, Ok, Err}
+use Rattle.std.specs.Option.{ok_or}
+use Rattle.ns_calls.specs.declared.call.JoinAns.{JoinAns}
+use Rattle.ns_joinwire.specs.declared.fault.AnsFault.{AnsFault}
+use Rattle.ns_joinwire.specs.declared.fault.AnsFault.TheVariants.{NotJson, Field, AnotherMessage, Refused, NoJoinAccept, NwkSKey, NoMemory}
+use Rattle.ns_roster.specs.Field.{value_of}
+use Rattle.ns_joinwire.specs.Front.{code_of}
+use Rattle.ns_joinwire.specs.Parts.{head_of, body_of, nwk_key, app_key, join_accept}
+
+-- What a call returned is what the definition gives, unless memory ran out.
+abbrev pub Gives : {X : Type 0} → Result X AnsFault → Result X AnsFault → Type 0
+Gives (Ok x) found = found ≡ Ok x
+Gives (Err e) found = e ≢ NoMemory → found ≡ Err e
+
+-- the next step, where this one gave a value
+infixl 10 ◌>>=◌
+abbrev pub ◌>>=◌ : {A B : Type 0} → Result A AnsFault → (A → Result B AnsFault) → Result B AnsFault
+(Ok x) >>= f = f x
+(Err e) >>= f = Err e
+
+-- the fault, unless the test holds
+abbrev pub unless : AnsFault → Bool → Result ⊤ AnsFault
+unless fault true = Ok tt
+unless fault false = Err fault
+
+-- the answer to a transaction, or the first fault, by its number
+unfoldable pub joinans : List ℕ → ℕ → Result JoinAns AnsFault
+joinans bytes transaction = do
+  message ← ok_or (value_of bytes) NotJson  -- A1
+  head ← ok_or (head_of message) Field  -- A2
+  _ ← unless AnotherMessage (bytes_eq head.message_type (codes "JoinAns") && head.transaction == transaction)  -- A3
+  _ ← unless (Refused (code_of head.result_code)) (bytes_eq head.result_code (codes "Success"))  -- A4
+  body ← ok_or (body_of message) Field  -- A2
+  accept ← ok_or (join_accept body.phy_payload) NoJoinAccept  -- A5
+  nwk ← ok_or (nwk_key body.nwk) NwkSKey  -- A6
+  app ← ok_or (app_key body.app) Field  -- A2
+  Ok (record { accept = accept; nwk = nwk; app = app })

@@ -1,0 +1,19 @@
+//! The join messages of TS002 (LoRaWAN Backend Interfaces 1.0), in this server's profile of it: JoinReq out, JoinAns in.
+//!
+//! `join_req` gives the text that asks a join server about a Join-Request. A join server that reads it finds a JoinReq with the
+//! Join-Request's bytes and its transaction. `join_ans` gives what a join server's text answers to a transaction, or the text's
+//! first fault, in a fixed order of tests and in time linear in the text's length.
+//! The crate stands on `ns_types`, `ns_roster` and `ns_calls`, and on `serde_json`, `hex` and `thiserror` of the kit.
+#![tactic(auto)]
+
+mod answer;
+mod envelope;
+mod fault;
+mod request;
+
+pub use crate::answer::join_ans;
+pub use crate::fault::{AnsFault, ResultCode};
+pub use crate::request::join_req;
+
+#[cfg(test)]
+mod tests;

@@ -1,0 +1,4 @@
+pub mod DeviceLemmas
+pub mod TextLemmas
+pub mod ValidLemmas
+pub mod SpelledLemmas

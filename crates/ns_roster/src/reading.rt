@@ -1,0 +1,148 @@
+//! The parts of a roster's text.
+
+ghost use Rattle.std.specs.Prelude.{◌≡◌, ◌+◌, ◌≤◌, length, map, [], OnOk, IfOk, option_map};
+ghost use Rattle.serde_json.specs.View.{view};
+ghost use Rattle.ns_roster.specs.Fault.{Gives};
+ghost use Rattle.ns_roster.specs.Text.{eui_at, net_id_at, outer_of, device_of, with_device, with_value, devices_from};
+ghost use Rattle.ns_roster.specs.Valid.{max_slot, AreDevices};
+ghost use Rattle.ns_roster.specs.Held.{Indexes, outer_view};
+
+use crate::Device;
+use crate::fault::RosterFault;
+use crate::field::{hex_bytes, list_at, text_at, whole_at};
+use ns_types::{DevEui, JoinEui, NetId};
+use serde_json::Value;
+use std::alloc::Global;
+use std::collections::HashMap;
+
+const VERSION: u64 = 1;
+
+const MAX_RX1_OFFSET: u64 = 5;
+
+const MAX_RX_DELAY: u64 = 15;
+
+const MAX_SLOT: u64 = 0x1F_FFFF;
+
+// The EUI at a key.
+fn eui_at(value: &Value, key: &str) -> Option<u64>
+    ensures { result ≡ eui_at key.now (view value.now) }
+{
+    let bytes = hex_bytes::<8>(text_at(value, key)?)?;
+    Some(u64::from_be_bytes(bytes))
+}
+
+// The NetID at a key.
+fn net_id_at(value: &Value, key: &str) -> Option<u32>
+    ensures { result ≡ net_id_at key.now (view value.now) }
+{
+    let bytes = hex_bytes::<3>(text_at(value, key)?)?;
+    Some(u32::from_be_bytes([0, bytes[0], bytes[1], bytes[2]]))
+}
+
+// The outer fields, and the values of the devices.
+#[derive(Drop)]
+pub(crate) struct Outer<'a> {
+    pub net_id: NetId,
+    pub rx1_offset: u8,
+    pub rx_delay: u8,
+    pub devices: &'a [Value],
+}
+
+// The outer fields of a value.
+#[tactic(auto, using(crate::proofs::TextLemmas::items_list_of_items), unfolding(crate::specs::Text::outer_of))]
+pub(crate) fn outer_of(root: &Value) -> Result<Outer<'_>, RosterFault>
+    ensures gives { Gives outer_view result (outer_of (view root.now)) }
+    ensures within { IfOk result (λ o. (o.rx1_offset ≤ 5) × (o.rx_delay ≤ 15)) }
+{
+    let version = whole_at(root, "version").ok_or(RosterFault::Field)?;
+    let net_id = net_id_at(root, "net_id").ok_or(RosterFault::Field)?;
+    let rx1_offset = whole_at(root, "rx1_offset").ok_or(RosterFault::Field)?;
+    let rx_delay = whole_at(root, "rx_delay").ok_or(RosterFault::Field)?;
+    let devices = list_at(root, "devices").ok_or(RosterFault::Field)?;
+    if version != VERSION || rx1_offset > MAX_RX1_OFFSET || rx_delay > MAX_RX_DELAY {
+        return Err(RosterFault::Field);
+    }
+    Ok(Outer {
+        net_id: NetId(net_id),
+        rx1_offset: rx1_offset as u8,
+        rx_delay: rx_delay as u8,
+        devices: devices.as_slice(),
+    })
+}
+
+// The device that a value describes.
+#[tactic(auto, unfolding(crate::specs::Text::device_of))]
+fn device_of(value: &Value) -> Result<Device, RosterFault>
+    ensures gives { Gives (λ d. d) result (device_of (view value.now)) }
+    ensures slot { IfOk result (λ d. d.slot ≤ max_slot) }
+{
+    let eui = eui_at(value, "dev_eui").ok_or(RosterFault::Field)?;
+    let join_eui = eui_at(value, "join_eui").ok_or(RosterFault::Field)?;
+    let slot = whole_at(value, "slot").ok_or(RosterFault::Field)?;
+    if slot > MAX_SLOT {
+        return Err(RosterFault::Slot);
+    }
+    Ok(Device {
+        eui: DevEui(eui),
+        join_eui: JoinEui(join_eui),
+        slot: slot as u32,
+    })
+}
+
+// Adds a device that none of the others has the DevEUI of.
+fn add(
+    devices: &mut Vec<Device>,
+    by_eui: &mut HashMap<u64, Device>,
+    device: Device,
+) -> Result<(), RosterFault>
+    requires indexed { Indexes by_eui.old devices.old.items }
+    requires valid { AreDevices devices.old.items }
+    requires slot { device.slot ≤ max_slot }
+    ensures gives { Gives (λ _. devices.new.items) result (with_device devices.old.items device) }
+    ensures indexed { OnOk result (Indexes by_eui.new devices.new.items) }
+    ensures valid { OnOk result (AreDevices devices.new.items) }
+    ensures len { OnOk result (length devices.new.items ≡ length devices.old.items + 1) }
+{
+    if by_eui.contains_key(&device.eui.0) {
+        return Err(RosterFault::Twice);
+    }
+    by_eui.insert(device.eui.0, device)?;
+    devices.push(device)?;
+    Ok(())
+}
+
+// Adds the device that a value describes.
+fn add_value(
+    devices: &mut Vec<Device>,
+    by_eui: &mut HashMap<u64, Device>,
+    value: &Value,
+) -> Result<(), RosterFault>
+    requires indexed { Indexes by_eui.old devices.old.items }
+    requires valid { AreDevices devices.old.items }
+    ensures gives { Gives (λ _. devices.new.items) result
+        (with_value devices.old.items (view value.now)) }
+    ensures indexed { OnOk result (Indexes by_eui.new devices.new.items) }
+    ensures valid { OnOk result (AreDevices devices.new.items) }
+    ensures len { OnOk result (length devices.new.items ≡ length devices.old.items + 1) }
+{
+    let device = device_of(value)?;
+    add(devices, by_eui, device)
+}
+
+// The devices that the values describe, and each at its DevEUI.
+pub(crate) fn read_devices(
+    alloc: Global,
+    values: &[Value],
+) -> Result<(Vec<Device>, HashMap<u64, Device>), RosterFault>
+    ensures gives { Gives (λ r. r.0.items) result (devices_from [] (map view values.now)) }
+    ensures indexed { IfOk result (λ r. Indexes r.1 r.0.items) }
+    ensures valid { IfOk result (λ r. AreDevices r.0.items) }
+    ensures len { IfOk result (λ r. length r.0.items ≡ length values.now) }
+{
+    let mut devices = Vec::new(alloc);
+    let mut by_eui = HashMap::new(alloc);
+    for value in values {
+        add_value(&mut devices, &mut by_eui, value)?;
+    }
+    Ok((devices, by_eui))
+}

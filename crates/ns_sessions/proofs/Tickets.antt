@@ -1,0 +1,81 @@
+-- The first ticket of equal bytes in a list.
+use Rattle.std.proofs.Common.{◌≡◌, ℕ, zero, suc, ◌+◌, ◌<◌, Bool, true, false, cond, List, [], ◌∷◌, ◌++◌, nat_le, length, set, get_or, find, Option, None, Some, refl, sym, ap, subst, ◌∙◌, arith}
+use Rattle.std.specs.List.{position, position_from, remove}
+use Rattle.std.proofs.lemmas.List.Quantifiers.{position-Some}
+use Rattle.std.proofs.lemmas.Iterator.Adapters.{position_from-zero}
+use Rattle.ns_types.specs.declared.heard.Heard.{Heard}
+use Rattle.ns_types.specs.declared.ticket.Ticket.{Ticket}
+use Rattle.ns_calls.specs.History.{same_ticket}
+use Rattle.ns_sessions.specs.declared.ticket.OpenTicket.{OpenTicket}
+use Rattle.ns_sessions.specs.declared.take.JoinTake.{JoinTake}
+use Rattle.ns_sessions.specs.declared.take.JoinTake.TheVariants as join
+use Rattle.ns_calls.specs.Reply.{most_copies}
+use Rattle.ns_sessions.specs.Record.{ticket_among, copy_take, with_copy, copied, asked, without}
+
+abbrev pub is_of : Ticket → OpenTicket → Bool
+is_of t o = same_ticket t o.ticket
+
+-- o stands at i, and is the first of equal bytes
+abbrev pub FirstAt : Ticket → List OpenTicket → ℕ → OpenTicket → Type 0
+FirstAt t [] i o = ⊥
+FirstAt t (x ∷ xs) zero o = (x ≡ o) × (is_of t x ≡ true)
+FirstAt t (x ∷ xs) (suc i) o = (is_of t x ≡ false) × FirstAt t xs i o
+
+first_at : (t : Ticket) (xs : List OpenTicket) (i : ℕ) (o : OpenTicket) → i < length xs → is_of t (get_or xs i o) ≡ true →
+    ((k : ℕ) → k < i → is_of t (get_or xs k o) ≡ false) → FirstAt t xs i (get_or xs i o)
+first_at t [] i o lt is before = absurd (omega (arith, lt))
+first_at t (x ∷ xs) zero o lt is before = (refl, is)
+first_at t (x ∷ xs) (suc i) o lt is before =
+    (before zero (omega arith), first_at t xs i o (omega (arith, lt)) is (λ k less. before (suc k) (omega (arith, less))))
+
+pub first_found : (t : Ticket) (xs : List OpenTicket) (i : ℕ) (o : OpenTicket) → position (is_of t) xs ≡ Some i → FirstAt t xs i (get_or xs i o)
+first_found t xs i o at =
+    let found = position-Some (is_of t) xs i o at in
+    first_at t xs i o found.0 found.1 found.2
+
+none_from : (t : Ticket) (i : ℕ) (xs : List OpenTicket) → position_from (is_of t) i xs ≡ None → (ticket_among t xs ≡ None) × (without t xs ≡ xs)
+none_from t i [] none = (refl, refl)
+none_from t i (x ∷ xs) none = step (is_of t x) none (none_from t (i + 1) xs)
+  where
+    step : (b : Bool) → cond b (Some i) (position_from (is_of t) (i + 1) xs) ≡ None →
+        (position_from (is_of t) (i + 1) xs ≡ None → (ticket_among t xs ≡ None) × (without t xs ≡ xs)) →
+        (cond {A = Option OpenTicket} b (Some x) (ticket_among t xs) ≡ None) × (cond {A = List OpenTicket} b xs (x ∷ without t xs) ≡ x ∷ xs)
+    step true is rest = absurd (cc is)
+    step false is rest = ((rest is).0, ap (λ ys. x ∷ ys) (rest is).1)
+
+pub none_found : (t : Ticket) (xs : List OpenTicket) → position (is_of t) xs ≡ None → (ticket_among t xs ≡ None) × (without t xs ≡ xs)
+none_found t xs none = none_from t 0 xs (sym (position_from-zero (is_of t) xs) ∙ none)
+
+pub among-first : (t : Ticket) (xs : List OpenTicket) (i : ℕ) (o : OpenTicket) → FirstAt t xs i o → ticket_among t xs ≡ Some o
+among-first t [] i o at = absurd at
+among-first t (x ∷ xs) zero o at = ap (λ b. cond {A = Option OpenTicket} b (Some x) (ticket_among t xs)) at.1 ∙ ap Some at.0
+among-first t (x ∷ xs) (suc i) o at = ap (λ b. cond {A = Option OpenTicket} b (Some x) (ticket_among t xs)) at.0 ∙ among-first t xs i o at.1
+
+copied-first : (t : Ticket) (heard : Heard) (xs : List OpenTicket) (i : ℕ) (o : OpenTicket) → FirstAt t xs i o → set xs i (record o { copies = o.copies ++ heard ∷ [] }) ≡ copied t heard xs
+copied-first t heard [] i o at = absurd at
+copied-first t heard (x ∷ xs) zero o at =
+    let more : OpenTicket → OpenTicket = λ y. record y { copies = y.copies ++ heard ∷ [] } in
+    ap (λ y. more y ∷ xs) (sym at.0) ∙ sym (ap (λ b. cond {A = List OpenTicket} b (more x ∷ xs) (x ∷ copied t heard xs)) at.1)
+copied-first t heard (x ∷ xs) (suc i) o at =
+    let more : OpenTicket → OpenTicket = λ y. record y { copies = y.copies ++ heard ∷ [] } in
+    ap (λ ys. x ∷ ys) (copied-first t heard xs i o at.1) ∙ sym (ap (λ b. cond {A = List OpenTicket} b (more x ∷ xs) (x ∷ copied t heard xs)) at.0)
+
+same-first : (t : Ticket) (xs : List OpenTicket) (i : ℕ) (o : OpenTicket) → FirstAt t xs i o → set xs i o ≡ xs
+same-first t [] i o at = absurd at
+same-first t (x ∷ xs) zero o at = ap (λ y. y ∷ xs) (sym at.0)
+same-first t (x ∷ xs) (suc i) o at = ap (λ ys. x ∷ ys) (same-first t xs i o at.1)
+
+-- what came of one more copy of the ticket that stands there
+pub asked-first : (take : JoinTake) (t : Ticket) (heard : Heard) (xs : List OpenTicket) (i : ℕ) (o : OpenTicket) → FirstAt t xs i o → take ≡ copy_take o →
+    set xs i (with_copy take heard o) ≡ asked take t heard xs
+asked-first take t heard xs i o at is = subst (λ k. set xs i (with_copy k heard o) ≡ asked k t heard xs) (sym is) (step (nat_le (length o.copies + 1) most_copies))
+  where
+    step : (b : Bool) → let k : JoinTake = cond b (join.Copied (length o.copies + 1)) join.Crowded in set xs i (with_copy k heard o) ≡ asked k t heard xs
+    step true = copied-first t heard xs i o at
+    step false = same-first t xs i o at
+
+pub without-first : (t : Ticket) (xs : List OpenTicket) (i : ℕ) (o : OpenTicket) → FirstAt t xs i o → remove xs i ≡ without t xs
+without-first t [] i o at = absurd at
+without-first t (x ∷ xs) zero o at = sym (ap (λ b. cond {A = List OpenTicket} b xs (x ∷ without t xs)) at.1)
+without-first t (x ∷ xs) (suc i) o at =
+    ap (λ ys. x ∷ ys) (without-first t xs i o at.1) ∙ sym (ap (λ b. cond {A = List OpenTicket} b xs (x ∷ without t xs)) at.0)

@@ -1,0 +1,204 @@
+//! The state of one device.
+
+ghost use Rattle.std.specs.Prelude.{◌≡◌, IfSome, IfNone, option_map};
+ghost use Rattle.ns_types.specs.Ticket.{nonce};
+ghost use Rattle.ns_secure.specs.Counter.{Exceeds, above, below};
+ghost use Rattle.ns_sessions.specs.Record.{no_joins, session_in, device_fit, IsNewCounter, with_uplink, ack_in, with_ack, spent_in, join_take, with_join, accepted, reply_take, with_reply};
+
+use crate::session::Session;
+use crate::take::{JoinTake, ReplyTake};
+use crate::ticket::{OpenTicket, add_copy, take_out};
+use arrayvec::ArrayVec;
+use ns_calls::{JoinAns, Outcome};
+use ns_types::{DevNonce, Heard, Key, Ticket};
+use ns_views::DataView;
+use std::marker::Model;
+
+/// What a server keeps of one device: its greatest nonce, its live sessions, and its open tickets with their copies.
+#[derive(Drop)]
+pub struct DeviceState {
+    greatest_nonce: Option<u16>,
+    next_session: u32,
+    /// The session of the last uplink.
+    active: Option<Session>,
+    /// The session of the last join, where no uplink came in it yet.
+    pending: Option<Session>,
+    tickets: ArrayVec<OpenTicket, 4>,
+}
+
+impl Model for DeviceState {
+    ghost use Rattle.ns_sessions.specs.Record.{DeviceRecord};
+
+    ghost Value = { DeviceRecord };
+
+    ghost use Rattle.ns_sessions.specs.State.{record_of, IsState};
+
+    ghost view = { record_of };
+
+    ghost invariant = { IsState };
+}
+
+impl DeviceState {
+    /// A device that has not joined.
+    pub fn new() -> DeviceState
+        ensures { result ≡ no_joins }
+    {
+        DeviceState {
+            greatest_nonce: None,
+            next_session: 1,
+            active: None,
+            pending: None,
+            tickets: ArrayVec::new(),
+        }
+    }
+
+    /// The NwkSKey of a live session, and its AppSKey where the join server told it.
+    pub fn keys(&self, session: u32) -> Option<(Key, Option<Key>)>
+        ensures { result ≡ option_map (λ s. (s.nwk, s.app)) (session_in self.now session) }
+    {
+        let live = self.session(session)?;
+        Some((live.nwk, live.app))
+    }
+
+    /// The live session of a number.
+    fn session(&self, number: u32) -> Option<Session>
+        ensures { result ≡ session_in self.now number }
+    {
+        if let Some(active) = self.active {
+            if active.number == number {
+                return Some(active);
+            }
+        }
+        let pending = self.pending?;
+        if pending.number == number {
+            Some(pending)
+        } else {
+            None
+        }
+    }
+
+    /// Opens an uplink in a session: the session before it, if any, ends.
+    pub fn take(&mut self, session: u32, fcnt: u32)
+        requires { IsNewCounter (session_in self.old session) fcnt }
+        ensures { self.new ≡ with_uplink session fcnt self.old }
+    {
+        if let Some(active) = &mut self.active {
+            if active.number == session {
+                active.greatest_counter = Some(fcnt);
+                return;
+            }
+        }
+        if let Some(pending) = self.pending {
+            self.active = Some(Session {
+                greatest_counter: Some(fcnt),
+                ..pending
+            });
+            self.pending = None;
+        }
+    }
+
+    /// Uses the next acknowledgement number of a session: none where the session does not live, or has no number below 2^32 left.
+    pub fn next_ack(&mut self, session: u32) -> Option<u32>
+        ensures number { result ≡ ack_in self.old session }
+        ensures record { self.new ≡ with_ack session self.old }
+    {
+        if let Some(active) = &mut self.active {
+            if active.number == session {
+                return active.use_ack();
+            }
+        }
+        if let Some(pending) = &mut self.pending {
+            if pending.number == session {
+                return pending.use_ack();
+            }
+        }
+        None
+    }
+
+    /// The greatest nonce, where the ticket's is at most that.
+    fn spent(&self, ticket: &Ticket) -> Option<DevNonce>
+        ensures spent { option_map (λ n. n.0) result ≡ spent_in self.now ticket.now }
+        ensures unspent { IfNone result (Exceeds self.now.greatest_nonce (nonce ticket.now).0) }
+    {
+        match self.greatest_nonce {
+            Some(greatest) if ticket.nonce().0 <= greatest => Some(DevNonce(greatest)),
+            _ => None,
+        }
+    }
+
+    /// Takes a Join-Request of the device.
+    pub fn ask(&mut self, ticket: &Ticket, heard: &Heard) -> JoinTake
+        ensures take { result ≡ join_take self.old ticket.now }
+        ensures record { self.new ≡ with_join result ticket.now heard.now self.old }
+    {
+        if let Some(greatest) = self.spent(ticket) {
+            return JoinTake::Old(greatest);
+        }
+        if let Some(take) = add_copy(self.tickets.as_mut_slice(), ticket, heard) {
+            return take;
+        }
+        if self.tickets.is_full() {
+            return JoinTake::Busy;
+        }
+        self.tickets.push(OpenTicket::new(ticket, heard));
+        JoinTake::Asked
+    }
+
+    /// Takes a join server's answer, which ends the join.
+    pub fn answer(&mut self, ticket: &Ticket, outcome: &Outcome) -> ReplyTake
+        ensures take { result ≡ reply_take self.old ticket.now outcome.now }
+        ensures record { self.new ≡ with_reply result ticket.now outcome.now self.old }
+    {
+        let Some(open) = take_out(&mut self.tickets, ticket) else {
+            return ReplyTake::NoTicket;
+        };
+        let Outcome::Success(join) = outcome else {
+            return ReplyTake::Refused;
+        };
+        if let Some(greatest) = self.spent(ticket) {
+            return ReplyTake::Stale(greatest);
+        }
+        ReplyTake::Accepted {
+            session: self.begin(ticket.nonce(), join),
+            best: open.copies.best(),
+        }
+    }
+
+    /// Begins a session, and ends the one in which nothing was opened.
+    fn begin(&mut self, nonce: DevNonce, join: &JoinAns) -> u32
+        requires { Exceeds self.old.greatest_nonce nonce.0 }
+        ensures number { result ≡ self.old.next_session }
+        ensures record { self.new ≡ accepted nonce.0 join.now self.old }
+    {
+        let number = self.next_session;
+        self.greatest_nonce = Some(nonce.0);
+        self.next_session = number + 1;
+        self.pending = Some(Session::new(number, join));
+        number
+    }
+
+    /// The first live session in which the frame's MIC fits at the least counter above the greatest, and that counter.
+    pub fn fresh(&self, view: &DataView) -> Option<(u32, u32)>
+        ensures is { result ≡ device_fit above view.now self.now }
+        ensures new { IfSome result (λ w. IsNewCounter (session_in self.now w.0) w.1) }
+    {
+        if let Some(active) = &self.active {
+            if let Some(fit) = active.fresh(view) {
+                return Some(fit);
+            }
+        }
+        self.pending.as_ref()?.fresh(view)
+    }
+
+    /// The first live session in which the frame's MIC fits at the greatest counter of at most the greatest opened, and that counter.
+    pub fn stale(&self, view: &DataView) -> Option<(u32, u32)>
+        ensures { result ≡ device_fit below view.now self.now }
+    {
+        if let Some(active) = &self.active {
+            if let Some(fit) = active.stale(view) {
+                return Some(fit);
+            }
+        }
+        self.pending.as_ref()?.stale(view)
+    }
+}

@@ -1,0 +1,79 @@
+//! One live session.
+
+ghost use Rattle.std.specs.Prelude.{◌≡◌, option_and_then};
+ghost use Rattle.ns_types.specs.Cases.{when};
+ghost use Rattle.ns_secure.specs.Counter.{above, below};
+ghost use Rattle.ns_secure.specs.Integrity.{mic_fits};
+ghost use Rattle.ns_sessions.specs.Record.{session_fit, session_ack, used_ack, new_session};
+
+use ns_calls::JoinAns;
+use ns_secure::{above, below, mic_fits};
+use ns_types::Key;
+use ns_views::DataView;
+
+/// A live session.
+#[derive(Clone, Copy)]
+pub struct Session {
+    /// Its number, from 1.
+    pub number: u32,
+    pub nwk: Key,
+    pub app: Option<Key>,
+    /// The greatest counter opened in it.
+    pub greatest_counter: Option<u32>,
+    /// The number of the next acknowledgement. From 2^32 on there is none.
+    pub next_ack: u64,
+}
+
+impl Session {
+    /// A session in which nothing was opened yet.
+    pub(crate) fn new(number: u32, join: &JoinAns) -> Session
+        ensures { result ≡ new_session number join.now }
+    {
+        Session {
+            number,
+            nwk: join.nwk,
+            app: join.app,
+            greatest_counter: None,
+            next_ack: 0,
+        }
+    }
+
+    /// The session's number and the counter above its greatest, where the MIC fits there.
+    pub(crate) fn fresh(&self, view: &DataView) -> Option<(u32, u32)>
+        ensures { result ≡ session_fit above view.now self.now }
+    {
+        self.fit(view, above(self.greatest_counter, view.fcnt16()))
+    }
+
+    /// The session's number and the counter of at most its greatest, where the MIC fits there.
+    pub(crate) fn stale(&self, view: &DataView) -> Option<(u32, u32)>
+        ensures { result ≡ session_fit below view.now self.now }
+    {
+        self.fit(view, below(self.greatest_counter, view.fcnt16()))
+    }
+
+    /// The session's number and a counter, where the MIC fits there.
+    fn fit(&self, view: &DataView, counter: Option<u32>) -> Option<(u32, u32)>
+        ensures { result ≡ option_and_then (λ n. when (mic_fits view.now self.now.nwk.0 n) (self.now.number, n)) counter }
+    {
+        let counter = counter?;
+        if mic_fits(view, &self.nwk, counter) {
+            Some((self.number, counter))
+        } else {
+            None
+        }
+    }
+
+    /// Uses the next acknowledgement number, where there is one.
+    pub(crate) fn use_ack(&mut self) -> Option<u32>
+        ensures number { result ≡ session_ack self.old }
+        ensures session { self.new ≡ used_ack self.old }
+    {
+        if self.next_ack > 0xffff_ffff {
+            return None;
+        }
+        let number = self.next_ack as u32;
+        self.next_ack += 1;
+        Some(number)
+    }
+}

@@ -1,0 +1,6 @@
+//! The steps of a run.
+#![tactic(auto)]
+
+mod step;
+
+pub use step::{Act, OwnedBytes, Step};

@@ -1,0 +1,12 @@
+//! The open windows of one shard, in the order of their opening.
+//!
+//! A window is open from the first copy of an uplink until it is closed, and gathers the copies that other gateways heard. It holds
+//! the keys of its session, since the session can end before the window closes. The crate promises that `Windows` is a list of
+//! windows: what is found, counted, added and taken is what a list says. It stands on `ns_types` and `ns_calls`.
+#![tactic(auto)]
+
+mod window;
+mod windows;
+
+pub use window::{Added, Window};
+pub use windows::Windows;
