@@ -93,14 +93,14 @@ none_yet w (o ∷ os) below =
       | inr differs ↦ count-cons test o os ∙ (ap (λ b. cond {A = ℕ} b 1 0 + count_by test os) differs ∙ (zero-add (count_by test os) ∙ rest))
     ]
 
-fresh_is_new : (h : List Entry) (o : Opening) → IsNewOpening h o → opening_count h o.window ≡ 0
+pub fresh_is_new : (h : List Entry) (o : Opening) → IsNewOpening h o → opening_count h o.window ≡ 0
 unfolding counters_in
 fresh_is_new h o new =
     none_yet o.window (filter_map (λ (e : Entry). opening_in e.call e.reply) h) (Exceeds-each (session_counters h o.window.eui o.window.session) o.window.fcnt new.fresh.counter)
 
 -- ---- what one call adds to the counts
 
-openings-added : (h : List Entry) (e : Entry) (w : WindowName) → opening_count (h ++ e ∷ []) w ≡ opening_count h w + count_by (λ o. same_window o.window w) (option_to_list (opening_in e.call e.reply))
+pub openings-added : (h : List Entry) (e : Entry) (w : WindowName) → opening_count (h ++ e ∷ []) w ≡ opening_count h w + count_by (λ o. same_window o.window w) (option_to_list (opening_in e.call e.reply))
 openings-added h e w =
     let says = λ (x : Entry). opening_in x.call x.reply in
     let test = λ (o : Opening). same_window o.window w in

@@ -5,12 +5,14 @@ use Rattle.ns_types.specs.declared.identity.DevEui.{DevEui}
 use Rattle.ns_types.specs.declared.identity.WindowName.{WindowName}
 use Rattle.ns_types.specs.Identity.{same_window}
 use Rattle.ns_types.specs.Ticket.{nonce}
+use Rattle.ns_secure.specs.Counter.{Exceeds}
 use Rattle.ns_roster.specs.Network.{Network}
 use Rattle.ns_calls.specs.declared.call.Call.{Call}
 use Rattle.ns_calls.specs.declared.call.Reply.{Reply}
 use Rattle.ns_calls.specs.declared.call.Reply.TheVariants.{Accepted, Closed}
 use Rattle.ns_calls.specs.declared.call.Entry.{Entry}
-use Rattle.ns_calls.specs.History.{acceptances, next_session, greatest_nonce, session_counters, opening_in, closing_in, open_windows, session_join, live, window_copies}
+use Rattle.ns_calls.specs.History.{acceptances, next_session, greatest_nonce, session_counters, opening_in, closing_in, open_windows, open_window, session_join, live, is_live, greatest_counter, window_copies}
+use Rattle.ns_calls.specs.Reply.{window_with}
 use Rattle.ns_calls.specs.Out.{answer}
 
 -- each number is greater than all before it
@@ -50,6 +52,15 @@ nonces_up_to (Some greatest) = greatest + 1
 pub record SessionsAreBounded (net : Network) (h : List Entry) : Type 0 where
   pub next : (eui : DevEui) → next_session h eui ≤ nonces_up_to (greatest_nonce net h eui) + 1
   pub each : (eui : DevEui) → AllByRecursion (λ a. a.session ≤ (nonce a.ticket).0 + 1) (acceptances h eui)
+
+-- what holds of a window that is opened by a frame: its session lives and its counter is new there, no window of its name is open or
+-- has copies yet, and no open window has this frame
+pub record IsNewWindow (h : List Entry) (frame : List ℕ) (w : WindowName) : Type 0 where
+  pub session : is_live h w.eui w.session ≡ true
+  pub counter : Exceeds (greatest_counter h w.eui w.session) w.fcnt
+  pub name : open_window h w ≡ None
+  pub copies : window_copies h w ≡ []
+  pub frame_apart : window_with h frame ≡ None
 
 -- each live session has the join server's answer that made it, and so has the session of each open window
 pub record SessionsHaveJoins (h : List Entry) : Type 0 where

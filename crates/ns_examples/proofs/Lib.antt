@@ -7,3 +7,6 @@ pub mod CopyLimit
 pub mod WindowLimit
 pub mod SharedAddress
 pub mod JoinLimits
+pub mod Legal
+pub mod JsonTexts
+pub mod Frames

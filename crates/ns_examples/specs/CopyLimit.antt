@@ -28,8 +28,18 @@ calls =
 abbrev pub closed : Answer
 closed = record {
   reply = Closed window (Some 0);
-  uplink = Some (record { window = window; addr = address; port = None; fopts = []; sealed = false; payload = []; copies = record { items =
-    copy_d ∷ copy_e ∷ copy_f ∷ copy_a ∷ copy_b ∷ copy_c ∷ copy_d ∷ copy_e ∷ copy_f ∷ copy_a ∷ copy_b ∷ copy_c ∷ copy_d ∷ copy_e ∷ copy_f ∷ copy_a ∷ [] } });
+  uplink = Some (record {
+    window = window;
+    addr = address;
+    port = None;
+    fopts = [];
+    sealed = false;
+    payload = [];
+    copies = record {
+      items =
+          copy_d ∷ copy_e ∷ copy_f ∷ copy_a ∷ copy_b ∷ copy_c ∷ copy_d ∷ copy_e ∷ copy_f ∷ copy_a ∷ copy_b ∷ copy_c ∷ copy_d ∷ copy_e ∷ copy_f ∷ copy_a ∷ [];
+    };
+  });
   downlink = Some (record { target = record { gateway = copy_f.gateway; moment = 1005000; freq = 868100005; dr = 0 }; frame = (0x60 ∷ 0xf1 ∷ 0x7d ∷ 0xbe ∷ 0x49 ∷ 0x20 ∷ 0x00 ∷ 0x00 ∷ 0x2f ∷ 0xe4 ∷ 0xe1 ∷ 0x08 ∷ []) });
 }
 

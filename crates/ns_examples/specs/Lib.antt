@@ -10,3 +10,6 @@ pub mod WindowLimit
 pub mod SharedAddress
 pub mod JoinLimits
 pub mod FirstWindow
+pub mod Legal
+pub mod JsonTexts
+pub mod Frames

@@ -9,7 +9,7 @@ use Rattle.ns_calls.specs.declared.call.Call.TheVariants as call
 use Rattle.ns_calls.specs.declared.call.Outcome.TheVariants.{Success}
 use Rattle.ns_calls.specs.declared.call.Reply.TheVariants.{Opened, NoSession, Ask, Accepted}
 use Rattle.ns_calls.specs.Runs.{answers_of}
-use Rattle.ns_examples.specs.OneDevice.{eui, device, network, address, heard_1, join_1, nwk_1, nwk_2, app_1, join_accept, join_ans, name, quiet, sent_by, accepted}
+use Rattle.ns_examples.specs.OneDevice.{device, network, address, heard_1, join_1, nwk_1, nwk_2, app_1, join_accept, join_ans, name, quiet, sent_by, accepted}
 
 abbrev pub second_eui : DevEui
 second_eui = record { 0 = 0x1d }

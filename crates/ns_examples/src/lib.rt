@@ -1,17 +1,19 @@
 //! Worked runs of the plain server: calls, and the answers that its definitions give, which the checker computes.
 //!
 //! Each run is the contract of a function that does nothing: `answers_of network calls` is the list of answers that stands
-//! there. The calls and the answers come from the server's own plan, from OpenSSL and from an independent model of the server;
-//! nothing here was made by this program. So whoever doubts a definition reads a run.
+//! there. The answers were written down from the server's rules, or given by a model of the server that was written apart from
+//! it, and the frames were made by OpenSSL or in Python: none of it comes from this program. So whoever doubts a definition reads
+//! a run. `json_texts` does the same for the texts of rosters and join servers, `written_frames` for the frames that creators
+//! build. `runs_are_legal` says of all runs that they are legal histories, so what is promised of those holds of each run here.
 //!
 //! The crate has no code that an edit could spoil, and so no must-fail edits: each would compute all runs again.
 //!
-//! Stands on `ns_calls`, and on the crates below it.
+//! Stands on `ns_calls`, `ns_joinwire` and `ns_creator`, and on the crates below them.
 #![tactic(auto)]
 
 mod runs;
 
 pub use runs::{
-    copy_limit, first_join, first_window, join_limits, last_counter, nonce_zero, second_join,
-    shared_address, shared_slot, window_limit,
+    copy_limit, first_join, first_window, join_limits, json_texts, last_counter, nonce_zero,
+    runs_are_legal, second_join, shared_address, shared_slot, window_limit, written_frames,
 };

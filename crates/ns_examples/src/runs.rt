@@ -1,5 +1,11 @@
 //! The runs, each as the contract of a function that does nothing.
 
+ghost use Rattle.std.specs.Prelude.{List};
+ghost use Rattle.ns_roster.specs.Network.{Network};
+ghost use Rattle.ns_calls.specs.declared.call.Call.{Call};
+ghost use Rattle.ns_examples.specs.Legal.{IsRunOf};
+ghost use Rattle.ns_examples.specs.JsonTexts.{Rosters, RosterFaults, Request, Answers, AnswerFaults};
+ghost use Rattle.ns_examples.specs.Frames.{DataFrames, Acknowledgements, JoinRequests, JoinAccepts};
 ghost use Rattle.ns_examples.specs.FirstJoin.{FirstJoin, FirstJoinLines, FirstJoinDatagrams};
 ghost use Rattle.ns_examples.specs.SecondJoin.{SecondJoin};
 ghost use Rattle.ns_examples.specs.NonceZero.{NonceZero, SealedLines};
@@ -64,4 +70,26 @@ pub fn join_limits()
 /// stops at DR0. Of equal copies the first is the best.
 pub fn first_window()
     ensures { FirstWindow }
+{}
+
+/// Each run from the roster on is a legal history with the run's calls, so all that is promised of legal histories holds of it.
+pub fn runs_are_legal()
+    ensures { (net : Network) (calls : List Call) → IsRunOf net calls }
+{}
+
+/// A roster's text and its faults, the text that asks a join server, and the text that it answers, with its faults.
+pub fn json_texts()
+    ensures rosters { Rosters }
+    ensures roster_faults { RosterFaults }
+    ensures request { Request }
+    ensures answers { Answers }
+    ensures answer_faults { AnswerFaults }
+{}
+
+/// Frames as they are written.
+pub fn written_frames()
+    ensures data { DataFrames }
+    ensures acknowledgements { Acknowledgements }
+    ensures join_requests { JoinRequests }
+    ensures join_accepts { JoinAccepts }
 {}

@@ -1,4 +1,4 @@
--- The MIC of a data frame (LoRaWAN L2 1.0.4, 4.4) and of a Join-Accept (6.2.6). A MIC is 4 bytes.
+-- The MIC of a data frame (LoRaWAN L2 1.0.4, 4.4), of a Join-Request (6.2.5) and of a Join-Accept (6.2.6). A MIC is 4 bytes.
 use Rattle.std.specs.Prelude.{ℕ, Bool, List, [], ◌∷◌, ◌++◌, length, take, bytes_eq}
 use Rattle.std.specs.Int.{w32, to_le_bytes}
 use Rattle.ns_aes_cmac.specs.Cmac.{cmac}

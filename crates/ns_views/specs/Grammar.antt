@@ -57,7 +57,7 @@ pub record IsDataFrame (bytes : List ℕ) (d : DataFields) : Type 0 where
   pub mic_bytes : AreBytes d.mic
   pub size : length bytes ≤ 255
 
--- the bytes are an uplink with these fields
+-- the bytes are a data uplink with these fields
 abbrev pub IsDataUplink : List ℕ → DataFields → Type 0
 IsDataUplink bytes d = IsDataFrame bytes d × ((d.ftype ≡ unconfirmed_up) ⊎ (d.ftype ≡ confirmed_up))
 

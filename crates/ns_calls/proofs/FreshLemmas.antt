@@ -1,0 +1,209 @@
+-- A window that is opened is new.
+use Rattle.std.proofs.Common.{◌≡◌, ◌⊎◌, ℕ, ◌+◌, ◌≤◌, ◌==◌, Bool, true, false, ◌||◌, cond, List, [], ◌∷◌, ◌++◌, filter, map, find, count_by, length, nat_le, Option, None, Some, IfSome, option_to_list, refl, sym, ap, subst, ◌∙◌, arith, inl, inr}
+use Rattle.std.specs.Prelude.{is_some}
+use Rattle.std.specs.List.{AllByRecursion, list_any}
+use Rattle.std.specs.Option.{option_and_then, option_map_or}
+use Rattle.std.proofs.lemmas.Option.{same_Some}
+use Rattle.std.proofs.lemmas.Bool.Decides.{nat_tests}
+use Rattle.ns_types.specs.declared.identity.DevEui.{DevEui}
+use Rattle.ns_types.specs.declared.identity.WindowName.{WindowName}
+use Rattle.ns_types.specs.declared.heard.Heard.{Heard}
+use Rattle.ns_types.specs.Cases.{when}
+use Rattle.ns_types.specs.Identity.{same_window}
+use Rattle.ns_views.specs.Frame.{data_fields}
+use Rattle.ns_secure.specs.Counter.{above, below}
+use Rattle.ns_secure.specs.Integrity.{mic_fits}
+use Rattle.ns_roster.specs.declared.Device.{Device}
+use Rattle.ns_roster.specs.Network.{Network}
+use Rattle.ns_calls.specs.declared.call.JoinAns.{JoinAns}
+use Rattle.ns_calls.specs.declared.call.Call.{Call}
+use Rattle.ns_calls.specs.declared.call.Call.TheVariants as call
+use Rattle.ns_calls.specs.declared.call.Reply.{Reply}
+use Rattle.ns_calls.specs.declared.call.Reply.TheVariants as reply
+use Rattle.ns_calls.specs.declared.call.Entry.{Entry}
+use Rattle.ns_calls.specs.History.{Opening, opening_in, window_copy_in, live, is_live, session_join, greatest_counter, open_windows, open_window, window_copies, window_count}
+use Rattle.ns_calls.specs.Reply.{window_of, session_fit, device_fit, devices_at, first_fit, window_with, most_copies, most_windows, reply_to}
+use Rattle.ns_calls.specs.Legal.{IsLegal, entry_for, with_call}
+use Rattle.ns_calls.specs.Headline.{opening_count, open_count, WindowsOpenOnce, IsNewWindow}
+use Rattle.ns_calls.proofs.LocalLemmas.{bool_tells}
+use Rattle.ns_calls.proofs.Lists.{All-weaker, first-gives, first-gives_of, count-cons, count-found}
+use Rattle.ns_calls.proofs.PushLemmas.{window_copies-push}
+use Rattle.ns_calls.proofs.Induction.{legal_induction}
+use Rattle.ns_calls.proofs.UplinkLemmas.{IsNewOpening, uplink_reply_by, opening_of, opening-new, opened-cases}
+use Rattle.ns_calls.proofs.WindowLemmas.{fresh_is_new, openings-added, windows_open_once}
+
+-- ---- a window that was never opened has no copies
+
+count-member : {X : Type 0} (counts test : X → Bool) (xs : List X) (x : X) → find test xs ≡ Some x → counts x ≡ true → 1 ≤ count_by counts xs
+count-member counts test [] x is here = absurd (cc is)
+count-member {X} counts test (y ∷ ys) x is here =
+    elim (bool_tells (test y)) [
+      | inl found ↦
+          (let same : y ≡ x = same_Some y x (sym (ap (λ b. cond {A = Option X} b (Some y) (find test ys)) found) ∙ is) in
+          let one : count_by counts (y ∷ ys) ≡ 1 + count_by counts ys = count-cons counts y ys ∙ ap (λ b. cond {A = ℕ} b 1 0 + count_by counts ys) (ap counts same ∙ here) in
+          omega (arith, one))
+      | inr later ↦
+          (let still : find test ys ≡ Some x = sym (ap (λ b. cond {A = Option X} b (Some y) (find test ys)) later) ∙ is in
+          let more = count-member counts test ys x still here in
+          let sum : count_by counts (y ∷ ys) ≡ cond (counts y) 1 0 + count_by counts ys = count-cons counts y ys in
+          omega (arith, more, sum))
+    ]
+
+-- what an uplink adds a copy to: nothing, the open window of an equal frame, or the window that it opens
+copied-cases : (h : List Entry) (frame : List ℕ) (heard : Heard) (copied : Option Opening) (fresh stale : Option WindowName) →
+    let r : Reply = uplink_reply_by h copied fresh stale in
+    (window_copy_in (call.Uplink frame heard) r ≡ None)
+    ⊎ (((o : Opening) × (copied ≡ Some o) × (window_copy_in (call.Uplink frame heard) r ≡ Some (o.window, heard)))
+    ⊎ ((w : WindowName) × (opening_in (call.Uplink frame heard) r ≡ Some (opening_of w frame heard)) × (window_copy_in (call.Uplink frame heard) r ≡ Some (w, heard))))
+copied-cases h frame heard (Some o) fresh stale =
+    let place : ℕ = length (window_copies h o.window) + 1 in
+    elim (bool_tells (nat_le place most_copies)) [
+      | inl room ↦ inr (inl (o, refl, ap (λ b. window_copy_in (call.Uplink frame heard) (cond b (reply.Copied o.window place) (reply.Crowded o.window))) room))
+      | inr full ↦ inl (ap (λ b. window_copy_in (call.Uplink frame heard) (cond b (reply.Copied o.window place) (reply.Crowded o.window))) full)
+    ]
+copied-cases h frame heard None (Some w) stale =
+    elim (bool_tells (nat_le most_windows (window_count h w.eui))) [
+      | inl busy ↦ inl (ap (λ b. window_copy_in (call.Uplink frame heard) (cond b (reply.Busy w.eui) (reply.Opened w))) busy)
+      | inr room ↦
+          inr (inr (
+            w,
+            ap (λ b. opening_in (call.Uplink frame heard) (cond b (reply.Busy w.eui) (reply.Opened w))) room,
+            ap (λ b. window_copy_in (call.Uplink frame heard) (cond b (reply.Busy w.eui) (reply.Opened w))) room,
+          ))
+    ]
+copied-cases h frame heard None None (Some w) = inl refl
+copied-cases h frame heard None None None = inl refl
+
+NoCopiesBefore : List Entry → Type 0
+NoCopiesBefore h = (w : WindowName) → opening_count h w ≡ 0 → window_copies h w ≡ []
+
+-- the copies that one call adds to a window
+abbrev copies_added : Call → Reply → WindowName → List Heard
+copies_added c r w = map (λ c. c.1) (filter (λ c. same_window c.0 w) (option_to_list (window_copy_in c r)))
+
+added-other : (c : Call) (r : Reply) (v w : WindowName) (heard : Heard) → window_copy_in c r ≡ Some (v, heard) → same_window v w ≡ false → copies_added c r w ≡ []
+added-other c r v w heard is other =
+    ap (λ o. map (λ (x : WindowName × Heard). x.1) (filter (λ (x : WindowName × Heard). same_window x.0 w) (option_to_list o))) is
+    ∙ ap (λ b. map (λ (x : WindowName × Heard). x.1) (cond {A = List (WindowName × Heard)} b ((v, heard) ∷ []) [])) other
+
+added-none : (c : Call) (r : Reply) (w : WindowName) → window_copy_in c r ≡ None → copies_added c r w ≡ []
+added-none c r w is = ap (λ o. map (λ (x : WindowName × Heard). x.1) (filter (λ (x : WindowName × Heard). same_window x.0 w) (option_to_list o))) is
+
+-- no copy is added to a window that was never opened and isn't opened by the call
+nothing_added : (net : Network) (h : List Entry) → WindowsOpenOnce h → (c : Call) (w : WindowName) → opening_count h w ≡ 0 → count_by (λ o. same_window o.window w) (option_to_list (opening_in c (reply_to net h c))) ≡ 0 → copies_added c (reply_to net h c) w ≡ []
+nothing_added net h once (call.Join t heard) w none new = refl
+nothing_added net h once (call.JoinReply t o) w none new = refl
+nothing_added net h once (call.Close v) w none new = refl
+nothing_added net h once (call.Uplink frame heard) w none new =
+    let c : Call = call.Uplink frame heard in
+    let r : Reply = reply_to net h c in
+    elim (copied-cases h frame heard (window_with h frame) (first_fit above net h frame) (first_fit below net h frame)) [
+      | inl nothing ↦ added-none c r w nothing
+      | inr added ↦
+          elim added [
+            | inl copied ↦
+                elim (bool_tells (same_window copied.0.window w)) [
+                  | inl same ↦
+                      (let least : 1 ≤ open_count h w = count-member (λ (o : Opening). same_window o.window w) _ (open_windows h) copied.0 copied.1 same in
+                      let sum = once.closes w in
+                      absurd (omega (arith, least, sum, none)))
+                  | inr other ↦ added-other c r copied.0.window w heard copied.2 other
+                ]
+            | inr opened ↦
+                elim (bool_tells (same_window opened.0 w)) [
+                  | inl same ↦
+                      (let o : Opening = opening_of opened.0 frame heard in
+                      let one : count_by (λ (x : Opening). same_window x.window w) (o ∷ []) ≡ 1 + 0 = count-cons (λ (x : Opening). same_window x.window w) o [] ∙ ap (λ b. cond {A = ℕ} b 1 0 + 0) same in
+                      let zero_is : count_by (λ (x : Opening). same_window x.window w) (o ∷ []) ≡ 0 = sym (ap (λ x. count_by (λ (y : Opening). same_window y.window w) (option_to_list x)) opened.1) ∙ new in
+                      absurd (omega (arith, one, zero_is)))
+                  | inr other ↦ added-other c r opened.0 w heard opened.2 other
+                ]
+          ]
+    ]
+
+parts_zero : (a b n : ℕ) → n ≡ a + b → n ≡ 0 → (a ≡ 0) × (b ≡ 0)
+parts_zero a b n sum none = (omega (arith, sum, none), omega (arith, sum, none))
+
+no_copies_step : (net : Network) (h : List Entry) (number : ℕ) (c : Call) → IsLegal net h → NoCopiesBefore h → NoCopiesBefore (with_call net h number c)
+unfolding NoCopiesBefore
+no_copies_step net h number c legal before w none =
+    let e : Entry = entry_for net h number c in
+    let parts = parts_zero (opening_count h w) (count_by (λ (o : Opening). same_window o.window w) (option_to_list (opening_in c (reply_to net h c)))) (opening_count (h ++ e ∷ []) w) (openings-added h e w) none in
+    window_copies-push h e w
+    ∙ (ap (λ hs. hs ++ copies_added c (reply_to net h c) w) (before w parts.0)
+    ∙ nothing_added net h (windows_open_once net h legal) c w parts.0 parts.1)
+
+no_copies : (net : Network) (h : List Entry) → IsLegal net h → NoCopiesBefore h
+unfolding NoCopiesBefore
+no_copies net h legal = legal_induction net NoCopiesBefore (λ w none. refl) (λ g number c ok before. no_copies_step net g number c ok before) h legal
+
+-- ---- what fits has a live session
+
+some-equal : (sessions : List ℕ) → AllByRecursion (λ s. list_any (λ t. t == s) sessions ≡ true) sessions
+some-equal [] = tt
+some-equal (s ∷ ss) =
+    let here : (s == s) ≡ true = grind (arith, nat_tests) in
+    (ap (λ b. b || list_any (λ t. t == s) ss) here, All-weaker (λ u. list_any (λ t. t == u) ss ≡ true) (λ u. list_any (λ t. t == u) (s ∷ ss) ≡ true) (λ u later. or_later (s == u) (list_any (λ t. t == u) ss) later) ss (some-equal ss))
+  where
+    or_later : (a b : Bool) → b ≡ true → (a || b) ≡ true
+    or_later true b later = refl
+    or_later false b later = later
+
+session_fit-live : (recover : Option ℕ → ℕ → Option ℕ) (h : List Entry) (frame : List ℕ) (eui : DevEui) (session : ℕ) → is_live h eui session ≡ true → IfSome (session_fit recover h frame eui session) (λ w. is_live h w.eui w.session ≡ true)
+session_fit-live recover h frame eui session lives = step (recover (greatest_counter h eui session) (data_fields frame).fcnt16)
+  where
+    test : (n : ℕ) (b : Bool) → IfSome (when b (window_of eui session n)) (λ w. is_live h w.eui w.session ≡ true)
+    test n true = lives
+    test n false = tt
+
+    step : (o : Option ℕ) → IfSome (option_and_then (λ counter. when (option_map_or (λ (join : JoinAns). mic_fits frame join.nwk.0 counter) (session_join h eui session) false) (window_of eui session counter)) o) (λ w. is_live h w.eui w.session ≡ true)
+    step None = tt
+    step (Some n) = test n (option_map_or (λ (join : JoinAns). mic_fits frame join.nwk.0 n) (session_join h eui session) false)
+
+pub device_fit-live : (recover : Option ℕ → ℕ → Option ℕ) (h : List Entry) (frame : List ℕ) (eui : DevEui) → IfSome (device_fit recover h frame eui) (λ w. is_live h w.eui w.session ≡ true)
+device_fit-live recover h frame eui =
+    first-gives_of (λ (w : WindowName). is_live h w.eui w.session ≡ true) (session_fit recover h frame eui) (live h eui)
+    (All-weaker (λ s. is_live h eui s ≡ true) (λ s. IfSome (session_fit recover h frame eui s) (λ w. is_live h w.eui w.session ≡ true)) (λ s lives. session_fit-live recover h frame eui s lives) (live h eui) (some-equal (live h eui)))
+
+first_fit-live : (recover : Option ℕ → ℕ → Option ℕ) (net : Network) (h : List Entry) (frame : List ℕ) → IfSome (first_fit recover net h frame) (λ w. is_live h w.eui w.session ≡ true)
+first_fit-live recover net h frame =
+    first-gives (λ (w : WindowName). is_live h w.eui w.session ≡ true) (λ (d : Device). device_fit recover h frame d.eui) (λ d. device_fit-live recover h frame d.eui) (devices_at net (data_fields frame).addr)
+
+-- ---- the window of an opening
+
+at_some : {X : Type 0} (P : X → Type 0) (o : Option X) (x : X) → o ≡ Some x → IfSome o P → P x
+at_some P None x is holds = absurd (cc is)
+at_some {X} P (Some y) x is holds = subst P (same_Some y x is) holds
+
+none_found : (h : List Entry) (w : WindowName) → WindowsOpenOnce h → opening_count h w ≡ 0 → open_window h w ≡ None
+none_found h w once none = step (open_window h w) refl
+  where
+    step : (o : Option Opening) → open_window h w ≡ o → o ≡ None
+    step None is = refl
+    step (Some o) is =
+        let least : 1 ≤ open_count h w = count-found (λ (x : Opening). same_window x.window w) (open_windows h) (ap is_some is) in
+        let sum = once.closes w in
+        absurd (omega (arith, least, sum, none))
+
+pub opened-new : (net : Network) (h : List Entry) → IsLegal net h → (frame : List ℕ) (heard : Heard) (w : WindowName) → reply_to net h (call.Uplink frame heard) ≡ reply.Opened w → IsNewWindow h frame w
+unfolding NoCopiesBefore
+opened-new net h legal frame heard w is =
+    let o : Opening = opening_of w frame heard in
+    let says : opening_in (call.Uplink frame heard) (reply_to net h (call.Uplink frame heard)) ≡ Some o = ap (opening_in (call.Uplink frame heard)) is in
+    let new : IsNewOpening h o = at_some (IsNewOpening h) (opening_in (call.Uplink frame heard) (reply_to net h (call.Uplink frame heard))) o says (opening-new net h (call.Uplink frame heard)) in
+    let never : opening_count h w ≡ 0 = fresh_is_new h o new in
+    let once : WindowsOpenOnce h = windows_open_once net h legal in
+    elim (opened-cases h frame heard (window_with h frame) (first_fit above net h frame) (first_fit below net h frame)) [
+      | inl nothing ↦ absurd (cc (nothing, says))
+      | inr found ↦
+          (let same : opening_of found.0 frame heard ≡ o = same_Some _ o (sym found.3 ∙ says) in
+          let window : found.0 ≡ w = ap (λ (x : Opening). x.window) same in
+          let lives = at_some (λ (v : WindowName). is_live h v.eui v.session ≡ true) (first_fit above net h frame) found.0 found.2 (first_fit-live above net h frame) in
+          record {
+            session = subst (λ (v : WindowName). is_live h v.eui v.session ≡ true) window lives;
+            counter = new.fresh.counter;
+            name = none_found h w once never;
+            copies = no_copies net h legal w never;
+            frame_apart = new.apart;
+          })
+    ]
