@@ -3,16 +3,17 @@ use Rattle.std.specs.Prelude.{◌≡◌, ℕ, ◌+◌, ◌<◌, ◌≤◌, Bool,
 use Rattle.std.specs.List.{AllByRecursion}
 use Rattle.ns_types.specs.declared.identity.DevEui.{DevEui}
 use Rattle.ns_types.specs.declared.identity.WindowName.{WindowName}
+use Rattle.ns_types.specs.declared.ticket.Ticket.{Ticket}
 use Rattle.ns_types.specs.Identity.{same_window}
-use Rattle.ns_types.specs.Ticket.{nonce}
+use Rattle.ns_types.specs.Ticket.{dev_eui, join_eui, nonce}
 use Rattle.ns_secure.specs.Counter.{Exceeds}
-use Rattle.ns_roster.specs.Network.{Network}
+use Rattle.ns_roster.specs.Network.{Network, is_known}
 use Rattle.ns_calls.specs.declared.call.Call.{Call}
 use Rattle.ns_calls.specs.declared.call.Reply.{Reply}
 use Rattle.ns_calls.specs.declared.call.Reply.TheVariants.{Accepted, Closed}
 use Rattle.ns_calls.specs.declared.call.Entry.{Entry}
-use Rattle.ns_calls.specs.History.{acceptances, next_session, greatest_nonce, session_counters, opening_in, closing_in, open_windows, open_window, session_join, live, is_live, greatest_counter, window_copies}
-use Rattle.ns_calls.specs.Reply.{window_with}
+use Rattle.ns_calls.specs.History.{acceptances, next_session, greatest_nonce, session_counters, opening_in, closing_in, open_windows, open_window, open_tickets, session_join, live, is_live, greatest_counter, window_count, ticket_count, window_copies, ticket_copies}
+use Rattle.ns_calls.specs.Reply.{window_with, most_windows, most_tickets, most_copies}
 use Rattle.ns_calls.specs.Out.{answer}
 
 -- each number is greater than all before it
@@ -66,6 +67,17 @@ pub record IsNewWindow (h : List Entry) (frame : List ℕ) (w : WindowName) : Ty
 pub record SessionsHaveJoins (h : List Entry) : Type 0 where
   pub of_live : (eui : DevEui) → AllByRecursion (λ session. IsSome (session_join h eui session)) (live h eui)
   pub of_windows : AllByRecursion (λ o. IsSome (session_join h o.window.eui o.window.session)) (open_windows h)
+
+-- a device has at most 8 open windows and 4 open tickets, and each has at most 16 copies
+pub record LimitsHold (h : List Entry) : Type 0 where
+  pub windows : (eui : DevEui) → window_count h eui ≤ most_windows
+  pub tickets : (eui : DevEui) → ticket_count h eui ≤ most_tickets
+  pub of_window : (w : WindowName) → length (window_copies h w) ≤ most_copies
+  pub of_ticket : (t : Ticket) → length (ticket_copies h t) ≤ most_copies
+
+-- each open ticket is of a device that the network knows with its JoinEUI
+abbrev pub TicketsAreKnown : Network → List Entry → Type 0
+TicketsAreKnown net h = AllByRecursion (λ t. is_known net (dev_eui t) (join_eui t) ≡ true) (open_tickets h)
 
 -- each open window has a copy
 abbrev pub WindowsHaveCopies : List Entry → Type 0

@@ -12,8 +12,8 @@ use Rattle.ns_calls.specs.declared.call.Reply.{Reply}
 use Rattle.ns_calls.specs.declared.call.Reply.TheVariants.{Opened, Copied, Crowded, Old, NoSession, Busy, Ask, JoinCopied, JoinCrowded, NonceOld, NoDevice, JoinBusy, Accepted, JoinRefused, JoinStale, NoTicket, Closed, NoWindow}
 
 -- an identity in lower-case hex of full width, the highest byte first
-unfoldable pub wide : ℕ → List ℕ
-wide n = encode_lower (to_be_bytes w64 n)
+unfoldable pub id_hex : ℕ → List ℕ
+id_hex n = encode_lower (to_be_bytes w64 n)
 
 -- an address, in the same way
 unfoldable pub address_text : ℕ → List ℕ
@@ -24,12 +24,12 @@ abbrev pub number_text : ℕ → List ℕ
 number_text n = codes " " ++ decimal n
 
 -- a space and an identity
-abbrev pub eui_text : ℕ → List ℕ
-eui_text n = codes " " ++ wide n
+abbrev pub id_text : ℕ → List ℕ
+id_text n = codes " " ++ id_hex n
 
 -- the name of a window
 unfoldable pub window_text : WindowName → List ℕ
-window_text w = eui_text w.eui.0 ++ number_text w.session ++ number_text w.fcnt
+window_text w = id_text w.eui.0 ++ number_text w.session ++ number_text w.fcnt
 
 -- a space and a number, or a dash where there is none
 abbrev pub optional_text : Option ℕ → List ℕ
@@ -41,16 +41,16 @@ unfoldable pub reply_text : Reply → List ℕ
 reply_text (Opened w) = codes "opened" ++ window_text w
 reply_text (Copied w place) = codes "copied" ++ window_text w ++ number_text place
 reply_text (Crowded w) = codes "crowded" ++ window_text w
-reply_text (Old eui session fcnt) = codes "old" ++ eui_text eui.0 ++ number_text session ++ number_text fcnt
+reply_text (Old eui session fcnt) = codes "old" ++ id_text eui.0 ++ number_text session ++ number_text fcnt
 reply_text NoSession = codes "nosession"
-reply_text (Busy eui) = codes "busy" ++ eui_text eui.0
+reply_text (Busy eui) = codes "busy" ++ id_text eui.0
 reply_text (Ask ticket) = codes "ask " ++ encode_lower ticket.0
 reply_text (JoinCopied place) = codes "joincopied" ++ number_text place
 reply_text JoinCrowded = codes "joincrowded"
 reply_text (NonceOld greatest) = codes "nonceold" ++ number_text greatest.0
 reply_text NoDevice = codes "nodevice"
 reply_text JoinBusy = codes "joinbusy"
-reply_text (Accepted eui session addr) = codes "accepted" ++ eui_text eui.0 ++ number_text session ++ codes " " ++ address_text addr.0
+reply_text (Accepted eui session addr) = codes "accepted" ++ id_text eui.0 ++ number_text session ++ codes " " ++ address_text addr.0
 reply_text JoinRefused = codes "joinrefused"
 reply_text (JoinStale greatest) = codes "joinstale" ++ number_text greatest.0
 reply_text NoTicket = codes "noticket"
@@ -65,7 +65,7 @@ bytes_text (b ∷ bs) = codes " " ++ encode_lower (b ∷ bs)
 -- the gateways of copies, parted by commas
 unfoldable pub gateways_text : List Heard → List ℕ
 gateways_text [] = []
-gateways_text (h ∷ hs) = wide h.gateway.0 ++ flat_map (λ c. codes "," ++ wide c.gateway.0) hs
+gateways_text (h ∷ hs) = id_hex h.gateway.0 ++ flat_map (λ c. codes "," ++ id_hex c.gateway.0) hs
 
 -- the line of an uplink: window, port, whether the payload is as received, options, payload, copies, and the gateways of those
 unfoldable pub up_text : Uplink → List ℕ
@@ -76,7 +76,7 @@ up_text u =
 -- the line of a downlink: gateway, moment, frequency, data rate, frame
 unfoldable pub down_text : Downlink → List ℕ
 down_text d =
-    codes "down" ++ eui_text d.target.gateway.0 ++ number_text d.target.moment ++ number_text d.target.freq ++ number_text d.target.dr ++ bytes_text d.frame
+    codes "down" ++ id_text d.target.gateway.0 ++ number_text d.target.moment ++ number_text d.target.freq ++ number_text d.target.dr ++ bytes_text d.frame
 
 -- the line of the reply, then those of what goes out
 abbrev pub text : Answer → List (List ℕ)

@@ -2,7 +2,7 @@
 ghost use Rattle.std.specs.Prelude.{◌≡◌, ◌+◌, ◌*◌, ◌≤◌, ◌++◌, ◌∷◌, [], length, map, decimal, codes, flat_map};
 ghost use Rattle.arrayvec.specs.ArrayString.{array_string_len};
 ghost use Rattle.hex.specs.Hex.{encode_lower};
-ghost use Rattle.ns_calls.specs.Text.{text, reply_text, up_text, down_text, window_text, optional_text, bytes_text, gateways_text, number_text, eui_text, address_text, wide};
+ghost use Rattle.ns_calls.specs.Text.{text, reply_text, up_text, down_text, window_text, optional_text, bytes_text, gateways_text, number_text, id_text, address_text, id_hex};
 
 use crate::answer::{Answer, Downlink, Uplink};
 use crate::call::Reply;
@@ -22,10 +22,10 @@ fn put_number(line: &mut Line, n: u64)
 }
 
 // A space and an identity.
-#[tactic(auto, unfolding(crate::specs::Text::wide))]
-fn put_eui(line: &mut Line, n: u64)
+#[tactic(auto, unfolding(crate::specs::Text::id_hex))]
+fn put_id(line: &mut Line, n: u64)
     requires { array_string_len line.old + 17 ≤ 1024 }
-    ensures bytes { line.new.bytes ≡ line.old.bytes ++ eui_text n }
+    ensures bytes { line.new.bytes ≡ line.old.bytes ++ id_text n }
     ensures len { array_string_len line.new ≡ array_string_len line.old + 17 }
 {
     line.push_str(" ");
@@ -39,7 +39,7 @@ fn put_window(line: &mut Line, name: &WindowName)
     ensures bytes { line.new.bytes ≡ line.old.bytes ++ window_text name.now }
     ensures len { array_string_len line.new ≤ array_string_len line.old + 59 }
 {
-    put_eui(line, name.eui.0);
+    put_id(line, name.eui.0);
     put_number(line, u64::from(name.session));
     put_number(line, u64::from(name.fcnt));
 }
@@ -93,14 +93,14 @@ fn reply_line(reply: &Reply) -> Line
         }
         Reply::Old { eui, session, fcnt } => {
             line.push_str("old");
-            put_eui(&mut line, eui.0);
+            put_id(&mut line, eui.0);
             put_number(&mut line, u64::from(*session));
             put_number(&mut line, u64::from(*fcnt));
         }
         Reply::NoSession => line.push_str("nosession"),
         Reply::Busy { eui } => {
             line.push_str("busy");
-            put_eui(&mut line, eui.0);
+            put_id(&mut line, eui.0);
         }
         Reply::Ask { ticket } => {
             line.push_str("ask ");
@@ -119,7 +119,7 @@ fn reply_line(reply: &Reply) -> Line
         Reply::JoinBusy => line.push_str("joinbusy"),
         Reply::Accepted { eui, session, addr } => {
             line.push_str("accepted");
-            put_eui(&mut line, eui.0);
+            put_id(&mut line, eui.0);
             put_number(&mut line, u64::from(*session));
             line.push_str(" ");
             put_address(&mut line, addr.0);
@@ -144,7 +144,7 @@ fn reply_line(reply: &Reply) -> Line
 fn put_more_gateways(line: &mut Line, copies: &[Heard])
     requires { array_string_len line.old + 17 * length copies.now ≤ 1024 }
     ensures bytes { line.new.bytes
-        ≡ line.old.bytes ++ flat_map (λ c. codes "," ++ wide c.gateway.0) copies.now }
+        ≡ line.old.bytes ++ flat_map (λ c. codes "," ++ id_hex c.gateway.0) copies.now }
     ensures len { array_string_len line.new ≡ array_string_len line.old + 17 * length copies.now }
 {
     for copy in copies {
@@ -153,10 +153,10 @@ fn put_more_gateways(line: &mut Line, copies: &[Heard])
 }
 
 // A comma and the gateway of a copy.
-#[tactic(auto, unfolding(crate::specs::Text::wide))]
+#[tactic(auto, unfolding(crate::specs::Text::id_hex))]
 fn put_comma(line: &mut Line, copy: &Heard)
     requires { array_string_len line.old + 17 ≤ 1024 }
-    ensures bytes { line.new.bytes ≡ line.old.bytes ++ (codes "," ++ wide copy.now.gateway.0) }
+    ensures bytes { line.new.bytes ≡ line.old.bytes ++ (codes "," ++ id_hex copy.now.gateway.0) }
     ensures len { array_string_len line.new ≡ array_string_len line.old + 17 }
 {
     line.push_str(",");
@@ -164,7 +164,7 @@ fn put_comma(line: &mut Line, copy: &Heard)
 }
 
 // The gateways of copies.
-#[tactic(auto, unfolding(crate::specs::Text::gateways_text, crate::specs::Text::wide))]
+#[tactic(auto, unfolding(crate::specs::Text::gateways_text, crate::specs::Text::id_hex))]
 fn put_gateways(line: &mut Line, copies: &[Heard])
     requires { array_string_len line.old + 17 * length copies.now ≤ 1024 }
     ensures bytes { line.new.bytes ≡ line.old.bytes ++ gateways_text copies.now }
@@ -201,7 +201,7 @@ fn down_line(downlink: &Downlink) -> Line
 {
     let mut line = Line::new();
     line.push_str("down");
-    put_eui(&mut line, downlink.target.gateway.0);
+    put_id(&mut line, downlink.target.gateway.0);
     put_number(&mut line, downlink.target.moment);
     put_number(&mut line, u64::from(downlink.target.freq));
     put_number(&mut line, u64::from(downlink.target.dr));

@@ -64,29 +64,29 @@ IsDataFrame-parts d ftype addr fcnt fopts no_port mic bytes size =
     }
 
 -- a written data frame, made of what is before its MIC and of its MIC
-pub IsDataFrame-written : (keys : Keys) (p : PlainFrame) (before code : List ℕ) → before ≡ data_before_mic keys p → code ≡ mic keys.nwk.0 p.dir p.addr p.counter before →
-    AreFlags p.dir p.flags → length p.fopts ≤ 15 → lacks_port p.port p.payload ≡ false → p.addr < 2 ^ 32 → length code ≡ 4 → AreBytes (before ++ code) → length (before ++ code) ≤ 255 →
-    IsDataFrame (before ++ code) (written_fields keys p)
-IsDataFrame-written keys p before code e f flags options has_port addr four bytes size =
-    let code_is : code ≡ data_mic keys p = f ∙ ap (mic keys.nwk.0 p.dir p.addr p.counter) e in
+pub IsDataFrame-written : (keys : Keys) (p : PlainFrame) (before written_mic : List ℕ) → before ≡ data_before_mic keys p → written_mic ≡ mic keys.nwk.0 p.dir p.addr p.counter before →
+    AreFlags p.dir p.flags → length p.fopts ≤ 15 → lacks_port p.port p.payload ≡ false → p.addr < 2 ^ 32 → length written_mic ≡ 4 → AreBytes (before ++ written_mic) → length (before ++ written_mic) ≤ 255 →
+    IsDataFrame (before ++ written_mic) (written_fields keys p)
+IsDataFrame-written keys p before written_mic e f flags options has_port addr four bytes size =
+    let mic_is : written_mic ≡ data_mic keys p = f ∙ ap (mic keys.nwk.0 p.dir p.addr p.counter) e in
     let Frame : List ℕ → List ℕ → Type 0 = λ b m. IsDataFrame (b ++ m) (written_fields keys p) in
-    let four' : length (data_mic keys p) ≡ 4 = subst (λ m. length m ≡ 4) code_is four in
-    let bytes' : AreBytes (data_before_mic keys p ++ data_mic keys p) = subst (λ b. AreBytes (b ++ data_mic keys p)) e (subst (λ m. AreBytes (before ++ m)) code_is bytes) in
-    let size' : length (data_before_mic keys p ++ data_mic keys p) ≤ 255 = subst (λ b. length (b ++ data_mic keys p) ≤ 255) e (subst (λ m. length (before ++ m) ≤ 255) code_is size) in
-    rw (code_is, e) (IsDataFrame-parts (written_fields keys p) (data_type-range p.dir p.confirmed) addr (omega arith) (omega (arith, flags.0))
+    let four' : length (data_mic keys p) ≡ 4 = subst (λ m. length m ≡ 4) mic_is four in
+    let bytes' : AreBytes (data_before_mic keys p ++ data_mic keys p) = subst (λ b. AreBytes (b ++ data_mic keys p)) e (subst (λ m. AreBytes (before ++ m)) mic_is bytes) in
+    let size' : length (data_before_mic keys p ++ data_mic keys p) ≤ 255 = subst (λ b. length (b ++ data_mic keys p) ≤ 255) e (subst (λ m. length (before ++ m) ≤ 255) mic_is size) in
+    rw (mic_is, e) (IsDataFrame-parts (written_fields keys p) (data_type-range p.dir p.confirmed) addr (omega arith) (omega (arith, flags.0))
     (no_payload p.port p.payload _ p.dir p.addr p.counter has_port) four' bytes' size')
 
 -- a written Join-Request, made likewise
-pub IsJoinRequest-written : (root : List ℕ) (r : JoinRequestCreator) (before code : List ℕ) → before ≡ request_before_mic r → code ≡ join_mic root before →
-    r.join_eui.0 < 2 ^ 64 → r.dev_eui.0 < 2 ^ 64 → r.nonce.0 < 2 ^ 16 → length code ≡ 4 → AreBytes (before ++ code) →
-    IsJoinRequest (before ++ code) (request_fields root r)
-IsJoinRequest-written root r before code e f join_eui dev_eui nonce four bytes =
-    let code_is : code ≡ join_mic root (request_before_mic r) = f ∙ ap (join_mic root) e in
+pub IsJoinRequest-written : (app_key : List ℕ) (r : JoinRequestCreator) (before written_mic : List ℕ) → before ≡ request_before_mic r → written_mic ≡ join_mic app_key before →
+    r.join_eui.0 < 2 ^ 64 → r.dev_eui.0 < 2 ^ 64 → r.nonce.0 < 2 ^ 16 → length written_mic ≡ 4 → AreBytes (before ++ written_mic) →
+    IsJoinRequest (before ++ written_mic) (request_fields app_key r)
+IsJoinRequest-written app_key r before written_mic e f join_eui dev_eui nonce four bytes =
+    let mic_is : written_mic ≡ join_mic app_key (request_before_mic r) = f ∙ ap (join_mic app_key) e in
     record {
-      parts = (0, omega arith, rw (code_is, e) refl);
+      parts = (0, omega arith, rw (mic_is, e) refl);
       join_eui = join_eui;
       dev_eui = dev_eui;
       nonce = nonce;
-      mic = rw (← code_is) four;
-      mic_bytes = rw (← code_is) (AreBytes-back before code bytes);
+      mic = rw (← mic_is) four;
+      mic_bytes = rw (← mic_is) (AreBytes-back before written_mic bytes);
     }

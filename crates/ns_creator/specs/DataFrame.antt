@@ -27,7 +27,7 @@ pub record PlainFrame : Type 0 where
 abbrev pub plain_frame : DataCreator → PlainFrame
 plain_frame c = record { dir = c.dir; confirmed = c.confirmed; addr = c.addr.0; flags = c.flags; counter = c.counter; fopts = c.fopts.now; port = c.port; payload = c.payload.now }
 
--- the flags leave FOptsLen free (4.3.1), and in a downlink the bit that is reserved there (4.3.1.1)
+-- the flags leave FOptsLen free and, in a downlink, the bit that is reserved there (4.3.1)
 abbrev pub reserved_of : Dir → ℕ → ℕ
 reserved_of Up flags = 0
 reserved_of Down flags = flags / 64 % 2
@@ -49,7 +49,7 @@ payload_key keys (Some port) = if port == 0 then keys.nwk else keys.app
 
 -- the fields as they go out, with this MIC
 abbrev pub fields_with : Keys → PlainFrame → List ℕ → DataFields
-fields_with keys p code = record {
+fields_with keys p mic_bytes = record {
   ftype = data_type p.dir p.confirmed;
   addr = p.addr;
   fctrl = p.flags + length p.fopts;
@@ -57,7 +57,7 @@ fields_with keys p code = record {
   fopts = p.fopts;
   port = p.port;
   payload = cipher (payload_key keys p.port).0 p.dir p.addr p.counter p.payload;
-  mic = code;
+  mic = mic_bytes;
 }
 
 -- all that the MIC is over

@@ -17,11 +17,11 @@ request_before_mic r = mhdr join_request 0 ∷ to_le_bytes w64 r.join_eui.0 ++ t
 
 -- its fields as they go out, under AppKey
 abbrev pub request_fields : List ℕ → JoinRequestCreator → JoinFields
-request_fields root r = record { join_eui = r.join_eui.0; dev_eui = r.dev_eui.0; nonce = r.nonce.0; mic = join_mic root (request_before_mic r) }
+request_fields app_key r = record { join_eui = r.join_eui.0; dev_eui = r.dev_eui.0; nonce = r.nonce.0; mic = join_mic app_key (request_before_mic r) }
 
 -- the frame
 unfoldable pub join_request_frame : List ℕ → JoinRequestCreator → List ℕ
-join_request_frame root r = request_before_mic r ++ join_mic root (request_before_mic r)
+join_request_frame app_key r = request_before_mic r ++ join_mic app_key (request_before_mic r)
 
 -- ---- the Join-Accept (6.2.6)
 
@@ -39,29 +39,29 @@ accept_fields a = a.join_nonce ++ take 3 (to_le_bytes w32 a.net_id.0) ++ to_le_b
 
 -- its MIC, which is over MHDR too
 abbrev pub accept_mic : List ℕ → JoinAcceptCreator → List ℕ
-accept_mic root a = join_mic root (mhdr join_accept 0 ∷ accept_fields a)
+accept_mic app_key a = join_mic app_key (mhdr join_accept 0 ∷ accept_fields a)
 
 -- the frame before it is enciphered
 abbrev pub plain_accept : List ℕ → JoinAcceptCreator → List ℕ
-plain_accept root a = mhdr join_accept 0 ∷ accept_fields a ++ accept_mic root a
+plain_accept app_key a = mhdr join_accept 0 ∷ accept_fields a ++ accept_mic app_key a
 
 -- the frame: all but MHDR is enciphered
 unfoldable pub join_accept_frame : List ℕ → JoinAcceptCreator → List ℕ
-join_accept_frame root a = mhdr join_accept 0 ∷ accept_cipher root (accept_fields a ++ accept_mic root a)
+join_accept_frame app_key a = mhdr join_accept 0 ∷ accept_cipher app_key (accept_fields a ++ accept_mic app_key a)
 
 -- how many bytes it has
 abbrev pub accept_size : JoinAcceptCreator → ℕ
 accept_size a = if is_some a.cflist then 33 else 17
 
 -- the bytes are the Join-Accept with these fields, under this AppKey
-pub record IsJoinAccept (root frame : List ℕ) (a : JoinAcceptCreator) : Type 0 where
-  pub is : frame ≡ join_accept_frame root a
+pub record IsJoinAccept (app_key frame : List ℕ) (a : JoinAcceptCreator) : Type 0 where
+  pub is : frame ≡ join_accept_frame app_key a
   pub join_nonce : length a.join_nonce ≡ 3
   pub net_id : a.net_id.0 < 2 ^ 24
   pub addr : a.addr.0 < 2 ^ 32
   pub size : 5 + length (accept_fields a) ≡ accept_size a
-  pub mic : length (accept_mic root a) ≡ 4
-  pub plain_bytes : AreBytes (accept_fields a ++ accept_mic root a)
+  pub mic : length (accept_mic app_key a) ≡ 4
+  pub plain_bytes : AreBytes (accept_fields a ++ accept_mic app_key a)
 
 -- ---- both
 

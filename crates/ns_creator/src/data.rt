@@ -91,8 +91,8 @@ impl DataCreator<'_> {
         let end = frame.len() - 4;
         let (signed, mic) = frame.split_at_mut(end);
         self.write_before_mic(keys, signed);
-        let code = mic_of(&keys.nwk, self.dir, self.addr, self.counter, signed);
-        mic.copy_from_slice(&code.0);
+        let mic_bytes = mic_of(&keys.nwk, self.dir, self.addr, self.counter, signed);
+        mic.copy_from_slice(&mic_bytes.0);
     }
 
     /// Writes all before the MIC.

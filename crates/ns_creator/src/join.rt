@@ -55,8 +55,8 @@ impl JoinRequestCreator {
     {
         let (signed, mic) = frame.split_at_mut(19);
         self.write_before_mic(signed);
-        let code = join_mic_of(&keys.root, signed);
-        mic.copy_from_slice(&code.0);
+        let mic_bytes = join_mic_of(&keys.root, signed);
+        mic.copy_from_slice(&mic_bytes.0);
     }
 
     /// Writes all before the MIC.
@@ -151,8 +151,8 @@ impl JoinAcceptCreator {
         let (mhdr, fields) = signed.split_at_mut(1);
         mhdr.copy_from_slice(&[0x20]);
         self.write_fields(fields);
-        let code = join_mic_of(&keys.root, signed);
-        mic.copy_from_slice(&code.0);
+        let mic_bytes = join_mic_of(&keys.root, signed);
+        mic.copy_from_slice(&mic_bytes.0);
     }
 
     /// How many bytes the frame has.

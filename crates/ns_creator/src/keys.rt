@@ -5,7 +5,7 @@ ghost use Rattle.ns_creator.specs.DataFrame.{payload_key};
 
 use ns_types::Key;
 
-/// The keys that frames are built under: data frames use `nwk` and `app`, join frames use `root`.
+/// The keys that frames are built under: data frames use `nwk` and `app`, join frames use `root`, which is the AppKey.
 #[derive(Clone, Copy)]
 pub struct Keys {
     /// NwkSKey: the MIC, and the payload on port 0.

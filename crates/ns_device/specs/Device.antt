@@ -19,11 +19,11 @@ use Rattle.ns_device.specs.declared.session.Session.{Session}
 pub record Device : Type 0 where
   pub dev_eui : DevEui
   pub join_eui : JoinEui
-  pub root : Key
+  pub app_key : Key
   pub session : Option Session
 
 abbrev pub device_of : TestDevice → Device
-device_of d = record { dev_eui = d.dev_eui; join_eui = d.join_eui; root = d.root; session = d.session }
+device_of d = record { dev_eui = d.dev_eui; join_eui = d.join_eui; app_key = d.app_key; session = d.session }
 
 -- the Join-Request with this nonce
 abbrev pub request : Device → DevNonce → JoinRequestCreator
@@ -31,7 +31,7 @@ request d nonce = record { join_eui = d.join_eui; dev_eui = d.dev_eui; nonce = n
 
 -- the keys of its frames in a session
 abbrev pub session_keys_of : Device → Session → Keys
-session_keys_of d s = record { nwk = s.nwk; app = s.app; root = d.root }
+session_keys_of d s = record { nwk = s.nwk; app = s.app; root = d.app_key }
 
 -- an uplink without options or flags
 abbrev pub uplink_of : Session → ℕ → Bool → Option ℕ → List ℕ → PlainFrame

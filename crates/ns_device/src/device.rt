@@ -15,7 +15,7 @@ use ns_types::{DevAddr, DevEui, DevNonce, JoinEui, Key, NetId};
 pub struct TestDevice {
     dev_eui: DevEui,
     join_eui: JoinEui,
-    root: Key,
+    app_key: Key,
     session: Option<Session>,
 }
 
@@ -24,16 +24,16 @@ impl TestDevice {
     ghost use Rattle.ns_creator.specs.DataFrame.{data_frame};
     ghost use Rattle.ns_creator.specs.Built.{with_front};
     ghost use Rattle.ns_device.specs.Device.{Device, device_of, request, session_keys_of, uplink_of, uplink_fault, IsSent};
-    ghost use Rattle.ns_device.specs.Accept.{opened, has_mic, accept_fault, session_in};
+    ghost use Rattle.ns_device.specs.Accept.{deciphered, has_mic, accept_fault, session_in};
 
     /// A device that has not joined. `root` is its AppKey.
     pub fn new(dev_eui: DevEui, join_eui: JoinEui, root: Key) -> Self
-        ensures { device_of result ≡ record { dev_eui = dev_eui; join_eui = join_eui; root = root; session = None } }
+        ensures { device_of result ≡ record { dev_eui = dev_eui; join_eui = join_eui; app_key = root; session = None } }
     {
         TestDevice {
             dev_eui,
             join_eui,
-            root,
+            app_key: root,
             session: None,
         }
     }
@@ -47,7 +47,7 @@ impl TestDevice {
 
     /// The Join-Request with this nonce (section 6.2.5).
     pub fn join_request(&self, nonce: DevNonce) -> [u8; 23]
-        ensures { result ≡ join_request_frame (device_of self.now).root.0 (request (device_of self.now) nonce) }
+        ensures { result ≡ join_request_frame (device_of self.now).app_key.0 (request (device_of self.now) nonce) }
     {
         let request = JoinRequestCreator {
             join_eui: self.join_eui,
@@ -61,20 +61,20 @@ impl TestDevice {
 
     /// The keys of a device without a session: join frames use AppKey alone.
     fn keys(&self) -> Keys
-        ensures { result.root ≡ self.now.root }
+        ensures { result.root ≡ self.now.app_key }
     {
         Keys {
-            nwk: self.root,
-            app: self.root,
-            root: self.root,
+            nwk: self.app_key,
+            app: self.app_key,
+            root: self.app_key,
         }
     }
 
     /// Takes the answer to the Join-Request with this nonce, and begins its session (section 6.2.6). Refuses, in this
     /// order, E1 other than 17 or 33 bytes, E2 an FType other than 1 or a Major other than 0, E3 a MIC that doesn't fit.
     pub fn accept(&mut self, nonce: DevNonce, frame: &[u8]) -> Result<(), DeviceFault>
-        ensures fault { result_err result ≡ accept_fault (device_of self.old).root.0 frame.now }
-        ensures joined { OnOk result (device_of self.new ≡ record (device_of self.old) { session = Some (session_in (device_of self.old).root.0 nonce (opened (device_of self.old).root.0 frame.now)) }) }
+        ensures fault { result_err result ≡ accept_fault (device_of self.old).app_key.0 frame.now }
+        ensures joined { OnOk result (device_of self.new ≡ record (device_of self.old) { session = Some (session_in (device_of self.old).app_key.0 nonce (deciphered (device_of self.old).app_key.0 frame.now)) }) }
         ensures refused { OnErr result (self.new ≡ self.old) }
     {
         if frame.len() != 17 && frame.len() != 33 {
@@ -86,7 +86,7 @@ impl TestDevice {
         let mut buf = [0; 33];
         let plain = &mut buf[..frame.len()];
         plain.copy_from_slice(frame);
-        self.open(plain);
+        self.decipher(plain);
         if !self.has_mic(plain) {
             return Err(DeviceFault::Mic);
         }
@@ -95,33 +95,33 @@ impl TestDevice {
     }
 
     /// Deciphers all behind MHDR.
-    #[tactic(auto, unfolding(crate::specs::Accept::opened))]
-    fn open(&self, frame: &mut [u8])
+    #[tactic(auto, unfolding(crate::specs::Accept::deciphered))]
+    fn decipher(&self, frame: &mut [u8])
         requires { (length frame.old ≡ 17) ⊎ (length frame.old ≡ 33) }
-        ensures { frame.new ≡ opened self.now.root.0 frame.old }
+        ensures { frame.new ≡ deciphered self.now.app_key.0 frame.old }
     {
         let (_, enciphered) = frame.split_at_mut(1);
-        accept_decipher_in_place(enciphered, &self.root);
+        accept_decipher_in_place(enciphered, &self.app_key);
     }
 
-    /// Whether an opened Join-Accept has its MIC.
+    /// Whether a deciphered Join-Accept has its MIC.
     fn has_mic(&self, plain: &[u8]) -> bool
         requires { 17 ≤ length plain.now }
-        ensures { result ≡ has_mic self.now.root.0 plain.now }
+        ensures { result ≡ has_mic self.now.app_key.0 plain.now }
     {
         let (signed, mic) = plain.split_at(plain.len() - 4);
-        join_mic_of(&self.root, signed).0.as_slice() == mic
+        join_mic_of(&self.app_key, signed).0.as_slice() == mic
     }
 
-    /// The session that an opened Join-Accept begins.
+    /// The session that a deciphered Join-Accept begins.
     fn session_in(&self, nonce: DevNonce, plain: &[u8]) -> Session
         requires { 17 ≤ length plain.now }
-        ensures { result ≡ session_in self.now.root.0 nonce plain.now }
+        ensures { result ≡ session_in self.now.app_key.0 nonce plain.now }
     {
         let join_nonce = bytes_at(plain, 1);
         let net_id = net_id_in(plain);
         let addr = addr_in(plain);
-        let (nwk, app) = session_keys(&self.root, join_nonce, net_id, nonce);
+        let (nwk, app) = session_keys(&self.app_key, join_nonce, net_id, nonce);
         Session { addr, nwk, app }
     }
 
@@ -149,7 +149,7 @@ impl TestDevice {
         let keys = Keys {
             nwk: session.nwk,
             app: session.app,
-            root: self.root,
+            root: self.app_key,
         };
         let creator = DataCreator {
             dir: Dir::Up,
@@ -193,7 +193,7 @@ fn bytes_at(plain: &[u8], at: usize) -> [u8; 3]
     [plain[at], plain[at + 1], plain[at + 2]]
 }
 
-/// The NetID in an opened Join-Accept.
+/// The NetID in a deciphered Join-Accept.
 fn net_id_in(plain: &[u8]) -> NetId
     requires { 17 ≤ length plain.now }
     ensures { result.0 ≡ from_le_bytes w32 (take 3 (drop 4 plain.now) ++ 0 ∷ []) }
@@ -202,7 +202,7 @@ fn net_id_in(plain: &[u8]) -> NetId
     NetId(u32::from_le_bytes([a, b, c, 0]))
 }
 
-/// The address in an opened Join-Accept.
+/// The address in a deciphered Join-Accept.
 fn addr_in(plain: &[u8]) -> DevAddr
     requires { 17 ≤ length plain.now }
     ensures { result.0 ≡ from_le_bytes w32 (take 4 (drop 7 plain.now)) }

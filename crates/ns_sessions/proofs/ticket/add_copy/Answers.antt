@@ -7,8 +7,8 @@ use Rattle.ns_sessions.proofs.ticket.add_copy.Goals.{After-add_copy}
 pub returns-in_err-place-clause-take : goal.returns-in_err-place-clause-take
 returns-in_err-place-clause-take c =
     let none : ticket_among c.args.ticket.now c.args.tickets.now ≡ None = (none_found c.args.ticket.now c.args.tickets.now (sym c.in_err-place.ensures.place)).0 in
-    let gone = ap (option_map copy_take) (sym none) in
-    cc (c.from_residual.ensures, gone)
+    let gone = ap (option_map copy_take) none in
+    cc c.from_residual.ensures
 
 there : (c : After-add_copy) → FirstAt c.args.ticket.now c.args.tickets.now c.in_ok-place.place (get_or c.args.tickets.now c.in_ok-place.place c.index-tickets-place.result)
 there c = first_found _ _ _ _ (sym c.in_ok-place.ensures.place)

@@ -1,0 +1,286 @@
+-- The limits of a device, and of copies.
+use Rattle.std.proofs.Common.{◌≡◌, ℕ, ◌+◌, ◌<◌, ◌≤◌, Bool, true, false, not, cond, List, [], ◌∷◌, ◌++◌, filter, map, count_by, length, length-append, nat_le, Option, None, Some, IfSome, option_map, option_to_list, refl, sym, ap, subst, ◌∙◌, arith, inl, inr}
+use Rattle.std.specs.List.{list_any}
+use Rattle.std.proofs.lemmas.Bool.{false≢true}
+use Rattle.std.proofs.lemmas.Bool.Decides.{nat_tests}
+use Rattle.ns_types.specs.declared.identity.DevEui.{DevEui}
+use Rattle.ns_types.specs.declared.identity.WindowName.{WindowName}
+use Rattle.ns_types.specs.declared.heard.Heard.{Heard}
+use Rattle.ns_types.specs.declared.ticket.Ticket.{Ticket}
+use Rattle.ns_types.specs.Cases.{first_case, when}
+use Rattle.ns_types.specs.Identity.{same_window}
+use Rattle.ns_types.specs.Ticket.{dev_eui, join_eui}
+use Rattle.ns_secure.specs.Counter.{above, below}
+use Rattle.ns_roster.specs.Network.{Network, is_known}
+use Rattle.ns_calls.specs.declared.call.Call.{Call}
+use Rattle.ns_calls.specs.declared.call.Call.TheVariants as call
+use Rattle.ns_calls.specs.declared.call.Reply.{Reply}
+use Rattle.ns_calls.specs.declared.call.Reply.TheVariants as reply
+use Rattle.ns_calls.specs.declared.call.Entry.{Entry}
+use Rattle.ns_calls.specs.History.{Opening, opening_in, asking_in, window_copy_in, ticket_copy_in, same_device, same_ticket, is_ticket, closes, ends_ticket, asks_for, open_windows, open_tickets, window_count, window_copies, is_ticket_open, ticket_count, copies_of_ticket, ticket_copies}
+use Rattle.ns_calls.specs.Reply.{most_copies, most_windows, most_tickets, window_with, first_fit, copy_reply, open_reply, spent_by, join_copy_reply, reply_to}
+use Rattle.ns_calls.specs.Legal.{IsLegal, entry_for, with_call}
+use Rattle.ns_calls.specs.Headline.{LimitsHold}
+use Rattle.ns_calls.proofs.LocalLemmas.{bool_tells}
+use Rattle.ns_calls.proofs.Lists.{count-append, count-cons}
+use Rattle.ns_calls.proofs.PushLemmas.{open_windows-push, window_copies-push, open_tickets-push, ticket_copies-push}
+use Rattle.ns_calls.proofs.Induction.{legal_induction}
+use Rattle.ns_calls.proofs.JoinLemmas.{same_device-eq}
+use Rattle.ns_calls.proofs.TicketLemmas.{same_ticket-eq}
+use Rattle.ns_calls.proofs.PartLemmas.{case-has}
+use Rattle.ns_calls.proofs.WindowLemmas.{same_window-eq}
+use Rattle.ns_calls.proofs.FreshLemmas.{opened-new}
+
+-- what holds of a reply to an uplink: where it opens a window there is room, and where it adds a copy there is room for that
+abbrev HasRoom : Network → List Entry → Reply → Type 0
+HasRoom net h (reply.Opened w) = window_count h w.eui < most_windows
+HasRoom net h (reply.Copied w place) = length (window_copies h w) < most_copies
+HasRoom net h (reply.Ask t) = ticket_count h (dev_eui t) < most_tickets
+HasRoom net h _ = Unit {0}
+
+map-all : {X : Type 0} (P : Reply → Type 0) (f : X → Reply) (o : Option X) → ((x : X) → P (f x)) → IfSome (option_map f o) P
+map-all P f None each = tt
+map-all P f (Some x) each = each x
+
+copy-room : (net : Network) (h : List Entry) (w : WindowName) → HasRoom net h (copy_reply h w)
+copy-room net h w = step (nat_le (length (window_copies h w) + 1) most_copies) refl
+  where
+    step : (b : Bool) → nat_le (length (window_copies h w) + 1) most_copies ≡ b → HasRoom net h (cond b (reply.Copied w (length (window_copies h w) + 1)) (reply.Crowded w))
+    step true is = (let fits : length (window_copies h w) + 1 ≤ 16 = grind (arith, nat_tests, is) in omega (arith, fits))
+    step false is = tt
+
+open-room : (net : Network) (h : List Entry) (w : WindowName) → HasRoom net h (open_reply h w)
+open-room net h w = step (nat_le most_windows (window_count h w.eui)) refl
+  where
+    step : (b : Bool) → nat_le most_windows (window_count h w.eui) ≡ b → HasRoom net h (cond b (reply.Busy w.eui) (reply.Opened w))
+    step true is = tt
+    step false is = grind (arith, nat_tests, is)
+
+uplink-room : (net : Network) (h : List Entry) (frame : List ℕ) (heard : Heard) → HasRoom net h (reply_to net h (call.Uplink frame heard))
+uplink-room net h frame heard =
+    let P : Reply → Type 0 = HasRoom net h in
+    let cases : List (Option Reply) =
+    option_map (λ (o : Opening). copy_reply h o.window) (window_with h frame)
+    ∷ option_map (open_reply h) (first_fit above net h frame)
+    ∷ option_map (λ (w : WindowName). reply.Old w.eui w.session w.fcnt) (first_fit below net h frame) ∷ [] in
+    case-has P cases reply.NoSession (
+      map-all P (λ (o : Opening). copy_reply h o.window) (window_with h frame) (λ o. copy-room net h o.window),
+      (
+        map-all P (open_reply h) (first_fit above net h frame) (λ w. open-room net h w),
+        (map-all P (λ (w : WindowName). reply.Old w.eui w.session w.fcnt) (first_fit below net h frame) (λ w. tt), tt),
+      ),
+    ) tt
+
+-- ---- windows
+
+count-filter : {X : Type 0} (test keep : X → Bool) (xs : List X) → count_by test (filter keep xs) ≤ count_by test xs
+count-filter test keep [] = omega arith
+count-filter {X} test keep (x ∷ xs) =
+    let ih = count-filter test keep xs in
+    let sum : count_by test (x ∷ xs) ≡ cond (test x) 1 0 + count_by test xs = count-cons test x xs in
+    elim (bool_tells (keep x)) [
+      | inl stays ↦
+          (let is : count_by test (filter keep (x ∷ xs)) ≡ cond (test x) 1 0 + count_by test (filter keep xs) = ap (λ b. count_by test (cond {A = List X} b (x ∷ filter keep xs) (filter keep xs))) stays ∙ count-cons test x (filter keep xs) in
+          omega (arith, ih, sum, is))
+      | inr goes ↦
+          (let is : count_by test (filter keep (x ∷ xs)) ≡ count_by test (filter keep xs) = ap (λ b. count_by test (cond {A = List X} b (x ∷ filter keep xs) (filter keep xs))) goes in
+          omega (arith, ih, sum, is))
+    ]
+
+-- one more that may count, where there is room if it does
+one_more_fits : {X : Type 0} (test : X → Bool) (before most : ℕ) (o : Option X) → before ≤ most → IfSome o (λ x. test x ≡ true → before < most) → (kept : ℕ) → kept ≤ before → kept + count_by test (option_to_list o) ≤ most
+one_more_fits test before most None within room kept fewer = (let none : count_by test [] ≡ 0 = refl in omega (arith, within, fewer, none))
+one_more_fits {X} test before most (Some x) within room kept fewer =
+    let one : count_by test (x ∷ []) ≡ cond (test x) 1 0 + 0 = count-cons test x [] in
+    elim (bool_tells (test x)) [
+      | inl counts ↦ (let less : before < most = room counts in let is : count_by test (x ∷ []) ≡ 1 + 0 = one ∙ ap (λ b. cond {A = ℕ} b 1 0 + 0) counts in omega (arith, less, fewer, is))
+      | inr other ↦ (let is : count_by test (x ∷ []) ≡ 0 + 0 = one ∙ ap (λ b. cond {A = ℕ} b 1 0 + 0) other in omega (arith, within, fewer, is))
+    ]
+
+opening-room : (net : Network) (h : List Entry) (c : Call) (r : Reply) → HasRoom net h r → IfSome (opening_in c r) (λ o. window_count h o.window.eui < most_windows)
+opening-room net h (call.Uplink frame heard) (reply.Opened w) room = room
+opening-room net h _ _ room = tt
+
+reply-room : (net : Network) (h : List Entry) (c : Call) → IfSome (opening_in c (reply_to net h c)) (λ o. window_count h o.window.eui < most_windows)
+reply-room net h (call.Uplink frame heard) = opening-room net h (call.Uplink frame heard) (reply_to net h (call.Uplink frame heard)) (uplink-room net h frame heard)
+reply-room net h (call.Join t heard) = tt
+reply-room net h (call.JoinReply t o) = tt
+reply-room net h (call.Close w) = tt
+
+IfSome-weaker : {X : Type 0} (P Q : X → Type 0) (o : Option X) → ((x : X) → P x → Q x) → IfSome o P → IfSome o Q
+IfSome-weaker P Q None weaker holds = tt
+IfSome-weaker P Q (Some x) weaker holds = weaker x holds
+
+windows_step : (net : Network) (h : List Entry) (number : ℕ) (c : Call) (eui : DevEui) → window_count h eui ≤ most_windows → window_count (with_call net h number c) eui ≤ most_windows
+windows_step net h number c eui within =
+    let e : Entry = entry_for net h number c in
+    let test : Opening → Bool = λ o. same_device o.window.eui eui in
+    let keep : Opening → Bool = λ o. not (closes o.window e) in
+    let room : IfSome (opening_in c (reply_to net h c)) (λ o. test o ≡ true → window_count h eui < most_windows) =
+    IfSome-weaker (λ (o : Opening). window_count h o.window.eui < most_windows) (λ (o : Opening). test o ≡ true → window_count h eui < most_windows) (opening_in c (reply_to net h c))
+    (λ o fits same. subst (λ (d : DevEui). window_count h d < most_windows) (same_device-eq o.window.eui eui same) fits) (reply-room net h c) in
+    let sum : window_count (h ++ e ∷ []) eui ≡ count_by test (filter keep (open_windows h)) + count_by test (option_to_list (opening_in c (reply_to net h c))) =
+    ap (count_by test) (open_windows-push h e) ∙ count-append test (filter keep (open_windows h)) (option_to_list (opening_in c (reply_to net h c))) in
+    let most = one_more_fits test (window_count h eui) most_windows (opening_in c (reply_to net h c)) within room (count_by test (filter keep (open_windows h))) (count-filter test keep (open_windows h)) in
+    subst (λ n. n ≤ most_windows) (sym sum) most
+
+-- ---- tickets
+
+join-room : (net : Network) (h : List Entry) (t : Ticket) (heard : Heard) → IfSome (asking_in (call.Join t heard) (reply_to net h (call.Join t heard))) (λ u. ticket_count h (dev_eui u) < most_tickets)
+join-room net h t heard = step (is_known net (dev_eui t) (join_eui t)) (spent_by net h t) (is_ticket_open h t) (nat_le most_tickets (ticket_count h (dev_eui t))) refl
+  where
+    copies : Bool → Reply
+    copies b = cond b (reply.JoinCopied (length (ticket_copies h t) + 1)) reply.JoinCrowded
+
+    never : (b : Bool) → IfSome (asking_in (call.Join t heard) (cond b (reply.JoinCopied (length (ticket_copies h t) + 1)) reply.JoinCrowded)) (λ u. ticket_count h (dev_eui u) < most_tickets)
+    never true = tt
+    never false = tt
+
+    step : (known : Bool) (spent : Option ℕ) (is_open busy : Bool) → nat_le most_tickets (ticket_count h (dev_eui t)) ≡ busy →
+        IfSome (asking_in (call.Join t heard) (first_case (
+        when (not known) reply.NoDevice
+        ∷ option_map (λ g. reply.NonceOld (record { 0 = g })) spent
+        ∷ when is_open (join_copy_reply h t)
+        ∷ when busy reply.JoinBusy
+        ∷ []) (reply.Ask t))) (λ u. ticket_count h (dev_eui u) < most_tickets)
+    step false spent is_open busy is = tt
+    step true (Some g) is_open busy is = tt
+    step true None true busy is = never (nat_le (length (ticket_copies h t) + 1) most_copies)
+    step true None false true is = tt
+    step true None false false is = grind (arith, nat_tests, is)
+
+ticket-room : (net : Network) (h : List Entry) (c : Call) → IfSome (asking_in c (reply_to net h c)) (λ u. ticket_count h (dev_eui u) < most_tickets)
+ticket-room net h (call.Join t heard) = join-room net h t heard
+ticket-room net h (call.Uplink frame heard) = tt
+ticket-room net h (call.JoinReply t o) = tt
+ticket-room net h (call.Close w) = tt
+
+tickets_step : (net : Network) (h : List Entry) (number : ℕ) (c : Call) (eui : DevEui) → ticket_count h eui ≤ most_tickets → ticket_count (with_call net h number c) eui ≤ most_tickets
+tickets_step net h number c eui within =
+    let e : Entry = entry_for net h number c in
+    let test : Ticket → Bool = λ u. same_device (dev_eui u) eui in
+    let keep : Ticket → Bool = λ u. not (ends_ticket u e) in
+    let room : IfSome (asking_in c (reply_to net h c)) (λ u. test u ≡ true → ticket_count h eui < most_tickets) =
+    IfSome-weaker (λ (u : Ticket). ticket_count h (dev_eui u) < most_tickets) (λ (u : Ticket). test u ≡ true → ticket_count h eui < most_tickets) (asking_in c (reply_to net h c))
+    (λ u fits same. subst (λ (d : DevEui). ticket_count h d < most_tickets) (same_device-eq (dev_eui u) eui same) fits) (ticket-room net h c) in
+    let sum : ticket_count (h ++ e ∷ []) eui ≡ count_by test (filter keep (open_tickets h)) + count_by test (option_to_list (asking_in c (reply_to net h c))) =
+    ap (count_by test) (open_tickets-push h e) ∙ count-append test (filter keep (open_tickets h)) (option_to_list (asking_in c (reply_to net h c))) in
+    let most = one_more_fits test (ticket_count h eui) most_tickets (asking_in c (reply_to net h c)) within room (count_by test (filter keep (open_tickets h))) (count-filter test keep (open_tickets h)) in
+    subst (λ n. n ≤ most_tickets) (sym sum) most
+
+-- ---- copies of a window
+
+-- the copies that are added are one at most
+told : {X : Type 0} (test : X × Heard → Bool) (o : Option (X × Heard)) (most before : ℕ) → before ≤ most → IfSome o (λ c. test c ≡ true → before < most) → before + length (map (λ (c : X × Heard). c.1) (filter test (option_to_list o))) ≤ most
+told test None most before within room = omega (arith, within)
+told {X} test (Some c) most before within room =
+    let here : Bool → List Heard = λ b. map (λ (x : X × Heard). x.1) (cond {A = List (X × Heard)} b (c ∷ []) []) in
+    elim (bool_tells (test c)) [
+      | inl counts ↦ (let less : before < most = room counts in let is : length (here (test c)) ≡ 1 = ap (λ b. length (here b)) counts in omega (arith, less, is))
+      | inr other ↦ (let is : length (here (test c)) ≡ 0 = ap (λ b. length (here b)) other in omega (arith, within, is))
+    ]
+
+copy-fits : (net : Network) (h : List Entry) → IsLegal net h → (frame : List ℕ) (heard : Heard) (r : Reply) → reply_to net h (call.Uplink frame heard) ≡ r → HasRoom net h r → IfSome (window_copy_in (call.Uplink frame heard) r) (λ c. length (window_copies h c.0) < most_copies)
+copy-fits net h legal frame heard (reply.Opened w) is room =
+    let none : window_copies h w ≡ [] = (opened-new net h legal frame heard w is).copies in
+    let zero_is : length (window_copies h w) ≡ 0 = ap length none in
+    omega (arith, zero_is)
+copy-fits net h legal frame heard (reply.Copied w place) is room = room
+copy-fits net h legal frame heard _ is room = tt
+
+copies-room : (net : Network) (h : List Entry) → IsLegal net h → (c : Call) → IfSome (window_copy_in c (reply_to net h c)) (λ x. length (window_copies h x.0) < most_copies)
+copies-room net h legal (call.Uplink frame heard) = copy-fits net h legal frame heard (reply_to net h (call.Uplink frame heard)) refl (uplink-room net h frame heard)
+copies-room net h legal (call.Join t heard) = tt
+copies-room net h legal (call.JoinReply t o) = tt
+copies-room net h legal (call.Close w) = tt
+
+copies_step : (net : Network) (h : List Entry) (number : ℕ) (c : Call) → IsLegal net h → (w : WindowName) → length (window_copies h w) ≤ most_copies → length (window_copies (with_call net h number c) w) ≤ most_copies
+copies_step net h number c legal w within =
+    let e : Entry = entry_for net h number c in
+    let test : WindowName × Heard → Bool = λ x. same_window x.0 w in
+    let room : IfSome (window_copy_in c (reply_to net h c)) (λ x. test x ≡ true → length (window_copies h w) < most_copies) =
+    IfSome-weaker (λ (x : WindowName × Heard). length (window_copies h x.0) < most_copies) (λ (x : WindowName × Heard). test x ≡ true → length (window_copies h w) < most_copies) (window_copy_in c (reply_to net h c))
+    (λ x fits same. subst (λ (v : WindowName). length (window_copies h v) < most_copies) (same_window-eq x.0 w same) fits) (copies-room net h legal c) in
+    let more : List Heard = map (λ (x : WindowName × Heard). x.1) (filter test (option_to_list (window_copy_in c (reply_to net h c)))) in
+    let sum : length (window_copies (h ++ e ∷ []) w) ≡ length (window_copies h w) + length more = ap length (window_copies-push h e w) ∙ length-append (window_copies h w) more in
+    subst (λ n. n ≤ most_copies) (sym sum) (told test (window_copy_in c (reply_to net h c)) most_copies (length (window_copies h w)) within room)
+
+-- ---- copies of a ticket
+
+-- where a Join-Request adds a copy to a ticket that it doesn't ask for, there is room for it
+join_copy-room : (net : Network) (h : List Entry) (u : Ticket) (heard : Heard) (t : Ticket) → is_ticket t (asking_in (call.Join u heard) (reply_to net h (call.Join u heard))) ≡ false
+    → IfSome (ticket_copy_in (call.Join u heard) (reply_to net h (call.Join u heard))) (λ x. same_ticket t x.0 ≡ true → length (ticket_copies h t) < most_copies)
+join_copy-room net h u heard t = step (is_known net (dev_eui u) (join_eui u)) (spent_by net h u) (is_ticket_open h u) (nat_le most_tickets (ticket_count h (dev_eui u)))
+  where
+    copied : (b : Bool) → nat_le (length (ticket_copies h u) + 1) most_copies ≡ b →
+        IfSome (ticket_copy_in (call.Join u heard) (cond b (reply.JoinCopied (length (ticket_copies h u) + 1)) reply.JoinCrowded)) (λ x. same_ticket t x.0 ≡ true → length (ticket_copies h t) < most_copies)
+    copied true is = λ same.
+        let fits : length (ticket_copies h u) + 1 ≤ 16 = grind (arith, nat_tests, is) in
+        let less : length (ticket_copies h u) < most_copies = omega (arith, fits) in
+        subst (λ (v : Ticket). length (ticket_copies h v) < most_copies) (sym (same_ticket-eq t u same)) less
+    copied false is = tt
+
+    step : (known : Bool) (spent : Option ℕ) (is_open busy : Bool) →
+        let r : Reply = first_case (
+        when (not known) reply.NoDevice
+        ∷ option_map (λ g. reply.NonceOld (record { 0 = g })) spent
+        ∷ when is_open (join_copy_reply h u)
+        ∷ when busy reply.JoinBusy
+        ∷ []) (reply.Ask u) in
+        is_ticket t (asking_in (call.Join u heard) r) ≡ false → IfSome (ticket_copy_in (call.Join u heard) r) (λ x. same_ticket t x.0 ≡ true → length (ticket_copies h t) < most_copies)
+    step false spent is_open busy other = tt
+    step true (Some g) is_open busy other = tt
+    step true None true busy other = copied (nat_le (length (ticket_copies h u) + 1) most_copies) refl
+    step true None false true other = tt
+    step true None false false other = λ same. absurd (false≢true (sym other ∙ same))
+
+-- the copies that one entry adds to a ticket
+one_entry : (e : Entry) (t : Ticket) (most before : ℕ) → before ≤ most → IfSome (ticket_copy_in e.call e.reply) (λ c. same_ticket t c.0 ≡ true → before < most) → before + length (copies_of_ticket (e ∷ []) t) ≤ most
+one_entry e t most before within room = step (ticket_copy_in e.call e.reply) (told (λ (c : Ticket × Heard). same_ticket t c.0) (ticket_copy_in e.call e.reply) most before within room) refl
+  where
+    step : (o : Option (Ticket × Heard)) → before + length (map (λ (c : Ticket × Heard). c.1) (filter (λ (c : Ticket × Heard). same_ticket t c.0) (option_to_list (ticket_copy_in e.call e.reply)))) ≤ most → ticket_copy_in e.call e.reply ≡ o → before + length (copies_of_ticket (e ∷ []) t) ≤ most
+    step None fits is =
+        let listed : length (copies_of_ticket (e ∷ []) t) ≡ length (map (λ (c : Ticket × Heard). c.1) (filter (λ (c : Ticket × Heard). same_ticket t c.0) (option_to_list (ticket_copy_in e.call e.reply)))) = rw is refl in
+        omega (arith, fits, listed)
+    step (Some c) fits is =
+        let listed : length (copies_of_ticket (e ∷ []) t) ≡ length (map (λ (x : Ticket × Heard). x.1) (filter (λ (x : Ticket × Heard). same_ticket t x.0) (option_to_list (ticket_copy_in e.call e.reply)))) = rw is refl in
+        omega (arith, fits, listed)
+
+some-any : {X : Type 0} (P : X → Type 0) (o : Option X) → ((x : X) → P x) → IfSome o P
+some-any P None each = tt
+some-any P (Some x) each = each x
+
+-- room for the copy of one's own ticket
+own-room : (net : Network) (h : List Entry) (number : ℕ) (c : Call) (t : Ticket) → asks_for t (entry_for net h number c) ≡ false → IfSome (ticket_copy_in c (reply_to net h c)) (λ x. same_ticket t x.0 ≡ true → length (ticket_copies h t) < most_copies)
+own-room net h number (call.Uplink frame heard) t other = tt
+own-room net h number (call.JoinReply u o) t other = tt
+own-room net h number (call.Close w) t other = tt
+own-room net h number (call.Join u heard) t other = join_copy-room net h u heard t other
+
+ticket_copies_step : (net : Network) (h : List Entry) (number : ℕ) (c : Call) (t : Ticket) → length (ticket_copies h t) ≤ most_copies → length (ticket_copies (with_call net h number c) t) ≤ most_copies
+ticket_copies_step net h number c t within =
+    let e : Entry = entry_for net h number c in
+    subst (λ hs. length hs ≤ most_copies) (sym (ticket_copies-push h e t)) (step (asks_for t e) (list_any (asks_for t) h) refl)
+  where
+    step : (now before : Bool) → asks_for t (entry_for net h number c) ≡ now →
+        length (cond now (copies_of_ticket (entry_for net h number c ∷ []) t) (cond before (ticket_copies h t ++ copies_of_ticket (entry_for net h number c ∷ []) t) [])) ≤ most_copies
+    step true before is =
+        let fits = one_entry (entry_for net h number c) t 16 0 (omega arith) (some-any (λ x. same_ticket t x.0 ≡ true → 0 < 16) (ticket_copy_in c (reply_to net h c)) (λ x _. omega arith)) in
+        omega (arith, fits)
+    step false true is =
+        let fits = one_entry (entry_for net h number c) t most_copies (length (ticket_copies h t)) within (own-room net h number c t is) in
+        let sum = length-append (ticket_copies h t) (copies_of_ticket (entry_for net h number c ∷ []) t) in
+        omega (arith, fits, sum)
+    step false false is = omega arith
+
+limits_step : (net : Network) (h : List Entry) (number : ℕ) (c : Call) → IsLegal net h → LimitsHold h → LimitsHold (with_call net h number c)
+limits_step net h number c legal hold = record {
+  windows = λ eui. windows_step net h number c eui (hold.windows eui);
+  tickets = λ eui. tickets_step net h number c eui (hold.tickets eui);
+  of_window = λ w. copies_step net h number c legal w (hold.of_window w);
+  of_ticket = λ t. ticket_copies_step net h number c t (hold.of_ticket t);
+}
+
+pub limits : (net : Network) (h : List Entry) → IsLegal net h → LimitsHold h
+limits net h legal =
+    legal_induction net LimitsHold (record { windows = λ eui. omega arith; tickets = λ eui. omega arith; of_window = λ w. omega arith; of_ticket = λ t. omega arith }) (λ g number c ok hold. limits_step net g number c ok hold) h legal

@@ -1,0 +1,296 @@
+-- What the sessions of every legal history are like.
+use Rattle.std.proofs.Common.{◌≡◌, ◌⊎◌, ℕ, ◌+◌, ◌<◌, ◌==◌, Bool, true, false, not, ◌||◌, cond, List, [], ◌∷◌, ◌++◌, filter, filter_map, map, find, unwrap_or, Option, None, Some, IfSome, option_map, option_to_list, refl, sym, ap, subst, ◌∙◌, arith, inl, inr}
+use Rattle.std.specs.Prelude.{IsSome, is_some}
+use Rattle.std.specs.List.{AllByRecursion, cons_option, list_any}
+use Rattle.std.specs.Option.{option_and_then, option_or, option_map_or}
+use Rattle.std.proofs.lemmas.List.{append-nil}
+use Rattle.std.proofs.lemmas.List.Elements.{filter-append}
+use Rattle.std.proofs.lemmas.Option.{none-some, same_Some}
+use Rattle.std.proofs.lemmas.Bool.{false≢true}
+use Rattle.std.proofs.lemmas.Bool.Decides.{nat_tests}
+use Rattle.ns_types.specs.declared.identity.DevEui.{DevEui}
+use Rattle.ns_types.specs.declared.identity.WindowName.{WindowName}
+use Rattle.ns_types.specs.Cases.{first_case, when}
+use Rattle.ns_types.specs.Identity.{same_window}
+use Rattle.ns_views.specs.Frame.{data_fields}
+use Rattle.ns_secure.specs.Counter.{above}
+use Rattle.ns_secure.specs.Integrity.{mic_fits}
+use Rattle.ns_roster.specs.declared.Device.{Device}
+use Rattle.ns_roster.specs.Network.{Network}
+use Rattle.ns_calls.specs.declared.call.JoinAns.{JoinAns}
+use Rattle.ns_calls.specs.declared.call.Call.{Call}
+use Rattle.ns_calls.specs.declared.call.Call.TheVariants as call
+use Rattle.ns_calls.specs.declared.call.Reply.{Reply}
+use Rattle.ns_calls.specs.declared.call.Reply.TheVariants as reply
+use Rattle.ns_calls.specs.declared.call.Entry.{Entry}
+use Rattle.ns_calls.specs.Queries.{first, last, maximum}
+use Rattle.ns_calls.specs.History.{Acceptance, Opening, Closing, first_and_other, opening_in, closing_in, acceptances, openings, closings, same_device, session_join, session_counters, next_session, active_session, newest_session, live, is_live, greatest_counter, open_windows, open_window}
+use Rattle.ns_calls.specs.Reply.{fits, window_of, session_fit, device_fit, devices_at, first_fit, window_with, open_reply, ack_number, reply_to}
+use Rattle.ns_calls.specs.Legal.{IsLegal, entry_for, with_call}
+use Rattle.ns_calls.specs.Headline.{SessionsHaveJoins}
+use Rattle.ns_calls.proofs.LocalLemmas.{bool_tells}
+use Rattle.ns_calls.proofs.Lists.{said, said-push, said-cases, All-push, All-weaker, find-has}
+use Rattle.ns_calls.proofs.QueryLemmas.{last-push}
+use Rattle.ns_calls.proofs.Induction.{legal_induction}
+use Rattle.ns_calls.proofs.JoinLemmas.{NewAcceptance, acceptances-cases, same_device-eq}
+use Rattle.ns_calls.proofs.UplinkLemmas.{opened-cases, opening_of}
+use Rattle.ns_calls.proofs.KeyLemmas.{has_join-stays, session_join-next, sessions_have_joins}
+use Rattle.ns_calls.proofs.WindowLemmas.{same_window-eq}
+use Rattle.ns_sessions.proofs.Sessions.{counter-push}
+
+-- ---- where an uplink fits
+
+-- what a function may give at each element of a list, where each thing that it gives has the property
+first-gives_of : {X Y : Type 0} (P : Y → Type 0) (f : X → Option Y) (xs : List X) → AllByRecursion (λ x. IfSome (f x) P) xs → IfSome (first (filter_map f xs)) P
+first-gives_of P f [] all = tt
+first-gives_of {X} {Y} P f (x ∷ xs) all = step (f x) all.0 (first-gives_of P f xs all.1)
+  where
+    step : (o : Option Y) → IfSome o P → IfSome (first (filter_map f xs)) P → IfSome (first (cons_option o (filter_map f xs))) P
+    step None here later = later
+    step (Some y) here later = here
+
+or_later : (b c : Bool) → c ≡ true → (b || c) ≡ true
+or_later true c is = refl
+or_later false c is = is
+
+each_member : (xs : List ℕ) → AllByRecursion (λ s. list_any (λ n. n == s) xs ≡ true) xs
+each_member [] = tt
+each_member (x ∷ xs) =
+    let here : (x == x) ≡ true = grind (arith, nat_tests) in
+    (ap (λ b. b || list_any (λ n. n == x) xs) here, All-weaker (λ s. list_any (λ n. n == s) xs ≡ true) (λ s. list_any (λ n. n == s) (x ∷ xs) ≡ true) (λ s is. or_later (x == s) _ is) xs (each_member xs))
+
+-- the window's session lives, and has keys
+pub record IsFit (h : List Entry) (w : WindowName) : Type 0 where
+  pub lives : is_live h w.eui w.session ≡ true
+  pub keyed : IsSome (session_join h w.eui w.session)
+
+fits-keyed : (h : List Entry) (frame : List ℕ) (w : WindowName) → fits h frame w ≡ true → IsSome (session_join h w.eui w.session)
+fits-keyed h frame w fit = step (session_join h w.eui w.session) fit
+  where
+    step : (o : Option JoinAns) → option_map_or (λ (join : JoinAns). mic_fits frame join.nwk.0 w.fcnt) o false ≡ true → IsSome o
+    step None is = absurd (cc is)
+    step (Some join) is = refl
+
+session_fit-live : (recover : Option ℕ → ℕ → Option ℕ) (h : List Entry) (frame : List ℕ) (eui : DevEui) (session : ℕ) → is_live h eui session ≡ true → IfSome (session_fit recover h frame eui session) (IsFit h)
+session_fit-live recover h frame eui session lives = step (recover (greatest_counter h eui session) (data_fields frame).fcnt16)
+  where
+    test : (n : ℕ) (b : Bool) → fits h frame (window_of eui session n) ≡ b → IfSome (when b (window_of eui session n)) (IsFit h)
+    test n true is = record { lives = lives; keyed = fits-keyed h frame (window_of eui session n) is }
+    test n false is = tt
+
+    step : (o : Option ℕ) → IfSome (option_and_then (λ counter. when (fits h frame (window_of eui session counter)) (window_of eui session counter)) o) (IsFit h)
+    step None = tt
+    step (Some n) = test n (fits h frame (window_of eui session n)) refl
+
+pub device_fit-live : (recover : Option ℕ → ℕ → Option ℕ) (h : List Entry) (frame : List ℕ) (eui : DevEui) → IfSome (device_fit recover h frame eui) (IsFit h)
+device_fit-live recover h frame eui =
+    first-gives_of (IsFit h) (session_fit recover h frame eui) (live h eui)
+    (All-weaker (λ s. is_live h eui s ≡ true) (λ s. IfSome (session_fit recover h frame eui s) (IsFit h)) (λ s lives. session_fit-live recover h frame eui s lives) (live h eui) (each_member (live h eui)))
+
+pub first_fit-live : (recover : Option ℕ → ℕ → Option ℕ) (net : Network) (h : List Entry) (frame : List ℕ) → IfSome (first_fit recover net h frame) (IsFit h)
+first_fit-live recover net h frame =
+    first-gives_of (IsFit h) (λ (d : Device). device_fit recover h frame d.eui) (devices_at net (data_fields frame).addr) (each (devices_at net (data_fields frame).addr))
+  where
+    each : (ds : List Device) → AllByRecursion (λ (d : Device). IfSome (device_fit recover h frame d.eui) (IsFit h)) ds
+    each [] = tt
+    each (d ∷ ds) = (device_fit-live recover h frame d.eui, each ds)
+
+at_some : {X : Type 0} (P : X → Type 0) (o : Option X) (x : X) → o ≡ Some x → IfSome o P → P x
+at_some P None x is holds = absurd (cc is)
+at_some {X} P (Some y) x is holds = subst P (same_Some y x is) holds
+
+-- what a call opens fits in a live session
+opening-live : (net : Network) (h : List Entry) (c : Call) → IfSome (opening_in c (reply_to net h c)) (λ o. IsFit h o.window)
+opening-live net h (call.Join t heard) = tt
+opening-live net h (call.JoinReply t o) = tt
+opening-live net h (call.Close w) = tt
+opening-live net h (call.Uplink frame heard) =
+    elim (opened-cases h frame heard (window_with h frame) (first_fit above net h frame) _) [
+      | inl none ↦ subst (λ o. IfSome o (λ x. IsFit h x.window)) (sym none) tt
+      | inr found ↦
+          subst (λ o. IfSome o (λ x. IsFit h x.window)) (sym found.3) (at_some (IsFit h) (first_fit above net h frame) found.0 found.2 (first_fit-live above net h frame))
+    ]
+
+-- what a call closes was open
+closing-open : (net : Network) (h : List Entry) (c : Call) → IfSome (closing_in c (reply_to net h c)) (λ x. is_some (open_window h x.window) ≡ true)
+closing-open net h (call.Uplink frame heard) = tt
+closing-open net h (call.Join t heard) = tt
+closing-open net h (call.JoinReply t o) = tt
+closing-open net h (call.Close w) = step (open_window h w) refl
+  where
+    step : (found : Option Opening) → open_window h w ≡ found →
+        IfSome (closing_in (call.Close w) (first_case (option_map (λ o. reply.Closed w (ack_number h o)) found ∷ []) reply.NoWindow)) (λ x. is_some (open_window h x.window) ≡ true)
+    step None is = tt
+    step (Some o) is = ap is_some is
+
+-- ---- what a call adds to the openings and closings of a device
+
+pub record LiveOpening (h : List Entry) (eui : DevEui) (now : List Opening) : Type 0 where
+  pub o : Opening
+  pub joined : now ≡ openings h eui ++ o ∷ []
+  pub device : o.window.eui ≡ eui
+  pub fit : IsFit h o.window
+
+pub openings-live : (net : Network) (h : List Entry) (number : ℕ) (c : Call) (eui : DevEui) →
+    let now : List Opening = openings (with_call net h number c) eui in
+    (now ≡ openings h eui) ⊎ LiveOpening h eui now
+openings-live net h number c eui =
+    let e : Entry = entry_for net h number c in
+    let asked : Opening → Bool = λ o. same_device o.window.eui eui in
+    let says : Entry → Option Opening = λ x. opening_in x.call x.reply in
+    let pushed = said-push says asked h e in
+    elim (said-cases says asked e) [
+      | inl nothing ↦ inl (pushed ∙ (ap (λ ys. openings h eui ++ ys) nothing ∙ append-nil (openings h eui)))
+      | inr one ↦ inr (record {
+        o = one.0;
+        joined = pushed ∙ ap (λ ys. openings h eui ++ ys) one.3;
+        device = same_device-eq one.0.window.eui eui one.2;
+        fit = at_some (λ o. IsFit h o.window) (opening_in c (reply_to net h c)) one.0 one.1 (opening-live net h c);
+      })
+    ]
+
+pub record OpenClosing (h : List Entry) (eui : DevEui) (now : List Closing) : Type 0 where
+  pub c : Closing
+  pub joined : now ≡ closings h eui ++ c ∷ []
+  pub device : c.window.eui ≡ eui
+  pub was_open : is_some (open_window h c.window) ≡ true
+
+pub closings-open : (net : Network) (h : List Entry) (number : ℕ) (c : Call) (eui : DevEui) →
+    let now : List Closing = closings (with_call net h number c) eui in
+    (now ≡ closings h eui) ⊎ OpenClosing h eui now
+closings-open net h number c eui =
+    let e : Entry = entry_for net h number c in
+    let asked : Closing → Bool = λ x. same_device x.window.eui eui in
+    let says : Entry → Option Closing = λ x. closing_in x.call x.reply in
+    let pushed = said-push says asked h e in
+    elim (said-cases says asked e) [
+      | inl nothing ↦ inl (pushed ∙ (ap (λ ys. closings h eui ++ ys) nothing ∙ append-nil (closings h eui)))
+      | inr one ↦ inr (record {
+        c = one.0;
+        joined = pushed ∙ ap (λ ys. closings h eui ++ ys) one.3;
+        device = same_device-eq one.0.window.eui eui one.2;
+        was_open = at_some (λ x. is_some (open_window h x.window) ≡ true) (closing_in c (reply_to net h c)) one.0 one.1 (closing-open net h c);
+      })
+    ]
+
+-- an open window's session has keys
+open-keyed : (h : List Entry) → SessionsHaveJoins h → (w : WindowName) → is_some (open_window h w) ≡ true → IsSome (session_join h w.eui w.session)
+open-keyed h keyed w is = step (open_window h w) is (find-has (λ (o : Opening). IsSome (session_join h o.window.eui o.window.session)) (λ (o : Opening). same_window o.window w) (open_windows h) keyed.of_windows)
+  where
+    step : (found : Option Opening) → is_some found ≡ true → IfSome found (λ o. IsSome (session_join h o.window.eui o.window.session) × (same_window o.window w ≡ true)) → IsSome (session_join h w.eui w.session)
+    step None some has = absurd (cc some)
+    step (Some o) some has = subst (λ (v : WindowName). IsSome (session_join h v.eui v.session)) (same_window-eq o.window w has.1) has.0
+
+-- nothing is of a session that has no keys
+pub none_of_session : {X : Type 0} (keys : ℕ → Option JoinAns) (session : X → ℕ) (n : ℕ) → keys n ≡ None → (xs : List X) → AllByRecursion (λ x. IsSome (keys (session x))) xs → filter (λ x. session x == n) xs ≡ []
+none_of_session keys session n none [] all = refl
+none_of_session {X} keys session n none (x ∷ xs) all =
+    let rest = none_of_session keys session n none xs all.1 in
+    elim (bool_tells (session x == n)) [
+      | inl here ↦
+          (let is : session x ≡ n = grind (arith, nat_tests) in
+          let some : is_some (keys n) ≡ true = subst (λ m. IsSome (keys m)) is all.0 in
+          absurd (false≢true (ap is_some (sym none) ∙ some)))
+      | inr there ↦ ap (λ b. cond {A = List X} b (x ∷ filter (λ y. session y == n) xs) (filter (λ y. session y == n) xs)) there ∙ rest
+    ]
+
+-- ---- every legal history
+
+pub record SessionFacts (h : List Entry) : Type 0 where
+  pub of_openings : (eui : DevEui) → AllByRecursion (λ o. IsSome (session_join h eui o.window.session)) (openings h eui)
+  pub of_closings : (eui : DevEui) → AllByRecursion (λ c. IsSome (session_join h eui c.window.session)) (closings h eui)
+  -- nothing was opened in the newest session, or it is the active one
+  pub newest : (eui : DevEui) → IfSome (newest_session h eui) (λ y. (option_map (λ x. x == y) (active_session h eui) ≡ Some true) ⊎ (session_counters h eui y ≡ []))
+
+-- each opening and each closing of the history with one call more is of a session that had keys
+openings-keyed : (net : Network) (h : List Entry) (number : ℕ) (c : Call) → SessionFacts h → (eui : DevEui) → AllByRecursion (λ o. IsSome (session_join h eui o.window.session)) (openings (with_call net h number c) eui)
+openings-keyed net h number c facts eui =
+    let Keyed : Opening → Type 0 = λ o. IsSome (session_join h eui o.window.session) in
+    elim (openings-live net h number c eui) [
+      | inl same ↦ subst (AllByRecursion Keyed) (sym same) (facts.of_openings eui)
+      | inr new ↦
+          subst (AllByRecursion Keyed) (sym new.joined)
+          (All-push Keyed (openings h eui) new.o (facts.of_openings eui) (subst (λ (d : DevEui). IsSome (session_join h d new.o.window.session)) new.device new.fit.keyed))
+    ]
+
+closings-keyed : (net : Network) (h : List Entry) (number : ℕ) (c : Call) → SessionsHaveJoins h → SessionFacts h → (eui : DevEui) → AllByRecursion (λ x. IsSome (session_join h eui x.window.session)) (closings (with_call net h number c) eui)
+closings-keyed net h number c keyed facts eui =
+    let Keyed : Closing → Type 0 = λ x. IsSome (session_join h eui x.window.session) in
+    elim (closings-open net h number c eui) [
+      | inl same ↦ subst (AllByRecursion Keyed) (sym same) (facts.of_closings eui)
+      | inr new ↦
+          subst (AllByRecursion Keyed) (sym new.joined)
+          (All-push Keyed (closings h eui) new.c (facts.of_closings eui) (subst (λ (d : DevEui). IsSome (session_join h d new.c.window.session)) new.device (open-keyed h keyed new.c.window new.was_open)))
+    ]
+
+or_last : (b : Bool) → (b || false) ≡ true → b ≡ true
+or_last true is = refl
+or_last false is = absurd (cc is)
+
+-- a live session that is not the newest is the active one, and then the newest was not used
+live_other : (a : Option ℕ) (y s : ℕ) (P : Type 0) → list_any (λ n. n == s) (first_and_other a (Some y)) ≡ true → (s == y) ≡ false → (option_map (λ x. x == y) a ≡ Some true) ⊎ P → P
+live_other None y s P lives differs fact =
+    let same : (y == s) ≡ true = or_last (y == s) lives in
+    let back : (s == y) ≡ true = grind (arith, nat_tests) in
+    absurd (false≢true (sym differs ∙ back))
+live_other (Some x) y s P lives differs (inr unused) = unused
+live_other (Some x) y s P lives differs (inl same) =
+    let is : (x == y) ≡ true = same_Some (x == y) true same in
+    let alone : (x == s) ≡ true = or_last (x == s) (subst (λ b. list_any (λ n. n == s) (cond {A = List ℕ} b (x ∷ []) (x ∷ y ∷ [])) ≡ true) is lives) in
+    let back : (s == y) ≡ true = grind (arith, nat_tests) in
+    absurd (false≢true (sym differs ∙ back))
+
+-- the counters of a session, with an opening in another
+other_counters : (os : List Opening) (o : Opening) (y : ℕ) → (o.window.session == y) ≡ false →
+    map (λ (x : Opening). x.window.fcnt) (filter (λ (x : Opening). x.window.session == y) os) ≡ [] → map (λ (x : Opening). x.window.fcnt) (filter (λ (x : Opening). x.window.session == y) (os ++ o ∷ [])) ≡ []
+other_counters os o y differs none =
+    let test : Opening → Bool = λ x. x.window.session == y in
+    ap (map (λ (x : Opening). x.window.fcnt)) (filter-append test os (o ∷ []) ∙ (ap (λ b. filter test os ++ cond {A = List Opening} b (o ∷ []) []) differs ∙ append-nil (filter test os))) ∙ none
+
+newest_step : (net : Network) (h : List Entry) (number : ℕ) (c : Call) → SessionFacts h → (eui : DevEui) →
+    IfSome (newest_session (with_call net h number c) eui) (λ y. (option_map (λ x. x == y) (active_session (with_call net h number c) eui) ≡ Some true) ⊎ (session_counters (with_call net h number c) eui y ≡ []))
+newest_step net h number c facts eui =
+    let now : List Entry = with_call net h number c in
+    let Fine : List Acceptance → List Opening → Type 0 = λ joins os. IfSome (option_map (λ (a : Acceptance). a.session) (last joins)) (λ y. (option_map (λ x. x == y) (option_map (λ (o : Opening). o.window.session) (last os)) ≡ Some true) ⊎ (map (λ (o : Opening). o.window.fcnt) (filter (λ (o : Opening). o.window.session == y) os) ≡ [])) in
+    elim (acceptances-cases net h number c eui) [
+      | inr joined ↦
+          (let unused : session_counters now eui joined.a.session ≡ [] =
+          ap (map (λ (o : Opening). o.window.fcnt))
+          (none_of_session (session_join h eui) (λ (o : Opening). o.window.session) joined.a.session (ap (session_join h eui) joined.session ∙ session_join-next h eui) (openings now eui) (openings-keyed net h number c facts eui)) in
+          subst (λ joins. Fine joins (openings now eui)) (sym joined.joined)
+          (subst (λ (o : Option Acceptance). IfSome (option_map (λ (a : Acceptance). a.session) o) (λ y. (option_map (λ x. x == y) (active_session now eui) ≡ Some true) ⊎ (session_counters now eui y ≡ [])))
+          (sym (last-push (acceptances h eui) joined.a)) (inr unused)))
+      | inl same ↦ subst (λ joins. Fine joins (openings now eui)) (sym same) (elim (openings-live net h number c eui) [
+        | inl still ↦ subst (λ os. Fine (acceptances h eui) os) (sym still) (facts.newest eui)
+        | inr new ↦ subst (λ os. Fine (acceptances h eui) os) (sym new.joined) (opened new)
+      ])
+    ]
+  where
+    opened : (new : LiveOpening h eui (openings (with_call net h number c) eui)) →
+        IfSome (newest_session h eui) (λ y. (option_map (λ x. x == y) (option_map (λ (o : Opening). o.window.session) (last (openings h eui ++ new.o ∷ []))) ≡ Some true)
+        ⊎ (map (λ (o : Opening). o.window.fcnt) (filter (λ (o : Opening). o.window.session == y) (openings h eui ++ new.o ∷ [])) ≡ []))
+    opened new = step (newest_session h eui) (facts.newest eui) (subst (λ (d : DevEui). is_live h d new.o.window.session ≡ true) new.device new.fit.lives)
+      where
+        step : (b : Option ℕ) → IfSome b (λ y. (option_map (λ x. x == y) (active_session h eui) ≡ Some true) ⊎ (session_counters h eui y ≡ [])) →
+            list_any (λ n. n == new.o.window.session) (first_and_other (active_session h eui) b) ≡ true →
+            IfSome b (λ y. (option_map (λ x. x == y) (option_map (λ (o : Opening). o.window.session) (last (openings h eui ++ new.o ∷ []))) ≡ Some true)
+            ⊎ (map (λ (o : Opening). o.window.fcnt) (filter (λ (o : Opening). o.window.session == y) (openings h eui ++ new.o ∷ [])) ≡ []))
+        step None fact lives = tt
+        step (Some y) fact lives =
+            elim (bool_tells (new.o.window.session == y)) [
+              | inl is ↦ inl (ap (λ (o : Option Opening). option_map (λ x. x == y) (option_map (λ (p : Opening). p.window.session) o)) (last-push (openings h eui) new.o) ∙ ap Some is)
+              | inr differs ↦ inr (other_counters (openings h eui) new.o y differs (live_other (active_session h eui) y new.o.window.session (session_counters h eui y ≡ []) lives differs fact))
+            ]
+
+pub session_facts : (net : Network) (h : List Entry) → IsLegal net h → SessionFacts h
+session_facts net h legal =
+    legal_induction net SessionFacts (record { of_openings = λ eui. tt; of_closings = λ eui. tt; newest = λ eui. tt })
+    (λ g number c ok facts. record {
+      of_openings = λ eui.
+          All-weaker (λ (o : Opening). IsSome (session_join g eui o.window.session)) (λ (o : Opening). IsSome (session_join (with_call net g number c) eui o.window.session))
+          (λ o has. has_join-stays g (entry_for net g number c) eui o.window.session has) (openings (with_call net g number c) eui) (openings-keyed net g number c facts eui);
+      of_closings = λ eui.
+          All-weaker (λ (x : Closing). IsSome (session_join g eui x.window.session)) (λ (x : Closing). IsSome (session_join (with_call net g number c) eui x.window.session))
+          (λ x has. has_join-stays g (entry_for net g number c) eui x.window.session has) (closings (with_call net g number c) eui) (closings-keyed net g number c (sessions_have_joins net g ok) facts eui);
+      newest = λ eui. newest_step net g number c facts eui;
+    }) h legal
