@@ -30,6 +30,7 @@ use Rattle.ns_calls.proofs.Lists.{All-weaker, first-gives, first-gives_of, count
 use Rattle.ns_calls.proofs.PushLemmas.{window_copies-push}
 use Rattle.ns_calls.proofs.Induction.{legal_induction}
 use Rattle.ns_calls.proofs.UplinkLemmas.{IsNewOpening, uplink_reply_by, opening_of, opening-new, opened-cases}
+use Rattle.ns_calls.proofs.ShardLemmas.{device_fit-names}
 use Rattle.ns_calls.proofs.WindowLemmas.{fresh_is_new, openings-added, windows_open_once}
 
 -- ---- a window that was never opened has no copies
@@ -169,6 +170,33 @@ first_fit-live : (recover : Option ℕ → ℕ → Option ℕ) (net : Network) (
 first_fit-live recover net h frame =
     first-gives (λ (w : WindowName). is_live h w.eui w.session ≡ true) (λ (d : Device). device_fit recover h frame d.eui) (λ d. device_fit-live recover h frame d.eui) (devices_at net (data_fields frame).addr)
 
+-- ---- what fits is of a device with the frame's address
+
+member : (ds : List Device) → AllByRecursion (λ d. list_any (λ x. x.eui.0 == d.eui.0) ds ≡ true) ds
+member [] = tt
+member (d ∷ ds) =
+    let here : (d.eui.0 == d.eui.0) ≡ true = grind (arith, nat_tests) in (
+      ap (λ b. b || list_any (λ x. x.eui.0 == d.eui.0) ds) here,
+      All-weaker (λ (u : Device). list_any (λ x. x.eui.0 == u.eui.0) ds ≡ true) (λ (u : Device). list_any (λ x. x.eui.0 == u.eui.0) (d ∷ ds) ≡ true) (λ u later. or_later (d.eui.0 == u.eui.0) (list_any (λ x. x.eui.0 == u.eui.0) ds) later) ds (member ds),
+    )
+  where
+    or_later : (a b : Bool) → b ≡ true → (a || b) ≡ true
+    or_later true b later = refl
+    or_later false b later = later
+
+IfSome-weaker : {X : Type 0} (P Q : X → Type 0) (o : Option X) → ((x : X) → P x → Q x) → IfSome o P → IfSome o Q
+IfSome-weaker P Q None weaker holds = tt
+IfSome-weaker P Q (Some x) weaker holds = weaker x holds
+
+first_fit-device : (recover : Option ℕ → ℕ → Option ℕ) (net : Network) (h : List Entry) (frame : List ℕ) → IfSome (first_fit recover net h frame) (λ w. list_any (λ d. d.eui.0 == w.eui.0) (devices_at net (data_fields frame).addr) ≡ true)
+first_fit-device recover net h frame =
+    let devices : List Device = devices_at net (data_fields frame).addr in
+    let Known = λ (w : WindowName). list_any (λ (x : Device). x.eui.0 == w.eui.0) devices ≡ true in
+    first-gives_of Known (λ (d : Device). device_fit recover h frame d.eui) devices
+    (All-weaker (λ (d : Device). list_any (λ (x : Device). x.eui.0 == d.eui.0) devices ≡ true) (λ (d : Device). IfSome (device_fit recover h frame d.eui) Known)
+    (λ d is. IfSome-weaker (λ (w : WindowName). w.eui ≡ d.eui) Known (device_fit recover h frame d.eui) (λ w names. subst (λ (e : DevEui). list_any (λ (x : Device). x.eui.0 == e.0) devices ≡ true) (sym names) is) (device_fit-names recover h frame d.eui))
+    devices (member devices))
+
 -- ---- the window of an opening
 
 at_some : {X : Type 0} (P : X → Type 0) (o : Option X) (x : X) → o ≡ Some x → IfSome o P → P x
@@ -185,7 +213,7 @@ none_found h w once none = step (open_window h w) refl
         let sum = once.closes w in
         absurd (omega (arith, least, sum, none))
 
-pub opened-new : (net : Network) (h : List Entry) → IsLegal net h → (frame : List ℕ) (heard : Heard) (w : WindowName) → reply_to net h (call.Uplink frame heard) ≡ reply.Opened w → IsNewWindow h frame w
+pub opened-new : (net : Network) (h : List Entry) → IsLegal net h → (frame : List ℕ) (heard : Heard) (w : WindowName) → reply_to net h (call.Uplink frame heard) ≡ reply.Opened w → IsNewWindow net h frame w
 unfolding NoCopiesBefore
 opened-new net h legal frame heard w is =
     let o : Opening = opening_of w frame heard in
@@ -199,7 +227,10 @@ opened-new net h legal frame heard w is =
           (let same : opening_of found.0 frame heard ≡ o = same_Some _ o (sym found.3 ∙ says) in
           let window : found.0 ≡ w = ap (λ (x : Opening). x.window) same in
           let lives = at_some (λ (v : WindowName). is_live h v.eui v.session ≡ true) (first_fit above net h frame) found.0 found.2 (first_fit-live above net h frame) in
+          let known = at_some (λ (v : WindowName). list_any (λ d. d.eui.0 == v.eui.0) (devices_at net (data_fields frame).addr) ≡ true) (first_fit above net h frame) found.0 found.2 (first_fit-device above net h frame) in
           record {
+            device = subst (λ (v : WindowName). list_any (λ d. d.eui.0 == v.eui.0) (devices_at net (data_fields frame).addr) ≡ true) window known;
+            mic = new.fresh.mic;
             session = subst (λ (v : WindowName). is_live h v.eui v.session ≡ true) window lives;
             counter = new.fresh.counter;
             name = none_found h w once never;

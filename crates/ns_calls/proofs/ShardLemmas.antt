@@ -218,6 +218,9 @@ IfSome-weaker : {X : Type 0} (P Q : X → Type 0) (o : Option X) → ((x : X) �
 IfSome-weaker P Q None weaker holds = tt
 IfSome-weaker P Q (Some x) weaker holds = weaker x holds
 
+pub device_fit-names : (recover : Option ℕ → ℕ → Option ℕ) (h : List Entry) (frame : List ℕ) (eui : DevEui) → IfSome (device_fit recover h frame eui) (λ w. w.eui ≡ eui)
+device_fit-names recover h frame eui = first-gives (λ (w : WindowName). w.eui ≡ eui) (session_fit recover h frame eui) (session_fit-names recover h frame eui) (live h eui)
+
 pub first_fit-names : (recover : Option ℕ → ℕ → Option ℕ) (net : Network) → AllByRecursion (InShard net) net.devices → (h : List Entry) (frame : List ℕ) →
     IfSome (first_fit recover net h frame) (λ w. shard_of w.eui ≡ shard_of_addr (record { 0 = (data_fields frame).addr }))
 first_fit-names recover net own h frame =

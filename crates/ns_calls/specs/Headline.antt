@@ -1,11 +1,12 @@
 -- What is promised of the history of a run, in its own words.
-use Rattle.std.specs.Prelude.{◌≡◌, ℕ, ◌+◌, ◌<◌, ◌≤◌, Bool, true, false, List, [], ◌∷◌, length, map, filter_map, count_by, Option, None, Some, IsSome, is_some}
-use Rattle.std.specs.List.{AllByRecursion}
+use Rattle.std.specs.Prelude.{◌≡◌, ◌==◌, ℕ, ◌+◌, ◌<◌, ◌≤◌, Bool, true, false, List, [], ◌∷◌, length, map, filter_map, count_by, Option, None, Some, IsSome, is_some}
+use Rattle.std.specs.List.{AllByRecursion, list_any}
 use Rattle.ns_types.specs.declared.identity.DevEui.{DevEui}
 use Rattle.ns_types.specs.declared.identity.WindowName.{WindowName}
 use Rattle.ns_types.specs.declared.ticket.Ticket.{Ticket}
 use Rattle.ns_types.specs.Identity.{same_window}
 use Rattle.ns_types.specs.Ticket.{dev_eui, join_eui, nonce}
+use Rattle.ns_views.specs.Frame.{data_fields}
 use Rattle.ns_secure.specs.Counter.{Exceeds}
 use Rattle.ns_roster.specs.Network.{Network, is_known}
 use Rattle.ns_calls.specs.declared.call.Call.{Call}
@@ -13,7 +14,7 @@ use Rattle.ns_calls.specs.declared.call.Reply.{Reply}
 use Rattle.ns_calls.specs.declared.call.Reply.TheVariants.{Accepted, Closed}
 use Rattle.ns_calls.specs.declared.call.Entry.{Entry}
 use Rattle.ns_calls.specs.History.{acceptances, next_session, greatest_nonce, session_counters, opening_in, closing_in, open_windows, open_window, open_tickets, session_join, live, is_live, greatest_counter, window_count, ticket_count, window_copies, ticket_copies}
-use Rattle.ns_calls.specs.Reply.{window_with, most_windows, most_tickets, most_copies}
+use Rattle.ns_calls.specs.Reply.{devices_at, fits, window_with, most_windows, most_tickets, most_copies}
 use Rattle.ns_calls.specs.Out.{answer}
 
 -- each number is greater than all before it
@@ -54,9 +55,12 @@ pub record SessionsAreBounded (net : Network) (h : List Entry) : Type 0 where
   pub next : (eui : DevEui) → next_session h eui ≤ nonces_up_to (greatest_nonce net h eui) + 1
   pub each : (eui : DevEui) → AllByRecursion (λ a. a.session ≤ (nonce a.ticket).0 + 1) (acceptances h eui)
 
--- what holds of a window that is opened by a frame: its session lives and its counter is new there, no window of its name is open or
--- has copies yet, and no open window has this frame
-pub record IsNewWindow (h : List Entry) (frame : List ℕ) (w : WindowName) : Type 0 where
+-- What holds of a window that is opened by a frame: its device has the frame's address, the MIC fits under its session's key at its
+-- counter, its session lives and its counter is new there, no window of its name is open or has copies yet, and no open window has
+-- this frame.
+pub record IsNewWindow (net : Network) (h : List Entry) (frame : List ℕ) (w : WindowName) : Type 0 where
+  pub device : list_any (λ d. d.eui.0 == w.eui.0) (devices_at net (data_fields frame).addr) ≡ true
+  pub mic : fits h frame w ≡ true
   pub session : is_live h w.eui w.session ≡ true
   pub counter : Exceeds (greatest_counter h w.eui w.session) w.fcnt
   pub name : open_window h w ≡ None

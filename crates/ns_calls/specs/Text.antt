@@ -12,8 +12,8 @@ use Rattle.ns_calls.specs.declared.call.Reply.{Reply}
 use Rattle.ns_calls.specs.declared.call.Reply.TheVariants.{Opened, Copied, Crowded, Old, NoSession, Busy, Ask, JoinCopied, JoinCrowded, NonceOld, NoDevice, JoinBusy, Accepted, JoinRefused, JoinStale, NoTicket, Closed, NoWindow}
 
 -- an identity in lower-case hex of full width, the highest byte first
-unfoldable pub id_hex : ℕ → List ℕ
-id_hex n = encode_lower (to_be_bytes w64 n)
+unfoldable pub wide : ℕ → List ℕ
+wide n = encode_lower (to_be_bytes w64 n)
 
 -- an address, in the same way
 unfoldable pub address_text : ℕ → List ℕ
@@ -25,7 +25,7 @@ number_text n = codes " " ++ decimal n
 
 -- a space and an identity
 abbrev pub id_text : ℕ → List ℕ
-id_text n = codes " " ++ id_hex n
+id_text n = codes " " ++ wide n
 
 -- the name of a window
 unfoldable pub window_text : WindowName → List ℕ
@@ -65,7 +65,7 @@ bytes_text (b ∷ bs) = codes " " ++ encode_lower (b ∷ bs)
 -- the gateways of copies, parted by commas
 unfoldable pub gateways_text : List Heard → List ℕ
 gateways_text [] = []
-gateways_text (h ∷ hs) = id_hex h.gateway.0 ++ flat_map (λ c. codes "," ++ id_hex c.gateway.0) hs
+gateways_text (h ∷ hs) = wide h.gateway.0 ++ flat_map (λ c. codes "," ++ wide c.gateway.0) hs
 
 -- the line of an uplink: window, port, whether the payload is as received, options, payload, copies, and the gateways of those
 unfoldable pub up_text : Uplink → List ℕ

@@ -2,7 +2,7 @@
 ghost use Rattle.std.specs.Prelude.{◌≡◌, ◌+◌, ◌*◌, ◌≤◌, ◌++◌, ◌∷◌, [], length, map, decimal, codes, flat_map};
 ghost use Rattle.arrayvec.specs.ArrayString.{array_string_len};
 ghost use Rattle.hex.specs.Hex.{encode_lower};
-ghost use Rattle.ns_calls.specs.Text.{text, reply_text, up_text, down_text, window_text, optional_text, bytes_text, gateways_text, number_text, id_text, address_text, id_hex};
+ghost use Rattle.ns_calls.specs.Text.{text, reply_text, up_text, down_text, window_text, optional_text, bytes_text, gateways_text, number_text, id_text, address_text, wide};
 
 use crate::answer::{Answer, Downlink, Uplink};
 use crate::call::Reply;
@@ -22,7 +22,7 @@ fn put_number(line: &mut Line, n: u64)
 }
 
 // A space and an identity.
-#[tactic(auto, unfolding(crate::specs::Text::id_hex))]
+#[tactic(auto, unfolding(crate::specs::Text::wide))]
 fn put_id(line: &mut Line, n: u64)
     requires { array_string_len line.old + 17 ≤ 1024 }
     ensures bytes { line.new.bytes ≡ line.old.bytes ++ id_text n }
@@ -144,7 +144,7 @@ fn reply_line(reply: &Reply) -> Line
 fn put_more_gateways(line: &mut Line, copies: &[Heard])
     requires { array_string_len line.old + 17 * length copies.now ≤ 1024 }
     ensures bytes { line.new.bytes
-        ≡ line.old.bytes ++ flat_map (λ c. codes "," ++ id_hex c.gateway.0) copies.now }
+        ≡ line.old.bytes ++ flat_map (λ c. codes "," ++ wide c.gateway.0) copies.now }
     ensures len { array_string_len line.new ≡ array_string_len line.old + 17 * length copies.now }
 {
     for copy in copies {
@@ -153,10 +153,10 @@ fn put_more_gateways(line: &mut Line, copies: &[Heard])
 }
 
 // A comma and the gateway of a copy.
-#[tactic(auto, unfolding(crate::specs::Text::id_hex))]
+#[tactic(auto, unfolding(crate::specs::Text::wide))]
 fn put_comma(line: &mut Line, copy: &Heard)
     requires { array_string_len line.old + 17 ≤ 1024 }
-    ensures bytes { line.new.bytes ≡ line.old.bytes ++ (codes "," ++ id_hex copy.now.gateway.0) }
+    ensures bytes { line.new.bytes ≡ line.old.bytes ++ (codes "," ++ wide copy.now.gateway.0) }
     ensures len { array_string_len line.new ≡ array_string_len line.old + 17 }
 {
     line.push_str(",");
@@ -164,7 +164,7 @@ fn put_comma(line: &mut Line, copy: &Heard)
 }
 
 // The gateways of copies.
-#[tactic(auto, unfolding(crate::specs::Text::gateways_text, crate::specs::Text::id_hex))]
+#[tactic(auto, unfolding(crate::specs::Text::gateways_text, crate::specs::Text::wide))]
 fn put_gateways(line: &mut Line, copies: &[Heard])
     requires { array_string_len line.old + 17 * length copies.now ≤ 1024 }
     ensures bytes { line.new.bytes ≡ line.old.bytes ++ gateways_text copies.now }

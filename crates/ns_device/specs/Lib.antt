@@ -1,4 +1,7 @@
 pub mod Device
 pub mod Accept
+pub mod Request
+pub mod Reply
+pub mod Server
 pub mod Faults
 pub mod Laws

@@ -1,23 +1,37 @@
-//! A device for tests: it asks to join, takes a Join-Accept, and sends uplinks (LoRaWAN L2 1.0.4, 4 and 6.2).
+//! A device and a join server for tests (LoRaWAN L2 1.0.4, 4 and 6.2; TS002).
 //!
-//! Each frame is the creators' of `ns_creator`. `accept` answers E1, E2 and E3 in this order and exactly where they hold,
-//! and leaves the device as it was; `created_accepts_are_taken` says that a device takes each Join-Accept that
-//! `JoinAcceptCreator` makes under its AppKey, and then has exactly the session keys of the fields. `write_uplink` is
-//! `uplink` without the loan, and says what it leaves in the buffer. Nothing here takes memory.
+//! `TestDevice` asks to join, takes a Join-Accept, and sends uplinks. Each frame is the creators' of `ns_creator`. `accept`
+//! answers E1, E2 and E3 in this order and exactly where they hold, and leaves the device as it was;
+//! `created_accepts_are_taken` says that a device takes each Join-Accept that `JoinAcceptCreator` makes under its AppKey, and
+//! then has exactly the session keys of the fields. `write_uplink` is `uplink` without the loan, and says what it leaves in
+//! the buffer. Nothing of it takes memory.
+//!
+//! `TestJoinServer` answers a JoinReq's text with the text of a JoinAns: a Join-Accept of the request's fields and the session
+//! keys, `MICFailed`, or `Other`. `reply` refuses B1 exactly where the text is no JoinReq, and a refusal leaves the server as
+//! it was.
 //!
 //! Stands on `ns_types` for identities and keys, on `ns_aes_cmac` for the law of AES-128, on `ns_secure` for MICs, ciphers
-//! and session keys, and on `ns_creator` for the frames.
+//! and session keys, on `ns_creator` for the frames, on `ns_roster` and `ns_joinwire` for the fields of JSON, and on
+//! `serde_json`, `hex` and `thiserror` of the kit.
 #![tactic(auto)]
 
+mod answer;
 mod device;
 mod fault;
+mod join_fault;
+mod join_server;
 mod laws;
+mod request;
 mod session;
 
 pub use device::TestDevice;
 pub use fault::DeviceFault;
+pub use join_fault::ReplyFault;
+pub use join_server::TestJoinServer;
 pub use laws::created_accepts_are_taken;
 pub use session::Session;
 
+#[cfg(test)]
+mod server_tests;
 #[cfg(test)]
 mod tests;

@@ -3,3 +3,11 @@ pub mod Counters
 pub mod Sessions
 pub mod SessionSteps
 pub mod Facts
+pub mod Records
+pub mod OpenTickets
+pub mod Uplinks
+pub mod Apart
+pub mod JoinSteps
+pub mod Joins
+pub mod JoinAnswers
+pub mod RunLemmas

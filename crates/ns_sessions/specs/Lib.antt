@@ -1,2 +1,4 @@
 pub mod Record
 pub mod State
+pub mod Laws
+pub mod Runs

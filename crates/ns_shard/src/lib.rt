@@ -1,6 +1,18 @@
-//! The steps of a run.
+//! One shard of the server: the calls of its devices, in order, each with its answer.
+//!
+//! A shard keeps the state of its devices, its open windows and its entries. It promises that each answer is the plain server's, over
+//! the entries made before, that a call adds exactly its own entry, and that where memory is refused nothing has changed. It answers
+//! from its records, and never searches its entries. It stands on `ns_sessions`, `ns_windows` and `ns_journal`, on `ns_creator`
+//! for acknowledgements, and on the definitions of `ns_calls`; it looks into no frame.
 #![tactic(auto)]
 
+mod closing;
+mod devices;
+mod joining;
+mod parts;
+mod shard;
 mod step;
+mod taking;
 
+pub use shard::Shard;
 pub use step::{Act, OwnedBytes, Step};

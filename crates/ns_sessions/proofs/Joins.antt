@@ -1,0 +1,131 @@
+-- Join-Requests and answers of join servers agree with the history.
+use Rattle.std.proofs.Common.{◌≡◌, ◌⊎◌, ℕ, ◌+◌, ◌<◌, ◌≤◌, ◌==◌, Bool, true, false, not, ◌||◌, cond, List, [], ◌∷◌, ◌++◌, filter, filter_map, map, find, length, count_by, nat_le, max, unwrap_or, Option, None, Some, IfSome, option_map, option_to_list, refl, sym, ap, subst, ◌∙◌, arith, inl, inr}
+use Rattle.std.specs.Prelude.{IsSome, is_some}
+use Rattle.std.specs.List.{AllByRecursion, list_any, cons_option}
+use Rattle.std.specs.Option.{option_and_then, option_or}
+use Rattle.std.proofs.lemmas.List.{append-nil, map-append, length-map}
+use Rattle.std.proofs.lemmas.List.Sums.{length-filter}
+use Rattle.std.proofs.lemmas.Option.{none-some, same_Some}
+use Rattle.std.proofs.lemmas.Bool.{false≢true}
+use Rattle.std.proofs.lemmas.Bool.Decides.{nat_tests}
+use Rattle.ns_types.specs.declared.identity.DevEui.{DevEui}
+use Rattle.ns_types.specs.declared.heard.Heard.{Heard}
+use Rattle.ns_types.specs.declared.ticket.Ticket.{Ticket}
+use Rattle.ns_types.specs.Cases.{first_case, when}
+use Rattle.ns_types.specs.Heard.{best}
+use Rattle.ns_types.specs.Ticket.{dev_eui, join_eui, nonce}
+use Rattle.ns_secure.specs.Counter.{Exceeds}
+use Rattle.ns_roster.specs.Network.{Network, is_known}
+use Rattle.ns_calls.specs.declared.call.JoinAns.{JoinAns}
+use Rattle.ns_calls.specs.declared.call.Outcome.{Outcome}
+use Rattle.ns_calls.specs.declared.call.Outcome.TheVariants as outcome
+use Rattle.ns_calls.specs.declared.call.Call.{Call}
+use Rattle.ns_calls.specs.declared.call.Call.TheVariants as call
+use Rattle.ns_calls.specs.declared.call.Reply.{Reply}
+use Rattle.ns_calls.specs.declared.call.Reply.TheVariants as reply
+use Rattle.ns_calls.specs.declared.call.Entry.{Entry}
+use Rattle.ns_calls.specs.History.{asks_for, open_tickets, is_ticket_open, ticket_count, ticket_copies, greatest_nonce, next_session, acceptances, openings, closings, same_device}
+use Rattle.ns_calls.specs.Reply.{spent_by, is_failed, join_copy_reply, most_copies, most_tickets, address, reply_to_join, reply_to_join_reply}
+use Rattle.ns_calls.specs.Legal.{IsLegal, entry_for, with_call}
+use Rattle.ns_calls.proofs.LocalLemmas.{bool_tells}
+use Rattle.ns_calls.proofs.PushLemmas.{acceptances-push, openings-push, closings-push}
+use Rattle.ns_sessions.specs.declared.session.Session.{Session}
+use Rattle.ns_sessions.specs.declared.ticket.OpenTicket.{OpenTicket}
+use Rattle.ns_sessions.specs.declared.take.JoinTake.{JoinTake}
+use Rattle.ns_sessions.specs.declared.take.JoinTake.TheVariants as join
+use Rattle.ns_sessions.specs.declared.take.ReplyTake.{ReplyTake}
+use Rattle.ns_sessions.specs.declared.take.ReplyTake.TheVariants as answer
+use Rattle.ns_sessions.specs.Record.{DeviceRecord, device_record, ticket_record, tickets_of, ticket_in, spent_in, best_in, copy_take, join_take, with_join, reply_take, with_reply, without, one_copy, copied, ticket_among}
+use Rattle.ns_sessions.specs.Laws.{entry_of, concerns, join_reply, JoinsAgree, answer_reply, AnswersAgree}
+use Rattle.ns_sessions.proofs.Sessions.{sessions_by}
+use Rattle.ns_sessions.proofs.Records.{tickets_said, record_by, record_said}
+use Rattle.ns_sessions.proofs.OpenTickets.{open_asked, at_member, asked_copies}
+use Rattle.ns_sessions.proofs.JoinSteps.{tickets_asked, tickets_copied, tickets_ended, among_said, without_absent}
+use Rattle.ns_sessions.proofs.Uplinks.{record_stays}
+
+-- the record, by what the history says
+abbrev pub said_of : List Entry → DevEui → DeviceRecord
+said_of h eui = record_by (acceptances h eui) (sessions_by (acceptances h eui) (openings h eui) (closings h eui)) (tickets_said h eui)
+
+pub ticket_said : (h : List Entry) (t : Ticket) → ticket_in (said_of h (dev_eui t)) t ≡ cond (is_ticket_open h t) (Some (ticket_record h t)) None
+ticket_said h t = among_said h t (open_tickets h)
+
+-- ---- Join-Requests
+
+-- the take, by what is asked of the state
+abbrev join_take_by : Option ℕ → Option OpenTicket → Bool → JoinTake
+join_take_by spent found busy = first_case (option_map (λ g. join.Old (record { 0 = g })) spent ∷ option_map copy_take found ∷ when busy join.Busy ∷ []) join.Asked
+
+join_cases : (t : Ticket) (spent : Option ℕ) (is_open : Bool) (o : OpenTicket) (busy : Bool) →
+    join_reply t (join_take_by spent (cond is_open (Some o) None) busy)
+    ≡ first_case (when (not true) reply.NoDevice ∷ option_map (λ g. reply.NonceOld (record { 0 = g })) spent ∷ when is_open (let place = length o.copies + 1 in cond (nat_le place most_copies) (reply.JoinCopied place) reply.JoinCrowded)
+    ∷ when busy reply.JoinBusy ∷ []) (reply.Ask t)
+join_cases t (Some g) is_open o busy = refl
+join_cases t None true o busy = step (nat_le (length o.copies + 1) most_copies)
+  where
+    step : (b : Bool) → join_reply t (cond b (join.Copied (length o.copies + 1)) join.Crowded) ≡ cond b (reply.JoinCopied (length o.copies + 1)) reply.JoinCrowded
+    step true = refl
+    step false = refl
+join_cases t None false o true = refl
+join_cases t None false o false = refl
+
+count_said : (h : List Entry) (eui : DevEui) → length (tickets_said h eui) ≡ ticket_count h eui
+count_said h eui = length-map (tickets_of h eui) (ticket_record h) ∙ length-filter (λ u. same_device (dev_eui u) eui) (open_tickets h)
+
+take_said : (net : Network) (h : List Entry) (t : Ticket) →
+    join_take (device_record net h (dev_eui t)) t ≡ join_take_by (spent_by net h t) (cond (is_ticket_open h t) (Some (ticket_record h t)) None) (nat_le most_tickets (ticket_count h (dev_eui t)))
+take_said net h t =
+    ap (λ r. join_take r t) (record_said net h (dev_eui t))
+    ∙ (ap (λ o. join_take_by (spent_by net h t) o (nat_le most_tickets (length (tickets_said h (dev_eui t))))) (ticket_said h t)
+    ∙ ap (λ n. join_take_by (spent_by net h t) (cond (is_ticket_open h t) (Some (ticket_record h t)) None) (nat_le most_tickets n)) (count_said h (dev_eui t)))
+
+join_replies : (net : Network) (h : List Entry) (t : Ticket) → is_known net (dev_eui t) (join_eui t) ≡ true → join_reply t (join_take (device_record net h (dev_eui t)) t) ≡ reply_to_join net h t
+join_replies net h t known =
+    ap (join_reply t) (take_said net h t)
+    ∙ (join_cases t (spent_by net h t) (is_ticket_open h t) (ticket_record h t) (nat_le most_tickets (ticket_count h (dev_eui t)))
+    ∙ sym (ap (λ b. first_case (when (not b) reply.NoDevice ∷ option_map (λ g. reply.NonceOld (record { 0 = g })) (spent_by net h t) ∷ when (is_ticket_open h t) (join_copy_reply h t)
+    ∷ when (nat_le most_tickets (ticket_count h (dev_eui t))) reply.JoinBusy ∷ []) (reply.Ask t)) known))
+
+-- what is asked for was not open
+asked_closed : (spent : Option ℕ) (is_open : Bool) (o : OpenTicket) (busy : Bool) → join_take_by spent (cond is_open (Some o) None) busy ≡ join.Asked → is_open ≡ false
+asked_closed (Some g) is_open o busy is = absurd (cc is)
+asked_closed None true o busy is = absurd (step (nat_le (length o.copies + 1) most_copies) is)
+  where
+    step : (b : Bool) → cond b (join.Copied (length o.copies + 1)) join.Crowded ≡ join.Asked → ⊥
+    step true eq = cc eq
+    step false eq = cc eq
+asked_closed None false o busy is = refl
+
+-- the sessions stay
+join_keeps : (net : Network) (h : List Entry) (number : ℕ) (t : Ticket) (heard : Heard) (r : Reply) → let e : Entry = entry_of number (call.Join t heard) r in
+    device_record net (h ++ e ∷ []) (dev_eui t) ≡ record_by (acceptances h (dev_eui t)) (sessions_by (acceptances h (dev_eui t)) (openings h (dev_eui t)) (closings h (dev_eui t))) (tickets_said (h ++ e ∷ []) (dev_eui t))
+join_keeps net h number t heard r =
+    let e : Entry = entry_of number (call.Join t heard) r in
+    let eui : DevEui = dev_eui t in
+    let joins : acceptances (h ++ e ∷ []) eui ≡ acceptances h eui = acceptances-push h e eui ∙ append-nil (acceptances h eui) in
+    let os : openings (h ++ e ∷ []) eui ≡ openings h eui = openings-push h e eui ∙ append-nil (openings h eui) in
+    let cs : closings (h ++ e ∷ []) eui ≡ closings h eui = closings-push h e eui ∙ append-nil (closings h eui) in
+    record_said net (h ++ e ∷ []) eui ∙ (λ i. record_by (joins i) (sessions_by (joins i) (os i) (cs i)) (tickets_said (h ++ e ∷ []) eui))
+
+after_take : (net : Network) (h : List Entry) → IsLegal net h → (number : ℕ) (t : Ticket) (heard : Heard) (take : JoinTake) → (take ≡ join.Asked → is_ticket_open h t ≡ false) →
+    with_join take t heard (device_record net h (dev_eui t)) ≡ device_record net (h ++ entry_of number (call.Join t heard) (join_reply t take) ∷ []) (dev_eui t)
+after_take net h legal number t heard join.Asked closed =
+    let r = said_of h (dev_eui t) in
+    ap (with_join join.Asked t heard) (record_said net h (dev_eui t))
+    ∙ sym (join_keeps net h number t heard (reply.Ask t) ∙ ap (λ ts. record r { tickets = ts }) (tickets_asked h number t heard (closed refl)))
+after_take net h legal number t heard (join.Copied place) closed =
+    let r = said_of h (dev_eui t) in
+    ap (with_join (join.Copied place) t heard) (record_said net h (dev_eui t))
+    ∙ sym (join_keeps net h number t heard (reply.JoinCopied place) ∙ ap (λ ts. record r { tickets = ts }) (tickets_copied net h legal number place t heard))
+after_take net h legal number t heard join.Crowded closed = sym (record_stays net h (entry_of number (call.Join t heard) reply.JoinCrowded) (dev_eui t) refl)
+after_take net h legal number t heard (join.Old greatest) closed = sym (record_stays net h (entry_of number (call.Join t heard) (reply.NonceOld greatest)) (dev_eui t) refl)
+after_take net h legal number t heard join.Busy closed = sym (record_stays net h (entry_of number (call.Join t heard) reply.JoinBusy) (dev_eui t) refl)
+
+pub joins_agree : (net : Network) (h : List Entry) → JoinsAgree net h
+joins_agree net h = record {
+  replies = λ t known. join_replies net h t known;
+  records = λ legal number t heard known.
+      (let take = join_take (device_record net h (dev_eui t)) t in
+      after_take net h legal number t heard take (λ is. asked_closed (spent_by net h t) (is_ticket_open h t) (ticket_record h t) (nat_le most_tickets (ticket_count h (dev_eui t))) (sym (take_said net h t) ∙ is))
+      ∙ ap (λ r. device_record net (h ++ entry_of number (call.Join t heard) r ∷ []) (dev_eui t)) (join_replies net h t known));
+}

@@ -1,0 +1,123 @@
+-- What a history says of a device, by its acceptances, openings, closings and tickets.
+use Rattle.std.proofs.Common.{◌≡◌, ◌⊎◌, ℕ, ◌+◌, ◌^◌, ◌<◌, ◌≤◌, ◌==◌, Bool, true, false, not, ◌&&◌, cond, List, [], ◌∷◌, ◌++◌, filter, filter_map, map, find, nat_lt, max, unwrap_or, Option, None, Some, IfSome, option_map, option_to_list, refl, sym, ap, subst, ◌∙◌, arith, inl, inr}
+use Rattle.std.specs.Prelude.{IsSome, is_some}
+use Rattle.std.specs.List.{AllByRecursion, cons_option, list_any}
+use Rattle.std.specs.Option.{option_and_then, option_map_or}
+use Rattle.std.proofs.lemmas.List.{append-nil}
+use Rattle.std.proofs.lemmas.Option.{none-some, same_Some}
+use Rattle.std.proofs.lemmas.Bool.{false≢true}
+use Rattle.std.proofs.lemmas.Bool.Decides.{nat_tests}
+use Rattle.ns_types.specs.declared.identity.DevEui.{DevEui}
+use Rattle.ns_types.specs.declared.identity.WindowName.{WindowName}
+use Rattle.ns_types.specs.declared.heard.Heard.{Heard}
+use Rattle.ns_types.specs.declared.ticket.Ticket.{Ticket}
+use Rattle.ns_types.specs.Cases.{when}
+use Rattle.ns_types.specs.Ticket.{dev_eui, nonce}
+use Rattle.ns_views.specs.Frame.{data_fields, is_confirmed}
+use Rattle.ns_secure.specs.Counter.{Exceeds}
+use Rattle.ns_secure.specs.Integrity.{mic_fits}
+use Rattle.ns_roster.specs.Network.{Network}
+use Rattle.ns_calls.specs.declared.call.JoinAns.{JoinAns}
+use Rattle.ns_calls.specs.declared.call.Outcome.TheVariants as outcome
+use Rattle.ns_calls.specs.declared.call.Call.{Call}
+use Rattle.ns_calls.specs.declared.call.Call.TheVariants as call
+use Rattle.ns_calls.specs.declared.call.Reply.{Reply}
+use Rattle.ns_calls.specs.declared.call.Reply.TheVariants as reply
+use Rattle.ns_calls.specs.declared.call.Entry.{Entry}
+use Rattle.ns_calls.specs.Queries.{first, last, greater, maximum}
+use Rattle.ns_calls.specs.History.{Acceptance, Opening, Closing, acceptance_in, opening_in, closing_in, acceptances, openings, closings, same_device, session_join, greatest_counter, greatest_ack, next_ack, next_ack_number, live, is_live, first_and_other}
+use Rattle.ns_calls.specs.Reply as plain
+use Rattle.ns_calls.specs.Reply.{fits, window_of, ack_number}
+use Rattle.ns_calls.specs.Legal.{IsLegal}
+use Rattle.ns_calls.specs.Headline.{SessionsHaveJoins}
+use Rattle.ns_calls.proofs.LocalLemmas.{bool_tells}
+use Rattle.ns_calls.proofs.LocalJoin.{none_single}
+use Rattle.ns_calls.proofs.QueryLemmas.{last-push}
+use Rattle.ns_calls.proofs.PushLemmas.{acceptances-push, openings-push, closings-push}
+use Rattle.ns_calls.proofs.KeyLemmas.{sessions_have_joins}
+use Rattle.ns_sessions.specs.declared.session.Session.{Session}
+use Rattle.ns_sessions.specs.declared.ticket.OpenTicket.{OpenTicket}
+use Rattle.ns_sessions.specs.Record.{DeviceRecord, device_record, ticket_record, tickets_of, session_in, session_fit, device_fit, IsNewCounter, with_uplink, opened, session_ack, used_ack, ack_in, with_ack, acknowledged}
+use Rattle.ns_sessions.specs.Laws.{entry_of, concerns}
+use Rattle.ns_sessions.proofs.Sessions.{join_by, counter_by, greatest_ack_by, next_ack_by, session_of, session_by, active_by, newest_by, sessions_by, counter-push, ack-push, session_by-numbered, live-apart, same_on, found_by_number, Numbered}
+use Rattle.ns_sessions.proofs.SessionSteps.{with_counter, from, opened_from, live_opened, acknowledged_in}
+
+abbrev pub tickets_said : List Entry → DevEui → List OpenTicket
+tickets_said h eui = map (ticket_record h) (tickets_of h eui)
+
+abbrev pub record_by : List Acceptance → List Session → List OpenTicket → DeviceRecord
+record_by joins sessions tickets = record {
+  greatest_nonce = maximum (map (λ (a : Acceptance). (nonce a.ticket).0) joins);
+  next_session = unwrap_or (maximum (map (λ (a : Acceptance). a.session) joins)) 0 + 1;
+  sessions = sessions;
+  tickets = tickets;
+}
+
+pub record_said : (net : Network) (h : List Entry) (eui : DevEui) → device_record net h eui ≡ record_by (acceptances h eui) (sessions_by (acceptances h eui) (openings h eui) (closings h eui)) (tickets_said h eui)
+unfolding device_record
+record_said net h eui = refl
+
+pub sessions_said : (net : Network) (h : List Entry) (eui : DevEui) → (device_record net h eui).sessions ≡ sessions_by (acceptances h eui) (openings h eui) (closings h eui)
+unfolding device_record
+sessions_said net h eui = refl
+
+-- ---- what an entry adds to the acceptances, openings and closings of a device
+
+-- nothing is added where nothing of the device is said
+pub none_added : {X : Type 0} (own : X → Bool) (xs : List X) (o : Option X) → IfSome o (λ x. own x ≡ false) → xs ++ filter own (option_to_list o) ≡ xs
+none_added own xs None others = append-nil xs
+none_added own xs (Some x) others = ap (λ ys. xs ++ ys) (none_single own x others) ∙ append-nil xs
+
+pub one_added : {X : Type 0} (own : X → Bool) (xs : List X) (x : X) → own x ≡ true → xs ++ filter own (x ∷ []) ≡ xs ++ x ∷ []
+one_added {X} own xs x mine = ap (λ b. xs ++ cond {A = List X} b (x ∷ []) []) mine
+
+acceptance-other : (eui : DevEui) (c : Call) (r : Reply) → concerns eui c r ≡ false → IfSome (acceptance_in c r) (λ a. same_device a.eui eui ≡ false)
+acceptance-other eui (call.JoinReply t (outcome.Success join)) (reply.Accepted device session addr) other = other
+acceptance-other eui _ _ other = tt
+
+opening-other : (eui : DevEui) (c : Call) (r : Reply) → concerns eui c r ≡ false → IfSome (opening_in c r) (λ o. same_device o.window.eui eui ≡ false)
+opening-other eui (call.Uplink frame heard) (reply.Opened w) other = other
+opening-other eui _ _ other = tt
+
+greater-none : (a : Option ℕ) → greater a None ≡ a
+greater-none None = refl
+greater-none (Some a) = refl
+
+-- a closing of another device, or with no number, leaves the greatest number
+acks_stay : (eui : DevEui) (c : Call) (r : Reply) (cs : List Closing) (n : ℕ) → concerns eui c r ≡ false → greatest_ack_by (cs ++ filter (λ x. same_device x.window.eui eui) (option_to_list (closing_in c r))) n ≡ greatest_ack_by cs n
+acks_stay eui (call.Close w) (reply.Closed closed (Some ack)) cs n other =
+    ap (λ ys. greatest_ack_by ys n) (none_added (λ (x : Closing). same_device x.window.eui eui) cs (Some (record { window = w; ack = Some ack })) other)
+acks_stay eui (call.Close w) (reply.Closed closed None) cs n other = mine (same_device w.eui eui)
+  where
+    one : Closing
+    one = record { window = w; ack = None }
+
+    in_session : (b : Bool) → cond b (greater (greatest_ack_by cs n) None) (greatest_ack_by cs n) ≡ greatest_ack_by cs n
+    in_session true = greater-none (greatest_ack_by cs n)
+    in_session false = refl
+
+    mine : (b : Bool) → greatest_ack_by (cs ++ cond {A = List Closing} b (record { window = w; ack = None } ∷ []) []) n ≡ greatest_ack_by cs n
+    mine true = ack-push cs (record { window = w; ack = None }) n ∙ in_session (w.session == n)
+    mine false = ap (λ ys. greatest_ack_by ys n) (append-nil cs)
+acks_stay eui _ _ cs n other = ap (λ ys. greatest_ack_by ys n) (append-nil cs)
+
+-- sessions whose greatest numbers are the same
+same_acks : (joins : List Acceptance) (os : List Opening) (cs ds : List Closing) → ((n : ℕ) → greatest_ack_by cs n ≡ greatest_ack_by ds n) → (xs : List ℕ) →
+    AllByRecursion (λ n. session_by joins os cs n ≡ session_by joins os ds n) xs
+same_acks joins os cs ds same [] = tt
+same_acks joins os cs ds same (x ∷ xs) =
+    (ap (λ greatest. option_map (session_of x (counter_by os x) (next_ack_by greatest)) (join_by joins x)) (same x), same_acks joins os cs ds same xs)
+
+pub sessions_stay : (h : List Entry) (e : Entry) (eui : DevEui) → concerns eui e.call e.reply ≡ false →
+    sessions_by (acceptances (h ++ e ∷ []) eui) (openings (h ++ e ∷ []) eui) (closings (h ++ e ∷ []) eui) ≡ sessions_by (acceptances h eui) (openings h eui) (closings h eui)
+sessions_stay h e eui other =
+    let joins : acceptances (h ++ e ∷ []) eui ≡ acceptances h eui = acceptances-push h e eui ∙ none_added (λ (a : Acceptance). same_device a.eui eui) (acceptances h eui) (acceptance_in e.call e.reply) (acceptance-other eui e.call e.reply other) in
+    let os : openings (h ++ e ∷ []) eui ≡ openings h eui = openings-push h e eui ∙ none_added (λ (o : Opening). same_device o.window.eui eui) (openings h eui) (opening_in e.call e.reply) (opening-other eui e.call e.reply other) in
+    let cs : (n : ℕ) → greatest_ack_by (closings (h ++ e ∷ []) eui) n ≡ greatest_ack_by (closings h eui) n = λ n. ap (λ ys. greatest_ack_by ys n) (closings-push h e eui) ∙ acks_stay eui e.call e.reply (closings h eui) n other in
+    ap (λ ys. sessions_by ys (openings (h ++ e ∷ []) eui) (closings (h ++ e ∷ []) eui)) joins
+    ∙ (ap (λ ys. sessions_by (acceptances h eui) ys (closings (h ++ e ∷ []) eui)) os
+    ∙ same_on _ _ (first_and_other (active_by (openings h eui)) (newest_by (acceptances h eui)))
+    (same_acks (acceptances h eui) (openings h eui) (closings (h ++ e ∷ []) eui) (closings h eui) cs _))
+
+pub acceptances_stay : (h : List Entry) (e : Entry) (eui : DevEui) → concerns eui e.call e.reply ≡ false → acceptances (h ++ e ∷ []) eui ≡ acceptances h eui
+acceptances_stay h e eui other = acceptances-push h e eui ∙ none_added (λ (a : Acceptance). same_device a.eui eui) (acceptances h eui) (acceptance_in e.call e.reply) (acceptance-other eui e.call e.reply other)

@@ -1,0 +1,181 @@
+-- What comes of a join server's answer by the devices that agree with the entries, and that they agree after it.
+use Rattle.std.proofs.Common.{◌≡◌, ◌⊎◌, ℕ, Bool, true, false, not, cond, List, [], ◌∷◌, ◌++◌, length, filter, Option, None, Some, IfSome, option_map, option_to_list, refl, sym, ap, ap₂, subst, ◌∙◌, inl, inr}
+use Rattle.std.specs.Prelude.{IsSome}
+use Rattle.std.specs.List.{AllByRecursion, list_any}
+use Rattle.std.specs.Option.{option_map_or}
+use Rattle.std.proofs.lemmas.Bool.{false≢true}
+use Rattle.ns_types.specs.declared.identity.DevAddr.{DevAddr}
+use Rattle.ns_types.specs.declared.identity.DevEui.{DevEui}
+use Rattle.ns_types.specs.declared.identity.JoinEui.{JoinEui}
+use Rattle.ns_types.specs.declared.heard.Heard.{Heard}
+use Rattle.ns_types.specs.declared.ticket.Ticket.{Ticket}
+use Rattle.ns_types.specs.Heard.{best, rx1}
+use Rattle.ns_types.specs.Identity.{shard_of}
+use Rattle.ns_types.specs.Ticket.{dev_eui, join_eui}
+use Rattle.ns_roster.specs.declared.Device.{Device}
+use Rattle.ns_roster.specs.Network.{Network, device, is_known, device_addr, has_join_eui}
+use Rattle.ns_roster.specs.Valid.{IsRoster}
+use Rattle.ns_roster.proofs.DeviceLemmas.{is_known-by_device, found-device}
+use Rattle.ns_calls.specs.declared.call.Outcome.{Outcome}
+use Rattle.ns_calls.specs.declared.call.Outcome.TheVariants as outcome
+use Rattle.ns_calls.specs.declared.call.Call.{Call}
+use Rattle.ns_calls.specs.declared.call.Call.TheVariants as call
+use Rattle.ns_calls.specs.declared.call.Reply.{Reply}
+use Rattle.ns_calls.specs.declared.call.Reply.TheVariants as reply
+use Rattle.ns_calls.specs.declared.call.Entry.{Entry}
+use Rattle.ns_calls.specs.declared.answer.Answer.{Answer}
+use Rattle.ns_calls.specs.declared.answer.Downlink.{Downlink}
+use Rattle.ns_calls.specs.Accept.{accept_bytes}
+use Rattle.ns_calls.specs.History.{same_device, same_ticket, asking_in, ends_ticket, open_tickets, is_ticket_open, ticket_copies, next_session}
+use Rattle.ns_calls.specs.Reply.{reply_to, reply_to_join, reply_to_join_reply, address, spent_by, is_failed}
+use Rattle.ns_calls.specs.Out.{answer, uplink_out, downlink_out, downlink_to, join_accept_delay}
+use Rattle.ns_calls.specs.Legal.{IsLegal, entry_for, with_call}
+use Rattle.ns_calls.proofs.LocalLemmas.{bool_tells}
+use Rattle.ns_calls.proofs.Lists.{All-append, All-filter}
+use Rattle.ns_calls.proofs.PushLemmas.{open_tickets-push}
+use Rattle.ns_calls.proofs.LegalLemmas.{history_more}
+use Rattle.ns_calls.proofs.Induction.{legal_induction}
+use Rattle.ns_calls.proofs.JoinLemmas.{join_reply_by}
+use Rattle.ns_sessions.specs.declared.take.ReplyTake.{ReplyTake}
+use Rattle.ns_sessions.specs.declared.take.ReplyTake.TheVariants as take
+use Rattle.ns_sessions.specs.Record.{device_record, reply_take}
+use Rattle.ns_sessions.specs.Laws.{OthersStay, AnswersAgree, concerns, answer_reply}
+use Rattle.ns_sessions.proofs.OpenTickets.{at_member}
+use Rattle.ns_windows.specs.declared.window.Window.{Window}
+use Rattle.ns_shard.specs.declared.devices.Own.{Own}
+use Rattle.ns_shard.specs.Devices.{own_in, devices_in, own_of, changed, answered}
+use Rattle.ns_shard.specs.Taken.{quiet, accept_sent, taken_answer, ended_answer}
+use Rattle.ns_shard.specs.Parts.{Agrees}
+use Rattle.ns_shard.proofs.Roster.{own-found}
+use Rattle.ns_shard.proofs.DeviceSteps.{OthersSame, devices-changed}
+use Rattle.ns_shard.proofs.WindowSteps.{windows-quiet}
+use Rattle.ns_shard.proofs.PartSteps.{joined, others-stay, join-unknown, same_device-false}
+
+-- ---- the devices of open tickets are the roster's
+
+TicketsKnown : Network → List Entry → Type 0
+TicketsKnown net h = AllByRecursion (λ t. IsSome (device net (dev_eui t))) (open_tickets h)
+
+asking-is : (P : Ticket → Type 0) (t : Ticket) (heard : Heard) (r : Reply) → P t → IfSome (asking_in (call.Join t heard) r) P
+asking-is P t heard (reply.Ask asked) holds = holds
+asking-is P t heard _ holds = tt
+
+has-some : (j : JoinEui) (o : Option Device) → has_join_eui j o ≡ true → IsSome o
+has-some j None is = absurd (cc is)
+has-some j (Some d) is = refl
+
+asked-known : (net : Network) (h : List Entry) → IsRoster net → (c : Call) → IfSome (asking_in c (reply_to net h c)) (λ t. IsSome (device net (dev_eui t)))
+asked-known net h valid (call.Uplink frame heard) = tt
+asked-known net h valid (call.JoinReply t o) = tt
+asked-known net h valid (call.Close w) = tt
+asked-known net h valid (call.Join t heard) =
+    let Known : Ticket → Type 0 = λ u. IsSome (device net (dev_eui u)) in
+    elim (bool_tells (is_known net (dev_eui t) (join_eui t))) [
+      | inl known ↦ asking-is Known t heard (reply_to_join net h t) (has-some (join_eui t) (device net (dev_eui t)) (sym (is_known-by_device net valid (dev_eui t) (join_eui t)) ∙ known))
+      | inr unknown ↦ subst (λ (r : Reply). IfSome (asking_in (call.Join t heard) r) Known) (sym (join-unknown net h t unknown)) tt
+    ]
+
+tickets_step : (net : Network) → IsRoster net → (h : List Entry) (number : ℕ) (c : Call) → TicketsKnown net h → TicketsKnown net (with_call net h number c)
+unfolding TicketsKnown
+tickets_step net valid h number c known =
+    subst (AllByRecursion Known) (sym (open_tickets-push h e))
+    (All-append Known (filter stays (open_tickets h)) (option_to_list (asking_in c (reply_to net h c))) (All-filter Known stays (open_tickets h) known) (new (asking_in c (reply_to net h c)) (asked-known net h valid c)))
+  where
+    e : Entry
+    e = entry_for net h number c
+
+    Known : Ticket → Type 0
+    Known t = IsSome (device net (dev_eui t))
+
+    stays : Ticket → Bool
+    stays t = not (ends_ticket t e)
+
+    new : (o : Option Ticket) → IfSome o Known → AllByRecursion Known (option_to_list o)
+    new None is = tt
+    new (Some t) is = (is, tt)
+
+tickets_known : (net : Network) (h : List Entry) → IsRoster net → IsLegal net h → TicketsKnown net h
+unfolding TicketsKnown
+tickets_known net h valid legal = legal_induction net (TicketsKnown net) tt (λ g number c ok known. tickets_step net valid g number c known) h legal
+
+-- a ticket of an unknown device is not open
+not_open : (net : Network) (h : List Entry) (t : Ticket) → IsRoster net → IsLegal net h → device net (dev_eui t) ≡ None → is_ticket_open h t ≡ false
+unfolding TicketsKnown
+not_open net h t valid legal none =
+    elim (bool_tells (is_ticket_open h t)) [
+      | inr closed ↦ closed
+      | inl is ↦
+          (let some : IsSome (device net (dev_eui t)) = at_member (λ u. IsSome (device net (dev_eui u))) t (open_tickets h) is (tickets_known net h valid legal) in
+          absurd (cc (subst (λ (o : Option Device). IsSome o) none some)))
+    ]
+
+answer-unknown : (net : Network) (h : List Entry) (t : Ticket) (o : Outcome) → is_ticket_open h t ≡ false → reply_to_join_reply net h t o ≡ reply.NoTicket
+answer-unknown net h t o closed = ap (λ b. join_reply_by b (is_failed o) (spent_by net h t) (reply.Accepted (dev_eui t) (next_session h (dev_eui t)) (address net (dev_eui t)))) closed
+
+-- ---- the answer
+
+-- a reply to the answer to a join, and what goes out with it
+abbrev answer_with : Network → List Entry → Ticket → Outcome → Reply → Answer
+answer_with net h t o r = record { reply = r; uplink = uplink_out h (call.JoinReply t o) r; downlink = downlink_out net h (call.JoinReply t o) r }
+
+no_ticket-out : (net : Network) (h : List Entry) (t : Ticket) (o : Outcome) → quiet reply.NoTicket ≡ answer_with net h t o reply.NoTicket
+no_ticket-out net h t outcome.Failed = refl
+no_ticket-out net h t (outcome.Success join) = refl
+
+taken-out : (net : Network) (h : List Entry) (t : Ticket) (o : Outcome) (taken : ReplyTake) → ((session : ℕ) (heard : Heard) → taken ≡ take.Accepted session heard → best (ticket_copies h t) ≡ Some heard) →
+    taken_answer (address net (dev_eui t)) t o taken ≡ answer_with net h t o (answer_reply net t taken)
+taken-out net h t o take.NoTicket copies = no_ticket-out net h t o
+taken-out net h t outcome.Failed take.Refused copies = refl
+taken-out net h t (outcome.Success join) take.Refused copies = refl
+taken-out net h t outcome.Failed (take.Stale greatest) copies = refl
+taken-out net h t (outcome.Success join) (take.Stale greatest) copies = refl
+taken-out net h t outcome.Failed (take.Accepted session heard) copies = refl
+taken-out net h t (outcome.Success join) (take.Accepted session heard) copies =
+    ap (λ (o : Option Heard).
+    let a : Answer = record {
+      reply = reply.Accepted (dev_eui t) session (address net (dev_eui t));
+      uplink = None;
+      downlink = option_map (λ copy. downlink_to (accept_bytes join.accept) (rx1 copy 0 join_accept_delay)) o;
+    } in a) (sym (copies session heard refl))
+
+addr_of_own : Option Own → DevAddr
+addr_of_own o = option_map_or (λ (x : Own). x.addr) o (record { 0 = 0 })
+
+pub answer-answered : (net : Network) (index : ℕ) (h : List Entry) (devices : List Own) (windows : List Window) (t : Ticket) (o : Outcome) → Agrees net index h devices windows → AnswersAgree net h → shard_of (dev_eui t) ≡ index →
+    ended_answer (option_map_or (λ x. x.addr) (own_of (dev_eui t) devices) (record { 0 = 0 })) t o (option_map (λ x. reply_take x.state t o) (own_of (dev_eui t) devices)) ≡ answer net h (call.JoinReply t o)
+answer-answered net index h devices windows t o agrees law mine =
+    ap ended (ap (own_of (dev_eui t)) agrees.by_device ∙ own-found net index h (dev_eui t) mine) ∙ step (device net (dev_eui t)) refl
+  where
+    ended : Option Own → Answer
+    ended x = ended_answer (option_map_or (λ (y : Own). y.addr) x (record { 0 = 0 })) t o (option_map (λ (y : Own). reply_take y.state t o) x)
+
+    step : (d : Option Device) → device net (dev_eui t) ≡ d → ended (option_map (own_in net h) d) ≡ answer net h (call.JoinReply t o)
+    step None is =
+        no_ticket-out net h t o ∙ ap (answer_with net h t o) (sym (answer-unknown net h t o (not_open net h t agrees.valid agrees.history.legal is)))
+    step (Some d) is =
+        let eui : d.eui ≡ dev_eui t = (found-device net (dev_eui t) d is).1 in
+        let addr : device_addr net d ≡ address net (dev_eui t) = ap (λ (x : Option Device). Rattle.std.specs.Prelude.unwrap_or (option_map (device_addr net) x) (record { 0 = 0 })) (sym is) in
+        ap₂ (λ (a : DevAddr) (e : DevEui). taken_answer a t o (reply_take (device_record net h e) t o)) addr eui
+        ∙ (taken-out net h t o (reply_take (device_record net h (dev_eui t)) t o) (λ session heard taken. law.copies t o session heard taken)
+        ∙ ap (answer_with net h t o) (law.replies t o))
+
+-- ---- after it
+
+concerns-answer : (other : DevEui) (t : Ticket) (o : Outcome) (r : Reply) → same_device other (dev_eui t) ≡ false → concerns other (call.JoinReply t o) r ≡ false
+concerns-answer other t o (reply.Accepted eui session addr) differs = same_device-false other (dev_eui t) differs
+concerns-answer other t o reply.JoinRefused differs = same_device-false other (dev_eui t) differs
+concerns-answer other t o (reply.JoinStale greatest) differs = same_device-false other (dev_eui t) differs
+concerns-answer other t o _ differs = refl
+
+pub agrees-answer : (net : Network) (index : ℕ) (h : List Entry) (devices : List Own) (windows : List Window) (t : Ticket) (o : Outcome) → Agrees net index h devices windows → OthersStay → AnswersAgree net h → shard_of (dev_eui t) ≡ index →
+    Agrees net index (with_call net h (length h) (call.JoinReply t o)) (changed (dev_eui t) (answered t o) devices) windows
+agrees-answer net index h devices windows t o agrees stay law mine = record {
+  valid = agrees.valid;
+  history = history_more net index h (call.JoinReply t o) mine agrees.history;
+  by_device =
+      ap (changed (dev_eui t) (answered t o)) agrees.by_device
+      ∙ sym (devices-changed net index h (with_call net h (length h) (call.JoinReply t o)) (dev_eui t) (answered t o) agrees.valid
+      (others-stay net h (length h) (call.JoinReply t o) (dev_eui t) stay (λ other differs. concerns-answer other t o (reply_to_join_reply net h t o) differs))
+      (sym (law.records agrees.history.legal (length h) t o)));
+  by_window = agrees.by_window ∙ sym (windows-quiet h (entry_for net h (length h) (call.JoinReply t o)) (joined net index h devices windows agrees) refl refl refl);
+}

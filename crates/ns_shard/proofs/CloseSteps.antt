@@ -1,0 +1,309 @@
+-- What comes of a closing by the devices and windows that agree with the entries, and that they agree after it.
+use Rattle.std.proofs.Common.{◌≡◌, ◌⊎◌, ℕ, ◌+◌, ◌^◌, ◌==◌, Bool, true, false, not, cond, nat_lt, List, [], ◌∷◌, ◌++◌, length, filter, filter_map, find, map, Option, None, Some, IfSome, option_map, option_to_list, refl, sym, ap, ap₂, subst, ◌∙◌, inl, inr}
+use Rattle.std.specs.Prelude.{IsSome, Contains}
+use Rattle.std.specs.List.{AllByRecursion, cons_option}
+use Rattle.std.specs.Option.{option_and_then}
+use Rattle.std.proofs.lemmas.Bool.{false≢true}
+use Rattle.ns_types.specs.declared.identity.DevEui.{DevEui}
+use Rattle.ns_types.specs.declared.identity.WindowName.{WindowName}
+use Rattle.ns_types.specs.declared.heard.Heard.{Heard}
+use Rattle.ns_types.specs.Cases.{first_case, when}
+use Rattle.ns_types.specs.Identity.{shard_of, same_window}
+use Rattle.ns_views.specs.Frame.{data_fields, is_confirmed}
+use Rattle.ns_secure.specs.Counter.{above, below}
+use Rattle.ns_roster.specs.declared.Device.{Device}
+use Rattle.ns_roster.specs.Network.{Network, device, device_addr}
+use Rattle.ns_roster.specs.Valid.{IsRoster}
+use Rattle.ns_roster.proofs.DeviceLemmas.{device-found, found-device}
+use Rattle.ns_calls.specs.declared.call.JoinAns.{JoinAns}
+use Rattle.ns_calls.specs.declared.call.Call.{Call}
+use Rattle.ns_calls.specs.declared.call.Call.TheVariants as call
+use Rattle.ns_calls.specs.declared.call.Reply.{Reply}
+use Rattle.ns_calls.specs.declared.call.Reply.TheVariants as reply
+use Rattle.ns_calls.specs.declared.call.Entry.{Entry}
+use Rattle.ns_calls.specs.declared.answer.Answer.{Answer}
+use Rattle.ns_calls.specs.declared.answer.Uplink.{Uplink}
+use Rattle.ns_calls.specs.declared.answer.Downlink.{Downlink}
+use Rattle.ns_calls.specs.Queries.{first}
+use Rattle.ns_calls.specs.History.{Opening, same_device, opening_in, closes, open_windows, open_window, window_copies, session_join, live, greatest_counter}
+use Rattle.ns_calls.specs.Reply as plain
+use Rattle.ns_calls.specs.Reply.{reply_to, reply_to_close, ack_number, window_of, fits, devices_at, first_fit, window_with}
+use Rattle.ns_calls.specs.Out.{answer, uplink_of, uplink_out, downlink_out, ack_downlink}
+use Rattle.ns_calls.specs.Legal.{IsLegal, entry_for, with_call}
+use Rattle.ns_calls.proofs.LocalLemmas.{bool_tells}
+use Rattle.ns_calls.proofs.Lists.{All-append, All-filter, All-weaker, find-has, first-gives}
+use Rattle.ns_calls.proofs.PushLemmas.{open_windows-push}
+use Rattle.ns_calls.proofs.LegalLemmas.{history_more}
+use Rattle.ns_calls.proofs.Induction.{legal_induction}
+use Rattle.ns_calls.proofs.UplinkLemmas.{opened-cases}
+use Rattle.ns_calls.proofs.WindowLemmas.{same_window-eq}
+use Rattle.ns_sessions.specs.declared.session.Session.{Session}
+use Rattle.ns_sessions.specs.Record.{DeviceRecord, device_record, ack_in, with_ack, session_in, session_ack, used_ack, acknowledged}
+use Rattle.ns_sessions.specs.Laws.{OthersStay, ClosingsAgree, concerns}
+use Rattle.ns_windows.specs.declared.window.Window.{Window}
+use Rattle.ns_windows.specs.Windows.{named, without}
+use Rattle.ns_shard.specs.declared.devices.Own.{Own}
+use Rattle.ns_shard.specs.Held as held
+use Rattle.ns_shard.specs.Held.{window_in, windows_in}
+use Rattle.ns_shard.specs.Devices.{own_in, devices_in, own_of, changed}
+use Rattle.ns_shard.specs.Taken.{quiet, uplink_from, ack_from, ack_of, acked_devices, closed_answer, closing_answer, closing_devices}
+use Rattle.ns_shard.specs.Parts.{Agrees}
+use Rattle.ns_shard.proofs.Roster.{own-found, members}
+use Rattle.ns_shard.proofs.DeviceSteps.{OthersSame, devices-changed, devices-same}
+use Rattle.ns_shard.proofs.WindowSteps.{windows-quiet, windows-closed, windows-named}
+use Rattle.ns_shard.proofs.PartSteps.{joined, others-stay, same_device-false}
+
+-- ---- the devices of open windows are the roster's
+
+gives-all : {X Y : Type 0} (P : Y → Type 0) (f : X → Option Y) (xs : List X) → AllByRecursion (λ x. IfSome (f x) P) xs → IfSome (first (filter_map f xs)) P
+gives-all P f [] all = tt
+gives-all {X} {Y} P f (x ∷ xs) all = step (f x) all.0 (gives-all P f xs all.1)
+  where
+    step : (o : Option Y) → IfSome o P → IfSome (first (filter_map f xs)) P → IfSome (first (cons_option o (filter_map f xs))) P
+    step None here later = later
+    step (Some y) here later = here
+
+session_fit-eui : (recover : Option ℕ → ℕ → Option ℕ) (h : List Entry) (frame : List ℕ) (eui : DevEui) (session : ℕ) → IfSome (plain.session_fit recover h frame eui session) (λ w. w.eui ≡ eui)
+session_fit-eui recover h frame eui session = step (recover (greatest_counter h eui session) (data_fields frame).fcnt16)
+  where
+    test : (n : ℕ) (b : Bool) → IfSome (when b (window_of eui session n)) (λ w. w.eui ≡ eui)
+    test n true = refl
+    test n false = tt
+
+    step : (o : Option ℕ) → IfSome (option_and_then (λ counter. when (fits h frame (window_of eui session counter)) (window_of eui session counter)) o) (λ w. w.eui ≡ eui)
+    step None = tt
+    step (Some n) = test n (fits h frame (window_of eui session n))
+
+device_fit-eui : (recover : Option ℕ → ℕ → Option ℕ) (h : List Entry) (frame : List ℕ) (eui : DevEui) → IfSome (plain.device_fit recover h frame eui) (λ w. w.eui ≡ eui)
+device_fit-eui recover h frame eui = first-gives (λ (w : WindowName). w.eui ≡ eui) (plain.session_fit recover h frame eui) (session_fit-eui recover h frame eui) (live h eui)
+
+IfSome-weaker : {X : Type 0} (P Q : X → Type 0) → ((x : X) → P x → Q x) → (o : Option X) → IfSome o P → IfSome o Q
+IfSome-weaker P Q weaker None is = tt
+IfSome-weaker P Q weaker (Some x) is = weaker x is
+
+-- what fits is of a device of the roster
+pub fit-known : (recover : Option ℕ → ℕ → Option ℕ) (net : Network) (h : List Entry) (frame : List ℕ) → IsRoster net → IfSome (first_fit recover net h frame) (λ w. IsSome (device net w.eui))
+fit-known recover net h frame valid =
+    gives-all Known (λ (d : Device). plain.device_fit recover h frame d.eui) (devices_at net (data_fields frame).addr)
+    (All-filter (λ (d : Device). IfSome (plain.device_fit recover h frame d.eui) Known) (λ (d : Device). (device_addr net d).0 == (data_fields frame).addr) net.devices
+    (All-weaker (Contains net.devices) (λ (d : Device). IfSome (plain.device_fit recover h frame d.eui) Known) each net.devices (members net)))
+  where
+    Known : WindowName → Type 0
+    Known w = IsSome (device net w.eui)
+
+    each : (d : Device) → Contains net.devices d → IfSome (plain.device_fit recover h frame d.eui) Known
+    each d member =
+        let found : device net d.eui ≡ Some d = device-found net valid d.eui d (member, refl) in
+        let here : IsSome (device net d.eui) = subst (λ (o : Option Device). IsSome o) (sym found) refl in
+        IfSome-weaker (λ (w : WindowName). w.eui ≡ d.eui) Known (λ w is. subst (λ (e : DevEui). IsSome (device net e)) (sym is) here) (plain.device_fit recover h frame d.eui) (device_fit-eui recover h frame d.eui)
+
+at_some : {X : Type 0} (P : X → Type 0) (o : Option X) (x : X) → o ≡ Some x → IfSome o P → P x
+at_some P o x is holds = subst (λ p. IfSome p P) is holds
+
+opened-known : (net : Network) (h : List Entry) → IsRoster net → (c : Call) → IfSome (opening_in c (reply_to net h c)) (λ o. IsSome (device net o.window.eui))
+opened-known net h valid (call.Join t heard) = tt
+opened-known net h valid (call.JoinReply t o) = tt
+opened-known net h valid (call.Close w) = tt
+opened-known net h valid (call.Uplink frame heard) =
+    elim (opened-cases h frame heard (window_with h frame) (first_fit above net h frame) _) [
+      | inl none ↦ subst (λ o. IfSome o (λ x. IsSome (device net x.window.eui))) (sym none) tt
+      | inr found ↦ subst (λ o. IfSome o (λ x. IsSome (device net x.window.eui))) (sym found.3) (at_some (λ (w : WindowName). IsSome (device net w.eui)) (first_fit above net h frame) found.0 found.2 (fit-known above net h frame valid))
+    ]
+
+WindowsKnown : Network → List Entry → Type 0
+WindowsKnown net h = AllByRecursion (λ o. IsSome (device net o.window.eui)) (open_windows h)
+
+windows_step : (net : Network) → IsRoster net → (h : List Entry) (number : ℕ) (c : Call) → WindowsKnown net h → WindowsKnown net (with_call net h number c)
+unfolding WindowsKnown
+windows_step net valid h number c known =
+    subst (AllByRecursion Known) (sym (open_windows-push h e))
+    (All-append Known (filter stays (open_windows h)) (option_to_list (opening_in c (reply_to net h c))) (All-filter Known stays (open_windows h) known) (new (opening_in c (reply_to net h c)) (opened-known net h valid c)))
+  where
+    e : Entry
+    e = entry_for net h number c
+
+    Known : Opening → Type 0
+    Known o = IsSome (device net o.window.eui)
+
+    stays : Opening → Bool
+    stays o = not (closes o.window e)
+
+    new : (o : Option Opening) → IfSome o Known → AllByRecursion Known (option_to_list o)
+    new None is = tt
+    new (Some o) is = (is, tt)
+
+windows_known : (net : Network) (h : List Entry) → IsRoster net → IsLegal net h → WindowsKnown net h
+unfolding WindowsKnown
+windows_known net h valid legal = legal_induction net (WindowsKnown net) tt (λ g number c ok known. windows_step net valid g number c known) h legal
+
+-- what is known of an open window
+record IsKept (net : Network) (h : List Entry) (o : Opening) : Type 0 where
+  known : IsSome (device net o.window.eui)
+  keyed : IsSome (session_join h o.window.eui o.window.session)
+
+all_both : {X : Type 0} (P Q : X → Type 0) (xs : List X) → AllByRecursion P xs → AllByRecursion Q xs → AllByRecursion (λ x. P x × Q x) xs
+all_both P Q [] p q = tt
+all_both P Q (x ∷ xs) p q = ((p.0, q.0), all_both P Q xs p.1 q.1)
+
+open-kept : (net : Network) (index : ℕ) (h : List Entry) (devices : List Own) (windows : List Window) (w : WindowName) (o : Opening) → Agrees net index h devices windows → open_window h w ≡ Some o → (o.window ≡ w) × IsKept net h o
+unfolding WindowsKnown
+open-kept net index h devices windows w o agrees is =
+    let Kept : Opening → Type 0 = λ x. IsSome (device net x.window.eui) × IsSome (session_join h x.window.eui x.window.session) in
+    let all : AllByRecursion Kept (open_windows h) =
+    all_both (λ (x : Opening). IsSome (device net x.window.eui)) (λ (x : Opening). IsSome (session_join h x.window.eui x.window.session)) (open_windows h) (windows_known net h agrees.valid agrees.history.legal) (joined net index h devices windows agrees) in
+    let found : Kept o × (same_window o.window w ≡ true) = at_some (λ (x : Opening). Kept x × (same_window x.window w ≡ true)) (open_window h w) o is (find-has Kept (λ (x : Opening). same_window x.window w) (open_windows h) all) in
+    (same_window-eq o.window w found.1, record { known = found.0.0; keyed = found.0.1 })
+
+-- ---- what goes out
+
+uplink-same : (h : List Entry) (o : Opening) → IsSome (session_join h o.window.eui o.window.session) → uplink_from (window_in h o) ≡ uplink_of h o
+uplink-same h o keyed = step (session_join h o.window.eui o.window.session) refl keyed
+  where
+    step : (j : Option JoinAns) → session_join h o.window.eui o.window.session ≡ j → IsSome j → uplink_from (window_in h o) ≡ uplink_of h o
+    step None is some = absurd (cc some)
+    step (Some join) is some = rw is refl
+
+ack-same : (net : Network) (h : List Entry) (o : Opening) (n : ℕ) → IsSome (session_join h o.window.eui o.window.session) → ack_from net (window_in h o) n ≡ ack_downlink net h o n
+ack-same net h o n keyed = step (session_join h o.window.eui o.window.session) refl keyed
+  where
+    step : (j : Option JoinAns) → session_join h o.window.eui o.window.session ≡ j → IsSome j → ack_from net (window_in h o) n ≡ ack_downlink net h o n
+    step None is some = absurd (cc some)
+    step (Some join) is some = rw is refl
+
+own-some : (net : Network) (index : ℕ) (h : List Entry) (eui : DevEui) → shard_of eui ≡ index → IsSome (device net eui) → (d : Device) × (own_of eui (devices_in net index h) ≡ Some (own_in net h d)) × (d.eui ≡ eui)
+own-some net index h eui mine known = step (device net eui) refl known
+  where
+    step : (x : Option Device) → device net eui ≡ x → IsSome x → (d : Device) × (own_of eui (devices_in net index h) ≡ Some (own_in net h d)) × (d.eui ≡ eui)
+    step None is some = absurd (cc some)
+    step (Some d) is some = (d, own-found net index h eui mine ∙ ap (option_map (own_in net h)) is, (found-device net eui d is).1)
+
+-- the number of the device's record
+ack-by_record : (net : Network) (index : ℕ) (h : List Entry) (o : Opening) → shard_of o.window.eui ≡ index → IsSome (device net o.window.eui) →
+    ack_of (devices_in net index h) (window_in h o) ≡ cond (is_confirmed o.frame) (ack_in (device_record net h o.window.eui) o.window.session) None
+ack-by_record net index h o mine known =
+    let found = own-some net index h o.window.eui mine known in
+    ap (λ (x : Option Own). cond (is_confirmed o.frame) (option_and_then (λ (y : Own). ack_in y.state o.window.session) x) None) found.1
+    ∙ ap (λ (e : DevEui). cond (is_confirmed o.frame) (ack_in (device_record net h e) o.window.session) None) found.2
+
+closed-out : (net : Network) (h : List Entry) (w : WindowName) (o : Opening) → open_window h w ≡ Some o → (ack : Option ℕ) → uplink_from (window_in h o) ≡ uplink_of h o → ((n : ℕ) → ack_from net (window_in h o) n ≡ ack_downlink net h o n) →
+    let a : Answer = record { reply = reply.Closed w ack; uplink = Some (uplink_from (window_in h o)); downlink = option_and_then (λ n. ack_from net (window_in h o) n) ack } in
+    let b : Answer = record { reply = reply.Closed w ack; uplink = uplink_out h (call.Close w) (reply.Closed w ack); downlink = downlink_out net h (call.Close w) (reply.Closed w ack) } in
+    a ≡ b
+closed-out net h w o is None uplink ack_is =
+    ap (λ (u : Option Uplink). let a : Answer = record { reply = reply.Closed w None; uplink = u; downlink = None } in a) (ap Some uplink ∙ ap (option_map (uplink_of h)) (sym is))
+closed-out net h w o is (Some n) uplink ack_is =
+    ap₂ (λ (u : Option Uplink) (d : Option Downlink). let a : Answer = record { reply = reply.Closed w (Some n); uplink = u; downlink = d } in a)
+    (ap Some uplink ∙ ap (option_map (uplink_of h)) (sym is)) (ack_is n ∙ ap (option_and_then (λ (x : Opening). ack_downlink net h x n)) (sym is))
+
+abbrev close_with : Network → List Entry → WindowName → Reply → Answer
+close_with net h w r = record { reply = r; uplink = uplink_out h (call.Close w) r; downlink = downlink_out net h (call.Close w) r }
+
+close-reply : (h : List Entry) (w : WindowName) (found : Option Opening) → open_window h w ≡ found → reply_to_close h w ≡ first_case (option_map (λ o. reply.Closed w (ack_number h o)) found ∷ []) reply.NoWindow
+close-reply h w found is = ap (λ (x : Option Opening). first_case (option_map (λ (o : Opening). reply.Closed w (ack_number h o)) x ∷ []) reply.NoWindow) is
+
+pub close-answered : (net : Network) (index : ℕ) (h : List Entry) (devices : List Own) (windows : List Window) (w : WindowName) → Agrees net index h devices windows → ClosingsAgree net h → shard_of w.eui ≡ index →
+    closing_answer net devices (named w windows) ≡ answer net h (call.Close w)
+close-answered net index h devices windows w agrees law mine =
+    ap₂ (closing_answer net) agrees.by_device (ap (named w) agrees.by_window ∙ windows-named h w) ∙ step (open_window h w) refl
+  where
+    step : (found : Option Opening) → open_window h w ≡ found → closing_answer net (devices_in net index h) (option_map (window_in h) found) ≡ answer net h (call.Close w)
+    step None is = ap (close_with net h w) (sym (close-reply h w None is))
+    step (Some o) is =
+        let kept = open-kept net index h devices windows w o agrees is in
+        let name : o.window ≡ w = kept.0 in
+        let shard : shard_of o.window.eui ≡ index = ap (λ (v : WindowName). shard_of v.eui) name ∙ mine in
+        let ack : ack_of (devices_in net index h) (window_in h o) ≡ ack_number h o = ack-by_record net index h o shard kept.1.known ∙ sym (law.numbers agrees.history.legal o) in
+        ap₂ (λ (v : WindowName) (n : Option ℕ).
+        let a : Answer = record { reply = reply.Closed v n; uplink = Some (uplink_from (window_in h o)); downlink = option_and_then (λ m. ack_from net (window_in h o) m) n } in a) name ack
+        ∙ (closed-out net h w o is (ack_number h o) (uplink-same h o kept.1.keyed) (λ n. ack-same net h o n kept.1.keyed)
+        ∙ ap (close_with net h w) (sym (close-reply h w (Some o) is)))
+
+-- ---- after it
+
+-- where there is no number, nothing is used
+no_ack : (s : Session) → session_ack s ≡ None → used_ack s ≡ s
+no_ack s is = step (nat_lt s.next_ack (2 ^ 32)) is
+  where
+    step : (b : Bool) → when b s.next_ack ≡ None → cond b (record s { next_ack = s.next_ack + 1 }) s ≡ s
+    step true none = absurd (cc none)
+    step false none = refl
+
+none-acknowledged : (number : ℕ) (sessions : List Session) → option_and_then session_ack (find (λ s. s.number == number) sessions) ≡ None → acknowledged number sessions ≡ sessions
+none-acknowledged number [] none = refl
+none-acknowledged number (s ∷ sessions) none =
+    let asked = λ (b : Bool). option_and_then session_ack (cond {A = Option Session} b (Some s) (find (λ (x : Session). x.number == number) sessions)) in
+    let left = λ (b : Bool). cond {A = List Session} b (used_ack s ∷ sessions) (s ∷ acknowledged number sessions) in
+    elim (bool_tells (s.number == number)) [
+      | inl here ↦ ap left here ∙ ap (λ (x : Session). x ∷ sessions) (no_ack s (sym (ap asked here) ∙ none))
+      | inr other ↦ ap left other ∙ ap (λ xs. s ∷ xs) (none-acknowledged number sessions (sym (ap asked other) ∙ none))
+    ]
+
+with_ack-none : (session : ℕ) (r : DeviceRecord) → ack_in r session ≡ None → with_ack session r ≡ r
+with_ack-none session r none = ap (λ ss. record r { sessions = ss }) (none-acknowledged session r.sessions none)
+
+concerns-close : (other : DevEui) (w : WindowName) (r : Reply) → same_device other w.eui ≡ false → concerns other (call.Close w) r ≡ false
+concerns-close other w (reply.Closed closed (Some n)) differs = same_device-false other w.eui differs
+concerns-close other w (reply.Closed closed None) differs = refl
+concerns-close other w _ differs = refl
+
+-- a closing without a number leaves what is said of each device
+unnumbered : (net : Network) (h : List Entry) (w : WindowName) (r : Reply) → OthersStay → reply_to_close h w ≡ r → ((eui : DevEui) → concerns eui (call.Close w) r ≡ false) → (eui : DevEui) → device_record net (with_call net h (length h) (call.Close w)) eui ≡ device_record net h eui
+unnumbered net h w r stay is none eui = stay.others net h (entry_for net h (length h) (call.Close w)) eui (ap (λ x. concerns eui (call.Close w) x) is ∙ none eui)
+
+pub agrees-close : (net : Network) (index : ℕ) (h : List Entry) (devices : List Own) (windows : List Window) (w : WindowName) → Agrees net index h devices windows → OthersStay → ClosingsAgree net h → shard_of w.eui ≡ index →
+    Agrees net index (with_call net h (length h) (call.Close w)) (closing_devices (named w windows) devices) (without w windows)
+agrees-close net index h devices windows w agrees stay law mine = record {
+  valid = agrees.valid;
+  history = history_more net index h (call.Close w) mine agrees.history;
+  by_device = ap₂ closing_devices (ap (named w) agrees.by_window ∙ windows-named h w) agrees.by_device ∙ devices_step (open_window h w) refl;
+  by_window = ap (without w) agrees.by_window ∙ sym (windows_after (open_window h w) refl);
+}
+  where
+    now : List Entry
+    now = with_call net h (length h) (call.Close w)
+
+    confirmed_step : (o : Opening) → open_window h w ≡ Some o → is_confirmed o.frame ≡ true → (ack : Option ℕ) → ack_in (device_record net h w.eui) w.session ≡ ack → devices_in net index now ≡ changed w.eui (with_ack w.session) (devices_in net index h)
+    confirmed_step o is confirmed ack ack_is =
+        let kept = open-kept net index h devices windows w o agrees is in
+        let number : ack_number h o ≡ ack =
+        law.numbers agrees.history.legal o
+        ∙ (ap (λ b. cond b (ack_in (device_record net h o.window.eui) o.window.session) None) confirmed
+        ∙ (ap (λ (v : WindowName). ack_in (device_record net h v.eui) v.session) kept.0 ∙ ack_is)) in
+        let reply_is : reply_to_close h w ≡ reply.Closed w ack = close-reply h w (Some o) is ∙ ap (reply.Closed w) number in
+        devices-changed net index h now w.eui (with_ack w.session) agrees.valid
+        (others-stay net h (length h) (call.Close w) w.eui stay (λ other differs. concerns-close other w (reply_to_close h w) differs))
+        (this ack ack_is reply_is)
+      where
+        this : (n : Option ℕ) → ack_in (device_record net h w.eui) w.session ≡ n → reply_to_close h w ≡ reply.Closed w n → device_record net now w.eui ≡ with_ack w.session (device_record net h w.eui)
+        this None none r = unnumbered net h w (reply.Closed w None) stay r (λ eui. refl) w.eui ∙ sym (with_ack-none w.session (device_record net h w.eui) none)
+        this (Some n) some r =
+            ap (λ (x : Reply). let e : Entry = record { number = length h; call = call.Close w; reply = x } in device_record net (h ++ e ∷ []) w.eui) r
+            ∙ sym (law.closed (length h) w n some)
+
+    devices_step : (found : Option Opening) → open_window h w ≡ found → closing_devices (option_map (window_in h) found) (devices_in net index h) ≡ devices_in net index now
+    devices_step None is = sym (devices-same net index h now (unnumbered net h w reply.NoWindow stay (close-reply h w None is) (λ eui. refl)))
+    devices_step (Some o) is =
+        let kept = open-kept net index h devices windows w o agrees is in
+        let by = λ (b : Bool). cond b (changed o.window.eui (with_ack o.window.session) (devices_in net index h)) (devices_in net index h) in
+        elim (bool_tells (is_confirmed o.frame)) [
+          | inl confirmed ↦
+              ap by confirmed
+              ∙ (ap (λ (v : WindowName). changed v.eui (with_ack v.session) (devices_in net index h)) kept.0
+              ∙ sym (confirmed_step o is confirmed (ack_in (device_record net h w.eui) w.session) refl))
+          | inr not_confirmed ↦
+              (let number : ack_number h o ≡ None = law.numbers agrees.history.legal o ∙ ap (λ b. cond b (ack_in (device_record net h o.window.eui) o.window.session) None) not_confirmed in
+              ap by not_confirmed
+              ∙ sym (devices-same net index h now (unnumbered net h w (reply.Closed w None) stay (close-reply h w (Some o) is ∙ ap (reply.Closed w) number) (λ eui. refl))))
+        ]
+
+    windows_after : (found : Option Opening) → open_window h w ≡ found → windows_in now ≡ without w (windows_in h)
+    windows_after None is =
+        let e : Entry = entry_for net h (length h) (call.Close w) in
+        let reply_is : reply_to_close h w ≡ reply.NoWindow = close-reply h w None is in
+        windows-quiet h e (joined net index h devices windows agrees) (ap (closing_of w) reply_is) refl refl
+        ∙ sym (Rattle.ns_windows.proofs.Places.filter-none (Rattle.ns_windows.specs.Windows.is_named w) (windows_in h) (Rattle.ns_windows.proofs.Places.none_found (Rattle.ns_windows.specs.Windows.is_named w) (windows_in h) (windows-named h w ∙ ap (option_map (window_in h)) is)))
+      where
+        closing_of : WindowName → Reply → Option Rattle.ns_calls.specs.History.Closing
+        closing_of v r = Rattle.ns_calls.specs.History.closing_in (call.Close v) r
+    windows_after (Some o) is =
+        windows-closed h (entry_for net h (length h) (call.Close w)) w (ack_number h o) (joined net index h devices windows agrees) refl (close-reply h w (Some o) is)

@@ -1,0 +1,9 @@
+pub mod Maps
+pub mod WindowSteps
+pub mod Places
+pub mod Roster
+pub mod DeviceSteps
+pub mod Entries
+pub mod PartSteps
+pub mod AnswerSteps
+pub mod CloseSteps

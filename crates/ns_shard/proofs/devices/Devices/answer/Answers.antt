@@ -1,0 +1,27 @@
+use Rattle.std.proofs.Common.{◌≡◌, None, Some, sym, ap, ◌∙◌, option_map}
+use Rattle.ns_types.specs.Ticket.{dev_eui}
+use Rattle.ns_shard.specs.declared.devices.Own.{Own}
+use Rattle.ns_shard.specs.Devices.{is_own, own_of, with_state, answered}
+use Rattle.ns_sessions.specs.Record.{reply_take}
+use Rattle.ns_windows.proofs.Places.{NonePasses, find-none, position-none}
+use Rattle.ns_shard.proofs.Places.{PassesFirst, first-find, first-set, none-change, place-first}
+use Rattle.ns_shard.proofs.devices.Devices.answer.Goals as goal
+use Rattle.ns_shard.proofs.devices.Devices.answer.Goals.{In-None, After-self-1}
+
+none : (c : In-None) → NonePasses (is_own (dev_eui c.args.ticket.now)) c.self.inside.list.items
+none c = position-none (is_own (dev_eui c.args.ticket.now)) c.self.inside.list.items (rw (c.as_slice.ensures.value, c.dev_eui.ensures) at (sym c.in-None.ensures.place))
+
+there : (c : After-self-1) → PassesFirst (is_own (dev_eui c.args.ticket.now)) c.self.inside.list.items c.in-Some.place c.index_mut.result.now
+there c = place-first (is_own (dev_eui c.args.ticket.now)) c.self.inside.list.items c.in-Some.place c.index_mut.result.now (rw (c.as_slice.ensures.value, c.dev_eui.ensures) at (sym c.in-Some.ensures.place)) c.index_mut.ensures.value
+
+pub returns-in-None-clause-take : goal.returns-in-None-clause-take
+returns-in-None-clause-take c = rw (← c.self.view_is) (ap (option_map (λ (o : Own). reply_take o.state c.args.ticket.now c.args.outcome.now)) (sym (find-none _ _ (none c))))
+
+pub returns-in-None-clause-devices : goal.returns-in-None-clause-devices
+returns-in-None-clause-devices c = rw (← c.self.view_is) (none-change _ (with_state (answered c.args.ticket.now c.args.outcome.now)) _ (none c))
+
+pub returns-in-Some-clause-take : goal.returns-in-Some-clause-take
+returns-in-Some-clause-take c = rw (← c.self.view_is) (ap Some c.answer.ensures.take ∙ ap (option_map (λ (o : Own). reply_take o.state c.args.ticket.now c.args.outcome.now)) (sym (first-find _ _ _ _ (there c))))
+
+pub returns-in-Some-clause-devices : goal.returns-in-Some-clause-devices
+returns-in-Some-clause-devices c = rw (← c.self.view_is, c.answer.ensures.own) (first-set _ (with_state (answered c.args.ticket.now c.args.outcome.now)) _ _ _ (there c))

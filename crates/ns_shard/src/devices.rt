@@ -1,0 +1,231 @@
+//! The devices of one shard.
+
+ghost use Rattle.std.specs.Prelude.{◌≡◌, ◌<◌, map, option_map, option_and_then, length, position, Contains, IfOk, IfSome, IsSome};
+ghost use Rattle.std.specs.Option.{option_map_or};
+ghost use Rattle.ns_types.specs.Identity.{shard_of};
+ghost use Rattle.ns_types.specs.Ticket.{dev_eui};
+ghost use Rattle.ns_roster.specs.Valid.{IsRoster};
+ghost use Rattle.ns_secure.specs.Counter.{above, below};
+ghost use Rattle.ns_sessions.specs.Record.{IsNewCounter, session_in, join_take, reply_take, with_uplink, with_ack, ack_in};
+ghost use Rattle.ns_shard.specs.Devices.{joinless, devices_of, is_own, own_of, own_fit, first_own_fit, with_state, changed, asked, answered};
+
+use ns_calls::Outcome;
+use ns_roster::{Device, Roster};
+use ns_sessions::{DeviceState, JoinTake, ReplyTake};
+use ns_types::{DevAddr, DevEui, Heard, Key, Ticket, WindowName, shard_of};
+use ns_views::DataView;
+use std::alloc::{AllocError, Global};
+use std::marker::Model;
+
+/// A device, its address, and what is kept of it.
+#[derive(Drop)]
+pub struct Own {
+    pub device: Device,
+    pub addr: DevAddr,
+    pub state: DeviceState,
+}
+
+impl Own {
+    fn fresh(&self, frame: &DataView) -> Option<WindowName>
+        ensures { result ≡ own_fit above frame.now self.now }
+    {
+        let (session, fcnt) = self.state.fresh(frame)?;
+        Some(WindowName {
+            eui: self.device.eui,
+            session,
+            fcnt,
+        })
+    }
+
+    fn stale(&self, frame: &DataView) -> Option<WindowName>
+        ensures { result ≡ own_fit below frame.now self.now }
+    {
+        let (session, fcnt) = self.state.stale(frame)?;
+        Some(WindowName {
+            eui: self.device.eui,
+            session,
+            fcnt,
+        })
+    }
+
+    fn ask(&mut self, ticket: &Ticket, heard: &Heard) -> JoinTake
+        ensures take { result ≡ join_take self.old.state ticket.now }
+        ensures own { self.new ≡ with_state (asked ticket.now heard.now) self.old }
+    {
+        self.state.ask(ticket, heard)
+    }
+
+    fn answer(&mut self, ticket: &Ticket, outcome: &Outcome) -> ReplyTake
+        ensures take { result ≡ reply_take self.old.state ticket.now outcome.now }
+        ensures own { self.new ≡ with_state (answered ticket.now outcome.now) self.old }
+    {
+        self.state.answer(ticket, outcome)
+    }
+
+    fn take(&mut self, session: u32, fcnt: u32)
+        requires { IsNewCounter (session_in self.old.state session) fcnt }
+        ensures { self.new ≡ with_state (with_uplink session fcnt) self.old }
+    {
+        self.state.take(session, fcnt);
+    }
+
+    fn next_ack(&mut self, session: u32) -> Option<u32>
+        ensures number { result ≡ ack_in self.old.state session }
+        ensures own { self.new ≡ with_state (with_ack session) self.old }
+    {
+        self.state.next_ack(session)
+    }
+}
+
+/// The devices of a shard, in the roster's order. Contracts see the list of them.
+#[derive(Drop)]
+pub struct Devices {
+    list: Vec<Own>,
+}
+
+impl Model for Devices {
+    ghost use Rattle.std.specs.Prelude.{List};
+    ghost use Rattle.ns_shard.specs.declared.devices.Own.{Own};
+
+    ghost Value = { List Own };
+
+    ghost view = { λ d. d.list.items };
+}
+
+// A device of the roster that has not joined.
+fn joinless(roster: &Roster, device: &Device) -> Own
+    requires { Contains roster.now.devices device.now }
+    ensures { result ≡ joinless roster.now device.now }
+{
+    Own {
+        device: *device,
+        addr: roster.device_addr(device),
+        state: DeviceState::new(),
+    }
+}
+
+// Where the device of an EUI stands.
+fn place(list: &[Own], eui: DevEui) -> Option<usize>
+    ensures place { result ≡ position (is_own eui) list.now }
+    ensures within { IfSome result (λ i. i < length list.now) }
+{
+    list.iter().position(|own| own.device.eui.0 == eui.0)
+}
+
+impl Devices {
+    /// The devices of a shard, none of which has joined.
+    pub fn new(alloc: Global, roster: &Roster, index: u8) -> Result<Devices, AllocError>
+        ensures are { IfOk result (λ d. d ≡ map (joinless roster.now) (devices_of roster.now index)) }
+        ensures valid { IsRoster roster.now }
+    {
+        let mut list = Vec::new(alloc);
+        for device in roster.devices() {
+            if shard_of(device.eui) == index {
+                list.push(joinless(roster, device))?;
+            }
+        }
+        Ok(Devices { list })
+    }
+
+    /// The device of an EUI.
+    pub fn find(&self, eui: DevEui) -> Option<&Own>
+        ensures { option_map (λ o. o.now) result ≡ own_of eui self.now }
+    {
+        self.list.iter().find(|own| own.device.eui.0 == eui.0)
+    }
+
+    /// The address of the device of an EUI, or 0 where there is none.
+    pub fn addr(&self, eui: DevEui) -> DevAddr
+        ensures { result ≡ option_map_or (λ o. o.addr) (own_of eui self.now) (record { 0 = 0 }) }
+    {
+        match self.find(eui) {
+            Some(own) => own.addr,
+            None => DevAddr(0),
+        }
+    }
+
+    /// The window of the first device with the frame's address of which a session fits above its counters.
+    pub fn fresh(&self, frame: &DataView) -> Option<WindowName>
+        ensures { result ≡ first_own_fit above frame.now self.now }
+    {
+        let addr = frame.dev_addr();
+        let mut rest = self.list.as_slice();
+        while let Some((own, others)) = rest.split_first() {
+            if own.addr.0 == addr.0 {
+                if let Some(window) = own.fresh(frame) {
+                    return Some(window);
+                }
+            }
+            rest = others;
+        }
+        None
+    }
+
+    /// The same at or below its counters.
+    pub fn stale(&self, frame: &DataView) -> Option<WindowName>
+        ensures { result ≡ first_own_fit below frame.now self.now }
+    {
+        let addr = frame.dev_addr();
+        let mut rest = self.list.as_slice();
+        while let Some((own, others)) = rest.split_first() {
+            if own.addr.0 == addr.0 {
+                if let Some(window) = own.stale(frame) {
+                    return Some(window);
+                }
+            }
+            rest = others;
+        }
+        None
+    }
+
+    /// Takes a Join-Request of one of the devices.
+    pub fn ask(&mut self, ticket: &Ticket, heard: &Heard) -> Option<JoinTake>
+        ensures take { result ≡ option_map (λ o. join_take o.state ticket.now) (own_of (dev_eui ticket.now) self.old) }
+        ensures devices { self.new ≡ changed (dev_eui ticket.now) (asked ticket.now heard.now) self.old }
+    {
+        match place(self.list.as_slice(), ticket.dev_eui()) {
+            None => None,
+            Some(place) => Some(self.list[place].ask(ticket, heard)),
+        }
+    }
+
+    /// Takes a join server's answer for one of the devices.
+    pub fn answer(&mut self, ticket: &Ticket, outcome: &Outcome) -> Option<ReplyTake>
+        ensures take { result ≡ option_map (λ o. reply_take o.state ticket.now outcome.now) (own_of (dev_eui ticket.now) self.old) }
+        ensures devices { self.new ≡ changed (dev_eui ticket.now) (answered ticket.now outcome.now) self.old }
+    {
+        match place(self.list.as_slice(), ticket.dev_eui()) {
+            None => None,
+            Some(place) => Some(self.list[place].answer(ticket, outcome)),
+        }
+    }
+
+    /// Opens an uplink of one of the devices.
+    pub fn take(&mut self, name: &WindowName)
+        requires { IfSome (own_of name.now.eui self.old) (λ o. IsNewCounter (session_in o.state name.now.session) name.now.fcnt) }
+        ensures { self.new ≡ changed name.now.eui (with_uplink name.now.session name.now.fcnt) self.old }
+    {
+        match place(self.list.as_slice(), name.eui) {
+            None => {}
+            Some(place) => self.list[place].take(name.session, name.fcnt),
+        }
+    }
+
+    /// Uses the next acknowledgement number of a session.
+    pub fn next_ack(&mut self, name: &WindowName) -> Option<u32>
+        ensures number { result ≡ option_and_then (λ o. ack_in o.state name.now.session) (own_of name.now.eui self.old) }
+        ensures devices { self.new ≡ changed name.now.eui (with_ack name.now.session) self.old }
+    {
+        match place(self.list.as_slice(), name.eui) {
+            None => None,
+            Some(place) => self.list[place].next_ack(name.session),
+        }
+    }
+
+    /// The keys of a live session.
+    pub fn keys(&self, name: &WindowName) -> Option<(Key, Option<Key>)>
+        ensures { result ≡ option_and_then (λ o. option_map (λ s. (s.nwk, s.app)) (session_in o.state name.now.session)) (own_of name.now.eui self.now) }
+    {
+        self.find(name.eui)?.state.keys(name.session)
+    }
+}

@@ -1,0 +1,71 @@
+//! One shard.
+
+ghost use Rattle.std.specs.Prelude.{◌≡◌, ◌<◌, ◌%◌, length, IfOk, IfSome, OnOk, OnErr};
+ghost use Rattle.std.specs.Arc.{arc_value};
+ghost use Rattle.ns_calls.specs.Shards.{shard_of_call};
+ghost use Rattle.ns_calls.specs.Out.{answer};
+ghost use Rattle.ns_calls.specs.History.{oldest};
+ghost use Rattle.ns_calls.specs.Legal.{IsHistory};
+ghost use Rattle.ns_shard.specs.State.{no_entries, after_call};
+ghost use Rattle.ns_shard.specs.Parts.{AreParts, state_of};
+
+use crate::parts::Parts;
+use ns_calls::{Answer, Call, Entry};
+use ns_roster::Roster;
+use ns_types::WindowName;
+use std::alloc::{AllocError, Global};
+use std::marker::Model;
+use std::sync::Arc;
+
+/// One of the server's sixteen shards: the calls of its devices, in order, with the plain server's replies. Contracts see the
+/// roster, the shard's number, how many entries were made, and the entries.
+#[derive(Drop)]
+pub struct Shard {
+    parts: Parts,
+}
+
+impl Model for Shard {
+    ghost use Rattle.ns_shard.specs.State.{State};
+    ghost use Rattle.ns_shard.specs.Parts.{AreParts, state_of};
+
+    ghost Value = { State };
+
+    ghost view = { λ s. state_of s.parts };
+
+    ghost invariant = { λ s. AreParts s.parts };
+}
+
+impl Shard {
+    /// A shard with no entries. `NoMemory` (`AllocError`) where a growth was refused.
+    pub fn new(alloc: Global, roster: Arc<Roster>, index: u8) -> Result<Shard, AllocError>
+        requires { index < 16 }
+        ensures { IfOk result (λ s. s ≡ no_entries (arc_value roster) index) }
+    {
+        Ok(Shard {
+            parts: Parts::new(alloc, roster, index)?,
+        })
+    }
+
+    /// The entries, the earliest first, which are a history of the shard.
+    pub fn entries(&self) -> &[Entry]
+        ensures entries { result.now ≡ self.now.entries }
+        ensures history { IsHistory self.now.roster self.now.index self.now.entries }
+    {
+        self.parts.journal.entries()
+    }
+
+    /// How many entries were made. It is the number of the next one.
+    pub fn made(&self) -> u64
+        ensures made { result ≡ self.now.made }
+        ensures entries { result ≡ length self.now.entries }
+    {
+        self.parts.journal.made()
+    }
+
+    /// The name of the open window that was opened first.
+    pub fn oldest(&self) -> Option<WindowName>
+        ensures { result ≡ oldest self.now.entries }
+    {
+        self.parts.windows.oldest()
+    }
+}

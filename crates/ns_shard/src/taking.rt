@@ -1,0 +1,124 @@
+//! What comes of an uplink.
+
+ghost use Rattle.std.specs.Prelude.{◌≡◌, IfSome, IsSome, IfOk, OnOk, OnErr, None, Some};
+ghost use Rattle.ns_secure.specs.Counter.{above};
+ghost use Rattle.ns_sessions.specs.Record.{IsNewCounter, session_in, with_uplink};
+ghost use Rattle.ns_windows.specs.Windows.{copied, named, framed, added};
+ghost use Rattle.ns_shard.specs.Devices.{own_of, first_own_fit, changed};
+ghost use Rattle.ns_shard.specs.Taken.{copied_reply, first_window, keys_in, with_window, opening_reply, taking_reply, taking_devices, taking_windows, CanOpen};
+
+use crate::devices::Devices;
+use arrayvec::ArrayVec;
+use ns_calls::{DataFrame, Reply};
+use ns_types::{Heard, Key, WindowName};
+use ns_windows::{Added, Window, Windows};
+use std::alloc::AllocError;
+
+// How many windows of a device are open at most.
+const MOST_WINDOWS: usize = 8;
+
+// Adds a copy to an open window.
+fn copy(windows: &mut Windows, name: &WindowName, heard: &Heard) -> Reply
+    ensures reply { result ≡ copied_reply name.now (added (named name.now windows.old)) }
+    ensures windows { windows.new ≡ copied name.now heard.now windows.old }
+{
+    match windows.add_copy(name, heard) {
+        Added::Copied(place) => Reply::Copied {
+            window: *name,
+            place,
+        },
+        Added::Crowded | Added::NoWindow => Reply::Crowded { window: *name },
+    }
+}
+
+// A window with its first copy.
+fn first_window(
+    frame: &DataFrame,
+    heard: &Heard,
+    name: &WindowName,
+    nwk: Key,
+    app: Option<Key>,
+) -> Window
+    ensures { result ≡ first_window frame.now heard.now name.now (nwk, app) }
+{
+    let mut copies = ArrayVec::new();
+    copies.push(*heard);
+    Window {
+        name: *name,
+        frame: *frame,
+        copies,
+        nwk,
+        app,
+    }
+}
+
+// Opens a window. It takes the one growth first.
+fn open(
+    devices: &mut Devices,
+    windows: &mut Windows,
+    name: &WindowName,
+    frame: &DataFrame,
+    heard: &Heard,
+) -> Result<(), AllocError>
+    requires counter { IfSome (own_of name.now.eui devices.old) (λ o. IsNewCounter (session_in o.state name.now.session) name.now.fcnt) }
+    requires keys { IsSome (keys_in devices.old name.now) }
+    requires name { named name.now windows.old ≡ None }
+    requires frame { framed frame.now windows.old ≡ None }
+    ensures devices { OnOk result (devices.new ≡ changed name.now.eui (with_uplink name.now.session name.now.fcnt) devices.old) }
+    ensures windows { OnOk result (windows.new ≡ with_window frame.now heard.now name.now (keys_in devices.old name.now) windows.old) }
+    ensures err_devices { OnErr result (devices.new ≡ devices.old) }
+    ensures err_windows { OnErr result (windows.new ≡ windows.old) }
+{
+    let Some((nwk, app)) = devices.keys(name) else {
+        unreachable!()
+    };
+    windows.put(first_window(frame, heard, name, nwk, app))?;
+    devices.take(name);
+    Ok(())
+}
+
+// The reply to a frame that fits in this window.
+fn opening_reply(windows: &Windows, name: &WindowName) -> Reply
+    ensures { result ≡ opening_reply windows.now name.now }
+{
+    if windows.count(name.eui) >= MOST_WINDOWS {
+        Reply::Busy { eui: name.eui }
+    } else {
+        Reply::Opened { window: *name }
+    }
+}
+
+/// Takes an uplink. Where a growth is refused, nothing has changed.
+pub fn take(
+    devices: &mut Devices,
+    windows: &mut Windows,
+    frame: &DataFrame,
+    heard: &Heard,
+) -> Result<Reply, AllocError>
+    requires { CanOpen devices.old windows.old frame.now }
+    ensures reply { IfOk result (λ r. r ≡ taking_reply devices.old windows.old frame.now) }
+    ensures devices { IfOk result (λ r. devices.new ≡ taking_devices r devices.old) }
+    ensures windows { IfOk result (λ r. windows.new ≡ taking_windows r frame.now heard.now devices.old windows.old) }
+    ensures err_devices { OnErr result (devices.new ≡ devices.old) }
+    ensures err_windows { OnErr result (windows.new ≡ windows.old) }
+{
+    if let Some(name) = windows.find(frame.bytes()) {
+        return Ok(copy(windows, &name, heard));
+    }
+    let view = frame.view();
+    if let Some(name) = devices.fresh(&view) {
+        let reply = opening_reply(windows, &name);
+        if let Reply::Opened { .. } = reply {
+            open(devices, windows, &name, frame, heard)?;
+        }
+        return Ok(reply);
+    }
+    match devices.stale(&view) {
+        Some(old) => Ok(Reply::Old {
+            eui: old.eui,
+            session: old.session,
+            fcnt: old.fcnt,
+        }),
+        None => Ok(Reply::NoSession),
+    }
+}
