@@ -1,4 +1,3 @@
 pub mod LineLemmas
 pub mod Digits
-pub mod FrameTypes
-pub mod Told
+pub mod Woven

@@ -7,7 +7,8 @@
 
 mod fault;
 mod options;
-mod plain;
+#[cfg(test)]
+mod recorded;
 mod replay;
 mod step_lines;
 mod taken;

@@ -6,10 +6,10 @@ ghost use Rattle.std.specs.Io.KnownBytes.{Appends};
 ghost use Rattle.ns_types.specs.Streams.{AppendsFront};
 ghost use Rattle.lorawan_ns.specs.Output.{output};
 
-use crate::plain::run;
 use crate::step_lines::steps;
 use crate::taken::text_of;
 use ns_roster::Roster;
+use ns_shard::Shards;
 use ns_types::{ReadFault, Sink, Source, read_all, write_all};
 use std::alloc::{AllocError, Global};
 use std::sync::Arc;
@@ -24,18 +24,19 @@ pub enum ReplayFault {
 }
 
 // The lines that a text of step lines is answered, each with a line feed.
-fn answered(alloc: Global, roster: &Roster, input: &[u8]) -> Result<Vec<u8>, AllocError>
-    ensures { IfOk result (λ v. v.items ≡ output roster.now input.now) }
+#[tactic(auto, using(crate::proofs::Woven::all_lines_woven))]
+fn answered(alloc: Global, roster: Arc<Roster>, input: &[u8]) -> Result<Vec<u8>, AllocError>
+    ensures { IfOk result (λ v. v.items ≡ output (arc_value roster) input.now) }
 {
-    let lines = steps(alloc, input)?;
-    let all = run(alloc, roster, lines.as_slice())?;
-    text_of(alloc, all.as_slice())
+    let found = steps(alloc, input)?;
+    let run = Shards::run(alloc, roster, found.steps.as_slice())?;
+    text_of(alloc, found.are_steps.as_slice(), run.taken.as_slice())
 }
 
 /// Reads step lines to the end, and then writes the lines of their answers.
 ///
-/// What is written is the refusal lines and the plain server's answers over the steps of the bytes read, in order, each line with a
-/// line feed. `Io` comes only where the reader or the writer failed.
+/// What is written is the refusal lines and the answers of the run of the steps of the bytes read, in order, each line with a line
+/// feed: each answer is the plain server's, after the entries of its shard that the steps before it made. `Io` comes only where the reader or the writer failed.
 pub fn replay<R: Source, W: Sink>(
     alloc: Global,
     roster: Arc<Roster>,
@@ -63,7 +64,7 @@ pub fn replay<R: Source, W: Sink>(
         Err(ReadFault::NoMemory) => return Err(ReplayFault::NoMemory),
         Err(ReadFault::Io) => return Err(ReplayFault::Io),
     };
-    let Ok(text) = answered(alloc, &roster, input.as_slice()) else {
+    let Ok(text) = answered(alloc, roster, input.as_slice()) else {
         return Err(ReplayFault::NoMemory);
     };
     match write_all(writer, text.as_slice()) {

@@ -1,10 +1,11 @@
 //! Step lines: the steps that a text of lines asks for.
 
-ghost use Rattle.std.specs.Prelude.{◌≡◌, ◌≢◌, ◌<◌, ◌∷◌, [], length, map, option_map, Some, None, MatchOption, IfOk, IfSome, IsSome, position, ◌==◌};
+ghost use Rattle.std.specs.Prelude.{◌≡◌, ◌≢◌, ◌<◌, ◌∷◌, ◌++◌, [], length, map, option_map, Some, None, MatchOption, IfOk, OnOk, IfSome, IsSome, position, ◌==◌};
+ghost use Rattle.lorawan_ns.specs.Output.{steps_in, are_steps};
 ghost use Rattle.lorawan_ns.specs.StepLines.{raw_lines, without_return, parted, number, eui, ticket, heard, answered, lost, counters, closed, act, step, steps};
 
 use hex::{FromHex, FromHexError};
-use ns_shard::{Act, OwnedBytes};
+use ns_shard::{Act, OwnedBytes, Step};
 use ns_types::{DevEui, Ticket, WindowName};
 use std::alloc::{AllocError, Global};
 
@@ -188,14 +189,39 @@ fn step(alloc: Global, line: &[u8]) -> Result<Option<Act>, AllocError>
     }
 }
 
-/// The steps of a text, in order, and nothing for each line that is no step line.
-pub fn steps(alloc: Global, text: &[u8]) -> Result<Vec<Option<Act>>, AllocError>
-    ensures { IfOk result (λ v. v.items ≡ steps text.now) }
+/// The steps of a text, and which of its lines are step lines.
+#[derive(Drop)]
+pub struct StepLines {
+    /// The steps of the step lines, in order.
+    pub steps: Vec<Step>,
+    /// For each line, whether it is a step line.
+    pub are_steps: Vec<bool>,
+}
+
+// Adds what a line asks for.
+fn add(found: &mut StepLines, act: Option<Act>) -> Result<(), AllocError>
+    ensures steps { OnOk result (found.new.steps.items ≡ found.old.steps.items ++ steps_in (act ∷ [])) }
+    ensures are_steps { OnOk result (found.new.are_steps.items ≡ found.old.are_steps.items ++ are_steps (act ∷ [])) }
 {
-    let mut found = Vec::new(alloc);
+    found.are_steps.push(act.is_some())?;
+    if let Some(act) = act {
+        found.steps.push(Step { worker: 0, act })?;
+    }
+    Ok(())
+}
+
+/// The steps of a text, in order, and which of its lines are step lines.
+pub fn steps(alloc: Global, text: &[u8]) -> Result<StepLines, AllocError>
+    ensures steps { IfOk result (λ found. found.steps.items ≡ steps_in (steps text.now)) }
+    ensures are_steps { IfOk result (λ found. found.are_steps.items ≡ are_steps (steps text.now)) }
+{
+    let mut found = StepLines {
+        steps: Vec::new(alloc),
+        are_steps: Vec::new(alloc),
+    };
     let mut rest = text;
     'lines: while let Some((line, others)) = next_line(rest) {
-        found.push(step(alloc, line)?)?;
+        add(&mut found, step(alloc, line)?)?;
         rest = others;
     }
     Ok(found)

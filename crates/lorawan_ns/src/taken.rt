@@ -1,27 +1,13 @@
-//! What came of a step line, and the lines that are written of it.
+//! The lines that are written of what came of step lines.
 
-ghost use Rattle.std.specs.Prelude.{◌≡◌, ◌≤◌, ◌++◌, ◌∷◌, [], length, map, flat_map, codes, decimal, OnOk, IfOk};
-ghost use Rattle.lorawan_ns.specs.Output.{refusal_text, ended, lines_of, text_of};
+ghost use Rattle.std.specs.Prelude.{◌≡◌, ◌≤◌, ◌++◌, ◌∷◌, [], length, map, flat_map, option_map, codes, decimal, OnOk, IfOk};
+ghost use Rattle.lorawan_ns.specs.Output.{refusal_text, ended, lines_of, text_of, woven};
 
 use arrayvec::ArrayVec;
 use itoa::Buffer;
-use ns_calls::{Answer, Line, lines};
-use ns_link::LinkFault;
-use ns_views::ViewFault;
+use ns_calls::{Line, lines};
+use ns_shard::Taken;
 use std::alloc::{AllocError, Global};
-
-/// What came of a step line.
-#[derive(Drop)]
-pub enum Taken {
-    /// It is no step line, or its step is not served.
-    Line,
-    /// The layout of the datagram is refused.
-    Link(LinkFault),
-    /// The frame is refused.
-    View(ViewFault),
-    /// It made an entry, with this answer.
-    Made(Answer),
-}
 
 // The line of a refusal: its letter or word, and its number where it has one.
 fn refusal(text: &str, number: Option<u8>) -> Line
@@ -46,18 +32,16 @@ fn only(line: Line) -> ArrayVec<Line, 3>
     all
 }
 
-impl Taken {
-    // The lines of it.
-    #[tactic(auto, unfolding(crate::specs::Output::lines_of))]
-    fn lines(&self) -> ArrayVec<Line, 3>
-        ensures { map (λ l. l.bytes) result.items ≡ lines_of self.now }
-    {
-        match self {
-            Taken::Line => only(refusal("refused line", None)),
-            Taken::Link(fault) => only(refusal("refused G", Some(fault.number()))),
-            Taken::View(fault) => only(refusal("refused V", Some(fault.number()))),
-            Taken::Made(answer) => lines(answer),
-        }
+// The lines of what came of a line.
+#[tactic(auto, unfolding(crate::specs::Output::lines_of))]
+fn lines_of(taken: Option<&Taken>) -> ArrayVec<Line, 3>
+    ensures { map (λ l. l.bytes) result.items ≡ lines_of (option_map (λ t. t.now) taken.entry) }
+{
+    match taken {
+        None => only(refusal("refused line", None)),
+        Some(Taken::Link(fault)) => only(refusal("refused G", Some(fault.number()))),
+        Some(Taken::View(fault)) => only(refusal("refused V", Some(fault.number()))),
+        Some(Taken::Made { answer, .. }) => lines(answer),
     }
 }
 
@@ -72,13 +56,23 @@ fn put_lines(text: &mut Vec<u8>, all: &[Line]) -> Result<(), AllocError>
     Ok(())
 }
 
-/// The lines of what came of step lines, each with a line feed.
-pub fn text_of(alloc: Global, all: &[Taken]) -> Result<Vec<u8>, AllocError>
-    ensures { IfOk result (λ v. v.items ≡ flat_map text_of all.now) }
+/// The lines of a run, each with a line feed: `are_steps` says which lines were steps, and `taken` what came of these.
+pub fn text_of(alloc: Global, are_steps: &[bool], taken: &[Taken]) -> Result<Vec<u8>, AllocError>
+    ensures { IfOk result (λ v. v.items ≡ flat_map text_of (woven are_steps.now taken.now)) }
 {
     let mut text = Vec::new(alloc);
-    for one in all {
-        put_lines(&mut text, one.lines().as_slice())?;
+    let mut rest = taken;
+    'lines: for is_step in are_steps {
+        let one = if *is_step {
+            let Some((one, others)) = rest.split_first() else {
+                return Ok(text);
+            };
+            rest = others;
+            Some(one)
+        } else {
+            None
+        };
+        put_lines(&mut text, lines_of(one).as_slice())?;
     }
     Ok(text)
 }

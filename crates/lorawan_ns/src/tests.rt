@@ -6,6 +6,7 @@ use crate::replay::{ReplayFault, replay};
 use ns_roster::Roster;
 use ns_types::{Fuse, Stream};
 use std::sync::Arc;
+use std::process::Abort;
 use std::test::Fail;
 
 const ROSTER: &str =
@@ -86,6 +87,24 @@ fn answers_each_line(rt: HostRuntime) -> Result<(), Fail> {
         assert_eq!(rt; outcome, Ok(()));
         assert_eq!(rt; writer.written(), LINES.as_bytes());
     }
+    Ok(())
+}
+
+/// That a run over a roster writes these lines.
+pub fn same_lines<R: Abort + AllocGlobal>(
+    rt: &R,
+    roster: &str,
+    steps: &str,
+    lines: &str,
+) -> Result<(), Fail> {
+    let alloc = rt.alloc();
+    let roster = Arc::new(alloc, Roster::read(alloc, roster.as_bytes())?)?;
+    let input = Vec::from_slice(alloc, steps.as_bytes())?;
+    let mut reader = Fuse::new(alloc, input, 8192, None, None);
+    let mut writer = Fuse::new(alloc, Vec::new(alloc), 8192, None, None);
+    let outcome = replay(alloc, roster, &mut reader, &mut writer);
+    assert_eq!(rt; outcome, Ok(()));
+    assert_eq!(rt; writer.written(), lines.as_bytes());
     Ok(())
 }
 

@@ -69,7 +69,7 @@ frame_size app_key frame a k h =
       | inr long ↦ inr (ap length h.is ∙ ap (λ n. suc n) (same ∙ long))
     ]
 
-first_is : (app_key frame : List ℕ) (a : JoinAcceptCreator) → IsJoinAccept app_key frame a → slice_index frame 0 ≡ 0x20
+pub first_is : (app_key frame : List ℕ) (a : JoinAcceptCreator) → IsJoinAccept app_key frame a → slice_index frame 0 ≡ 0x20
 unfolding join_accept_frame
 first_is app_key frame a h = rw h.is refl
 

@@ -1,3 +1,4 @@
 pub mod Blocks
 pub mod Undo
 pub mod Created
+pub mod Replies

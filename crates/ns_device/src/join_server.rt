@@ -1,13 +1,16 @@
 //! A join server for tests.
 
-ghost use Rattle.std.specs.Prelude.{◌≡◌, ◌≢◌, ◌≤◌, IfOk, IfErr, OnOk, OnErr, Some, None, option_map, string_bytes, ◌<◌, ◌^◌, []};
-ghost use Rattle.std.specs.Int.{w32, to_le_bytes};
+ghost use Rattle.std.specs.Prelude.{◌≡◌, ◌≢◌, ◌≤◌, IfOk, IfErr, IfSome, OnOk, OnErr, slice_index, Some, None, option_map, string_bytes, ◌<◌, ◌^◌, []};
 ghost use Rattle.ns_device.specs.declared.join_fault.ReplyFault.TheVariants.{NoMemory};
 ghost use Rattle.ns_device.specs.Request.{request_in};
-ghost use Rattle.ns_device.specs.Server.{HasAdded, IsNonce, nonce_after, answer_to, granted, mic_fits, after, reply_to};
+ghost use Rattle.ns_types.specs.Ticket.{dev_eui};
+ghost use Rattle.ns_aes_cmac.specs.Aes.{IsBlock};
+ghost use Rattle.ns_device.specs.Joins.{BeginsAccept, IsAnswered, IsTaken, IsTakenIfGranted};
+ghost use Rattle.ns_device.specs.Server.{app_key, HasAdded, IsNonce, nonce_after, answer_to, granted, mic_fits, after, reply_to};
 
 use crate::answer::{Answer, Grant};
 use crate::join_fault::ReplyFault;
+use crate::laws::created_accepts_are_taken;
 use crate::request::JoinReq;
 use ns_creator::{JoinAcceptCreator, Keys};
 use ns_roster::field::value_of;
@@ -58,11 +61,23 @@ fn mic_fits(ticket: &Ticket, app_key: &Key) -> bool
     join_mic_of(app_key, signed).0.as_slice() == mic
 }
 
+// The bytes of a key, which are a block of AES-128, as the law of joins asks.
+fn key_bytes(key: &[u8; 16]) -> &[u8]
+    ensures are { result.now ≡ key.now }
+    ensures block { IsBlock key.now }
+{
+    key.as_slice()
+}
+
 // What the device with this AppKey is granted.
 fn granted(request: &JoinReq, app_key: &Key, nonce: u32) -> Grant
     requires { request.now.net_id.0 < 2 ^ 24 }
-    ensures { result ≡ granted request.now app_key.now nonce }
+    ensures is { result ≡ granted request.now app_key.now nonce }
+    ensures taken { IsTaken app_key.now request.now result }
+    ensures mhdr { slice_index result.accept 0 ≡ 0x20 }
 {
+    created_accepts_are_taken();
+    let _bytes = key_bytes(&app_key.0);
     let [a, b, c, _] = nonce.to_le_bytes();
     let join_nonce = [a, b, c];
     let creator = JoinAcceptCreator {
@@ -115,7 +130,9 @@ impl TestJoinServer {
     // What is answered to a JoinReq.
     fn answer(&self, request: &JoinReq) -> Answer
         requires { request.now.net_id.0 < 2 ^ 24 }
-        ensures { result ≡ answer_to self.now request.now }
+        ensures is { result ≡ answer_to self.now request.now }
+        ensures taken { IsTakenIfGranted (app_key self.now (dev_eui request.now.ticket).0) request.now result }
+        ensures mhdr { BeginsAccept result }
     {
         match self.app_keys.get(&request.ticket.dev_eui().0) {
             None => Answer::Other,
@@ -135,6 +152,7 @@ impl TestJoinServer {
     /// the text was written.
     pub fn reply(&mut self, alloc: Global, text: &[u8]) -> Result<String, ReplyFault>
         ensures reply { IfOk result (λ s. option_map (reply_to self.old) (request_in text.now) ≡ Some (string_bytes s)) }
+        ensures answered { IfOk result (λ s. IfSome (request_in text.now) (IsAnswered self.old (string_bytes s))) }
         ensures after { OnOk result (option_map (after self.old) (request_in text.now) ≡ Some self.new) }
         ensures fault { IfErr result (λ e. e ≢ NoMemory → request_in text.now ≡ None) }
         ensures refused { OnErr result (self.new ≡ self.old) }
@@ -142,8 +160,7 @@ impl TestJoinServer {
         let message = value_of(alloc, text)?.ok_or(ReplyFault::NoJoinReq)?;
         let request = JoinReq::of(&message).ok_or(ReplyFault::NoJoinReq)?;
         let answer = self.answer(&request);
-        let message = answer.message(alloc, request.transaction)?;
-        let reply = message.to_string(alloc)?;
+        let reply = answer.text(alloc, request.transaction)?;
         if answer.is_success() {
             self.next_nonce = nonce_after(self.next_nonce);
         }

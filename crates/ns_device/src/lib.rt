@@ -7,8 +7,9 @@
 //! the buffer. Nothing of it takes memory.
 //!
 //! `TestJoinServer` answers a JoinReq's text with the text of a JoinAns: a Join-Accept of the request's fields and the session
-//! keys, `MICFailed`, or `Other`. `reply` refuses B1 exactly where the text is no JoinReq, and a refusal leaves the server as
-//! it was.
+//! keys, `MICFailed`, or `Other`. `join_ans` of `ns_joinwire` reads that text as this answer, and the device with this AppKey
+//! takes the Join-Accept and has then the same session keys. `reply` refuses B1 exactly where the text is no JoinReq, and a
+//! refusal leaves the server as it was.
 //!
 //! Stands on `ns_types` for identities and keys, on `ns_aes_cmac` for the law of AES-128, on `ns_secure` for MICs, ciphers
 //! and session keys, on `ns_creator` for the frames, on `ns_roster` and `ns_joinwire` for the fields of JSON, and on

@@ -1,5 +1,5 @@
 -- The window in which a frame fits.
-use Rattle.std.proofs.Common.{◌≡◌, ℕ, Bool, true, false, cond, ◌==◌, List, ◌∷◌, ◌++◌, find, option_to_list, Option, None, Some, IfSome, refl, sym, ap, subst, ◌∙◌, arith}
+use Rattle.std.proofs.Common.{◌≡◌, ℕ, Bool, true, false, cond, ◌==◌, List, ◌∷◌, ◌++◌, find, option_to_list, Option, None, Some, IfSome, refl, sym, subst, arith}
 use Rattle.std.specs.Option.{option_and_then}
 use Rattle.std.proofs.lemmas.Bool.Decides.{nat_tests}
 use Rattle.ns_types.specs.Cases.{when}

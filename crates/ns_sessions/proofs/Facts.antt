@@ -1,11 +1,11 @@
 -- What the sessions of every legal history are like.
-use Rattle.std.proofs.Common.{◌≡◌, ◌⊎◌, ℕ, ◌+◌, ◌<◌, ◌==◌, Bool, true, false, not, ◌||◌, cond, List, [], ◌∷◌, ◌++◌, filter, filter_map, map, find, unwrap_or, Option, None, Some, IfSome, option_map, option_to_list, refl, sym, ap, subst, ◌∙◌, arith, inl, inr}
+use Rattle.std.proofs.Common.{◌≡◌, ◌⊎◌, ℕ, ◌==◌, Bool, true, false, ◌||◌, cond, List, [], ◌∷◌, ◌++◌, filter, filter_map, map, Option, None, Some, IfSome, option_map, refl, sym, ap, subst, ◌∙◌, arith, inl, inr}
 use Rattle.std.specs.Prelude.{IsSome, is_some}
 use Rattle.std.specs.List.{AllByRecursion, cons_option, list_any}
-use Rattle.std.specs.Option.{option_and_then, option_or, option_map_or}
+use Rattle.std.specs.Option.{option_and_then, option_map_or}
 use Rattle.std.proofs.lemmas.List.{append-nil}
 use Rattle.std.proofs.lemmas.List.Elements.{filter-append}
-use Rattle.std.proofs.lemmas.Option.{none-some, same_Some}
+use Rattle.std.proofs.lemmas.Option.{same_Some}
 use Rattle.std.proofs.lemmas.Bool.{false≢true}
 use Rattle.std.proofs.lemmas.Bool.Decides.{nat_tests}
 use Rattle.ns_types.specs.declared.identity.DevEui.{DevEui}
@@ -20,23 +20,22 @@ use Rattle.ns_roster.specs.Network.{Network}
 use Rattle.ns_calls.specs.declared.call.JoinAns.{JoinAns}
 use Rattle.ns_calls.specs.declared.call.Call.{Call}
 use Rattle.ns_calls.specs.declared.call.Call.TheVariants as call
-use Rattle.ns_calls.specs.declared.call.Reply.{Reply}
 use Rattle.ns_calls.specs.declared.call.Reply.TheVariants as reply
 use Rattle.ns_calls.specs.declared.call.Entry.{Entry}
-use Rattle.ns_calls.specs.Queries.{first, last, maximum}
-use Rattle.ns_calls.specs.History.{Acceptance, Opening, Closing, first_and_other, opening_in, closing_in, acceptances, openings, closings, same_device, session_join, session_counters, next_session, active_session, newest_session, live, is_live, greatest_counter, open_windows, open_window}
-use Rattle.ns_calls.specs.Reply.{fits, window_of, session_fit, device_fit, devices_at, first_fit, window_with, open_reply, ack_number, reply_to}
+use Rattle.ns_calls.specs.Queries.{first, last}
+use Rattle.ns_calls.specs.History.{Acceptance, Opening, Closing, first_and_other, opening_in, closing_in, acceptances, openings, closings, same_device, session_join, session_counters, active_session, newest_session, live, is_live, greatest_counter, open_windows, open_window}
+use Rattle.ns_calls.specs.Reply.{fits, window_of, session_fit, device_fit, devices_at, first_fit, window_with, ack_number, reply_to}
 use Rattle.ns_calls.specs.Legal.{IsLegal, entry_for, with_call}
 use Rattle.ns_calls.specs.Headline.{SessionsHaveJoins}
 use Rattle.ns_calls.proofs.LocalLemmas.{bool_tells}
-use Rattle.ns_calls.proofs.Lists.{said, said-push, said-cases, All-push, All-weaker, find-has}
+use Rattle.ns_calls.proofs.Lists.{said-push, said-cases, All-push, All-weaker, find-has}
 use Rattle.ns_calls.proofs.QueryLemmas.{last-push}
 use Rattle.ns_calls.proofs.Induction.{legal_induction}
-use Rattle.ns_calls.proofs.JoinLemmas.{NewAcceptance, acceptances-cases, same_device-eq}
-use Rattle.ns_calls.proofs.UplinkLemmas.{opened-cases, opening_of}
+use Rattle.ns_calls.proofs.JoinLemmas.{acceptances-cases, same_device-eq}
+use Rattle.ns_calls.proofs.UplinkLemmas.{opened-cases}
 use Rattle.ns_calls.proofs.KeyLemmas.{has_join-stays, session_join-next, sessions_have_joins}
 use Rattle.ns_calls.proofs.WindowLemmas.{same_window-eq}
-use Rattle.ns_sessions.proofs.Sessions.{counter-push}
+use Rattle.ns_sessions.proofs.Basics.{or_last, or_later}
 
 -- ---- where an uplink fits
 
@@ -48,10 +47,6 @@ first-gives_of {X} {Y} P f (x ∷ xs) all = step (f x) all.0 (first-gives_of P f
     step : (o : Option Y) → IfSome o P → IfSome (first (filter_map f xs)) P → IfSome (first (cons_option o (filter_map f xs))) P
     step None here later = later
     step (Some y) here later = here
-
-or_later : (b c : Bool) → c ≡ true → (b || c) ≡ true
-or_later true c is = refl
-or_later false c is = is
 
 each_member : (xs : List ℕ) → AllByRecursion (λ s. list_any (λ n. n == s) xs ≡ true) xs
 each_member [] = tt
@@ -222,10 +217,6 @@ closings-keyed net h number c keyed facts eui =
           subst (AllByRecursion Keyed) (sym new.joined)
           (All-push Keyed (closings h eui) new.c (facts.of_closings eui) (subst (λ (d : DevEui). IsSome (session_join h d new.c.window.session)) new.device (open-keyed h keyed new.c.window new.was_open)))
     ]
-
-or_last : (b : Bool) → (b || false) ≡ true → b ≡ true
-or_last true is = refl
-or_last false is = absurd (cc is)
 
 -- a live session that is not the newest is the active one, and then the newest was not used
 live_other : (a : Option ℕ) (y s : ℕ) (P : Type 0) → list_any (λ n. n == s) (first_and_other a (Some y)) ≡ true → (s == y) ≡ false → (option_map (λ x. x == y) a ≡ Some true) ⊎ P → P

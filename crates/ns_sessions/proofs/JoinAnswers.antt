@@ -1,10 +1,9 @@
 -- Answers of join servers agree with the history.
-use Rattle.std.proofs.Common.{◌≡◌, ◌⊎◌, ℕ, ◌+◌, ◌<◌, ◌≤◌, ◌==◌, Bool, true, false, not, ◌||◌, cond, List, [], ◌∷◌, ◌++◌, filter, filter_map, map, find, length, count_by, nat_le, max, unwrap_or, Option, None, Some, IfSome, option_map, option_to_list, refl, sym, ap, subst, ◌∙◌, arith, inl, inr}
+use Rattle.std.proofs.Common.{◌≡◌, ◌⊎◌, ℕ, ◌+◌, ◌==◌, Bool, true, false, not, cond, List, [], ◌∷◌, ◌++◌, filter, filter_map, map, unwrap_or, Option, None, Some, IfSome, option_map, option_to_list, refl, sym, ap, subst, ◌∙◌, arith, inl, inr}
 use Rattle.std.specs.Prelude.{IsSome, is_some}
-use Rattle.std.specs.List.{AllByRecursion, list_any, cons_option}
+use Rattle.std.specs.List.{list_any}
 use Rattle.std.specs.Option.{option_and_then, option_or}
 use Rattle.std.proofs.lemmas.List.{append-nil, map-append}
-use Rattle.std.proofs.lemmas.Option.{none-some, same_Some}
 use Rattle.std.proofs.lemmas.Bool.{false≢true}
 use Rattle.std.proofs.lemmas.Bool.Decides.{nat_tests}
 use Rattle.ns_types.specs.declared.identity.DevEui.{DevEui}
@@ -18,26 +17,23 @@ use Rattle.ns_roster.specs.Network.{Network}
 use Rattle.ns_calls.specs.declared.call.JoinAns.{JoinAns}
 use Rattle.ns_calls.specs.declared.call.Outcome.{Outcome}
 use Rattle.ns_calls.specs.declared.call.Outcome.TheVariants as outcome
-use Rattle.ns_calls.specs.declared.call.Call.{Call}
 use Rattle.ns_calls.specs.declared.call.Call.TheVariants as call
-use Rattle.ns_calls.specs.declared.call.Reply.{Reply}
 use Rattle.ns_calls.specs.declared.call.Reply.TheVariants as reply
 use Rattle.ns_calls.specs.declared.call.Entry.{Entry}
 use Rattle.ns_calls.specs.Queries.{last, greater, maximum}
-use Rattle.ns_calls.specs.History.{Acceptance, Opening, Closing, acceptance_in, asks_for, open_tickets, is_ticket_open, ticket_copies, greatest_nonce, next_session, session_join, acceptances, openings, closings, same_device, active_session, newest_session, first_and_other, session_counters}
+use Rattle.ns_calls.specs.History.{Acceptance, Opening, Closing, acceptance_in, asks_for, open_tickets, is_ticket_open, ticket_copies, greatest_nonce, next_session, session_join, acceptances, openings, closings, same_device, active_session, first_and_other, session_counters}
 use Rattle.ns_calls.specs.Reply.{spent_by, is_failed, address, reply_to_join_reply}
-use Rattle.ns_calls.specs.Legal.{IsLegal, entry_for, with_call}
+use Rattle.ns_calls.specs.Legal.{IsLegal}
 use Rattle.ns_calls.proofs.LocalLemmas.{bool_tells}
 use Rattle.ns_calls.proofs.Lists.{last-has}
 use Rattle.ns_calls.proofs.QueryLemmas.{last-push, maximum-push}
 use Rattle.ns_calls.proofs.PushLemmas.{acceptances-push, openings-push, closings-push}
 use Rattle.ns_calls.proofs.KeyLemmas.{session_join-next}
-use Rattle.ns_sessions.specs.declared.session.Session.{Session}
 use Rattle.ns_sessions.specs.declared.ticket.OpenTicket.{OpenTicket}
 use Rattle.ns_sessions.specs.declared.take.ReplyTake.{ReplyTake}
 use Rattle.ns_sessions.specs.declared.take.ReplyTake.TheVariants as answer
-use Rattle.ns_sessions.specs.Record.{DeviceRecord, device_record, ticket_record, ticket_in, spent_in, best_in, reply_take, with_reply, accepted, without, new_session}
-use Rattle.ns_sessions.specs.Laws.{entry_of, concerns, answer_reply, AnswersAgree}
+use Rattle.ns_sessions.specs.Record.{device_record, ticket_record, ticket_in, reply_take, with_reply, without, new_session}
+use Rattle.ns_sessions.specs.Laws.{entry_of, answer_reply, AnswersAgree}
 use Rattle.ns_sessions.proofs.Sessions.{join_by, counter_by, greatest_ack_by, next_ack_by, session_of, session_by, active_by, newest_by, sessions_by, join-push}
 use Rattle.ns_sessions.proofs.SessionSteps.{Counts, joined}
 use Rattle.ns_sessions.proofs.Facts.{SessionFacts, session_facts, none_of_session}
@@ -46,11 +42,12 @@ use Rattle.ns_sessions.proofs.OpenTickets.{open_asked, at_member, asked_copies, 
 use Rattle.ns_sessions.proofs.JoinSteps.{tickets_ended, without_absent}
 use Rattle.ns_sessions.proofs.Joins.{said_of, ticket_said}
 use Rattle.ns_sessions.proofs.Uplinks.{record_stays}
+use Rattle.ns_sessions.proofs.Basics.{exceeds_greater, unspent}
 
 -- ---- replies
 
 -- the take, by what is asked of the state
-abbrev reply_take_by : Option OpenTicket → Bool → Option ℕ → ℕ → ReplyTake
+abbrev pub reply_take_by : Option OpenTicket → Bool → Option ℕ → ℕ → ReplyTake
 reply_take_by found failed spent next = first_case (
     when (not (is_some found)) answer.NoTicket
     ∷ when failed answer.Refused
@@ -99,14 +96,6 @@ abbrev TakeFits : Network → List Entry → Ticket → Outcome → ReplyTake �
 TakeFits net h t outcome answer.NoTicket = is_ticket_open h t ≡ false
 TakeFits net h t outcome (answer.Accepted session heard) = (is_failed outcome ≡ false) × (session ≡ next_session h (dev_eui t)) × Exceeds (greatest_nonce net h (dev_eui t)) (nonce t).0
 TakeFits net h t outcome _ = Unit {0}
-
-unspent : (greatest : Option ℕ) (n : ℕ) → option_and_then (λ g. when (nat_le n g) g) greatest ≡ None → Exceeds greatest n
-unspent None n is = tt
-unspent (Some g) n is = step (nat_le n g) refl is
-  where
-    step : (b : Bool) → nat_le n g ≡ b → when b g ≡ None → g < n
-    step true tells none = absurd (cc none)
-    step false tells none = grind (arith, nat_tests)
 
 take_fits : (net : Network) (h : List Entry) (t : Ticket) (outcome : Outcome) (is_open failed : Bool) (spent : Option ℕ) → is_ticket_open h t ≡ is_open → is_failed outcome ≡ failed → spent_by net h t ≡ spent →
     TakeFits net h t outcome (reply_take_by (cond is_open (Some (ticket_record h t)) None) failed spent (next_session h (dev_eui t)))
@@ -167,10 +156,6 @@ active_counts (o ∷ os) = step (last os) (active_counts os)
         IfSome (option_map (λ (x : Opening). x.window.session) (option_or l (Some o))) (λ n. is_some (counter_by (o ∷ os) n) ≡ true)
     step None counts = (let passes : (o.window.session == o.window.session) ≡ true = grind (arith, nat_tests) in here (o.window.session == o.window.session) passes)
     step (Some x) counts = later x.window.session (o.window.session == x.window.session) counts
-
-exceeds_greater : (greatest : Option ℕ) (n : ℕ) → Exceeds greatest n → greater greatest (Some n) ≡ Some n
-exceeds_greater None n above = refl
-exceeds_greater (Some g) n above = ap Some (omega (arith, above))
 
 next_number : (greatest : Option ℕ) → unwrap_or (greater greatest (Some (unwrap_or greatest 0 + 1))) 0 + 1 ≡ unwrap_or greatest 0 + 1 + 1
 next_number None = refl

@@ -1,24 +1,19 @@
 -- What a Join-Request and the answer to a join make of a device's open tickets.
-use Rattle.std.proofs.Common.{◌≡◌, ◌⊎◌, ℕ, ◌+◌, ◌==◌, Bool, true, false, not, ◌||◌, cond, List, [], ◌∷◌, ◌++◌, filter, filter_map, map, find, length, count_by, Option, None, Some, IfSome, option_map, option_to_list, refl, sym, ap, subst, ◌∙◌, inl, inr}
-use Rattle.std.specs.Prelude.{is_some}
+use Rattle.std.proofs.Common.{◌≡◌, ℕ, Bool, true, false, not, ◌||◌, cond, List, [], ◌∷◌, ◌++◌, filter, map, Option, None, Some, option_to_list, refl, sym, ap, ◌∙◌, inl, inr}
 use Rattle.std.specs.List.{AllByRecursion, list_any}
 use Rattle.std.proofs.lemmas.List.{append-nil, map-append}
 use Rattle.std.proofs.lemmas.List.Elements.{filter-append}
-use Rattle.std.proofs.lemmas.Bool.{false≢true}
 use Rattle.ns_types.specs.declared.identity.DevEui.{DevEui}
 use Rattle.ns_types.specs.declared.heard.Heard.{Heard}
 use Rattle.ns_types.specs.declared.ticket.Ticket.{Ticket}
 use Rattle.ns_types.specs.Ticket.{dev_eui}
 use Rattle.ns_roster.specs.Network.{Network}
-use Rattle.ns_calls.specs.declared.call.Call.{Call}
 use Rattle.ns_calls.specs.declared.call.Call.TheVariants as call
-use Rattle.ns_calls.specs.declared.call.Reply.{Reply}
 use Rattle.ns_calls.specs.declared.call.Reply.TheVariants as reply
 use Rattle.ns_calls.specs.declared.call.Entry.{Entry}
-use Rattle.ns_calls.specs.History.{same_device, same_ticket, is_ticket, asking_in, ending_in, ticket_copy_in, asks_for, ends_ticket, open_tickets, is_ticket_open, copies_of_ticket, ticket_copies}
+use Rattle.ns_calls.specs.History.{same_device, same_ticket, is_ticket, asking_in, ending_in, ticket_copy_in, asks_for, open_tickets, is_ticket_open, copies_of_ticket, ticket_copies}
 use Rattle.ns_calls.specs.Legal.{IsLegal}
 use Rattle.ns_calls.proofs.LocalLemmas.{bool_tells}
-use Rattle.ns_calls.proofs.LocalJoin.{none_single}
 use Rattle.ns_calls.proofs.Lists.{All-weaker, All-filter, filter-all}
 use Rattle.ns_calls.proofs.TicketLemmas.{same_ticket-eq}
 use Rattle.ns_calls.proofs.PushLemmas.{open_tickets-push, ticket_copies-push}

@@ -1,46 +1,29 @@
 -- Join-Requests and answers of join servers agree with the history.
-use Rattle.std.proofs.Common.{◌≡◌, ◌⊎◌, ℕ, ◌+◌, ◌<◌, ◌≤◌, ◌==◌, Bool, true, false, not, ◌||◌, cond, List, [], ◌∷◌, ◌++◌, filter, filter_map, map, find, length, count_by, nat_le, max, unwrap_or, Option, None, Some, IfSome, option_map, option_to_list, refl, sym, ap, subst, ◌∙◌, arith, inl, inr}
-use Rattle.std.specs.Prelude.{IsSome, is_some}
-use Rattle.std.specs.List.{AllByRecursion, list_any, cons_option}
-use Rattle.std.specs.Option.{option_and_then, option_or}
-use Rattle.std.proofs.lemmas.List.{append-nil, map-append, length-map}
+use Rattle.std.proofs.Common.{◌≡◌, ℕ, ◌+◌, Bool, true, false, not, cond, List, [], ◌∷◌, ◌++◌, length, nat_le, Option, None, Some, option_map, refl, sym, ap, ◌∙◌}
+use Rattle.std.proofs.lemmas.List.{append-nil, length-map}
 use Rattle.std.proofs.lemmas.List.Sums.{length-filter}
-use Rattle.std.proofs.lemmas.Option.{none-some, same_Some}
-use Rattle.std.proofs.lemmas.Bool.{false≢true}
-use Rattle.std.proofs.lemmas.Bool.Decides.{nat_tests}
 use Rattle.ns_types.specs.declared.identity.DevEui.{DevEui}
 use Rattle.ns_types.specs.declared.heard.Heard.{Heard}
 use Rattle.ns_types.specs.declared.ticket.Ticket.{Ticket}
 use Rattle.ns_types.specs.Cases.{first_case, when}
-use Rattle.ns_types.specs.Heard.{best}
-use Rattle.ns_types.specs.Ticket.{dev_eui, join_eui, nonce}
-use Rattle.ns_secure.specs.Counter.{Exceeds}
+use Rattle.ns_types.specs.Ticket.{dev_eui, join_eui}
 use Rattle.ns_roster.specs.Network.{Network, is_known}
-use Rattle.ns_calls.specs.declared.call.JoinAns.{JoinAns}
-use Rattle.ns_calls.specs.declared.call.Outcome.{Outcome}
-use Rattle.ns_calls.specs.declared.call.Outcome.TheVariants as outcome
-use Rattle.ns_calls.specs.declared.call.Call.{Call}
 use Rattle.ns_calls.specs.declared.call.Call.TheVariants as call
 use Rattle.ns_calls.specs.declared.call.Reply.{Reply}
 use Rattle.ns_calls.specs.declared.call.Reply.TheVariants as reply
 use Rattle.ns_calls.specs.declared.call.Entry.{Entry}
-use Rattle.ns_calls.specs.History.{asks_for, open_tickets, is_ticket_open, ticket_count, ticket_copies, greatest_nonce, next_session, acceptances, openings, closings, same_device}
-use Rattle.ns_calls.specs.Reply.{spent_by, is_failed, join_copy_reply, most_copies, most_tickets, address, reply_to_join, reply_to_join_reply}
-use Rattle.ns_calls.specs.Legal.{IsLegal, entry_for, with_call}
-use Rattle.ns_calls.proofs.LocalLemmas.{bool_tells}
+use Rattle.ns_calls.specs.History.{open_tickets, is_ticket_open, ticket_count, acceptances, openings, closings, same_device}
+use Rattle.ns_calls.specs.Reply.{spent_by, join_copy_reply, most_copies, most_tickets, reply_to_join}
+use Rattle.ns_calls.specs.Legal.{IsLegal}
 use Rattle.ns_calls.proofs.PushLemmas.{acceptances-push, openings-push, closings-push}
-use Rattle.ns_sessions.specs.declared.session.Session.{Session}
 use Rattle.ns_sessions.specs.declared.ticket.OpenTicket.{OpenTicket}
 use Rattle.ns_sessions.specs.declared.take.JoinTake.{JoinTake}
 use Rattle.ns_sessions.specs.declared.take.JoinTake.TheVariants as join
-use Rattle.ns_sessions.specs.declared.take.ReplyTake.{ReplyTake}
-use Rattle.ns_sessions.specs.declared.take.ReplyTake.TheVariants as answer
-use Rattle.ns_sessions.specs.Record.{DeviceRecord, device_record, ticket_record, tickets_of, ticket_in, spent_in, best_in, copy_take, join_take, with_join, reply_take, with_reply, without, one_copy, copied, ticket_among}
-use Rattle.ns_sessions.specs.Laws.{entry_of, concerns, join_reply, JoinsAgree, answer_reply, AnswersAgree}
+use Rattle.ns_sessions.specs.Record.{DeviceRecord, device_record, ticket_record, tickets_of, ticket_in, copy_take, join_take, with_join}
+use Rattle.ns_sessions.specs.Laws.{entry_of, join_reply, JoinsAgree}
 use Rattle.ns_sessions.proofs.Sessions.{sessions_by}
 use Rattle.ns_sessions.proofs.Records.{tickets_said, record_by, record_said}
-use Rattle.ns_sessions.proofs.OpenTickets.{open_asked, at_member, asked_copies}
-use Rattle.ns_sessions.proofs.JoinSteps.{tickets_asked, tickets_copied, tickets_ended, among_said, without_absent}
+use Rattle.ns_sessions.proofs.JoinSteps.{tickets_asked, tickets_copied, among_said}
 use Rattle.ns_sessions.proofs.Uplinks.{record_stays}
 
 -- the record, by what the history says

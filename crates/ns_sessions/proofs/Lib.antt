@@ -1,3 +1,4 @@
+pub mod Basics
 pub mod Tickets
 pub mod Counters
 pub mod Sessions

@@ -1,8 +1,7 @@
 -- A device's open tickets and their copies, with one entry more.
-use Rattle.std.proofs.Common.{◌≡◌, ◌⊎◌, ℕ, ◌+◌, ◌<◌, ◌==◌, Bool, true, false, not, ◌||◌, cond, List, [], ◌∷◌, ◌++◌, filter, filter_map, map, find, length, count_by, Option, None, Some, IfSome, option_map, option_to_list, refl, sym, ap, subst, ◌∙◌, arith, inl, inr}
-use Rattle.std.specs.Prelude.{is_some}
+use Rattle.std.proofs.Common.{◌≡◌, Bool, true, false, not, ◌||◌, cond, List, [], ◌∷◌, ◌++◌, filter, filter_map, map, Option, None, Some, IfSome, option_to_list, refl, sym, ap, subst, ◌∙◌, arith, inl, inr}
 use Rattle.std.specs.List.{AllByRecursion, cons_option, list_any, best_of}
-use Rattle.std.proofs.lemmas.List.{append-nil, map-append}
+use Rattle.std.proofs.lemmas.List.{append-nil}
 use Rattle.std.proofs.lemmas.List.Elements.{filter-append}
 use Rattle.std.proofs.lemmas.Bool.{false≢true}
 use Rattle.std.proofs.lemmas.Bool.Decides.{nat_tests}
@@ -18,15 +17,16 @@ use Rattle.ns_calls.specs.declared.call.Reply.{Reply}
 use Rattle.ns_calls.specs.declared.call.Reply.TheVariants as reply
 use Rattle.ns_calls.specs.declared.call.Entry.{Entry}
 use Rattle.ns_calls.specs.Queries.{from_last}
-use Rattle.ns_calls.specs.History.{same_device, same_ticket, is_ticket, asking_in, ending_in, ticket_copy_in, asks_for, ends_ticket, open_tickets, is_ticket_open, copies_of_ticket, ticket_copies}
+use Rattle.ns_calls.specs.History.{same_device, same_ticket, is_ticket, asking_in, ending_in, ticket_copy_in, asks_for, ends_ticket, open_tickets, copies_of_ticket, ticket_copies}
 use Rattle.ns_calls.proofs.LocalLemmas.{bool_tells}
 use Rattle.ns_calls.proofs.LocalJoin.{none_single}
-use Rattle.ns_calls.proofs.Lists.{All-append, All-weaker, All-filter, filter-all, said, said-push}
+use Rattle.ns_calls.proofs.Lists.{All-append, All-weaker, All-filter, said, said-push}
 use Rattle.ns_calls.proofs.TicketLemmas.{same_ticket-eq}
 use Rattle.ns_calls.proofs.PushLemmas.{open_tickets-push, ticket_copies-push}
 use Rattle.ns_sessions.specs.declared.ticket.OpenTicket.{OpenTicket}
-use Rattle.ns_sessions.specs.Record.{ticket_record, tickets_of, one_copy, ticket_among, copied, without}
+use Rattle.ns_sessions.specs.Record.{ticket_record, tickets_of}
 use Rattle.ns_sessions.proofs.Records.{tickets_said}
+use Rattle.ns_sessions.proofs.Basics.{or_later}
 
 pub same_ticket-refl : (t : Ticket) → same_ticket t t ≡ true
 same_ticket-refl t = (bytes_eq-Decides t.0 t.0).1 refl
@@ -51,10 +51,6 @@ other_device eui t u mine other =
     ]
 
 -- ---- what is open was asked for
-
-or_later : (b c : Bool) → c ≡ true → (b || c) ≡ true
-or_later true c is = refl
-or_later false c is = is
 
 pub open_asked : (h : List Entry) → AllByRecursion (λ t. list_any (asks_for t) h ≡ true) (open_tickets h)
 open_asked [] = tt

@@ -1,46 +1,26 @@
 -- What a history says of a device, by its acceptances, openings, closings and tickets.
-use Rattle.std.proofs.Common.{◌≡◌, ◌⊎◌, ℕ, ◌+◌, ◌^◌, ◌<◌, ◌≤◌, ◌==◌, Bool, true, false, not, ◌&&◌, cond, List, [], ◌∷◌, ◌++◌, filter, filter_map, map, find, nat_lt, max, unwrap_or, Option, None, Some, IfSome, option_map, option_to_list, refl, sym, ap, subst, ◌∙◌, arith, inl, inr}
-use Rattle.std.specs.Prelude.{IsSome, is_some}
-use Rattle.std.specs.List.{AllByRecursion, cons_option, list_any}
-use Rattle.std.specs.Option.{option_and_then, option_map_or}
+use Rattle.std.proofs.Common.{◌≡◌, ℕ, ◌+◌, ◌==◌, Bool, true, false, cond, List, [], ◌∷◌, ◌++◌, filter, map, unwrap_or, Option, None, Some, IfSome, option_map, option_to_list, refl, ap, ◌∙◌}
+use Rattle.std.specs.List.{AllByRecursion}
 use Rattle.std.proofs.lemmas.List.{append-nil}
-use Rattle.std.proofs.lemmas.Option.{none-some, same_Some}
-use Rattle.std.proofs.lemmas.Bool.{false≢true}
-use Rattle.std.proofs.lemmas.Bool.Decides.{nat_tests}
 use Rattle.ns_types.specs.declared.identity.DevEui.{DevEui}
-use Rattle.ns_types.specs.declared.identity.WindowName.{WindowName}
-use Rattle.ns_types.specs.declared.heard.Heard.{Heard}
-use Rattle.ns_types.specs.declared.ticket.Ticket.{Ticket}
-use Rattle.ns_types.specs.Cases.{when}
-use Rattle.ns_types.specs.Ticket.{dev_eui, nonce}
-use Rattle.ns_views.specs.Frame.{data_fields, is_confirmed}
-use Rattle.ns_secure.specs.Counter.{Exceeds}
-use Rattle.ns_secure.specs.Integrity.{mic_fits}
+use Rattle.ns_types.specs.Ticket.{nonce}
 use Rattle.ns_roster.specs.Network.{Network}
-use Rattle.ns_calls.specs.declared.call.JoinAns.{JoinAns}
 use Rattle.ns_calls.specs.declared.call.Outcome.TheVariants as outcome
 use Rattle.ns_calls.specs.declared.call.Call.{Call}
 use Rattle.ns_calls.specs.declared.call.Call.TheVariants as call
 use Rattle.ns_calls.specs.declared.call.Reply.{Reply}
 use Rattle.ns_calls.specs.declared.call.Reply.TheVariants as reply
 use Rattle.ns_calls.specs.declared.call.Entry.{Entry}
-use Rattle.ns_calls.specs.Queries.{first, last, greater, maximum}
-use Rattle.ns_calls.specs.History.{Acceptance, Opening, Closing, acceptance_in, opening_in, closing_in, acceptances, openings, closings, same_device, session_join, greatest_counter, greatest_ack, next_ack, next_ack_number, live, is_live, first_and_other}
-use Rattle.ns_calls.specs.Reply as plain
-use Rattle.ns_calls.specs.Reply.{fits, window_of, ack_number}
-use Rattle.ns_calls.specs.Legal.{IsLegal}
-use Rattle.ns_calls.specs.Headline.{SessionsHaveJoins}
-use Rattle.ns_calls.proofs.LocalLemmas.{bool_tells}
+use Rattle.ns_calls.specs.Queries.{greater, maximum}
+use Rattle.ns_calls.specs.History.{Acceptance, Opening, Closing, acceptance_in, opening_in, closing_in, acceptances, openings, closings, same_device, first_and_other}
 use Rattle.ns_calls.proofs.LocalJoin.{none_single}
-use Rattle.ns_calls.proofs.QueryLemmas.{last-push}
 use Rattle.ns_calls.proofs.PushLemmas.{acceptances-push, openings-push, closings-push}
-use Rattle.ns_calls.proofs.KeyLemmas.{sessions_have_joins}
 use Rattle.ns_sessions.specs.declared.session.Session.{Session}
 use Rattle.ns_sessions.specs.declared.ticket.OpenTicket.{OpenTicket}
-use Rattle.ns_sessions.specs.Record.{DeviceRecord, device_record, ticket_record, tickets_of, session_in, session_fit, device_fit, IsNewCounter, with_uplink, opened, session_ack, used_ack, ack_in, with_ack, acknowledged}
-use Rattle.ns_sessions.specs.Laws.{entry_of, concerns}
-use Rattle.ns_sessions.proofs.Sessions.{join_by, counter_by, greatest_ack_by, next_ack_by, session_of, session_by, active_by, newest_by, sessions_by, counter-push, ack-push, session_by-numbered, live-apart, same_on, found_by_number, Numbered}
-use Rattle.ns_sessions.proofs.SessionSteps.{with_counter, from, opened_from, live_opened, acknowledged_in}
+use Rattle.ns_sessions.specs.Record.{DeviceRecord, device_record, ticket_record, tickets_of}
+use Rattle.ns_sessions.specs.Laws.{concerns}
+use Rattle.ns_sessions.proofs.Sessions.{join_by, counter_by, greatest_ack_by, next_ack_by, session_of, session_by, active_by, newest_by, sessions_by, ack-push, same_on}
+use Rattle.ns_sessions.proofs.Basics.{greater-none}
 
 abbrev pub tickets_said : List Entry → DevEui → List OpenTicket
 tickets_said h eui = map (ticket_record h) (tickets_of h eui)
@@ -78,10 +58,6 @@ acceptance-other eui _ _ other = tt
 opening-other : (eui : DevEui) (c : Call) (r : Reply) → concerns eui c r ≡ false → IfSome (opening_in c r) (λ o. same_device o.window.eui eui ≡ false)
 opening-other eui (call.Uplink frame heard) (reply.Opened w) other = other
 opening-other eui _ _ other = tt
-
-greater-none : (a : Option ℕ) → greater a None ≡ a
-greater-none None = refl
-greater-none (Some a) = refl
 
 -- a closing of another device, or with no number, leaves the greatest number
 acks_stay : (eui : DevEui) (c : Call) (r : Reply) (cs : List Closing) (n : ℕ) → concerns eui c r ≡ false → greatest_ack_by (cs ++ filter (λ x. same_device x.window.eui eui) (option_to_list (closing_in c r))) n ≡ greatest_ack_by cs n

@@ -1,21 +1,18 @@
 -- Runs of calls on the state of one device.
-use Rattle.std.proofs.Common.{◌≡◌, ◌⊎◌, ℕ, ◌+◌, ◌<◌, ◌≤◌, Bool, true, false, not, ◌||◌, ◌&&◌, cond, List, [], ◌∷◌, ◌++◌, find, length, count_by, nat_le, Option, None, Some, IfSome, option_map, option_to_list, zero-add, refl, sym, ap, subst, ◌∙◌, arith, inl, inr}
+use Rattle.std.proofs.Common.{◌≡◌, ◌⊎◌, ℕ, ◌+◌, ◌<◌, ◌≤◌, Bool, true, false, ◌&&◌, cond, List, [], ◌∷◌, ◌++◌, count_by, Option, None, Some, option_map, option_to_list, refl, sym, ap, subst, ◌∙◌, arith, inl, inr}
 use Rattle.std.specs.Prelude.{is_some}
 use Rattle.std.specs.List.{AllByRecursion}
-use Rattle.std.specs.Option.{option_and_then}
 use Rattle.std.proofs.lemmas.Option.{same_Some}
-use Rattle.std.proofs.lemmas.Bool.{false≢true}
-use Rattle.std.proofs.lemmas.Bool.Decides.{nat_tests}
 use Rattle.ns_types.specs.declared.heard.Heard.{Heard}
 use Rattle.ns_types.specs.declared.ticket.Ticket.{Ticket}
-use Rattle.ns_types.specs.Cases.{first_case, when}
+use Rattle.ns_types.specs.Cases.{first_case}
 use Rattle.ns_types.specs.Heard.{best}
 use Rattle.ns_types.specs.Ticket.{nonce}
 use Rattle.ns_secure.specs.Counter.{Exceeds}
 use Rattle.ns_calls.specs.declared.call.Outcome.{Outcome}
 use Rattle.ns_calls.specs.declared.call.Outcome.TheVariants as outcome
 use Rattle.ns_calls.specs.History.{same_ticket}
-use Rattle.ns_calls.specs.Reply.{is_failed, most_copies, most_tickets}
+use Rattle.ns_calls.specs.Reply.{is_failed}
 use Rattle.ns_calls.specs.Headline.{Rises}
 use Rattle.ns_calls.proofs.LocalLemmas.{bool_tells}
 use Rattle.ns_calls.proofs.Lists.{All-weaker, count-append, count-cons}
@@ -25,35 +22,19 @@ use Rattle.ns_sessions.specs.declared.take.JoinTake.{JoinTake}
 use Rattle.ns_sessions.specs.declared.take.JoinTake.TheVariants as join
 use Rattle.ns_sessions.specs.declared.take.ReplyTake.{ReplyTake}
 use Rattle.ns_sessions.specs.declared.take.ReplyTake.TheVariants as answer
-use Rattle.ns_sessions.specs.Record.{DeviceRecord, no_joins, ticket_among, ticket_in, spent_in, best_in, one_copy, copied, without, join_take, with_join, reply_take, with_reply}
+use Rattle.ns_sessions.specs.Record.{DeviceRecord, no_joins, ticket_among, ticket_in, spent_in, one_copy, copied, without, join_take, with_join, reply_take, with_reply}
 use Rattle.ns_sessions.specs.Runs.{StateCall, Ask, Answer, Take, NextAck, after_call, nonce_in, accepted_nonce, accepted_nonces, is_asked, is_answered, asks, answers, times_asked, times_answered, JoinsInTurn}
-use Rattle.ns_sessions.proofs.OpenTickets.{same_ticket-refl}
+use Rattle.ns_sessions.proofs.Basics.{unspent}
+use Rattle.ns_sessions.proofs.JoinAnswers.{reply_take_by}
 
 -- ---- nonces
-
-unspent : (greatest : Option ℕ) (n : ℕ) → option_and_then (λ g. when (nat_le n g) g) greatest ≡ None → Exceeds greatest n
-unspent None n is = tt
-unspent (Some g) n is = step (nat_le n g) refl is
-  where
-    step : (b : Bool) → nat_le n g ≡ b → when b g ≡ None → g < n
-    step true tells none = absurd (cc none)
-    step false tells none = grind (arith, nat_tests)
-
--- the take, by what is asked of the state
-abbrev take_by : Option OpenTicket → Outcome → Option ℕ → ℕ → ReplyTake
-take_by found o spent next = first_case (
-    when (not (is_some found)) answer.NoTicket
-    ∷ when (is_failed o) answer.Refused
-    ∷ option_map (λ g. answer.Stale (record { 0 = g })) spent
-    ∷ option_map (λ heard. answer.Accepted next heard) (option_and_then (λ (x : OpenTicket). best x.copies) found)
-    ∷ []) answer.NoTicket
 
 -- an answer leaves the greatest nonce, or its own nonce is the greatest from then on, and was above it
 NextNonce : Option ℕ → Option ℕ → Option ℕ → Type 0
 NextNonce accepted before after = (accepted ≡ None) × (after ≡ before) ⊎ ((n : ℕ) × (accepted ≡ Some n) × (after ≡ Some n) × Exceeds before n)
 
 answer_nonce : (r : DeviceRecord) (t : Ticket) (o : Outcome) (found : Option OpenTicket) (spent : Option ℕ) → spent_in r t ≡ spent →
-    NextNonce (nonce_in (take_by found o spent r.next_session) t) r.greatest_nonce (with_reply (take_by found o spent r.next_session) t o r).greatest_nonce
+    NextNonce (nonce_in (reply_take_by found (is_failed o) spent r.next_session) t) r.greatest_nonce (with_reply (reply_take_by found (is_failed o) spent r.next_session) t o r).greatest_nonce
 unfolding NextNonce
 answer_nonce r t o None spent is = inl (refl, refl)
 answer_nonce r t outcome.Failed (Some x) spent is = inl (refl, refl)
@@ -169,7 +150,7 @@ ask_in_step t u heard r (join.Old greatest) = omega arith
 ask_in_step t u heard r join.Busy = omega arith
 
 -- an answer other than NoTicket is to an open ticket
-answered_open : (found : Option OpenTicket) (o : Outcome) (spent : Option ℕ) (next : ℕ) → is_answered (take_by found o spent next) ≡ true → is_some found ≡ true
+answered_open : (found : Option OpenTicket) (o : Outcome) (spent : Option ℕ) (next : ℕ) → is_answered (reply_take_by found (is_failed o) spent next) ≡ true → is_some found ≡ true
 answered_open None o spent next is = absurd (cc is)
 answered_open (Some x) o spent next is = refl
 

@@ -1,17 +1,16 @@
 -- What an opening, a closing and an acceptance make of the live sessions.
-use Rattle.std.proofs.Common.{◌≡◌, ◌⊎◌, ℕ, ◌+◌, ◌^◌, ◌<◌, ◌==◌, Bool, true, false, not, ◌||◌, cond, List, [], ◌∷◌, ◌++◌, filter, filter_map, map, find, nat_lt, max, unwrap_or, Option, None, Some, IfSome, option_map, option_to_list, refl, sym, ap, subst, ◌∙◌, arith, inl, inr}
-use Rattle.std.specs.Prelude.{IsSome, is_some}
+use Rattle.std.proofs.Common.{◌≡◌, ◌⊎◌, ℕ, ◌==◌, Bool, true, false, ◌||◌, cond, List, [], ◌∷◌, ◌++◌, filter, filter_map, Option, None, Some, IfSome, option_map, refl, sym, ap, subst, ◌∙◌, arith, inl, inr}
+use Rattle.std.specs.Prelude.{is_some}
 use Rattle.std.specs.List.{AllByRecursion, cons_option, list_any}
-use Rattle.std.specs.Option.{option_and_then, option_or}
 use Rattle.std.proofs.lemmas.Option.{none-some, same_Some}
 use Rattle.std.proofs.lemmas.Bool.{false≢true}
 use Rattle.std.proofs.lemmas.Bool.Decides.{nat_tests}
-use Rattle.ns_secure.specs.Counter.{Exceeds}
 use Rattle.ns_calls.specs.History.{first_and_other}
 use Rattle.ns_calls.proofs.LocalLemmas.{bool_tells}
 use Rattle.ns_sessions.specs.declared.session.Session.{Session}
-use Rattle.ns_sessions.specs.Record.{opened, session_ack, used_ack, acknowledged}
+use Rattle.ns_sessions.specs.Record.{opened, used_ack, acknowledged}
 use Rattle.ns_sessions.proofs.Sessions.{Numbered, AreApart, same_on, others_same}
+use Rattle.ns_sessions.proofs.Basics.{or_last}
 
 abbrev pub with_counter : ℕ → Session → Session
 with_counter counter s = record s { greatest_counter = Some counter }
@@ -49,10 +48,6 @@ opened_from f g s counter r numbered same was now (x ∷ xs) apart =
     skipped : (o : Option Session) → IfSome o (λ y. y.number ≡ x) → (x == s) ≡ false → opened s counter (cons_option o (filter_map f xs)) ≡ opened s counter (filter_map f xs)
     skipped None number differs = refl
     skipped (Some y) number differs = ap (λ b. cond {A = List Session} b (with_counter counter y ∷ filter_map f xs) (opened s counter (filter_map f xs))) (number_test s x y false number differs)
-
-or_last : (b : Bool) → (b || false) ≡ true → b ≡ true
-or_last true is = refl
-or_last false is = absurd (cc is)
 
 -- the session of the last opening comes first
 pub live_opened : (a b : Option ℕ) (s : ℕ) → list_any (λ n. n == s) (first_and_other a b) ≡ true → first_and_other (Some s) b ≡ from s (first_and_other a b)

@@ -1,23 +1,19 @@
 -- Live sessions as a list, and what one more acceptance, opening or closing makes of it.
-use Rattle.std.proofs.Common.{◌≡◌, ◌⊎◌, ℕ, ◌+◌, ◌^◌, ◌<◌, ◌==◌, Bool, true, false, not, ◌||◌, cond, List, [], ◌∷◌, ◌++◌, filter, filter_map, map, find, nat_lt, max, unwrap_or, Option, None, Some, IfSome, option_map, option_to_list, refl, sym, ap, subst, ◌∙◌, arith, inl, inr}
-use Rattle.std.specs.Prelude.{IsSome, is_some}
+use Rattle.std.proofs.Common.{◌≡◌, ℕ, ◌+◌, ◌==◌, Bool, true, false, ◌||◌, cond, List, [], ◌∷◌, ◌++◌, filter, filter_map, map, find, unwrap_or, Option, None, Some, IfSome, option_map, option_to_list, refl, sym, ap, subst, ◌∙◌, arith, inl, inr}
 use Rattle.std.specs.List.{AllByRecursion, cons_option, list_any}
-use Rattle.std.specs.Option.{option_and_then, option_or}
+use Rattle.std.specs.Option.{option_or}
 use Rattle.std.proofs.lemmas.List.{append-nil, map-append}
 use Rattle.std.proofs.lemmas.List.Elements.{filter-append, filter_map-append}
 use Rattle.std.proofs.lemmas.List.Folds.{find-append}
-use Rattle.std.proofs.lemmas.Option.{none-some, same_Some}
-use Rattle.std.proofs.lemmas.Bool.{false≢true}
 use Rattle.std.proofs.lemmas.Bool.Decides.{nat_tests}
-use Rattle.ns_types.specs.Cases.{when}
-use Rattle.ns_secure.specs.Counter.{Exceeds}
 use Rattle.ns_calls.specs.declared.call.JoinAns.{JoinAns}
 use Rattle.ns_calls.specs.Queries.{last, greater, maximum}
 use Rattle.ns_calls.specs.History.{Acceptance, Opening, Closing, first_and_other}
 use Rattle.ns_calls.proofs.LocalLemmas.{bool_tells}
-use Rattle.ns_calls.proofs.QueryLemmas.{last-push, maximum-push}
+use Rattle.ns_calls.proofs.QueryLemmas.{maximum-push}
 use Rattle.ns_sessions.specs.declared.session.Session.{Session}
-use Rattle.ns_sessions.specs.Record.{IsNewCounter, opened, session_ack, used_ack, acknowledged, new_session}
+use Rattle.ns_sessions.specs.Record.{opened}
+use Rattle.ns_sessions.proofs.Basics.{greater-none}
 
 -- ---- a device's sessions, from its acceptances, openings and closings
 
@@ -49,10 +45,6 @@ abbrev pub sessions_by : List Acceptance → List Opening → List Closing → L
 sessions_by accepted opened closed = filter_map (session_by accepted opened closed) (first_and_other (active_by opened) (newest_by accepted))
 
 -- ---- one more element
-
-greater-none : (a : Option ℕ) → greater a None ≡ a
-greater-none None = refl
-greater-none (Some a) = refl
 
 maximum-option : (ns : List ℕ) (o : Option ℕ) → maximum (ns ++ option_to_list o) ≡ greater (maximum ns) o
 maximum-option ns None = ap maximum (append-nil ns) ∙ sym (greater-none (maximum ns))

@@ -1,20 +1,18 @@
 -- Openings and closings agree with the history, and other entries leave what it says.
-use Rattle.std.proofs.Common.{◌≡◌, ◌⊎◌, ℕ, ◌+◌, ◌^◌, ◌<◌, ◌≤◌, ◌==◌, Bool, true, false, not, ◌&&◌, ◌||◌, cond, List, [], ◌∷◌, ◌++◌, filter, filter_map, map, find, nat_lt, max, unwrap_or, Option, None, Some, IfSome, option_map, option_to_list, refl, sym, ap, subst, ◌∙◌, arith, inl, inr}
+use Rattle.std.proofs.Common.{◌≡◌, ℕ, ◌+◌, ◌^◌, ◌==◌, Bool, true, false, ◌&&◌, ◌||◌, cond, List, [], ◌∷◌, ◌++◌, filter_map, find, nat_lt, Option, None, Some, IfSome, option_map, refl, sym, ap, subst, ◌∙◌, arith, inl, inr}
 use Rattle.std.specs.Prelude.{IsSome, is_some}
 use Rattle.std.specs.List.{AllByRecursion, cons_option, list_any}
 use Rattle.std.specs.Option.{option_and_then, option_map_or, option_or}
 use Rattle.std.proofs.lemmas.List.{append-nil}
-use Rattle.std.proofs.lemmas.Option.{none-some, same_Some}
+use Rattle.std.proofs.lemmas.Option.{same_Some}
 use Rattle.std.proofs.lemmas.Bool.{false≢true}
 use Rattle.std.proofs.lemmas.Bool.Decides.{nat_tests}
 use Rattle.ns_types.specs.declared.identity.DevEui.{DevEui}
 use Rattle.ns_types.specs.declared.identity.WindowName.{WindowName}
 use Rattle.ns_types.specs.declared.heard.Heard.{Heard}
-use Rattle.ns_types.specs.declared.ticket.Ticket.{Ticket}
 use Rattle.ns_types.specs.Cases.{when}
 use Rattle.ns_types.specs.Ticket.{dev_eui}
 use Rattle.ns_views.specs.Frame.{data_fields, is_confirmed}
-use Rattle.ns_secure.specs.Counter.{Exceeds}
 use Rattle.ns_secure.specs.Integrity.{mic_fits}
 use Rattle.ns_roster.specs.Network.{Network}
 use Rattle.ns_calls.specs.declared.call.JoinAns.{JoinAns}
@@ -23,7 +21,7 @@ use Rattle.ns_calls.specs.declared.call.Call.TheVariants as call
 use Rattle.ns_calls.specs.declared.call.Reply.{Reply}
 use Rattle.ns_calls.specs.declared.call.Reply.TheVariants as reply
 use Rattle.ns_calls.specs.declared.call.Entry.{Entry}
-use Rattle.ns_calls.specs.Queries.{first, last, greater, maximum}
+use Rattle.ns_calls.specs.Queries.{first, greater}
 use Rattle.ns_calls.specs.History.{Acceptance, Opening, Closing, asking_in, ending_in, ticket_copy_in, acceptances, openings, closings, same_device, session_join, greatest_counter, next_ack_number, live, is_live, first_and_other}
 use Rattle.ns_calls.specs.Reply as plain
 use Rattle.ns_calls.specs.Reply.{window_of, ack_number}
@@ -33,13 +31,13 @@ use Rattle.ns_calls.proofs.QueryLemmas.{last-push}
 use Rattle.ns_calls.proofs.PushLemmas.{acceptances-push, openings-push, closings-push}
 use Rattle.ns_calls.proofs.KeyLemmas.{sessions_have_joins}
 use Rattle.ns_sessions.specs.declared.session.Session.{Session}
-use Rattle.ns_sessions.specs.declared.ticket.OpenTicket.{OpenTicket}
-use Rattle.ns_sessions.specs.Record.{DeviceRecord, no_joins, device_record, session_record, session_in, session_fit, device_fit, IsNewCounter, with_uplink, opened, session_ack, used_ack, ack_in, with_ack, acknowledged}
+use Rattle.ns_sessions.specs.Record.{device_record, session_record, session_in, session_fit, IsNewCounter, with_uplink, opened, session_ack, used_ack, ack_in, with_ack, acknowledged}
 use Rattle.ns_sessions.specs.Laws.{entry_of, concerns, OthersStay, UplinksAgree, ClosingsAgree}
 use Rattle.ns_sessions.proofs.Sessions.{join_by, counter_by, greatest_ack_by, next_ack_by, session_of, session_by, active_by, newest_by, sessions_by, counter-push, ack-push, session_by-numbered, live-apart, found_by_number}
-use Rattle.ns_sessions.proofs.SessionSteps.{with_counter, from, opened_from, live_opened, acknowledged_in}
-use Rattle.ns_sessions.proofs.Records.{tickets_said, record_by, record_said, sessions_said, none_added, one_added, sessions_stay, acceptances_stay}
+use Rattle.ns_sessions.proofs.SessionSteps.{from, opened_from, live_opened, acknowledged_in}
+use Rattle.ns_sessions.proofs.Records.{tickets_said, record_by, record_said, sessions_said, one_added, sessions_stay, acceptances_stay}
 use Rattle.ns_sessions.proofs.OpenTickets.{IsQuiet, tickets_stay, same_device-refl}
+use Rattle.ns_sessions.proofs.Basics.{exceeds_greater}
 
 -- ---- entries that do not concern a device
 
@@ -118,10 +116,6 @@ fits_in recover h frame eui (n ∷ ns) =
     (fits_in recover h frame eui ns)
 
 -- ---- an uplink that is opened
-
-exceeds_greater : (greatest : Option ℕ) (n : ℕ) → Exceeds greatest n → greater greatest (Some n) ≡ Some n
-exceeds_greater None n above = refl
-exceeds_greater (Some g) n above = ap Some (omega (arith, above))
 
 -- the session that was looked up lives and has keys
 found_live : (b : Bool) (o : Option Session) (counter : ℕ) → IsNewCounter (cond b o None) counter → b ≡ true

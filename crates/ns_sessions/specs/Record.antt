@@ -1,8 +1,7 @@
 -- What the state of one device says, how each call changes it, and what a history says of the device.
 -- (LoRaWAN L2 1.0.4, 4.3.1.5 for counters and 6.2 for joins)
-use Rattle.std.specs.Prelude.{ℕ, ◌+◌, ◌^◌, Bool, true, false, not, ◌==◌, nat_le, nat_lt, List, [], ◌∷◌, ◌++◌, length, map, filter, filter_map, find, Option, None, Some, option_map, option_and_then, is_some, if◌then◌else◌}
+use Rattle.std.specs.Prelude.{ℕ, ◌+◌, ◌^◌, not, ◌==◌, nat_le, nat_lt, List, [], ◌∷◌, ◌++◌, length, map, filter, filter_map, find, Option, None, Some, option_map, option_and_then, is_some, if◌then◌else◌}
 use Rattle.ns_types.specs.declared.identity.DevEui.{DevEui}
-use Rattle.ns_types.specs.declared.identity.Key.{Key}
 use Rattle.ns_types.specs.declared.heard.Heard.{Heard}
 use Rattle.ns_types.specs.declared.ticket.Ticket.{Ticket}
 use Rattle.ns_types.specs.Cases.{first_case, when}
@@ -14,7 +13,7 @@ use Rattle.ns_secure.specs.Integrity.{mic_fits}
 use Rattle.ns_roster.specs.Network.{Network}
 use Rattle.ns_calls.specs.declared.call.JoinAns.{JoinAns}
 use Rattle.ns_calls.specs.declared.call.Outcome.{Outcome}
-use Rattle.ns_calls.specs.declared.call.Outcome.TheVariants.{Failed, Success}
+use Rattle.ns_calls.specs.declared.call.Outcome.TheVariants.{Success}
 use Rattle.ns_calls.specs.declared.call.Entry.{Entry}
 use Rattle.ns_calls.specs.Queries.{first}
 use Rattle.ns_calls.specs.History.{same_device, same_ticket, greatest_nonce, next_session, session_join, live, greatest_counter, next_ack, open_tickets, ticket_copies}

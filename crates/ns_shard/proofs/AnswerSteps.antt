@@ -1,9 +1,8 @@
 -- What comes of a join server's answer by the devices that agree with the entries, and that they agree after it.
-use Rattle.std.proofs.Common.{◌≡◌, ◌⊎◌, ℕ, Bool, true, false, not, cond, List, [], ◌∷◌, ◌++◌, length, filter, Option, None, Some, IfSome, option_map, option_to_list, refl, sym, ap, ap₂, subst, ◌∙◌, inl, inr}
+use Rattle.std.proofs.Common.{◌≡◌, ℕ, Bool, true, false, not, List, length, filter, Option, None, Some, IfSome, option_map, option_to_list, refl, sym, ap, ap₂, subst, ◌∙◌, inl, inr}
 use Rattle.std.specs.Prelude.{IsSome}
 use Rattle.std.specs.List.{AllByRecursion, list_any}
 use Rattle.std.specs.Option.{option_map_or}
-use Rattle.std.proofs.lemmas.Bool.{false≢true}
 use Rattle.ns_types.specs.declared.identity.DevAddr.{DevAddr}
 use Rattle.ns_types.specs.declared.identity.DevEui.{DevEui}
 use Rattle.ns_types.specs.declared.identity.JoinEui.{JoinEui}
@@ -24,9 +23,8 @@ use Rattle.ns_calls.specs.declared.call.Reply.{Reply}
 use Rattle.ns_calls.specs.declared.call.Reply.TheVariants as reply
 use Rattle.ns_calls.specs.declared.call.Entry.{Entry}
 use Rattle.ns_calls.specs.declared.answer.Answer.{Answer}
-use Rattle.ns_calls.specs.declared.answer.Downlink.{Downlink}
 use Rattle.ns_calls.specs.Accept.{accept_bytes}
-use Rattle.ns_calls.specs.History.{same_device, same_ticket, asking_in, ends_ticket, open_tickets, is_ticket_open, ticket_copies, next_session}
+use Rattle.ns_calls.specs.History.{same_device, asking_in, ends_ticket, open_tickets, is_ticket_open, ticket_copies, next_session}
 use Rattle.ns_calls.specs.Reply.{reply_to, reply_to_join, reply_to_join_reply, address, spent_by, is_failed}
 use Rattle.ns_calls.specs.Out.{answer, uplink_out, downlink_out, downlink_to, join_accept_delay}
 use Rattle.ns_calls.specs.Legal.{IsLegal, entry_for, with_call}
@@ -43,11 +41,11 @@ use Rattle.ns_sessions.specs.Laws.{OthersStay, AnswersAgree, concerns, answer_re
 use Rattle.ns_sessions.proofs.OpenTickets.{at_member}
 use Rattle.ns_windows.specs.declared.window.Window.{Window}
 use Rattle.ns_shard.specs.declared.devices.Own.{Own}
-use Rattle.ns_shard.specs.Devices.{own_in, devices_in, own_of, changed, answered}
-use Rattle.ns_shard.specs.Taken.{quiet, accept_sent, taken_answer, ended_answer}
+use Rattle.ns_shard.specs.Devices.{own_in, own_of, changed, answered}
+use Rattle.ns_shard.specs.Taken.{quiet, taken_answer, ended_answer}
 use Rattle.ns_shard.specs.Parts.{Agrees}
 use Rattle.ns_shard.proofs.Roster.{own-found}
-use Rattle.ns_shard.proofs.DeviceSteps.{OthersSame, devices-changed}
+use Rattle.ns_shard.proofs.DeviceSteps.{devices-changed}
 use Rattle.ns_shard.proofs.WindowSteps.{windows-quiet}
 use Rattle.ns_shard.proofs.PartSteps.{joined, others-stay, join-unknown, same_device-false}
 

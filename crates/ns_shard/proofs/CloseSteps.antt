@@ -1,16 +1,14 @@
 -- What comes of a closing by the devices and windows that agree with the entries, and that they agree after it.
-use Rattle.std.proofs.Common.{◌≡◌, ◌⊎◌, ℕ, ◌+◌, ◌^◌, ◌==◌, Bool, true, false, not, cond, nat_lt, List, [], ◌∷◌, ◌++◌, length, filter, filter_map, find, map, Option, None, Some, IfSome, option_map, option_to_list, refl, sym, ap, ap₂, subst, ◌∙◌, inl, inr}
+use Rattle.std.proofs.Common.{◌≡◌, ℕ, ◌+◌, ◌^◌, ◌==◌, Bool, true, false, not, cond, nat_lt, List, [], ◌∷◌, ◌++◌, length, filter, filter_map, find, Option, None, Some, IfSome, option_map, option_to_list, refl, sym, ap, ap₂, subst, ◌∙◌, inl, inr}
 use Rattle.std.specs.Prelude.{IsSome, Contains}
 use Rattle.std.specs.List.{AllByRecursion, cons_option}
 use Rattle.std.specs.Option.{option_and_then}
-use Rattle.std.proofs.lemmas.Bool.{false≢true}
 use Rattle.ns_types.specs.declared.identity.DevEui.{DevEui}
 use Rattle.ns_types.specs.declared.identity.WindowName.{WindowName}
-use Rattle.ns_types.specs.declared.heard.Heard.{Heard}
 use Rattle.ns_types.specs.Cases.{first_case, when}
 use Rattle.ns_types.specs.Identity.{shard_of, same_window}
 use Rattle.ns_views.specs.Frame.{data_fields, is_confirmed}
-use Rattle.ns_secure.specs.Counter.{above, below}
+use Rattle.ns_secure.specs.Counter.{above}
 use Rattle.ns_roster.specs.declared.Device.{Device}
 use Rattle.ns_roster.specs.Network.{Network, device, device_addr}
 use Rattle.ns_roster.specs.Valid.{IsRoster}
@@ -38,24 +36,23 @@ use Rattle.ns_calls.proofs.Induction.{legal_induction}
 use Rattle.ns_calls.proofs.UplinkLemmas.{opened-cases}
 use Rattle.ns_calls.proofs.WindowLemmas.{same_window-eq}
 use Rattle.ns_sessions.specs.declared.session.Session.{Session}
-use Rattle.ns_sessions.specs.Record.{DeviceRecord, device_record, ack_in, with_ack, session_in, session_ack, used_ack, acknowledged}
+use Rattle.ns_sessions.specs.Record.{DeviceRecord, device_record, ack_in, with_ack, session_ack, used_ack, acknowledged}
 use Rattle.ns_sessions.specs.Laws.{OthersStay, ClosingsAgree, concerns}
 use Rattle.ns_windows.specs.declared.window.Window.{Window}
 use Rattle.ns_windows.specs.Windows.{named, without}
 use Rattle.ns_shard.specs.declared.devices.Own.{Own}
-use Rattle.ns_shard.specs.Held as held
 use Rattle.ns_shard.specs.Held.{window_in, windows_in}
 use Rattle.ns_shard.specs.Devices.{own_in, devices_in, own_of, changed}
-use Rattle.ns_shard.specs.Taken.{quiet, uplink_from, ack_from, ack_of, acked_devices, closed_answer, closing_answer, closing_devices}
+use Rattle.ns_shard.specs.Taken.{uplink_from, ack_from, ack_of, closing_answer, closing_devices}
 use Rattle.ns_shard.specs.Parts.{Agrees}
 use Rattle.ns_shard.proofs.Roster.{own-found, members}
-use Rattle.ns_shard.proofs.DeviceSteps.{OthersSame, devices-changed, devices-same}
+use Rattle.ns_shard.proofs.DeviceSteps.{devices-changed, devices-same}
 use Rattle.ns_shard.proofs.WindowSteps.{windows-quiet, windows-closed, windows-named}
 use Rattle.ns_shard.proofs.PartSteps.{joined, others-stay, same_device-false}
 
 -- ---- the devices of open windows are the roster's
 
-gives-all : {X Y : Type 0} (P : Y → Type 0) (f : X → Option Y) (xs : List X) → AllByRecursion (λ x. IfSome (f x) P) xs → IfSome (first (filter_map f xs)) P
+pub gives-all : {X Y : Type 0} (P : Y → Type 0) (f : X → Option Y) (xs : List X) → AllByRecursion (λ x. IfSome (f x) P) xs → IfSome (first (filter_map f xs)) P
 gives-all P f [] all = tt
 gives-all {X} {Y} P f (x ∷ xs) all = step (f x) all.0 (gives-all P f xs all.1)
   where
@@ -74,10 +71,10 @@ session_fit-eui recover h frame eui session = step (recover (greatest_counter h 
     step None = tt
     step (Some n) = test n (fits h frame (window_of eui session n))
 
-device_fit-eui : (recover : Option ℕ → ℕ → Option ℕ) (h : List Entry) (frame : List ℕ) (eui : DevEui) → IfSome (plain.device_fit recover h frame eui) (λ w. w.eui ≡ eui)
+pub device_fit-eui : (recover : Option ℕ → ℕ → Option ℕ) (h : List Entry) (frame : List ℕ) (eui : DevEui) → IfSome (plain.device_fit recover h frame eui) (λ w. w.eui ≡ eui)
 device_fit-eui recover h frame eui = first-gives (λ (w : WindowName). w.eui ≡ eui) (plain.session_fit recover h frame eui) (session_fit-eui recover h frame eui) (live h eui)
 
-IfSome-weaker : {X : Type 0} (P Q : X → Type 0) → ((x : X) → P x → Q x) → (o : Option X) → IfSome o P → IfSome o Q
+pub IfSome-weaker : {X : Type 0} (P Q : X → Type 0) → ((x : X) → P x → Q x) → (o : Option X) → IfSome o P → IfSome o Q
 IfSome-weaker P Q weaker None is = tt
 IfSome-weaker P Q weaker (Some x) is = weaker x is
 
@@ -97,7 +94,7 @@ fit-known recover net h frame valid =
         let here : IsSome (device net d.eui) = subst (λ (o : Option Device). IsSome o) (sym found) refl in
         IfSome-weaker (λ (w : WindowName). w.eui ≡ d.eui) Known (λ w is. subst (λ (e : DevEui). IsSome (device net e)) (sym is) here) (plain.device_fit recover h frame d.eui) (device_fit-eui recover h frame d.eui)
 
-at_some : {X : Type 0} (P : X → Type 0) (o : Option X) (x : X) → o ≡ Some x → IfSome o P → P x
+pub at_some : {X : Type 0} (P : X → Type 0) (o : Option X) (x : X) → o ≡ Some x → IfSome o P → P x
 at_some P o x is holds = subst (λ p. IfSome p P) is holds
 
 opened-known : (net : Network) (h : List Entry) → IsRoster net → (c : Call) → IfSome (opening_in c (reply_to net h c)) (λ o. IsSome (device net o.window.eui))
@@ -170,7 +167,7 @@ ack-same net h o n keyed = step (session_join h o.window.eui o.window.session) r
     step None is some = absurd (cc some)
     step (Some join) is some = rw is refl
 
-own-some : (net : Network) (index : ℕ) (h : List Entry) (eui : DevEui) → shard_of eui ≡ index → IsSome (device net eui) → (d : Device) × (own_of eui (devices_in net index h) ≡ Some (own_in net h d)) × (d.eui ≡ eui)
+pub own-some : (net : Network) (index : ℕ) (h : List Entry) (eui : DevEui) → shard_of eui ≡ index → IsSome (device net eui) → (d : Device) × (own_of eui (devices_in net index h) ≡ Some (own_in net h d)) × (d.eui ≡ eui)
 own-some net index h eui mine known = step (device net eui) refl known
   where
     step : (x : Option Device) → device net eui ≡ x → IsSome x → (d : Device) × (own_of eui (devices_in net index h) ≡ Some (own_in net h d)) × (d.eui ≡ eui)

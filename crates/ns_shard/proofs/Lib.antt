@@ -7,3 +7,5 @@ pub mod Entries
 pub mod PartSteps
 pub mod AnswerSteps
 pub mod CloseSteps
+pub mod UplinkSteps
+pub mod RunSteps

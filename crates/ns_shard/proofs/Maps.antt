@@ -1,5 +1,5 @@
 -- Questions to a list of which each element is mapped.
-use Rattle.std.proofs.Common.{◌≡◌, ℕ, ◌+◌, Bool, true, false, cond, List, [], ◌∷◌, filter, map, find, count_by, Option, None, Some, option_map, refl, sym, ap, ap₂, ◌∙◌, arith, inl, inr}
+use Rattle.std.proofs.Common.{◌≡◌, ℕ, ◌+◌, Bool, true, false, cond, List, [], ◌∷◌, filter, map, find, count_by, Option, Some, option_map, refl, sym, ap, ap₂, ◌∙◌, arith, inl, inr}
 use Rattle.std.specs.List.{AllByRecursion}
 use Rattle.ns_calls.specs.Queries.{first}
 use Rattle.ns_calls.proofs.LocalLemmas.{bool_tells}

@@ -1,44 +1,36 @@
 -- What comes of a call by the devices and windows that agree with the entries is what comes of it by the entries, and they agree after it.
-use Rattle.std.proofs.Common.{◌≡◌, ◌⊎◌, ℕ, ◌+◌, ◌<◌, ◌==◌, Bool, true, false, not, cond, nat_le, ◌&&◌, List, [], ◌∷◌, ◌++◌, length, filter, map, find, Option, None, Some, IfSome, option_map, refl, sym, ap, ap₂, subst, ◌∙◌, arith, inl, inr}
-use Rattle.std.specs.Prelude.{IsSome}
-use Rattle.std.specs.List.{AllByRecursion, list_any}
+use Rattle.std.proofs.Common.{◌≡◌, ℕ, Bool, true, false, not, cond, nat_le, List, [], ◌∷◌, length, map, Option, None, Some, option_map, refl, sym, ap, ap₂, ◌∙◌, arith, inl, inr}
 use Rattle.std.specs.Option.{option_map_or}
 use Rattle.std.proofs.lemmas.Bool.Decides.{nat_tests}
-use Rattle.std.proofs.lemmas.Bool.{false≢true}
 use Rattle.ns_types.specs.declared.identity.DevEui.{DevEui}
-use Rattle.ns_types.specs.declared.identity.JoinEui.{JoinEui}
 use Rattle.ns_types.specs.declared.heard.Heard.{Heard}
 use Rattle.ns_types.specs.declared.ticket.Ticket.{Ticket}
 use Rattle.ns_types.specs.Cases.{first_case, when}
 use Rattle.ns_types.specs.Identity.{shard_of}
 use Rattle.ns_types.specs.Ticket.{dev_eui, join_eui}
 use Rattle.ns_roster.specs.declared.Device.{Device}
-use Rattle.ns_roster.specs.Network.{Network, device, is_known, device_addr, has_join_eui}
+use Rattle.ns_roster.specs.Network.{Network, device, is_known, has_join_eui}
 use Rattle.ns_roster.specs.Valid.{IsRoster}
 use Rattle.ns_roster.proofs.DeviceLemmas.{is_known-by_device, found-device}
-use Rattle.ns_calls.specs.declared.call.Outcome.{Outcome}
 use Rattle.ns_calls.specs.declared.call.Call.{Call}
 use Rattle.ns_calls.specs.declared.call.Call.TheVariants as call
 use Rattle.ns_calls.specs.declared.call.Reply.{Reply}
 use Rattle.ns_calls.specs.declared.call.Reply.TheVariants as reply
 use Rattle.ns_calls.specs.declared.call.Entry.{Entry}
-use Rattle.ns_calls.specs.History.{same_device, opening_in, closing_in, window_copy_in}
+use Rattle.ns_calls.specs.History.{same_device}
 use Rattle.ns_calls.specs.History.{is_ticket_open, ticket_count}
 use Rattle.ns_calls.specs.Reply.{reply_to, reply_to_join, spent_by, join_copy_reply, most_tickets}
-use Rattle.ns_calls.specs.Legal.{IsLegal, entry_for, with_call}
-use Rattle.ns_calls.specs.Shards.{shard_of_call}
+use Rattle.ns_calls.specs.Legal.{entry_for, with_call}
 use Rattle.ns_calls.proofs.LocalLemmas.{bool_tells}
 use Rattle.ns_calls.proofs.LegalLemmas.{history_none, history_more}
 use Rattle.ns_calls.proofs.KeyLemmas.{sessions_have_joins}
-use Rattle.ns_calls.proofs.JoinLemmas.{same_device-eq}
 use Rattle.ns_sessions.specs.declared.take.JoinTake.{JoinTake}
 use Rattle.ns_sessions.specs.declared.take.JoinTake.TheVariants as join
-use Rattle.ns_sessions.specs.Record.{device_record, join_take, no_joins}
+use Rattle.ns_sessions.specs.Record.{device_record, join_take}
 use Rattle.ns_sessions.specs.Laws as laws
 use Rattle.ns_sessions.specs.Laws.{OthersStay, JoinsAgree, concerns}
 use Rattle.ns_windows.specs.declared.window.Window.{Window}
 use Rattle.ns_shard.specs.declared.devices.Own.{Own}
-use Rattle.ns_shard.specs.Held.{windows_in}
 use Rattle.ns_shard.specs.Devices.{devices_of, own, own_in, devices_in, joinless, own_of, changed, asked}
 use Rattle.ns_shard.specs.Taken.{join_reply, known_reply, joining_reply, joining_devices}
 use Rattle.ns_shard.specs.Parts.{Agrees}

@@ -1,18 +1,16 @@
 -- The devices of a shard are those of the roster that are asked for.
-use Rattle.std.proofs.Common.{◌≡◌, ◌⊎◌, ℕ, zero, suc, ◌<◌, ◌==◌, Bool, true, false, cond, List, [], ◌∷◌, length, filter, filter_map, map, find, get_or, Option, None, Some, IfSome, option_map, refl, sym, ap, ap₂, subst, ◌∙◌, arith, inl, inr}
-use Rattle.std.specs.Prelude.{IsSome, All, AllPairs, Contains}
+use Rattle.std.proofs.Common.{◌≡◌, ℕ, zero, suc, ◌==◌, Bool, true, false, cond, List, [], ◌∷◌, filter, filter_map, map, find, Option, Some, option_map, refl, sym, ap, ap₂, ◌∙◌, arith, inl, inr}
+use Rattle.std.specs.Prelude.{All, AllPairs, Contains}
 use Rattle.std.specs.List.{AllByRecursion, cons_option}
 use Rattle.std.proofs.lemmas.List.Elements.{Contains-get_or}
-use Rattle.std.proofs.lemmas.Bool.{false≢true}
 use Rattle.std.proofs.lemmas.Bool.Decides.{nat_tests}
 use Rattle.ns_types.specs.declared.identity.DevEui.{DevEui}
-use Rattle.ns_types.specs.declared.identity.WindowName.{WindowName}
 use Rattle.ns_types.specs.Identity.{shard_of, shard_of_addr}
 use Rattle.ns_views.specs.Frame.{data_fields}
 use Rattle.ns_roster.specs.declared.Device.{Device}
 use Rattle.ns_roster.specs.Network.{Network, device, device_addr}
 use Rattle.ns_roster.specs.Valid.{IsRoster, Differ}
-use Rattle.ns_roster.proofs.DeviceLemmas.{shard_of_device, device-found, later_differ, rest_apart}
+use Rattle.ns_roster.proofs.DeviceLemmas.{shard_of_device, later_differ, rest_apart}
 use Rattle.ns_calls.specs.declared.call.Entry.{Entry}
 use Rattle.ns_calls.specs.Queries.{first}
 use Rattle.ns_calls.specs.History.{same_device}
@@ -22,9 +20,8 @@ use Rattle.ns_calls.proofs.LocalLemmas.{bool_tells}
 use Rattle.ns_calls.proofs.Lists.{All-filter, All-weaker}
 use Rattle.ns_calls.proofs.JoinLemmas.{same_device-eq}
 use Rattle.ns_sessions.specs.Record.{device_fit, device_record}
-use Rattle.ns_shard.specs.declared.devices.Own.{Own}
-use Rattle.ns_shard.specs.Devices.{devices_of, own, own_in, devices_in, is_own, own_of, own_fit, is_addressed, first_own_fit}
-use Rattle.ns_shard.proofs.Maps.{map-same, find-map, filter-map}
+use Rattle.ns_shard.specs.Devices.{devices_of, own_in, devices_in, is_own, own_of, own_fit, is_addressed, first_own_fit}
+use Rattle.ns_shard.proofs.Maps.{find-map, filter-map}
 
 pub all_each : {X : Type 0} (P : X → Type 0) (xs : List X) → All P xs → AllByRecursion P xs
 all_each P [] all = tt

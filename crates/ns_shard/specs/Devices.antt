@@ -1,11 +1,10 @@
 -- The devices of a shard, and what is asked of them; for private clauses.
-use Rattle.std.specs.Prelude.{ℕ, Bool, ◌==◌, List, [], ◌∷◌, map, filter, filter_map, find, Option, None, Some, option_map, if◌then◌else◌}
+use Rattle.std.specs.Prelude.{ℕ, Bool, ◌==◌, List, [], ◌∷◌, map, filter, filter_map, find, Option, option_map, if◌then◌else◌}
 use Rattle.ns_types.specs.declared.identity.DevEui.{DevEui}
 use Rattle.ns_types.specs.declared.identity.WindowName.{WindowName}
 use Rattle.ns_types.specs.declared.heard.Heard.{Heard}
 use Rattle.ns_types.specs.declared.ticket.Ticket.{Ticket}
 use Rattle.ns_types.specs.Identity.{shard_of}
-use Rattle.ns_types.specs.Ticket.{dev_eui, join_eui}
 use Rattle.ns_views.specs.Frame.{data_fields}
 use Rattle.ns_roster.specs.declared.Device.{Device}
 use Rattle.ns_roster.specs.Network.{Network, device_addr}
@@ -14,7 +13,7 @@ use Rattle.ns_calls.specs.declared.call.Entry.{Entry}
 use Rattle.ns_calls.specs.Queries.{first}
 use Rattle.ns_calls.specs.History.{same_device}
 use Rattle.ns_calls.specs.Reply.{window_of}
-use Rattle.ns_sessions.specs.Record.{DeviceRecord, no_joins, device_fit, device_record, join_take, with_join, reply_take, with_reply, with_uplink, with_ack}
+use Rattle.ns_sessions.specs.Record.{DeviceRecord, no_joins, device_fit, device_record, join_take, with_join, reply_take, with_reply}
 use Rattle.ns_shard.specs.declared.devices.Own.{Own}
 
 -- the devices of a shard, in the roster's order

@@ -1,5 +1,5 @@
 -- What a shard keeps beside its entries, as the entries tell it; for private clauses.
-use Rattle.std.specs.Prelude.{ℕ, List, [], map, Option, None, Some}
+use Rattle.std.specs.Prelude.{List, [], map, Option, None, Some}
 use Rattle.ns_types.specs.declared.identity.Key.{Key}
 use Rattle.ns_types.specs.declared.heard.Heard.{Heard}
 use Rattle.ns_calls.specs.declared.call.JoinAns.{JoinAns}

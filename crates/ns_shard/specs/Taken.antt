@@ -1,5 +1,5 @@
 -- What comes of a call, told of the devices and windows that a shard keeps; for private clauses.
-use Rattle.std.specs.Prelude.{◌≡◌, IfSome, IsSome, ℕ, ◌+◌, Bool, false, ◌&&◌, nat_le, nat_lt, List, [], ◌∷◌, ◌++◌, length, Option, None, Some, option_map, option_and_then, is_none, if◌then◌else◌}
+use Rattle.std.specs.Prelude.{◌≡◌, IfSome, IsSome, ℕ, ◌&&◌, nat_le, nat_lt, List, [], ◌∷◌, ◌++◌, length, Option, None, Some, option_map, option_and_then, is_none, if◌then◌else◌}
 use Rattle.std.specs.Option.{option_map_or}
 use Rattle.ns_types.specs.declared.identity.DevAddr.{DevAddr}
 use Rattle.ns_types.specs.declared.identity.Key.{Key}
@@ -160,6 +160,6 @@ pub record IsOpenable (devices : List Own) (windows : List Window) (name : Windo
   pub keys : IsSome (keys_in devices name)
   pub apart : named name windows ≡ None
 
--- what fits can be opened
+-- what is opened can be opened
 abbrev pub CanOpen : List Own → List Window → List ℕ → Type 0
-CanOpen devices windows frame = IfSome (first_own_fit above frame devices) (IsOpenable devices windows)
+CanOpen devices windows frame = (name : WindowName) → taking_reply devices windows frame ≡ reply.Opened name → IsOpenable devices windows name

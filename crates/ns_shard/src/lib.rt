@@ -6,13 +6,16 @@
 //! for acknowledgements, and on the definitions of `ns_calls`; it looks into no frame.
 #![tactic(auto)]
 
+mod calls;
 mod closing;
 mod devices;
 mod joining;
 mod parts;
+mod run;
 mod shard;
 mod step;
 mod taking;
 
+pub use run::{Run, Shards, Taken};
 pub use shard::Shard;
 pub use step::{Act, OwnedBytes, Step};

@@ -104,4 +104,43 @@ impl Parts {
             .push(Call::Close { window: *name }, answer.reply);
         answer
     }
+
+    /// Takes an uplink. Where a growth is refused, nothing has changed.
+    pub fn uplink(&mut self, frame: &DataFrame, heard: &Heard) -> Result<Answer, AllocError>
+        requires room { 0 < self.old.journal.room }
+        requires own { shard_of_call (Uplink frame.now heard.now) ≡ self.old.index }
+        requires agree { AreParts self.old }
+        ensures answer { IfOk result (λ a. a ≡ answer (arc_value self.old.roster) self.old.journal.entries (Uplink frame.now heard.now)) }
+        ensures state { OnOk result (state_of self.new ≡ after_call (state_of self.old) (Uplink frame.now heard.now)) }
+        ensures err { OnErr result (state_of self.new ≡ state_of self.old) }
+        ensures agree { AreParts self.new }
+    {
+        let reply = take(&mut self.devices, &mut self.windows, frame, heard)?;
+        self.journal.push(
+            Call::Uplink {
+                frame: *frame,
+                heard: *heard,
+            },
+            reply,
+        );
+        Ok(quiet(reply))
+    }
+
+    /// Answers a call. Where a growth is refused, nothing has changed.
+    pub fn apply(&mut self, call: Call) -> Result<Answer, AllocError>
+        requires own { shard_of_call call ≡ self.old.index }
+        requires agree { AreParts self.old }
+        ensures answer { IfOk result (λ a. a ≡ answer (arc_value self.old.roster) self.old.journal.entries call) }
+        ensures state { OnOk result (state_of self.new ≡ after_call (state_of self.old) call) }
+        ensures err { OnErr result (state_of self.new ≡ state_of self.old) }
+        ensures agree { AreParts self.new }
+    {
+        self.journal.room(1)?;
+        match call {
+            Call::Uplink { frame, heard } => self.uplink(&frame, &heard),
+            Call::Join { ticket, heard } => Ok(self.join(&ticket, &heard)),
+            Call::JoinReply { ticket, outcome } => Ok(self.join_reply(&ticket, &outcome)),
+            Call::Close { window } => Ok(self.close(&window)),
+        }
+    }
 }

@@ -46,6 +46,17 @@ impl Shard {
         })
     }
 
+    /// Answers a call, and adds exactly its entry. `NoMemory` (`AllocError`) where a growth was refused: then nothing has changed.
+    pub fn apply(&mut self, call: Call) -> Result<Answer, AllocError>
+        requires { shard_of_call call ≡ self.old.index }
+        ensures entry { OnOk result (self.new ≡ after_call self.old call) }
+        ensures answer { IfOk result (λ a. a ≡ answer self.old.roster self.old.entries call) }
+        ensures err { OnErr result (self.new ≡ self.old) }
+        ensures history { IsHistory self.new.roster self.new.index self.new.entries }
+    {
+        self.parts.apply(call)
+    }
+
     /// The entries, the earliest first, which are a history of the shard.
     pub fn entries(&self) -> &[Entry]
         ensures entries { result.now ≡ self.now.entries }

@@ -108,8 +108,8 @@ pub fn take(
     let view = frame.view();
     if let Some(name) = devices.fresh(&view) {
         let reply = opening_reply(windows, &name);
-        if let Reply::Opened { .. } = reply {
-            open(devices, windows, &name, frame, heard)?;
+        if let Reply::Opened { window } = &reply {
+            open(devices, windows, window, frame, heard)?;
         }
         return Ok(reply);
     }

@@ -1,7 +1,8 @@
-use Rattle.std.proofs.Common.{◌≡◌, take}
+use Rattle.std.proofs.Common.{◌≡◌, ◌++◌, drop}
 use Rattle.std.specs.Prelude.{flat_map}
-use Rattle.lorawan_ns.specs.Output.{text_of}
+use Rattle.lorawan_ns.specs.Output.{text_of, woven}
 use Rattle.lorawan_ns.proofs.taken.text_of.Given as goal
 
-abbrev pub invariant-loop-one : goal.invariant-loop-one
-invariant-loop-one l = l.text.items ≡ flat_map text_of (take l.one-index l.all)
+-- the text so far and that of the rest is the whole
+abbrev pub invariant-lines : goal.invariant-lines
+invariant-lines l = l.text.items ++ flat_map text_of (woven (drop l.is_step-index l.are_steps) l.rest) ≡ flat_map text_of (woven l.are_steps l.taken)

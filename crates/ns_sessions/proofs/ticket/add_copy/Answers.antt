@@ -1,5 +1,5 @@
 use Rattle.std.proofs.Common.{◌≡◌, None, Some, option_map, get_or, sym, ap, ◌∙◌}
-use Rattle.ns_sessions.specs.Record.{copy_take, with_copy, ticket_among}
+use Rattle.ns_sessions.specs.Record.{copy_take, ticket_among}
 use Rattle.ns_sessions.proofs.Tickets.{FirstAt, none_found, first_found, among-first, asked-first}
 use Rattle.ns_sessions.proofs.ticket.add_copy.Goals as goal
 use Rattle.ns_sessions.proofs.ticket.add_copy.Goals.{After-add_copy}

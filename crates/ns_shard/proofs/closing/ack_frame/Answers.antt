@@ -1,4 +1,4 @@
-use Rattle.std.proofs.Common.{◌≡◌, ap, ◌∙◌}
+use Rattle.std.proofs.Common.{ap, ◌∙◌}
 use Rattle.ns_creator.specs.declared.keys.Keys.{Keys}
 use Rattle.ns_creator.specs.DataFrame.{data_frame}
 use Rattle.ns_shard.proofs.closing.ack_frame.Goals as goal

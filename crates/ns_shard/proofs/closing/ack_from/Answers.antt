@@ -1,9 +1,6 @@
-use Rattle.std.proofs.Common.{◌≡◌, Option, Some, refl, sym, ap, ◌∙◌}
-use Rattle.ns_types.specs.Heard.{best, rx1}
-use Rattle.ns_types.specs.declared.heard.Heard.{Heard}
+use Rattle.std.proofs.Common.{◌≡◌, Some, refl, sym}
+use Rattle.ns_types.specs.Heard.{best}
 use Rattle.ns_views.specs.Frame.{data_fields}
-use Rattle.ns_roster.specs.Network.{ack_delay}
-use Rattle.ns_calls.specs.Out.{ack_frame, downlink_to}
 use Rattle.ns_shard.proofs.closing.ack_from.Goals as goal
 
 pub returns : goal.returns

@@ -1,4 +1,4 @@
-use Rattle.std.proofs.Common.{sym, ◌∙◌, ap, rules}
+use Rattle.std.proofs.Common.{sym}
 use Rattle.ns_sessions.proofs.Counters.{active_new}
 use Rattle.ns_sessions.proofs.device.DeviceState.fresh.Goals as goal
 

@@ -1,7 +1,7 @@
-use Rattle.std.proofs.Common.{◌≡◌, None, Some, sym, ap, ◌∙◌, option_map}
+use Rattle.std.proofs.Common.{Some, sym, ap, ◌∙◌, option_map}
 use Rattle.ns_types.specs.Ticket.{dev_eui}
 use Rattle.ns_shard.specs.declared.devices.Own.{Own}
-use Rattle.ns_shard.specs.Devices.{is_own, own_of, with_state, asked}
+use Rattle.ns_shard.specs.Devices.{is_own, with_state, asked}
 use Rattle.ns_sessions.specs.Record.{join_take}
 use Rattle.ns_windows.proofs.Places.{NonePasses, find-none, position-none}
 use Rattle.ns_shard.proofs.Places.{PassesFirst, first-find, first-set, none-change, place-first}

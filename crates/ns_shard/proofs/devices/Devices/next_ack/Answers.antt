@@ -1,8 +1,7 @@
-use Rattle.std.proofs.Common.{◌≡◌, None, Some, sym, ap, ◌∙◌, option_map}
+use Rattle.std.proofs.Common.{sym, ap, ◌∙◌}
 use Rattle.std.specs.Option.{option_and_then}
-use Rattle.ns_types.specs.Ticket.{dev_eui}
 use Rattle.ns_shard.specs.declared.devices.Own.{Own}
-use Rattle.ns_shard.specs.Devices.{is_own, own_of, with_state, changed}
+use Rattle.ns_shard.specs.Devices.{is_own, with_state}
 use Rattle.ns_sessions.specs.Record.{ack_in, with_ack}
 use Rattle.ns_windows.proofs.Places.{NonePasses, find-none, position-none}
 use Rattle.ns_shard.proofs.Places.{PassesFirst, first-find, first-set, none-change, place-first}

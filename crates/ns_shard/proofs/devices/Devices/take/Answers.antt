@@ -1,10 +1,10 @@
-use Rattle.std.proofs.Common.{◌≡◌, Option, None, Some, sym, ap, subst, ◌∙◌}
+use Rattle.std.proofs.Common.{◌≡◌, Option, Some, sym, subst}
 use Rattle.std.specs.Prelude.{IfSome}
 use Rattle.ns_shard.specs.declared.devices.Own.{Own}
-use Rattle.ns_shard.specs.Devices.{is_own, own_of, with_state, changed}
+use Rattle.ns_shard.specs.Devices.{is_own, own_of, with_state}
 use Rattle.ns_sessions.specs.Record.{IsNewCounter, session_in, with_uplink}
-use Rattle.ns_windows.proofs.Places.{NonePasses, find-none, position-none}
-use Rattle.ns_shard.proofs.Places.{PassesFirst, first-find, first-set, none-change, place-first}
+use Rattle.ns_windows.proofs.Places.{NonePasses, position-none}
+use Rattle.ns_shard.proofs.Places.{first-find, first-set, none-change, place-first}
 use Rattle.ns_shard.proofs.devices.Devices.take.Goals as goal
 
 pub take-requires : goal.take-requires

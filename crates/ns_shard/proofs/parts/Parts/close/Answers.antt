@@ -1,13 +1,10 @@
-use Rattle.std.proofs.Common.{◌≡◌, ℕ, List, length, refl, ap, sym, subst, ◌∙◌}
+use Rattle.std.proofs.Common.{◌≡◌, length, refl, ap, sym, ◌∙◌}
 use Rattle.std.specs.Arc.{arc_value}
 use Rattle.ns_roster.specs.Network.{Network}
 use Rattle.ns_calls.specs.declared.call.Call.TheVariants.{Close}
 use Rattle.ns_calls.specs.declared.answer.Answer.{Answer}
 use Rattle.ns_calls.specs.Out.{answer}
 use Rattle.ns_calls.specs.Legal.{with_call}
-use Rattle.ns_windows.specs.Windows.{named}
-use Rattle.ns_shard.specs.Taken.{closing_answer, closing_devices}
-use Rattle.ns_shard.specs.Parts.{AreParts}
 use Rattle.ns_shard.proofs.Entries.{pushed-is, pushed-length}
 use Rattle.ns_shard.proofs.CloseSteps.{close-answered, agrees-close}
 use Rattle.ns_sessions.proofs.Uplinks.{others_stay, closings_agree}

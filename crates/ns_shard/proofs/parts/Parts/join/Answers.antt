@@ -1,14 +1,10 @@
-use Rattle.std.proofs.Common.{◌≡◌, ℕ, List, length, refl, ap, sym, subst, ◌∙◌}
+use Rattle.std.proofs.Common.{◌≡◌, length, refl, ap, sym, ◌∙◌}
 use Rattle.std.specs.Arc.{arc_value}
 use Rattle.ns_roster.specs.Network.{Network}
 use Rattle.ns_calls.specs.declared.call.Call.TheVariants.{Join}
-use Rattle.ns_calls.specs.declared.call.Reply.{Reply}
-use Rattle.ns_calls.specs.declared.call.Entry.{Entry}
 use Rattle.ns_calls.specs.Reply.{reply_to_join}
 use Rattle.ns_calls.specs.Legal.{with_call}
 use Rattle.ns_shard.specs.Taken.{quiet, joining_reply, joining_devices}
-use Rattle.ns_shard.specs.State.{State}
-use Rattle.ns_shard.specs.Parts.{Agrees, AreParts}
 use Rattle.ns_shard.proofs.Entries.{pushed-is, pushed-length}
 use Rattle.ns_shard.proofs.PartSteps.{join-replied, agrees-join}
 use Rattle.ns_sessions.proofs.Uplinks.{others_stay}

@@ -1,10 +1,8 @@
-use Rattle.std.proofs.Common.{◌≡◌, List, [], map, refl, ap, sym, subst, ◌∙◌}
+use Rattle.std.proofs.Common.{◌≡◌, map, refl}
 use Rattle.std.specs.Arc.{arc_value}
-use Rattle.ns_calls.specs.declared.call.Entry.{Entry}
 use Rattle.ns_roster.specs.Network.{Network}
 use Rattle.ns_roster.specs.Valid.{IsRoster}
 use Rattle.ns_shard.specs.Devices.{joinless, devices_of}
-use Rattle.ns_shard.specs.Parts.{Agrees, AreParts}
 use Rattle.ns_shard.proofs.PartSteps.{agrees-new}
 use Rattle.ns_sessions.proofs.Uplinks.{others_stay}
 use Rattle.ns_shard.proofs.parts.Parts.new.Goals as goal

@@ -1,0 +1,159 @@
+-- The shards after one step more.
+use Rattle.std.proofs.Common.{◌≡◌, ◌≢◌, ℕ, zero, suc, ◌+◌, ◌<◌, ◌≤◌, ◌%◌, Bool, true, false, List, [], ◌∷◌, ◌++◌, length, map, filter, filter_map, slice_get, slice_set, get_or, take, drop, append_assoc, add-one, drop-cons, Option, None, Some, option_to_list, Result, Ok, Err, refl, sym, ap, ◌∙◌, subst, arith, eqb, cond, inl, inr, ◌⊎◌}
+use Rattle.std.specs.Result.{result_ok}
+use Rattle.std.specs.List.{cons_option}
+use Rattle.std.proofs.lemmas.Bool.Decides.{eqb_tells}
+use Rattle.std.proofs.lemmas.List.{append-nil, length-append, length-set, take_more}
+use Rattle.std.proofs.lemmas.List.Elements.{filter-append, filter_map-append}
+use Rattle.std.proofs.lemmas.Option.{slice_get_within}
+use Rattle.ns_roster.specs.Network.{Network}
+use Rattle.ns_calls.specs.declared.call.Call.{Call}
+use Rattle.ns_calls.specs.declared.call.Call.TheVariants as call
+use Rattle.ns_calls.specs.declared.call.Entry.{Entry}
+use Rattle.ns_calls.specs.Steps.{Refusal, link, view}
+use Rattle.ns_calls.specs.Shards.{shard_of_call}
+use Rattle.ns_calls.specs.Legal.{with_call}
+use Rattle.ns_calls.specs.Runs.{history_after, history_of}
+use Rattle.ns_calls.proofs.MergeLemmas.{slice_get-set_other}
+use Rattle.ns_shard.specs.declared.run.Taken.{Taken}
+use Rattle.ns_shard.specs.declared.step.Step.{Step}
+use Rattle.ns_shard.specs.State.{State, after_call}
+use Rattle.ns_shard.specs.Steps.{call_of, refused_as, calls_of, shard_history, call_taken, step_taken, all_taken, state_after, AreAfter, AreInPlace, taken_in, states_after}
+
+-- the history of one call more
+history_after-push : (net : Network) (before : List Entry) (calls : List Call) (c : Call) → history_after net before (calls ++ c ∷ []) ≡ with_call net (history_after net before calls) (length (history_after net before calls)) c
+history_after-push net before [] c = refl
+history_after-push net before (call ∷ calls) c = history_after-push net (with_call net before (length before) call) calls c
+
+-- the calls of one step more
+abbrev one_call : (shard : ℕ) → Result Call Refusal → List Call
+one_call shard r = filter (λ c. eqb (shard_of_call c) shard) (option_to_list (result_ok r))
+
+cons_option-nil : {Y : Type 0} (o : Option Y) → cons_option o [] ≡ option_to_list o
+cons_option-nil None = refl
+cons_option-nil (Some y) = refl
+
+filter_map-one : {X Y : Type 0} (f : X → Option Y) (x : X) → filter_map f (x ∷ []) ≡ option_to_list (f x)
+filter_map-one f x = cons_option-nil (f x)
+
+calls_of-push : (shard : ℕ) (steps : List Step) (step : Step) → calls_of shard (steps ++ step ∷ []) ≡ calls_of shard steps ++ one_call shard (call_of step.act)
+calls_of-push shard steps step =
+    let own : Call → Bool = λ c. eqb (shard_of_call c) shard in
+    let of : Step → Option Call = λ s. result_ok (call_of s.act) in
+    ap (filter own) (filter_map-append of steps (step ∷ []) ∙ ap (λ cs. filter_map of steps ++ cs) (filter_map-one of step))
+    ∙ filter-append own (filter_map of steps) (option_to_list (of step))
+
+shard_history-push : (net : Network) (shard : ℕ) (steps : List Step) (step : Step) → shard_history net shard (steps ++ step ∷ []) ≡ history_of net (calls_of shard steps ++ one_call shard (call_of step.act))
+shard_history-push net shard steps step = ap (history_of net) (calls_of-push shard steps step)
+
+-- a step that makes no call on a shard
+state_after-other : (net : Network) (shard : ℕ) (steps : List Step) (step : Step) → one_call shard (call_of step.act) ≡ [] → state_after net shard (steps ++ step ∷ []) ≡ state_after net shard steps
+state_after-other net shard steps step none =
+    let same : shard_history net shard (steps ++ step ∷ []) ≡ shard_history net shard steps =
+        shard_history-push net shard steps step ∙ ap (λ cs. history_of net (calls_of shard steps ++ cs)) none ∙ ap (history_of net) (append-nil (calls_of shard steps)) in
+    let state : List Entry → State = λ h. record { roster = net; index = shard; made = length h; entries = h } in
+    ap state same
+
+-- a step that makes a call on a shard
+state_after-own : (net : Network) (shard : ℕ) (steps : List Step) (step : Step) (c : Call) → one_call shard (call_of step.act) ≡ c ∷ [] → state_after net shard (steps ++ step ∷ []) ≡ after_call (state_after net shard steps) c
+state_after-own net shard steps step c one =
+    let h = shard_history net shard steps in
+    let longer : shard_history net shard (steps ++ step ∷ []) ≡ with_call net h (length h) c =
+        shard_history-push net shard steps step ∙ ap (λ cs. history_of net (calls_of shard steps ++ cs)) one ∙ history_after-push net [] (calls_of shard steps) c in
+    let state : ℕ → List Entry → State = λ n es. record { roster = net; index = shard; made = n; entries = es } in
+    ap (λ es. state (length es) es) longer ∙ ap (λ n. state n (with_call net h (length h) c)) (length-append h _)
+
+-- what comes of a step in the shards after the steps before it
+pub taken-after : (net : Network) (before : List Step) (shards : List State) (r : Result Call Refusal) → AreAfter net before shards
+    → ((c : Call) → shard_of_call c < 16) → taken_in shards (refused_as r) ≡ Some (call_taken net before r)
+taken-after net before shards (Err (link fault)) after small = refl
+taken-after net before shards (Err (view fault)) after small = refl
+taken-after net before shards (Ok c) after small = rw (after.each (shard_of_call c) (small c)) refl
+
+slice_get-set_same : {X : Type 0} (xs : List X) (k : ℕ) (x y : X) → slice_get xs k ≡ Some x → slice_get (slice_set xs k y) k ≡ Some y
+slice_get-set_same [] k x y h = absurd (cc h)
+slice_get-set_same (z ∷ zs) zero x y h = refl
+slice_get-set_same (z ∷ zs) (suc k) x y h = slice_get-set_same zs k x y h
+
+-- a step that makes no call leaves the shards
+after-refused : (net : Network) (before : List Step) (step : Step) (shards : List State) → AreAfter net before shards → result_ok (call_of step.act) ≡ None → AreAfter net (before ++ step ∷ []) shards
+after-refused net before step shards after none =
+    record {
+      sixteen = after.sixteen;
+      each = λ shard small.
+          let no_call : one_call shard (call_of step.act) ≡ [] = ap (λ o. filter (λ c. eqb (shard_of_call c) shard) (option_to_list o)) none in
+          after.each shard small ∙ ap Some (sym (state_after-other net shard before step no_call));
+    }
+
+-- a call changes its own shard alone
+after-called : (net : Network) (before : List Step) (step : Step) (shards : List State) (c : Call) → AreAfter net before shards → shard_of_call c < 16 → call_of step.act ≡ Ok c
+    → AreAfter net (before ++ step ∷ []) (slice_set shards (shard_of_call c) (after_call (state_after net (shard_of_call c) before) c))
+after-called net before step shards c after within made =
+    let own = shard_of_call c in
+    let next = after_call (state_after net own before) c in
+    let calls : (shard : ℕ) → one_call shard (call_of step.act) ≡ cond (eqb own shard) (c ∷ []) [] = λ shard. ap (one_call shard) made in
+    record {
+      sixteen = length-set shards own next ∙ after.sixteen;
+      each = λ shard small. elim (eqb_tells own shard) [
+        | inl same ↦
+            let one : one_call shard (call_of step.act) ≡ c ∷ [] = calls shard ∙ ap (λ b. cond {A = List Call} b (c ∷ []) []) same.0 in
+            subst (λ k. slice_get (slice_set shards own next) k ≡ Some (state_after net k (before ++ step ∷ []))) same.1
+            (slice_get-set_same shards own (state_after net own before) next (after.each own within)
+            ∙ ap Some (sym (state_after-own net own before step c (rw same.1 one))))
+        | inr other ↦
+            let no_call : one_call shard (call_of step.act) ≡ [] = calls shard ∙ ap (λ b. cond {A = List Call} b (c ∷ []) []) other.0 in
+            slice_get-set_other shards own shard next (λ e. other.1 (sym e)) ∙ after.each shard small ∙ ap Some (sym (state_after-other net shard before step no_call))
+      ];
+    }
+
+-- the shards after one step more
+pub after-step : (net : Network) (before : List Step) (step : Step) (shards : List State) (r : Result Call Refusal) → AreAfter net before shards → ((c : Call) → shard_of_call c < 16)
+    → call_of step.act ≡ r → AreAfter net (before ++ step ∷ []) (states_after shards (refused_as r))
+after-step net before step shards (Err (link fault)) after small made = after-refused net before step shards after (ap result_ok made)
+after-step net before step shards (Err (view fault)) after small made = after-refused net before step shards after (ap result_ok made)
+after-step net before step shards (Ok c) after small made =
+    rw (after.each (shard_of_call c) (small c)) (after-called net before step shards c after (small c) made)
+
+-- the shards after steps stand in place
+pub AreInPlace-after : (net : Network) (steps : List Step) (shards : List State) → AreAfter net steps shards → AreInPlace shards
+AreInPlace-after net steps shards after shard s at =
+    let within : shard < length shards = slice_get_within shards shard s at in
+    let same : Some (state_after net shard steps) ≡ Some s = sym (after.each shard (omega (arith, after.sixteen))) ∙ at in
+    some_index (state_after net shard steps) s same
+  where
+    some_index : (a b : State) → Some a ≡ Some b → b.index ≡ a.index
+    some_index a b e = cc
+
+-- what came of the steps so far and comes of the rest, with one step more
+pub told-more : (net : Network) (steps : List Step) (i : ℕ) (x : Step) (taken all : List Taken) (t : Taken) → i < length steps → x ≡ get_or steps i x
+    → taken ++ all_taken net (take i steps) (drop i steps) ≡ all → t ≡ step_taken net (take i steps) x
+    → (taken ++ t ∷ []) ++ all_taken net (take (i + 1) steps) (drop (i + 1) steps) ≡ all
+told-more net steps i x taken all t within is told new =
+    let before : take (i + 1) steps ≡ take i steps ++ x ∷ [] = take_more steps i x within ∙ ap (λ y. take i steps ++ y ∷ []) (sym is) in
+    let rest : drop i steps ≡ x ∷ drop (i + 1) steps = drop-cons steps i x within ∙ ap (λ y. y ∷ drop (suc i) steps) (sym is) ∙ ap (λ n. x ∷ drop n steps) (sym (add-one i)) in
+    append_assoc taken (t ∷ []) _
+    ∙ ap (λ b. taken ++ t ∷ all_taken net b (drop (i + 1) steps)) before
+    ∙ ap (λ y. taken ++ y ∷ all_taken net (take i steps ++ x ∷ []) (drop (i + 1) steps)) new
+    ∙ ap (λ ys. taken ++ all_taken net (take i steps) ys) (sym rest)
+    ∙ told
+
+-- there are sixteen shards
+pub shard_small : (c : Call) → shard_of_call c < 16
+shard_small (call.Uplink frame heard) = omega arith
+shard_small (call.Join ticket heard) = omega arith
+shard_small (call.JoinReply ticket outcome) = omega arith
+shard_small (call.Close window) = omega arith
+
+-- one step of a run
+pub step-after : (net : Network) (steps : List Step) (i : ℕ) (x : Step) (shards next : List State) → i < length steps → x ≡ get_or steps i x → AreAfter net (take i steps) shards
+    → next ≡ states_after shards (refused_as (call_of x.act)) → AreAfter net (take (i + 1) steps) next
+step-after net steps i x shards next within is after changed =
+    let longer : take (i + 1) steps ≡ take i steps ++ x ∷ [] = take_more steps i x within ∙ ap (λ y. take i steps ++ y ∷ []) (sym is) in
+    rw (longer, changed) (after-step net (take i steps) x shards (call_of x.act) after shard_small refl)
+
+pub step-taken : (net : Network) (before : List Step) (x : Step) (shards : List State) (t : Taken) → AreAfter net before shards
+    → taken_in shards (refused_as (call_of x.act)) ≡ Some t → t ≡ step_taken net before x
+step-taken net before x shards t after told = some_same t (step_taken net before x) (sym told ∙ taken-after net before shards (call_of x.act) after shard_small)
+  where
+    some_same : (a b : Taken) → Some a ≡ Some b → a ≡ b
+    some_same a b e = cc

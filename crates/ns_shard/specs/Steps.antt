@@ -1,0 +1,90 @@
+-- The steps of a run: the calls that they make, and what comes of each.
+use Rattle.std.specs.Prelude.{◌≡◌, ℕ, ◌<◌, ◌==◌, List, [], ◌∷◌, ◌++◌, length, filter, filter_map, slice_get, Option, None, Some, option_map, slice_set, Result, Ok, Err}
+use Rattle.std.specs.Result.{result_ok}
+use Rattle.std.specs.Option.{option_map_or}
+use Rattle.ns_types.specs.Ticket.{transaction}
+use Rattle.ns_roster.specs.Network.{Network}
+use Rattle.ns_calls.specs.declared.call.JoinAns.{JoinAns}
+use Rattle.ns_calls.specs.declared.call.Outcome.{Outcome}
+use Rattle.ns_calls.specs.declared.call.Outcome.TheVariants.{Success, Failed}
+use Rattle.ns_calls.specs.declared.call.Call.{Call}
+use Rattle.ns_calls.specs.declared.call.Call.TheVariants as call
+use Rattle.ns_calls.specs.declared.call.Entry.{Entry}
+use Rattle.ns_calls.specs.Steps.{Refusal, link, view, datagram_call}
+use Rattle.ns_calls.specs.Shards.{shard_of_call}
+use Rattle.ns_calls.specs.Runs.{history_of}
+use Rattle.ns_calls.specs.Out.{answer}
+use Rattle.ns_joinwire.specs.declared.fault.AnsFault.{AnsFault}
+use Rattle.ns_joinwire.specs.JoinAns.{joinans}
+use Rattle.ns_shard.specs.declared.step.Act.{Act}
+use Rattle.ns_shard.specs.declared.step.Act.TheVariants.{Datagram, Answer, Lost, Close}
+use Rattle.ns_shard.specs.declared.step.Step.{Step}
+use Rattle.ns_shard.specs.declared.run.Taken.{Taken}
+use Rattle.ns_shard.specs.declared.run.Taken.TheVariants.{Link, View, Made}
+use Rattle.ns_shard.specs.State.{State, after_call}
+
+-- how asking a join server ended, by what its body is read as
+abbrev pub outcome_of : Result JoinAns AnsFault → Outcome
+outcome_of (Ok join) = Success join
+outcome_of (Err fault) = Failed
+
+-- the call of a step, or why it makes none
+abbrev pub call_of : Act → Result Call Refusal
+call_of (Datagram bytes) = datagram_call bytes
+call_of (Answer ticket body) = Ok (call.JoinReply ticket (outcome_of (joinans body (transaction ticket))))
+call_of (Lost ticket) = Ok (call.JoinReply ticket Failed)
+call_of (Close window) = Ok (call.Close window)
+
+-- the same, where why it makes none is what comes of the step; for private clauses
+abbrev pub refused_as : Result Call Refusal → Result Call Taken
+refused_as (Ok c) = Ok c
+refused_as (Err (link fault)) = Err (Link fault)
+refused_as (Err (view fault)) = Err (View fault)
+
+-- the calls that steps send to a shard, in order
+abbrev pub calls_of : ℕ → List Step → List Call
+calls_of shard steps = filter (λ c. shard_of_call c == shard) (filter_map (λ step. result_ok (call_of step.act)) steps)
+
+-- the history of a shard after steps
+abbrev pub shard_history : Network → ℕ → List Step → List Entry
+shard_history net shard steps = history_of net (calls_of shard steps)
+
+-- what comes of a call after the entries of its shard
+abbrev pub made : Network → List Entry → Call → Taken
+made net h c = Made (shard_of_call c) (length h) (answer net h c)
+
+abbrev pub call_taken : Network → List Step → Result Call Refusal → Taken
+call_taken net before (Err (link fault)) = Link fault
+call_taken net before (Err (view fault)) = View fault
+call_taken net before (Ok c) = made net (shard_history net (shard_of_call c) before) c
+
+-- what comes of a step after the steps before it
+abbrev pub step_taken : Network → List Step → Step → Taken
+step_taken net before step = call_taken net before (call_of step.act)
+
+-- what comes of steps, one after the other, after the steps before them
+abbrev pub all_taken : Network → List Step → List Step → List Taken
+all_taken net before [] = []
+all_taken net before (step ∷ steps) = step_taken net before step ∷ all_taken net (before ++ step ∷ []) steps
+
+-- each shard stands at its number; for private clauses
+abbrev pub AreInPlace : List State → Type 0
+AreInPlace shards = (shard : ℕ) (s : State) → slice_get shards shard ≡ Some s → s.index ≡ shard
+
+-- what comes of a call or a refusal in these states, and the states after it; for private clauses
+abbrev pub taken_in : List State → Result Call Taken → Option Taken
+taken_in shards (Err refusal) = Some refusal
+taken_in shards (Ok c) = option_map (λ s. Made (shard_of_call c) s.made (answer s.roster s.entries c)) (slice_get shards (shard_of_call c))
+
+abbrev pub states_after : List State → Result Call Taken → List State
+states_after shards (Err refusal) = shards
+states_after shards (Ok c) = option_map_or (λ s. slice_set shards (shard_of_call c) (after_call s c)) (slice_get shards (shard_of_call c)) shards
+
+-- the state of a shard after steps
+abbrev pub state_after : Network → ℕ → List Step → State
+state_after net shard steps = let h = shard_history net shard steps in record { roster = net; index = shard; made = length h; entries = h }
+
+-- the sixteen shards are those after the steps
+pub record AreAfter (net : Network) (steps : List Step) (shards : List State) : Type 0 where
+  pub sixteen : length shards ≡ 16
+  pub each : (shard : ℕ) → shard < 16 → slice_get shards shard ≡ Some (state_after net shard steps)

@@ -1,0 +1,115 @@
+//! A run of steps over the sixteen shards.
+
+ghost use Rattle.std.specs.Prelude.{◌≡◌, ◌<◌, [], length, slice_get, Some, IfOk, OnOk, IfSome};
+ghost use Rattle.std.specs.Arc.{arc_value};
+ghost use Rattle.ns_shard.specs.Steps.{all_taken, taken_in, states_after, refused_as, call_of, AreAfter, AreInPlace};
+
+use crate::calls::call_of;
+use crate::shard::Shard;
+use crate::step::Step;
+use ns_calls::{Answer, Call, shard_of_call};
+use ns_link::LinkFault;
+use ns_roster::Roster;
+use ns_views::ViewFault;
+use std::alloc::{AllocError, Global};
+use std::marker::Model;
+use std::sync::Arc;
+
+/// What came of a step.
+#[derive(Drop)]
+pub enum Taken {
+    /// The layout of its datagram is refused, and no call was made.
+    Link(LinkFault),
+    /// Its frame is refused, and no call was made.
+    View(ViewFault),
+    /// It made the entry of this number in this shard, with this answer.
+    Made {
+        shard: u8,
+        number: u64,
+        answer: Answer,
+    },
+}
+
+/// The sixteen shards. Contracts see the list of their states.
+#[derive(Drop)]
+pub struct Shards {
+    list: Vec<Shard>,
+}
+
+impl Model for Shards {
+    ghost use Rattle.std.specs.Prelude.{◌≡◌, ◌<◌, ℕ, List, length, slice_get, Some};
+    ghost use Rattle.ns_shard.specs.State.{State};
+
+    ghost Value = { List State };
+
+    ghost view = { λ s. s.list.items };
+}
+
+/// A run of steps: the shards as they are after it, and what came of each step.
+#[derive(Drop)]
+pub struct Run {
+    pub shards: Shards,
+    pub taken: Vec<Taken>,
+}
+
+impl Shards {
+    /// Runs steps on one thread, in order. `NoMemory` (`AllocError`) where a growth was refused, and then there is no run.
+    pub fn run(alloc: Global, roster: Arc<Roster>, steps: &[Step]) -> Result<Run, AllocError>
+        ensures taken { IfOk result (λ run. run.taken.items ≡ all_taken (arc_value roster) [] steps.now) }
+        ensures shards { IfOk result (λ run. AreAfter (arc_value roster) steps.now run.shards) }
+    {
+        let mut list = new_shards(alloc, roster)?;
+        let mut taken = Vec::new(alloc);
+        'steps: for step in steps {
+            let one = take(alloc, &mut list, step)?;
+            taken.push(one)?;
+        }
+        Ok(Run {
+            shards: Shards { list },
+            taken,
+        })
+    }
+}
+
+// The shards without entries.
+fn new_shards(alloc: Global, roster: Arc<Roster>) -> Result<Vec<Shard>, AllocError>
+    ensures { IfOk result (λ list. AreAfter (arc_value roster) [] list.items) }
+{
+    let mut list = Vec::with_capacity(alloc, 16)?;
+    'shards: for index in 0..16u8 {
+        let shard = Shard::new(alloc, roster.clone()?, index)?;
+        list.push(shard)?;
+    }
+    Ok(list)
+}
+
+// Takes a call to its shard.
+fn apply(shards: &mut Vec<Shard>, call: Call) -> Result<Taken, AllocError>
+    requires sixteen { length shards.old.items ≡ 16 }
+    requires in_place { AreInPlace shards.old.items }
+    ensures taken { IfOk result (λ t. taken_in shards.old.items (Ok call) ≡ Some t) }
+    ensures shards { OnOk result (shards.new.items ≡ states_after shards.old.items (Ok call)) }
+{
+    let index = shard_of_call(&call);
+    let shard = &mut shards[index as usize];
+    let number = shard.made();
+    let answer = shard.apply(call)?;
+    Ok(Taken::Made {
+        shard: index,
+        number,
+        answer,
+    })
+}
+
+// Takes a step.
+fn take(alloc: Global, shards: &mut Vec<Shard>, step: &Step) -> Result<Taken, AllocError>
+    requires sixteen { length shards.old.items ≡ 16 }
+    requires in_place { AreInPlace shards.old.items }
+    ensures taken { IfOk result (λ t. taken_in shards.old.items (refused_as (call_of step.now.act)) ≡ Some t) }
+    ensures shards { OnOk result (shards.new.items ≡ states_after shards.old.items (refused_as (call_of step.now.act))) }
+{
+    match call_of(alloc, &step.act)? {
+        Ok(call) => apply(shards, call),
+        Err(refusal) => Ok(refusal),
+    }
+}
