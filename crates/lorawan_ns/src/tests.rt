@@ -5,8 +5,8 @@ ghost use Rattle.std.specs.Prelude.{◌≡◌, ◌<◌, IfOk, false};
 use crate::replay::{ReplayFault, replay};
 use ns_roster::Roster;
 use ns_types::{Fuse, Stream};
-use std::sync::Arc;
 use std::process::Abort;
+use std::sync::Arc;
 use std::test::Fail;
 
 const ROSTER: &str =

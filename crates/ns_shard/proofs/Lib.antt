@@ -9,3 +9,4 @@ pub mod AnswerSteps
 pub mod CloseSteps
 pub mod UplinkSteps
 pub mod RunSteps
+pub mod RunHistories

@@ -88,3 +88,7 @@ state_after net shard steps = let h = shard_history net shard steps in record { 
 pub record AreAfter (net : Network) (steps : List Step) (shards : List State) : Type 0 where
   pub sixteen : length shards ≡ 16
   pub each : (shard : ℕ) → shard < 16 → slice_get shards shard ≡ Some (state_after net shard steps)
+
+-- P holds of the entries of each shard, by its number
+abbrev pub OfEach : List State → (ℕ → List Entry → Type 0) → Type 0
+OfEach shards P = (shard : ℕ) (s : State) → slice_get shards shard ≡ Some s → P shard s.entries

@@ -1,8 +1,10 @@
 //! A run of steps over the sixteen shards.
 
-ghost use Rattle.std.specs.Prelude.{◌≡◌, ◌<◌, [], length, slice_get, Some, IfOk, OnOk, IfSome};
+ghost use Rattle.std.specs.Prelude.{◌≡◌, ◌<◌, [], length, map, slice_get, Some, IfOk, OnOk, IfSome};
 ghost use Rattle.std.specs.Arc.{arc_value};
-ghost use Rattle.ns_shard.specs.Steps.{all_taken, taken_in, states_after, refused_as, call_of, AreAfter, AreInPlace};
+ghost use Rattle.ns_calls.specs.Legal.{IsHistory};
+ghost use Rattle.ns_calls.specs.Headline.{NoncesRise, CountersRise, WindowsOpenOnce};
+ghost use Rattle.ns_shard.specs.Steps.{all_taken, taken_in, states_after, refused_as, call_of, calls_of, AreAfter, AreInPlace, OfEach};
 
 use crate::calls::call_of;
 use crate::shard::Shard;
@@ -54,9 +56,21 @@ pub struct Run {
 
 impl Shards {
     /// Runs steps on one thread, in order. `NoMemory` (`AllocError`) where a growth was refused, and then there is no run.
+    ///
+    /// What comes of a step that makes a call is the plain server's answer to it, after the entries of its shard that the steps
+    /// before it made; a closing hands out the uplink of its window, with just its copies, and no other step hands out an uplink.
     pub fn run(alloc: Global, roster: Arc<Roster>, steps: &[Step]) -> Result<Run, AllocError>
         ensures taken { IfOk result (λ run. run.taken.items ≡ all_taken (arc_value roster) [] steps.now) }
         ensures shards { IfOk result (λ run. AreAfter (arc_value roster) steps.now run.shards) }
+
+        // Each shard's history is legal, numbered from 0, and holds one entry for each call that reached the shard, in order.
+        ensures histories { IfOk result (λ run. OfEach run.shards (λ shard h. IsHistory (arc_value roster) shard h)) }
+        ensures calls { IfOk result (λ run. OfEach run.shards (λ shard h. map (λ e. e.call) h ≡ calls_of shard steps.now)) }
+
+        // Accepted nonces of a device and counters of a session strictly rise, and a window opens and closes at most once.
+        ensures nonces_rise { IfOk result (λ run. OfEach run.shards (λ shard h. NoncesRise h)) }
+        ensures counters_rise { IfOk result (λ run. OfEach run.shards (λ shard h. CountersRise h)) }
+        ensures windows_open_once { IfOk result (λ run. OfEach run.shards (λ shard h. WindowsOpenOnce h)) }
     {
         let mut list = new_shards(alloc, roster)?;
         let mut taken = Vec::new(alloc);

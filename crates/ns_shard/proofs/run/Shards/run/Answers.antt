@@ -1,7 +1,9 @@
-use Rattle.std.proofs.Common.{◌≡◌, rules, sym, ap, ◌∙◌, ◌++◌, ◌+◌, take, drop}
+use Rattle.std.proofs.Common.{◌≡◌, rules, sym, ap, ◌∙◌, ◌++◌, ◌+◌, take, drop, subst}
+use Rattle.std.proofs.lemmas.List.{take_all}
 use Rattle.std.specs.Arc.{arc_value}
-use Rattle.ns_shard.specs.Steps.{all_taken}
+use Rattle.ns_shard.specs.Steps.{all_taken, AreAfter}
 use Rattle.ns_shard.proofs.RunSteps.{step-after, step-taken, told-more}
+use Rattle.ns_shard.proofs.RunHistories.{histories-legal, histories-calls, histories-nonces, histories-counters, histories-windows}
 use Rattle.ns_shard.proofs.run.Shards.run.Goals as goal
 
 pub steps-preserved : goal.steps-preserved
@@ -16,3 +18,33 @@ steps-preserved c =
           ap (λ ts. ts ++ all_taken net (take (i + 1) c.args.steps.now) (drop (i + 1) c.args.steps.now)) c.in_ok-push.ensures.items
           ∙ told-more net c.args.steps.now i x c.steps.taken.items _ c.in_ok-one.one c.steps-test.true c.step-item.is c.steps.invariant.told new;
     }
+
+pub returns-clause-histories : goal.returns-clause-histories
+returns-clause-histories c =
+    let net = arc_value c.args.roster in
+    let all = take_all c.steps.step-index c.args.steps.now c.steps-test.false in
+    histories-legal net c.args.steps.now c.steps.list.items (subst (λ ss. AreAfter net ss c.steps.list.items) all c.steps.invariant.after)
+
+pub returns-clause-calls : goal.returns-clause-calls
+returns-clause-calls c =
+    let net = arc_value c.args.roster in
+    let all = take_all c.steps.step-index c.args.steps.now c.steps-test.false in
+    histories-calls net c.args.steps.now c.steps.list.items (subst (λ ss. AreAfter net ss c.steps.list.items) all c.steps.invariant.after)
+
+pub returns-clause-nonces_rise : goal.returns-clause-nonces_rise
+returns-clause-nonces_rise c =
+    let net = arc_value c.args.roster in
+    let all = take_all c.steps.step-index c.args.steps.now c.steps-test.false in
+    histories-nonces net c.args.steps.now c.steps.list.items (subst (λ ss. AreAfter net ss c.steps.list.items) all c.steps.invariant.after)
+
+pub returns-clause-counters_rise : goal.returns-clause-counters_rise
+returns-clause-counters_rise c =
+    let net = arc_value c.args.roster in
+    let all = take_all c.steps.step-index c.args.steps.now c.steps-test.false in
+    histories-counters net c.args.steps.now c.steps.list.items (subst (λ ss. AreAfter net ss c.steps.list.items) all c.steps.invariant.after)
+
+pub returns-clause-windows_open_once : goal.returns-clause-windows_open_once
+returns-clause-windows_open_once c =
+    let net = arc_value c.args.roster in
+    let all = take_all c.steps.step-index c.args.steps.now c.steps-test.false in
+    histories-windows net c.args.steps.now c.steps.list.items (subst (λ ss. AreAfter net ss c.steps.list.items) all c.steps.invariant.after)
