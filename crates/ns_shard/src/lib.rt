@@ -20,3 +20,6 @@ mod taking;
 pub use run::{Run, Shards, Taken};
 pub use shard::Shard;
 pub use step::{Act, OwnedBytes, Step};
+
+#[cfg(test)]
+mod tests;

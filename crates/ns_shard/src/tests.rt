@@ -1,0 +1,300 @@
+//! A recorded run, windows and sessions of one device, and memory that is really gone.
+
+use crate::{Act, OwnedBytes, Shard, Shards, Step, Taken};
+use ns_calls::{Call, Reply, lines, shard_of_call};
+use ns_creator::{DataCreator, Keys};
+use ns_roster::Roster;
+use ns_secure::Dir;
+use ns_types::{DevAddr, DevEui, Heard, Key, Ticket, WindowName};
+use std::alloc::AllocError;
+use std::sync::Arc;
+use std::test::Fail;
+
+const ROSTER_A: &str =
+    r#"{"version":1,"net_id":"000024","rx1_offset":0,"rx_delay":1,"devices":[{"dev_eui":"000000000000000d","join_eui":"0102030401020304","slot":1998321}]}"#;
+
+const JA: &str =
+    r#"{"AppSKey":{"AESKey":"ec925802ae430ca77fd3dd73cb2cc588","KEKLabel":""},"MessageType":"JoinAns","NwkSKey":{"AESKey":"44024241ed4ce9a68c6a8bc055233fd3","KEKLabel":""},"PHYPayload":"20000102030405060708090a0b0c0d0e0f","Result":{"ResultCode":"Success"},"TransactionID":1}"#;
+
+// The same to transaction 2, with other session keys.
+const JA_2: &str =
+    r#"{"AppSKey":{"AESKey":"2b7e151628aed2a6abf7158809cf4f3c","KEKLabel":""},"MessageType":"JoinAns","NwkSKey":{"AESKey":"2b7e151628aed2a6abf7158809cf4f3c","KEKLabel":""},"PHYPayload":"20000102030405060708090a0b0c0d0e0f","Result":{"ResultCode":"Success"},"TransactionID":2}"#;
+
+const NWK_1: [u8; 16] = [
+    0x44, 0x02, 0x42, 0x41, 0xed, 0x4c, 0xe9, 0xa6, 0x8c, 0x6a, 0x8b, 0xc0, 0x55, 0x23, 0x3f, 0xd3,
+];
+
+const APP_1: [u8; 16] = [
+    0xec, 0x92, 0x58, 0x02, 0xae, 0x43, 0x0c, 0xa7, 0x7f, 0xd3, 0xdd, 0x73, 0xcb, 0x2c, 0xc5, 0x88,
+];
+
+const KEY_2: [u8; 16] = [
+    0x2b, 0x7e, 0x15, 0x16, 0x28, 0xae, 0xd2, 0xa6, 0xab, 0xf7, 0x15, 0x88, 0x09, 0xcf, 0x4f, 0x3c,
+];
+
+// The first 27 bytes of a datagram from gateway a1 and from gateway a2.
+const H1: &str = "010100000000000000a100000000000f424033be27a005fc4a004b";
+
+const H2: &str = "010100000000000000a200000000000f462833be27a005fc180050";
+
+const J: &str = "0004030201040302010d00000000000000010001000000";
+
+const J_2: &str = "0004030201040302010d00000000000000020002000000";
+
+const F: &str = "40f17dbe4900020001954378762b11ff0d";
+
+// The step of a frame that a gateway heard.
+fn heard(rt: &HostRuntime, head: &str, frame: &[u8]) -> Result<Step, Fail> {
+    let mut bytes = hex::decode(rt.alloc(), head)?;
+    bytes.push(u8::try_from(frame.len()).unwrap_or(0))?;
+    for byte in frame {
+        bytes.push(*byte)?;
+    }
+    Ok(Step {
+        worker: 0,
+        act: Act::Datagram(OwnedBytes::new(bytes)),
+    })
+}
+
+// The same of a frame in hex.
+fn heard_hex(rt: &HostRuntime, head: &str, frame: &str) -> Result<Step, Fail> {
+    let frame = hex::decode(rt.alloc(), frame)?;
+    heard(rt, head, frame.as_slice())
+}
+
+// The ticket of a Join-Request in hex.
+fn ticket(rt: &HostRuntime, text: &str) -> Result<Ticket, Fail> {
+    let bytes = hex::decode(rt.alloc(), text)?;
+    let mut ticket = [0; 23];
+    if bytes.len() == 23 {
+        ticket.copy_from_slice(bytes.as_slice());
+    }
+    Ok(Ticket(ticket))
+}
+
+// The step of a join server's answer.
+fn answer(rt: &HostRuntime, ticket_text: &str, body: &str) -> Result<Step, Fail> {
+    Ok(Step {
+        worker: 0,
+        act: Act::Answer {
+            ticket: ticket(rt, ticket_text)?,
+            body: OwnedBytes::new(Vec::from_slice(rt.alloc(), body.as_bytes())?),
+        },
+    })
+}
+
+// The step of a closing.
+fn close(session: u32, fcnt: u32) -> Step {
+    Step {
+        worker: 0,
+        act: Act::Close(WindowName {
+            eui: DevEui(13),
+            session,
+            fcnt,
+        }),
+    }
+}
+
+// An uplink of the device on port 1, with a payload of one byte.
+fn uplink(
+    rt: &HostRuntime,
+    nwk: [u8; 16],
+    app: [u8; 16],
+    counter: u32,
+    confirmed: bool,
+) -> Result<Step, Fail> {
+    let keys = Keys {
+        nwk: Key(nwk),
+        app: Key(app),
+        root: Key(app),
+    };
+    let creator = DataCreator {
+        dir: Dir::Up,
+        confirmed,
+        addr: DevAddr(0x49be_7df1),
+        flags: 0,
+        counter,
+        fopts: &[],
+        port: Some(1),
+        payload: &[0x55],
+    };
+    let mut room = [0; 32];
+    match creator.build_into(&keys, &mut room) {
+        Ok(frame) => heard(rt, H1, frame),
+        Err(_) => heard(rt, H1, &[]),
+    }
+}
+
+// The lines of a run's answers, each with a line feed.
+fn run(rt: &HostRuntime, steps: &Vec<Step>) -> Result<String, Fail> {
+    let roster = Roster::read(rt.alloc(), ROSTER_A.as_bytes())?;
+    let run = Shards::run(rt.alloc(), Arc::new(rt.alloc(), roster)?, steps.as_slice())?;
+    let mut text = String::new(rt.alloc());
+    for taken in &run.taken {
+        match taken {
+            Taken::Made { answer, .. } => {
+                for line in &lines(answer) {
+                    text.push_str(line.as_str())?;
+                    text.push_str("\n")?;
+                }
+            }
+            Taken::Link(fault) => text.push_str(&format!(in rt.alloc(); "{fault:?}\n")?)?,
+            Taken::View(fault) => text.push_str(&format!(in rt.alloc(); "{fault:?}\n")?)?,
+        }
+    }
+    Ok(text)
+}
+
+#[test]
+fn a_join_and_an_uplink(rt: HostRuntime) -> Result<(), Fail> {
+    let mut steps = Vec::new(rt.alloc());
+    steps.push(heard_hex(&rt, H1, J)?)?;
+    steps.push(heard_hex(&rt, H2, J)?)?;
+    steps.push(heard_hex(&rt, H1, "0004030201040302010e00000000000000010001000000")?)?;
+    steps.push(answer(&rt, J, JA)?)?;
+    steps.push(answer(&rt, J, JA)?)?;
+    steps.push(heard_hex(&rt, H1, F)?)?;
+    steps.push(heard_hex(&rt, H2, F)?)?;
+    steps.push(close(1, 2))?;
+    steps.push(close(1, 2))?;
+    steps.push(heard_hex(&rt, H1, F)?)?;
+    let want = "ask 0004030201040302010d00000000000000010001000000
+joincopied 2
+nodevice
+accepted 000000000000000d 1 49be7df1
+down 00000000000000a2 6001000 868100000 5 20000102030405060708090a0b0c0d0e0f
+noticket
+opened 000000000000000d 1 2
+copied 000000000000000d 1 2 2
+closed 000000000000000d 1 2 -
+up 000000000000000d 1 2 1 plain - 74657374 2 00000000000000a1,00000000000000a2
+nowindow
+old 000000000000000d 1 2
+";
+    assert_eq!(rt; run(&rt, &steps)?.as_str(), want);
+    Ok(())
+}
+
+// In session 1 a confirmed uplink stays open; a second join is accepted; both sessions live until an uplink of session 2.
+#[test]
+fn two_sessions(rt: HostRuntime) -> Result<(), Fail> {
+    let mut steps = Vec::new(rt.alloc());
+    steps.push(heard_hex(&rt, H1, J)?)?;
+    steps.push(answer(&rt, J, JA)?)?;
+    steps.push(uplink(&rt, NWK_1, APP_1, 1, true)?)?;
+    steps.push(heard_hex(&rt, H1, J_2)?)?;
+    steps.push(answer(&rt, J_2, JA_2)?)?;
+    steps.push(uplink(&rt, NWK_1, APP_1, 2, false)?)?;
+    steps.push(uplink(&rt, KEY_2, KEY_2, 0, true)?)?;
+    steps.push(uplink(&rt, NWK_1, APP_1, 3, false)?)?;
+    steps.push(close(1, 1))?;
+    let want = "ask 0004030201040302010d00000000000000010001000000
+accepted 000000000000000d 1 49be7df1
+down 00000000000000a1 6000000 868100000 5 20000102030405060708090a0b0c0d0e0f
+opened 000000000000000d 1 1
+ask 0004030201040302010d00000000000000020002000000
+accepted 000000000000000d 2 49be7df1
+down 00000000000000a1 6000000 868100000 5 20000102030405060708090a0b0c0d0e0f
+opened 000000000000000d 1 2
+opened 000000000000000d 2 0
+nosession
+closed 000000000000000d 1 1 -
+up 000000000000000d 1 1 1 plain - 55 1 00000000000000a1
+";
+    assert_eq!(rt; run(&rt, &steps)?.as_str(), want);
+    Ok(())
+}
+
+// Nine frames with no closing: the ninth finds the device busy; after one closing it is opened. A 17th copy finds its window full.
+#[test]
+fn limits(rt: HostRuntime) -> Result<(), Fail> {
+    let mut steps = Vec::new(rt.alloc());
+    steps.push(heard_hex(&rt, H1, J)?)?;
+    steps.push(answer(&rt, J, JA)?)?;
+    for counter in 0..9u32 {
+        steps.push(uplink(&rt, NWK_1, APP_1, counter, false)?)?;
+    }
+    steps.push(close(1, 3))?;
+    steps.push(uplink(&rt, NWK_1, APP_1, 8, false)?)?;
+    for _ in 0..16u32 {
+        steps.push(uplink(&rt, NWK_1, APP_1, 8, false)?)?;
+    }
+    let text = run(&rt, &steps)?;
+    assert!(rt;
+        text.as_str().contains(
+            "opened 000000000000000d 1 7\nbusy 000000000000000d\nclosed 000000000000000d 1 3 -\n"
+        )
+    );
+    assert!(rt;
+        text.as_str().contains("opened 000000000000000d 1 8\ncopied 000000000000000d 1 8 2\n")
+    );
+    assert!(rt;
+        text.as_str().ends_with("copied 000000000000000d 1 8 16\ncrowded 000000000000000d 1 8\n")
+    );
+    Ok(())
+}
+
+// All memory but 200,000 small places for what is held.
+fn all_memory(rt: &HostRuntime) -> Result<Vec<Vec<u8>>, Fail> {
+    let mut held = Vec::with_capacity(rt.alloc(), 200_000)?;
+    let mut size = 1usize << 46;
+    for _ in 0..400_000u32 {
+        if size < 16 || held.len() >= 200_000 {
+            break;
+        }
+        match Vec::with_capacity(rt.alloc(), size) {
+            Ok(block) => held.push(block)?,
+            Err(_) => size /= 2,
+        }
+    }
+    Ok(held)
+}
+
+// Whether a Join-Request at a new shard is asked for. Where memory is refused it has no entry.
+fn ask(rt: &HostRuntime, roster: &Arc<Roster>, ticket: Ticket) -> Result<bool, AllocError> {
+    let mut shard = Shard::new(rt.alloc(), roster.clone()?, 13)?;
+    let call = Call::Join {
+        ticket,
+        heard: Heard::default(),
+    };
+    if shard_of_call(&call) != 13 {
+        return Ok(false);
+    }
+    match shard.apply(call) {
+        Ok(answer) => Ok(answer.reply == Reply::Ask { ticket } && shard.made() == 1),
+        Err(error) => {
+            if shard.entries().is_empty() && shard.oldest().is_none() {
+                Err(error)
+            } else {
+                Ok(false)
+            }
+        }
+    }
+}
+
+// With all memory taken, and one block more given back before each call: want of memory, until the answer comes.
+#[test]
+fn each_growth_of_a_call_refused(rt: HostRuntime) -> Result<(), Fail> {
+    let roster = Roster::read(rt.alloc(), ROSTER_A.as_bytes())?;
+    let roster = Arc::new(rt.alloc(), roster)?;
+    let ticket = ticket(&rt, J)?;
+    let mut held: Vec<Vec<u8>> = all_memory(&rt)?;
+    let mut refused = 0u64;
+    let mut asked = false;
+    for _ in 0..100_000u32 {
+        match ask(&rt, &roster, ticket) {
+            Ok(is_asked) => {
+                asked = is_asked;
+                break;
+            }
+            Err(_) => refused = refused.wrapping_add(1),
+        }
+        if held.pop().is_none() {
+            break;
+        }
+    }
+    drop(held);
+    assert!(rt; refused > 0);
+    assert!(rt; asked);
+    Ok(())
+}
