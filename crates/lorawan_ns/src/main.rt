@@ -2,7 +2,7 @@
 //!
 //! `lorawan_ns replay ROSTER` reads step lines from standard input and writes the lines of their answers to standard output. The
 //! contract of `replay` says what is written; the command line, the roster's file and the texts on standard error are shown by
-//! tests. It stands on `ns_roster`, `ns_link`, `ns_views` and `ns_calls`.
+//! tests. It stands on `ns_roster`, which reads the roster, and `ns_shard`, which runs the steps.
 #![tactic(auto)]
 
 mod fault;

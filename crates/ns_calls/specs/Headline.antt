@@ -13,7 +13,7 @@ use Rattle.ns_calls.specs.declared.call.Call.{Call}
 use Rattle.ns_calls.specs.declared.call.Reply.{Reply}
 use Rattle.ns_calls.specs.declared.call.Reply.TheVariants.{Accepted, Closed}
 use Rattle.ns_calls.specs.declared.call.Entry.{Entry}
-use Rattle.ns_calls.specs.History.{acceptances, next_session, greatest_nonce, session_counters, opening_in, closing_in, open_windows, open_window, open_tickets, session_join, live, is_live, greatest_counter, window_count, ticket_count, window_copies, ticket_copies}
+use Rattle.ns_calls.specs.History.{acceptances, next_session, greatest_nonce, session_counters, session_acks, opening_in, closing_in, open_windows, open_window, open_tickets, session_join, live, is_live, greatest_counter, window_count, ticket_count, window_copies, ticket_copies}
 use Rattle.ns_calls.specs.Reply.{devices_at, fits, window_with, most_windows, most_tickets, most_copies}
 use Rattle.ns_calls.specs.Out.{answer}
 
@@ -29,6 +29,10 @@ NoncesRise h = (eui : DevEui) → Rises (map (λ a. (nonce a.ticket).0) (accepta
 -- the counters that are opened in a session of a device strictly rise
 abbrev pub CountersRise : List Entry → Type 0
 CountersRise h = (eui : DevEui) (session : ℕ) → Rises (session_counters h eui session)
+
+-- the acknowledgement numbers of a session strictly rise, so none is used twice
+abbrev pub AcksRise : List Entry → Type 0
+AcksRise h = (eui : DevEui) (session : ℕ) → Rises (session_acks h eui session)
 
 -- how many entries open a window of this name, how many close it, and how many such windows are open
 abbrev pub opening_count : List Entry → WindowName → ℕ

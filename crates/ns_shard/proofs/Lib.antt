@@ -10,3 +10,4 @@ pub mod CloseSteps
 pub mod UplinkSteps
 pub mod RunSteps
 pub mod RunHistories
+pub mod Indexes

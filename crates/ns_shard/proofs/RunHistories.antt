@@ -1,23 +1,27 @@
 -- What a run leaves in each shard is a legal history of the calls that reached it.
-use Rattle.std.proofs.Common.{◌≡◌, ℕ, ◌<◌, Bool, true, false, List, [], ◌∷◌, ◌++◌, length, map, filter, slice_get, Some, refl, sym, ap, ◌∙◌, subst, arith, eqb, cond, inl, inr}
+use Rattle.std.proofs.Common.{◌≡◌, ℕ, ◌<◌, Bool, true, false, List, [], ◌∷◌, ◌++◌, length, map, filter, slice_get, take, drop, ◌≤◌, Some, Result, Ok, Err, refl, sym, ap, ◌∙◌, subst, arith, eqb, cond, inl, inr}
 use Rattle.std.specs.List.{AllByRecursion}
 use Rattle.std.proofs.lemmas.Bool.Decides.{eqb_tells}
-use Rattle.std.proofs.lemmas.List.{append_assoc, append-nil, map_push}
+use Rattle.std.proofs.lemmas.List.{append_assoc, append-nil, map_push, drop_all}
 use Rattle.std.proofs.lemmas.Option.{slice_get_within}
 use Rattle.ns_roster.specs.Network.{Network}
 use Rattle.ns_calls.specs.declared.call.Call.{Call}
 use Rattle.ns_calls.specs.declared.call.Entry.{Entry}
 use Rattle.ns_calls.specs.Legal.{IsHistory, with_call}
 use Rattle.ns_calls.specs.Shards.{shard_of_call}
+use Rattle.ns_calls.specs.Steps.{Refusal, link, view}
 use Rattle.ns_calls.specs.Runs.{history_after, history_of}
-use Rattle.ns_calls.specs.Headline.{NoncesRise, CountersRise, WindowsOpenOnce}
+use Rattle.ns_calls.specs.Headline.{NoncesRise, CountersRise, AcksRise, WindowsOpenOnce}
 use Rattle.ns_calls.proofs.LegalLemmas.{history_none, history_more}
 use Rattle.ns_calls.proofs.JoinLemmas.{nonces_rise}
 use Rattle.ns_calls.proofs.UplinkLemmas.{counters_rise}
 use Rattle.ns_calls.proofs.WindowLemmas.{windows_open_once}
+use Rattle.ns_calls.proofs.AckLemmas.{acks_rise}
+use Rattle.ns_calls.proofs.OutLemmas.{goes_out}
 use Rattle.ns_shard.specs.declared.step.Step.{Step}
+use Rattle.ns_shard.specs.declared.run.Taken.{Taken}
 use Rattle.ns_shard.specs.State.{State}
-use Rattle.ns_shard.specs.Steps.{calls_of, shard_history, state_after, AreAfter, OfEach}
+use Rattle.ns_shard.specs.Steps.{call_of, calls_of, shard_history, call_taken, all_taken, state_after, AreAfter, OfEach, HandsOut}
 
 -- calls of one shard lengthen a history of it
 is_history : (net : Network) (shard : ℕ) (before : List Entry) (calls : List Call) → AllByRecursion (λ c. shard_of_call c ≡ shard) calls → IsHistory net shard before → IsHistory net shard (history_after net before calls)
@@ -65,3 +69,21 @@ histories-counters net steps shards after = of_each (λ shard h. CountersRise h)
 
 pub histories-windows : (net : Network) (steps : List Step) (shards : List State) → AreAfter net steps shards → OfEach shards (λ shard h. WindowsOpenOnce h)
 histories-windows net steps shards after = of_each (λ shard h. WindowsOpenOnce h) net steps shards after (λ shard. windows_open_once net _ (shard_history-is net shard steps).legal)
+
+pub histories-acks : (net : Network) (steps : List Step) (shards : List State) → AreAfter net steps shards → OfEach shards (λ shard h. AcksRise h)
+histories-acks net steps shards after = of_each (λ shard h. AcksRise h) net steps shards after (λ shard. acks_rise net _ (shard_history-is net shard steps).legal)
+
+-- what comes of a step hands out an uplink exactly at a closing
+hands_out : (net : Network) (before : List Step) (r : Result Call Refusal) → HandsOut (call_taken net before r)
+hands_out net before (Err (link fault)) = tt
+hands_out net before (Err (view fault)) = tt
+hands_out net before (Ok c) = (goes_out net (shard_history net (shard_of_call c) before) c (shard_history-is net (shard_of_call c) before).legal).uplink
+
+pub all-hand_out : (net : Network) (before steps : List Step) → AllByRecursion HandsOut (all_taken net before steps)
+all-hand_out net before [] = tt
+all-hand_out net before (step ∷ steps) = (hands_out net before (call_of step.act), all-hand_out net (before ++ step ∷ []) steps)
+
+-- what came of all the steps
+pub told-all : (net : Network) (steps : List Step) (i : ℕ) (taken : List Taken) → length steps ≤ i → taken ++ all_taken net (take i steps) (drop i steps) ≡ all_taken net [] steps → taken ≡ all_taken net [] steps
+told-all net steps i taken whole told =
+    sym (ap (λ rest. taken ++ all_taken net (take i steps) rest) (drop_all i steps whole) ∙ append-nil taken) ∙ told

@@ -50,7 +50,7 @@ shard_history-push net shard steps step = ap (history_of net) (calls_of-push sha
 state_after-other : (net : Network) (shard : ℕ) (steps : List Step) (step : Step) → one_call shard (call_of step.act) ≡ [] → state_after net shard (steps ++ step ∷ []) ≡ state_after net shard steps
 state_after-other net shard steps step none =
     let same : shard_history net shard (steps ++ step ∷ []) ≡ shard_history net shard steps =
-        shard_history-push net shard steps step ∙ ap (λ cs. history_of net (calls_of shard steps ++ cs)) none ∙ ap (history_of net) (append-nil (calls_of shard steps)) in
+    shard_history-push net shard steps step ∙ ap (λ cs. history_of net (calls_of shard steps ++ cs)) none ∙ ap (history_of net) (append-nil (calls_of shard steps)) in
     let state : List Entry → State = λ h. record { roster = net; index = shard; made = length h; entries = h } in
     ap state same
 
@@ -59,7 +59,7 @@ state_after-own : (net : Network) (shard : ℕ) (steps : List Step) (step : Step
 state_after-own net shard steps step c one =
     let h = shard_history net shard steps in
     let longer : shard_history net shard (steps ++ step ∷ []) ≡ with_call net h (length h) c =
-        shard_history-push net shard steps step ∙ ap (λ cs. history_of net (calls_of shard steps ++ cs)) one ∙ history_after-push net [] (calls_of shard steps) c in
+    shard_history-push net shard steps step ∙ ap (λ cs. history_of net (calls_of shard steps ++ cs)) one ∙ history_after-push net [] (calls_of shard steps) c in
     let state : ℕ → List Entry → State = λ n es. record { roster = net; index = shard; made = n; entries = es } in
     ap (λ es. state (length es) es) longer ∙ ap (λ n. state n (with_call net h (length h) c)) (length-append h _)
 

@@ -1,5 +1,5 @@
 -- The steps of a run: the calls that they make, and what comes of each.
-use Rattle.std.specs.Prelude.{◌≡◌, ℕ, ◌<◌, ◌==◌, List, [], ◌∷◌, ◌++◌, length, filter, filter_map, slice_get, Option, None, Some, option_map, slice_set, Result, Ok, Err}
+use Rattle.std.specs.Prelude.{◌≡◌, ℕ, ◌<◌, ◌==◌, List, [], ◌∷◌, ◌++◌, length, filter, filter_map, slice_get, Option, None, Some, option_map, is_some, slice_set, Result, Ok, Err}
 use Rattle.std.specs.Result.{result_ok}
 use Rattle.std.specs.Option.{option_map_or}
 use Rattle.ns_types.specs.Ticket.{transaction}
@@ -12,6 +12,7 @@ use Rattle.ns_calls.specs.declared.call.Call.TheVariants as call
 use Rattle.ns_calls.specs.declared.call.Entry.{Entry}
 use Rattle.ns_calls.specs.Steps.{Refusal, link, view, datagram_call}
 use Rattle.ns_calls.specs.Shards.{shard_of_call}
+use Rattle.ns_calls.specs.Headline.{hands_out_uplink}
 use Rattle.ns_calls.specs.Runs.{history_of}
 use Rattle.ns_calls.specs.Out.{answer}
 use Rattle.ns_joinwire.specs.declared.fault.AnsFault.{AnsFault}
@@ -92,3 +93,9 @@ pub record AreAfter (net : Network) (steps : List Step) (shards : List State) : 
 -- P holds of the entries of each shard, by its number
 abbrev pub OfEach : List State → (ℕ → List Entry → Type 0) → Type 0
 OfEach shards P = (shard : ℕ) (s : State) → slice_get shards shard ≡ Some s → P shard s.entries
+
+-- an uplink goes out with a closing, and with no other answer
+abbrev pub HandsOut : Taken → Type 0
+HandsOut (Link fault) = Unit {0}
+HandsOut (View fault) = Unit {0}
+HandsOut (Made shard number a) = is_some a.uplink ≡ hands_out_uplink a.reply

@@ -1,6 +1,6 @@
 //! The devices of one shard.
 
-ghost use Rattle.std.specs.Prelude.{◌≡◌, ◌<◌, map, option_map, option_and_then, length, position, Contains, IfOk, IfSome, IsSome};
+ghost use Rattle.std.specs.Prelude.{◌≡◌, ◌==◌, ◌<◌, map, option_map, option_and_then, ◌++◌, ◌∷◌, [], length, position, filter, Contains, IfOk, IfSome, OnOk};
 ghost use Rattle.std.specs.Option.{option_map_or};
 ghost use Rattle.ns_types.specs.Identity.{shard_of};
 ghost use Rattle.ns_types.specs.Ticket.{dev_eui};
@@ -8,6 +8,7 @@ ghost use Rattle.ns_roster.specs.Valid.{IsRoster};
 ghost use Rattle.ns_secure.specs.Counter.{above, below};
 ghost use Rattle.ns_sessions.specs.Record.{IsNewCounter, session_in, join_take, reply_take, with_uplink, with_ack, ack_in};
 ghost use Rattle.ns_shard.specs.Devices.{joinless, devices_of, is_own, own_of, own_fit, first_own_fit, with_state, changed, asked, answered};
+ghost use Rattle.ns_shard.specs.Indexes.{eui_key, addr_key, Indexes, PutsFirst};
 
 use ns_calls::Outcome;
 use ns_roster::{Device, Roster};
@@ -15,6 +16,7 @@ use ns_sessions::{DeviceState, JoinTake, ReplyTake};
 use ns_types::{DevAddr, DevEui, Heard, Key, Ticket, WindowName, shard_of};
 use ns_views::DataView;
 use std::alloc::{AllocError, Global};
+use std::collections::HashMap;
 use std::marker::Model;
 
 /// A device, its address, and what is kept of it.
@@ -81,15 +83,22 @@ impl Own {
 #[derive(Drop)]
 pub struct Devices {
     list: Vec<Own>,
+    // The place of each device at its DevEUI.
+    places: HashMap<u64, usize>,
+    // The place of the first device with an address, at the address.
+    firsts: HashMap<u64, usize>,
 }
 
 impl Model for Devices {
     ghost use Rattle.std.specs.Prelude.{List};
     ghost use Rattle.ns_shard.specs.declared.devices.Own.{Own};
+    ghost use Rattle.ns_shard.specs.Indexes.{eui_key, addr_key, Indexes};
 
     ghost Value = { List Own };
 
     ghost view = { λ d. d.list.items };
+
+    ghost invariant = { λ d. Indexes eui_key d.places d.list.items × Indexes addr_key d.firsts d.list.items };
 }
 
 // A device of the roster that has not joined.
@@ -104,12 +113,34 @@ fn joinless(roster: &Roster, device: &Device) -> Own
     }
 }
 
-// Where the device of an EUI stands.
-fn place(list: &[Own], eui: DevEui) -> Option<usize>
-    ensures place { result ≡ position (is_own eui) list.now }
-    ensures within { IfSome result (λ i. i < length list.now) }
+// Puts a place at a key that has none.
+fn put_first(places: &mut HashMap<u64, usize>, key: u64, place: usize) -> Result<(), AllocError>
+    ensures { OnOk result (PutsFirst key place places.old places.new) }
 {
-    list.iter().position(|own| own.device.eui.0 == eui.0)
+    if !places.contains_key(&key) {
+        places.insert(key, place)?;
+    }
+    Ok(())
+}
+
+// Adds a device after the others.
+fn add(
+    list: &mut Vec<Own>,
+    places: &mut HashMap<u64, usize>,
+    firsts: &mut HashMap<u64, usize>,
+    own: Own,
+) -> Result<(), AllocError>
+    requires places { Indexes eui_key places.old list.old.items }
+    requires firsts { Indexes addr_key firsts.old list.old.items }
+    ensures list { OnOk result (list.new.items ≡ list.old.items ++ own ∷ []) }
+    ensures places { OnOk result (Indexes eui_key places.new list.new.items) }
+    ensures firsts { OnOk result (Indexes addr_key firsts.new list.new.items) }
+{
+    let place = list.as_slice().len();
+    put_first(places, own.device.eui.0, place)?;
+    put_first(firsts, u64::from(own.addr.0), place)?;
+    list.push(own)?;
+    Ok(())
 }
 
 impl Devices {
@@ -119,19 +150,60 @@ impl Devices {
         ensures valid { IsRoster roster.now }
     {
         let mut list = Vec::new(alloc);
+        let mut places = HashMap::new(alloc);
+        let mut firsts = HashMap::new(alloc);
         for device in roster.devices() {
-            if shard_of(device.eui) == index {
-                list.push(joinless(roster, device))?;
+            if shard_of(device.eui) != index {
+                continue;
             }
+            add(
+                &mut list,
+                &mut places,
+                &mut firsts,
+                joinless(roster, device),
+            )?;
         }
-        Ok(Devices { list })
+        Ok(Devices {
+            list,
+            places,
+            firsts,
+        })
+    }
+
+    // Where the device of an EUI stands.
+    fn place(&self, eui: DevEui) -> Option<usize>
+        ensures place { result ≡ position (is_own eui) self.now }
+        ensures within { IfSome result (λ i. i < length self.now) }
+    {
+        self.places.get(&eui.0).copied()
+    }
+
+    // Where the first device with an address stands.
+    fn first_at(&self, addr: DevAddr) -> Option<usize>
+        ensures place { result ≡ position (λ o. o.addr.0 == addr.0) self.now }
+        ensures within { IfSome result (λ i. i < length self.now) }
+    {
+        self.firsts.get(&u64::from(addr.0)).copied()
+    }
+
+    // Devices among which are all with an address, in their order.
+    fn from_addr(&self, addr: DevAddr) -> &[Own]
+        ensures { filter (λ o. o.addr.0 == addr.0) result.now ≡ filter (λ o. o.addr.0 == addr.0) self.now }
+    {
+        match self.first_at(addr) {
+            None => &[],
+            Some(first) => &self.list[first..],
+        }
     }
 
     /// The device of an EUI.
     pub fn find(&self, eui: DevEui) -> Option<&Own>
         ensures { option_map (λ o. o.now) result ≡ own_of eui self.now }
     {
-        self.list.iter().find(|own| own.device.eui.0 == eui.0)
+        match self.place(eui) {
+            None => None,
+            Some(place) => Some(&self.list[place]),
+        }
     }
 
     /// The address of the device of an EUI, or 0 where there is none.
@@ -149,7 +221,7 @@ impl Devices {
         ensures { result ≡ first_own_fit above frame.now self.now }
     {
         let addr = frame.dev_addr();
-        let mut rest = self.list.as_slice();
+        let mut rest = self.from_addr(addr);
         while let Some((own, others)) = rest.split_first() {
             if own.addr.0 == addr.0 {
                 if let Some(window) = own.fresh(frame) {
@@ -166,7 +238,7 @@ impl Devices {
         ensures { result ≡ first_own_fit below frame.now self.now }
     {
         let addr = frame.dev_addr();
-        let mut rest = self.list.as_slice();
+        let mut rest = self.from_addr(addr);
         while let Some((own, others)) = rest.split_first() {
             if own.addr.0 == addr.0 {
                 if let Some(window) = own.stale(frame) {
@@ -183,7 +255,7 @@ impl Devices {
         ensures take { result ≡ option_map (λ o. join_take o.state ticket.now) (own_of (dev_eui ticket.now) self.old) }
         ensures devices { self.new ≡ changed (dev_eui ticket.now) (asked ticket.now heard.now) self.old }
     {
-        match place(self.list.as_slice(), ticket.dev_eui()) {
+        match self.place(ticket.dev_eui()) {
             None => None,
             Some(place) => Some(self.list[place].ask(ticket, heard)),
         }
@@ -194,7 +266,7 @@ impl Devices {
         ensures take { result ≡ option_map (λ o. reply_take o.state ticket.now outcome.now) (own_of (dev_eui ticket.now) self.old) }
         ensures devices { self.new ≡ changed (dev_eui ticket.now) (answered ticket.now outcome.now) self.old }
     {
-        match place(self.list.as_slice(), ticket.dev_eui()) {
+        match self.place(ticket.dev_eui()) {
             None => None,
             Some(place) => Some(self.list[place].answer(ticket, outcome)),
         }
@@ -205,7 +277,7 @@ impl Devices {
         requires { IfSome (own_of name.now.eui self.old) (λ o. IsNewCounter (session_in o.state name.now.session) name.now.fcnt) }
         ensures { self.new ≡ changed name.now.eui (with_uplink name.now.session name.now.fcnt) self.old }
     {
-        match place(self.list.as_slice(), name.eui) {
+        match self.place(name.eui) {
             None => {}
             Some(place) => self.list[place].take(name.session, name.fcnt),
         }
@@ -216,7 +288,7 @@ impl Devices {
         ensures number { result ≡ option_and_then (λ o. ack_in o.state name.now.session) (own_of name.now.eui self.old) }
         ensures devices { self.new ≡ changed name.now.eui (with_ack name.now.session) self.old }
     {
-        match place(self.list.as_slice(), name.eui) {
+        match self.place(name.eui) {
             None => None,
             Some(place) => self.list[place].next_ack(name.session),
         }

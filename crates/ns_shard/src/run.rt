@@ -2,9 +2,10 @@
 
 ghost use Rattle.std.specs.Prelude.{◌≡◌, ◌<◌, [], length, map, slice_get, Some, IfOk, OnOk, IfSome};
 ghost use Rattle.std.specs.Arc.{arc_value};
+ghost use Rattle.std.specs.List.{AllByRecursion};
 ghost use Rattle.ns_calls.specs.Legal.{IsHistory};
-ghost use Rattle.ns_calls.specs.Headline.{NoncesRise, CountersRise, WindowsOpenOnce};
-ghost use Rattle.ns_shard.specs.Steps.{all_taken, taken_in, states_after, refused_as, call_of, calls_of, AreAfter, AreInPlace, OfEach};
+ghost use Rattle.ns_calls.specs.Headline.{NoncesRise, CountersRise, AcksRise, WindowsOpenOnce};
+ghost use Rattle.ns_shard.specs.Steps.{all_taken, taken_in, states_after, refused_as, call_of, calls_of, AreAfter, AreInPlace, OfEach, HandsOut};
 
 use crate::calls::call_of;
 use crate::shard::Shard;
@@ -67,9 +68,12 @@ impl Shards {
         ensures histories { IfOk result (λ run. OfEach run.shards (λ shard h. IsHistory (arc_value roster) shard h)) }
         ensures calls { IfOk result (λ run. OfEach run.shards (λ shard h. map (λ e. e.call) h ≡ calls_of shard steps.now)) }
 
-        // Accepted nonces of a device and counters of a session strictly rise, and a window opens and closes at most once.
+        // Accepted nonces of a device, and counters and acknowledgement numbers of a session, strictly rise; a window opens and
+        // closes at most once, and an uplink goes out at a closing alone.
         ensures nonces_rise { IfOk result (λ run. OfEach run.shards (λ shard h. NoncesRise h)) }
         ensures counters_rise { IfOk result (λ run. OfEach run.shards (λ shard h. CountersRise h)) }
+        ensures acks_rise { IfOk result (λ run. OfEach run.shards (λ shard h. AcksRise h)) }
+        ensures uplinks { IfOk result (λ run. AllByRecursion HandsOut run.taken.items) }
         ensures windows_open_once { IfOk result (λ run. OfEach run.shards (λ shard h. WindowsOpenOnce h)) }
     {
         let mut list = new_shards(alloc, roster)?;

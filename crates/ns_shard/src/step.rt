@@ -5,7 +5,7 @@ ghost use Rattle.std.specs.Prelude.{◌≡◌};
 use ns_types::{Ticket, WindowName};
 use std::marker::Model;
 
-/// OwnedBytes that came from outside. Contracts see the list of them.
+/// Bytes that came from outside. Contracts see the list of them.
 #[derive(Drop)]
 pub struct OwnedBytes {
     bytes: Vec<u8>,

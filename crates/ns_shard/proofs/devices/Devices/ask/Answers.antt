@@ -9,10 +9,10 @@ use Rattle.ns_shard.proofs.devices.Devices.ask.Goals as goal
 use Rattle.ns_shard.proofs.devices.Devices.ask.Goals.{In-None, After-self-1}
 
 none : (c : In-None) → NonePasses (is_own (dev_eui c.args.ticket.now)) c.self.inside.list.items
-none c = position-none (is_own (dev_eui c.args.ticket.now)) c.self.inside.list.items (rw (c.as_slice.ensures.value, c.dev_eui.ensures) at (sym c.in-None.ensures.place))
+none c = position-none (is_own (dev_eui c.args.ticket.now)) c.self.inside.list.items (rw (← c.self.view_is, c.dev_eui.ensures) at (sym c.in-None.ensures.place))
 
 there : (c : After-self-1) → PassesFirst (is_own (dev_eui c.args.ticket.now)) c.self.inside.list.items c.in-Some.place c.index_mut.result.now
-there c = place-first (is_own (dev_eui c.args.ticket.now)) c.self.inside.list.items c.in-Some.place c.index_mut.result.now (rw (c.as_slice.ensures.value, c.dev_eui.ensures) at (sym c.in-Some.ensures.place)) c.index_mut.ensures.value
+there c = place-first (is_own (dev_eui c.args.ticket.now)) c.self.inside.list.items c.in-Some.place c.index_mut.result.now (rw (← c.self.view_is, c.dev_eui.ensures) at (sym c.in-Some.ensures.place)) c.index_mut.ensures.value
 
 pub returns-in-None-clause-take : goal.returns-in-None-clause-take
 returns-in-None-clause-take c = rw (← c.self.view_is) (ap (option_map (λ (o : Own). join_take o.state c.args.ticket.now)) (sym (find-none _ _ (none c))))

@@ -9,10 +9,10 @@ use Rattle.ns_shard.proofs.devices.Devices.next_ack.Goals as goal
 use Rattle.ns_shard.proofs.devices.Devices.next_ack.Goals.{In-None, After-self-1}
 
 none : (c : In-None) → NonePasses (is_own c.args.name.now.eui) c.self.inside.list.items
-none c = position-none (is_own c.args.name.now.eui) c.self.inside.list.items (rw (c.as_slice.ensures.value) at (sym c.in-None.ensures.place))
+none c = position-none (is_own c.args.name.now.eui) c.self.inside.list.items (rw (← c.self.view_is) at (sym c.in-None.ensures.place))
 
 there : (c : After-self-1) → PassesFirst (is_own c.args.name.now.eui) c.self.inside.list.items c.in-Some.place c.index_mut.result.now
-there c = place-first (is_own c.args.name.now.eui) c.self.inside.list.items c.in-Some.place c.index_mut.result.now (rw (c.as_slice.ensures.value) at (sym c.in-Some.ensures.place)) c.index_mut.ensures.value
+there c = place-first (is_own c.args.name.now.eui) c.self.inside.list.items c.in-Some.place c.index_mut.result.now (rw (← c.self.view_is) at (sym c.in-Some.ensures.place)) c.index_mut.ensures.value
 
 pub returns-in-None-clause-number : goal.returns-in-None-clause-number
 returns-in-None-clause-number c = rw (← c.self.view_is) (ap (option_and_then (λ (o : Own). ack_in o.state c.args.name.now.session)) (sym (find-none _ _ (none c))))

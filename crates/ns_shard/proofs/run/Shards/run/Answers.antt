@@ -1,9 +1,10 @@
-use Rattle.std.proofs.Common.{◌≡◌, rules, sym, ap, ◌∙◌, ◌++◌, ◌+◌, take, drop, subst}
+use Rattle.std.proofs.Common.{◌≡◌, rules, sym, ap, ◌∙◌, ◌++◌, ◌+◌, take, drop, subst, []}
+use Rattle.std.specs.List.{AllByRecursion}
 use Rattle.std.proofs.lemmas.List.{take_all}
 use Rattle.std.specs.Arc.{arc_value}
-use Rattle.ns_shard.specs.Steps.{all_taken, AreAfter}
+use Rattle.ns_shard.specs.Steps.{all_taken, AreAfter, HandsOut}
 use Rattle.ns_shard.proofs.RunSteps.{step-after, step-taken, told-more}
-use Rattle.ns_shard.proofs.RunHistories.{histories-legal, histories-calls, histories-nonces, histories-counters, histories-windows}
+use Rattle.ns_shard.proofs.RunHistories.{histories-legal, histories-calls, histories-nonces, histories-counters, histories-acks, histories-windows, all-hand_out, told-all}
 use Rattle.ns_shard.proofs.run.Shards.run.Goals as goal
 
 pub steps-preserved : goal.steps-preserved
@@ -48,3 +49,14 @@ returns-clause-windows_open_once c =
     let net = arc_value c.args.roster in
     let all = take_all c.steps.step-index c.args.steps.now c.steps-test.false in
     histories-windows net c.args.steps.now c.steps.list.items (subst (λ ss. AreAfter net ss c.steps.list.items) all c.steps.invariant.after)
+
+pub returns-clause-acks_rise : goal.returns-clause-acks_rise
+returns-clause-acks_rise c =
+    let net = arc_value c.args.roster in
+    let all = take_all c.steps.step-index c.args.steps.now c.steps-test.false in
+    histories-acks net c.args.steps.now c.steps.list.items (subst (λ ss. AreAfter net ss c.steps.list.items) all c.steps.invariant.after)
+
+pub returns-clause-uplinks : goal.returns-clause-uplinks
+returns-clause-uplinks c =
+    let net = arc_value c.args.roster in
+    subst (AllByRecursion HandsOut) (sym (told-all net c.args.steps.now c.steps.step-index c.steps.taken.items c.steps-test.false c.steps.invariant.told)) (all-hand_out net [] c.args.steps.now)

@@ -1,0 +1,87 @@
+//! A program that embeds the network server: it runs a few steps over a roster of one device, and takes one call to a shard of its own.
+//!
+//! It is the example of docs/EMBEDDING.md. Its comments say what an embedder may rely on at each call, as the contract of that call
+//! states it.
+#![tactic(auto)]
+
+ghost use Rattle.std.specs.Prelude.{◌≡◌, [], IfOk};
+ghost use Rattle.std.specs.Arc.{arc_value};
+ghost use Rattle.ns_calls.specs.Out.{answer};
+
+mod steps;
+
+use ns_calls::{Answer, Call, lines, shard_of_call};
+use ns_roster::Roster;
+use ns_shard::{Shard, Shards, Taken};
+use ns_types::{GatewayId, Heard};
+use std::alloc::{AllocError, Global};
+use std::io;
+use std::sync::Arc;
+
+const ROSTER: &str =
+    r#"{"version":1,"net_id":"000024","rx1_offset":0,"rx_delay":1,"devices":[{"dev_eui":"000000000000000d","join_eui":"0102030401020304","slot":1998321}]}"#;
+
+// Prints the lines of an answer: that of the reply, then those of the uplink and the downlink that go out with it.
+fn print_answer(rt: &impl Print, shard: u8, number: u64, answer: &Answer) -> io::Result<()> {
+    for line in lines(answer) {
+        println!(rt; "shard {shard}, entry {number}: {}", line.as_str())?;
+    }
+    Ok(())
+}
+
+// Prints what came of a step: a refusal by its number, or the answer of the entry that it made.
+fn print_taken(rt: &impl Print, taken: &Taken) -> io::Result<()> {
+    match taken {
+        Taken::Link(fault) => println!(rt; "refused G{}", fault.number()),
+        Taken::View(fault) => println!(rt; "refused V{}", fault.number()),
+        Taken::Made {
+            shard,
+            number,
+            answer,
+        } => print_answer(rt, *shard, *number, answer),
+    }
+}
+
+/// Takes a call to its shard, which has no entries before: the answer is the plain server's first one.
+pub fn first_answer(alloc: Global, roster: Arc<Roster>, call: Call) -> Result<Answer, AllocError>
+    ensures { IfOk result (λ a. a ≡ answer (arc_value roster) [] call) }
+{
+    // A new shard has no entries. Its number has to be less than 16, and that of each call is.
+    let mut shard = Shard::new(alloc, roster, shard_of_call(&call))?;
+
+    // The call has to be one of this shard. The answer is the plain server's, after the entries of the shard, and exactly the entry
+    // of the call is added. Where memory is refused nothing has changed, and the same call can be made again.
+    shard.apply(call)
+}
+
+fn main(rt: HostRuntime) -> anyhow::Result<()> {
+    let alloc = rt.alloc();
+
+    // The roster is exactly what the text spells, and a valid one; otherwise the error is its first fault, O1 to O6, or no memory.
+    let roster = Arc::new(alloc, Roster::read(alloc, ROSTER.as_bytes())?)?;
+
+    // What came of each step is the plain server's answer, after the entries of its shard that the steps before it made. Accepted
+    // nonces of a device, counters of a session and numbers of its acknowledgements strictly rise, and a window opens and closes at
+    // most once.
+    let steps = steps::worked_steps(alloc)?;
+    let run = Shards::run(alloc, roster.clone()?, steps.as_slice())?;
+    for taken in run.taken.as_slice() {
+        print_taken(&rt, taken)?;
+    }
+
+    // An embedder that keeps its own shards makes its own calls, without bytes to read.
+    let call = Call::Join {
+        ticket: steps::TICKET,
+        heard: Heard {
+            gateway: GatewayId(0xa1),
+            moment: 1_000_000,
+            freq: 868_100_000,
+            dr: 5,
+            rssi: -400,
+            snr: 75,
+        },
+    };
+    let answer = first_answer(alloc, roster, call)?;
+    print_answer(&rt, shard_of_call(&call), 0, &answer)?;
+    Ok(())
+}
