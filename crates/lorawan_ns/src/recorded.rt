@@ -1,6 +1,6 @@
 //! Recorded runs with answers of join servers, uplinks and closings. Their lines are those of the worked examples of the formats.
 
-use crate::tests::same_lines;
+use crate::tests::{refuses_each_growth, same_lines};
 use std::test::Fail;
 
 const ONE_DEVICE: &str =
@@ -9,17 +9,19 @@ const ONE_DEVICE: &str =
 const TWO_DEVICES: &str =
     r#"{"version":1,"net_id":"000024","rx1_offset":0,"rx_delay":1,"devices":[{"dev_eui":"000000000000000d","join_eui":"0102030401020304","slot":1998321},{"dev_eui":"000000000000001d","join_eui":"0102030401020304","slot":1998321}]}"#;
 
-/// Acknowledgement numbers count in the order of closing.
-#[test]
-fn numbers_in_the_order_of_closing(rt: HostRuntime) -> Result<(), Fail> {
-    let steps =
-        r#"heard 010100000000000000a100000000000f424033be27a005fc4a004b170004030201040302010d00000000000000010001000000
+// A join with its answer, two confirmed uplinks, and their closings in the other order.
+const CONFIRMED: &str =
+    r#"heard 010100000000000000a100000000000f424033be27a005fc4a004b170004030201040302010d00000000000000010001000000
 answer 0004030201040302010d00000000000000010001000000 {"AppSKey":{"AESKey":"ec925802ae430ca77fd3dd73cb2cc588","KEKLabel":""},"MessageType":"JoinAns","NwkSKey":{"AESKey":"44024241ed4ce9a68c6a8bc055233fd3","KEKLabel":""},"PHYPayload":"20000102030405060708090a0b0c0d0e0f","Result":{"ResultCode":"Success"},"TransactionID":1}
 heard 010100000000000000a100000000000f424033be27a005fc4a004b1180f17dbe4900040001753e3bb0dab1720e
 heard 010100000000000000a100000000000f424033be27a005fc4a004b1180f17dbe4900050001912b5da114e7277a
 close 000000000000000d 1 5
 close 000000000000000d 1 4
 "#;
+
+/// Acknowledgement numbers count in the order of closing.
+#[test]
+fn numbers_in_the_order_of_closing(rt: HostRuntime) -> Result<(), Fail> {
     let lines = "\
 ask 0004030201040302010d00000000000000010001000000
 accepted 000000000000000d 1 49be7df1
@@ -33,7 +35,7 @@ closed 000000000000000d 1 4 1
 up 000000000000000d 1 4 1 plain - 74657374 1 00000000000000a1
 down 00000000000000a1 2000000 868100000 5 60f17dbe492001003272b76e
 ";
-    same_lines(&rt, ONE_DEVICE, steps, lines)
+    same_lines(&rt, ONE_DEVICE, CONFIRMED, lines)
 }
 
 /// A counter goes on over 65535.
@@ -203,4 +205,10 @@ closed 000000000000000d 1 1 -
 up 000000000000000d 1 1 1 plain - 74657374 1 00000000000000a1
 ";
     same_lines(&rt, ONE_DEVICE, steps, lines)
+}
+
+/// Each growth of a whole run is refused in turn: of a join with its answer, of uplinks and of closings.
+#[test]
+fn each_growth_of_a_run_refused(rt: HostRuntime) -> Result<(), Fail> {
+    refuses_each_growth(&rt, ONE_DEVICE, CONFIRMED.as_bytes())
 }

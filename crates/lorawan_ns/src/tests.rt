@@ -73,13 +73,13 @@ fn fuse(
     Ok(Fuse::new(rt.alloc(), input, most, reads, writes))
 }
 
-fn roster(rt: &HostRuntime) -> Result<Arc<Roster>, Fail> {
-    Ok(Arc::new(rt.alloc(), Roster::read(rt.alloc(), ROSTER.as_bytes())?)?)
+fn roster<R: AllocGlobal>(rt: &R, text: &str) -> Result<Arc<Roster>, Fail> {
+    Ok(Arc::new(rt.alloc(), Roster::read(rt.alloc(), text.as_bytes())?)?)
 }
 
 #[test]
 fn answers_each_line(rt: HostRuntime) -> Result<(), Fail> {
-    let roster = roster(&rt)?;
+    let roster = roster(&rt, ROSTER)?;
     for most in [1usize, 7, 8192] {
         let mut reader = fuse(&rt, STEPS.as_bytes(), most, None, None)?;
         let mut writer = fuse(&rt, b"", most, None, None)?;
@@ -125,7 +125,7 @@ fn seventeen_copies(rt: HostRuntime) -> Result<(), Fail> {
     lines.push_str("joincrowded\n")?;
     let mut reader = fuse(&rt, steps.as_bytes(), 8192, None, None)?;
     let mut writer = fuse(&rt, b"", 8192, None, None)?;
-    let outcome = replay(rt.alloc(), roster(&rt)?, &mut reader, &mut writer);
+    let outcome = replay(rt.alloc(), roster(&rt, ROSTER)?, &mut reader, &mut writer);
     assert_eq!(rt; outcome, Ok(()));
     assert_eq!(rt; writer.written(), lines.as_bytes());
     Ok(())
@@ -133,7 +133,7 @@ fn seventeen_copies(rt: HostRuntime) -> Result<(), Fail> {
 
 #[test]
 fn a_failed_read_writes_nothing(rt: HostRuntime) -> Result<(), Fail> {
-    let roster = roster(&rt)?;
+    let roster = roster(&rt, ROSTER)?;
     for reads in 0..12 {
         let mut reader = fuse(&rt, STEPS.as_bytes(), 200, Some(reads), None)?;
         let mut writer = fuse(&rt, b"", 200, None, None)?;
@@ -150,7 +150,7 @@ fn a_failed_read_writes_nothing(rt: HostRuntime) -> Result<(), Fail> {
 
 #[test]
 fn a_failed_write_leaves_a_beginning(rt: HostRuntime) -> Result<(), Fail> {
-    let roster = roster(&rt)?;
+    let roster = roster(&rt, ROSTER)?;
     for writes in 0..12 {
         let mut reader = fuse(&rt, STEPS.as_bytes(), 8192, None, None)?;
         let mut writer = fuse(&rt, b"", 30, None, Some(writes))?;
@@ -167,7 +167,7 @@ fn a_failed_write_leaves_a_beginning(rt: HostRuntime) -> Result<(), Fail> {
 }
 
 // Blocks of falling size until none can be had.
-fn all_memory(rt: &HostRuntime) -> Result<Vec<Vec<u8>>, Fail> {
+fn all_memory<R: AllocGlobal>(rt: &R) -> Result<Vec<Vec<u8>>, Fail> {
     let mut held = Vec::with_capacity(rt.alloc(), 200_000)?;
     let mut size = 1usize << 46;
     for _ in 0..400_000u32 {
@@ -182,16 +182,24 @@ fn all_memory(rt: &HostRuntime) -> Result<Vec<Vec<u8>>, Fail> {
     Ok(held)
 }
 
-// One block more is given back at each turn, so each growth of the run is refused once.
 #[test]
 fn each_growth_refused(rt: HostRuntime) -> Result<(), Fail> {
-    let roster = roster(&rt)?;
+    refuses_each_growth(&rt, ROSTER, &STEPS.as_bytes()[..330])
+}
+
+// One block more is given back at each turn, so each growth of the run is refused once.
+pub fn refuses_each_growth<R: Abort + AllocGlobal>(
+    rt: &R,
+    text: &str,
+    steps: &[u8],
+) -> Result<(), Fail> {
+    let roster = roster(rt, text)?;
     let mut inputs = Vec::with_capacity(rt.alloc(), 4096)?;
     for _ in 0..4096u32 {
-        let input = Vec::from_slice(rt.alloc(), &STEPS.as_bytes()[..330])?;
+        let input = Vec::from_slice(rt.alloc(), steps)?;
         inputs.push(input)?;
     }
-    let mut held = all_memory(&rt)?;
+    let mut held = all_memory(rt)?;
     let mut refused = 0u64;
     let mut answered = false;
     for input in inputs {
