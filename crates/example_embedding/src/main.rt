@@ -38,7 +38,7 @@ fn print_taken(rt: &impl Print, taken: &Taken) -> io::Result<()> {
             shard,
             number,
             answer,
-        } => print_answer(rt, *shard, *number, answer),
+        } => print_answer(rt, *shard, *number, &answer.unpacked()),
     }
 }
 

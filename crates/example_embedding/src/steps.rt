@@ -5,7 +5,7 @@ ghost use Rattle.ns_shard.specs.declared.step.Act.TheVariants.{Answer, Close};
 ghost use Rattle.example_embedding.specs.Heard.{heard};
 
 use hex::FromHexError;
-use ns_shard::{Act, OwnedBytes, Step};
+use ns_shard::{Act, DatagramBytes, OwnedBytes, Step};
 use ns_types::{DevEui, Ticket, WindowName};
 use std::alloc::Global;
 
@@ -45,7 +45,7 @@ fn heard(alloc: Global, digits: &str) -> Result<Step, FromHexError>
     ensures { IfOk result (λ s. heard digits.now ≡ Some s.act) }
 {
     let bytes = hex::decode(alloc, digits)?;
-    Ok(step(Act::Datagram(OwnedBytes::new(bytes))))
+    Ok(step(Act::Datagram(DatagramBytes::new(bytes))))
 }
 
 /// The steps, in order.

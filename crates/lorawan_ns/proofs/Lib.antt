@@ -1,3 +1,4 @@
 pub mod LineLemmas
 pub mod Digits
 pub mod Woven
+pub mod Blocks

@@ -87,6 +87,47 @@ up 000000000000000d 1 4 - plain - - 1 00000000000000a1
     same_lines(&rt, ONE_DEVICE, steps, lines)
 }
 
+/// The payload of a frame on port 0 is deciphered with the NwkSKey, where there is an AppSKey too.
+#[test]
+fn port_0_beside_a_key(rt: HostRuntime) -> Result<(), Fail> {
+    let steps =
+        r#"heard 010100000000000000a100000000000f424033be27a005fc4a004b170004030201040302010d00000000000000010001000000
+answer 0004030201040302010d00000000000000010001000000 {"AppSKey":{"AESKey":"ec925802ae430ca77fd3dd73cb2cc588","KEKLabel":""},"MessageType":"JoinAns","NwkSKey":{"AESKey":"44024241ed4ce9a68c6a8bc055233fd3","KEKLabel":""},"PHYPayload":"20000102030405060708090a0b0c0d0e0f","Result":{"ResultCode":"Success"},"TransactionID":1}
+heard 010100000000000000a100000000000f424033be27a005fc4a004b1140f17dbe4900030000bd8e1d8e547ba371
+close 000000000000000d 1 3
+"#;
+    let lines = "\
+ask 0004030201040302010d00000000000000010001000000
+accepted 000000000000000d 1 49be7df1
+down 00000000000000a1 6000000 868100000 5 20000102030405060708090a0b0c0d0e0f
+opened 000000000000000d 1 3
+closed 000000000000000d 1 3 -
+up 000000000000000d 1 3 0 plain - 74657374 1 00000000000000a1
+";
+    same_lines(&rt, ONE_DEVICE, steps, lines)
+}
+
+/// A test device's Join-Request with one bit of its MIC changed is asked, and with the test join server's answer refused. The right
+/// one is then asked, and with the test join server's answer accepted. The answers are those that the tests of the test join server
+/// compare with.
+#[test]
+fn one_bit_of_a_join_request(rt: HostRuntime) -> Result<(), Fail> {
+    let steps =
+        r#"heard 010100000000000000a100000000000f424033be27a005fc4a004b170004030201040302010d000000000000000100e4b6745e
+answer 0004030201040302010d000000000000000100e4b6745e {"MessageType":"JoinAns","Result":{"ResultCode":"MICFailed"},"TransactionID":1584707300}
+heard 010100000000000000a100000000000f424033be27a005fc4a004b170004030201040302010d000000000000000100e4b6745f
+answer 0004030201040302010d000000000000000100e4b6745f {"AppSKey":{"AESKey":"bda9a196bb8f7c8044b037573f655db5","KEKLabel":""},"MessageType":"JoinAns","NwkSKey":{"AESKey":"de0e31622b33aa13c060015c1841a5bb","KEKLabel":""},"PHYPayload":"20f29be7bd62a276adbe0e897f76e8564b","Result":{"ResultCode":"Success"},"TransactionID":1601484516}
+"#;
+    let lines = "\
+ask 0004030201040302010d000000000000000100e4b6745e
+joinrefused
+ask 0004030201040302010d000000000000000100e4b6745f
+accepted 000000000000000d 1 49be7df1
+down 00000000000000a1 6000000 868100000 5 20f29be7bd62a276adbe0e897f76e8564b
+";
+    same_lines(&rt, ONE_DEVICE, steps, lines)
+}
+
 /// The ninth window of a device is busy until one is closed.
 #[test]
 fn nine_frames(rt: HostRuntime) -> Result<(), Fail> {

@@ -1,15 +1,16 @@
 //! A run of recorded steps, from a source of step lines to a sink of answer lines.
 
-ghost use Rattle.std.specs.Prelude.{◌≡◌, ◌⊎◌, false, true, flat_map, OnOk, IfErr, IfOk, IfSome};
+ghost use Rattle.std.specs.Prelude.{◌≡◌, ◌⊎◌, [], false, true, flat_map, OnOk, IfErr, IfOk, IfSome};
 ghost use Rattle.std.specs.Arc.{arc_value};
 ghost use Rattle.std.specs.Io.KnownBytes.{Appends};
 ghost use Rattle.ns_types.specs.Streams.{AppendsFront};
+ghost use Rattle.ns_shard.specs.Steps.{all_taken};
 ghost use Rattle.lorawan_ns.specs.Output.{output};
 
-use crate::step_lines::steps;
+use crate::step_lines::{StepLines, steps};
 use crate::taken::text_of;
 use ns_roster::Roster;
-use ns_shard::Shards;
+use ns_shard::{Run, Shards, Step, Taken};
 use ns_types::{ReadFault, Sink, Source, read_all, write_all};
 use std::alloc::{AllocError, Global};
 use std::sync::Arc;
@@ -23,14 +24,23 @@ pub enum ReplayFault {
     Io,
 }
 
+// What comes of steps. Neither they nor the shards are needed any more when it is written down.
+fn taken_of(alloc: Global, roster: Arc<Roster>, steps: Vec<Step>) -> Result<Vec<Taken>, AllocError>
+    ensures { IfOk result (λ taken. taken.items ≡ all_taken (arc_value roster) [] steps.items) }
+{
+    let Run { shards: _, taken } = Shards::run(alloc, roster, steps.as_slice())?;
+    Ok(taken)
+}
+
 // The lines that a text of step lines is answered, each with a line feed.
 #[tactic(auto, using(crate::proofs::Woven::all_lines_woven))]
-fn answered(alloc: Global, roster: Arc<Roster>, input: &[u8]) -> Result<Vec<u8>, AllocError>
-    ensures { IfOk result (λ v. v.items ≡ output (arc_value roster) input.now) }
+fn answered(alloc: Global, roster: Arc<Roster>, input: Vec<u8>) -> Result<Vec<u8>, AllocError>
+    ensures { IfOk result (λ v. v.items ≡ output (arc_value roster) input.items) }
 {
-    let found = steps(alloc, input)?;
-    let run = Shards::run(alloc, roster, found.steps.as_slice())?;
-    text_of(alloc, found.are_steps.as_slice(), run.taken.as_slice())
+    let StepLines { steps, are_steps } = steps(alloc, input.as_slice())?;
+    drop(input);
+    let taken = taken_of(alloc, roster, steps)?;
+    text_of(alloc, are_steps.as_slice(), taken.as_slice())
 }
 
 /// Reads step lines to the end, and then writes the lines of their answers.
@@ -64,7 +74,7 @@ pub fn replay<R: Source, W: Sink>(
         Err(ReadFault::NoMemory) => return Err(ReplayFault::NoMemory),
         Err(ReadFault::Io) => return Err(ReplayFault::Io),
     };
-    let Ok(text) = answered(alloc, roster, input.as_slice()) else {
+    let Ok(text) = answered(alloc, roster, input) else {
         return Err(ReplayFault::NoMemory);
     };
     match write_all(writer, text.as_slice()) {

@@ -1,20 +1,47 @@
 //! Step lines: the steps that a text of lines asks for.
 
-ghost use Rattle.std.specs.Prelude.{◌≡◌, ◌≢◌, ◌<◌, ◌∷◌, ◌++◌, [], length, map, option_map, Some, None, MatchOption, IfOk, OnOk, IfSome, IsSome, position, ◌==◌};
+ghost use Rattle.std.specs.Prelude.{◌≡◌, ◌≢◌, ◌<◌, ◌≤◌, ◌∷◌, ◌++◌, [], ℕ, false, slice_index_or, length, map, option_map, Some, None, MatchOption, IfOk, OnOk, IfSome, IsSome, position, ◌==◌};
 ghost use Rattle.lorawan_ns.specs.Output.{steps_in, are_steps};
 ghost use Rattle.lorawan_ns.specs.StepLines.{raw_lines, without_return, parted, number, eui, ticket, heard, answered, lost, counters, closed, act, step, steps};
 
 use hex::{FromHex, FromHexError};
-use ns_shard::{Act, OwnedBytes, Step};
+use ns_shard::{Act, DatagramBytes, OwnedBytes, Step};
 use ns_types::{DevEui, Ticket, WindowName};
 use std::alloc::{AllocError, Global};
+
+// How many bytes are looked at together.
+const BLOCK: usize = 32;
+
+// How many bytes of blocks in which a byte does not stand come first. A block is passed as a whole, which is faster than byte by byte.
+fn passed(byte: u8, text: &[u8]) -> usize
+    ensures within { result ≤ length text.now }
+    ensures none { (k d : ℕ) → k < result → (slice_index_or text.now k d == byte) ≡ false }
+{
+    let mut from = 0;
+    'passing: while text.len() - from > BLOCK && !text[from..from + BLOCK].contains(&byte) {
+        from += BLOCK;
+    }
+    from
+}
+
+// Where a byte first stands, looked for byte by byte.
+fn first_of(byte: u8, text: &[u8]) -> Option<usize>
+    ensures value { result ≡ position (λ b. b == byte) text.now }
+    ensures within { IfSome result (λ i. i < length text.now) }
+{
+    text.iter().position(|b| *b == byte)
+}
 
 // Where a byte first stands.
 fn place_of(byte: u8, text: &[u8]) -> Option<usize>
     ensures value { result ≡ position (λ b. b == byte) text.now }
     ensures within { IfSome result (λ i. i < length text.now) }
 {
-    text.iter().position(|b| *b == byte)
+    let from = passed(byte, text);
+    match first_of(byte, &text[from..]) {
+        Some(at) => Some(from + at),
+        None => None,
+    }
 }
 
 // The bytes up to the first line feed, and what follows it.
@@ -102,7 +129,7 @@ fn heard(alloc: Global, text: &[u8]) -> Result<Option<Act>, AllocError>
             if bytes.is_empty() {
                 Ok(None)
             } else {
-                Ok(Some(Act::Datagram(OwnedBytes::new(bytes))))
+                Ok(Some(Act::Datagram(DatagramBytes::new(bytes))))
             }
         }
         Err(error) => {

@@ -1,59 +1,93 @@
 //! The lines that are written of what came of step lines.
 
-ghost use Rattle.std.specs.Prelude.{◌≡◌, ◌≤◌, ◌++◌, ◌∷◌, [], length, map, flat_map, option_map, codes, decimal, OnOk, IfOk};
+ghost use Rattle.std.specs.Prelude.{◌≡◌, ◌≤◌, ◌++◌, ◌∷◌, [], length, flat_map, option_map, codes, OnOk, IfOk};
+ghost use Rattle.std.specs.Option.{option_to_list};
+ghost use Rattle.ns_calls.specs.Text.{text as answer_text, up_text};
 ghost use Rattle.lorawan_ns.specs.Output.{refusal_text, ended, lines_of, text_of, woven};
 
-use arrayvec::ArrayVec;
 use itoa::Buffer;
-use ns_calls::{Line, lines};
-use ns_shard::Taken;
+use ns_calls::{Line, put_downlink, put_reply, put_uplink};
+use ns_shard::{PackedAnswer, Taken};
 use std::alloc::{AllocError, Global};
 
-// The line of a refusal: its letter or word, and its number where it has one.
-fn refusal(text: &str, number: Option<u8>) -> Line
-    requires { length text.now ≤ 16 }
-    ensures { result.bytes ≡ refusal_text text.now number }
+// Puts a line at the end of a text, with a line feed, and leaves it empty.
+fn put_line(text: &mut Vec<u8>, line: &mut Line) -> Result<(), AllocError>
+    ensures text { OnOk result (text.new.items ≡ text.old.items ++ ended line.old.bytes) }
+    ensures line { OnOk result (line.new.bytes ≡ []) }
 {
-    let mut line = Line::new();
-    line.push_str(text);
+    text.extend_from_slice(line.as_str().as_bytes())?;
+    text.push(b'\n')?;
+    line.clear();
+    Ok(())
+}
+
+// Puts the line of a refusal: its letter or word, and its number where it has one.
+fn put_refusal(
+    text: &mut Vec<u8>,
+    line: &mut Line,
+    word: &str,
+    number: Option<u8>,
+) -> Result<(), AllocError>
+    requires line { line.old.bytes ≡ [] }
+    requires word { length word.now ≤ 16 }
+    ensures text { OnOk result (text.new.items ≡ text.old.items ++ ended (refusal_text word.now number)) }
+    ensures line { OnOk result (line.new.bytes ≡ []) }
+{
+    line.push_str(word);
     if let Some(number) = number {
         let mut digits = Buffer::new();
         line.push_str(digits.format(number));
     }
-    line
+    put_line(text, line)
 }
 
-// The list of one line.
-fn only(line: Line) -> ArrayVec<Line, 3>
-    ensures { result.items ≡ line ∷ [] }
+// Puts the line of the uplink that goes out with an answer. It is kept apart from the answers with which none goes out.
+#[inline(never)]
+fn put_sent(text: &mut Vec<u8>, line: &mut Line, answer: &PackedAnswer) -> Result<(), AllocError>
+    requires { line.old.bytes ≡ [] }
+    ensures text { OnOk result (text.new.items ≡ text.old.items ++ flat_map ended (option_to_list (option_map up_text answer.now.uplink))) }
+    ensures line { OnOk result (line.new.bytes ≡ []) }
 {
-    let mut all = ArrayVec::new();
-    all.push(line);
-    all
-}
-
-// The lines of what came of a line.
-#[tactic(auto, unfolding(crate::specs::Output::lines_of))]
-fn lines_of(taken: Option<&Taken>) -> ArrayVec<Line, 3>
-    ensures { map (λ l. l.bytes) result.items ≡ lines_of (option_map (λ t. t.now) taken.entry) }
-{
-    match taken {
-        None => only(refusal("refused line", None)),
-        Some(Taken::Link(fault)) => only(refusal("refused G", Some(fault.number()))),
-        Some(Taken::View(fault)) => only(refusal("refused V", Some(fault.number()))),
-        Some(Taken::Made { answer, .. }) => lines(answer),
+    match answer.uplink() {
+        Some(uplink) => {
+            put_uplink(line, &uplink);
+            put_line(text, line)
+        }
+        None => Ok(()),
     }
 }
 
-// Puts lines at the end of a text, each with a line feed.
-fn put_lines(text: &mut Vec<u8>, all: &[Line]) -> Result<(), AllocError>
-    ensures { OnOk result (text.new.items ≡ text.old.items ++ flat_map ended (map (λ l. l.bytes) all.now)) }
+// Puts the lines of an answer: that of the reply, then those of the uplink and the downlink that go out.
+fn put_answer(text: &mut Vec<u8>, line: &mut Line, answer: &PackedAnswer) -> Result<(), AllocError>
+    requires { line.old.bytes ≡ [] }
+    ensures text { OnOk result (text.new.items ≡ text.old.items ++ flat_map ended (answer_text answer.now)) }
+    ensures line { OnOk result (line.new.bytes ≡ []) }
 {
-    for line in all {
-        text.extend_from_slice(line.as_str().as_bytes())?;
-        text.push(b'\n')?;
+    put_reply(line, &answer.reply());
+    put_line(text, line)?;
+    if answer.has_uplink() {
+        put_sent(text, line, answer)?;
+    }
+    if let Some(downlink) = answer.downlink() {
+        put_downlink(line, &downlink);
+        put_line(text, line)?;
     }
     Ok(())
+}
+
+// Puts the lines of what came of a line.
+#[tactic(auto, unfolding(crate::specs::Output::lines_of))]
+fn put_taken(text: &mut Vec<u8>, line: &mut Line, taken: Option<&Taken>) -> Result<(), AllocError>
+    requires { line.old.bytes ≡ [] }
+    ensures text { OnOk result (text.new.items ≡ text.old.items ++ text_of (option_map (λ t. t.now) taken.entry)) }
+    ensures line { OnOk result (line.new.bytes ≡ []) }
+{
+    match taken {
+        None => put_refusal(text, line, "refused line", None),
+        Some(Taken::Link(fault)) => put_refusal(text, line, "refused G", Some(fault.number())),
+        Some(Taken::View(fault)) => put_refusal(text, line, "refused V", Some(fault.number())),
+        Some(Taken::Made { answer, .. }) => put_answer(text, line, answer),
+    }
 }
 
 /// The lines of a run, each with a line feed: `are_steps` says which lines were steps, and `taken` what came of these.
@@ -61,6 +95,7 @@ pub fn text_of(alloc: Global, are_steps: &[bool], taken: &[Taken]) -> Result<Vec
     ensures { IfOk result (λ v. v.items ≡ flat_map text_of (woven are_steps.now taken.now)) }
 {
     let mut text = Vec::new(alloc);
+    let mut line = Line::new();
     let mut rest = taken;
     'lines: for is_step in are_steps {
         let one = if *is_step {
@@ -72,7 +107,7 @@ pub fn text_of(alloc: Global, are_steps: &[bool], taken: &[Taken]) -> Result<Vec
         } else {
             None
         };
-        put_lines(&mut text, lines_of(one).as_slice())?;
+        put_taken(&mut text, &mut line, one)?;
     }
     Ok(text)
 }

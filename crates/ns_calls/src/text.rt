@@ -9,7 +9,7 @@ use crate::call::Reply;
 pub use crate::put::Line;
 use crate::put::{put_address, put_decimal, put_hex, put_identity};
 use arrayvec::ArrayVec;
-use ns_types::{Heard, WindowName};
+use ns_types::{DevAddr, DevEui, Heard, Ticket, WindowName};
 
 // A space and a number.
 fn put_number(line: &mut Line, n: u64)
@@ -71,73 +71,87 @@ fn put_bytes(line: &mut Line, bytes: &[u8])
     }
 }
 
-// The line of a reply.
-#[tactic(auto, unfolding(crate::specs::Text::reply_text, crate::specs::Text::address_text))]
-fn reply_line(reply: &Reply) -> Line
-    ensures { result.bytes ≡ reply_text reply.now }
+// A word and a window's name.
+fn put_named(line: &mut Line, word: &str, name: &WindowName)
+    requires { array_string_len line.old + length word.now + 59 ≤ 1024 }
+    ensures bytes { line.new.bytes ≡ line.old.bytes ++ (word.now ++ window_text name.now) }
+    ensures len { array_string_len line.new ≤ array_string_len line.old + length word.now + 59 }
 {
-    let mut line = Line::new();
+    line.push_str(word);
+    put_window(line, name);
+}
+
+// A word and a number.
+fn put_counted(line: &mut Line, word: &str, n: u64)
+    requires { array_string_len line.old + length word.now + 21 ≤ 1024 }
+    ensures { line.new.bytes ≡ line.old.bytes ++ (word.now ++ number_text n) }
+{
+    line.push_str(word);
+    put_number(line, n);
+}
+
+// The reply to a Join-Request that is asked for.
+fn put_ask(line: &mut Line, ticket: &Ticket)
+    requires { array_string_len line.old + 50 ≤ 1024 }
+    ensures { line.new.bytes ≡ line.old.bytes ++ (codes "ask " ++ encode_lower ticket.now.0) }
+{
+    line.push_str("ask ");
+    put_hex(line, &ticket.0);
+}
+
+// The reply to a join that is accepted.
+#[tactic(auto, unfolding(crate::specs::Text::address_text))]
+fn put_accepted(line: &mut Line, eui: DevEui, session: u32, addr: DevAddr)
+    requires { array_string_len line.old + 55 ≤ 1024 }
+    ensures { line.new.bytes ≡ line.old.bytes ++ (codes "accepted" ++ id_text eui.0 ++ number_text session ++ codes " " ++ address_text addr.0) }
+{
+    line.push_str("accepted");
+    put_id(line, eui.0);
+    put_number(line, u64::from(session));
+    line.push_str(" ");
+    put_address(line, addr.0);
+}
+
+/// Puts the line of a reply, at most 92 bytes, at the end of a line.
+#[tactic(auto, unfolding(crate::specs::Text::reply_text))]
+pub fn put_reply(line: &mut Line, reply: &Reply)
+    requires { array_string_len line.old + 92 ≤ 1024 }
+    ensures { line.new.bytes ≡ line.old.bytes ++ reply_text reply.now }
+{
     match reply {
-        Reply::Opened { window } => {
-            line.push_str("opened");
-            put_window(&mut line, window);
-        }
+        Reply::Opened { window } => put_named(line, "opened", window),
         Reply::Copied { window, place } => {
-            line.push_str("copied");
-            put_window(&mut line, window);
-            put_number(&mut line, u64::from(*place));
+            put_named(line, "copied", window);
+            put_number(line, u64::from(*place));
         }
-        Reply::Crowded { window } => {
-            line.push_str("crowded");
-            put_window(&mut line, window);
-        }
+        Reply::Crowded { window } => put_named(line, "crowded", window),
         Reply::Old { eui, session, fcnt } => {
             line.push_str("old");
-            put_id(&mut line, eui.0);
-            put_number(&mut line, u64::from(*session));
-            put_number(&mut line, u64::from(*fcnt));
+            put_id(line, eui.0);
+            put_number(line, u64::from(*session));
+            put_number(line, u64::from(*fcnt));
         }
         Reply::NoSession => line.push_str("nosession"),
         Reply::Busy { eui } => {
             line.push_str("busy");
-            put_id(&mut line, eui.0);
+            put_id(line, eui.0);
         }
-        Reply::Ask { ticket } => {
-            line.push_str("ask ");
-            put_hex(&mut line, &ticket.0);
-        }
-        Reply::JoinCopied { place } => {
-            line.push_str("joincopied");
-            put_number(&mut line, u64::from(*place));
-        }
+        Reply::Ask { ticket } => put_ask(line, ticket),
+        Reply::JoinCopied { place } => put_counted(line, "joincopied", u64::from(*place)),
         Reply::JoinCrowded => line.push_str("joincrowded"),
-        Reply::NonceOld { greatest } => {
-            line.push_str("nonceold");
-            put_number(&mut line, u64::from(greatest.0));
-        }
+        Reply::NonceOld { greatest } => put_counted(line, "nonceold", u64::from(greatest.0)),
         Reply::NoDevice => line.push_str("nodevice"),
         Reply::JoinBusy => line.push_str("joinbusy"),
-        Reply::Accepted { eui, session, addr } => {
-            line.push_str("accepted");
-            put_id(&mut line, eui.0);
-            put_number(&mut line, u64::from(*session));
-            line.push_str(" ");
-            put_address(&mut line, addr.0);
-        }
+        Reply::Accepted { eui, session, addr } => put_accepted(line, *eui, *session, *addr),
         Reply::JoinRefused => line.push_str("joinrefused"),
-        Reply::JoinStale { greatest } => {
-            line.push_str("joinstale");
-            put_number(&mut line, u64::from(greatest.0));
-        }
+        Reply::JoinStale { greatest } => put_counted(line, "joinstale", u64::from(greatest.0)),
         Reply::NoTicket => line.push_str("noticket"),
         Reply::Closed { window, ack } => {
-            line.push_str("closed");
-            put_window(&mut line, window);
-            put_optional(&mut line, *ack);
+            put_named(line, "closed", window);
+            put_optional(line, *ack);
         }
         Reply::NoWindow => line.push_str("nowindow"),
     }
-    line
 }
 
 // A comma and a gateway for each of some copies.
@@ -175,37 +189,61 @@ fn put_gateways(line: &mut Line, copies: &[Heard])
     }
 }
 
-/// The `up` line of an uplink: `up E S N PORT KIND OPTS BYTES COUNT GATEWAYS`, at most 843 bytes. `KIND` is `sealed` where the
-/// payload is as received, else `plain`; a port, options or payload that is missing is `-`.
+/// Puts the `up` line of an uplink, at most 843 bytes, at the end of a line: `up E S N PORT KIND OPTS BYTES COUNT GATEWAYS`. `KIND`
+/// is `sealed` where the payload is as received, else `plain`; a port, options or payload that is missing is `-`.
 #[tactic(auto, unfolding(crate::specs::Text::up_text))]
+pub fn put_uplink(line: &mut Line, uplink: &Uplink)
+    requires { array_string_len line.old + 901 ≤ 1024 }
+    ensures { line.new.bytes ≡ line.old.bytes ++ up_text uplink.now }
+{
+    put_named(line, "up", &uplink.window);
+    put_optional(line, uplink.port.map(u32::from));
+    line.push_str(if uplink.sealed { " sealed" } else { " plain" });
+    put_bytes(line, uplink.fopts.as_slice());
+    put_bytes(line, uplink.payload.as_slice());
+    put_number(line, uplink.copies.len() as u64);
+    line.push_str(" ");
+    put_gateways(line, uplink.copies.as_slice());
+}
+
+/// Puts the line of a downlink, at most 148 bytes, at the end of a line.
+#[tactic(auto, unfolding(crate::specs::Text::down_text))]
+pub fn put_downlink(line: &mut Line, downlink: &Downlink)
+    requires { array_string_len line.old + 152 ≤ 1024 }
+    ensures { line.new.bytes ≡ line.old.bytes ++ down_text downlink.now }
+{
+    line.push_str("down");
+    put_id(line, downlink.target.gateway.0);
+    put_number(line, downlink.target.moment);
+    put_number(line, u64::from(downlink.target.freq));
+    put_number(line, u64::from(downlink.target.dr));
+    put_bytes(line, downlink.frame.as_slice());
+}
+
+// The line of a reply.
+fn reply_line(reply: &Reply) -> Line
+    ensures { result.bytes ≡ reply_text reply.now }
+{
+    let mut line = Line::new();
+    put_reply(&mut line, reply);
+    line
+}
+
+/// The `up` line of an uplink, as `put_uplink` puts it.
 pub fn up_line(uplink: &Uplink) -> Line
     ensures { result.bytes ≡ up_text uplink.now }
 {
     let mut line = Line::new();
-    line.push_str("up");
-    put_window(&mut line, &uplink.window);
-    put_optional(&mut line, uplink.port.map(u32::from));
-    line.push_str(if uplink.sealed { " sealed" } else { " plain" });
-    put_bytes(&mut line, uplink.fopts.as_slice());
-    put_bytes(&mut line, uplink.payload.as_slice());
-    put_number(&mut line, uplink.copies.len() as u64);
-    line.push_str(" ");
-    put_gateways(&mut line, uplink.copies.as_slice());
+    put_uplink(&mut line, uplink);
     line
 }
 
 // The line of a downlink.
-#[tactic(auto, unfolding(crate::specs::Text::down_text))]
 fn down_line(downlink: &Downlink) -> Line
     ensures { result.bytes ≡ down_text downlink.now }
 {
     let mut line = Line::new();
-    line.push_str("down");
-    put_id(&mut line, downlink.target.gateway.0);
-    put_number(&mut line, downlink.target.moment);
-    put_number(&mut line, u64::from(downlink.target.freq));
-    put_number(&mut line, u64::from(downlink.target.dr));
-    put_bytes(&mut line, downlink.frame.as_slice());
+    put_downlink(&mut line, downlink);
     line
 }
 

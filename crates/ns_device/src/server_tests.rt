@@ -99,6 +99,21 @@ fn refuses_joins(rt: HostRuntime) -> Result<(), Fail> {
     Ok(())
 }
 
+// The answer that a recorded run of the server's program holds, to a Join-Request with one bit of its MIC changed.
+#[test]
+fn one_bit_of_a_join_request(rt: HostRuntime) -> Result<(), Fail> {
+    let mut server = new_server(&rt)?;
+    let wrong = changed(&rt, "e4b6745f", "e4b6745e")?;
+    let (before, after) = wrong.split_once(":1601484516").ok_or("no number")?;
+    let wrong = format!(in rt.alloc(); "{before}:1584707300{after}")?;
+    let reply = server.reply(rt.alloc(), wrong.as_bytes())?;
+    assert_eq!(rt;
+        reply.as_str(),
+        r#"{"MessageType":"JoinAns","Result":{"ResultCode":"MICFailed"},"TransactionID":1584707300}"#
+    );
+    Ok(())
+}
+
 #[test]
 fn takes_no_other_text(rt: HostRuntime) -> Result<(), Fail> {
     let mut server = new_server(&rt)?;

@@ -104,10 +104,12 @@ ack_of devices w = if is_confirmed w.frame then option_and_then (λ o. ack_in o.
 abbrev pub acked_devices : Window → List Own → List Own
 acked_devices w devices = if is_confirmed w.frame then changed w.name.eui (with_ack w.name.session) devices else devices
 
+-- the answer to the closing of a window with this acknowledgement number
+abbrev pub closed_with : Network → Window → Option ℕ → Answer
+closed_with net w ack = record { reply = reply.Closed w.name ack; uplink = Some (uplink_from w); downlink = option_and_then (λ n. ack_from net w n) ack }
+
 abbrev pub closed_answer : Network → List Own → Window → Answer
-closed_answer net devices w =
-    let ack = ack_of devices w in
-    record { reply = reply.Closed w.name ack; uplink = Some (uplink_from w); downlink = option_and_then (λ n. ack_from net w n) ack }
+closed_answer net devices w = closed_with net w (ack_of devices w)
 
 abbrev pub closing_answer : Network → List Own → Option Window → Answer
 closing_answer net devices None = quiet reply.NoWindow

@@ -1,6 +1,6 @@
 //! What goes out where a window is closed.
 
-ghost use Rattle.std.specs.Prelude.{◌≡◌, ◌+◌, ◌≤◌, length, option_map, Some};
+ghost use Rattle.std.specs.Prelude.{◌≡◌, ◌+◌, ◌≤◌, length, option_map, IfOk, Some};
 ghost use Rattle.std.specs.Option.{option_map_or};
 ghost use Rattle.ns_types.specs.Heard.{best, rx1};
 ghost use Rattle.ns_views.specs.Frame.{data_fields, is_confirmed};
@@ -8,9 +8,10 @@ ghost use Rattle.ns_secure.specs.declared.Dir.TheVariants.{Up};
 ghost use Rattle.ns_secure.specs.Cipher.{cipher};
 ghost use Rattle.ns_roster.specs.Network.{ack_delay};
 ghost use Rattle.ns_calls.specs.Out.{ack_frame, downlink_to};
-ghost use Rattle.ns_shard.specs.Taken.{quiet, payload_key, uplink_from, ack_from, ack_of, acked_devices, closed_answer, closing_answer, closing_devices};
+ghost use Rattle.ns_shard.specs.Taken.{quiet, payload_key, uplink_from, ack_from, ack_of, acked_devices, closed_with, closed_answer, closing_answer, closing_devices};
 
 use crate::devices::Devices;
+use crate::packed::{PackedAnswer, PackedUplink};
 use arrayvec::ArrayVec;
 use ns_calls::{Answer, Bytes, Downlink, Reply, Uplink};
 use ns_creator::{DataCreator, Keys, acknowledgement_law};
@@ -18,6 +19,7 @@ use ns_roster::Roster;
 use ns_secure::{Dir, cipher_in_place};
 use ns_types::{DevAddr, Heard, Key, best, rx1};
 use ns_windows::Window;
+use std::alloc::{AllocError, Global};
 
 /// A reply with which nothing goes out.
 pub fn quiet(reply: Reply) -> Answer
@@ -172,5 +174,70 @@ pub fn closing(roster: &Roster, devices: &mut Devices, window: Option<Window>) -
     match window {
         Some(window) => closed(roster, devices, window),
         None => quiet(Reply::NoWindow),
+    }
+}
+
+// The uplink of a window, as it is kept.
+fn packed_uplink(alloc: Global, window: &Window) -> Result<PackedUplink, AllocError>
+    ensures { IfOk result (λ u. u ≡ uplink_from window.now) }
+{
+    let (payload, sealed) = payload_of(window);
+    let frame = window.frame.view();
+    Ok(PackedUplink {
+        window: window.name,
+        addr: frame.dev_addr(),
+        port: frame.fport(),
+        fopts: Bytes::of(frame.fopts()),
+        sealed,
+        payload: Vec::from_slice(alloc, payload.as_slice())?,
+        copies: Vec::from_slice(alloc, window.copies.as_slice())?,
+    })
+}
+
+// The answer to the closing of a window that is open, as it is kept, with this acknowledgement number.
+fn closed_packed(
+    alloc: Global,
+    roster: &Roster,
+    window: &Window,
+    ack: Option<u32>,
+) -> Result<PackedAnswer, AllocError>
+    ensures { IfOk result (λ a. a ≡ closed_with roster.now window.now ack) }
+{
+    let downlink = match ack {
+        Some(n) => ack_from(roster, window, n),
+        None => None,
+    };
+    let uplink = packed_uplink(alloc, window)?;
+    let reply = Reply::Closed {
+        window: window.name,
+        ack,
+    };
+    PackedAnswer::sending(alloc, reply, uplink, downlink)
+}
+
+/// The reply to the closing of a window, where it is open, and the answer as it is kept, for which memory may be wanting.
+pub fn closing_packed(
+    alloc: Global,
+    roster: &Roster,
+    devices: &mut Devices,
+    window: &Option<Window>,
+) -> (Reply, Result<PackedAnswer, AllocError>)
+    ensures reply { result.0 ≡ (closing_answer roster.now devices.old window.now).reply }
+    ensures answer { IfOk result.1 (λ a. a ≡ closing_answer roster.now devices.old window.now) }
+    ensures devices { devices.new ≡ closing_devices window.now devices.old }
+{
+    match window {
+        Some(window) => {
+            let ack = use_ack(devices, window);
+            let reply = Reply::Closed {
+                window: window.name,
+                ack,
+            };
+            (reply, closed_packed(alloc, roster, window, ack))
+        }
+        None => {
+            let reply = Reply::NoWindow;
+            (reply, Ok(PackedAnswer::quiet(reply)))
+        }
     }
 }

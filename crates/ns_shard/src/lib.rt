@@ -11,15 +11,19 @@ mod calls;
 mod closing;
 mod devices;
 mod joining;
+mod packed;
 mod parts;
 mod run;
 mod shard;
 mod step;
 mod taking;
 
+pub use packed::PackedAnswer;
 pub use run::{Run, Shards, Taken};
 pub use shard::Shard;
-pub use step::{Act, OwnedBytes, Step};
+pub use step::{Act, DatagramBytes, OwnedBytes, Step};
 
+#[cfg(test)]
+mod growth_tests;
 #[cfg(test)]
 mod tests;

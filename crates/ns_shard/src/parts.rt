@@ -7,12 +7,14 @@ ghost use Rattle.ns_calls.specs.Shards.{shard_of_call};
 ghost use Rattle.ns_calls.specs.Out.{answer};
 ghost use Rattle.ns_shard.specs.Parts.{AreParts, state_of};
 ghost use Rattle.ns_shard.specs.State.{no_entries, after_call};
+ghost use Rattle.ns_shard.specs.Taken.{quiet};
 
-use crate::closing::{closing, quiet};
+use crate::closing::{closing, closing_packed, quiet};
 use crate::devices::Devices;
 use crate::joining::{ended, join};
+use crate::packed::PackedAnswer;
 use crate::taking::take;
-use ns_calls::{Answer, Call, DataFrame, Outcome};
+use ns_calls::{Answer, Call, DataFrame, Outcome, Reply};
 use ns_journal::Journal;
 use ns_roster::Roster;
 use ns_types::{Heard, Ticket, WindowName};
@@ -47,28 +49,24 @@ impl Parts {
         })
     }
 
-    /// Takes a Join-Request.
-    pub fn join(&mut self, ticket: &Ticket, heard: &Heard) -> Answer
+    /// Takes a Join-Request, with the reply to which nothing goes out.
+    fn join(&mut self, call: &Call, ticket: &Ticket, heard: &Heard) -> Reply
+        requires call { call.now ≡ Join ticket.now heard.now }
         requires room { 0 < self.old.journal.room }
         requires own { shard_of_call (Join ticket.now heard.now) ≡ self.old.index }
         requires agree { AreParts self.old }
-        ensures answer { result ≡ answer (arc_value self.old.roster) self.old.journal.entries (Join ticket.now heard.now) }
+        ensures answer { quiet result ≡ answer (arc_value self.old.roster) self.old.journal.entries (Join ticket.now heard.now) }
         ensures state { state_of self.new ≡ after_call (state_of self.old) (Join ticket.now heard.now) }
         ensures agree { AreParts self.new }
     {
         let reply = join(&self.roster, &mut self.devices, ticket, heard);
-        self.journal.push(
-            Call::Join {
-                ticket: *ticket,
-                heard: *heard,
-            },
-            reply,
-        );
-        quiet(reply)
+        self.journal.push(*call, reply);
+        reply
     }
 
     /// Takes a join server's answer, or that none came.
-    pub fn join_reply(&mut self, ticket: &Ticket, outcome: &Outcome) -> Answer
+    fn join_reply(&mut self, call: &Call, ticket: &Ticket, outcome: &Outcome) -> Answer
+        requires call { call.now ≡ JoinReply ticket.now outcome.now }
         requires room { 0 < self.old.journal.room }
         requires own { shard_of_call (JoinReply ticket.now outcome.now) ≡ self.old.index }
         requires agree { AreParts self.old }
@@ -79,18 +77,13 @@ impl Parts {
         let addr = self.devices.addr(ticket.dev_eui());
         let taken = self.devices.answer(ticket, outcome);
         let answer = ended(addr, ticket, outcome, taken);
-        self.journal.push(
-            Call::JoinReply {
-                ticket: *ticket,
-                outcome: *outcome,
-            },
-            answer.reply,
-        );
+        self.journal.push(*call, answer.reply);
         answer
     }
 
     /// Closes a window.
-    pub fn close(&mut self, name: &WindowName) -> Answer
+    fn close(&mut self, call: &Call, name: &WindowName) -> Answer
+        requires call { call.now ≡ Close name.now }
         requires room { 0 < self.old.journal.room }
         requires own { shard_of_call (Close name.now) ≡ self.old.index }
         requires agree { AreParts self.old }
@@ -100,47 +93,107 @@ impl Parts {
     {
         let window = self.windows.take(name);
         let answer = closing(&self.roster, &mut self.devices, window);
-        self.journal
-            .push(Call::Close { window: *name }, answer.reply);
+        self.journal.push(*call, answer.reply);
         answer
     }
 
-    /// Takes an uplink. Where a growth is refused, nothing has changed.
-    pub fn uplink(&mut self, frame: &DataFrame, heard: &Heard) -> Result<Answer, AllocError>
+    /// Takes an uplink, with the reply to which nothing goes out. Where a growth is refused, nothing has changed.
+    fn uplink(&mut self, call: &Call, frame: &DataFrame, heard: &Heard) -> Result<Reply, AllocError>
+        requires call { call.now ≡ Uplink frame.now heard.now }
         requires room { 0 < self.old.journal.room }
         requires own { shard_of_call (Uplink frame.now heard.now) ≡ self.old.index }
         requires agree { AreParts self.old }
-        ensures answer { IfOk result (λ a. a ≡ answer (arc_value self.old.roster) self.old.journal.entries (Uplink frame.now heard.now)) }
+        ensures answer { IfOk result (λ r. quiet r ≡ answer (arc_value self.old.roster) self.old.journal.entries (Uplink frame.now heard.now)) }
         ensures state { OnOk result (state_of self.new ≡ after_call (state_of self.old) (Uplink frame.now heard.now)) }
         ensures err { OnErr result (state_of self.new ≡ state_of self.old) }
         ensures agree { AreParts self.new }
     {
         let reply = take(&mut self.devices, &mut self.windows, frame, heard)?;
-        self.journal.push(
-            Call::Uplink {
-                frame: *frame,
-                heard: *heard,
-            },
-            reply,
-        );
-        Ok(quiet(reply))
+        self.journal.push(*call, reply);
+        Ok(reply)
     }
 
     /// Answers a call. Where a growth is refused, nothing has changed.
-    pub fn apply(&mut self, call: Call) -> Result<Answer, AllocError>
-        requires own { shard_of_call call ≡ self.old.index }
+    pub fn apply(&mut self, call: &Call) -> Result<Answer, AllocError>
+        requires own { shard_of_call call.now ≡ self.old.index }
         requires agree { AreParts self.old }
-        ensures answer { IfOk result (λ a. a ≡ answer (arc_value self.old.roster) self.old.journal.entries call) }
-        ensures state { OnOk result (state_of self.new ≡ after_call (state_of self.old) call) }
+        ensures answer { IfOk result (λ a. a ≡ answer (arc_value self.old.roster) self.old.journal.entries call.now) }
+        ensures state { OnOk result (state_of self.new ≡ after_call (state_of self.old) call.now) }
         ensures err { OnErr result (state_of self.new ≡ state_of self.old) }
         ensures agree { AreParts self.new }
     {
         self.journal.room(1)?;
         match call {
-            Call::Uplink { frame, heard } => self.uplink(&frame, &heard),
-            Call::Join { ticket, heard } => Ok(self.join(&ticket, &heard)),
-            Call::JoinReply { ticket, outcome } => Ok(self.join_reply(&ticket, &outcome)),
-            Call::Close { window } => Ok(self.close(&window)),
+            Call::Uplink { frame, heard } => Ok(quiet(self.uplink(call, frame, heard)?)),
+            Call::Join { ticket, heard } => Ok(quiet(self.join(call, ticket, heard))),
+            Call::JoinReply { ticket, outcome } => Ok(self.join_reply(call, ticket, outcome)),
+            Call::Close { window } => Ok(self.close(call, window)),
+        }
+    }
+
+    // Takes a join server's answer, with an answer that is kept. This and the next stay functions of their own, so that a call with
+    // which nothing goes out makes no room for what does.
+    #[inline(never)]
+    fn join_reply_packed(
+        &mut self,
+        alloc: Global,
+        call: &Call,
+        ticket: &Ticket,
+        outcome: &Outcome,
+    ) -> Result<PackedAnswer, AllocError>
+        requires call { call.now ≡ JoinReply ticket.now outcome.now }
+        requires room { 0 < self.old.journal.room }
+        requires own { shard_of_call (JoinReply ticket.now outcome.now) ≡ self.old.index }
+        requires agree { AreParts self.old }
+        ensures answer { IfOk result (λ a. a ≡ answer (arc_value self.old.roster) self.old.journal.entries (JoinReply ticket.now outcome.now)) }
+        ensures state { state_of self.new ≡ after_call (state_of self.old) (JoinReply ticket.now outcome.now) }
+        ensures agree { AreParts self.new }
+    {
+        PackedAnswer::new(alloc, self.join_reply(call, ticket, outcome))
+    }
+
+    // Closes a window, with an answer that is kept.
+    #[inline(never)]
+    fn close_packed(
+        &mut self,
+        alloc: Global,
+        call: &Call,
+        name: &WindowName,
+    ) -> Result<PackedAnswer, AllocError>
+        requires call { call.now ≡ Close name.now }
+        requires room { 0 < self.old.journal.room }
+        requires own { shard_of_call (Close name.now) ≡ self.old.index }
+        requires agree { AreParts self.old }
+        ensures answer { IfOk result (λ a. a ≡ answer (arc_value self.old.roster) self.old.journal.entries (Close name.now)) }
+        ensures state { state_of self.new ≡ after_call (state_of self.old) (Close name.now) }
+        ensures agree { AreParts self.new }
+    {
+        let open = self.windows.take(name);
+        let (reply, answer) = closing_packed(alloc, &self.roster, &mut self.devices, &open);
+        self.journal.push(*call, reply);
+        answer
+    }
+
+    /// Answers a call, with an answer that is kept. Where a growth is refused, the call may have been taken.
+    pub fn apply_packed(&mut self, alloc: Global, call: &Call) -> Result<PackedAnswer, AllocError>
+        requires own { shard_of_call call.now ≡ self.old.index }
+        requires agree { AreParts self.old }
+        ensures answer { IfOk result (λ a. a ≡ answer (arc_value self.old.roster) self.old.journal.entries call.now) }
+        ensures state { OnOk result (state_of self.new ≡ after_call (state_of self.old) call.now) }
+        ensures agree { AreParts self.new }
+    {
+        self.journal.room(1)?;
+        match call {
+            Call::Uplink { frame, heard } => {
+                Ok(PackedAnswer::quiet(self.uplink(call, frame, heard)?))
+            }
+            Call::Join { ticket, heard } => {
+                Ok(PackedAnswer::quiet(self.join(call, ticket, heard)))
+            }
+            Call::JoinReply { ticket, outcome } => {
+                self.join_reply_packed(alloc, call, ticket, outcome)
+            }
+            Call::Close { window } => self.close_packed(alloc, call, window),
         }
     }
 }

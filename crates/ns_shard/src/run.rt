@@ -8,9 +8,10 @@ ghost use Rattle.ns_calls.specs.Headline.{NoncesRise, CountersRise, AcksRise, Wi
 ghost use Rattle.ns_shard.specs.Steps.{all_taken, taken_in, states_after, refused_as, call_of, calls_of, AreAfter, AreInPlace, OfEach, HandsOut};
 
 use crate::calls::call_of;
+use crate::packed::PackedAnswer;
 use crate::shard::Shard;
 use crate::step::Step;
-use ns_calls::{Answer, Call, shard_of_call};
+use ns_calls::{Call, shard_of_call};
 use ns_link::LinkFault;
 use ns_roster::Roster;
 use ns_views::ViewFault;
@@ -29,7 +30,7 @@ pub enum Taken {
     Made {
         shard: u8,
         number: u64,
-        answer: Answer,
+        answer: PackedAnswer,
     },
 }
 
@@ -102,16 +103,16 @@ fn new_shards(alloc: Global, roster: Arc<Roster>) -> Result<Vec<Shard>, AllocErr
 }
 
 // Takes a call to its shard.
-fn apply(shards: &mut Vec<Shard>, call: Call) -> Result<Taken, AllocError>
+fn apply(alloc: Global, shards: &mut Vec<Shard>, call: &Call) -> Result<Taken, AllocError>
     requires sixteen { length shards.old.items ≡ 16 }
     requires in_place { AreInPlace shards.old.items }
-    ensures taken { IfOk result (λ t. taken_in shards.old.items (Ok call) ≡ Some t) }
-    ensures shards { OnOk result (shards.new.items ≡ states_after shards.old.items (Ok call)) }
+    ensures taken { IfOk result (λ t. taken_in shards.old.items (Ok call.now) ≡ Some t) }
+    ensures shards { OnOk result (shards.new.items ≡ states_after shards.old.items (Ok call.now)) }
 {
-    let index = shard_of_call(&call);
+    let index = shard_of_call(call);
     let shard = &mut shards[index as usize];
     let number = shard.made();
-    let answer = shard.apply(call)?;
+    let answer = shard.apply_packed(alloc, call)?;
     Ok(Taken::Made {
         shard: index,
         number,
@@ -127,7 +128,7 @@ fn take(alloc: Global, shards: &mut Vec<Shard>, step: &Step) -> Result<Taken, Al
     ensures shards { OnOk result (shards.new.items ≡ states_after shards.old.items (refused_as (call_of step.now.act))) }
 {
     match call_of(alloc, &step.act)? {
-        Ok(call) => apply(shards, call),
+        Ok(call) => apply(alloc, shards, &call),
         Err(refusal) => Ok(refusal),
     }
 }

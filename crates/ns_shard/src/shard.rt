@@ -9,6 +9,7 @@ ghost use Rattle.ns_calls.specs.Legal.{IsHistory};
 ghost use Rattle.ns_shard.specs.State.{no_entries, after_call};
 ghost use Rattle.ns_shard.specs.Parts.{AreParts, state_of};
 
+use crate::packed::PackedAnswer;
 use crate::parts::Parts;
 use ns_calls::{Answer, Call, Entry};
 use ns_roster::Roster;
@@ -54,7 +55,28 @@ impl Shard {
         ensures err { OnErr result (self.new ≡ self.old) }
         ensures history { IsHistory self.new.roster self.new.index self.new.entries }
     {
-        self.parts.apply(call)
+        self.parts.apply(&call)
+    }
+
+    /// The same, with an answer that is kept. Where a growth was refused, the call may have been taken.
+    pub(crate) fn apply_packed(
+        &mut self,
+        alloc: Global,
+        call: &Call,
+    ) -> Result<PackedAnswer, AllocError>
+        requires { shard_of_call call.now ≡ self.old.index }
+        ensures entry { OnOk result (self.new ≡ after_call self.old call.now) }
+        ensures answer { IfOk result (λ a. a ≡ answer self.old.roster self.old.entries call.now) }
+    {
+        self.parts.apply_packed(alloc, call)
+    }
+
+    /// The shard's number, 0 to 15. Its calls are those of which `shard_of_call` is this number.
+    pub fn index(&self) -> u8
+        ensures is { result ≡ self.now.index }
+        ensures below { result < 16 }
+    {
+        self.parts.index
     }
 
     /// The entries, the earliest first, which are a history of the shard.

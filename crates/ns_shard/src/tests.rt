@@ -1,19 +1,18 @@
-//! A recorded run, windows and sessions of one device, and memory that is really gone.
+//! A recorded run, and windows and sessions of one device.
 
-use crate::{Act, OwnedBytes, Shard, Shards, Step, Taken};
-use ns_calls::{Call, Reply, lines, shard_of_call};
+use crate::{Act, DatagramBytes, OwnedBytes, Shards, Step, Taken};
+use ns_calls::lines;
 use ns_creator::{DataCreator, Keys};
 use ns_roster::Roster;
 use ns_secure::Dir;
-use ns_types::{DevAddr, DevEui, Heard, Key, Ticket, WindowName};
-use std::alloc::AllocError;
+use ns_types::{DevAddr, DevEui, Key, Ticket, WindowName};
 use std::sync::Arc;
 use std::test::Fail;
 
-const ROSTER_A: &str =
+pub const ROSTER_A: &str =
     r#"{"version":1,"net_id":"000024","rx1_offset":0,"rx_delay":1,"devices":[{"dev_eui":"000000000000000d","join_eui":"0102030401020304","slot":1998321}]}"#;
 
-const JA: &str =
+pub const JA: &str =
     r#"{"AppSKey":{"AESKey":"ec925802ae430ca77fd3dd73cb2cc588","KEKLabel":""},"MessageType":"JoinAns","NwkSKey":{"AESKey":"44024241ed4ce9a68c6a8bc055233fd3","KEKLabel":""},"PHYPayload":"20000102030405060708090a0b0c0d0e0f","Result":{"ResultCode":"Success"},"TransactionID":1}"#;
 
 // The same to transaction 2, with other session keys.
@@ -33,15 +32,15 @@ const KEY_2: [u8; 16] = [
 ];
 
 // The first 27 bytes of a datagram from gateway a1 and from gateway a2.
-const H1: &str = "010100000000000000a100000000000f424033be27a005fc4a004b";
+pub const H1: &str = "010100000000000000a100000000000f424033be27a005fc4a004b";
 
-const H2: &str = "010100000000000000a200000000000f462833be27a005fc180050";
+pub const H2: &str = "010100000000000000a200000000000f462833be27a005fc180050";
 
-const J: &str = "0004030201040302010d00000000000000010001000000";
+pub const J: &str = "0004030201040302010d00000000000000010001000000";
 
 const J_2: &str = "0004030201040302010d00000000000000020002000000";
 
-const F: &str = "40f17dbe4900020001954378762b11ff0d";
+pub const F: &str = "40f17dbe4900020001954378762b11ff0d";
 
 // The step of a frame that a gateway heard.
 fn heard(rt: &HostRuntime, head: &str, frame: &[u8]) -> Result<Step, Fail> {
@@ -52,12 +51,12 @@ fn heard(rt: &HostRuntime, head: &str, frame: &[u8]) -> Result<Step, Fail> {
     }
     Ok(Step {
         worker: 0,
-        act: Act::Datagram(OwnedBytes::new(bytes)),
+        act: Act::Datagram(DatagramBytes::new(bytes)),
     })
 }
 
 // The same of a frame in hex.
-fn heard_hex(rt: &HostRuntime, head: &str, frame: &str) -> Result<Step, Fail> {
+pub fn heard_hex(rt: &HostRuntime, head: &str, frame: &str) -> Result<Step, Fail> {
     let frame = hex::decode(rt.alloc(), frame)?;
     heard(rt, head, frame.as_slice())
 }
@@ -73,7 +72,7 @@ fn ticket(rt: &HostRuntime, text: &str) -> Result<Ticket, Fail> {
 }
 
 // The step of a join server's answer.
-fn answer(rt: &HostRuntime, ticket_text: &str, body: &str) -> Result<Step, Fail> {
+pub fn answer(rt: &HostRuntime, ticket_text: &str, body: &str) -> Result<Step, Fail> {
     Ok(Step {
         worker: 0,
         act: Act::Answer {
@@ -133,7 +132,7 @@ fn run(rt: &HostRuntime, steps: &Vec<Step>) -> Result<String, Fail> {
     for taken in &run.taken {
         match taken {
             Taken::Made { answer, .. } => {
-                for line in &lines(answer) {
+                for line in &lines(&answer.unpacked()) {
                     text.push_str(line.as_str())?;
                     text.push_str("\n")?;
                 }
@@ -231,70 +230,5 @@ fn limits(rt: HostRuntime) -> Result<(), Fail> {
     assert!(rt;
         text.as_str().ends_with("copied 000000000000000d 1 8 16\ncrowded 000000000000000d 1 8\n")
     );
-    Ok(())
-}
-
-// All memory but 200,000 small places for what is held.
-fn all_memory(rt: &HostRuntime) -> Result<Vec<Vec<u8>>, Fail> {
-    let mut held = Vec::with_capacity(rt.alloc(), 200_000)?;
-    let mut size = 1usize << 46;
-    for _ in 0..400_000u32 {
-        if size < 16 || held.len() >= 200_000 {
-            break;
-        }
-        match Vec::with_capacity(rt.alloc(), size) {
-            Ok(block) => held.push(block)?,
-            Err(_) => size /= 2,
-        }
-    }
-    Ok(held)
-}
-
-// Whether a Join-Request at a new shard is asked for. Where memory is refused it has no entry.
-fn ask(rt: &HostRuntime, roster: &Arc<Roster>, ticket: Ticket) -> Result<bool, AllocError> {
-    let mut shard = Shard::new(rt.alloc(), roster.clone()?, 13)?;
-    let call = Call::Join {
-        ticket,
-        heard: Heard::default(),
-    };
-    if shard_of_call(&call) != 13 {
-        return Ok(false);
-    }
-    match shard.apply(call) {
-        Ok(answer) => Ok(answer.reply == Reply::Ask { ticket } && shard.made() == 1),
-        Err(error) => {
-            if shard.entries().is_empty() && shard.oldest().is_none() {
-                Err(error)
-            } else {
-                Ok(false)
-            }
-        }
-    }
-}
-
-// With all memory taken, and one block more given back before each call: want of memory, until the answer comes.
-#[test]
-fn each_growth_of_a_call_refused(rt: HostRuntime) -> Result<(), Fail> {
-    let roster = Roster::read(rt.alloc(), ROSTER_A.as_bytes())?;
-    let roster = Arc::new(rt.alloc(), roster)?;
-    let ticket = ticket(&rt, J)?;
-    let mut held: Vec<Vec<u8>> = all_memory(&rt)?;
-    let mut refused = 0u64;
-    let mut asked = false;
-    for _ in 0..100_000u32 {
-        match ask(&rt, &roster, ticket) {
-            Ok(is_asked) => {
-                asked = is_asked;
-                break;
-            }
-            Err(_) => refused = refused.wrapping_add(1),
-        }
-        if held.pop().is_none() {
-            break;
-        }
-    }
-    drop(held);
-    assert!(rt; refused > 0);
-    assert!(rt; asked);
     Ok(())
 }

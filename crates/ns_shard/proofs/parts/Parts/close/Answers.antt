@@ -20,7 +20,7 @@ answered-is c =
 pushed : (c : After-push) → c.push.new.self.entries ≡ with_call (arc_value c.args.self.now.roster) c.args.self.now.journal.entries c.args.self.now.journal.made (Close c.args.name.now)
 pushed c =
     pushed-is (arc_value c.args.self.now.roster) c.args.self.now.journal c.push.new.self.entries (Close c.args.name.now) c.closing-answer.result.reply
-    (ap (λ (a : Answer). a.reply) (answered-is c)) c.push.ensures.entries
+    (ap (λ (a : Answer). a.reply) (answered-is c)) (rw c.requires.call at c.push.ensures.entries)
 
 pub returns-clause-answer : goal.returns-clause-answer
 returns-clause-answer c = answered-is c

@@ -10,19 +10,19 @@ use Rattle.ns_shard.proofs.PartSteps.{join-replied, agrees-join}
 use Rattle.ns_sessions.proofs.Uplinks.{others_stay}
 use Rattle.ns_sessions.proofs.Joins.{joins_agree}
 use Rattle.ns_shard.proofs.parts.Parts.join.Goals as goal
-use Rattle.ns_shard.proofs.parts.Parts.join.Goals.{After-quiet}
+use Rattle.ns_shard.proofs.parts.Parts.join.Goals.{After-push}
 
-replied : (c : After-quiet) → c.join-reply.result ≡ reply_to_join (arc_value c.args.self.now.roster) c.args.self.now.journal.entries c.args.ticket.now
+replied : (c : After-push) → c.join-reply.result ≡ reply_to_join (arc_value c.args.self.now.roster) c.args.self.now.journal.entries c.args.ticket.now
 replied c =
     let p = c.args.self.now in
     let said : c.join-reply.result ≡ joining_reply (arc_value p.roster) p.devices c.args.ticket.now = rw c.deref.ensures at c.join-reply.ensures.reply in
     said ∙ join-replied (arc_value p.roster) p.index p.journal.entries p.devices p.windows c.args.ticket.now c.requires.agree.agrees (joins_agree _ _) c.requires.own
 
-pushed : (c : After-quiet) → c.push.new.self.entries ≡ with_call (arc_value c.args.self.now.roster) c.args.self.now.journal.entries c.args.self.now.journal.made (Join c.args.ticket.now c.args.heard.now)
-pushed c = pushed-is (arc_value c.args.self.now.roster) c.args.self.now.journal c.push.new.self.entries (Join c.args.ticket.now c.args.heard.now) c.join-reply.result (replied c) c.push.ensures.entries
+pushed : (c : After-push) → c.push.new.self.entries ≡ with_call (arc_value c.args.self.now.roster) c.args.self.now.journal.entries c.args.self.now.journal.made (Join c.args.ticket.now c.args.heard.now)
+pushed c = pushed-is (arc_value c.args.self.now.roster) c.args.self.now.journal c.push.new.self.entries (Join c.args.ticket.now c.args.heard.now) c.join-reply.result (replied c) (rw c.requires.call at c.push.ensures.entries)
 
 pub returns-clause-answer : goal.returns-clause-answer
-returns-clause-answer c = c.quiet.ensures ∙ ap quiet (replied c)
+returns-clause-answer c = ap quiet (replied c)
 
 pub returns-clause-state : goal.returns-clause-state
 returns-clause-state c = rw (pushed c, c.push.ensures.made) refl

@@ -9,23 +9,23 @@ use Rattle.ns_shard.proofs.Entries.{pushed-is, pushed-length}
 use Rattle.ns_shard.proofs.UplinkSteps.{uplink-replied, can_open, agrees-uplink}
 use Rattle.ns_sessions.proofs.Uplinks.{others_stay, uplinks_agree}
 use Rattle.ns_shard.proofs.parts.Parts.uplink.Goals as goal
-use Rattle.ns_shard.proofs.parts.Parts.uplink.Goals.{After-quiet}
+use Rattle.ns_shard.proofs.parts.Parts.uplink.Goals.{After-push}
 
 pub take-requires : goal.take-requires
 take-requires c =
     let p = c.args.self.now in
     can_open (arc_value p.roster) p.index p.journal.entries p.devices p.windows c.args.frame.now c.args.heard.now c.requires.agree.agrees (uplinks_agree _ _) c.requires.own
 
-replied : (c : After-quiet) → c.in_ok-reply.reply ≡ reply_to_uplink (arc_value c.args.self.now.roster) c.args.self.now.journal.entries c.args.frame.now
+replied : (c : After-push) → c.in_ok-reply.reply ≡ reply_to_uplink (arc_value c.args.self.now.roster) c.args.self.now.journal.entries c.args.frame.now
 replied c =
     let p = c.args.self.now in
     c.in_ok-reply.ensures.reply ∙ uplink-replied (arc_value p.roster) p.index p.journal.entries p.devices p.windows c.args.frame.now c.requires.agree.agrees (uplinks_agree _ _) c.requires.own
 
-pushed : (c : After-quiet) → c.push.new.self.entries ≡ with_call (arc_value c.args.self.now.roster) c.args.self.now.journal.entries c.args.self.now.journal.made (Uplink c.args.frame.now c.args.heard.now)
-pushed c = pushed-is (arc_value c.args.self.now.roster) c.args.self.now.journal c.push.new.self.entries (Uplink c.args.frame.now c.args.heard.now) c.in_ok-reply.reply (replied c) c.push.ensures.entries
+pushed : (c : After-push) → c.push.new.self.entries ≡ with_call (arc_value c.args.self.now.roster) c.args.self.now.journal.entries c.args.self.now.journal.made (Uplink c.args.frame.now c.args.heard.now)
+pushed c = pushed-is (arc_value c.args.self.now.roster) c.args.self.now.journal c.push.new.self.entries (Uplink c.args.frame.now c.args.heard.now) c.in_ok-reply.reply (replied c) (rw c.requires.call at c.push.ensures.entries)
 
 pub returns-clause-answer : goal.returns-clause-answer
-returns-clause-answer c = c.quiet.ensures ∙ ap quiet (replied c)
+returns-clause-answer c = ap quiet (replied c)
 
 pub returns-clause-state : goal.returns-clause-state
 returns-clause-state c = rw (pushed c, c.push.ensures.made) refl

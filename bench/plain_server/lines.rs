@@ -1,0 +1,111 @@
+//! Answer lines.
+
+use crate::*;
+
+/// The text that goes out. Each word has a space before it but a line's first.
+pub struct Text(pub Vec<u8>);
+
+impl Text {
+    pub fn line(&mut self, word: &str) -> &mut Self {
+        self.0.extend_from_slice(word.as_bytes());
+        self
+    }
+
+    pub fn word(&mut self, word: &[u8]) -> &mut Self {
+        self.0.push(b' ');
+        self.0.extend_from_slice(word);
+        self
+    }
+
+    pub fn hex_digits(&mut self, bytes: &[u8]) {
+        let at = self.0.len();
+        self.0.resize(at + 2 * bytes.len(), 0);
+        for (pair, byte) in self.0[at..].chunks_exact_mut(2).zip(bytes) {
+            pair.copy_from_slice(&[DIGITS[(byte >> 4) as usize], DIGITS[(byte & 15) as usize]]);
+        }
+    }
+
+    /// Hex digits, or `-` where there are none.
+    pub fn hex(&mut self, bytes: &[u8]) -> &mut Self {
+        self.0.push(if bytes.is_empty() { return self.word(b"-") } else { b' ' });
+        self.hex_digits(bytes);
+        self
+    }
+
+    pub fn eui(&mut self, eui: u64) -> &mut Self { self.hex(&eui.to_be_bytes()) }
+
+    pub fn number(&mut self, n: impl Into<u64>) -> &mut Self {
+        let (mut digits, mut at, mut n) = ([0; 20], 20, n.into());
+        loop {
+            at -= 1;
+            digits[at] = b'0' + (n % 10) as u8;
+            n /= 10;
+            if n == 0 {
+                return self.word(&digits[at..]);
+            }
+        }
+    }
+
+    pub fn number_or_dash(&mut self, n: Option<impl Into<u64>>) -> &mut Self {
+        match n {
+            Some(n) => self.number(n),
+            None => self.word(b"-"),
+        }
+    }
+
+    pub fn window(&mut self, w: &WindowName) -> &mut Self { self.eui(w.eui).number(w.session).number(w.fcnt) }
+    pub fn end(&mut self) { self.0.push(b'\n'); }
+
+    pub fn reply(&mut self, reply: &Reply) {
+        match reply {
+            Reply::Opened { window } => self.line("opened").window(window),
+            Reply::Copied { window, place } => self.line("copied").window(window).number(*place),
+            Reply::Crowded { window } => self.line("crowded").window(window),
+            Reply::Old { window } => self.line("old").window(window),
+            Reply::NoSession => self.line("nosession"),
+            Reply::Busy { eui } => self.line("busy").eui(*eui),
+            Reply::Ask { ticket } => self.line("ask").hex(ticket),
+            Reply::JoinCopied { place } => self.line("joincopied").number(*place),
+            Reply::JoinCrowded => self.line("joincrowded"),
+            Reply::NonceOld { greatest } => self.line("nonceold").number(*greatest),
+            Reply::NoDevice => self.line("nodevice"),
+            Reply::JoinBusy => self.line("joinbusy"),
+            Reply::Accepted { eui, session, addr } => self.line("accepted").eui(*eui).number(*session).hex(&addr.to_be_bytes()),
+            Reply::JoinRefused => self.line("joinrefused"),
+            Reply::JoinStale { greatest } => self.line("joinstale").number(*greatest),
+            Reply::NoTicket => self.line("noticket"),
+            Reply::Closed { window, ack } => self.line("closed").window(window).number_or_dash(*ack),
+            Reply::NoWindow => self.line("nowindow"),
+        }
+        .end();
+    }
+
+    /// The uplink of a closed window.
+    pub fn up(&mut self, entries: &[Entry], name: &WindowName, session: &Session, copies: &Copies) {
+        let data = Data::of(copies.frame(entries));
+        let mut room = [0; 242];
+        let payload = &mut room[..data.payload.len()];
+        payload.copy_from_slice(data.payload);
+        let mut kind = "plain";
+        match (data.port, &session.app) {
+            _ if payload.is_empty() => {}
+            (Some(0), _) => cipher_in_place(&session.nwk.aes, data.addr, name.fcnt, payload),
+            (_, Some(app)) => cipher_in_place(&Aes128::new(app), data.addr, name.fcnt, payload),
+            (_, None) => kind = "sealed",
+        }
+        self.line("up").window(name).number_or_dash(data.port).word(kind.as_bytes()).hex(data.fopts).hex(payload).number(copies.len);
+        for (i, heard) in copies.heard(entries).enumerate() {
+            self.0.push(if i == 0 { b' ' } else { b',' });
+            self.hex_digits(&heard.gateway.to_be_bytes());
+        }
+        self.end();
+    }
+
+    /// A downlink in the first receive window of the best copy, the first one of the strongest.
+    pub fn down(&mut self, entries: &[Entry], copies: &Copies, offset: u8, delay: u64, frame: &[u8]) {
+        let stronger = |a: &Heard, b: &Heard| (a.snr, a.rssi) > (b.snr, b.rssi);
+        let best = copies.heard(entries).reduce(|best, copy| if stronger(copy, best) { copy } else { best }).unwrap();
+        self.line("down").eui(best.gateway).number(best.moment.wrapping_add(delay)).number(best.freq);
+        self.number(best.dr.saturating_sub(offset)).hex(frame).end();
+    }
+}

@@ -1,0 +1,189 @@
+//! An answer that is kept in no more memory than it needs.
+
+ghost use Rattle.std.specs.Prelude.{◌≡◌, IfOk, Some, is_some};
+ghost use Rattle.ns_shard.specs.Taken.{quiet};
+
+use arrayvec::ArrayVec;
+use ns_calls::{Answer, Bytes, Downlink, Reply, Uplink};
+use ns_types::{DevAddr, Heard, WindowName};
+use std::alloc::{AllocError, Global};
+use std::marker::Model;
+
+/// An uplink whose payload and copies take as much memory as there is of them. Contracts see the uplink.
+#[derive(Drop)]
+pub struct PackedUplink {
+    pub window: WindowName,
+    pub addr: DevAddr,
+    pub port: Option<u8>,
+    pub fopts: Bytes<15>,
+    pub sealed: bool,
+    pub payload: Vec<u8>,
+    pub copies: Vec<Heard>,
+}
+
+impl Model for PackedUplink {
+    ghost use Rattle.std.specs.Prelude.{◌≤◌, length};
+    ghost use Rattle.ns_calls.specs.declared.answer.Uplink.{Uplink};
+
+    ghost Value = { Uplink };
+
+    ghost view = { λ u. record { window = u.window; addr = u.addr; port = u.port; fopts = u.fopts; sealed = u.sealed; payload = u.payload.items; copies = record { items = u.copies.items } } };
+
+    ghost invariant = { λ u. (length u.payload.items ≤ 242) × (length u.copies.items ≤ 16) };
+}
+
+impl PackedUplink {
+    fn new(alloc: Global, uplink: &Uplink) -> Result<PackedUplink, AllocError>
+        ensures { IfOk result (λ u. u ≡ uplink.now) }
+    {
+        Ok(PackedUplink {
+            window: uplink.window,
+            addr: uplink.addr,
+            port: uplink.port,
+            fopts: uplink.fopts,
+            sealed: uplink.sealed,
+            payload: Vec::from_slice(alloc, uplink.payload.as_slice())?,
+            copies: Vec::from_slice(alloc, uplink.copies.as_slice())?,
+        })
+    }
+
+    // The uplink itself.
+    fn unpacked(&self) -> Uplink
+        ensures { result ≡ self.now }
+    {
+        let Ok(copies) = ArrayVec::try_from(self.copies.as_slice()) else {
+            unreachable!()
+        };
+        Uplink {
+            window: self.window,
+            addr: self.addr,
+            port: self.port,
+            fopts: self.fopts,
+            sealed: self.sealed,
+            payload: Bytes::of(self.payload.as_slice()),
+            copies,
+        }
+    }
+}
+
+// What goes out with a reply.
+#[derive(Drop)]
+struct Sent {
+    uplink: Option<PackedUplink>,
+    downlink: Option<Downlink>,
+}
+
+/// An answer that is kept: what goes out with it lies in memory of its own, and takes as much as there is of it. Contracts see
+/// the answer.
+#[derive(Drop)]
+pub struct PackedAnswer {
+    reply: Reply,
+    sent: Option<Box<Sent>>,
+}
+
+impl Model for PackedAnswer {
+    ghost use Rattle.std.specs.Prelude.{option_and_then};
+    ghost use Rattle.ns_calls.specs.declared.answer.Answer.{Answer};
+
+    ghost Value = { Answer };
+
+    ghost view = { λ a. record { reply = a.reply; uplink = option_and_then (λ s. s.value.uplink) a.sent; downlink = option_and_then (λ s. s.value.downlink) a.sent } };
+}
+
+// An uplink that is kept, where there is one.
+fn packed(alloc: Global, uplink: &Option<Uplink>) -> Result<Option<PackedUplink>, AllocError>
+    ensures { IfOk result (λ u. u ≡ uplink.now) }
+{
+    match uplink {
+        Some(uplink) => Ok(Some(PackedUplink::new(alloc, uplink)?)),
+        None => Ok(None),
+    }
+}
+
+impl PackedAnswer {
+    /// A reply with which nothing goes out.
+    pub fn quiet(reply: Reply) -> PackedAnswer
+        ensures { result ≡ quiet reply }
+    {
+        PackedAnswer { reply, sent: None }
+    }
+
+    /// This answer. `NoMemory` (`AllocError`) where what goes out finds no memory.
+    pub fn new(alloc: Global, answer: Answer) -> Result<PackedAnswer, AllocError>
+        ensures { IfOk result (λ a. a ≡ answer) }
+    {
+        if answer.uplink.is_none() && answer.downlink.is_none() {
+            return Ok(PackedAnswer::quiet(answer.reply));
+        }
+        let sent = Sent {
+            uplink: packed(alloc, &answer.uplink)?,
+            downlink: answer.downlink,
+        };
+        Ok(PackedAnswer {
+            reply: answer.reply,
+            sent: Some(Box::new(alloc, sent)?),
+        })
+    }
+
+    /// A reply with which an uplink goes out, and perhaps a downlink. `NoMemory` (`AllocError`) where they find no memory.
+    pub fn sending(
+        alloc: Global,
+        reply: Reply,
+        uplink: PackedUplink,
+        downlink: Option<Downlink>,
+    ) -> Result<PackedAnswer, AllocError>
+        ensures { IfOk result (λ a. a ≡ record { reply = reply; uplink = Some uplink; downlink = downlink }) }
+    {
+        let sent = Sent {
+            uplink: Some(uplink),
+            downlink,
+        };
+        Ok(PackedAnswer {
+            reply,
+            sent: Some(Box::new(alloc, sent)?),
+        })
+    }
+
+    /// The reply.
+    pub fn reply(&self) -> Reply
+        ensures { result ≡ self.now.reply }
+    {
+        self.reply
+    }
+
+    /// Whether an uplink goes out.
+    pub fn has_uplink(&self) -> bool
+        ensures { result ≡ is_some self.now.uplink }
+    {
+        match &self.sent {
+            Some(sent) => sent.uplink.is_some(),
+            None => false,
+        }
+    }
+
+    /// The uplink that goes out.
+    pub fn uplink(&self) -> Option<Uplink>
+        ensures { result ≡ self.now.uplink }
+    {
+        let uplink = self.sent.as_ref()?.uplink.as_ref()?;
+        Some(uplink.unpacked())
+    }
+
+    /// The downlink that goes out.
+    pub fn downlink(&self) -> Option<Downlink>
+        ensures { result ≡ self.now.downlink }
+    {
+        self.sent.as_ref()?.downlink
+    }
+
+    /// The answer itself.
+    pub fn unpacked(&self) -> Answer
+        ensures { result ≡ self.now }
+    {
+        Answer {
+            reply: self.reply(),
+            uplink: self.uplink(),
+            downlink: self.downlink(),
+        }
+    }
+}
