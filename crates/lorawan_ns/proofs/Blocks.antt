@@ -1,5 +1,5 @@
 -- A byte that is looked for behind blocks in which it does not stand.
-use Rattle.std.proofs.Common.{◌≡◌, ℕ, zero, suc, ◌+◌, ◌-◌, ◌<◌, ◌≤◌, false, true, Bool, cond, List, [], ◌∷◌, length, take, drop, get_or, Option, Some, None, option_map, position, refl, sym, ap, ◌∙◌, rules, arith, eqb, ltb, inl, inr}
+use Rattle.std.proofs.Common.{◌≡◌, ℕ, zero, suc, ◌+◌, ◌-◌, ◌<◌, ◌≤◌, false, true, Bool, cond, List, [], ◌∷◌, length, take, drop, get_or, Option, Some, None, option_map, position, refl, sym, ap, ◌∙◌, arith, eqb, ltb, inl, inr}
 use Rattle.std.specs.List.{position_or_len, list_any, slice_range}
 use Rattle.std.proofs.lemmas.Bool.Decides.{leb_tells}
 use Rattle.std.proofs.lemmas.Bool.{lt-ltb, le-ltb}

@@ -1,5 +1,5 @@
 -- The steps of a run: the calls that they make, and what comes of each.
-use Rattle.std.specs.Prelude.{◌≡◌, ℕ, ◌<◌, ◌==◌, List, [], ◌∷◌, ◌++◌, length, filter, filter_map, slice_get, Option, None, Some, option_map, is_some, slice_set, Result, Ok, Err}
+use Rattle.std.specs.Prelude.{◌≡◌, ℕ, ◌<◌, ◌==◌, List, [], ◌∷◌, ◌++◌, length, filter, filter_map, slice_get, Option, Some, option_map, is_some, slice_set, Result, Ok, Err}
 use Rattle.std.specs.Result.{result_ok}
 use Rattle.std.specs.Option.{option_map_or}
 use Rattle.ns_types.specs.Ticket.{transaction}

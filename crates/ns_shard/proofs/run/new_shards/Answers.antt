@@ -1,4 +1,4 @@
-use Rattle.std.proofs.Common.{◌≡◌, ℕ, zero, suc, refl, ◌<◌, ◌+◌, ◌++◌, ◌∷◌, [], length, slice_get, Some, arith, sym, ap, ◌∙◌, length-append, ◌⊎◌, inl, inr, List, subst}
+use Rattle.std.proofs.Common.{◌≡◌, ℕ, zero, suc, refl, ◌<◌, ◌+◌, ◌++◌, ◌∷◌, [], length, slice_get, Some, arith, ap, ◌∙◌, length-append, inl, inr, List, subst}
 use Rattle.std.specs.Arc.{arc_value}
 use Rattle.std.proofs.lemmas.Bool.Decides.{eqb_tells}
 use Rattle.ns_roster.specs.Network.{Network}
