@@ -1,4 +1,6 @@
 pub mod LineLemmas
+pub mod FoundLemmas
+pub mod FrontLemmas
 pub mod Digits
 pub mod Woven
 pub mod Blocks

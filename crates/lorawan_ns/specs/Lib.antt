@@ -1,2 +1,3 @@
 pub mod StepLines
 pub mod Output
+pub mod Found

@@ -1,17 +1,18 @@
 //! A run of recorded steps, from a source of step lines to a sink of answer lines.
 
-ghost use Rattle.std.specs.Prelude.{◌≡◌, ◌⊎◌, [], false, true, flat_map, OnOk, IfErr, IfOk, IfSome};
+ghost use Rattle.std.specs.Prelude.{◌≡◌, ◌⊎◌, [], false, true, flat_map, OnOk, IfErr, IfOk, IfSome, ◌↔◌};
+ghost use Rattle.ns_types.specs.declared.transfer.ReadFault.TheVariants.{Io};
 ghost use Rattle.std.specs.Arc.{arc_value};
 ghost use Rattle.std.specs.Io.KnownBytes.{Appends};
 ghost use Rattle.ns_types.specs.Streams.{AppendsFront};
 ghost use Rattle.ns_shard.specs.Steps.{all_taken};
-ghost use Rattle.lorawan_ns.specs.Output.{output};
+ghost use Rattle.lorawan_ns.specs.Output.{output, text_of, woven};
 
-use crate::step_lines::{StepLines, steps};
-use crate::taken::text_of;
+use crate::step_lines::{StepLines, read_steps};
+use crate::taken::write_lines;
 use ns_roster::Roster;
 use ns_shard::{Run, Shards, Step, Taken};
-use ns_types::{ReadFault, Sink, Source, read_all, write_all};
+use ns_types::{ReadFault, Sink, Source};
 use std::alloc::{AllocError, Global};
 use std::sync::Arc;
 
@@ -32,15 +33,31 @@ fn taken_of(alloc: Global, roster: Arc<Roster>, steps: Vec<Step>) -> Result<Vec<
     Ok(taken)
 }
 
-// The lines that a text of step lines is answered, each with a line feed.
+// What is known of step lines when their steps are made.
+#[derive(Drop)]
+struct Answers {
+    // For each line, whether it is a step line.
+    are_steps: Vec<bool>,
+    // What came of each step.
+    taken: Vec<Taken>,
+}
+
+// What comes of the lines of a source.
 #[tactic(auto, using(crate::proofs::Woven::all_lines_woven))]
-fn answered(alloc: Global, roster: Arc<Roster>, input: Vec<u8>) -> Result<Vec<u8>, AllocError>
-    ensures { IfOk result (λ v. v.items ≡ output (arc_value roster) input.items) }
+fn answered<R: Source>(
+    alloc: Global,
+    roster: Arc<Roster>,
+    reader: &mut R,
+) -> Result<Answers, ReadFault>
+    requires { R.Stream.has_failed reader.old ≡ false }
+    ensures lines { IfOk result (λ a. IfSome (R.left reader.old)
+        (λ input. flat_map text_of (woven a.are_steps.items a.taken.items) ≡ output (arc_value roster) input)) }
+    ensures sound { OnOk result (R.Stream.has_failed reader.new ≡ false) }
+    ensures io { IfErr result (λ e. (e ≡ Io) ↔ (R.Stream.has_failed reader.new ≡ true)) }
 {
-    let StepLines { steps, are_steps } = steps(alloc, input.as_slice())?;
-    drop(input);
+    let StepLines { steps, are_steps } = read_steps(alloc, reader)?;
     let taken = taken_of(alloc, roster, steps)?;
-    text_of(alloc, are_steps.as_slice(), taken.as_slice())
+    Ok(Answers { are_steps, taken })
 }
 
 /// Reads step lines to the end, and then writes the lines of their answers.
@@ -69,15 +86,12 @@ pub fn replay<R: Source, W: Sink>(
     ensures memory { result ≡ Err ReplayFault.NoMemory → writer.new ≡ writer.old }
     ensures unread { R.Stream.has_failed reader.new ≡ true → writer.new ≡ writer.old }
 {
-    let input = match read_all(alloc, reader) {
-        Ok(input) => input,
+    let Answers { are_steps, taken } = match answered(alloc, roster, reader) {
+        Ok(answered) => answered,
         Err(ReadFault::NoMemory) => return Err(ReplayFault::NoMemory),
         Err(ReadFault::Io) => return Err(ReplayFault::Io),
     };
-    let Ok(text) = answered(alloc, roster, input) else {
-        return Err(ReplayFault::NoMemory);
-    };
-    match write_all(writer, text.as_slice()) {
+    match write_lines(writer, are_steps.as_slice(), taken.as_slice()) {
         Ok(()) => Ok(()),
         Err(_) => Err(ReplayFault::Io),
     }

@@ -1,12 +1,14 @@
-//! Step lines: the steps that a text of lines asks for.
+//! Step lines: the steps that the lines of a source ask for.
 
-ghost use Rattle.std.specs.Prelude.{◌≡◌, ◌≢◌, ◌<◌, ◌≤◌, ◌∷◌, ◌++◌, [], ℕ, false, slice_index_or, length, map, option_map, Some, None, MatchOption, IfOk, OnOk, IfSome, IsSome, position, ◌==◌};
+ghost use Rattle.std.specs.Prelude.{◌≡◌, ◌<◌, ◌≤◌, ◌∷◌, ◌++◌, [], ℕ, List, false, true, slice_index_or, length, option_map, IfOk, IfErr, OnOk, IfSome, position, ◌==◌, ◌↔◌};
+ghost use Rattle.ns_types.specs.declared.transfer.ReadFault.TheVariants.{Io};
 ghost use Rattle.lorawan_ns.specs.Output.{steps_in, are_steps};
-ghost use Rattle.lorawan_ns.specs.StepLines.{raw_lines, without_return, parted, number, eui, ticket, heard, answered, lost, counters, closed, act, step, steps};
+ghost use Rattle.lorawan_ns.specs.StepLines.{without_return, parted, number, eui, ticket, heard, answered, lost, counters, closed, act, step};
+ghost use Rattle.lorawan_ns.specs.Found.{FoundIn, StepsOf, Longer};
 
 use hex::{FromHex, FromHexError};
 use ns_shard::{Act, DatagramBytes, OwnedBytes, Step};
-use ns_types::{DevEui, Ticket, WindowName};
+use ns_types::{DevEui, ReadFault, Source, Ticket, WindowName};
 use std::alloc::{AllocError, Global};
 
 // How many bytes are looked at together.
@@ -41,21 +43,6 @@ fn place_of(byte: u8, text: &[u8]) -> Option<usize>
     match first_of(byte, &text[from..]) {
         Some(at) => Some(from + at),
         None => None,
-    }
-}
-
-// The bytes up to the first line feed, and what follows it.
-fn next_line(rest: &[u8]) -> Option<(&[u8], &[u8])>
-    ensures cases { MatchOption result (raw_lines rest.now ≡ [])
-        (λ p. raw_lines rest.now ≡ p.0.now ∷ raw_lines p.1.now) }
-    ensures shorter { IfSome result (λ p. length p.1.now < length rest.now) }
-{
-    if rest.is_empty() {
-        return None;
-    }
-    match place_of(b'\n', rest) {
-        Some(end) => Some((&rest[..end], &rest[end + 1..])),
-        None => Some((rest, &rest[rest.len()..])),
     }
 }
 
@@ -207,6 +194,7 @@ fn act(alloc: Global, word: &[u8], text: &[u8]) -> Result<Option<Act>, AllocErro
 
 // The step that a line asks for.
 #[tactic(auto, unfolding(crate::specs::StepLines::step))]
+#[inline(always)]
 fn step(alloc: Global, line: &[u8]) -> Result<Option<Act>, AllocError>
     ensures { IfOk result (λ a. a ≡ step line.now) }
 {
@@ -226,6 +214,7 @@ pub struct StepLines {
 }
 
 // Adds what a line asks for.
+#[inline(always)]
 fn add(found: &mut StepLines, act: Option<Act>) -> Result<(), AllocError>
     ensures steps { OnOk result (found.new.steps.items ≡ found.old.steps.items ++ steps_in (act ∷ [])) }
     ensures are_steps { OnOk result (found.new.are_steps.items ≡ found.old.are_steps.items ++ are_steps (act ∷ [])) }
@@ -237,19 +226,59 @@ fn add(found: &mut StepLines, act: Option<Act>) -> Result<(), AllocError>
     Ok(())
 }
 
-/// The steps of a text, in order, and which of its lines are step lines.
-pub fn steps(alloc: Global, text: &[u8]) -> Result<StepLines, AllocError>
-    ensures steps { IfOk result (λ found. found.steps.items ≡ steps_in (steps text.now)) }
-    ensures are_steps { IfOk result (λ found. found.are_steps.items ≡ are_steps (steps text.now)) }
+// Adds the lines that end in a block of a text. `line` has what stands in the text behind its last line feed, so each line is
+// looked at once, however the blocks fall.
+fn add_block(
+    alloc: Global,
+    found: &mut StepLines,
+    line: &mut Vec<u8>,
+    block: &[u8],
+) -> Result<(), AllocError>
+    ensures found { OnOk result ((text : List ℕ) → FoundIn found.old line.old.items text → FoundIn found.new line.new.items (text ++ block.now)) }
+    ensures longer { OnOk result (Longer found.old line.old.items found.new line.new.items (length block.now)) }
+{
+    let mut rest = block;
+    'lines: while let Some(end) = place_of(b'\n', rest) {
+        line.extend_from_slice(&rest[..end])?;
+        add(found, step(alloc, line.as_slice())?)?;
+        line.clear();
+        rest = &rest[end + 1..];
+    }
+    line.extend_from_slice(rest)?;
+    Ok(())
+}
+
+// Adds what stands behind the last line feed, which is a line where it isn't empty.
+fn add_last(alloc: Global, found: &mut StepLines, line: &[u8]) -> Result<(), AllocError>
+    ensures { OnOk result ((text : List ℕ) → FoundIn found.old line.now text → StepsOf found.new text) }
+{
+    if line.is_empty() {
+        return Ok(());
+    }
+    add(found, step(alloc, line)?)?;
+    Ok(())
+}
+
+/// The steps of all the lines that a source gives, in order, and which of them are step lines. Of the text itself one block and
+/// one line are in memory at a time.
+pub fn read_steps<S: Source>(alloc: Global, source: &mut S) -> Result<StepLines, ReadFault>
+    requires { S.Stream.has_failed source.old ≡ false }
+    ensures steps { IfOk result (λ found. IfSome (S.left source.old) (StepsOf found)) }
+    ensures sound { OnOk result (S.Stream.has_failed source.new ≡ false) }
+    ensures io { IfErr result (λ e. (e ≡ Io) ↔ (S.Stream.has_failed source.new ≡ true)) }
 {
     let mut found = StepLines {
         steps: Vec::new(alloc),
         are_steps: Vec::new(alloc),
     };
-    let mut rest = text;
-    'lines: while let Some((line, others)) = next_line(rest) {
-        add(&mut found, step(alloc, line)?)?;
-        rest = others;
+    let mut line = Vec::new(alloc);
+    let mut block = [0u8; 65536];
+    'reading: loop {
+        let n = source.read(&mut block)?;
+        if n == 0 {
+            add_last(alloc, &mut found, line.as_slice())?;
+            return Ok(found);
+        }
+        add_block(alloc, &mut found, &mut line, &block[..n])?;
     }
-    Ok(found)
 }

@@ -126,7 +126,7 @@ impl PackedAnswer {
     }
 
     /// A reply with which an uplink goes out, and perhaps a downlink. `NoMemory` (`AllocError`) where they find no memory.
-    pub fn sending(
+    pub(crate) fn sending(
         alloc: Global,
         reply: Reply,
         uplink: PackedUplink,
