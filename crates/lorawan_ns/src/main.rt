@@ -1,8 +1,8 @@
 //! The network server's program.
 //!
 //! `lorawan_ns replay ROSTER` reads step lines from standard input and writes the lines of their answers to standard output. The
-//! contract of `replay` says what is written; the command line, the roster's file and the texts on standard error are shown by
-//! tests. It stands on `ns_roster`, which reads the roster, and `ns_shard`, which runs the steps.
+//! contract of `replay` says what is written; what the words of the command line ask for and the texts of faults are shown by
+//! tests, the exit statuses by hand. It stands on `ns_roster`, which reads the roster, and `ns_shard`, which runs the steps.
 #![tactic(auto)]
 
 mod fault;
@@ -20,6 +20,7 @@ use crate::options::{Asked, BadWords, read_words};
 use crate::replay::{ReplayFault, replay as replay_steps};
 use ns_roster::{Roster, RosterFault};
 use ns_types::OverStd;
+use std::env::Env;
 use std::io::ErrorKind;
 use std::process::ExitCode;
 use std::rt::Files;
@@ -63,31 +64,53 @@ fn run_replay<'a, R: Files + AllocGlobal + Input + Print>(
     }
 }
 
-fn main(rt: HostRuntime) -> ExitCode {
-    let Ok(args) = env::args(&rt) else {
-        let _ = eprintln!(rt; "bad arguments");
-        return ExitCode::from(2);
-    };
-    let words: Vec<String> = match args.collect(rt.alloc()) {
-        Ok(words) => words,
-        Err(_) => {
-            let _ = eprintln!(rt; "no memory");
-            return ExitCode::from(1);
+// The words of the command line, the program's name first.
+fn words<R: Env + AllocGlobal>(rt: &R) -> Result<Vec<String>, BadWords> {
+    match env::args(rt) {
+        Ok(args) => Ok(args.collect(rt.alloc())?),
+        Err(error) if error.kind() == ErrorKind::OutOfMemory => Err(BadWords::NoMemory),
+        Err(_) => Err(BadWords::NotText),
+    }
+}
+
+// Says a fault on standard error. The exit status is 1.
+fn failed<R: Eprint>(rt: &R, fault: &Fault) -> ExitCode {
+    let _ = eprintln!(rt; "{fault}");
+    ExitCode::from(1)
+}
+
+// Says why the words ask for nothing: help on standard output with status 0, else what is wrong with them and status 2.
+fn refused<R: Eprint + Print>(rt: &R, bad: &BadWords) -> ExitCode {
+    match bad {
+        BadWords::NoMemory => failed(rt, &Fault::NoMemory),
+        BadWords::NotText => {
+            let _ = eprintln!(rt; "bad arguments");
+            ExitCode::from(2)
         }
+        BadWords::Shown(error) => {
+            let printed = error.print(rt);
+            if error.use_stderr() {
+                ExitCode::from(2)
+            } else if printed.is_ok() {
+                ExitCode::SUCCESS
+            } else {
+                failed(rt, &Fault::Io)
+            }
+        }
+    }
+}
+
+fn main(rt: HostRuntime) -> ExitCode {
+    let words = match words(&rt) {
+        Ok(words) => words,
+        Err(bad) => return refused(&rt, &bad),
     };
     let outcome = match read_words(rt.alloc(), words.as_slice()) {
         Ok(Asked::Replay(path)) => run_replay(&rt, path),
-        Err(BadWords::NoMemory) => Err(Fault::NoMemory),
-        Err(BadWords::Shown(error)) => {
-            let _ = error.print(&rt);
-            return ExitCode::from(if error.use_stderr() { 2 } else { 0 });
-        }
+        Err(bad) => return refused(&rt, &bad),
     };
     match outcome {
         Ok(()) => ExitCode::SUCCESS,
-        Err(fault) => {
-            let _ = eprintln!(rt; "{fault}");
-            ExitCode::from(1)
-        }
+        Err(fault) => failed(&rt, &fault),
     }
 }

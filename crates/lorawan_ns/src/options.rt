@@ -16,6 +16,8 @@ pub enum Asked<'a> {
 pub enum BadWords {
     /// A growth was refused.
     NoMemory,
+    /// A word is no UTF-8.
+    NotText,
     /// Bad words, or a request for help: the text to print, and whether it is an error.
     Shown(Error),
 }

@@ -2,8 +2,10 @@
 
 ghost use Rattle.std.specs.Prelude.{◌≡◌, ◌<◌, IfOk, false};
 
+use crate::fault::Fault;
+use crate::options::{Asked, BadWords, read_words};
 use crate::replay::{ReplayFault, replay};
-use ns_roster::Roster;
+use ns_roster::{Roster, RosterFault};
 use ns_types::{Fuse, Stream};
 use std::process::Abort;
 use std::sync::Arc;
@@ -108,26 +110,96 @@ pub fn same_lines<R: Abort + AllocGlobal>(
     Ok(())
 }
 
+// A Join-Request heard by two gateways in turn: sixteen copies have a place.
 #[test]
 fn seventeen_copies(rt: HostRuntime) -> Result<(), Fail> {
     let mut steps = String::new(rt.alloc());
     let mut lines = String::new(rt.alloc());
-    let heard =
-        "heard 010100000000000000a100000000000f424033be27a005fc4a004b170004030201040302010d00000000000000010001000000\n";
-    lines.push_str("ask 0004030201040302010d00000000000000010001000000\n")?;
-    steps.push_str(heard)?;
-    for place in 2..18 {
-        steps.push_str(heard)?;
-        if place < 17 {
+    for place in 1..18u32 {
+        let gateway = if place % 2 == 1 { "a1" } else { "a2" };
+        let heard = format!(in rt.alloc();
+            "heard 010100000000000000{gateway}00000000000f424033be27a005fc4a004b170004030201040302010d00000000000000010001000000\n"
+        )?;
+        steps.push_str(heard.as_str())?;
+        if 1 < place && place < 17 {
             lines.push_str(format!(in rt.alloc(); "joincopied {place}\n")?.as_str())?;
+        } else if place == 1 {
+            lines.push_str("ask 0004030201040302010d00000000000000010001000000\n")?;
         }
     }
     lines.push_str("joincrowded\n")?;
-    let mut reader = fuse(&rt, steps.as_bytes(), 8192, None, None)?;
-    let mut writer = fuse(&rt, b"", 8192, None, None)?;
-    let outcome = replay(rt.alloc(), roster(&rt, ROSTER)?, &mut reader, &mut writer);
-    assert_eq!(rt; outcome, Ok(()));
-    assert_eq!(rt; writer.written(), lines.as_bytes());
+    same_lines(&rt, ROSTER, steps.as_str(), lines.as_str())
+}
+
+// Lines of more bytes than are read or written together, and each write of them failing.
+#[test]
+fn many_lines(rt: HostRuntime) -> Result<(), Fail> {
+    let roster = roster(&rt, ROSTER)?;
+    let mut steps = String::new(rt.alloc());
+    let mut lines = String::new(rt.alloc());
+    for _ in 0..12_000u32 {
+        steps.push_str("hello\n")?;
+        lines.push_str("refused line\n")?;
+    }
+    let lines = lines.as_str().as_bytes();
+    let mut ended = 0u32;
+    for writes in 0..40u64 {
+        let mut reader = fuse(&rt, steps.as_str().as_bytes(), 100_000, None, None)?;
+        let mut writer = fuse(&rt, b"", 100_000, None, Some(writes))?;
+        let outcome = replay(rt.alloc(), roster.clone()?, &mut reader, &mut writer);
+        if writer.failed() {
+            assert_eq!(rt; outcome, Err(ReplayFault::Io));
+            assert!(rt; writer.written().len() < lines.len());
+        } else {
+            assert_eq!(rt; outcome, Ok(()));
+            assert_eq!(rt; writer.written().len(), lines.len());
+            ended += 1;
+        }
+        assert!(rt; lines.starts_with(writer.written()));
+    }
+    assert!(rt; 0 < ended && ended < 20);
+    Ok(())
+}
+
+#[test]
+fn faults_are_printed(rt: HostRuntime) -> Result<(), Fail> {
+    let faults = [
+        (Fault::Roster(RosterFault::NotJson), "roster: O1"),
+        (Fault::NoMemory, "no memory"),
+        (Fault::CannotRead("a/b.json"), "cannot read a/b.json"),
+        (Fault::Io, "io"),
+    ];
+    for (fault, text) in &faults {
+        assert_eq!(rt; format!(in rt.alloc(); "{fault}")?.as_str(), *text);
+    }
+    Ok(())
+}
+
+// What some words ask for: R a roster's file, H help, and E is an error.
+fn asked(rt: &HostRuntime, list: &[&str]) -> Result<char, Fail> {
+    let mut words = Vec::new(rt.alloc());
+    for word in list {
+        words.push(String::from_str(rt.alloc(), word)?)?;
+    }
+    Ok(match read_words(rt.alloc(), words.as_slice()) {
+        Ok(Asked::Replay(path)) => { if path == "roster.json" { 'R' } else { 'E' } }
+        Err(BadWords::Shown(error)) => { if error.use_stderr() { 'E' } else { 'H' } }
+        Err(_) => '?',
+    })
+}
+
+#[test]
+fn words_of_the_command_line(rt: HostRuntime) -> Result<(), Fail> {
+    assert_eq!(rt; asked(&rt, &["lorawan_ns", "replay", "roster.json"])?, 'R');
+    assert_eq!(rt; asked(&rt, &["lorawan_ns"])?, 'E');
+    assert_eq!(rt; asked(&rt, &["lorawan_ns", "replay"])?, 'E');
+    assert_eq!(rt;
+        asked(&rt, &["lorawan_ns", "replay", "roster.json", "more"])?,
+        'E'
+    );
+    assert_eq!(rt; asked(&rt, &["lorawan_ns", "serve"])?, 'E');
+    assert_eq!(rt; asked(&rt, &["lorawan_ns", "--help"])?, 'H');
+    assert_eq!(rt; asked(&rt, &["lorawan_ns", "replay", "--help"])?, 'H');
     Ok(())
 }
 

@@ -1,8 +1,9 @@
 -- Every merge of the shards' histories is a history of the plain server.
-use Rattle.std.proofs.Common.{◌≡◌, ℕ, zero, suc, ◌==◌, Bool, true, false, cond, List, [], ◌∷◌, ◌++◌, length, take, drop, Some, slice_get, slice_set, refl, ap, sym, ◌∙◌, subst, arith}
+use Rattle.std.proofs.Common.{◌≡◌, ℕ, zero, suc, ◌==◌, Bool, true, false, cond, List, [], ◌∷◌, ◌++◌, length, take, drop, Option, option_map, Some, IfSome, slice_get, slice_set, refl, ap, sym, ◌∙◌, subst, arith}
 use Rattle.std.specs.List.{AllByRecursion, Contains}
 use Rattle.std.proofs.lemmas.List.Elements.{filter-append}
 use Rattle.std.proofs.lemmas.Bool.Decides.{nat_tests}
+use Rattle.ns_types.specs.Identity.{shard_of}
 use Rattle.ns_roster.specs.Network.{Network}
 use Rattle.ns_roster.specs.Valid.{IsRoster}
 use Rattle.ns_roster.proofs.DeviceLemmas.{shard_of_device}
@@ -13,10 +14,12 @@ use Rattle.ns_calls.specs.declared.call.Entry.{Entry}
 use Rattle.ns_calls.specs.Reply.{reply_to}
 use Rattle.ns_calls.specs.Out.{Sent, out, uplink_out, downlink_out, answer}
 use Rattle.ns_calls.specs.Shards.{shard_of_call, of_shard, IsMerge, AreOfTheirShard, NamesOwnDevice}
-use Rattle.ns_calls.specs.Legal.{IsLegal}
+use Rattle.ns_calls.specs.Legal.{IsLegal, IsHistory}
+use Rattle.ns_calls.specs.Queries.{first}
+use Rattle.ns_calls.specs.History.{Opening, open_windows, oldest}
 use Rattle.ns_calls.specs.Merges.{AreHistories, MergesAreLegal}
 use Rattle.ns_calls.proofs.MergeLemmas.{filter-merge, own_rest, slice_get-set_other}
-use Rattle.ns_calls.proofs.ShardLemmas.{Housed, AllHoused, InShard}
+use Rattle.ns_calls.proofs.ShardLemmas.{Housed, AllHoused, InShard, IsOwn, open_windows-mine}
 use Rattle.ns_calls.proofs.PartLemmas.{legal-housed, reply-own, out-own}
 
 split_at : (xs : List Entry) (n : ℕ) (e : Entry) → slice_get xs n ≡ Some e → xs ≡ take n xs ++ e ∷ drop (suc n) xs
@@ -134,6 +137,16 @@ merges_are_legal net valid lists all = merges_legal net (in_shards net valid) li
 
 pub replies_name_own_devices : (net : Network) → IsRoster net → (h : List Entry) → IsLegal net h → (n : ℕ) (e : Entry) → slice_get h n ≡ Some e → NamesOwnDevice e.call e.reply
 replies_name_own_devices net valid h legal n e at = at_place Housed h (legal-housed net (in_shards net valid) h legal) n e at
+
+first_own : (k : ℕ) (os : List Opening) → AllByRecursion (IsOwn k) os → IfSome (option_map (λ o. o.window) (first os)) (λ w. shard_of w.eui ≡ k)
+first_own k [] all = tt
+first_own k (o ∷ os) all = all.0
+
+-- the window of a shard that was opened first is of that shard
+pub oldest_own : (net : Network) → IsRoster net → (k : ℕ) (h : List Entry) → IsHistory net k h → IfSome (oldest h) (λ w. shard_of w.eui ≡ k)
+oldest_own net valid k h history =
+    let housed = legal-housed net (in_shards net valid) h history.legal in
+    first_own k (open_windows h) (open_windows-mine k h housed (by_place (λ e. shard_of_call e.call ≡ k) h history.own))
 
 pub a_shard_answers_alone : (net : Network) → IsRoster net → (h : List Entry) → IsLegal net h → (c : Call) → answer net (of_shard (shard_of_call c) h) c ≡ answer net h c
 a_shard_answers_alone net valid h legal c =

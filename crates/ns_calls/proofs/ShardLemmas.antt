@@ -140,6 +140,21 @@ open_windows-framed (e ∷ es) housed =
     let stays : Opening → Bool = λ o. not (list_any (λ x. closes o.window x) es) in
     All-append IsOfItsFrame (filter stays opened) (open_windows es) (All-filter IsOfItsFrame stays opened (opening-framed e.call e.reply housed.0)) (open_windows-framed es housed.1)
 
+-- the windows that the entries of one shard opened are of that shard
+abbrev pub IsOwn : ℕ → Opening → Type 0
+IsOwn k o = shard_of o.window.eui ≡ k
+
+opening-mine : (k : ℕ) (c : Call) (r : Reply) → NamesOwnDevice c r → shard_of_call c ≡ k → AllByRecursion (IsOwn k) (option_to_list (opening_in c r))
+opening-mine k (call.Uplink frame heard) (reply.Opened w) housed mine = (housed ∙ mine, tt)
+opening-mine k _ _ housed mine = tt
+
+pub open_windows-mine : (k : ℕ) (h : List Entry) → AllHoused h → AllByRecursion (λ e. shard_of_call e.call ≡ k) h → AllByRecursion (IsOwn k) (open_windows h)
+open_windows-mine k [] housed mine = tt
+open_windows-mine k (e ∷ es) housed mine =
+    let opened : List Opening = option_to_list (opening_in e.call e.reply) in
+    let stays : Opening → Bool = λ o. not (list_any (λ x. closes o.window x) es) in
+    All-append (IsOwn k) (filter stays opened) (open_windows es) (All-filter (IsOwn k) stays opened (opening-mine k e.call e.reply housed.0 mine.0)) (open_windows-mine k es housed.1 mine.1)
+
 abbrev pub shard_of_frame : List ℕ → ℕ
 shard_of_frame frame = shard_of_addr (record { 0 = (data_fields frame).addr })
 

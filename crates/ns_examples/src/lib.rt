@@ -4,7 +4,8 @@
 //! there. The answers were written down from the server's rules, or given by a model of the server that was written apart from
 //! it, and the frames were made by OpenSSL or in Python: none of it comes from this program. So whoever doubts a definition reads
 //! a run. `json_texts` does the same for the texts of rosters and join servers, `written_frames` for the frames that creators
-//! build. `runs_are_legal` says of all runs that they are legal histories, so what is promised of those holds of each run here.
+//! build. `runs_are_legal` says of each run from the roster on that it is a legal history, so what is promised of those holds of
+//! it; `last_counter` begins from entries that are given, and `first_window` is values of RX1.
 //!
 //! The crate has no code that an edit could spoil, and so no must-fail edits: each would compute all runs again.
 //!

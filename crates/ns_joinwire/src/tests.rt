@@ -1,6 +1,6 @@
 //! Join messages in full, answers with each fault, and memory that is really gone.
 
-use crate::{AnsFault, join_ans, join_req};
+use crate::{AnsFault, ResultCode, join_ans, join_req};
 use ns_roster::Roster;
 use ns_types::Ticket;
 use std::alloc::AllocError;
@@ -71,6 +71,23 @@ fn asked(rt: &HostRuntime, roster: &Roster) -> Result<Option<String>, AllocError
         return Ok(Some(join_req(rt.alloc(), roster, device, &J)?));
     }
     Ok(None)
+}
+
+#[test]
+fn faults_are_printed(rt: HostRuntime) -> Result<(), Fail> {
+    for (fault, wanted) in [
+        (AnsFault::NotJson, "A1"),
+        (AnsFault::Field, "A2"),
+        (AnsFault::AnotherMessage, "A3"),
+        (AnsFault::Refused(ResultCode::of("JoinReqFailed")), "A4"),
+        (AnsFault::NoJoinAccept, "A5"),
+        (AnsFault::NwkSKey, "A6"),
+        (AnsFault::NoMemory, "no memory"),
+    ] {
+        let text = format!(in rt.alloc(); "{fault}")?;
+        assert_eq!(rt; text.as_str(), wanted);
+    }
+    Ok(())
 }
 
 #[test]

@@ -1,8 +1,7 @@
 //! Memory that is really gone: each growth of a worked run is refused in turn.
 
-use crate::calls::call_of;
-use crate::tests::{F, H1, H2, J, JA, ROSTER_A, answer, heard_hex};
-use crate::{Shard, Step};
+use crate::Shard;
+use crate::tests::{F, H1, H2, J, JA, ROSTER_A, UNKNOWN, answer, call, heard_hex};
 use ns_calls::{Call, Entry, Reply, shard_of_call};
 use ns_roster::Roster;
 use ns_types::{DevAddr, DevEui, WindowName};
@@ -31,13 +30,6 @@ fn take_all(rt: &HostRuntime, held: &mut Vec<Vec<u8>>) -> Result<(), Fail> {
         }
     }
     Ok(())
-}
-
-// The call of a step.
-fn call(rt: &HostRuntime, step: &Step) -> Result<Call, Fail> {
-    let made = call_of(rt.alloc(), &step.act)?;
-    let call = made.ok().ok_or("the step makes no call")?;
-    Ok(call)
 }
 
 // Makes a call until it is answered with this reply, with one block of memory more given back before each time. How often memory was
@@ -144,7 +136,7 @@ fn each_growth_of_a_run_refused(rt: HostRuntime) -> Result<(), Fail> {
     // The first entry and the first window need memory.
     assert!(rt; refused[0] > 0);
     assert!(rt; refused[4] > 0);
-    let unknown = heard_hex(&rt, H1, "0004030201040302010e00000000000000010001000000")?;
+    let unknown = heard_hex(&rt, H1, UNKNOWN)?;
     let calls = [(call(&rt, &unknown)?, Reply::NoDevice)];
     let refused = refusals(&rt, &roster, 14, &calls)?;
     assert_eq!(rt; refused.len(), 1);

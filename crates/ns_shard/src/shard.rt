@@ -2,6 +2,7 @@
 
 ghost use Rattle.std.specs.Prelude.{◌≡◌, ◌<◌, ◌%◌, length, IfOk, IfSome, OnOk, OnErr};
 ghost use Rattle.std.specs.Arc.{arc_value};
+ghost use Rattle.ns_types.specs.Identity.{shard_of};
 ghost use Rattle.ns_calls.specs.Shards.{shard_of_call};
 ghost use Rattle.ns_calls.specs.Out.{answer};
 ghost use Rattle.ns_calls.specs.History.{oldest};
@@ -95,9 +96,10 @@ impl Shard {
         self.parts.journal.made()
     }
 
-    /// The name of the open window that was opened first.
+    /// The name of the open window that was opened first. Its device is of this shard, and so is a call that closes it.
     pub fn oldest(&self) -> Option<WindowName>
-        ensures { result ≡ oldest self.now.entries }
+        ensures oldest { result ≡ oldest self.now.entries }
+        ensures own { IfSome result (λ w. shard_of w.eui ≡ self.now.index) }
     {
         self.parts.windows.oldest()
     }

@@ -1,7 +1,8 @@
 //! A recorded run, and windows and sessions of one device.
 
-use crate::{Act, DatagramBytes, OwnedBytes, Shards, Step, Taken};
-use ns_calls::lines;
+use crate::calls::call_of;
+use crate::{Act, DatagramBytes, OwnedBytes, Shard, Shards, Step, Taken};
+use ns_calls::{Call, Reply, lines, reply_to_join, shard_of_call};
 use ns_creator::{DataCreator, Keys};
 use ns_roster::Roster;
 use ns_secure::Dir;
@@ -37,6 +38,9 @@ pub const H1: &str = "010100000000000000a100000000000f424033be27a005fc4a004b";
 pub const H2: &str = "010100000000000000a200000000000f462833be27a005fc180050";
 
 pub const J: &str = "0004030201040302010d00000000000000010001000000";
+
+/// A Join-Request of a device that is not in the roster.
+pub const UNKNOWN: &str = "0004030201040302010e00000000000000010001000000";
 
 const J_2: &str = "0004030201040302010d00000000000000020002000000";
 
@@ -124,6 +128,40 @@ fn uplink(
     }
 }
 
+// The call of a step.
+pub fn call(rt: &HostRuntime, step: &Step) -> Result<Call, Fail> {
+    let made = call_of(rt.alloc(), &step.act)?;
+    let call = made.ok().ok_or("the step makes no call")?;
+    Ok(call)
+}
+
+// The lines of the answer to a call of this shard, each with a line feed. A Join-Request is also answered by the plain server, which
+// searches the entries, and with the same reply.
+fn applied(
+    rt: &HostRuntime,
+    roster: &Roster,
+    shard: &mut Shard,
+    call: Call,
+) -> Result<String, Fail> {
+    if shard_of_call(&call) != shard.index() {
+        return Err("a call of another shard")?;
+    }
+    let plain = match &call {
+        Call::Join { ticket, .. } => Some(reply_to_join(roster, shard.entries(), ticket)),
+        _ => None,
+    };
+    let answer = shard.apply(call)?;
+    if plain.is_some() && plain != Some(answer.reply) {
+        return Err("the plain server replies otherwise")?;
+    }
+    let mut text = String::new(rt.alloc());
+    for line in &lines(&answer) {
+        text.push_str(line.as_str())?;
+        text.push_str("\n")?;
+    }
+    Ok(text)
+}
+
 // The lines of a run's answers, each with a line feed.
 fn run(rt: &HostRuntime, steps: &Vec<Step>) -> Result<String, Fail> {
     let roster = Roster::read(rt.alloc(), ROSTER_A.as_bytes())?;
@@ -144,20 +182,23 @@ fn run(rt: &HostRuntime, steps: &Vec<Step>) -> Result<String, Fail> {
     Ok(text)
 }
 
-#[test]
-fn a_join_and_an_uplink(rt: HostRuntime) -> Result<(), Fail> {
+// A join that two gateways hear, one of an unknown device, and an uplink that two gateways hear.
+fn worked_steps(rt: &HostRuntime) -> Result<Vec<Step>, Fail> {
     let mut steps = Vec::new(rt.alloc());
-    steps.push(heard_hex(&rt, H1, J)?)?;
-    steps.push(heard_hex(&rt, H2, J)?)?;
-    steps.push(heard_hex(&rt, H1, "0004030201040302010e00000000000000010001000000")?)?;
-    steps.push(answer(&rt, J, JA)?)?;
-    steps.push(answer(&rt, J, JA)?)?;
-    steps.push(heard_hex(&rt, H1, F)?)?;
-    steps.push(heard_hex(&rt, H2, F)?)?;
+    steps.push(heard_hex(rt, H1, J)?)?;
+    steps.push(heard_hex(rt, H2, J)?)?;
+    steps.push(heard_hex(rt, H1, UNKNOWN)?)?;
+    steps.push(answer(rt, J, JA)?)?;
+    steps.push(answer(rt, J, JA)?)?;
+    steps.push(heard_hex(rt, H1, F)?)?;
+    steps.push(heard_hex(rt, H2, F)?)?;
     steps.push(close(1, 2))?;
     steps.push(close(1, 2))?;
-    steps.push(heard_hex(&rt, H1, F)?)?;
-    let want = "ask 0004030201040302010d00000000000000010001000000
+    steps.push(heard_hex(rt, H1, F)?)?;
+    Ok(steps)
+}
+
+const WORKED_LINES: &str = "ask 0004030201040302010d00000000000000010001000000
 joincopied 2
 nodevice
 accepted 000000000000000d 1 49be7df1
@@ -170,7 +211,111 @@ up 000000000000000d 1 2 1 plain - 74657374 2 00000000000000a1,00000000000000a2
 nowindow
 old 000000000000000d 1 2
 ";
-    assert_eq!(rt; run(&rt, &steps)?.as_str(), want);
+
+#[test]
+fn a_join_and_an_uplink(rt: HostRuntime) -> Result<(), Fail> {
+    assert_eq!(rt; run(&rt, &worked_steps(&rt)?)?.as_str(), WORKED_LINES);
+    Ok(())
+}
+
+// The same by single calls of the two shards that they reach.
+#[test]
+fn the_same_by_single_calls(rt: HostRuntime) -> Result<(), Fail> {
+    let roster = Arc::new(rt.alloc(), Roster::read(rt.alloc(), ROSTER_A.as_bytes())?)?;
+    let mut known = Shard::new(rt.alloc(), roster.clone()?, 13)?;
+    let mut unknown = Shard::new(rt.alloc(), roster.clone()?, 14)?;
+    let mut text = String::new(rt.alloc());
+    for step in &worked_steps(&rt)? {
+        let call = call(&rt, step)?;
+        let answered = if shard_of_call(&call) == 14 {
+            applied(&rt, &roster, &mut unknown, call)?
+        } else {
+            applied(&rt, &roster, &mut known, call)?
+        };
+        text.push_str(answered.as_str())?;
+    }
+    assert_eq!(rt; text.as_str(), WORKED_LINES);
+    assert_eq!(rt; known.entries().len(), 9);
+    assert_eq!(rt; unknown.entries().len(), 1);
+    Ok(())
+}
+
+// Five Join-Requests of one device, the first heard by 17 gateways: sixteen copies and four tickets at most. Each reply is the plain
+// server's too.
+#[test]
+fn limits_of_joins(rt: HostRuntime) -> Result<(), Fail> {
+    let roster = Arc::new(rt.alloc(), Roster::read(rt.alloc(), ROSTER_A.as_bytes())?)?;
+    let mut shard = Shard::new(rt.alloc(), roster.clone()?, 13)?;
+    for _ in 0..16u32 {
+        applied(
+            &rt,
+            &roster,
+            &mut shard,
+            call(&rt, &heard_hex(&rt, H1, J)?)?,
+        )?;
+    }
+    let crowded = applied(
+        &rt,
+        &roster,
+        &mut shard,
+        call(&rt, &heard_hex(&rt, H2, J)?)?,
+    )?;
+    assert_eq!(rt; crowded.as_str(), "joincrowded\n");
+    for nonce in 2..6u32 {
+        let request = format!(in rt.alloc();
+            "0004030201040302010d00000000000000{nonce:02x}0000000000"
+        )?;
+        let text = applied(
+            &rt,
+            &roster,
+            &mut shard,
+            call(&rt, &heard_hex(&rt, H1, request.as_str())?)?,
+        )?;
+        assert_eq!(rt; text.as_str() == "joinbusy\n", nonce == 5);
+    }
+    Ok(())
+}
+
+// The least counter of a session of which the low 16 bits are ffff, and each next one, to the greatest of all. Each window is closed.
+#[test]
+fn the_last_counter(rt: HostRuntime) -> Result<(), Fail> {
+    let roster = Arc::new(rt.alloc(), Roster::read(rt.alloc(), ROSTER_A.as_bytes())?)?;
+    let mut shard = Shard::new(rt.alloc(), roster.clone()?, 13)?;
+    applied(
+        &rt,
+        &roster,
+        &mut shard,
+        call(&rt, &heard_hex(&rt, H1, J)?)?,
+    )?;
+    applied(&rt, &roster, &mut shard, call(&rt, &answer(&rt, J, JA)?)?)?;
+    for high in 0..65_536u32 {
+        let counter = high << 16 | 0xffff;
+        let opened = call(&rt, &uplink(&rt, NWK_1, APP_1, counter, false)?)?;
+        let closing = call(&rt, &close(1, counter))?;
+        if shard_of_call(&opened) != shard.index() || shard_of_call(&closing) != shard.index() {
+            return Err("a call of another shard")?;
+        }
+        let window = WindowName {
+            eui: DevEui(13),
+            session: 1,
+            fcnt: counter,
+        };
+        let answer = shard.apply(opened)?;
+        assert!(rt; answer.reply == Reply::Opened { window });
+        if shard_of_call(&closing) != shard.index() {
+            return Err("a call of another shard")?;
+        }
+        let closed = shard.apply(closing)?;
+        assert!(rt; closed.reply == Reply::Closed { window, ack: None });
+    }
+    let again = call(&rt, &uplink(&rt, NWK_1, APP_1, u32::MAX, false)?)?;
+    let old = applied(&rt, &roster, &mut shard, again)?;
+    assert_eq!(rt; old.as_str(), "old 000000000000000d 1 4294967295\n");
+    let first = call(&rt, &uplink(&rt, NWK_1, APP_1, 0, false)?)?;
+    assert_eq!(rt;
+        applied(&rt, &roster, &mut shard, first)?.as_str(),
+        "nosession\n"
+    );
     Ok(())
 }
 
@@ -218,6 +363,7 @@ fn limits(rt: HostRuntime) -> Result<(), Fail> {
     for _ in 0..16u32 {
         steps.push(uplink(&rt, NWK_1, APP_1, 8, false)?)?;
     }
+    steps.push(close(1, 8))?;
     let text = run(&rt, &steps)?;
     assert!(rt;
         text.as_str().contains(
@@ -228,7 +374,16 @@ fn limits(rt: HostRuntime) -> Result<(), Fail> {
         text.as_str().contains("opened 000000000000000d 1 8\ncopied 000000000000000d 1 8 2\n")
     );
     assert!(rt;
-        text.as_str().ends_with("copied 000000000000000d 1 8 16\ncrowded 000000000000000d 1 8\n")
+        text.as_str().contains("copied 000000000000000d 1 8 16\ncrowded 000000000000000d 1 8\n")
     );
+    let mut up = String::new(rt.alloc());
+    up.push_str(
+        "closed 000000000000000d 1 8 -\nup 000000000000000d 1 8 1 plain - 55 16 00000000000000a1",
+    )?;
+    for _ in 0..15u32 {
+        up.push_str(",00000000000000a1")?;
+    }
+    up.push_str("\n")?;
+    assert!(rt; text.as_str().ends_with(up.as_str()));
     Ok(())
 }
