@@ -153,7 +153,7 @@ fn many_lines(rt: HostRuntime) -> Result<(), Fail> {
         } else {
             assert_eq!(rt; outcome, Ok(()));
             assert_eq!(rt; writer.written().len(), lines.len());
-            ended += 1;
+            ended = ended.wrapping_add(1);
         }
         assert!(rt; lines.starts_with(writer.written()));
     }
