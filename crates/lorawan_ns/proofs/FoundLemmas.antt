@@ -1,5 +1,5 @@
 -- What is found of a text, as its blocks come.
-use Rattle.std.proofs.Common.{◌≡◌, ℕ, ◌<◌, false, List, [], ◌∷◌, ◌++◌, length, Option, refl, sym, ap, ◌∙◌, subst, append_assoc, arith, eqb}
+use Rattle.std.proofs.Common.{◌≡◌, ℕ, ◌<◌, false, List, [], ◌∷◌, ◌++◌, length, Option, sym, ap, ◌∙◌, subst, append_assoc, arith, eqb}
 use Rattle.std.specs.Prelude.{map}
 use Rattle.std.proofs.lemmas.List.{map-append, append-nil}
 use Rattle.std.proofs.lemmas.List.Elements.{All-append, filter_map-append}
@@ -20,9 +20,6 @@ has_more found new lines more has told marked = (
 
 nowhere : Unended []
 nowhere k d within = absurd (omega (arith, within))
-
-pub found_none : (found : StepLines) → found.steps.items ≡ [] → found.are_steps.items ≡ [] → FoundIn found [] []
-found_none found none unmarked = (nowhere, ([], (none, unmarked), λ more. refl))
 
 -- a line that ends
 pub found_line : (found new : StepLines) (line part text : List ℕ) → FoundIn found line text → Unended part

@@ -1,5 +1,5 @@
 -- Every merge of the shards' histories is a history of the plain server.
-use Rattle.std.proofs.Common.{◌≡◌, ℕ, zero, suc, ◌==◌, Bool, true, false, cond, List, [], ◌∷◌, ◌++◌, length, take, drop, Option, option_map, Some, IfSome, slice_get, slice_set, refl, ap, sym, ◌∙◌, subst, arith}
+use Rattle.std.proofs.Common.{◌≡◌, ℕ, zero, suc, ◌==◌, Bool, true, false, cond, List, [], ◌∷◌, ◌++◌, length, take, drop, option_map, Some, IfSome, slice_get, slice_set, refl, ap, sym, ◌∙◌, subst, arith}
 use Rattle.std.specs.List.{AllByRecursion, Contains}
 use Rattle.std.proofs.lemmas.List.Elements.{filter-append}
 use Rattle.std.proofs.lemmas.Bool.Decides.{nat_tests}
@@ -145,8 +145,8 @@ first_own k (o ∷ os) all = all.0
 -- the window of a shard that was opened first is of that shard
 pub oldest_own : (net : Network) → IsRoster net → (k : ℕ) (h : List Entry) → IsHistory net k h → IfSome (oldest h) (λ w. shard_of w.eui ≡ k)
 oldest_own net valid k h history =
-    let housed = legal-housed net (in_shards net valid) h history.legal in
-    first_own k (open_windows h) (open_windows-mine k h housed (by_place (λ e. shard_of_call e.call ≡ k) h history.own))
+    let mine : (n : ℕ) (e : Entry) → slice_get h n ≡ Some e → Housed e × (shard_of_call e.call ≡ k) = λ n e at. (replies_name_own_devices net valid h history.legal n e at, history.own n e at) in
+    first_own k (open_windows h) (open_windows-mine k h (by_place (λ e. Housed e × (shard_of_call e.call ≡ k)) h mine))
 
 pub a_shard_answers_alone : (net : Network) → IsRoster net → (h : List Entry) → IsLegal net h → (c : Call) → answer net (of_shard (shard_of_call c) h) c ≡ answer net h c
 a_shard_answers_alone net valid h legal c =

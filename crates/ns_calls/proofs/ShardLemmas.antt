@@ -125,6 +125,18 @@ open_window-own k w mine h housed =
     let Own = λ (o : Opening). test o ≡ true → own_window k o.window ≡ true in
     found-own k h housed test (All-each Own (named-own k w mine) (open_windows (of_shard k h))) (All-each Own (named-own k w mine) (open_windows h))
 
+-- the window that an entry opens, where it opens one
+abbrev pub Opens : (Opening → Type 0) → Entry → Type 0
+Opens P e = AllByRecursion P (option_to_list (opening_in e.call e.reply))
+
+-- what holds of each window that is opened holds of each open one
+pub open_windows-all : (P : Opening → Type 0) (h : List Entry) → AllByRecursion (Opens P) h → AllByRecursion P (open_windows h)
+open_windows-all P [] all = tt
+open_windows-all P (e ∷ es) all =
+    let opened : List Opening = option_to_list (opening_in e.call e.reply) in
+    let stays : Opening → Bool = λ o. not (list_any (λ x. closes o.window x) es) in
+    All-append P (filter stays opened) (open_windows es) (All-filter P stays opened all.0) (open_windows-all P es all.1)
+
 -- the device of an open window is of the shard of its frame's address
 abbrev pub IsOfItsFrame : Opening → Type 0
 IsOfItsFrame o = shard_of o.window.eui ≡ shard_of_addr (record { 0 = (data_fields o.frame).addr })
@@ -134,11 +146,7 @@ opening-framed (call.Uplink frame heard) (reply.Opened w) housed = (housed, tt)
 opening-framed _ _ housed = tt
 
 pub open_windows-framed : (h : List Entry) → AllHoused h → AllByRecursion IsOfItsFrame (open_windows h)
-open_windows-framed [] housed = tt
-open_windows-framed (e ∷ es) housed =
-    let opened : List Opening = option_to_list (opening_in e.call e.reply) in
-    let stays : Opening → Bool = λ o. not (list_any (λ x. closes o.window x) es) in
-    All-append IsOfItsFrame (filter stays opened) (open_windows es) (All-filter IsOfItsFrame stays opened (opening-framed e.call e.reply housed.0)) (open_windows-framed es housed.1)
+open_windows-framed h housed = open_windows-all IsOfItsFrame h (All-weaker Housed (Opens IsOfItsFrame) (λ e. opening-framed e.call e.reply) h housed)
 
 -- the windows that the entries of one shard opened are of that shard
 abbrev pub IsOwn : ℕ → Opening → Type 0
@@ -148,12 +156,8 @@ opening-mine : (k : ℕ) (c : Call) (r : Reply) → NamesOwnDevice c r → shard
 opening-mine k (call.Uplink frame heard) (reply.Opened w) housed mine = (housed ∙ mine, tt)
 opening-mine k _ _ housed mine = tt
 
-pub open_windows-mine : (k : ℕ) (h : List Entry) → AllHoused h → AllByRecursion (λ e. shard_of_call e.call ≡ k) h → AllByRecursion (IsOwn k) (open_windows h)
-open_windows-mine k [] housed mine = tt
-open_windows-mine k (e ∷ es) housed mine =
-    let opened : List Opening = option_to_list (opening_in e.call e.reply) in
-    let stays : Opening → Bool = λ o. not (list_any (λ x. closes o.window x) es) in
-    All-append (IsOwn k) (filter stays opened) (open_windows es) (All-filter (IsOwn k) stays opened (opening-mine k e.call e.reply housed.0 mine.0)) (open_windows-mine k es housed.1 mine.1)
+pub open_windows-mine : (k : ℕ) (h : List Entry) → AllByRecursion (λ e. Housed e × (shard_of_call e.call ≡ k)) h → AllByRecursion (IsOwn k) (open_windows h)
+open_windows-mine k h mine = open_windows-all (IsOwn k) h (All-weaker (λ e. Housed e × (shard_of_call e.call ≡ k)) (Opens (IsOwn k)) (λ e own. opening-mine k e.call e.reply own.0 own.1) h mine)
 
 abbrev pub shard_of_frame : List ℕ → ℕ
 shard_of_frame frame = shard_of_addr (record { 0 = (data_fields frame).addr })
