@@ -1,0 +1,219 @@
+#!/usr/bin/env python3
+"""A small join server by the profile of docs/FORMATS.md, to try `lorawan_ns serve` with.
+
+    join_server.py KEYS [--listen ADDR] [--record FILE] [--first-nonce N] [--seconds SECONDS]
+
+    KEYS                a file with a device a line: its DevEUI in 16 and its AppKey in 32 hex digits; # begins a comment
+    --listen ADDR       TCP, host:port (default 127.0.0.1:8080); it prints `listening ADDR` once it listens
+    --record FILE       appends each answer to FILE as a line that recorded_to_steps.py reads. It holds session keys
+    --first-nonce N     JoinNonce of the first Join-Accept, 1 (the default) to 16777215; it rises by one with each
+    --seconds SECONDS   ends after this time (default 0: never)
+
+It answers each JoinReq that is POSTed to it: `Success` with the Join-Accept and the session keys in clear, `MICFailed`
+where the Join-Request's MIC does not fit, `Other` for a device that it does not know; a text that is no JoinReq gets
+status 400. Formulas: LoRaWAN L2 1.0.4, section 6.2; AES and CMAC are those of the package `cryptography`
+(`apt-get install python3-cryptography`). It is for trials: it keeps no DevNonces and no state on disk, so after a
+restart its JoinNonces begin again, and it speaks plain HTTP and wraps no keys, so let it be reached from its own
+machine only. The interrupt and termination signals end it with status 0.
+"""
+import argparse
+import http.server
+import json
+import re
+import signal
+import sys
+import threading
+import time
+
+from cryptography.hazmat.primitives.ciphers import Cipher, algorithms, modes
+from cryptography.hazmat.primitives.cmac import CMAC
+
+MOST_BODY, LAST_NONCE = 65536, 0xFFFFFF
+
+
+def encrypted(key, blocks):
+    """AES-128 encrypt of each block (FIPS 197)."""
+    cipher = Cipher(algorithms.AES(key), modes.ECB()).encryptor()
+    return cipher.update(blocks) + cipher.finalize()
+
+
+def decrypted(key, blocks):
+    """AES-128 decrypt of each block, by which a Join-Accept is enciphered."""
+    cipher = Cipher(algorithms.AES(key), modes.ECB()).decryptor()
+    return cipher.update(blocks) + cipher.finalize()
+
+
+def mic(key, message):
+    """The first four bytes of the CMAC (RFC 4493)."""
+    code = CMAC(algorithms.AES(key))
+    code.update(message)
+    return code.finalize()[:4]
+
+
+# ---------------------------------------------------------------- JoinReq
+
+class NoJoinReq(Exception):
+    """The text is no JoinReq; it holds why."""
+
+
+def hex_field(value, size):
+    if not isinstance(value, str) or not re.fullmatch('(0x)?[0-9a-fA-F]{%d}' % (2 * size), value):
+        raise NoJoinReq('hex of %d bytes is wanted, not %.60r' % (size, value))
+    return bytes.fromhex(value[-2 * size:])
+
+
+def whole_field(value, most):
+    if not isinstance(value, int) or isinstance(value, bool) or not 0 <= value <= most:
+        raise NoJoinReq('a whole number up to %d is wanted, not %.60r' % (most, value))
+    return value
+
+
+class JoinReq:
+    """The fields of a JoinReq that an answer needs. Raises NoJoinReq."""
+
+    def __init__(self, text):
+        try:
+            value = json.loads(text)
+        except (ValueError, RecursionError) as why:
+            raise NoJoinReq('no JSON: %.80s' % why) from None
+        if not isinstance(value, dict) or value.get('MessageType') != 'JoinReq':
+            raise NoJoinReq('no object of MessageType JoinReq')
+        self.net_id = hex_field(value.get('SenderID'), 3)
+        self.address = hex_field(value.get('DevAddr'), 4)
+        self.settings = hex_field(value.get('DLSettings'), 1)
+        self.delay = whole_field(value.get('RxDelay'), 15)
+        self.transaction = whole_field(value.get('TransactionID'), 0xFFFFFFFF)
+        self.ticket = hex_field(value.get('PHYPayload'), 23)
+        if self.ticket[0] & 0xE3:
+            raise NoJoinReq('PHYPayload is no Join-Request of LoRaWAN R1')
+        self.eui, self.nonce = self.ticket[9:17][::-1], self.ticket[17:19]
+
+
+# ---------------------------------------------------------------- JoinAns
+
+def granted(request, key, join_nonce):
+    """The Join-Accept and the session keys NwkSKey and AppSKey of a JoinNonce."""
+    nonce = join_nonce.to_bytes(3, 'little')
+    fields = nonce + request.net_id[::-1] + request.address[::-1] + request.settings + bytes([request.delay])
+    accept = b'\x20' + decrypted(key, fields + mic(key, b'\x20' + fields))
+    front = nonce + request.net_id[::-1] + request.nonce + bytes(7)
+    return accept, encrypted(key, b'\x01' + front), encrypted(key, b'\x02' + front)
+
+
+class JoinServer:
+    """Answers JoinReqs. The AppKeys are 16 bytes by the DevEUI's 8; its calls may come from several threads."""
+
+    def __init__(self, keys, first_nonce=1, record=None):
+        self.keys, self.next_nonce, self.record, self.lock = keys, first_nonce, record, threading.Lock()
+
+    def take_nonce(self):
+        nonce = self.next_nonce
+        self.next_nonce = 1 if nonce == LAST_NONCE else nonce + 1
+        return nonce
+
+    def answer(self, text):
+        """The JoinAns to a JoinReq's text. Raises NoJoinReq."""
+        request = JoinReq(text)
+        answer = {'MessageType': 'JoinAns', 'Result': {'ResultCode': 'Other'}, 'TransactionID': request.transaction}
+        with self.lock:
+            key = self.keys.get(request.eui)
+            if key is not None and mic(key, request.ticket[:19]) != request.ticket[19:]:
+                answer['Result']['ResultCode'] = 'MICFailed'
+            elif key is not None:
+                accept, nwk, app = granted(request, key, self.take_nonce())
+                answer['Result']['ResultCode'] = 'Success'
+                answer['PHYPayload'] = accept.hex()
+                answer['NwkSKey'] = {'AESKey': nwk.hex(), 'KEKLabel': ''}
+                answer['AppSKey'] = {'AESKey': app.hex(), 'KEKLabel': ''}
+            told = json.dumps(answer, separators=(',', ':'), sort_keys=True)
+            if self.record:
+                line = {'ticket': request.ticket.hex(), 'time': time.time(), 'answer': told}
+                self.record.write(json.dumps(line, separators=(',', ':')) + '\n')
+                self.record.flush()
+        return told
+
+
+def keys_of(text):
+    """The AppKeys that a file of keys holds, by DevEUI. Raises ValueError."""
+    keys = {}
+    for number, line in enumerate(text.splitlines(), 1):
+        words = line.partition('#')[0].split()
+        if not words:
+            continue
+        if len(words) != 2 or not re.fullmatch('[0-9a-fA-F]{16} [0-9a-fA-F]{32}', ' '.join(words)):
+            raise ValueError('line %d: no DevEUI and AppKey' % number)
+        keys[bytes.fromhex(words[0])] = bytes.fromhex(words[1])
+    return keys
+
+
+# ---------------------------------------------------------------- HTTP
+
+class Handler(http.server.BaseHTTPRequestHandler):
+    """One exchange. A connection that is silent for ten seconds is closed."""
+    timeout = 10
+    join_server = None
+
+    def do_POST(self):
+        length = self.headers.get('Content-Length', '')
+        if not re.fullmatch('[0-9]{1,6}', length) or int(length) > MOST_BODY:
+            self.send_error(400, 'A Content-Length up to %d is wanted' % MOST_BODY)
+            return
+        try:
+            told = self.join_server.answer(self.rfile.read(int(length))).encode()
+        except NoJoinReq as why:
+            self.log_message('no JoinReq: %s', why)
+            self.send_error(400, 'No JoinReq')
+            return
+        self.send_response(200)
+        self.send_header('Content-Type', 'application/json')
+        self.send_header('Content-Length', str(len(told)))
+        self.end_headers()
+        self.wfile.write(told)
+
+
+class Listener(http.server.ThreadingHTTPServer):
+    daemon_threads = True
+    request_queue_size = 128
+
+    def handle_error(self, request, client_address):
+        print('%s:%d: %s' % (*client_address[:2], sys.exc_info()[1]), file=sys.stderr)
+
+
+def listener(where, join_server):
+    """A listener at an address that answers by a join server; `serve_forever` runs it."""
+    return Listener(where, type('Answers', (Handler,), {'join_server': join_server}))
+
+
+def main(words):
+    parser = argparse.ArgumentParser(description=__doc__, formatter_class=argparse.RawDescriptionHelpFormatter)
+    parser.add_argument('keys', metavar='KEYS')
+    parser.add_argument('--listen', default='127.0.0.1:8080', metavar='ADDR')
+    parser.add_argument('--record', metavar='FILE')
+    parser.add_argument('--first-nonce', type=int, default=1, metavar='N')
+    parser.add_argument('--seconds', type=float, default=0, metavar='SECONDS')
+    options = parser.parse_args(words)
+    host, _, port = options.listen.rpartition(':')
+    if not re.fullmatch('[0-9]{1,5}', port) or not 1 <= options.first_nonce <= LAST_NONCE:
+        parser.error('--listen wants host:port, --first-nonce 1 to %d' % LAST_NONCE)
+    try:
+        with open(options.keys, encoding='utf-8') as file:
+            keys = keys_of(file.read())
+    except (OSError, ValueError) as why:
+        print('keys: %s' % why, file=sys.stderr)
+        return 1
+    record = open(options.record, 'a', encoding='utf-8') if options.record else None
+    with listener((host, int(port)), JoinServer(keys, options.first_nonce, record)) as server:
+        stop = lambda *_: threading.Thread(target=server.shutdown).start()
+        for name in (signal.SIGINT, signal.SIGTERM):
+            signal.signal(name, stop)
+        if options.seconds > 0:
+            timer = threading.Timer(options.seconds, server.shutdown)
+            timer.daemon = True
+            timer.start()
+        print('listening %s:%d' % server.server_address[:2], flush=True)
+        server.serve_forever(0.2)
+    return 0
+
+
+if __name__ == '__main__':
+    sys.exit(main(sys.argv[1:]))

@@ -1,0 +1,179 @@
+"""Tests of join_server.py. Its answers are read by `lorawan_ns replay` where the program is built."""
+import json
+import os
+import socket
+import tempfile
+import unittest
+from concurrent.futures import ThreadPoolExecutor
+
+from device import Device, WrongAccept
+from live import (APP_KEY, HAS_PROGRAM, JOIN_EUI, PROGRAM, SLOT, ended, join_req, posted, replayed, roster_of, started)
+
+import join_server
+
+# A JoinReq and its answers, whose Join-Accepts and keys OpenSSL made: the vectors of crates/ns_device.
+ASKED_1 = ('{"DLSettings":"00","DevAddr":"49be7df1","DevEUI":"000000000000000d","MACVersion":"1.0.4","MessageType":"JoinReq",'
+           '"PHYPayload":"0004030201040302010d000000000000000100e4b6745f","ProtocolVersion":"1.0",'
+           '"ReceiverID":"0102030401020304","RxDelay":1,"SenderID":"000024","TransactionID":1601484516}')
+ANSWER_1 = ('{"AppSKey":{"AESKey":"bda9a196bb8f7c8044b037573f655db5","KEKLabel":""},"MessageType":"JoinAns",'
+            '"NwkSKey":{"AESKey":"de0e31622b33aa13c060015c1841a5bb","KEKLabel":""},'
+            '"PHYPayload":"20f29be7bd62a276adbe0e897f76e8564b","Result":{"ResultCode":"Success"},"TransactionID":1601484516}')
+ANSWER_LAST = ('{"AppSKey":{"AESKey":"24f778b764d503d3608b54dce496938b","KEKLabel":""},"MessageType":"JoinAns",'
+               '"NwkSKey":{"AESKey":"42db986dffdfff7cd5c6f86e852e4730","KEKLabel":""},'
+               '"PHYPayload":"2084776561dbcdfbe1614e518ea15a45bd","Result":{"ResultCode":"Success"},'
+               '"TransactionID":1601484516}')
+ASKED_2 = ('{"SenderID":"0x000024", "TransactionID":2504063376, "RxDelay":1, '
+           '"PHYPayload":"0004030201040302010D00000000000000020090F94095", "MessageType":"JoinReq", "DLSettings":"00", '
+           '"DevAddr":"49BE7DF1"}')
+ANSWER_2 = ('{"AppSKey":{"AESKey":"d97e04e3afe3c1bfbb51d14ad293ee11","KEKLabel":""},"MessageType":"JoinAns",'
+            '"NwkSKey":{"AESKey":"36add0c6e7a82f0b5a5cb0e7abd15ae3","KEKLabel":""},'
+            '"PHYPayload":"2018470b8caac79dae29e4a2129a6cad50","Result":{"ResultCode":"Success"},"TransactionID":2504063376}')
+REFUSED = '{"MessageType":"JoinAns","Result":{"ResultCode":"%s"},"TransactionID":1601484516}'
+KEYS = {(13).to_bytes(8, 'big'): APP_KEY}
+
+
+class Answers(unittest.TestCase):
+    def test_known_bytes(self):
+        server = join_server.JoinServer(KEYS)
+        self.assertEqual(server.answer(ASKED_1), ANSWER_1)
+        self.assertEqual(server.answer(ASKED_2), ANSWER_2)
+
+    def test_last_nonce(self):
+        server = join_server.JoinServer(KEYS, first_nonce=0xFFFFFF)
+        self.assertEqual(server.answer(ASKED_1), ANSWER_LAST)
+        self.assertEqual(server.answer(ASKED_1), ANSWER_1)
+
+    def test_refusals_take_no_nonce(self):
+        server = join_server.JoinServer(KEYS)
+        for old, new, code in (('e4b6745f', 'e4b6745e', 'MICFailed'), ('0100e4b6745f', '0101e4b6745f', 'MICFailed'),
+                               ('010d00', '010e00', 'Other')):
+            self.assertEqual(server.answer(ASKED_1.replace(old, new)), REFUSED % code)
+        self.assertEqual(server.answer(ASKED_1), ANSWER_1)
+        other = join_server.JoinServer({(13).to_bytes(8, 'big'): bytes(16)})
+        self.assertEqual(other.answer(ASKED_1), REFUSED % 'MICFailed')
+
+    def test_no_join_req(self):
+        server = join_server.JoinServer(KEYS)
+        for old, new in (('"JoinReq"', '"JoinAns"'), ('"MessageType":', '"Type":'), (':"0004', ':"2004'),
+                         (':"0004', ':"0104'), (':"0004', ':"04'), (':"000024"', ':"24"'), (':"49be7df1"', ':"be7df1"'),
+                         (':"49be7df1"', ':1237220849'), (':"00","DevAddr"', ':"000","DevAddr"'),
+                         ('"RxDelay":1,', '"RxDelay":16,'), ('"RxDelay":1,', '"RxDelay":"1",'),
+                         (':1601484516', ':4294967296'), (':1601484516', ':1.5'), (':1601484516', ':null'),
+                         (':1601484516', ':true')):
+            self.assertIn(old, ASKED_1)
+            with self.subTest(new=new), self.assertRaises(join_server.NoJoinReq):
+                server.answer(ASKED_1.replace(old, new, 1))
+        for text in (b'\xff', b'', b'[]', b'{}', b'[' * 100_000):
+            with self.assertRaises(join_server.NoJoinReq):
+                server.answer(text)
+
+    def test_keys(self):
+        self.assertEqual(join_server.keys_of('# a comment\n\n000000000000000D ' + APP_KEY.hex() + ' # d\n'), KEYS)
+        for text in ('0d ' + APP_KEY.hex(), '000000000000000d', '000000000000000d 00', 'x'):
+            with self.assertRaisesRegex(ValueError, 'line 1'):
+                join_server.keys_of(text)
+
+
+class Over(unittest.TestCase):
+    """The join server as a program of its own, asked over HTTP on loopback."""
+
+    def setUp(self):
+        self.folder = tempfile.TemporaryDirectory()
+        keys = os.path.join(self.folder.name, 'keys')
+        with open(keys, 'w', encoding='utf-8') as file:
+            file.writelines('%016x %s\n' % (eui, APP_KEY.hex()) for eui in range(1, 17))
+        self.record = os.path.join(self.folder.name, 'record')
+        self.child, self.where = started([keys, '--listen', '127.0.0.1:0', '--record', self.record, '--seconds', '120'],
+                                         'join_server.py')
+
+    def tearDown(self):
+        if self.child.poll() is None:
+            self.child.kill()
+            self.child.communicate()
+        self.folder.cleanup()
+
+    def test_exchange(self):
+        self.assertEqual(posted(self.where, ASKED_1), (200, ANSWER_1.encode()))
+        self.assertEqual(posted(self.where, '{}')[0], 400)
+        self.assertEqual(posted(self.where, 'x' * 65537)[0], 400)
+        with open(self.record, encoding='utf-8') as file:
+            line, = map(json.loads, file)
+        self.assertEqual((line['ticket'], line['answer']), ('0004030201040302010d000000000000000100e4b6745f', ANSWER_1))
+        self.assertEqual(ended(self.child)[0], 0)
+
+    def test_odd_clients(self):
+        """A client that is silent, one that ends early and one that is no client of HTTP stop nobody."""
+        silent = socket.create_connection(self.where)
+        for text in (b'POST / HTTP/1.1\r\nContent-Length: 100\r\n\r\n{', b'\x00\xff\r\n\r\n', b'GET / HTTP/1.1\r\n\r\n', b''):
+            with socket.create_connection(self.where) as client:
+                client.sendall(text)
+        self.assertEqual(posted(self.where, ASKED_1), (200, ANSWER_1.encode()))
+        silent.close()
+
+    def test_many_at_once(self):
+        """Sixteen devices ask at once: each Join-Accept is taken by its device, and no JoinNonce comes twice."""
+        devices = [Device(eui, JOIN_EUI, APP_KEY) for eui in range(1, 17)]
+
+        def joined(device):
+            address = 36 << 25 | device.eui % 16 << 21 | SLOT
+            status, body = posted(self.where, join_req(device.join_request(7), address, device.eui))
+            answer = json.loads(body)
+            device.accept(bytes.fromhex(answer['PHYPayload']))
+            self.assertEqual((status, device.address), (200, address.to_bytes(4, 'little')))
+            self.assertEqual([answer[key]['AESKey'] for key in ('NwkSKey', 'AppSKey')],
+                             [device.nwk.hex(), device.app.hex()])
+            return device.nwk
+        with ThreadPoolExecutor(16) as pool:
+            self.assertEqual(len(set(pool.map(joined, devices))), 16)
+
+    def test_wrong_accept(self):
+        device = Device(13, JOIN_EUI, APP_KEY)
+        device.join_request(1)
+        with self.assertRaises(WrongAccept):
+            device.accept(bytes.fromhex('20f29be7bd62a276adbe0e897f76e8564a'))
+
+    @unittest.skipUnless(HAS_PROGRAM, PROGRAM + ' is not built')
+    def test_replay(self):
+        """The program takes the answers: devices join, and their uplinks are deciphered."""
+        roster = os.path.join(self.folder.name, 'roster.json')
+        with open(roster, 'w', encoding='utf-8') as file:
+            json.dump(roster_of(range(1, 17)), file)
+        steps, expected = [], []
+        for eui in range(1, 17):
+            device = Device(eui, JOIN_EUI, APP_KEY)
+            ticket = device.join_request(eui)
+            address = 36 << 25 | eui % 16 << 21 | SLOT
+            _, body = posted(self.where, join_req(ticket, address, eui))
+            accept = json.loads(body)['PHYPayload']
+            device.accept(bytes.fromhex(accept))
+            frame = device.uplink(4464, 200, b'seventeen bytes..')
+            steps += ['heard ' + datagram(ticket), 'answer %s %s' % (ticket.hex(), body.decode()),
+                      'heard ' + datagram(frame), 'close %016x 1 4464' % eui]
+            expected += ['ask ' + ticket.hex(), 'accepted %016x 1 %08x' % (eui, address),
+                         'down 00000000000000a1 6000000 868100000 5 ' + accept, 'opened %016x 1 4464' % eui,
+                         'closed %016x 1 4464 -' % eui,
+                         'up %016x 1 4464 200 plain - %s 1 00000000000000a1' % (eui, b'seventeen bytes..'.hex())]
+        self.assertEqual(replayed(roster, '\n'.join(steps)), expected)
+
+    @unittest.skipUnless(HAS_PROGRAM, PROGRAM + ' is not built')
+    def test_replay_of_refusals(self):
+        """What the join server refuses, the program takes as a refused join, and asks again."""
+        roster = os.path.join(self.folder.name, 'roster.json')
+        with open(roster, 'w', encoding='utf-8') as file:
+            json.dump(roster_of([13, 99]), file)
+        for eui, key in ((13, bytes(16)), (99, APP_KEY)):
+            ticket = Device(eui, JOIN_EUI, key).join_request(1)
+            status, body = posted(self.where, join_req(ticket, 36 << 25 | eui % 16 << 21 | SLOT, eui))
+            self.assertEqual(status, 200)
+            heard = 'heard %s\n' % datagram(ticket)
+            self.assertEqual(replayed(roster, heard + 'answer %s %s\n' % (ticket.hex(), body.decode()) + heard),
+                             ['ask ' + ticket.hex(), 'joinrefused', 'ask ' + ticket.hex()])
+
+
+def datagram(frame):
+    """A gateway's datagram (docs/FORMATS.md part 5): gateway a1, moment 1000000, 868.1 MHz, DR5, -95.0 dBm, 7.5 dB."""
+    return '010100000000000000a100000000000f424033be27a005fc4a004b%02x%s' % (len(frame), frame.hex())
+
+
+if __name__ == '__main__':
+    unittest.main()
