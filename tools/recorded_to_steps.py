@@ -1,12 +1,14 @@
 #!/usr/bin/env python3
 """Makes step lines for `lorawan_ns replay` out of recorded messages of packet forwarders.
 
-    recorded_to_steps.py ROSTER LOG.. [--window MS] [--answer-ms MS] > STEPS
+    recorded_to_steps.py ROSTER LOG.. [--window MS] [--answer-ms MS] [--renumber] > STEPS
 
     ROSTER              the roster that the steps are for
     LOG                 files of one JSON object a line; their lines are taken together, in the order of their times
     --window MS         a window is closed so long after its first copy (default 200)
     --answer-ms MS      a ticket is given up so long after it was asked for, where no answer is recorded (default 4000)
+    --renumber          gives each answer the TransactionID by which this server asks for its ticket: another network
+                        server asked by other numbers, and its answers would be refused
 
 Lines of a log (`forwarder_bridge.py --record` writes the first, `join_server.py --record` the second):
 
@@ -82,6 +84,18 @@ def read_line(line):
     return Frames(time, hex_of(value.get('gateway'), 8), items)
 
 
+def renumbered(text, ticket):
+    """The answer's text with the TransactionID of the ticket, which is its MIC as a number; as it is where it is no object."""
+    try:
+        value = json.loads(text)
+    except (ValueError, RecursionError):
+        return text
+    if not isinstance(value, dict):
+        return text
+    value['TransactionID'] = int.from_bytes(ticket[19:], 'little')
+    return json.dumps(value, separators=(',', ':'), sort_keys=True)
+
+
 class Steps:
     """Step lines in the making, and what they are made by."""
 
@@ -149,16 +163,21 @@ class Steps:
         self.counts['unused_answers'] += sum(len(answers) for answers in self.answers.values())
 
 
-def read_logs(names, counts):
+def read_logs(names, counts, renumber=False):
+    """The lines of all logs; those that are none are counted."""
     lines = []
     for name in names:
         with open(name, 'rb') as file:
             for line in file:
                 if line.strip():
                     try:
-                        lines.append(read_line(line))
+                        found = read_line(line)
                     except NoLine:
                         counts['no_line'] += 1
+                        continue
+                    if renumber and isinstance(found, Answered):
+                        found = found._replace(text=renumbered(found.text, found.ticket))
+                    lines.append(found)
     return lines
 
 
@@ -168,13 +187,14 @@ def main(words):
     parser.add_argument('logs', metavar='LOG', nargs='+')
     parser.add_argument('--window', type=int, default=200, metavar='MS')
     parser.add_argument('--answer-ms', type=int, default=4000, metavar='MS')
+    parser.add_argument('--renumber', action='store_true')
     options = parser.parse_args(words)
     if options.window < 0 or options.answer_ms < 0:
         parser.error('times are not below 0')
     try:
         with open(options.roster, 'rb') as file:
             steps = Steps(file.read(), options.window / 1000, options.answer_ms / 1000, sys.stdout.write)
-        lines = read_logs(options.logs, steps.counts)
+        lines = read_logs(options.logs, steps.counts, options.renumber)
     except model.Fault as fault:
         print('roster: %s' % fault, file=sys.stderr)
         return 1

@@ -391,6 +391,13 @@ class Live(unittest.TestCase):
         counts = self.counts(child)
         self.assertEqual([counts[name] for name in ('frames', 'bad_crc', 'no_crc', 'outside', 'malformed')], [1] * 5)
 
+    def test_counts_are_told_again_and_again(self):
+        child, where = self.bridge([self.stand_in([13])], '--every', '0.1')
+        self.forwarder(A1, where).push(rxpk(JOIN, 1, stat=-1))
+        lines = [child.stderr.readline() for _ in range(5)]
+        self.assertTrue(all(line.startswith('counts gateways=') for line in lines))
+        self.assertIn(' bad_crc=1 ', lines[-1])
+
     def test_a_server_that_comes_later(self):
         """Nobody listens at first: frames are lost, the bridge goes on, and hands on to the server that begins."""
         with socket.socket(socket.AF_INET, socket.SOCK_DGRAM) as free:

@@ -206,6 +206,14 @@ class Made(Folder):
             with self.subTest(wanted=wanted):
                 self.assertEqual(self.moved(self.steps(*lines)[1]), wanted)
 
+    def test_other_numbers(self):
+        """An answer that another server asked for by another number, and texts that are no answers."""
+        for text, wanted in (({'TransactionID': 77, 'a': 'b'}, '{"TransactionID":1,"a":"b"}'), ('{}', '{"TransactionID":1}'),
+                             ('[1]', '[1]'), ('{', '{'), ('', '')):
+            answer = json.dumps({'ticket': self.TICKET, 'time': 11, 'answer': text})
+            self.assertEqual(self.moved(self.steps(self.frames(10), answer, words=['--renumber'])[1]),
+                             [self.HEARD, 'answer %s %s' % (self.TICKET, wanted)])
+
     def moved(self, steps):
         """The steps with each frame at the moment 1000000."""
         return [step[:26] + '00000000000f4240' + step[42:] if step.startswith('heard ') else step for step in steps]
