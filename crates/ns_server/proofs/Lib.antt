@@ -1,0 +1,4 @@
+pub mod Answered
+pub mod Shards
+pub mod Closing
+pub mod Draining

@@ -1,0 +1,33 @@
+-- Receipts against the histories.
+use Rattle.std.specs.Prelude.{ℕ, ◌≡◌, ◌<◌, List, length, take, Some, slice_get}
+use Rattle.ns_shard.specs.State.{State}
+use Rattle.ns_server.specs.declared.kept.Receipt.{Receipt}
+use Rattle.ns_server.specs.Receipts.{Sends}
+
+-- the receipt's entry stands in the shard's history at its number, and the receipt tells what goes out there
+pub record StandsIn (s : State) (r : Receipt) : Type 0 where
+  pub entry : slice_get s.entries r.entry.number ≡ Some r.entry
+  pub sent : Sends s.roster (take r.entry.number s.entries) r
+
+-- the same in the shard that the receipt names
+abbrev pub Stands : List State → Receipt → Type 0
+Stands states r = (s : State) × (slice_get states r.shard ≡ Some s) × StandsIn s r
+
+-- an earlier receipt has the shard and the number of this one
+abbrev pub IsRepeated : List Receipt → ℕ → Type 0
+IsRepeated receipts i =
+    (r : Receipt) × (j : ℕ) × (q : Receipt) × (slice_get receipts i ≡ Some r) × (j < i) × (slice_get receipts j ≡ Some q)
+    × (q.shard ≡ r.shard) × (q.entry.number ≡ r.entry.number)
+
+-- the receipt at this place is right
+abbrev pub IsRight : List State → List Receipt → ℕ → Type 0
+IsRight states receipts i = ((r : Receipt) → slice_get receipts i ≡ Some r → Stands states r) × (IsRepeated receipts i → ⊥)
+
+-- all receipts are right
+abbrev pub AreRight : List State → List Receipt → Type 0
+AreRight states receipts = (i : ℕ) → i < length receipts → IsRight states receipts i
+
+-- the receipt at this place is wrong, and each one before it is right
+abbrev pub IsFirstWrong : List State → List Receipt → ℕ → Type 0
+IsFirstWrong states receipts i =
+    (i < length receipts) × (IsRight states receipts i → ⊥) × ((j : ℕ) → j < i → IsRight states receipts j)

@@ -1,0 +1,6 @@
+pub mod Receipts
+pub mod Kept
+pub mod Settled
+pub mod Rows
+pub mod Drain
+pub mod Check

@@ -1,0 +1,88 @@
+//! What lies under a lock: a shard, and the count of its entries.
+
+ghost use Rattle.std.specs.Prelude.{◌≡◌, ◌≤◌, ◌<◌, slice_index, IfOk, OnOk, OnErr};
+ghost use Rattle.ns_calls.specs.Shards.{shard_of_call};
+ghost use Rattle.ns_shard.specs.State.{after_call};
+ghost use Rattle.ns_server.specs.Receipts.{receipt_of, receipt_for, HasHistory, RisesAt};
+ghost use Rattle.ns_server.specs.Kept.{IsStateOf};
+
+use crate::names::Naming;
+use crate::pass::Pass;
+use ns_calls::{Answer, Call, Downlink, Entry, Uplink};
+use ns_shard::Shard;
+use ns_tally::ShardBook;
+use std::alloc::AllocError;
+use std::marker::Model;
+
+/// What a call got: its shard, the entry that it made, and what goes out with it.
+#[derive(PartialEq, Eq, Drop)]
+pub struct Receipt {
+    pub shard: u8,
+    pub entry: Entry,
+    pub uplink: Option<Uplink>,
+    pub downlink: Option<Downlink>,
+}
+
+/// The receipt of a call that made the entry of this number, with this answer.
+#[inline]
+pub(crate) fn receipt_of(shard: u8, number: u64, call: Call, answer: Answer) -> Receipt
+    ensures { result ≡ receipt_of shard number call answer }
+{
+    Receipt {
+        shard,
+        entry: Entry {
+            number,
+            call,
+            reply: answer.reply,
+        },
+        uplink: answer.uplink,
+        downlink: answer.downlink,
+    }
+}
+
+/// What lies under the lock of shard `K`: the shard, and the book that counts its entries. Contracts see the shard's state.
+#[derive(Drop)]
+pub struct Kept<B: Naming, const K: usize> {
+    pub(crate) shard: Shard,
+    pub(crate) book: ShardBook<B>,
+}
+
+impl<B: Naming, const K: usize> Model for Kept<B, K> {
+    ghost use Rattle.ns_shard.specs.State.{State};
+    ghost use Rattle.ns_server.specs.Kept.{IsKept};
+
+    ghost Value = { State };
+
+    ghost view = { λ k. k.shard };
+
+    ghost invariant = { λ k. IsKept B.roster K k.shard k.book };
+}
+
+impl<B: Naming, const K: usize> Kept<B, K> {
+    /// How many entries were made, which is the next one's number.
+    pub fn made(&self) -> u64
+        ensures made { result ≡ self.now.made }
+        ensures state { IsStateOf B.roster K self.now }
+    {
+        self.shard.made()
+    }
+
+    /// Makes a call of the shard, and counts its entry in the book and in the pass. Where a growth was refused nothing has changed.
+    pub fn step(&mut self, pass: &mut Pass<B>, call: Call) -> Result<Receipt, AllocError>
+        requires { shard_of_call call ≡ K }
+        ensures entry { OnOk result (self.new ≡ after_call self.old call) }
+        ensures receipt { IfOk result (λ r. r ≡ receipt_for self.old call) }
+        ensures counted { OnOk result (RisesAt K pass.old pass.new) }
+        ensures err { OnErr result ((self.new ≡ self.old) × (pass.new ≡ pass.old)) }
+        ensures state { IsStateOf B.roster K self.new }
+        ensures behind { OnOk result (slice_index pass.old K ≤ self.old.made) }
+        ensures answered { IfOk result (λ r. HasHistory B.roster K r) }
+    {
+        let asked = call;
+        let answer = self.shard.apply(asked)?;
+        let made = self.shard.made();
+        self.book.add_one(&mut pass.shares);
+        pass.counts[K] += 1;
+        Ok(receipt_of(self.shard.index(), made - 1, call, answer))
+    }
+}

@@ -1,0 +1,43 @@
+//! The right of one worker to call.
+
+ghost use Rattle.std.specs.Prelude.{◌≡◌, ◌<◌, slice_index};
+
+use crate::names::Naming;
+use ns_tally::Shares;
+use std::marker::Model;
+
+/// The right of one worker to make calls on the server `B`. Contracts see how many entries of each shard were made with it.
+#[derive(Drop)]
+pub struct Pass<B: Naming> {
+    pub(crate) counts: [u64; 16],
+    pub(crate) shares: Shares<B>,
+}
+
+impl<B: Naming> Model for Pass<B> {
+    ghost use Rattle.std.specs.Prelude.{◌≡◌, ℕ, List};
+
+    ghost Value = { List ℕ };
+
+    ghost view = { λ p. p.counts };
+
+    ghost invariant = { λ p. (p.shares.parts ≡ 1) × (p.shares.amounts ≡ p.counts) };
+}
+
+impl<B: Naming> Pass<B> {
+    /// How many entries of the shard were made with this pass.
+    pub fn made(&self, shard: u8) -> u64
+        requires { shard < 16 }
+        ensures { result ≡ slice_index self.now shard }
+    {
+        self.counts[usize::from(shard)]
+    }
+
+    // The shares that stand for the counts.
+    pub(crate) fn into_shares(self) -> Shares<B>
+        ensures parts { result.parts ≡ 1 }
+        ensures amounts { result.amounts ≡ self }
+    {
+        let Pass { counts: _, shares } = self;
+        shares
+    }
+}

@@ -1,0 +1,290 @@
+//! Sixteen shards, each behind its own lock.
+
+ghost use Rattle.std.specs.Prelude.{◌≡◌, ◌≤◌, ◌<◌, length, slice_index, vec_len, All, IfOk, OnOk, OnErr};
+ghost use Rattle.std.specs.Arc.{arc_value};
+ghost use Rattle.ns_calls.specs.Shards.{shard_of_call};
+ghost use Rattle.ns_tally.specs.Tally.{none_made, shard_of_book, total_of_book, AreNamed};
+ghost use Rattle.ns_server.specs.Receipts.{HasHistory, RisesAt};
+ghost use Rattle.ns_server.specs.Kept.{IsStateOf};
+ghost use Rattle.ns_server.specs.Rows.{AreRow, AreCounted};
+
+use crate::gate::Gate;
+use crate::kept::{Kept, Receipt};
+use crate::names::Naming;
+use crate::pass::Pass;
+use ns_calls::{Call, shard_of_call};
+use ns_roster::Roster;
+use ns_shard::Shard;
+use ns_tally::{Blanks, Books, ShardBook, Shares};
+use std::alloc::{AllocError, Global};
+use std::marker::Model;
+use std::sync::{Arc, Mutex, Wait};
+
+/// Sixteen shards, each behind its own lock. Contracts see the number of workers.
+pub struct Server<B: Naming> {
+    pub(crate) workers: usize,
+    roster: Arc<Roster>,
+    k0: Mutex<Kept<B, 0>>,
+    k1: Mutex<Kept<B, 1>>,
+    k2: Mutex<Kept<B, 2>>,
+    k3: Mutex<Kept<B, 3>>,
+    k4: Mutex<Kept<B, 4>>,
+    k5: Mutex<Kept<B, 5>>,
+    k6: Mutex<Kept<B, 6>>,
+    k7: Mutex<Kept<B, 7>>,
+    k8: Mutex<Kept<B, 8>>,
+    k9: Mutex<Kept<B, 9>>,
+    k10: Mutex<Kept<B, 10>>,
+    k11: Mutex<Kept<B, 11>>,
+    k12: Mutex<Kept<B, 12>>,
+    k13: Mutex<Kept<B, 13>>,
+    k14: Mutex<Kept<B, 14>>,
+    k15: Mutex<Kept<B, 15>>,
+}
+
+impl<B: Naming> Model for Server<B> {
+    ghost use Rattle.std.specs.Prelude.{◌≡◌, ◌<◌, ℕ};
+    ghost use Rattle.std.specs.Arc.{arc_value};
+
+    ghost Value = { ℕ };
+
+    ghost view = { λ s. s.workers };
+
+    ghost invariant = { λ s. (s.workers ≡ B.workers) × (0 < s.workers) × (arc_value s.roster ≡ B.roster) };
+}
+
+impl<B: Naming> Drop for Server<B> {
+    fn drop(self) {
+        let Server {
+            workers: _,
+            roster: _,
+            k0: _,
+            k1: _,
+            k2: _,
+            k3: _,
+            k4: _,
+            k5: _,
+            k6: _,
+            k7: _,
+            k8: _,
+            k9: _,
+            k10: _,
+            k11: _,
+            k12: _,
+            k13: _,
+            k14: _,
+            k15: _,
+        } = self;
+    }
+}
+
+// Takes the lock, visits the gate and makes one step.
+fn run<B: Naming, const K: usize, R: Wait, G: Gate<R>>(
+    rt: &R,
+    lock: &Mutex<Kept<B, K>>,
+    pass: &mut Pass<B>,
+    call: Call,
+    gate: &G,
+) -> Result<Receipt, AllocError>
+    requires { shard_of_call call ≡ K }
+    ensures call { IfOk result (λ r. (r.shard ≡ K) × (r.entry.call ≡ call)) }
+    ensures number { IfOk result (λ r. slice_index pass.old K ≤ r.entry.number) }
+    ensures answered { IfOk result (λ r. HasHistory B.roster K r) }
+    ensures counted { OnOk result (RisesAt K pass.old pass.new) }
+    ensures err { OnErr result (pass.new ≡ pass.old) }
+{
+    let mut kept = lock.lock(rt);
+    gate.visit(rt, shard_of_call(&call), kept.made());
+    kept.step(pass, call)
+}
+
+// A lock round a new shard.
+fn new_lock<B: Naming, const K: usize>(
+    alloc: Global,
+    roster: &Arc<Roster>,
+    book: ShardBook<B>,
+) -> Result<Mutex<Kept<B, K>>, AllocError>
+    requires shard { K < 16 }
+    requires roster { arc_value roster.now ≡ B.roster }
+    requires book { (shard_of_book book ≡ K) × (total_of_book book ≡ 0) }
+{
+    let shard = Shard::new(alloc, roster.clone()?, K as u8)?;
+    Ok(Mutex::new(Kept { shard, book }))
+}
+
+// Passes with which nothing was made yet.
+fn new_passes<B: Naming>(
+    alloc: Global,
+    mut shares: Shares<B>,
+    workers: usize,
+) -> Result<Vec<Pass<B>>, AllocError>
+    requires parts { shares.parts ≡ workers }
+    requires amounts { shares.amounts ≡ none_made }
+    ensures { IfOk result (λ v. (vec_len v ≡ workers) × All (λ p. p ≡ none_made) v.items) }
+{
+    let mut passes = Vec::new(alloc);
+    for _i in 0..workers {
+        passes.push(Pass {
+            counts: [0; 16],
+            shares: shares.split_one(),
+        })?;
+    }
+    Ok(passes)
+}
+
+impl<B: Naming> Server<B> {
+    /// A server with no entries, and a pass for each of its workers. The blanks become the ledgers that `B` names. `NoMemory`
+    /// (`AllocError`) where a growth was refused.
+    pub fn new(
+        alloc: Global,
+        roster: Arc<Roster>,
+        workers: usize,
+        blanks: Blanks,
+    ) -> Result<(Server<B>, Vec<Pass<B>>), AllocError>
+        requires workers { (0 < workers) × (workers ≤ 64) }
+        requires names { AreNamed B.ledger blanks.names }
+        requires parts { (blanks.parts ≡ workers) × (B.workers ≡ workers) }
+        requires roster { arc_value roster ≡ B.roster }
+        ensures server { IfOk result (λ r. r.0 ≡ workers) }
+        ensures passes { IfOk result (λ r. (vec_len r.1 ≡ workers) × All (λ p. p ≡ none_made) r.1.items) }
+    {
+        let (books, shares) = blanks.open::<B>();
+        let passes = new_passes(alloc, shares, workers)?;
+        let Books {
+            k0,
+            k1,
+            k2,
+            k3,
+            k4,
+            k5,
+            k6,
+            k7,
+            k8,
+            k9,
+            k10,
+            k11,
+            k12,
+            k13,
+            k14,
+            k15,
+        } = books;
+        let server = Server {
+            workers,
+            k0: new_lock(alloc, &roster, k0)?,
+            k1: new_lock(alloc, &roster, k1)?,
+            k2: new_lock(alloc, &roster, k2)?,
+            k3: new_lock(alloc, &roster, k3)?,
+            k4: new_lock(alloc, &roster, k4)?,
+            k5: new_lock(alloc, &roster, k5)?,
+            k6: new_lock(alloc, &roster, k6)?,
+            k7: new_lock(alloc, &roster, k7)?,
+            k8: new_lock(alloc, &roster, k8)?,
+            k9: new_lock(alloc, &roster, k9)?,
+            k10: new_lock(alloc, &roster, k10)?,
+            k11: new_lock(alloc, &roster, k11)?,
+            k12: new_lock(alloc, &roster, k12)?,
+            k13: new_lock(alloc, &roster, k13)?,
+            k14: new_lock(alloc, &roster, k14)?,
+            k15: new_lock(alloc, &roster, k15)?,
+            roster,
+        };
+        Ok((server, passes))
+    }
+
+    /// Makes a call with a worker's pass, under the lock of the call's shard alone, and visits the gate once before. `NoMemory`
+    /// (`AllocError`) where a growth was refused: then no entry was made. Each reply is the plain server's after the entries of its shard
+    /// before it, and what goes out is what the receipt tells.
+    pub fn call<R: Wait, G: Gate<R>>(
+        &self,
+        rt: &R,
+        pass: &mut Pass<B>,
+        call: Call,
+        gate: &G,
+    ) -> Result<Receipt, AllocError>
+        ensures call { IfOk result (λ r. (r.shard ≡ shard_of_call call) × (r.entry.call ≡ call)) }
+        ensures number { IfOk result (λ r. slice_index pass.old (shard_of_call call) ≤ r.entry.number) }
+        ensures answered { IfOk result (λ r. HasHistory B.roster (shard_of_call call) r) }
+        ensures counted { OnOk result (RisesAt (shard_of_call call) pass.old pass.new) }
+        ensures err { OnErr result (pass.new ≡ pass.old) }
+    {
+        match shard_of_call(&call) {
+            0 => run(rt, &self.k0, pass, call, gate),
+            1 => run(rt, &self.k1, pass, call, gate),
+            2 => run(rt, &self.k2, pass, call, gate),
+            3 => run(rt, &self.k3, pass, call, gate),
+            4 => run(rt, &self.k4, pass, call, gate),
+            5 => run(rt, &self.k5, pass, call, gate),
+            6 => run(rt, &self.k6, pass, call, gate),
+            7 => run(rt, &self.k7, pass, call, gate),
+            8 => run(rt, &self.k8, pass, call, gate),
+            9 => run(rt, &self.k9, pass, call, gate),
+            10 => run(rt, &self.k10, pass, call, gate),
+            11 => run(rt, &self.k11, pass, call, gate),
+            12 => run(rt, &self.k12, pass, call, gate),
+            13 => run(rt, &self.k13, pass, call, gate),
+            14 => run(rt, &self.k14, pass, call, gate),
+            _ => run(rt, &self.k15, pass, call, gate),
+        }
+    }
+
+    // Takes all shards out of their locks, with the roster.
+    pub(crate) fn all_opened(self, mut all: Shares<B>) -> (Arc<Roster>, [Shard; 16])
+        requires { all.parts ≡ B.workers }
+        ensures roster { arc_value result.0 ≡ B.roster }
+        ensures shards { AreRow B.roster 0 result.1 }
+        ensures lengths { AreCounted (λ k. slice_index all.amounts k) 0 result.1 }
+        ensures sixteen { length result.1 ≡ 16 }
+    {
+        let Server {
+            workers: _,
+            roster,
+            k0,
+            k1,
+            k2,
+            k3,
+            k4,
+            k5,
+            k6,
+            k7,
+            k8,
+            k9,
+            k10,
+            k11,
+            k12,
+            k13,
+            k14,
+            k15,
+        } = self;
+        let shards = [
+            opened(k0, &mut all),
+            opened(k1, &mut all),
+            opened(k2, &mut all),
+            opened(k3, &mut all),
+            opened(k4, &mut all),
+            opened(k5, &mut all),
+            opened(k6, &mut all),
+            opened(k7, &mut all),
+            opened(k8, &mut all),
+            opened(k9, &mut all),
+            opened(k10, &mut all),
+            opened(k11, &mut all),
+            opened(k12, &mut all),
+            opened(k13, &mut all),
+            opened(k14, &mut all),
+            opened(k15, &mut all),
+        ];
+        (roster, shards)
+    }
+}
+
+// Takes a shard out of its lock, and compares the count of its entries with what all passes made.
+fn opened<B: Naming, const K: usize>(lock: Mutex<Kept<B, K>>, all: &mut Shares<B>) -> Shard
+    requires { all.old.parts ≡ B.workers }
+    ensures state { IsStateOf B.roster K result }
+    ensures counted { result.made ≡ slice_index all.old.amounts K }
+    ensures same { all.new ≡ all.old }
+{
+    let Kept { shard, mut book } = lock.into_inner();
+    book.audit(all);
+    shard
+}
