@@ -33,6 +33,10 @@ def answers(child):
     return found
 
 
+def uplinks(found):
+    return sum(line.startswith(b'up ') for answer in found for line in answer)
+
+
 class Lines(unittest.TestCase):
     def test_shards(self):
         ticket, eui = '0004030201040302010d00000000000000010001000000', '000000000000000d'
@@ -54,19 +58,23 @@ class Lines(unittest.TestCase):
 
 @unittest.skipUnless(HAS_PROGRAM, PROGRAM + ' is not built')
 class Replayed(unittest.TestCase):
-    def check_run(self, seed, *words):
-        """A random run: each line is answered by the process of its shard as one process answers it. How many went out."""
+    def made(self, seed, folder):
+        """Writes a random run as `whole`; its roster, its lines and what one process answers to each."""
         pick = random.Random(seed)
         devices = compare.roster_devices(pick, False)
         roster, net = compare.roster_text(pick, devices, False, 0)
         steps = compare.Steps(pick, devices, model.Server(model.Roster(roster)), net)
         steps.make(300)
         lines = [line.replace(b'\n', b'') for line in steps.lines]
+        for name, content in (('whole.json', roster), ('whole.steps', b''.join(line + b'\n' for line in lines))):
+            with open(os.path.join(folder, name), 'wb') as file:
+                file.write(content)
+        return json.loads(roster), lines, answers(replay(folder, 'whole'))
+
+    def check_run(self, seed, *words):
+        """Each line is answered by the process of its shard as one process answers it. How many uplinks went out."""
         with tempfile.TemporaryDirectory() as folder:
-            for name, content in (('whole.json', roster), ('whole.steps', b''.join(line + b'\n' for line in lines))):
-                with open(os.path.join(folder, name), 'wb') as file:
-                    file.write(content)
-            whole = answers(replay(folder, 'whole'))
+            _, lines, whole = self.made(seed, folder)
             self.assertEqual(by_shard.main([os.path.join(folder, 'whole.json'), folder, *words,
                                             '--steps', os.path.join(folder, 'whole.steps')]), 0)
             children = [replay(folder, k) for k in range(16)]
@@ -74,13 +82,34 @@ class Replayed(unittest.TestCase):
         merged = [next(parts[by_shard.shard_of_line(line)]) for line in lines]
         self.assertEqual(merged, whole)
         self.assertEqual([next(part, None) for part in parts], [None] * 16)
-        return sum(line.startswith(b'up ') for answer in whole for line in answer)
+        return uplinks(whole)
+
+    def check_slots(self, seed):
+        """Two processes with the devices of disjoint slots, both given all lines: one answers each as one process does,
+        and the other knows nothing of it. How many uplinks went out."""
+        with tempfile.TemporaryDirectory() as folder:
+            roster, _, whole = self.made(seed, folder)
+            for k in (0, 1):
+                part = dict(roster, devices=[device for device in roster['devices'] if device['slot'] % 2 == k])
+                with open(os.path.join(folder, '%d.json' % k), 'w', encoding='utf-8') as file:
+                    json.dump(part, file)
+                os.link(os.path.join(folder, 'whole.steps'), os.path.join(folder, '%d.steps' % k))
+            parts = [answers(replay(folder, k)) for k in (0, 1)]
+        self.assertEqual([len(part) for part in parts], [len(whole)] * 2)
+        unknown = [b'nodevice'], [b'nosession'], [b'noticket'], [b'nowindow']
+        for wanted, *found in zip(whole, *parts):
+            self.assertIn(wanted, found)
+            self.assertTrue(found[0] == found[1] or any(answer in unknown for answer in found))
+        return uplinks(whole)
 
     def test_rosters_of_one_shard(self):
         self.assertGreater(sum(self.check_run(seed) for seed in range(20)), 100)
 
     def test_whole_rosters(self):
         self.assertGreater(sum(self.check_run(seed, '--whole-roster') for seed in range(20, 40)), 100)
+
+    def test_disjoint_slots(self):
+        self.assertGreater(sum(self.check_slots(seed) for seed in range(40, 60)), 100)
 
 
 if __name__ == '__main__':
