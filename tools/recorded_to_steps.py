@@ -77,7 +77,11 @@ def read_line(line):
         text = value['answer']
         if not isinstance(text, str):
             text = json.dumps(text, separators=(',', ':'), sort_keys=True)
-        return Answered(time, hex_of(value.get('ticket'), 23), ' '.join(text.splitlines()))
+        try:
+            text.encode()
+        except UnicodeEncodeError:          # half of a surrogate pair
+            raise NoLine from None
+        return Answered(time, hex_of(value.get('ticket'), 23), re.sub('[\r\n]+', ' ', text.strip('\r\n')))
     items = value.get('rxpk')
     if not isinstance(items, list):
         raise NoLine

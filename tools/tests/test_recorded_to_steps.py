@@ -36,7 +36,7 @@ class Folder(unittest.TestCase):
         out, told = io.StringIO(), io.StringIO()
         with contextlib.redirect_stdout(out), contextlib.redirect_stderr(told):
             status = recorded_to_steps.main([roster, *logs, *words])
-        return status, out.getvalue().splitlines(), told.getvalue()
+        return status, out.getvalue().split('\n')[:-1], told.getvalue()
 
 
 class Network:
@@ -202,7 +202,8 @@ class Made(Folder):
                 ([self.frames(10), answer(14.1)], [self.HEARD, 'lost ' + self.TICKET]),
                 ([self.frames(10), self.frames(20), answer(20.1, {})],
                  [self.HEARD, 'lost ' + self.TICKET, self.HEARD, step]),
-                ([self.frames(10), answer(11, '{\n}\r\n')], [self.HEARD, 'answer %s { }' % self.TICKET])):
+                ([self.frames(10), answer(11, '{\n}\r\n')], [self.HEARD, 'answer %s { }' % self.TICKET]),
+                ([self.frames(10), answer(11, '"\u2028é"')], [self.HEARD, 'answer %s "\u2028é"' % self.TICKET])):
             with self.subTest(wanted=wanted):
                 self.assertEqual(self.moved(self.steps(*lines)[1]), wanted)
 
@@ -228,9 +229,10 @@ class Made(Folder):
             'x', '[]', '{}', '\xff', '{"time":1}', '{"gateway":"a1","time":1,"rxpk":[]}', '[' * 100_000,
             '{"gateway":"00000000000000a1","time":"soon","rxpk":[]}', '{"gateway":"00000000000000a1","rxpk":[]}',
             '{"gateway":"00000000000000a1","time":1,"rxpk":{}}', '{"ticket":"00","time":1,"answer":"x"}',
-            '{"gateway":"00000000000000a1","time":NaN,"rxpk":[]}', self.frames(5), '')
+            '{"gateway":"00000000000000a1","time":NaN,"rxpk":[]}',
+            '{"ticket":"%s","time":5,"answer":"\\ud800"}' % self.TICKET, '{"time":1e999,"rxpk":[]}', self.frames(5), '')
         self.assertEqual((status, steps), (0, [self.HEARD, 'lost ' + self.TICKET]))
-        self.assertIn('no_line=12', told)
+        self.assertIn('no_line=14', told)
 
     def test_dropped_frames(self):
         frame = bytes.fromhex(self.TICKET)
