@@ -1,12 +1,13 @@
--- A response as a plain join server writes it (RFC 9112): status 200, header lines in any order, an empty line, and the body.
+-- A response as a plain join server writes it (RFC 9112): status 200, header lines in any order, an empty line and the
+-- body.
 use Rattle.std.specs.Prelude.{ℕ, ◌≡◌, ◌≤◌, true, false, List, [], ◌∷◌, ◌++◌, All, length, replicate, codes, decimal}
 use Rattle.std.specs.List.{flat_map, list_any}
 use Rattle.httparse.specs.Grammar.{IsToken, AllPass, is_value_byte}
 use Rattle.ns_joinclient.specs.Request.{line}
 use Rattle.ns_joinclient.specs.Head.{has_name}
 
--- The body, and the headers, each a name and a value: one says the body's length, under a name in either case and with zeros before
--- its digits, and others stand before and after it.
+-- The body, and the headers, each a name and a value: one says the body's length, under a name in either case and with
+-- zeros before its digits, and others stand before and after it.
 pub record Written : Type 0 where
   pub before : List (List ℕ × List ℕ)
   pub length_name : List ℕ
