@@ -1,0 +1,96 @@
+//! Times an exchange with a join server over memory, the response read whole and one byte a read. The values go to standard output,
+//! the times to standard error.
+//!
+//! With an argument, the address of an HTTP server, it makes one exchange over a TCP connection instead, and prints what came of it.
+#![tactic(auto)]
+
+ghost use Rattle.std.specs.Prelude.{◌<◌};
+
+use ns_joinclient::{HostName, ask};
+use ns_types::{Fuse, OverStd};
+use std::alloc::AllocError;
+use std::env;
+use std::io;
+use std::net::TcpStream;
+use std::time::{Duration, Instant};
+
+/// The measurements of each kind, of which the fastest counts.
+const ROUNDS: u32 = 300;
+
+/// The seconds that a read or a write of a connection may take.
+const PATIENCE: u64 = 5;
+
+const JOIN_REQ: &str =
+    r#"{"DLSettings":"00","DevAddr":"49be7df1","DevEUI":"000000000000000d","MACVersion":"1.0.4","MessageType":"JoinReq","PHYPayload":"0004030201040302010d00000000000000010001000000","ProtocolVersion":"1.0","ReceiverID":"0102030401020304","RxDelay":1,"SenderID":"000024","TransactionID":1}"#;
+
+const JOIN_ANS: &str =
+    r#"{"AppSKey":{"AESKey":"ec925802ae430ca77fd3dd73cb2cc588","KEKLabel":""},"MessageType":"JoinAns","NwkSKey":{"AESKey":"44024241ed4ce9a68c6a8bc055233fd3","KEKLabel":""},"PHYPayload":"20000102030405060708090a0b0c0d0e0f","Result":{"ResultCode":"Success"},"TransactionID":1}"#;
+
+/// A response with a JoinAns behind so many further headers, each with a value of so many letters.
+fn response(rt: &HostRuntime, headers: usize, letters: usize) -> Result<String, AllocError> {
+    let value = "v".repeat(rt.alloc(), letters)?;
+    let line = format!(in rt.alloc(); "Some: {value}\r\n")?;
+    let lines = line.as_str().repeat(rt.alloc(), headers)?;
+    format!(in rt.alloc(); "HTTP/1.1 200 OK\r\n{lines}Content-Length: 267\r\n\r\n{JOIN_ANS}")
+}
+
+/// Exchanges over memory, each read of at most so many bytes, and the nanoseconds of the fastest.
+fn measure(
+    rt: &HostRuntime,
+    name: &str,
+    response: &str,
+    host: HostName<'_>,
+    most: usize,
+) -> io::Result<()>
+    requires { 0 < most }
+{
+    let mut least = u128::MAX;
+    let mut answered = 0u32;
+    for _ in 0..ROUNDS {
+        let Ok(input) = Vec::from_slice(rt.alloc(), response.as_bytes()) else {
+            continue;
+        };
+        let mut stream = Fuse::new(rt.alloc(), input, most, None, None);
+        let start = Instant::now(rt)?;
+        let result = ask(rt.alloc(), &mut stream, host, JOIN_REQ, 1);
+        let took = start.elapsed(rt)?.as_nanos();
+        if result.is_ok() {
+            answered = answered.wrapping_add(1);
+        }
+        least = least.min(took);
+    }
+    println!(rt; "{name} {answered}")?;
+    eprintln!(rt; "{name} {least} ns")
+}
+
+/// One exchange over a TCP connection.
+fn ask_at(rt: &HostRuntime, address: &str, host: HostName<'_>) -> io::Result<()> {
+    let stream = TcpStream::connect(rt, address)?;
+    stream.set_read_timeout(Some(Duration::from_secs(PATIENCE)))?;
+    stream.set_write_timeout(Some(Duration::from_secs(PATIENCE)))?;
+    let mut stream = OverStd::new(stream);
+    match ask(rt.alloc(), &mut stream, host, JOIN_REQ, 1) {
+        Ok(answer) => println!(rt; "answer {:02x}{:02x}", answer.nwk.0[0], answer.nwk.0[1]),
+        Err(fault) => println!(rt; "{fault}"),
+    }
+}
+
+fn main(rt: HostRuntime) -> io::Result<()> {
+    let Some(host) = HostName::new("js.local") else {
+        return Ok(());
+    };
+    if let Some(address) = env::args(&rt)?.nth(1) {
+        return ask_at(&rt, address.as_str(), host);
+    }
+    for (name, one, headers, letters) in [
+        ("short_head", "short_head_by_byte", 0, 0),
+        ("long_header", "long_header_by_byte", 1, 4000),
+        ("many_headers", "many_headers_by_byte", 31, 120),
+    ] {
+        if let Ok(response) = response(&rt, headers, letters) {
+            measure(&rt, name, response.as_str(), host, 1 << 20)?;
+            measure(&rt, one, response.as_str(), host, 1)?;
+        }
+    }
+    Ok(())
+}
