@@ -1,13 +1,19 @@
 -- Receipts against the histories.
-use Rattle.std.specs.Prelude.{ℕ, ◌≡◌, ◌<◌, List, length, take, Some, slice_get}
+use Rattle.std.specs.Prelude.{ℕ, ◌≡◌, ◌<◌, List, length, take, Some, slice_get, count_by, ◌==◌}
+use Rattle.ns_roster.specs.Network.{Network}
+use Rattle.ns_calls.specs.declared.call.Entry.{Entry}
 use Rattle.ns_shard.specs.State.{State}
 use Rattle.ns_server.specs.declared.kept.Receipt.{Receipt}
 use Rattle.ns_server.specs.Receipts.{Sends}
 
--- the receipt's entry stands in the shard's history at its number, and the receipt tells what goes out there
-pub record StandsIn (s : State) (r : Receipt) : Type 0 where
-  pub entry : slice_get s.entries r.entry.number ≡ Some r.entry
-  pub sent : Sends s.roster (take r.entry.number s.entries) r
+-- the receipt's entry stands in this history at its number, and the receipt tells what goes out there
+pub record StandsAt (net : Network) (h : List Entry) (r : Receipt) : Type 0 where
+  pub entry : slice_get h r.entry.number ≡ Some r.entry
+  pub sent : Sends net (take r.entry.number h) r
+
+-- the same in the shard's history
+abbrev pub StandsIn : State → Receipt → Type 0
+StandsIn s r = StandsAt s.roster s.entries r
 
 -- the same in the shard that the receipt names
 abbrev pub Stands : List State → Receipt → Type 0
@@ -31,3 +37,11 @@ AreRight states receipts = (i : ℕ) → i < length receipts → IsRight states 
 abbrev pub IsFirstWrong : List State → List Receipt → ℕ → Type 0
 IsFirstWrong states receipts i =
     (i < length receipts) × (IsRight states receipts i → ⊥) × ((j : ℕ) → j < i → IsRight states receipts j)
+
+-- how many receipts are of this shard
+abbrev pub receipts_of : ℕ → List Receipt → ℕ
+receipts_of shard receipts = count_by (λ r. r.shard == shard) receipts
+
+-- one of the receipts tells this entry of the shard
+abbrev pub HasReceipt : ℕ → Entry → List Receipt → Type 0
+HasReceipt shard e receipts = (i : ℕ) × (r : Receipt) × (slice_get receipts i ≡ Some r) × (r.shard ≡ shard) × (r.entry ≡ e)

@@ -9,8 +9,10 @@
 //! The crate stands on `ns_shard` and `ns_tally`. It never looks into a shard.
 #![tactic(auto)]
 
+mod check;
 mod gate;
 mod kept;
+mod laws;
 mod names;
 mod pass;
 mod server;
@@ -18,6 +20,7 @@ mod settled;
 
 pub use gate::Gate;
 pub use kept::{Kept, Receipt};
+pub use laws::receipts_are_all;
 pub use names::Naming;
 pub use pass::Pass;
 pub use server::Server;
