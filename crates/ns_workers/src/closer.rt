@@ -1,0 +1,132 @@
+//! Closes windows as they become due.
+ghost use Rattle.std.specs.Prelude.{◌≡◌, ◌≢◌, Some, false, true, IfOk, OnOk, OnErr};
+ghost use Rattle.std.specs.Io.KnownBytes.{Appends};
+ghost use Rattle.ns_types.specs.Streams.{AppendsFront};
+ghost use Rattle.ns_server.specs.Receipts.{RisesAt};
+ghost use Rattle.ns_workers.specs.Closing.{Closes, closing};
+ghost use Rattle.ns_workers.specs.Counts.{RisesByReceipts};
+ghost use Rattle.ns_workers.specs.Lines.{uplink_line, up_lines};
+
+use crate::counted::send_down;
+use crate::line::write_uplink;
+use crate::outside::{CloseJob, Downlinks, JobSource, Monitor, Next, Shared, Timer, WorkerFault};
+use ns_calls::Call;
+use ns_server::{Gate, Naming, Pass, Receipt};
+use ns_types::{Failed, Sink};
+use std::alloc::{AllocError, Global};
+use std::sync::Wait;
+
+/// What a closer has done: the receipts of its closings, in order, and why it ended early.
+#[derive(Drop)]
+pub struct Ended {
+    pub receipts: Vec<Receipt>,
+    pub fault: Option<WorkerFault>,
+}
+
+// Waits until the job is due, and closes its window.
+fn close_due<B: Naming, R: Wait, G: Gate<R>, D, M, T: Timer<R>>(
+    shared: &Shared<'_, B, R, G, D, M>,
+    pass: &mut Pass<B>,
+    timer: &T,
+    job: CloseJob,
+) -> Result<Receipt, AllocError>
+    ensures call { IfOk result (λ r. r.entry.call ≡ closing job) }
+    ensures counted { IfOk result (λ r. RisesAt r.shard pass.old pass.new) }
+    ensures err { OnErr result (pass.new ≡ pass.old) }
+{
+    timer.until(shared.rt, job.due);
+    let call = Call::Close { window: job.name };
+    shared.server.call(shared.rt, pass, call, shared.gate)
+}
+
+// Sends what goes down, and writes the line of what goes up.
+pub(crate) fn hand_out<B: Naming, R, G, D: Downlinks<R>, M: Monitor<R>, W: Sink>(
+    shared: &Shared<'_, B, R, G, D, M>,
+    sink: &mut W,
+    receipt: &Receipt,
+) -> Result<(), Failed>
+    requires { W.has_failed sink.old ≡ false }
+    ensures ok { OnOk result (Appends (W.taken sink.old) (W.taken sink.new) (uplink_line receipt.now.uplink)) }
+    ensures sound { OnOk result (W.has_failed sink.new ≡ false) }
+    ensures front { AppendsFront (W.taken sink.old) (W.taken sink.new) (uplink_line receipt.now.uplink) }
+    ensures failed { OnErr result (W.has_failed sink.new ≡ true) }
+{
+    send_down(shared, receipt);
+    write_uplink(sink, &receipt.uplink)
+}
+
+/// Closes the windows of at most `limit` jobs, each as it becomes due, and writes the `up` line of each that was open, with a line
+/// feed. Room for the receipts is taken first.
+///
+/// With no fault and fewer receipts than `limit` the source has ended. K1 where a growth was refused: then nothing was done with the
+/// job taken last. K2 where the source failed. K3 where the sink failed: then it has a beginning of the lines.
+#[tactic(auto, using(crate::proofs::Counting::rises_more, crate::proofs::Closings::holds_first, crate::proofs::Closings::holds_more, crate::proofs::Closings::ends_at_end, crate::proofs::Closings::ends_broken, crate::proofs::Closings::ends_refused, crate::proofs::Closings::ends_before, crate::proofs::Closings::ends_unsent, crate::proofs::Closings::ends_full, crate::proofs::Closings::lines_more, crate::proofs::Closings::lines_front, crate::proofs::Closings::lines_whole,))]
+pub fn run_closer<
+    B: Naming,
+    R: Wait,
+    G: Gate<R>,
+    D: Downlinks<R>,
+    M: Monitor<R>,
+    T: Timer<R>,
+    J: JobSource<R, CloseJob>,
+    W: Sink,
+>(
+    alloc: Global,
+    shared: &Shared<'_, B, R, G, D, M>,
+    pass: &mut Pass<B>,
+    timer: &T,
+    jobs: &mut J,
+    sink: &mut W,
+    limit: u32,
+) -> Ended
+    requires { W.has_failed sink.old ≡ false }
+    ensures jobs { Closes limit (J.given jobs.old) (J.given jobs.new) result.receipts.items result.fault }
+    ensures counted { RisesByReceipts pass.old pass.new result.receipts.items }
+    ensures text { result.fault ≢ Some WorkerFault.SinkFailed
+        → Appends (W.taken sink.old) (W.taken sink.new) (up_lines result.receipts.items) }
+    ensures front { AppendsFront (W.taken sink.old) (W.taken sink.new) (up_lines result.receipts.items) }
+    ensures sound { result.fault ≢ Some WorkerFault.SinkFailed → W.has_failed sink.new ≡ false }
+    ensures failed { result.fault ≡ Some WorkerFault.SinkFailed → W.has_failed sink.new ≡ true }
+{
+    let Ok(mut receipts) = Vec::with_capacity(alloc, limit as usize) else {
+        return Ended {
+            receipts: Vec::new(alloc),
+            fault: Some(WorkerFault::NoMemory),
+        };
+    };
+    while receipts.len() < limit as usize {
+        let job = match jobs.take(shared.rt) {
+            Next::Job(job) => job,
+            Next::End => {
+                return Ended {
+                    receipts,
+                    fault: None,
+                };
+            }
+            Next::Failed => {
+                return Ended {
+                    receipts,
+                    fault: Some(WorkerFault::SourceFailed),
+                };
+            }
+        };
+        let Ok(receipt) = close_due(shared, pass, timer, job) else {
+            return Ended {
+                receipts,
+                fault: Some(WorkerFault::NoMemory),
+            };
+        };
+        let handed = hand_out(shared, sink, &receipt);
+        receipts.push_reserved(receipt);
+        if handed.is_err() {
+            return Ended {
+                receipts,
+                fault: Some(WorkerFault::SinkFailed),
+            };
+        }
+    }
+    Ended {
+        receipts,
+        fault: None,
+    }
+}

@@ -1,0 +1,34 @@
+//! Calls, and what goes down with them.
+ghost use Rattle.std.specs.Prelude.{◌≡◌, ◌+◌, OnOk, OnErr};
+ghost use Rattle.ns_workers.specs.Counts.{made_in_all};
+
+use crate::outside::{Downlinks, Monitor, Shared};
+use ns_calls::Call;
+use ns_server::{Gate, Naming, Pass, Receipt};
+use std::alloc::AllocError;
+use std::sync::Wait;
+
+// Makes a call, which is one more in the counts of all shards together.
+#[tactic(auto, using(crate::proofs::Counting::counted_one))]
+pub(crate) fn counted<B: Naming, R: Wait, G: Gate<R>, D, M>(
+    shared: &Shared<'_, B, R, G, D, M>,
+    pass: &mut Pass<B>,
+    call: Call,
+) -> Result<Receipt, AllocError>
+    ensures sum { OnOk result (made_in_all pass.new ≡ made_in_all pass.old + 1) }
+    ensures err { OnErr result (pass.new ≡ pass.old) }
+{
+    shared.server.call(shared.rt, pass, call, shared.gate)
+}
+
+// Sends what goes down with a receipt. What cannot be sent is lost.
+pub(crate) fn send_down<B: Naming, R, G, D: Downlinks<R>, M: Monitor<R>>(
+    shared: &Shared<'_, B, R, G, D, M>,
+    receipt: &Receipt,
+) {
+    if let Some(downlink) = &receipt.downlink {
+        if !shared.down.send(shared.rt, downlink) {
+            shared.monitor.unsent(shared.rt, downlink);
+        }
+    }
+}
