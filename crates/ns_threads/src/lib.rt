@@ -1,0 +1,16 @@
+//! Traffic of many devices as calls, and the tests that make them on one server from several threads.
+//!
+//! The calls are those of whole runs: each device asks to join, its join is answered, its uplinks are heard and closed. Benchmarks make
+//! the same calls. Stands on `ns_server` and the crates below it.
+#![tactic(auto)]
+
+mod traffic;
+
+pub use traffic::{closing, join, join_reply, roster, uplink};
+
+#[cfg(test)]
+mod gate_tests;
+#[cfg(test)]
+mod parts;
+#[cfg(test)]
+mod tests;
