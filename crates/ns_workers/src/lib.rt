@@ -29,3 +29,6 @@ pub use outside::{
     AskJob, CloseJob, Connections, Datagrams, Downlinks, JobSource, Jobs, Monitor, Next, Received,
     Shared, Timer, WorkerFault,
 };
+
+#[cfg(test)]
+mod tests;
