@@ -1,0 +1,111 @@
+//! Connections to the join server, each with one limit for connecting and the whole exchange.
+ghost use Rattle.std.specs.Prelude.{None};
+ghost use Rattle.std.specs.Io.{ReadsAtMost, WritesAtMost};
+
+use ns_types::{Failed, Sink, Source, Stream};
+use ns_workers::Connections;
+use std::io;
+use std::io::{ErrorKind, Read, Write};
+use std::net::{Net, SocketAddr, TcpListener, TcpStream};
+use std::time::{Clock, Duration, Instant};
+
+/// Connections to the join server.
+#[derive(Drop)]
+pub(crate) struct ToJoinServer<'a, R> {
+    pub rt: &'a R,
+    pub addr: SocketAddr,
+    /// How long connecting and the exchange take together at most.
+    pub limit: Duration,
+}
+
+/// A stream that fails once its time is up.
+#[derive(Drop)]
+pub(crate) struct Within<'a, R> {
+    rt: &'a R,
+    stream: TcpStream,
+    start: Instant,
+    limit: Duration,
+    failed: bool,
+}
+
+impl<'a, R: Net<Listener = TcpListener, Stream = TcpStream> + Clock> Connections<R>
+    for ToJoinServer<'a, R> {
+    type S = Within<'a, R>;
+
+    fn open(&self, _rt: &R) -> Option<Within<'a, R>> {
+        let start = Instant::now(self.rt).ok()?;
+        let stream = TcpStream::connect_timeout(self.rt, &self.addr, self.limit).ok()?;
+        Some(Within {
+            rt: self.rt,
+            stream,
+            start,
+            limit: self.limit,
+            failed: false,
+        })
+    }
+}
+
+impl<'a, R: Clock> Within<'a, R> {
+    // What is left of the time, if anything is.
+    fn left(&self) -> Option<Duration> {
+        let elapsed = self.start.elapsed(self.rt).ok()?;
+        let left = self.limit.saturating_sub(elapsed);
+        if left.is_zero() { None } else { Some(left) }
+    }
+
+    fn read_some(&self, buf: &mut [u8]) -> io::Result<usize>
+        ensures { ReadsAtMost result buf.new }
+    {
+        let Some(left) = self.left() else {
+            return Err(io::Error::from(ErrorKind::TimedOut));
+        };
+        self.stream.set_read_timeout(Some(left))?;
+        (&self.stream).read(buf)
+    }
+
+    fn write_some(&self, bytes: &[u8]) -> io::Result<usize>
+        ensures { WritesAtMost result bytes.now }
+    {
+        let Some(left) = self.left() else {
+            return Err(io::Error::from(ErrorKind::TimedOut));
+        };
+        self.stream.set_write_timeout(Some(left))?;
+        (&self.stream).write(bytes)
+    }
+}
+
+impl<'a, R> Stream for Within<'a, R> {
+    ghost has_failed = { λ s. s.failed };
+
+    fn failed(&self) -> bool {
+        self.failed
+    }
+}
+
+impl<'a, R: Clock> Source for Within<'a, R> {
+    ghost left = { λ _. None };
+
+    fn read(&mut self, buf: &mut [u8]) -> Result<usize, Failed> {
+        match self.read_some(buf) {
+            Ok(n) => Ok(n),
+            Err(_) => {
+                self.failed = true;
+                Err(Failed)
+            }
+        }
+    }
+}
+
+impl<'a, R: Clock> Sink for Within<'a, R> {
+    ghost taken = { λ _. None };
+
+    fn write(&mut self, bytes: &[u8]) -> Result<usize, Failed> {
+        match self.write_some(bytes) {
+            Ok(n) if n > 0 => Ok(n),
+            _ => {
+                self.failed = true;
+                Err(Failed)
+            }
+        }
+    }
+}

@@ -1,0 +1,45 @@
+//! What is to be served, and why serving ended.
+
+use ns_joinclient::HostName;
+use ns_workers::WorkerFault;
+use std::net::SocketAddr;
+use thiserror::Error;
+
+/// What to serve.
+#[derive(Clone, Copy, Debug)]
+pub struct ServeOptions<'a> {
+    /// The address of the join server.
+    pub join: SocketAddr,
+    /// The host that requests to it name.
+    pub host: HostName<'a>,
+    /// The address at which gateways are heard.
+    pub listen: SocketAddr,
+    /// How many workers hear them, 1 to 16.
+    pub workers: usize,
+    /// How many workers ask the join server, 1 to 16.
+    pub join_workers: usize,
+    /// How long a window stays open, in milliseconds.
+    pub window_ms: u32,
+    /// After how many datagrams the server stops, if it does.
+    pub stop_after: Option<u32>,
+}
+
+/// Why serving ended.
+#[derive(Clone, Copy, Debug, PartialEq, Eq, Error)]
+pub enum ServeFault {
+    /// A growth was refused, or a thread could not be made.
+    #[error("no memory")]
+    NoMemory,
+    /// The socket or the output failed.
+    #[error("io")]
+    Io,
+}
+
+impl From<WorkerFault> for ServeFault {
+    fn from(fault: WorkerFault) -> ServeFault {
+        match fault {
+            WorkerFault::NoMemory => ServeFault::NoMemory,
+            WorkerFault::SourceFailed | WorkerFault::SinkFailed => ServeFault::Io,
+        }
+    }
+}

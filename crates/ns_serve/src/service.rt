@@ -1,0 +1,177 @@
+//! A server from its start to what it settled.
+ghost use Rattle.std.specs.Prelude.{◌≡◌, ◌+◌, ◌≤◌, ◌<◌, false};
+ghost use Rattle.std.specs.Arc.{arc_value};
+ghost use Rattle.ns_tally.specs.Tally.{AreNamed};
+
+use crate::counts::Counts;
+use crate::options::{ServeFault, ServeOptions};
+use crate::output::Output;
+use crate::peers::Peers;
+use crate::run::{Ends, run_all};
+use crate::sockets::send_down;
+use crate::state::State;
+use log::{Log, info};
+use ns_calls::up_line;
+use ns_roster::Roster;
+use ns_server::{Naming, Receipt, Server, Settled};
+use ns_tally::Blanks;
+use ns_types::Sink;
+use std::alloc::Global;
+use std::marker::Brand;
+use std::net::{Net, SocketAddr, TcpListener, TcpStream, UdpSocket};
+use std::sync::atomic::{AtomicBool, AtomicU64, Ordering};
+use std::sync::{Arc, Mutex, Wait};
+use std::thread::Threads;
+use std::time::{Clock, Duration, Instant};
+
+// How long a gateway worker waits for a datagram before it looks whether the server stops.
+const LISTEN_MS: u64 = 100;
+
+// Of how many gateways the addresses are kept.
+const MOST_PEERS: usize = 65_536;
+
+// The socket at which gateways are heard, and its address.
+fn listen<R: Net>(rt: &R, addr: SocketAddr) -> Result<(UdpSocket, SocketAddr), ServeFault> {
+    let Ok(socket) = UdpSocket::bind(rt, addr) else {
+        return Err(ServeFault::Io);
+    };
+    if socket
+        .set_read_timeout(Some(Duration::from_millis(LISTEN_MS)))
+        .is_err()
+    {
+        return Err(ServeFault::Io);
+    }
+    let Ok(bound) = socket.local_addr() else {
+        return Err(ServeFault::Io);
+    };
+    Ok((socket, bound))
+}
+
+// Logs what is served.
+fn log_start<R: Log>(rt: &R, roster: &Roster, addr: SocketAddr, options: &ServeOptions<'_>) {
+    info!(rt; "devices {} listening {addr} join server {} host {} workers {} join workers {} window {} ms",
+        roster.devices().len(), options.join, options.host.as_str(), options.workers, options.join_workers, options.window_ms);
+    if let Some(count) = options.stop_after {
+        info!(rt; "stops after {count} datagrams");
+    }
+}
+
+// Writes what goes up with the closing of a window, and sends what goes down.
+fn hand_out<R: Wait, W: Sink>(
+    rt: &R,
+    state: &State,
+    output: &mut Output<W>,
+    receipt: &Receipt,
+) -> Result<(), ServeFault> {
+    if let Some(downlink) = &receipt.downlink {
+        let _ = send_down(rt, state, downlink);
+    }
+    if let Some(uplink) = &receipt.uplink {
+        output.put_line(up_line(uplink).as_str())?;
+    }
+    Ok(())
+}
+
+// Closes all windows that are still open, the oldest of each shard first.
+fn drain<B: Naming, R: Wait, W: Sink>(
+    rt: &R,
+    state: &State,
+    settled: &mut Settled<B>,
+    output: &mut Output<W>,
+) -> Result<(), ServeFault> {
+    for _turn in rt.forever() {
+        match settled.drain_next() {
+            Ok(None) => return Ok(()),
+            Ok(Some(receipt)) => hand_out(rt, state, output, &receipt)?,
+            Err(_) => return Err(ServeFault::NoMemory),
+        }
+    }
+    unreachable!()
+}
+
+// A server of this many workers, from its start to what it settled.
+fn run_server<
+    B: Naming + Send + Sync,
+    R: Threads + Wait + Clock + Net<Listener = TcpListener, Stream = TcpStream> + Log + Sync,
+    W: Sink + Send + Drop,
+>(
+    rt: &R,
+    alloc: Global,
+    roster: Arc<Roster>,
+    blanks: Blanks,
+    state: &State,
+    output: Output<W>,
+    options: &ServeOptions<'_>,
+) -> Result<u128, ServeFault>
+    requires workers { (0 < options.now.workers) × (options.now.workers ≤ 16) }
+    requires join_workers { (0 < options.now.join_workers) × (options.now.join_workers ≤ 16) }
+    requires names { AreNamed B.ledger blanks.names }
+    requires parts { blanks.parts ≡ options.now.workers + options.now.join_workers + 1 }
+    requires passes { B.workers ≡ options.now.workers + options.now.join_workers + 1 }
+    requires roster { arc_value roster ≡ B.roster }
+{
+    let Ok(known) = roster.clone() else {
+        return Err(ServeFault::NoMemory);
+    };
+    let count = options.workers + options.join_workers + 1;
+    let Ok((server, passes)) = Server::<B>::new(alloc, roster, count, blanks) else {
+        return Err(ServeFault::NoMemory);
+    };
+    let output = Mutex::new(output);
+    let Ok(ends) = run_all(rt, alloc, &server, passes, &known, state, &output, options) else {
+        return Err(ServeFault::NoMemory);
+    };
+    let Ends { passes, fault } = ends;
+    if let Some(fault) = fault {
+        return Err(fault);
+    }
+    let mut output = output.into_inner();
+    let Ok(mut settled) = server.settle(passes) else {
+        return Err(ServeFault::NoMemory);
+    };
+    drain(rt, state, &mut settled, &mut output)?;
+    let total = settled.total();
+    output.put_settled(total)?;
+    state.counts.log_all(rt, state.read.load(Ordering::SeqCst));
+    Ok(total)
+}
+
+/// Serves gateways over UDP, with a join server over TCP, until so many datagrams have come, if the options say how many. Writes
+/// `listening ADDR`, the `up` lines as windows close, those of the windows that are still open at the end, and `settled T`, each with a
+/// line feed, and gives T, which is how many entries there are in all shards.
+///
+/// `NoMemory` where a growth was refused, or a thread could not be made; `Io` where the socket or the writer failed.
+pub fn serve<
+    R: Threads + Wait + Clock + Net<Listener = TcpListener, Stream = TcpStream> + Log + Sync,
+    W: Sink + Send + Drop,
+>(
+    rt: &R,
+    alloc: Global,
+    roster: Arc<Roster>,
+    options: &ServeOptions<'_>,
+    writer: W,
+) -> Result<u128, ServeFault>
+    requires workers { (0 < options.now.workers) × (options.now.workers ≤ 16) }
+    requires join_workers { (0 < options.now.join_workers) × (options.now.join_workers ≤ 16) }
+{
+    let (socket, addr) = listen(rt, options.listen)?;
+    let Ok(start) = Instant::now(rt) else {
+        return Err(ServeFault::Io);
+    };
+    log_start(rt, &roster, addr, options);
+    let mut output = Output::new(writer);
+    output.put_listening(alloc, addr)?;
+    let state = State {
+        socket,
+        start,
+        read: AtomicU64::new(0),
+        most: options.stop_after.map_or(u64::MAX, u64::from),
+        broken: AtomicBool::new(false),
+        gateways: AtomicU64::new(0),
+        peers: Mutex::new(Peers::new(alloc, MOST_PEERS)),
+        counts: Counts::new(),
+    };
+    let count = options.workers as u64 + options.join_workers as u64 + 1;
+    let blanks = Blanks::new(count);
+    run_server::<Brand, _, _>(rt, alloc, roster, blanks, &state, output, options)
+}
