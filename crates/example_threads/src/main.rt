@@ -1,0 +1,114 @@
+//! A program whose threads share one server: two workers hear the same uplinks, and then the server is settled, checked and drained.
+//!
+//! It is the second example of docs/EMBEDDING.md. Its comments say what an embedder may rely on at each call, as the contract of that
+//! call states it.
+#![tactic(auto)]
+
+ghost use Rattle.std.specs.Prelude.{◌≡◌, IfOk};
+ghost use Rattle.std.specs.Arc.{arc_value};
+ghost use Rattle.ns_tally.specs.Tally.{AreNamed};
+ghost use Rattle.ns_server.specs.Settled.{AreStates, MergesToLegal};
+
+mod workers;
+
+use crate::workers::{all_work, parted};
+use anyhow::anyhow;
+use ns_calls::{Answer, lines};
+use ns_roster::Roster;
+use ns_server::{Naming, Receipt, Server, Settled};
+use ns_tally::Blanks;
+use ns_threads::roster;
+use std::alloc::Global;
+use std::marker::Brand;
+use std::sync::{Arc, Wait};
+use std::thread::Threads;
+
+// How many devices there are. Each worker hears one uplink of each.
+const DEVICES: u32 = 3;
+
+/// What a server of two workers has done when its threads have ended: its histories, and the receipts of all calls.
+///
+/// `B` names the server. Whoever makes one is generic over the name, and is called with `Brand`.
+pub fn served<B: Naming + Send + Sync, R: Threads + Wait + Sync>(
+    rt: &R,
+    alloc: Global,
+    roster: Arc<Roster>,
+    blanks: Blanks,
+) -> anyhow::Result<(Settled<B>, Vec<Receipt>)>
+    requires names { AreNamed B.ledger blanks.names }
+    requires parts { (blanks.parts ≡ 2) × (B.workers ≡ 2) }
+    requires roster { arc_value roster ≡ B.roster }
+    ensures states { IfOk result (λ r. AreStates B.roster r.0) }
+    ensures merges { IfOk result (λ r. MergesToLegal B.roster r.0) }
+{
+    // A server without entries, and as many passes as there are workers. A pass counts what was made with it.
+    let (server, passes) = Server::<B>::new(alloc, roster, 2, blanks)?;
+
+    // Each thread has a pass and shares the server. A call takes the lock of its shard alone; its receipt has the entry that it made,
+    // whose reply is the plain server's after the entries of the shard before it, and what goes out with it.
+    let done = all_work(rt, alloc, &server, passes)?;
+    let (passes, receipts) = parted(alloc, done)?;
+
+    // With every pass given back the histories are as long as the passes have counted, each is legal, and so is every merge of them.
+    // With one missing, both come back.
+    match server.settle(passes) {
+        Ok(settled) => Ok((settled, receipts)),
+        Err(_) => Err(anyhow!("a pass is missing")),
+    }
+}
+
+// Prints what was done, in an order that does not rest on the threads.
+fn report<B: Naming, R: Print>(
+    rt: &R,
+    mut settled: Settled<B>,
+    receipts: &[Receipt],
+) -> anyhow::Result<()> {
+    println!(rt; "{} entries, {} receipts", settled.total(), receipts.len())?;
+
+    // Ok exactly where each receipt stands in its shard's history with what goes out there, and no two have one place. As many right
+    // receipts of a shard as it has entries are all of it.
+    match settled.check(receipts) {
+        Ok(()) => println!(rt; "all receipts are right")?,
+        Err(place) => println!(rt; "receipt {place} is wrong")?,
+    }
+
+    // The oldest window of the first shard that has one is closed by one entry. None comes exactly where none is open, and then each
+    // window that was opened was closed exactly once.
+    for _ in 0..DEVICES + 1 {
+        let Some(receipt) = settled.drain_next()? else {
+            println!(rt; "no window is open")?;
+            break;
+        };
+        let shard = receipt.shard;
+        let answer = Answer {
+            reply: receipt.entry.reply,
+            uplink: receipt.uplink,
+            downlink: receipt.downlink,
+        };
+        for line in lines(&answer) {
+            println!(rt; "shard {shard}: {}", line.as_str())?;
+        }
+    }
+    Ok(())
+}
+
+// Runs the server, and prints what was done.
+fn run<B: Naming + Send + Sync, R: Threads + Wait + Print + Sync>(
+    rt: &R,
+    alloc: Global,
+    roster: Arc<Roster>,
+    blanks: Blanks,
+) -> anyhow::Result<()>
+    requires names { AreNamed B.ledger blanks.names }
+    requires parts { (blanks.parts ≡ 2) × (B.workers ≡ 2) }
+    requires roster { arc_value roster ≡ B.roster }
+{
+    let (settled, receipts) = served::<B, R>(rt, alloc, roster, blanks)?;
+    report(rt, settled, receipts.as_slice())
+}
+
+fn main(rt: HostRuntime) -> anyhow::Result<()> {
+    let alloc: Global = rt.alloc();
+    let roster = Arc::new(alloc, roster(alloc, DEVICES)?)?;
+    run::<Brand, _>(&rt, alloc, roster, Blanks::new(2))
+}
