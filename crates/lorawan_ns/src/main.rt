@@ -1,24 +1,24 @@
 //! The network server's program.
 //!
 //! `lorawan_ns replay ROSTER` reads step lines from standard input and writes the lines of their answers to standard output. The
-//! contract of `replay` says what is written; what the words of the command line ask for and the texts of faults are shown by
-//! tests, the exit statuses by hand. It stands on `ns_roster`, which reads the roster, and `ns_shard`, which runs the steps.
+//! contract of `replay` in `ns_replay` says what is written. Here are the command line, the texts of faults and the exit statuses:
+//! which fault each refusal is and which status follows stand in contracts, what words ask for and the texts are shown by tests. It
+//! stands on `ns_roster`, which reads the roster, and on `ns_replay`.
 #![tactic(auto)]
 
 mod fault;
 mod options;
 #[cfg(test)]
-mod recorded;
-mod replay;
-mod step_lines;
-mod taken;
-#[cfg(test)]
 mod tests;
 
-use crate::fault::Fault;
+ghost use Rattle.std.specs.Prelude.{◌≡◌, IsOk, IsErr};
+ghost use Rattle.std.specs.Process.{exit_status};
+ghost use Rattle.lorawan_ns.specs.Status.{IsStatusOf};
+
+use crate::fault::{Fault, of_reading, of_roster, of_run, status_of};
 use crate::options::{Asked, BadWords, read_words};
-use crate::replay::{ReplayFault, replay as replay_steps};
-use ns_roster::{Roster, RosterFault};
+use ns_replay::replay;
+use ns_roster::Roster;
 use ns_types::OverStd;
 use std::env::Env;
 use std::io::ErrorKind;
@@ -31,18 +31,11 @@ use std::{env, fs, io};
 fn read_roster<'a, R: Files + AllocGlobal>(rt: &R, path: &'a str) -> Result<Roster, Fault<'a>> {
     let bytes = match fs::read(rt, path) {
         Ok(bytes) => bytes,
-        Err(error) => {
-            return Err(if error.kind() == ErrorKind::OutOfMemory {
-                Fault::NoMemory
-            } else {
-                Fault::CannotRead(path)
-            });
-        }
+        Err(error) => return Err(of_reading(error.kind(), path)),
     };
     match Roster::read(rt.alloc(), bytes.as_slice()) {
         Ok(roster) => Ok(roster),
-        Err(RosterFault::NoMemory) => Err(Fault::NoMemory),
-        Err(fault) => Err(Fault::Roster(fault)),
+        Err(fault) => Err(of_roster(fault)),
     }
 }
 
@@ -57,10 +50,9 @@ fn run_replay<'a, R: Files + AllocGlobal + Input + Print>(
     };
     let mut reader = OverStd::new(rt.reader());
     let mut writer = OverStd::new(io::writer(rt));
-    match replay_steps(rt.alloc(), roster, &mut reader, &mut writer) {
+    match replay(rt.alloc(), roster, &mut reader, &mut writer) {
         Ok(()) => Ok(()),
-        Err(ReplayFault::NoMemory) => Err(Fault::NoMemory),
-        Err(ReplayFault::Io) => Err(Fault::Io),
+        Err(fault) => Err(of_run(fault)),
     }
 }
 
@@ -73,16 +65,23 @@ fn words<R: Env + AllocGlobal>(rt: &R) -> Result<Vec<String>, BadWords> {
     }
 }
 
-// Says a fault on standard error. The exit status is 1.
-fn failed<R: Eprint>(rt: &R, fault: &Fault) -> ExitCode {
-    let _ = eprintln!(rt; "{fault}");
-    ExitCode::from(1)
+// Writes a fault to standard error, and gives the exit status.
+fn ended<R: Eprint>(rt: &R, outcome: &Result<(), Fault>) -> ExitCode
+    ensures done { IsOk outcome.now → exit_status result ≡ 0 }
+    ensures failed { IsErr outcome.now → exit_status result ≡ 1 }
+{
+    if let Err(fault) = outcome {
+        let _ = eprintln!(rt; "{fault}");
+    }
+    status_of(outcome)
 }
 
-// Says why the words ask for nothing: help on standard output with status 0, else what is wrong with them and status 2.
-fn refused<R: Eprint + Print>(rt: &R, bad: &BadWords) -> ExitCode {
+// Says why the words ask for nothing, and gives the exit status: 0 for help and the version, 2 for bad words.
+fn refused<R: Eprint + Print>(rt: &R, bad: &BadWords) -> ExitCode
+    ensures { IsStatusOf bad.now (exit_status result) }
+{
     match bad {
-        BadWords::NoMemory => failed(rt, &Fault::NoMemory),
+        BadWords::NoMemory => ended(rt, &Err(Fault::NoMemory)),
         BadWords::NotText => {
             let _ = eprintln!(rt; "bad arguments");
             ExitCode::from(2)
@@ -94,7 +93,7 @@ fn refused<R: Eprint + Print>(rt: &R, bad: &BadWords) -> ExitCode {
             } else if printed.is_ok() {
                 ExitCode::SUCCESS
             } else {
-                failed(rt, &Fault::Io)
+                ended(rt, &Err(Fault::Io))
             }
         }
     }
@@ -105,12 +104,8 @@ fn main(rt: HostRuntime) -> ExitCode {
         Ok(words) => words,
         Err(bad) => return refused(&rt, &bad),
     };
-    let outcome = match read_words(rt.alloc(), words.as_slice()) {
-        Ok(Asked::Replay(path)) => run_replay(&rt, path),
-        Err(bad) => return refused(&rt, &bad),
-    };
-    match outcome {
-        Ok(()) => ExitCode::SUCCESS,
-        Err(fault) => failed(&rt, &fault),
+    match read_words(rt.alloc(), words.as_slice()) {
+        Ok(Asked::Replay(path)) => ended(&rt, &run_replay(&rt, path)),
+        Err(bad) => refused(&rt, &bad),
     }
 }

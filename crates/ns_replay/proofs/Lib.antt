@@ -1,0 +1,7 @@
+pub mod HexTextLemmas
+pub mod LineLemmas
+pub mod FoundLemmas
+pub mod FrontLemmas
+pub mod Digits
+pub mod Woven
+pub mod Blocks

@@ -1,0 +1,4 @@
+pub mod HexText
+pub mod StepLines
+pub mod Output
+pub mod Found
