@@ -33,7 +33,7 @@ use Rattle.ns_kept.proofs.Alike.{Alike, reply-alike, answer-alike, out-alike}
 use Rattle.ns_kept.proofs.KeptQueries.{alike-within}
 use Rattle.ns_kept.proofs.TicketsKept.{tickets-kept, still_open-append}
 use Rattle.ns_kept.proofs.WindowsKept.{names_of, windows-kept}
-use Rattle.ns_kept.proofs.Later.{legal-front}
+use Rattle.ns_calls.proofs.Induction.{legal-front}
 use Rattle.ns_kept.proofs.Again.{kept-within, keep-within, keep-alike}
 
 -- ---- numbers
