@@ -88,7 +88,7 @@ uplink_from w =
       addr = record { 0 = fields.addr };
       port = fields.port;
       fopts = fields.fopts;
-      sealed = is_none (payload_key fields.port w) && nat_lt 0 (length fields.payload);
+      sealed = is_none (payload_key fields.port w);
       payload = option_map_or (λ k. cipher k.0 Up fields.addr w.name.fcnt fields.payload) (payload_key fields.port w) fields.payload;
       copies = w.copies;
     }

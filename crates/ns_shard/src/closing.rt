@@ -84,7 +84,7 @@ fn payload_of(window: &Window) -> (Bytes<242>, bool)
             deciphered(&key, frame.dev_addr(), window.name.fcnt, payload),
             false,
         ),
-        None => (Bytes::of(payload), !payload.is_empty()),
+        None => (Bytes::of(payload), true),
     }
 }
 
