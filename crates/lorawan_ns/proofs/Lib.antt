@@ -1,4 +1,5 @@
 pub mod LineLemmas
+pub mod SpelledLemmas
 pub mod FoundLemmas
 pub mod FrontLemmas
 pub mod Digits

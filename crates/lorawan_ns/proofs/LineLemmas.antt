@@ -45,24 +45,31 @@ at_none : (b : Bool) (n : ℕ) → cond b (Some n) None ≡ None → b ≡ false
 at_none true n h = cc
 at_none false n h = refl
 
--- what stands before the first line feed
-pub unended_before : (xs : List ℕ) (i : ℕ) → position (λ b. eqb b 10) xs ≡ Some i → Unended (take i xs)
-unended_before xs i h k d within =
-    let lf : ℕ → Bool = λ b. eqb b 10 in
-    let found = at_some (ltb (position_or_len lf xs) (length xs)) (position_or_len lf xs) i h in
-    let low : position_or_len lf xs < length xs = ltb-true _ _ found.0 in
+-- what stands before the first such byte
+none_before : (byte : ℕ) (xs : List ℕ) (i : ℕ) → position (λ b. eqb b byte) xs ≡ Some i → All (λ b. eqb b byte ≡ false) (take i xs)
+none_before byte xs i h k d within =
+    let test : ℕ → Bool = λ b. eqb b byte in
+    let found = at_some (ltb (position_or_len test xs) (length xs)) (position_or_len test xs) i h in
+    let low : position_or_len test xs < length xs = ltb-true _ _ found.0 in
     let long = length-take-le i xs (omega (arith, low, found.1)) in
-    ap lf (get_or-take i xs k d (omega (arith, long, within))) ∙ fails_before_first lf xs k d (omega (arith, long, within, found.1))
+    ap test (get_or-take i xs k d (omega (arith, long, within))) ∙ fails_before_first test xs k d (omega (arith, long, within, found.1))
+
+-- the text is what stands before the first such byte, the byte, and what stands behind it
+pub byte_at : (byte : ℕ) (xs : List ℕ) (i : ℕ) → position (λ b. eqb b byte) xs ≡ Some i → xs ≡ take i xs ++ byte ∷ drop (i + 1) xs
+byte_at byte xs i h =
+    let test : ℕ → Bool = λ b. eqb b byte in
+    let found = at_some (ltb (position_or_len test xs) (length xs)) (position_or_len test xs) i h in
+    let low : position_or_len test xs < length xs = ltb-true _ _ found.0 in
+    let here : get_or xs (position_or_len test xs) 0 ≡ byte = eqb-true _ _ (passes_at_first test xs 0 low) in
+    split_at_first test xs 0 low
+    ∙ ap (λ b. before_first test xs ++ b ∷ after_first test xs) here
+    ∙ ap (λ n. take n xs ++ byte ∷ drop (n + 1) xs) found.1
+
+pub unended_before : (xs : List ℕ) (i : ℕ) → position (λ b. eqb b 10) xs ≡ Some i → Unended (take i xs)
+unended_before = none_before 10
 
 pub feed_at : (xs : List ℕ) (i : ℕ) → position (λ b. eqb b 10) xs ≡ Some i → xs ≡ take i xs ++ 10 ∷ drop (i + 1) xs
-feed_at xs i h =
-    let lf : ℕ → Bool = λ b. eqb b 10 in
-    let found = at_some (ltb (position_or_len lf xs) (length xs)) (position_or_len lf xs) i h in
-    let low : position_or_len lf xs < length xs = ltb-true _ _ found.0 in
-    let feed : get_or xs (position_or_len lf xs) 0 ≡ 10 = eqb-true _ _ (passes_at_first lf xs 0 low) in
-    split_at_first lf xs 0 low
-    ∙ ap (λ b. before_first lf xs ++ b ∷ after_first lf xs) feed
-    ∙ ap (λ n. take n xs ++ 10 ∷ drop (n + 1) xs) found.1
+feed_at = byte_at 10
 
 pub unended_all : (xs : List ℕ) → position (λ b. eqb b 10) xs ≡ None → Unended xs
 unended_all xs h k d within =

@@ -1,3 +1,4 @@
 pub mod StepLines
+pub mod Spelled
 pub mod Output
 pub mod Found

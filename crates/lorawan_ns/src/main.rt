@@ -6,6 +6,7 @@
 #![tactic(auto)]
 
 mod fault;
+mod laws;
 mod options;
 #[cfg(test)]
 mod recorded;
