@@ -6,8 +6,9 @@ use Rattle.std.proofs.lemmas.List.Elements.{All-append, filter_map-append}
 use Rattle.ns_shard.specs.declared.step.Act.{Act}
 use Rattle.lorawan_ns.specs.declared.step_lines.StepLines.{StepLines}
 use Rattle.lorawan_ns.specs.StepLines.{step, steps}
-use Rattle.lorawan_ns.specs.Output.{step_of, steps_in, are_steps}
-use Rattle.lorawan_ns.specs.Found.{Has, StepsOf, FoundIn}
+use Rattle.lorawan_ns.specs.Output.{step_of}
+use Rattle.lorawan_ns.specs.Private.Lines.{steps_in, are_steps}
+use Rattle.lorawan_ns.specs.Private.Found.{Has, StepsOf, FoundIn}
 use Rattle.lorawan_ns.proofs.LineLemmas.{Unended, raw_lines_nil, raw_lines_ended, raw_lines_last}
 
 -- lines that are added to what is found

@@ -1,5 +1,6 @@
 pub mod LineLemmas
 pub mod SpelledLemmas
+pub mod SpelledLines
 pub mod FoundLemmas
 pub mod FrontLemmas
 pub mod Digits

@@ -6,7 +6,8 @@ use Rattle.ns_shard.specs.declared.step.Act.{Act}
 use Rattle.ns_shard.specs.declared.step.Step.{Step}
 use Rattle.ns_shard.specs.declared.run.Taken.{Taken}
 use Rattle.ns_shard.specs.Steps.{all_taken, step_taken}
-use Rattle.lorawan_ns.specs.Output.{all_lines, steps_in, are_steps, woven, step_of}
+use Rattle.lorawan_ns.specs.Output.{all_lines, step_of}
+use Rattle.lorawan_ns.specs.Private.Lines.{steps_in, are_steps, woven}
 
 pub all_lines_woven : (net : Network) (before : List Step) (lines : List (Option Act)) → woven (are_steps lines) (all_taken net before (steps_in lines)) ≡ all_lines net before lines
 all_lines_woven net before [] = refl

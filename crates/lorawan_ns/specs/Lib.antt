@@ -1,4 +1,4 @@
 pub mod StepLines
 pub mod Spelled
 pub mod Output
-pub mod Found
+pub mod Private

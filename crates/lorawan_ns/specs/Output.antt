@@ -1,5 +1,5 @@
 -- What a run answers, line by line.
-use Rattle.std.specs.Prelude.{ℕ, Bool, true, false, List, [], ◌∷◌, ◌++◌, map, filter_map, flat_map, codes, decimal, is_some, Option, Some, None}
+use Rattle.std.specs.Prelude.{ℕ, List, [], ◌∷◌, ◌++◌, flat_map, codes, decimal, Option, Some, None}
 use Rattle.ns_link.specs.Faults as link_fault
 use Rattle.ns_views.specs.Faults as view_fault
 use Rattle.ns_roster.specs.Network.{Network}
@@ -43,17 +43,3 @@ text_of taken = flat_map ended (lines_of taken)
 -- what is written for a text of step lines
 abbrev pub output : Network → List ℕ → List ℕ
 output net input = flat_map text_of (all_lines net [] (steps input))
-
--- ---- for private clauses: the steps of lines, which lines are step lines, and the two put together again
-
-abbrev pub steps_in : List (Option Act) → List Step
-steps_in lines = map step_of (filter_map (λ line. line) lines)
-
-abbrev pub are_steps : List (Option Act) → List Bool
-are_steps lines = map is_some lines
-
-abbrev pub woven : List Bool → List Taken → List (Option Taken)
-woven [] taken = []
-woven (false ∷ marks) taken = None ∷ woven marks taken
-woven (true ∷ marks) [] = []
-woven (true ∷ marks) (t ∷ taken) = Some t ∷ woven marks taken

@@ -1,5 +1,6 @@
--- The step that a line spells, said without an order of tests.
+-- The lines of a text, and the step that a line spells, said without an order of tests.
 use Rattle.std.specs.Prelude.{ℕ, ◌≡◌, ◌-◌, ◌<◌, ◌==◌, ◌⊎◌, false, List, [], ◌∷◌, ◌++◌, length, slice_index, codes, Some, Ok}
+use Rattle.std.specs.List.{All}
 use Rattle.std.specs.Int.{w64, from_be_bytes}
 use Rattle.hex.specs.Hex.{decode_of, decode_sized}
 use Rattle.ns_types.specs.declared.identity.WindowName.{WindowName}
@@ -7,6 +8,13 @@ use Rattle.ns_types.specs.declared.ticket.Ticket.{Ticket}
 use Rattle.ns_shard.specs.declared.step.Act.{Act}
 use Rattle.ns_shard.specs.declared.step.Act.TheVariants.{Datagram, Answer, Lost, Close}
 use Rattle.lorawan_ns.specs.StepLines.{number}
+
+-- the text is these lines, each with a line feed behind it, but perhaps a last one, which is not empty; no line has a line feed
+abbrev pub AreLines : List ℕ → List (List ℕ) → Type 0
+AreLines text [] = text ≡ []
+AreLines text (line ∷ more) =
+    All (λ b. (b == 10) ≡ false) line
+    × (((rest : List ℕ) × (text ≡ line ++ 10 ∷ rest) × AreLines rest more) ⊎ ((text ≡ line) × (0 < length line) × (more ≡ [])))
 
 -- what a line says: the line, without the one carriage return that may end it
 abbrev pub Says : List ℕ → List ℕ → Type 0

@@ -6,7 +6,8 @@ ghost use Rattle.std.specs.Arc.{arc_value};
 ghost use Rattle.std.specs.Io.KnownBytes.{Appends};
 ghost use Rattle.ns_types.specs.Streams.{AppendsFront};
 ghost use Rattle.ns_shard.specs.Steps.{all_taken};
-ghost use Rattle.lorawan_ns.specs.Output.{output, text_of, woven};
+ghost use Rattle.lorawan_ns.specs.Output.{output, text_of};
+ghost use Rattle.lorawan_ns.specs.Private.Lines.{woven};
 
 use crate::step_lines::{StepLines, read_steps};
 use crate::taken::write_lines;

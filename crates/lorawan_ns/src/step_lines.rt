@@ -2,9 +2,9 @@
 
 ghost use Rattle.std.specs.Prelude.{◌≡◌, ◌<◌, ◌≤◌, ◌∷◌, ◌++◌, [], ℕ, List, false, true, slice_index_or, length, option_map, IfOk, IfErr, OnOk, IfSome, position, ◌==◌, ◌↔◌};
 ghost use Rattle.ns_types.specs.declared.transfer.ReadFault.TheVariants.{Io};
-ghost use Rattle.lorawan_ns.specs.Output.{steps_in, are_steps};
+ghost use Rattle.lorawan_ns.specs.Private.Lines.{steps_in, are_steps};
 ghost use Rattle.lorawan_ns.specs.StepLines.{without_return, parted, number, eui, ticket, heard, answered, lost, counters, closed, act, step};
-ghost use Rattle.lorawan_ns.specs.Found.{FoundIn, StepsOf, Longer};
+ghost use Rattle.lorawan_ns.specs.Private.Found.{FoundIn, StepsOf, Longer};
 
 use hex::{FromHex, FromHexError};
 use ns_shard::{Act, DatagramBytes, OwnedBytes, Step};

@@ -6,7 +6,8 @@ ghost use Rattle.std.specs.Io.KnownBytes.{Appends};
 ghost use Rattle.arrayvec.specs.ArrayString.{array_string_len};
 ghost use Rattle.ns_types.specs.Streams.{AppendsFront};
 ghost use Rattle.ns_calls.specs.Text.{text as answer_text, up_text};
-ghost use Rattle.lorawan_ns.specs.Output.{refusal_text, ended, lines_of, text_of, woven};
+ghost use Rattle.lorawan_ns.specs.Output.{refusal_text, ended, lines_of, text_of};
+ghost use Rattle.lorawan_ns.specs.Private.Lines.{woven};
 
 use arrayvec::ArrayString;
 use itoa::Buffer;

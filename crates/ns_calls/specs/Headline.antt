@@ -13,7 +13,7 @@ use Rattle.ns_calls.specs.declared.call.Call.{Call}
 use Rattle.ns_calls.specs.declared.call.Reply.{Reply}
 use Rattle.ns_calls.specs.declared.call.Reply.TheVariants.{Opened, Copied, Crowded, Old, NoSession, Busy, Ask, JoinCopied, JoinCrowded, NonceOld, NoDevice, JoinBusy, Accepted, JoinRefused, JoinStale, NoTicket, Closed, NoWindow}
 use Rattle.ns_calls.specs.declared.call.Entry.{Entry}
-use Rattle.ns_calls.specs.History.{acceptances, next_session, greatest_nonce, session_counters, session_acks, opening_in, closing_in, open_windows, open_window, open_tickets, session_join, live, is_live, greatest_counter, window_count, ticket_count, window_copies, ticket_copies}
+use Rattle.ns_calls.specs.History.{acceptances, next_session, greatest_nonce, session_counters, session_acks, window_in, closing_in, open_windows, open_window, open_tickets, session_join, live, is_live, greatest_counter, window_count, ticket_count, window_copies, ticket_copies}
 use Rattle.ns_calls.specs.Reply.{devices_at, fits, window_with, most_windows, most_tickets, most_copies}
 use Rattle.ns_calls.specs.Out.{answer}
 
@@ -36,7 +36,7 @@ AcksRise h = (eui : DevEui) (session : ℕ) → Rises (session_acks h eui sessio
 
 -- how many entries open a window of this name, how many close it, and how many such windows are open
 abbrev pub opening_count : List Entry → WindowName → ℕ
-opening_count h w = count_by (λ o. same_window o.window w) (filter_map (λ e. opening_in e.call e.reply) h)
+opening_count h w = count_by (λ o. same_window o.window w) (filter_map (λ e. window_in e.call e.reply) h)
 
 abbrev pub closing_count : List Entry → WindowName → ℕ
 closing_count h w = count_by (λ c. same_window c.window w) (filter_map (λ e. closing_in e.call e.reply) h)

@@ -8,7 +8,7 @@ use Rattle.ns_calls.specs.declared.answer.Uplink as answer
 use Rattle.ns_calls.specs.declared.call.Call.{Call}
 use Rattle.ns_calls.specs.declared.call.Call.TheVariants.{Uplink, Join, JoinReply, Close}
 use Rattle.ns_calls.specs.declared.call.Entry.{Entry}
-use Rattle.ns_calls.specs.History.{Opening, opening_in, asking_in, closes, ends_ticket}
+use Rattle.ns_calls.specs.History.{Opening, window_in, asking_in, closes, ends_ticket}
 use Rattle.ns_calls.specs.Reply.{most_copies}
 
 -- an entry opened the window, and none after it closed it
@@ -17,7 +17,7 @@ pub record IsOpenWindow (h : List Entry) (o : Opening) : Type 0 where
   pub entry : Entry
   pub after : List Entry
   pub is : h ≡ before ++ entry ∷ after
-  pub opened : opening_in entry.call entry.reply ≡ Some o
+  pub opened : window_in entry.call entry.reply ≡ Some o
   pub not_closed : AllByRecursion (λ e. closes o.window e ≡ false) after
 
 -- an entry asked for the ticket, and none after it ended it

@@ -3,4 +3,4 @@ pub mod Parts
 pub mod JoinAns
 pub mod Spelled
 pub mod JoinReq
-pub mod Held
+pub mod Private

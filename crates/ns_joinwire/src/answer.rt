@@ -4,7 +4,7 @@ ghost use Rattle.std.specs.Prelude.{◌≡◌, option_map};
 ghost use Rattle.serde_json.specs.View.{view};
 ghost use Rattle.ns_joinwire.specs.JoinAns.{Gives, joinans};
 ghost use Rattle.ns_joinwire.specs.Parts.{head_of, body_of, transaction_of, result_code_of, app_envelope};
-ghost use Rattle.ns_joinwire.specs.Held.{head_view, body_view, envelope_view};
+ghost use Rattle.ns_joinwire.specs.Private.Held.{head_view, body_view, envelope_view};
 
 use crate::envelope::{KeyEnvelope, app_key, field, join_accept};
 use crate::fault::{AnsFault, ResultCode};

@@ -36,18 +36,11 @@ use Rattle.ns_kept.proofs.Asked.{acceptances-adds, openings-adds, window_copies-
 use Rattle.ns_kept.proofs.ReadLemmas.{reading-whole}
 use Rattle.ns_kept.proofs.Dropped.{or_false, has_window}
 use Rattle.ns_kept.proofs.KeptQueries.{sessions_rise}
-use Rattle.ns_kept.proofs.Later.{first_one, first_other}
+use Rattle.ns_kept.proofs.Later.{first_one, first_other, find-any}
+use Rattle.ns_kept.proofs.NamesLemmas.{or_true, or_right}
 use Rattle.ns_kept.proofs.Tally.{tally, count-tally, tally-either, AllEnds, tally-either-at, tally-at, times, times-one, times-sixteen, tally-keys, tally-last, tally-adds, any-weaker, any-filter, length-filter, rises-once}
 
 -- ---- booleans
-
-or_true : (a b : Bool) → (a || b) ≡ true → (a ≡ true) ⊎ (b ≡ true)
-or_true true b is = inl refl
-or_true false b is = inr is
-
-or_right : (a b : Bool) → b ≡ true → (a || b) ≡ true
-or_right true b is = refl
-or_right false b is = is
 
 and_both : (a b : Bool) → a ≡ true → b ≡ true → (a && b) ≡ true
 and_both a b yes_a yes_b = ap (λ c. c && b) yes_a ∙ yes_b
@@ -383,14 +376,6 @@ one-copy w x = step (window_copy_in x.call x.reply)
     step : (o : Option (WindowName × Heard)) → length (map (λ (c : WindowName × Heard). c.1) (filter (λ (c : WindowName × Heard). same_window c.0 w) (cons_option o []))) ≡ cond (option_map_or (λ (c : WindowName × Heard). same_window c.0 w) o false) 1 0
     step None = refl
     step (Some c) = by c (same_window c.0 w)
-
-find-any : {X : Type 0} (test : X → Bool) (xs : List X) → is_some (find test xs) ≡ list_any test xs
-find-any test [] = refl
-find-any {X} test (x ∷ xs) = step (test x) (find-any test xs)
-  where
-    step : (b : Bool) → is_some (find test xs) ≡ list_any test xs → is_some (cond b (Some x) (find test xs)) ≡ (b || list_any test xs)
-    step true later = refl
-    step false later = later
 
 most-window_copies : (net : Network) (h : List Entry) → IsLegal net h → (eui : DevEui) → tally (w_test eui h) h ≤ 128
 most-window_copies net h legal eui =

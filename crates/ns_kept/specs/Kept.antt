@@ -13,7 +13,7 @@ use Rattle.ns_calls.specs.declared.call.Reply.{Reply}
 use Rattle.ns_calls.specs.declared.call.Reply.TheVariants as reply
 use Rattle.ns_calls.specs.declared.call.Entry.{Entry}
 use Rattle.ns_calls.specs.Queries.{still_open}
-use Rattle.ns_calls.specs.History.{Acceptance, Opening, Closing, acceptance_in, opening_in, closing_in, window_copy_in, ticket_copy_in, asks_for, closes, same_device, is_live, open_windows, open_window, is_ticket_open}
+use Rattle.ns_calls.specs.History.{Acceptance, Opening, Closing, acceptance_in, opening_in, window_in, closing_in, window_copy_in, ticket_copy_in, asks_for, closes, same_device, is_live, open_windows, open_window, is_ticket_open}
 
 -- What a trim leaves, and the entries made since. The mark is the number of the first entry made since, and the windows are those that
 -- were open at the trim.
@@ -43,7 +43,7 @@ closing_of mark windows number (Some o) = if counts mark windows number o.window
 
 abbrev pub with_closings : ℕ → List WindowName → List Entry → List Entry
 with_closings mark windows [] = []
-with_closings mark windows (e ∷ es) = e ∷ closing_of mark windows e.number (opening_in e.call e.reply) ++ with_closings mark windows es
+with_closings mark windows (e ∷ es) = e ∷ closing_of mark windows e.number (window_in e.call e.reply) ++ with_closings mark windows es
 
 -- the entries as they read: with a closing behind each opening below the mark whose window is not named
 abbrev pub reading : Remains → List Entry
@@ -52,7 +52,7 @@ reading k = with_closings k.mark k.windows k.entries
 -- The same in words of openings: those that count as open, and of them those that no entry after them closes. In every kept history
 -- whose numbers rise these are the open windows of what is read.
 abbrev pub counted_opening : Remains → Entry → Option Opening
-counted_opening k e = option_and_then (λ o. when (counts k.mark k.windows e.number o.window) o) (opening_in e.call e.reply)
+counted_opening k e = option_and_then (λ o. when (counts k.mark k.windows e.number o.window) o) (window_in e.call e.reply)
 
 -- the windows that these open and that no entry after them closes
 abbrev pub counted_windows : Remains → List Opening

@@ -1,7 +1,7 @@
 use Rattle.std.proofs.Common.{◌≡◌, ◌+◌, ◌++◌, ◌∷◌, [], List, ℕ, take, length, rules, ap, sym, ◌∙◌, subst, append_assoc, length-append, arith, inl, inr, ◌≤◌}
 use Rattle.std.proofs.lemmas.List.{take_rest}
-use Rattle.lorawan_ns.specs.Output.{are_steps}
-use Rattle.lorawan_ns.specs.Found.{FoundIn}
+use Rattle.lorawan_ns.specs.Private.Lines.{are_steps}
+use Rattle.lorawan_ns.specs.Private.Found.{FoundIn}
 use Rattle.lorawan_ns.proofs.LineLemmas.{feed_at, unended_before, unended_all}
 use Rattle.lorawan_ns.proofs.FoundLemmas.{found_line, found_part}
 use Rattle.lorawan_ns.proofs.step_lines.add_block.Goals as goal

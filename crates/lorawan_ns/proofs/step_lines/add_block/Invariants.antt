@@ -1,5 +1,5 @@
 use Rattle.std.proofs.Common.{◌≡◌, ◌<◌, ◌++◌, [], ℕ, List, length, ◌⊎◌}
-use Rattle.lorawan_ns.specs.Found.{FoundIn}
+use Rattle.lorawan_ns.specs.Private.Found.{FoundIn}
 use Rattle.lorawan_ns.proofs.step_lines.add_block.Given as goal
 
 -- the lines that end in what is behind are found, and at the beginning nothing is behind

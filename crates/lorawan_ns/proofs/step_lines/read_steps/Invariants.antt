@@ -1,6 +1,6 @@
 use Rattle.std.proofs.Common.{◌≡◌, ℕ, List, false, ◌+◌, ◌-◌, ◌*◌, ◌^◌, vec_len}
 use Rattle.std.specs.Io.KnownBytes.{Consumes}
-use Rattle.lorawan_ns.specs.Found.{FoundIn}
+use Rattle.lorawan_ns.specs.Private.Found.{FoundIn}
 use Rattle.lorawan_ns.proofs.step_lines.read_steps.Given as goal
 
 -- the lines of what was read are found, but for the one that has not ended

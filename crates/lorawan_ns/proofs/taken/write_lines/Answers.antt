@@ -1,6 +1,7 @@
 use Rattle.std.proofs.Common.{◌≡◌, ◌+◌, ◌++◌, drop, flat_map, option_map, refl, ap, rules}
 use Rattle.std.proofs.KnownBytes.{Appends-trans}
-use Rattle.lorawan_ns.specs.Output.{text_of, woven}
+use Rattle.lorawan_ns.specs.Output.{text_of}
+use Rattle.lorawan_ns.specs.Private.Lines.{woven}
 use Rattle.lorawan_ns.proofs.Woven.{woven_step, woven_refused}
 use Rattle.lorawan_ns.proofs.FrontLemmas.{front_behind, next_lines}
 use Rattle.lorawan_ns.proofs.taken.write_lines.Goals as goal

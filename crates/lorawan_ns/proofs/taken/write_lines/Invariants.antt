@@ -1,6 +1,7 @@
 use Rattle.std.proofs.Common.{◌≡◌, ◌++◌, [], List, ℕ, false, drop, flat_map}
 use Rattle.std.specs.Io.KnownBytes.{Appends}
-use Rattle.lorawan_ns.specs.Output.{text_of, woven}
+use Rattle.lorawan_ns.specs.Output.{text_of}
+use Rattle.lorawan_ns.specs.Private.Lines.{woven}
 use Rattle.lorawan_ns.proofs.taken.write_lines.Given as goal
 
 -- what is written, the text behind it and the lines of the rest are the whole

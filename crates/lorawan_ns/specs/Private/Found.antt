@@ -1,10 +1,10 @@
--- For private clauses: what is found of a text so far, block by block.
+-- What is found of a text so far, block by block.
 use Rattle.std.specs.Prelude.{◌≡◌, ℕ, ◌+◌, ◌<◌, false, List, ◌++◌, length, Option, ◌==◌, ◌⊎◌}
 use Rattle.std.specs.List.{All}
 use Rattle.ns_shard.specs.declared.step.Act.{Act}
 use Rattle.lorawan_ns.specs.declared.step_lines.StepLines.{StepLines}
 use Rattle.lorawan_ns.specs.StepLines.{steps}
-use Rattle.lorawan_ns.specs.Output.{steps_in, are_steps}
+use Rattle.lorawan_ns.specs.Private.Lines.{steps_in, are_steps}
 
 -- what is found is the steps of these lines, and which of them are step lines
 abbrev pub Has : StepLines → List (Option Act) → Type 0

@@ -1,4 +1,4 @@
--- What the parts of a message in the code stand for; for private clauses.
+-- What the parts of a message in the code stand for.
 use Rattle.std.specs.Prelude.{option_map, string_bytes}
 use Rattle.ns_joinwire.specs.declared.envelope.KeyEnvelope as code_envelope
 use Rattle.ns_joinwire.specs.declared.answer.Head as code_head
