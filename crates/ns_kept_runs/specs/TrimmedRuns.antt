@@ -1,4 +1,4 @@
--- Trims in worked runs of one device.
+-- Trims in worked runs of one device. Frames and what goes out with them are those of the runs that are not trimmed.
 use Rattle.std.specs.Prelude.{◌≡◌, ℕ, ◌+◌, List, [], ◌∷◌, map, length, None, Some, false}
 use Rattle.ns_roster.specs.Network.{Network}
 use Rattle.ns_calls.specs.declared.call.Call.{Call}
@@ -11,7 +11,9 @@ use Rattle.ns_calls.specs.Out.{answer}
 use Rattle.ns_calls.specs.Runs.{history_of}
 use Rattle.ns_kept.specs.Kept.{Remains, whole, reading, keep}
 use Rattle.ns_kept.specs.Left.{with_call}
-use Rattle.ns_kept_runs.specs.OneDevice.{eui, network, address, heard_1, heard_2, join_1, join_5, join_6, nwk_1, nwk_2, app_1, join_ans, name, quiet}
+use Rattle.ns_examples.specs.FirstJoin.{frame, closed}
+use Rattle.ns_examples.specs.SecondJoin.{confirmed_4, confirmed_5, confirmed_6}
+use Rattle.ns_examples.specs.OneDevice.{eui, network, address, heard_1, heard_2, join_1, join_5, join_6, nwk_1, nwk_2, app_1, join_ans, name, quiet}
 
 -- the answers to calls over what is kept, so many entries being made
 abbrev pub answers_over : Network → ℕ → Remains → List Call → List Answer
@@ -24,10 +26,6 @@ trimmed calls = let h = history_of network calls in keep (length h) (whole h)
 
 abbrev pub numbers : Remains → List ℕ
 numbers k = map (λ (e : Entry). e.number) k.entries
-
--- an Unconfirmed Data Up of counter 2
-abbrev pub frame : List ℕ
-frame = (0x40 ∷ 0xf1 ∷ 0x7d ∷ 0xbe ∷ 0x49 ∷ 0x00 ∷ 0x02 ∷ 0x00 ∷ 0x01 ∷ 0x95 ∷ 0x43 ∷ 0x78 ∷ 0x76 ∷ 0x2b ∷ 0x11 ∷ 0xff ∷ 0x0d ∷ [])
 
 -- a join, and an uplink that two gateways hear
 abbrev pub open_run : List Call
@@ -54,29 +52,11 @@ pub record LongRun : Type 0 where
   pub answers : answers_over network 14 (trimmed long_run) (call.Uplink frame heard_1 ∷ call.Join join_1 heard_1 ∷ call.Close (name 1 2) ∷ [])
       ≡ quiet (Old eui 1 2) ∷ quiet (NonceOld (record { 0 = 6 })) ∷ quiet NoWindow ∷ []
 
--- what goes out as the window is closed
-abbrev pub closed : Answer
-closed = record {
-  reply = Closed (name 1 2) None;
-  uplink = Some (record { window = name 1 2; addr = address; port = Some 1; fopts = []; sealed = false; payload = (0x74 ∷ 0x65 ∷ 0x73 ∷ 0x74 ∷ []); copies = record { items = heard_1 ∷ heard_2 ∷ [] } });
-  downlink = None;
-}
-
 -- of six entries the acceptance, the opening and the copy stay; the window is open, and closes with both copies
 pub record OpenRun : Type 0 where
   pub numbers : numbers (trimmed open_run) ≡ 2 ∷ 4 ∷ 5 ∷ []
   pub windows : (trimmed open_run).windows ≡ name 1 2 ∷ []
   pub answers : answers_over network 6 (trimmed open_run) (call.Close (name 1 2) ∷ call.Close (name 1 2) ∷ []) ≡ closed ∷ quiet NoWindow ∷ []
-
--- Confirmed Data Up of counters 4, 5 and 6
-abbrev pub confirmed_4 : List ℕ
-confirmed_4 = (0x80 ∷ 0xf1 ∷ 0x7d ∷ 0xbe ∷ 0x49 ∷ 0x00 ∷ 0x04 ∷ 0x00 ∷ 0x01 ∷ 0x69 ∷ 0x32 ∷ 0xdd ∷ 0xfb ∷ 0xda ∷ 0x4d ∷ [])
-
-abbrev pub confirmed_5 : List ℕ
-confirmed_5 = (0x80 ∷ 0xf1 ∷ 0x7d ∷ 0xbe ∷ 0x49 ∷ 0x00 ∷ 0x05 ∷ 0x00 ∷ 0x00 ∷ 0x5d ∷ 0x25 ∷ 0x68 ∷ 0x92 ∷ 0x78 ∷ [])
-
-abbrev pub confirmed_6 : List ℕ
-confirmed_6 = (0x80 ∷ 0xf1 ∷ 0x7d ∷ 0xbe ∷ 0x49 ∷ 0x00 ∷ 0x06 ∷ 0x00 ∷ 0x07 ∷ 0x98 ∷ 0x7d ∷ 0x6e ∷ 0x32 ∷ 0x55 ∷ 0xd0 ∷ 0xb1 ∷ 0xaf ∷ 0x26 ∷ [])
 
 -- two acknowledgements
 abbrev pub acknowledged_run : List Call
