@@ -174,9 +174,21 @@ other_frame net h frame heard w apart =
 
 -- ---- an open window, and what was heard since it was opened
 
+-- whether an open window has the frame of this one
+abbrev has_frame : Opening → Opening → Bool
+has_frame o x = bytes_eq x.frame o.frame
+
+-- whether a window stays open after an entry
+abbrev outlives : Entry → Opening → Bool
+outlives e x = not (closes x.window e)
+
+-- whoever has the name of this window is this window
+abbrev Only : Opening → Opening → Type 0
+Only o x = same_window x.window o.window ≡ true → x ≡ o
+
 record Inv (o : Opening) (g since : List Entry) : Type 0 where
   found : window_with g o.frame ≡ Some o
-  only : AllByRecursion (λ x. same_window x.window o.window ≡ true → x ≡ o) (open_windows g)
+  only : AllByRecursion (Only o) (open_windows g)
   copies : window_copies g o.window ≡ take most_copies (hearings o.frame since)
 
 -- no second window opens under the name of an open one
@@ -255,8 +267,8 @@ copies_now net o g since legal inv (call.Uplink frame heard) =
 -- the window stays open
 stays : (net : Network) (o : Opening) (g since : List Entry) (e : Entry) → IsLegal net g → e.reply ≡ reply_to net g e.call → closes o.window e ≡ false → Inv o g since → Inv o (g ++ e ∷ []) (since ++ e ∷ [])
 stays net o g since e legal is not_closed inv = record {
-  found = ap (find test) (open_windows-push g e) ∙ find-first test (filter keep (open_windows g)) (option_to_list (opening_in e.call e.reply)) o (find-kept test keep (open_windows g) o inv.found (ap not not_closed));
-  only = subst (AllByRecursion Only) (sym (open_windows-push g e)) (All-append Only (filter keep (open_windows g)) (option_to_list (opening_in e.call e.reply)) (All-filter Only keep (open_windows g) inv.only) (new (opening_in e.call e.reply) refl));
+  found = ap (find (has_frame o)) (open_windows-push g e) ∙ find-first (has_frame o) (filter (outlives e) (open_windows g)) (option_to_list (opening_in e.call e.reply)) o (find-kept (has_frame o) (outlives e) (open_windows g) o inv.found (ap not not_closed));
+  only = subst (AllByRecursion (Only o)) (sym (open_windows-push g e)) (All-append (Only o) (filter (outlives e) (open_windows g)) (option_to_list (opening_in e.call e.reply)) (All-filter (Only o) (outlives e) (open_windows g) inv.only) (new (opening_in e.call e.reply) refl));
   copies =
       window_copies-push g e o.window
       ∙ (ap (λ r. window_copies g o.window ++ added o.window e.call r) is
@@ -264,15 +276,6 @@ stays net o g since e legal is not_closed inv = record {
       ∙ ap (take most_copies) (sym (hearings-push o.frame since e))));
 }
   where
-    test : Opening → Bool
-    test x = bytes_eq x.frame o.frame
-
-    keep : Opening → Bool
-    keep x = not (closes x.window e)
-
-    Only : Opening → Type 0
-    Only x = same_window x.window o.window ≡ true → x ≡ o
-
     new : (p : Option Opening) → opening_in e.call e.reply ≡ p → AllByRecursion (λ x. same_window x.window o.window ≡ true → x ≡ o) (option_to_list p)
     new None says = tt
     new (Some x) says =
@@ -285,17 +288,17 @@ begins : (net : Network) (o : Opening) (g : List Entry) (e : Entry) → IsLegal 
 begins net o g e legal is says =
     let opening = opening_is e.call e.reply o says in
     let new = opened-new net g legal o.frame o.heard o.window (ap (reply_to net g) (sym opening.0) ∙ (sym is ∙ opening.1)) in
-    let now : open_windows (g ++ e ∷ []) ≡ filter keep (open_windows g) ++ o ∷ [] = open_windows-push g e ∙ ap (λ (p : Option Opening). filter keep (open_windows g) ++ option_to_list p) says in
-    let apart : find test (filter keep (open_windows g)) ≡ None = find-none test (filter keep (open_windows g)) (All-filter (λ x. test x ≡ false) keep (open_windows g) (none-passes test (open_windows g) new.frame_apart)) in
-    let no_name : AllByRecursion Only (open_windows g) =
-    All-weaker (λ (x : Opening). same_window x.window o.window ≡ false) Only (λ x other same. absurd (false≢true (sym other ∙ same))) (open_windows g) (none-passes (λ (x : Opening). same_window x.window o.window) (open_windows g) new.name) in
+    let now : open_windows (g ++ e ∷ []) ≡ filter (outlives e) (open_windows g) ++ o ∷ [] = open_windows-push g e ∙ ap (λ (p : Option Opening). filter (outlives e) (open_windows g) ++ option_to_list p) says in
+    let apart : find (has_frame o) (filter (outlives e) (open_windows g)) ≡ None = find-none (has_frame o) (filter (outlives e) (open_windows g)) (All-filter (λ x. has_frame o x ≡ false) (outlives e) (open_windows g) (none-passes (has_frame o) (open_windows g) new.frame_apart)) in
+    let no_name : AllByRecursion (Only o) (open_windows g) =
+    All-weaker (λ (x : Opening). same_window x.window o.window ≡ false) (Only o) (λ x other same. absurd (false≢true (sym other ∙ same))) (open_windows g) (none-passes (λ (x : Opening). same_window x.window o.window) (open_windows g) new.name) in
     record {
       found =
-          ap (find test) now
-          ∙ (find-append test (filter keep (open_windows g)) (o ∷ [])
-          ∙ (ap (λ (p : Option Opening). option_or p (find test (o ∷ []))) apart
+          ap (find (has_frame o)) now
+          ∙ (find-append (has_frame o) (filter (outlives e) (open_windows g)) (o ∷ [])
+          ∙ (ap (λ (p : Option Opening). option_or p (find (has_frame o) (o ∷ []))) apart
           ∙ ap (λ b. cond {A = Option Opening} b (Some o) None) (same_bytes o.frame)));
-      only = subst (AllByRecursion Only) (sym now) (All-append Only (filter keep (open_windows g)) (o ∷ []) (All-filter Only keep (open_windows g) no_name) (λ _. refl, tt));
+      only = subst (AllByRecursion (Only o)) (sym now) (All-append (Only o) (filter (outlives e) (open_windows g)) (o ∷ []) (All-filter (Only o) (outlives e) (open_windows g) no_name) (λ _. refl, tt));
       copies =
           window_copies-push g e o.window
           ∙ (ap (λ cs. cs ++ added o.window e.call e.reply) new.copies
@@ -304,15 +307,6 @@ begins net o g e legal is says =
           ∙ (ap (λ b. map (λ (x : WindowName × Heard). x.1) (cond {A = List (WindowName × Heard)} b ((o.window, o.heard) ∷ []) [])) (same_window-refl o.window)
           ∙ ap (take most_copies) (sym (one_more (λ (x : Entry). hearing_in o.frame x.call) e ∙ (ap (λ (c : Call). option_to_list (hearing_in o.frame c)) opening.0 ∙ ap (λ b. option_to_list (when b o.heard)) (same_bytes o.frame))))))));
     }
-  where
-    test : Opening → Bool
-    test x = bytes_eq x.frame o.frame
-
-    keep : Opening → Bool
-    keep x = not (closes x.window e)
-
-    Only : Opening → Type 0
-    Only x = same_window x.window o.window ≡ true → x ≡ o
 
 copies_on : (net : Network) (o : Opening) (g since ys : List Entry) → IsLegal net (g ++ ys) → Inv o g since → AllByRecursion (λ e. closes o.window e ≡ false) ys → window_copies (g ++ ys) o.window ≡ take most_copies (hearings o.frame (since ++ ys))
 copies_on net o g since [] legal inv is_open =

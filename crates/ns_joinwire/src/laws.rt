@@ -7,5 +7,6 @@ ghost use Rattle.ns_joinwire.specs.Spelled.{Spells};
 
 /// A text is an answer to a transaction exactly where it spells that answer, and as the answer that it spells.
 pub fn answered_exactly()
-    ensures { (bytes : List ℕ) (transaction : ℕ) (answer : JoinAns) → (joinans bytes transaction ≡ Ok answer) ↔ Spells bytes transaction answer }
+    ensures { (bytes : List ℕ) (transaction : ℕ) (answer : JoinAns)
+        → (joinans bytes transaction ≡ Ok answer) ↔ Spells bytes transaction answer }
 {}

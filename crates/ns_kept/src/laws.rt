@@ -39,7 +39,8 @@ pub fn trims_leave_the_answers()
 /// A legal history leaves itself. What it leaves gives its answers, is left by the longer history after a call, and its trim is
 /// left by it; its numbers rise.
 pub fn what_histories_leave()
-    ensures whole { (net : Network) (h : List Entry) → calls.IsLegal net h → calls.IsNumbered h → Leaves net h (whole h) }
+    ensures whole { (net : Network) (h : List Entry) → calls.IsLegal net h → calls.IsNumbered h
+        → Leaves net h (whole h) }
     ensures answers { (net : Network) (h : List Entry) (k : Remains) → Leaves net h k → (call : Call)
         → answer net (reading k) call ≡ answer net h call }
     ensures call { (net : Network) (h : List Entry) (k : Remains) → Leaves net h k → (call : Call)
@@ -69,7 +70,8 @@ pub fn entries_from_the_mark_are_legal()
 /// Every merge of histories that leave these, each of its own shard, is a legal history of the one plain server, and what goes out
 /// is the same at each entry.
 pub fn merges_of_what_leaves_are_legal()
-    ensures { (net : Network) → IsRoster net → (lists : List (List Entry)) (kept : List Remains) → AreLeft net lists kept
+    ensures { (net : Network) → IsRoster net → (lists : List (List Entry)) (kept : List Remains)
+        → AreLeft net lists kept
         → MergesAreLegal net lists }
 {}
 
@@ -77,7 +79,8 @@ pub fn merges_of_what_leaves_are_legal()
 pub fn few_entries_are_kept()
     ensures device { (net : Network) (h : List Entry) → calls.IsLegal net h → (made : ℕ) (eui : DevEui)
         → count_by (is_of eui) (keep made (whole h)).entries ≤ 206 }
-    ensures shard { (net : Network) → IsRoster net → (shard : ℕ) (h : List Entry) → calls.IsHistory net shard h → (made : ℕ)
+    ensures shard { (net : Network) → IsRoster net → (shard : ℕ) (h : List Entry) → calls.IsHistory net shard h
+        → (made : ℕ)
         → length (keep made (whole h)).entries ≤ 206 * count_by (λ d. shard_of d.eui == shard) net.devices }
 {}
 
