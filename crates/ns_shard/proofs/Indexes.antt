@@ -1,12 +1,12 @@
 -- Places of devices in maps.
-use Rattle.std.proofs.Common.{◌≡◌, ◌+◌, ◌-◌, not, take, map, ℕ, zero, suc, ◌<◌, ◌≤◌, Bool, true, false, cond, ◌++◌, List, [], ◌∷◌, length, get_or, Option, None, Some, refl, sym, ap, ◌∙◌, arith, eqb, filter, drop, inl, inr}
+use Rattle.std.proofs.Common.{◌≡◌, ◌+◌, ◌-◌, not, take, map, ℕ, zero, suc, ◌<◌, ◌≤◌, Bool, true, false, cond, ◌++◌, List, [], ◌∷◌, length, get_or, Option, None, Some, refl, sym, ap, ap₂, ◌∙◌, arith, eqb, filter, drop, set, inl, inr}
 use Rattle.std.proofs.lemmas.Grind.{common_steps}
 use Rattle.std.specs.Prelude.{nat_lt}
 use Rattle.std.specs.List.{position, position_or_len}
 use Rattle.std.proofs.lemmas.Bool.{cases_Bool}
-use Rattle.std.proofs.lemmas.List.Folds.{position_or_len_push}
+use Rattle.std.proofs.lemmas.List.Folds.{position_or_len_push, position_or_len-set}
 use Rattle.std.proofs.lemmas.List.Sums.{prefix_len-le-length}
-use Rattle.std.proofs.lemmas.List.{length-append, length-drop, take_all, append-nil}
+use Rattle.std.proofs.lemmas.List.{length-set, length-append, length-drop, take_all, append-nil}
 use Rattle.ns_windows.proofs.Places.{NonePasses}
 use Rattle.ns_shard.specs.declared.devices.Own.{Own}
 use Rattle.ns_shard.specs.Indexes.{Indexes, known_or, PlaceMap, PutsFirst}
@@ -29,6 +29,13 @@ position-push test xs y =
 pub Indexes-push : (key : Own → ℕ) (devices : List Own) (x : Own) (old new : PlaceMap) → Indexes key old devices → PutsFirst (key x) (length devices) old new → Indexes key new (devices ++ x ∷ [])
 Indexes-push key devices x old new indexed puts k =
     puts k ∙ ap (λ o. known_or o (eqb (key x) k) (length devices)) (indexed k) ∙ sym (position-push (λ o. eqb (key o) k) devices x)
+
+-- a device that keeps its key is found where it was
+pub Indexes-set : (key : Own → ℕ) (places : PlaceMap) (devices : List Own) (i : ℕ) (old new : Own) → Indexes key places devices → old ≡ get_or devices i old → key new ≡ key old → Indexes key places (set devices i new)
+Indexes-set key places devices i old new indexed at same k =
+    indexed k
+    ∙ sym (ap₂ (λ m n. cond {A = Option ℕ} (nat_lt m n) (Some m) None)
+    (position_or_len-set (λ (o : Own). eqb (key o) k) devices i new old (ap (λ n. eqb n k) (same ∙ ap key at))) (length-set devices i new))
 
 -- before the first that passes there is none
 filter_past : {X : Type 0} (test : X → Bool) (xs : List X) → filter test (drop (position_or_len test xs) xs) ≡ filter test xs

@@ -8,6 +8,7 @@ pub mod PartSteps
 pub mod AnswerSteps
 pub mod CloseSteps
 pub mod UplinkSteps
+pub mod Reactions
 pub mod RunSteps
 pub mod RunHistories
 pub mod Indexes

@@ -48,7 +48,8 @@ use Rattle.ns_windows.specs.Windows.{named, framed, added}
 use Rattle.ns_shard.specs.declared.devices.Own.{Own}
 use Rattle.ns_shard.specs.Held.{window_in, windows_in, nwk_of, app_of}
 use Rattle.ns_shard.specs.Devices.{devices_in, own_of}
-use Rattle.ns_shard.specs.Taken.{copied_reply, opening_reply, taking_reply, taking_devices, taking_windows, with_window, keys_in, IsOpenable}
+use Rattle.ns_shard.specs.Reaction as kept
+use Rattle.ns_shard.specs.Reaction.{uplink_reply, with_shard_uplink, with_copy_or_window, with_window, keys_in, IsOpenable}
 use Rattle.ns_shard.specs.Parts.{Agrees}
 use Rattle.ns_shard.proofs.Maps.{none-count}
 use Rattle.ns_shard.proofs.Roster.{fit-own, members}
@@ -91,35 +92,35 @@ found-named h frame o is = step (open_windows h) is
               ]
         ]
 
-copied-same : (h : List Entry) (frame : List ℕ) (o : Opening) → plain.window_with h frame ≡ Some o → copied_reply o.window (added (named o.window (windows_in h))) ≡ copy_reply h o.window
+copied-same : (h : List Entry) (frame : List ℕ) (o : Opening) → plain.window_with h frame ≡ Some o → kept.copy_reply o.window (added (named o.window (windows_in h))) ≡ copy_reply h o.window
 copied-same h frame o is =
     let found = found-named h frame o is in
     let len : ℕ = length (window_copies h o.window) in
-    ap (λ x. copied_reply o.window (added x)) (windows-named h o.window ∙ ap (option_map (window_in h)) found.1)
-    ∙ (ap (λ (v : WindowName). copied_reply o.window (cond (nat_lt (length (window_copies h v)) 16) (added.Copied (length (window_copies h v) + 1)) added.Crowded)) found.2
-    ∙ (ap (λ b. copied_reply o.window (cond b (added.Copied (len + 1)) added.Crowded)) (place-test len)
-    ∙ elim (nat_le (len + 1) 16) as (λ b. copied_reply o.window (cond b (added.Copied (len + 1)) added.Crowded) ≡ cond b (reply.Copied o.window (len + 1)) (reply.Crowded o.window)) [ true ↦ refl | false ↦ refl ]))
+    ap (λ x. kept.copy_reply o.window (added x)) (windows-named h o.window ∙ ap (option_map (window_in h)) found.1)
+    ∙ (ap (λ (v : WindowName). kept.copy_reply o.window (cond (nat_lt (length (window_copies h v)) 16) (added.Copied (length (window_copies h v) + 1)) added.Crowded)) found.2
+    ∙ (ap (λ b. kept.copy_reply o.window (cond b (added.Copied (len + 1)) added.Crowded)) (place-test len)
+    ∙ elim (nat_le (len + 1) 16) as (λ b. kept.copy_reply o.window (cond b (added.Copied (len + 1)) added.Crowded) ≡ cond b (reply.Copied o.window (len + 1)) (reply.Crowded o.window)) [ true ↦ refl | false ↦ refl ]))
 
 pub uplink-replied : (net : Network) (index : ℕ) (h : List Entry) (devices : List Own) (windows : List Window) (frame : List ℕ) → Agrees net index h devices windows → UplinksAgree net h →
-    shard_of_addr (record { 0 = (data_fields frame).addr }) ≡ index → taking_reply devices windows frame ≡ reply_to_uplink net h frame
+    shard_of_addr (record { 0 = (data_fields frame).addr }) ≡ index → uplink_reply devices windows frame ≡ reply_to_uplink net h frame
 uplink-replied net index h devices windows frame agrees law mine =
-    ap₂ (λ ds ws. taking_reply ds ws frame) agrees.by_device agrees.by_window
-    ∙ (ap₂ (λ f s. first_case (option_map by_copy (framed frame (windows_in h)) ∷ option_map (opening_reply (windows_in h)) f ∷ option_map old s ∷ []) reply.NoSession)
+    ap₂ (λ ds ws. uplink_reply ds ws frame) agrees.by_device agrees.by_window
+    ∙ (ap₂ (λ f s. first_case (option_map by_copy (framed frame (windows_in h)) ∷ option_map (kept.open_reply (windows_in h)) f ∷ option_map old s ∷ []) reply.NoSession)
     (fit-own above net index h frame agrees.valid (law.fits above frame) mine) (fit-own below net index h frame agrees.valid (law.fits below frame) mine)
-    ∙ (ap (λ x. first_case (option_map by_copy x ∷ option_map (opening_reply (windows_in h)) (first_fit above net h frame) ∷ option_map old (first_fit below net h frame) ∷ []) reply.NoSession) (windows-framed h frame)
+    ∙ (ap (λ x. first_case (option_map by_copy x ∷ option_map (kept.open_reply (windows_in h)) (first_fit above net h frame) ∷ option_map old (first_fit below net h frame) ∷ []) reply.NoSession) (windows-framed h frame)
     ∙ step (plain.window_with h frame) refl (first_fit above net h frame)))
   where
     by_copy : Window → Reply
-    by_copy w = copied_reply w.name (added (named w.name (windows_in h)))
+    by_copy w = kept.copy_reply w.name (added (named w.name (windows_in h)))
 
     old : WindowName → Reply
     old w = reply.Old w.eui w.session w.fcnt
 
-    opens : (w : WindowName) → opening_reply (windows_in h) w ≡ open_reply h w
+    opens : (w : WindowName) → kept.open_reply (windows_in h) w ≡ open_reply h w
     opens w = ap (λ n. cond (nat_le most_windows n) (reply.Busy w.eui) (reply.Opened w)) (windows-count h w.eui)
 
     step : (o : Option Opening) → plain.window_with h frame ≡ o → (f : Option WindowName) →
-        first_case (option_map by_copy (option_map (window_in h) o) ∷ option_map (opening_reply (windows_in h)) f ∷ option_map old (first_fit below net h frame) ∷ []) reply.NoSession
+        first_case (option_map by_copy (option_map (window_in h) o) ∷ option_map (kept.open_reply (windows_in h)) f ∷ option_map old (first_fit below net h frame) ∷ []) reply.NoSession
         ≡ first_case (option_map (λ (x : Opening). copy_reply h x.window) o ∷ option_map (open_reply h) f ∷ option_map old (first_fit below net h frame) ∷ []) reply.NoSession
     step (Some o) is f = copied-same h frame o is
     step None is (Some w) = opens w
@@ -309,7 +310,7 @@ opened-keys net index h frame w is = step (session_join h w.eui w.session) refl 
         ∙ ap (λ (j : Option JoinAns). Some (nwk_of j, app_of j)) (sym keyed)))
 
 pub can_open : (net : Network) (index : ℕ) (h : List Entry) (devices : List Own) (windows : List Window) (frame : List ℕ) (heard : Heard) → Agrees net index h devices windows → UplinksAgree net h →
-    shard_of_addr (record { 0 = (data_fields frame).addr }) ≡ index → (w : WindowName) → taking_reply devices windows frame ≡ reply.Opened w → IsOpenable devices windows w
+    shard_of_addr (record { 0 = (data_fields frame).addr }) ≡ index → (w : WindowName) → uplink_reply devices windows frame ≡ reply.Opened w → IsOpenable devices windows w
 can_open net index h devices windows frame heard agrees law mine w said =
     let is : IsOpened net index h frame w =
     is-opened net index h frame heard w agrees.valid agrees.history.legal (history_more net index h (call.Uplink frame heard) mine agrees.history).legal mine (sym (uplink-replied net index h devices windows frame agrees law mine) ∙ said) in
@@ -362,8 +363,8 @@ full-of h None None None w is = absurd (cc is)
 
 -- the devices and the windows after an uplink
 record After (net : Network) (index : ℕ) (h g : List Entry) (frame : List ℕ) (heard : Heard) (r : Reply) : Type 0 where
-  devices_after : taking_devices r (devices_in net index h) ≡ devices_in net index g
-  windows_after : taking_windows r frame heard (devices_in net index h) (windows_in h) ≡ windows_in g
+  devices_after : with_shard_uplink r (devices_in net index h) ≡ devices_in net index g
+  windows_after : with_copy_or_window r frame heard (devices_in net index h) (windows_in h) ≡ windows_in g
 
 after-of : (net : Network) (index : ℕ) (h : List Entry) (devices : List Own) (windows : List Window) (frame : List ℕ) (heard : Heard) → Agrees net index h devices windows → OthersStay → UplinksAgree net h →
     shard_of_addr (record { 0 = (data_fields frame).addr }) ≡ index → (r : Reply) → reply_to_uplink net h frame ≡ r → After net index h (with_call net h (length h) (call.Uplink frame heard)) frame heard r
@@ -432,12 +433,12 @@ after-of net index h devices windows frame heard agrees stay law mine r is = ste
 
 pub agrees-uplink : (net : Network) (index : ℕ) (h : List Entry) (devices : List Own) (windows : List Window) (frame : List ℕ) (heard : Heard) → Agrees net index h devices windows → OthersStay → UplinksAgree net h →
     shard_of_addr (record { 0 = (data_fields frame).addr }) ≡ index → (r : Reply) → reply_to_uplink net h frame ≡ r →
-    Agrees net index (with_call net h (length h) (call.Uplink frame heard)) (taking_devices r devices) (taking_windows r frame heard devices windows)
+    Agrees net index (with_call net h (length h) (call.Uplink frame heard)) (with_shard_uplink r devices) (with_copy_or_window r frame heard devices windows)
 agrees-uplink net index h devices windows frame heard agrees stay law mine r is =
     let after = after-of net index h devices windows frame heard agrees stay law mine r is in
     record {
       valid = agrees.valid;
       history = history_more net index h (call.Uplink frame heard) mine agrees.history;
-      by_device = ap (taking_devices r) agrees.by_device ∙ after.devices_after;
-      by_window = ap₂ (taking_windows r frame heard) agrees.by_device agrees.by_window ∙ after.windows_after;
+      by_device = ap (with_shard_uplink r) agrees.by_device ∙ after.devices_after;
+      by_window = ap₂ (with_copy_or_window r frame heard) agrees.by_device agrees.by_window ∙ after.windows_after;
     }

@@ -1,18 +1,20 @@
 //! The devices of one shard.
 
 ghost use Rattle.std.specs.Prelude.{◌≡◌, ◌==◌, ◌<◌, map, option_map, option_and_then, ◌++◌, ◌∷◌, [], length, position, filter, Contains, IfOk, IfSome, OnOk};
-ghost use Rattle.std.specs.Option.{option_map_or};
 ghost use Rattle.ns_types.specs.Identity.{shard_of};
 ghost use Rattle.ns_types.specs.Ticket.{dev_eui};
 ghost use Rattle.ns_roster.specs.Valid.{IsRoster};
 ghost use Rattle.ns_secure.specs.Counter.{above, below};
-ghost use Rattle.ns_sessions.specs.Record.{IsNewCounter, session_in, join_take, reply_take, with_uplink, with_ack, ack_in};
-ghost use Rattle.ns_shard.specs.Devices.{joinless, devices_of, is_own, own_of, own_fit, first_own_fit, with_state, changed, asked, answered};
+ghost use Rattle.ns_sessions.specs.Record.{IsNewCounter, session_in, with_uplink, with_ack, ack_in};
+ghost use Rattle.ns_shard.specs.Devices.{joinless, devices_of, is_own, own_of, own_fit, first_own_fit, with_state, changed, answered};
+ghost use Rattle.ns_shard.specs.Reaction.{own_join_reply, with_own_join, shard_join_reply, with_shard_join, own_answer_event, shard_answer_event};
 ghost use Rattle.ns_shard.specs.Indexes.{eui_key, addr_key, Indexes, PutsFirst};
 
-use ns_calls::Outcome;
+use crate::event::Event;
+use crate::joining::{answer_event, join_reply};
+use ns_calls::{Outcome, Reply};
 use ns_roster::{Device, Roster};
-use ns_sessions::{DeviceState, JoinTake, ReplyTake};
+use ns_sessions::DeviceState;
 use ns_types::{DevAddr, DevEui, Heard, Key, Ticket, WindowName, shard_of};
 use ns_views::DataView;
 use std::alloc::{AllocError, Global};
@@ -50,18 +52,28 @@ impl Own {
         })
     }
 
-    fn ask(&mut self, ticket: &Ticket, heard: &Heard) -> JoinTake
-        ensures take { result ≡ join_take self.old.state ticket.now }
-        ensures own { self.new ≡ with_state (asked ticket.now heard.now) self.old }
+    fn join(&mut self, ticket: &Ticket, heard: &Heard) -> Reply
+        ensures reply { result ≡ own_join_reply ticket.now self.old }
+        ensures own { self.new ≡ with_own_join ticket.now heard.now self.old }
+        ensures device { self.new.device ≡ self.old.device }
+        ensures addr { self.new.addr ≡ self.old.addr }
     {
-        self.state.ask(ticket, heard)
+        if self.device.join_eui.0 != ticket.join_eui().0 {
+            return Reply::NoDevice;
+        }
+        join_reply(ticket, self.state.ask(ticket, heard))
     }
 
-    fn answer(&mut self, ticket: &Ticket, outcome: &Outcome) -> ReplyTake
-        ensures take { result ≡ reply_take self.old.state ticket.now outcome.now }
+    fn answer(&mut self, ticket: &Ticket, outcome: &Outcome) -> Event
+        ensures event { result ≡ own_answer_event ticket.now outcome.now self.old }
         ensures own { self.new ≡ with_state (answered ticket.now outcome.now) self.old }
     {
-        self.state.answer(ticket, outcome)
+        answer_event(
+            self.addr,
+            ticket,
+            outcome,
+            self.state.answer(ticket, outcome),
+        )
     }
 
     fn take(&mut self, session: u32, fcnt: u32)
@@ -206,16 +218,6 @@ impl Devices {
         }
     }
 
-    /// The address of the device of an EUI, or 0 where there is none.
-    pub fn addr(&self, eui: DevEui) -> DevAddr
-        ensures { result ≡ option_map_or (λ o. o.addr) (own_of eui self.now) (record { 0 = 0 }) }
-    {
-        match self.find(eui) {
-            Some(own) => own.addr,
-            None => DevAddr(0),
-        }
-    }
-
     /// The window of the first device with the frame's address of which a session fits above its counters.
     pub fn fresh(&self, frame: &DataView) -> Option<WindowName>
         ensures { result ≡ first_own_fit above frame.now self.now }
@@ -250,25 +252,25 @@ impl Devices {
         None
     }
 
-    /// Takes a Join-Request of one of the devices.
-    pub fn ask(&mut self, ticket: &Ticket, heard: &Heard) -> Option<JoinTake>
-        ensures take { result ≡ option_map (λ o. join_take o.state ticket.now) (own_of (dev_eui ticket.now) self.old) }
-        ensures devices { self.new ≡ changed (dev_eui ticket.now) (asked ticket.now heard.now) self.old }
+    /// Takes a Join-Request, which is of one of the devices where DevEUI and JoinEUI are.
+    pub fn join(&mut self, ticket: &Ticket, heard: &Heard) -> Reply
+        ensures reply { result ≡ shard_join_reply self.old ticket.now }
+        ensures devices { self.new ≡ with_shard_join ticket.now heard.now self.old }
     {
         match self.place(ticket.dev_eui()) {
-            None => None,
-            Some(place) => Some(self.list[place].ask(ticket, heard)),
+            None => Reply::NoDevice,
+            Some(place) => self.list[place].join(ticket, heard),
         }
     }
 
-    /// Takes a join server's answer for one of the devices.
-    pub fn answer(&mut self, ticket: &Ticket, outcome: &Outcome) -> Option<ReplyTake>
-        ensures take { result ≡ option_map (λ o. reply_take o.state ticket.now outcome.now) (own_of (dev_eui ticket.now) self.old) }
+    /// Takes a join server's answer.
+    pub fn answer(&mut self, ticket: &Ticket, outcome: &Outcome) -> Event
+        ensures event { result ≡ shard_answer_event self.old ticket.now outcome.now }
         ensures devices { self.new ≡ changed (dev_eui ticket.now) (answered ticket.now outcome.now) self.old }
     {
         match self.place(ticket.dev_eui()) {
-            None => None,
-            Some(place) => Some(self.list[place].answer(ticket, outcome)),
+            None => Event::Quiet(Reply::NoTicket),
+            Some(place) => self.list[place].answer(ticket, outcome),
         }
     }
 

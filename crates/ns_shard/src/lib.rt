@@ -8,12 +8,14 @@
 #![tactic(auto)]
 
 mod calls;
-mod closing;
 mod devices;
+mod event;
 mod joining;
 mod packed;
 mod parts;
+mod reaction;
 mod run;
+mod sending;
 mod shard;
 mod step;
 mod taking;

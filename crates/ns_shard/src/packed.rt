@@ -1,10 +1,12 @@
 //! An answer that is kept in no more memory than it needs.
 
 ghost use Rattle.std.specs.Prelude.{◌≡◌, IfOk, Some, is_some};
-ghost use Rattle.ns_shard.specs.Taken.{quiet};
+ghost use Rattle.ns_shard.specs.Sending.{quiet, answer_of};
 
+use crate::event::Event;
 use arrayvec::ArrayVec;
 use ns_calls::{Answer, Bytes, Downlink, Reply, Uplink};
+use ns_roster::Roster;
 use ns_types::{DevAddr, Heard, WindowName};
 use std::alloc::{AllocError, Global};
 use std::marker::Model;
@@ -100,6 +102,15 @@ fn packed(alloc: Global, uplink: &Option<Uplink>) -> Result<Option<PackedUplink>
     }
 }
 
+// The answer where something goes out. It stays a function of its own, so that a call with which nothing goes out makes no room for
+// what does.
+#[inline(never)]
+fn packed_answer(alloc: Global, roster: &Roster, event: Event) -> Result<PackedAnswer, AllocError>
+    ensures { IfOk result (λ a. a ≡ answer_of roster.now event) }
+{
+    PackedAnswer::new(alloc, event.answer(roster))
+}
+
 impl PackedAnswer {
     /// A reply with which nothing goes out.
     pub fn quiet(reply: Reply) -> PackedAnswer
@@ -108,13 +119,10 @@ impl PackedAnswer {
         PackedAnswer { reply, sent: None }
     }
 
-    /// This answer. `NoMemory` (`AllocError`) where what goes out finds no memory.
-    pub fn new(alloc: Global, answer: Answer) -> Result<PackedAnswer, AllocError>
+    // This answer. `NoMemory` (`AllocError`) where what goes out finds no memory.
+    fn new(alloc: Global, answer: Answer) -> Result<PackedAnswer, AllocError>
         ensures { IfOk result (λ a. a ≡ answer) }
     {
-        if answer.uplink.is_none() && answer.downlink.is_none() {
-            return Ok(PackedAnswer::quiet(answer.reply));
-        }
         let sent = Sent {
             uplink: packed(alloc, &answer.uplink)?,
             downlink: answer.downlink,
@@ -125,23 +133,18 @@ impl PackedAnswer {
         })
     }
 
-    /// A reply with which an uplink goes out, and perhaps a downlink. `NoMemory` (`AllocError`) where they find no memory.
-    pub(crate) fn sending(
+    /// The answer that is made of what came of a call. `NoMemory` (`AllocError`) where what goes out finds no memory.
+    pub(crate) fn of(
         alloc: Global,
-        reply: Reply,
-        uplink: PackedUplink,
-        downlink: Option<Downlink>,
+        roster: &Roster,
+        event: Event,
     ) -> Result<PackedAnswer, AllocError>
-        ensures { IfOk result (λ a. a ≡ record { reply = reply; uplink = Some uplink; downlink = downlink }) }
+        ensures { IfOk result (λ a. a ≡ answer_of roster.now event) }
     {
-        let sent = Sent {
-            uplink: Some(uplink),
-            downlink,
-        };
-        Ok(PackedAnswer {
-            reply,
-            sent: Some(Box::new(alloc, sent)?),
-        })
+        match event {
+            Event::Quiet(reply) => Ok(PackedAnswer::quiet(reply)),
+            sending => packed_answer(alloc, roster, sending),
+        }
     }
 
     /// The reply.

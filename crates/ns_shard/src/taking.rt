@@ -5,7 +5,7 @@ ghost use Rattle.ns_secure.specs.Counter.{above};
 ghost use Rattle.ns_sessions.specs.Record.{IsNewCounter, session_in, with_uplink};
 ghost use Rattle.ns_windows.specs.Windows.{copied, named, framed, added};
 ghost use Rattle.ns_shard.specs.Devices.{own_of, first_own_fit, changed};
-ghost use Rattle.ns_shard.specs.Taken.{copied_reply, first_window, keys_in, with_window, opening_reply, taking_reply, taking_devices, taking_windows, CanOpen};
+ghost use Rattle.ns_shard.specs.Reaction.{copy_reply, first_window, keys_in, with_window, open_reply, uplink_reply, with_shard_uplink, with_copy_or_window, CanOpen};
 
 use crate::devices::Devices;
 use arrayvec::ArrayVec;
@@ -19,7 +19,7 @@ const MOST_WINDOWS: usize = 8;
 
 // Adds a copy to an open window.
 fn copy(windows: &mut Windows, name: &WindowName, heard: &Heard) -> Reply
-    ensures reply { result ≡ copied_reply name.now (added (named name.now windows.old)) }
+    ensures reply { result ≡ copy_reply name.now (added (named name.now windows.old)) }
     ensures windows { windows.new ≡ copied name.now heard.now windows.old }
 {
     match windows.add_copy(name, heard) {
@@ -78,8 +78,8 @@ fn open(
 }
 
 // The reply to a frame that fits in this window.
-fn opening_reply(windows: &Windows, name: &WindowName) -> Reply
-    ensures { result ≡ opening_reply windows.now name.now }
+fn open_reply(windows: &Windows, name: &WindowName) -> Reply
+    ensures { result ≡ open_reply windows.now name.now }
 {
     if windows.count(name.eui) >= MOST_WINDOWS {
         Reply::Busy { eui: name.eui }
@@ -96,9 +96,9 @@ pub fn take(
     heard: &Heard,
 ) -> Result<Reply, AllocError>
     requires { CanOpen devices.old windows.old frame.now }
-    ensures reply { IfOk result (λ r. r ≡ taking_reply devices.old windows.old frame.now) }
-    ensures devices { IfOk result (λ r. devices.new ≡ taking_devices r devices.old) }
-    ensures windows { IfOk result (λ r. windows.new ≡ taking_windows r frame.now heard.now devices.old windows.old) }
+    ensures reply { IfOk result (λ r. r ≡ uplink_reply devices.old windows.old frame.now) }
+    ensures devices { IfOk result (λ r. devices.new ≡ with_shard_uplink r devices.old) }
+    ensures windows { IfOk result (λ r. windows.new ≡ with_copy_or_window r frame.now heard.now devices.old windows.old) }
     ensures err_devices { OnErr result (devices.new ≡ devices.old) }
     ensures err_windows { OnErr result (windows.new ≡ windows.old) }
 {
@@ -107,7 +107,7 @@ pub fn take(
     }
     let view = frame.view();
     if let Some(name) = devices.fresh(&view) {
-        let reply = opening_reply(windows, &name);
+        let reply = open_reply(windows, &name);
         if let Reply::Opened { window } = &reply {
             open(devices, windows, window, frame, heard)?;
         }

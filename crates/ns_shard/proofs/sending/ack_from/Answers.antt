@@ -1,7 +1,7 @@
 use Rattle.std.proofs.Common.{◌≡◌, Some, refl, sym}
 use Rattle.ns_types.specs.Heard.{best}
 use Rattle.ns_views.specs.Frame.{data_fields}
-use Rattle.ns_shard.proofs.closing.ack_from.Goals as goal
+use Rattle.ns_shard.proofs.sending.ack_from.Goals as goal
 
 pub returns : goal.returns
 returns c =

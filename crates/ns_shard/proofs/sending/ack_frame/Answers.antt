@@ -1,7 +1,7 @@
 use Rattle.std.proofs.Common.{ap, ◌∙◌}
 use Rattle.ns_creator.specs.declared.keys.Keys.{Keys}
 use Rattle.ns_creator.specs.DataFrame.{data_frame}
-use Rattle.ns_shard.proofs.closing.ack_frame.Goals as goal
+use Rattle.ns_shard.proofs.sending.ack_frame.Goals as goal
 
 pub returns : goal.returns
 returns c =
