@@ -1,12 +1,12 @@
 -- Places of devices in maps.
-use Rattle.std.proofs.Common.{◌≡◌, ◌+◌, ◌-◌, not, take, map, ℕ, zero, suc, ◌<◌, ◌≤◌, Bool, true, false, cond, ◌++◌, List, [], ◌∷◌, length, get_or, Option, None, Some, refl, sym, ap, ap₂, ◌∙◌, arith, eqb, filter, drop, set, inl, inr}
+use Rattle.std.proofs.Common.{◌≡◌, ◌+◌, not, take, map, ℕ, zero, suc, ◌<◌, ◌≤◌, Bool, true, false, cond, ◌++◌, List, [], ◌∷◌, length, get_or, Option, None, Some, refl, sym, ap, ap₂, ◌∙◌, arith, eqb, filter, drop, set, inl, inr}
 use Rattle.std.proofs.lemmas.Grind.{common_steps}
 use Rattle.std.specs.Prelude.{nat_lt}
 use Rattle.std.specs.List.{position, position_or_len}
 use Rattle.std.proofs.lemmas.Bool.{cases_Bool}
 use Rattle.std.proofs.lemmas.List.Folds.{position_or_len_push, position_or_len-set}
 use Rattle.std.proofs.lemmas.List.Sums.{prefix_len-le-length}
-use Rattle.std.proofs.lemmas.List.{length-set, length-append, length-drop, take_all, append-nil}
+use Rattle.std.proofs.lemmas.List.{length-set, length-append, append-nil}
 use Rattle.ns_windows.proofs.Places.{NonePasses}
 use Rattle.ns_shard.specs.declared.devices.Own.{Own}
 use Rattle.ns_shard.specs.Indexes.{Indexes, known_or, PlaceMap, PutsFirst}
@@ -48,11 +48,10 @@ filter_past {X} test (x ∷ xs) = elim (cases_Bool (test x)) [
     next : (n : ℕ) → filter test (drop n xs) ≡ filter test xs → filter test (drop (1 + n) (x ∷ xs)) ≡ filter test xs
     next n rest = let one_more : 1 + n ≡ suc n = omega arith in rw one_more rest
 
-pub filter-from : {X : Type 0} (test : X → Bool) (xs : List X) (i : ℕ) → position test xs ≡ Some i → filter test (take (length xs - i) (drop i xs)) ≡ filter test xs
-filter-from test xs i at =
+pub filter-drop : {X : Type 0} (test : X → Bool) (xs : List X) (i : ℕ) → position test xs ≡ Some i → filter test (drop i xs) ≡ filter test xs
+filter-drop test xs i at =
     let first : position_or_len test xs ≡ i = grind (arith, common_steps) in
-    let all : take (length xs - i) (drop i xs) ≡ drop i xs = take_all (length xs - i) (drop i xs) (omega (arith, length-drop i xs)) in
-    rw all (rw first at (filter_past test xs))
+    rw first at (filter_past test xs)
 
 pub filter-nothing : {X : Type 0} (test : X → Bool) (xs : List X) → NonePasses test xs → filter test xs ≡ []
 filter-nothing test [] none = refl

@@ -3,6 +3,7 @@ pub mod WindowSteps
 pub mod Places
 pub mod Roster
 pub mod DeviceSteps
+pub mod Apart
 pub mod Entries
 pub mod PartSteps
 pub mod AnswerSteps

@@ -1,11 +1,10 @@
 -- What comes of an uplink by the devices and windows that agree with the entries, and that they agree after it.
-use Rattle.std.proofs.Common.{◌≡◌, ℕ, ◌+◌, ◌<◌, ◌≤◌, ◌==◌, Bool, true, false, cond, nat_lt, nat_le, List, [], ◌∷◌, ◌++◌, length, filter, filter_map, find, map, count_by, Option, None, Some, IfSome, option_map, option_to_list, refl, sym, ap, ap₂, subst, ◌∙◌, arith, inl, inr}
+use Rattle.std.proofs.Common.{◌≡◌, ℕ, ◌+◌, ◌<◌, ◌≤◌, ◌==◌, Bool, true, false, cond, nat_lt, nat_le, List, [], ◌∷◌, ◌++◌, length, filter, filter_map, map, count_by, Option, None, Some, IfSome, option_map, option_to_list, refl, sym, ap, ap₂, subst, ◌∙◌, arith, inl, inr}
 use Rattle.std.specs.Prelude.{IsSome, Contains}
 use Rattle.std.specs.List.{AllByRecursion, list_any}
 use Rattle.std.specs.Option.{option_and_then}
 use Rattle.std.proofs.lemmas.List.Elements.{filter_map-append}
 use Rattle.std.proofs.lemmas.Option.{same_Some}
-use Rattle.std.proofs.lemmas.Bool.{false≢true}
 use Rattle.std.proofs.lemmas.Bool.Decides.{nat_tests}
 use Rattle.ns_types.specs.declared.identity.DevEui.{DevEui}
 use Rattle.ns_types.specs.declared.identity.Key.{Key}
@@ -25,7 +24,7 @@ use Rattle.ns_calls.specs.declared.call.Call.TheVariants as call
 use Rattle.ns_calls.specs.declared.call.Reply.{Reply}
 use Rattle.ns_calls.specs.declared.call.Reply.TheVariants as reply
 use Rattle.ns_calls.specs.declared.call.Entry.{Entry}
-use Rattle.ns_calls.specs.History.{Opening, opening_in, window_copy_in, open_windows, open_window, window_count, window_copies, session_join, live, is_live, greatest_counter, next_ack}
+use Rattle.ns_calls.specs.History.{Opening, opening_in, window_copy_in, open_windows, window_count, window_copies, session_join, live, is_live, greatest_counter, next_ack}
 use Rattle.ns_calls.specs.Headline.{opening_count, open_count}
 use Rattle.ns_calls.specs.Reply as plain
 use Rattle.ns_calls.specs.Reply.{reply_to, reply_to_uplink, first_fit, devices_at, copy_reply, open_reply, most_windows, most_copies}
@@ -36,15 +35,15 @@ use Rattle.ns_calls.proofs.PushLemmas.{window_copies-push}
 use Rattle.ns_calls.proofs.LegalLemmas.{history_more}
 use Rattle.ns_calls.proofs.Induction.{legal_induction}
 use Rattle.ns_calls.proofs.UplinkLemmas.{uplink_reply_by, opening_of, opened-cases, IsNewOpening, opening-new}
-use Rattle.ns_calls.proofs.WindowLemmas.{same_window-refl, same_window-eq, windows_open_once}
+use Rattle.ns_calls.proofs.WindowLemmas.{same_window-refl, windows_open_once}
 use Rattle.ns_sessions.specs.declared.session.Session.{Session}
 use Rattle.ns_sessions.specs.Record.{device_record, session_record, session_in, IsNewCounter, with_uplink}
 use Rattle.ns_sessions.specs.Laws.{OthersStay, UplinksAgree, concerns}
 use Rattle.ns_sessions.proofs.Sessions.{Numbered, found_by_number}
 use Rattle.ns_sessions.proofs.Facts.{IsFit, first_fit-live}
 use Rattle.ns_windows.specs.declared.window.Window.{Window}
-use Rattle.ns_windows.specs.declared.window.Added.TheVariants as added
-use Rattle.ns_windows.specs.Windows.{named, framed, added}
+use Rattle.ns_windows.specs.declared.window.Addition.TheVariants as addition
+use Rattle.ns_windows.specs.Windows.{named, framed, addition}
 use Rattle.ns_shard.specs.declared.devices.Own.{Own}
 use Rattle.ns_shard.specs.Held.{window_in, windows_in, nwk_of, app_of}
 use Rattle.ns_shard.specs.Devices.{devices_in, own_of}
@@ -67,39 +66,11 @@ place-test n =
       | inr is ↦ (let past : 16 ≤ n = grind (arith, nat_tests) in let beyond : nat_le (n + 1) 16 ≡ false = grind (arith, nat_tests) in is ∙ sym beyond)
     ]
 
--- a window with which a frame was found is found by its name
-found-named : (h : List Entry) (frame : List ℕ) (o : Opening) → plain.window_with h frame ≡ Some o → (x : Opening) × (open_window h o.window ≡ Some x) × (x.window ≡ o.window)
-found-named h frame o is = step (open_windows h) is
-  where
-    test : Opening → Bool
-    test x = same_window x.window o.window
-
-    step : (os : List Opening) → find (λ (x : Opening). Rattle.std.specs.Prelude.bytes_eq x.frame frame) os ≡ Some o → (x : Opening) × (find test os ≡ Some x) × (x.window ≡ o.window)
-    step [] found = absurd (cc found)
-    step (y ∷ ys) found =
-        let here = λ (b : Bool). cond {A = Option Opening} b (Some y) (find test ys) in
-        elim (bool_tells (test y)) [
-          | inl same ↦ (y, ap here same, same_window-eq y.window o.window same)
-          | inr differs ↦
-              elim (bool_tells (Rattle.std.specs.Prelude.bytes_eq y.frame frame)) [
-                | inl equal ↦
-                    (let is_o : Some y ≡ Some o = sym (ap (λ b. cond {A = Option Opening} b (Some y) (find (λ (x : Opening). Rattle.std.specs.Prelude.bytes_eq x.frame frame) ys)) equal) ∙ found in
-                    let same : y ≡ o = cc in
-                    absurd (false≢true (sym differs ∙ (ap (λ (x : Opening). same_window x.window o.window) same ∙ same_window-refl o.window))))
-                | inr other ↦
-                    (let rest = step ys (sym (ap (λ b. cond {A = Option Opening} b (Some y) (find (λ (x : Opening). Rattle.std.specs.Prelude.bytes_eq x.frame frame) ys)) other) ∙ found) in
-                    (rest.0, ap here differs ∙ rest.1, rest.2))
-              ]
-        ]
-
-copied-same : (h : List Entry) (frame : List ℕ) (o : Opening) → plain.window_with h frame ≡ Some o → kept.copy_reply o.window (added (named o.window (windows_in h))) ≡ copy_reply h o.window
-copied-same h frame o is =
-    let found = found-named h frame o is in
+copied-same : (h : List Entry) (o : Opening) → kept.copy_reply (addition (window_in h o)) ≡ copy_reply h o.window
+copied-same h o =
     let len : ℕ = length (window_copies h o.window) in
-    ap (λ x. kept.copy_reply o.window (added x)) (windows-named h o.window ∙ ap (option_map (window_in h)) found.1)
-    ∙ (ap (λ (v : WindowName). kept.copy_reply o.window (cond (nat_lt (length (window_copies h v)) 16) (added.Copied (length (window_copies h v) + 1)) added.Crowded)) found.2
-    ∙ (ap (λ b. kept.copy_reply o.window (cond b (added.Copied (len + 1)) added.Crowded)) (place-test len)
-    ∙ elim (nat_le (len + 1) 16) as (λ b. kept.copy_reply o.window (cond b (added.Copied (len + 1)) added.Crowded) ≡ cond b (reply.Copied o.window (len + 1)) (reply.Crowded o.window)) [ true ↦ refl | false ↦ refl ]))
+    ap (λ b. kept.copy_reply (cond b (addition.Copied o.window (len + 1)) (addition.Crowded o.window))) (place-test len)
+    ∙ elim (nat_le (len + 1) 16) as (λ b. kept.copy_reply (cond b (addition.Copied o.window (len + 1)) (addition.Crowded o.window)) ≡ cond b (reply.Copied o.window (len + 1)) (reply.Crowded o.window)) [ true ↦ refl | false ↦ refl ]
 
 pub uplink-replied : (net : Network) (index : ℕ) (h : List Entry) (devices : List Own) (windows : List Window) (frame : List ℕ) → Agrees net index h devices windows → UplinksAgree net h →
     shard_of_addr (record { 0 = (data_fields frame).addr }) ≡ index → uplink_reply devices windows frame ≡ reply_to_uplink net h frame
@@ -111,7 +82,7 @@ uplink-replied net index h devices windows frame agrees law mine =
     ∙ step (plain.window_with h frame) refl (first_fit above net h frame)))
   where
     by_copy : Window → Reply
-    by_copy w = kept.copy_reply w.name (added (named w.name (windows_in h)))
+    by_copy w = kept.copy_reply (addition w)
 
     old : WindowName → Reply
     old w = reply.Old w.eui w.session w.fcnt
@@ -122,7 +93,7 @@ uplink-replied net index h devices windows frame agrees law mine =
     step : (o : Option Opening) → plain.window_with h frame ≡ o → (f : Option WindowName) →
         first_case (option_map by_copy (option_map (window_in h) o) ∷ option_map (kept.open_reply (windows_in h)) f ∷ option_map old (first_fit below net h frame) ∷ []) reply.NoSession
         ≡ first_case (option_map (λ (x : Opening). copy_reply h x.window) o ∷ option_map (open_reply h) f ∷ option_map old (first_fit below net h frame) ∷ []) reply.NoSession
-    step (Some o) is f = copied-same h frame o is
+    step (Some o) is f = copied-same h o
     step None is (Some w) = opens w
     step None is None = refl
 

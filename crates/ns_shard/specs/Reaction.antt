@@ -26,9 +26,9 @@ use Rattle.ns_sessions.specs.declared.take.ReplyTake.TheVariants as take
 use Rattle.ns_sessions.specs.Record.{join_take, reply_take, ack_in, with_ack, with_uplink, session_in, IsNewCounter}
 use Rattle.ns_sessions.specs.Laws.{join_reply}
 use Rattle.ns_windows.specs.declared.window.Window.{Window}
-use Rattle.ns_windows.specs.declared.window.Added.{Added}
-use Rattle.ns_windows.specs.declared.window.Added.TheVariants as added
-use Rattle.ns_windows.specs.Windows.{copied, count, framed, named, added, without}
+use Rattle.ns_windows.specs.declared.window.Addition.{Addition}
+use Rattle.ns_windows.specs.declared.window.Addition.TheVariants as addition
+use Rattle.ns_windows.specs.Windows.{copied, count, framed, named, addition, without}
 use Rattle.ns_shard.specs.declared.devices.Own.{Own}
 use Rattle.ns_shard.specs.declared.event.Event.{Event}
 use Rattle.ns_shard.specs.declared.event.Event.TheVariants.{Quiet, Accepted, Closed}
@@ -87,9 +87,9 @@ with_closing (Some w) devices = with_shard_ack w devices
 
 -- ---- uplinks
 
-abbrev pub copy_reply : WindowName → Added → Reply
-copy_reply name (added.Copied place) = reply.Copied name place
-copy_reply name _ = reply.Crowded name
+abbrev pub copy_reply : Addition → Reply
+copy_reply (addition.Copied name place) = reply.Copied name place
+copy_reply (addition.Crowded name) = reply.Crowded name
 
 -- a window with its first copy, and the keys of its session
 abbrev pub first_window : List ℕ → Heard → WindowName → Key × Option Key → Window
@@ -103,7 +103,7 @@ open_reply windows name = if nat_le most_windows (count name.eui windows) then r
 
 abbrev pub uplink_reply : List Own → List Window → List ℕ → Reply
 uplink_reply devices windows frame = first_case (
-    option_map (λ w. copy_reply w.name (added (named w.name windows))) (framed frame windows)
+    option_map (λ w. copy_reply (addition w)) (framed frame windows)
     ∷ option_map (open_reply windows) (first_own_fit above frame devices)
     ∷ option_map (λ w. reply.Old w.eui w.session w.fcnt) (first_own_fit below frame devices)
     ∷ []) reply.NoSession

@@ -18,7 +18,7 @@ mod run;
 mod sending;
 mod shard;
 mod step;
-mod taking;
+mod uplink;
 
 pub use packed::PackedAnswer;
 pub use run::{Run, Shards, Taken};

@@ -2,11 +2,12 @@
 
 ghost use Rattle.std.specs.Prelude.{◌≡◌, IfOk, OnOk, OnErr};
 ghost use Rattle.ns_windows.specs.Windows.{named, without};
+ghost use Rattle.ns_shard.specs.Devices.{AreApart};
 ghost use Rattle.ns_shard.specs.Reaction.{ack_of, with_shard_ack, close_event, with_closing, CanReact, event_of, devices_after, windows_after};
 
 use crate::devices::Devices;
 use crate::event::Event;
-use crate::taking::take;
+use crate::uplink::uplink;
 use ns_calls::{Call, Reply};
 use ns_types::WindowName;
 use ns_windows::{Window, Windows};
@@ -41,7 +42,8 @@ fn close(devices: &mut Devices, windows: &mut Windows, name: &WindowName) -> Eve
 
 /// Takes a call: the devices and windows change, and nothing else. Where a growth is refused, nothing has changed.
 pub fn react(devices: &mut Devices, windows: &mut Windows, call: &Call) -> Result<Event, AllocError>
-    requires { CanReact devices.old windows.old call.now }
+    requires apart { AreApart devices.old }
+    requires open { CanReact devices.old windows.old call.now }
     ensures event { IfOk result (λ e. e ≡ event_of devices.old windows.old call.now) }
     ensures devices { OnOk result (devices.new ≡ devices_after devices.old windows.old call.now) }
     ensures windows { OnOk result (windows.new ≡ windows_after devices.old windows.old call.now) }
@@ -49,7 +51,7 @@ pub fn react(devices: &mut Devices, windows: &mut Windows, call: &Call) -> Resul
     ensures err_windows { OnErr result (windows.new ≡ windows.old) }
 {
     Ok(match call {
-        Call::Uplink { frame, heard } => Event::Quiet(take(devices, windows, frame, heard)?),
+        Call::Uplink { frame, heard } => Event::Quiet(uplink(devices, windows, frame, heard)?),
         Call::Join { ticket, heard } => Event::Quiet(devices.join(ticket, heard)),
         Call::JoinReply { ticket, outcome } => devices.answer(ticket, outcome),
         Call::Close { window } => close(devices, windows, window),

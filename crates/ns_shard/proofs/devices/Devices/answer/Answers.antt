@@ -5,8 +5,8 @@ use Rattle.ns_calls.specs.declared.call.Reply.TheVariants as reply
 use Rattle.ns_shard.specs.declared.event.Event.TheVariants.{Quiet}
 use Rattle.ns_shard.specs.Devices.{is_own, with_state, answered}
 use Rattle.ns_shard.specs.Reaction.{own_answer_event}
-use Rattle.ns_windows.proofs.Places.{NonePasses, find-none, position-none}
-use Rattle.ns_shard.proofs.Places.{PassesFirst, first-find, first-set, none-change, place-first}
+use Rattle.ns_windows.proofs.Places.{NonePasses, PassesFirst, find-none, first-find, place-first, position-none}
+use Rattle.ns_shard.proofs.Places.{first-set, none-change}
 use Rattle.ns_shard.proofs.devices.Devices.answer.Goals as goal
 use Rattle.ns_shard.proofs.devices.Devices.answer.Goals.{In-None, After-self-1}
 

@@ -4,8 +4,8 @@ use Rattle.ns_types.specs.Ticket.{dev_eui}
 use Rattle.ns_calls.specs.declared.call.Reply.TheVariants as reply
 use Rattle.ns_shard.specs.Devices.{is_own}
 use Rattle.ns_shard.specs.Reaction.{own_join_reply, with_own_join}
-use Rattle.ns_windows.proofs.Places.{NonePasses, find-none, position-none}
-use Rattle.ns_shard.proofs.Places.{PassesFirst, first-find, first-set, none-change, place-first}
+use Rattle.ns_windows.proofs.Places.{NonePasses, PassesFirst, find-none, first-find, place-first, position-none}
+use Rattle.ns_shard.proofs.Places.{first-set, none-change}
 use Rattle.ns_shard.specs.Indexes.{eui_key, addr_key}
 use Rattle.ns_shard.proofs.Indexes.{Indexes-set}
 use Rattle.ns_shard.proofs.devices.Devices.join.Goals as goal

@@ -6,12 +6,17 @@ use Rattle.ns_calls.specs.Out.{answer}
 use Rattle.ns_calls.specs.Legal.{with_call}
 use Rattle.ns_shard.specs.Sending.{answer_of}
 use Rattle.ns_shard.proofs.Entries.{pushed-is, pushed-length}
-use Rattle.ns_shard.proofs.Reactions.{can_react, call-answered, agrees-call}
+use Rattle.ns_shard.proofs.Reactions.{can_react, devices-apart, call-answered, agrees-call}
 use Rattle.ns_shard.proofs.parts.Parts.enter.Goals as goal
 use Rattle.ns_shard.proofs.parts.Parts.enter.Goals.{After-push}
 
-pub react-requires : goal.react-requires
-react-requires c =
+pub react-requires-clause-apart : goal.react-requires-clause-apart
+react-requires-clause-apart c =
+    let p = c.args.self.now in
+    devices-apart (arc_value p.roster) p.index p.journal.entries p.devices p.windows c.requires.agree.agrees
+
+pub react-requires-clause-open : goal.react-requires-clause-open
+react-requires-clause-open c =
     let p = c.args.self.now in
     can_react (arc_value p.roster) p.index p.journal.entries p.devices p.windows c.args.call.now c.requires.agree.agrees c.requires.own
 

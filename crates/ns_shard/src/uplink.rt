@@ -1,33 +1,29 @@
 //! What comes of an uplink.
 
-ghost use Rattle.std.specs.Prelude.{◌≡◌, IfSome, IsSome, IfOk, OnOk, OnErr, None, Some};
-ghost use Rattle.ns_secure.specs.Counter.{above};
+ghost use Rattle.std.specs.Prelude.{◌≡◌, IfSome, IsSome, IfOk, OnOk, OnErr, None, Some, position};
 ghost use Rattle.ns_sessions.specs.Record.{IsNewCounter, session_in, with_uplink};
-ghost use Rattle.ns_windows.specs.Windows.{copied, named, framed, added};
-ghost use Rattle.ns_shard.specs.Devices.{own_of, first_own_fit, changed};
+ghost use Rattle.ns_windows.specs.Windows.{named, framed};
+ghost use Rattle.ns_shard.specs.Devices.{is_own, own_of, changed, AreApart};
 ghost use Rattle.ns_shard.specs.Reaction.{copy_reply, first_window, keys_in, with_window, open_reply, uplink_reply, with_shard_uplink, with_copy_or_window, CanOpen};
 
-use crate::devices::Devices;
+use crate::devices::{Devices, Fit};
 use arrayvec::ArrayVec;
 use ns_calls::{DataFrame, Reply};
+use ns_sessions::Recovery;
 use ns_types::{Heard, Key, WindowName};
-use ns_windows::{Added, Window, Windows};
+use ns_windows::{Addition, Window, Windows};
 use std::alloc::AllocError;
 
 // How many windows of a device are open at most.
 const MOST_WINDOWS: usize = 8;
 
-// Adds a copy to an open window.
-fn copy(windows: &mut Windows, name: &WindowName, heard: &Heard) -> Reply
-    ensures reply { result ≡ copy_reply name.now (added (named name.now windows.old)) }
-    ensures windows { windows.new ≡ copied name.now heard.now windows.old }
+// The reply to one more copy of an open window.
+fn copy_reply(addition: Addition) -> Reply
+    ensures { result ≡ copy_reply addition }
 {
-    match windows.add_copy(name, heard) {
-        Added::Copied(place) => Reply::Copied {
-            window: *name,
-            place,
-        },
-        Added::Crowded | Added::NoWindow => Reply::Crowded { window: *name },
+    match addition {
+        Addition::Copied { window, place } => Reply::Copied { window, place },
+        Addition::Crowded { window } => Reply::Crowded { window },
     }
 }
 
@@ -56,24 +52,25 @@ fn first_window(
 fn open(
     devices: &mut Devices,
     windows: &mut Windows,
-    name: &WindowName,
+    fit: &Fit,
     frame: &DataFrame,
     heard: &Heard,
 ) -> Result<(), AllocError>
-    requires counter { IfSome (own_of name.now.eui devices.old) (λ o. IsNewCounter (session_in o.state name.now.session) name.now.fcnt) }
-    requires keys { IsSome (keys_in devices.old name.now) }
-    requires name { named name.now windows.old ≡ None }
+    requires place { position (is_own fit.now.window.eui) devices.old ≡ Some fit.now.place }
+    requires counter { IfSome (own_of fit.now.window.eui devices.old) (λ o. IsNewCounter (session_in o.state fit.now.window.session) fit.now.window.fcnt) }
+    requires keys { IsSome (keys_in devices.old fit.now.window) }
+    requires name { named fit.now.window windows.old ≡ None }
     requires frame { framed frame.now windows.old ≡ None }
-    ensures devices { OnOk result (devices.new ≡ changed name.now.eui (with_uplink name.now.session name.now.fcnt) devices.old) }
-    ensures windows { OnOk result (windows.new ≡ with_window frame.now heard.now name.now (keys_in devices.old name.now) windows.old) }
+    ensures devices { OnOk result (devices.new ≡ changed fit.now.window.eui (with_uplink fit.now.window.session fit.now.window.fcnt) devices.old) }
+    ensures windows { OnOk result (windows.new ≡ with_window frame.now heard.now fit.now.window (keys_in devices.old fit.now.window) windows.old) }
     ensures err_devices { OnErr result (devices.new ≡ devices.old) }
     ensures err_windows { OnErr result (windows.new ≡ windows.old) }
 {
-    let Some((nwk, app)) = devices.keys(name) else {
+    let Some((nwk, app)) = devices.keys(fit) else {
         unreachable!()
     };
-    windows.put(first_window(frame, heard, name, nwk, app))?;
-    devices.take(name);
+    windows.put(first_window(frame, heard, &fit.window, nwk, app))?;
+    devices.open(fit);
     Ok(())
 }
 
@@ -89,35 +86,36 @@ fn open_reply(windows: &Windows, name: &WindowName) -> Reply
 }
 
 /// Takes an uplink. Where a growth is refused, nothing has changed.
-pub fn take(
+pub fn uplink(
     devices: &mut Devices,
     windows: &mut Windows,
     frame: &DataFrame,
     heard: &Heard,
 ) -> Result<Reply, AllocError>
-    requires { CanOpen devices.old windows.old frame.now }
+    requires apart { AreApart devices.old }
+    requires open { CanOpen devices.old windows.old frame.now }
     ensures reply { IfOk result (λ r. r ≡ uplink_reply devices.old windows.old frame.now) }
     ensures devices { IfOk result (λ r. devices.new ≡ with_shard_uplink r devices.old) }
     ensures windows { IfOk result (λ r. windows.new ≡ with_copy_or_window r frame.now heard.now devices.old windows.old) }
     ensures err_devices { OnErr result (devices.new ≡ devices.old) }
     ensures err_windows { OnErr result (windows.new ≡ windows.old) }
 {
-    if let Some(name) = windows.find(frame.bytes()) {
-        return Ok(copy(windows, &name, heard));
+    if let Some(addition) = windows.add_copy(frame.bytes(), heard) {
+        return Ok(copy_reply(addition));
     }
     let view = frame.view();
-    if let Some(name) = devices.fresh(&view) {
-        let reply = open_reply(windows, &name);
-        if let Reply::Opened { window } = &reply {
-            open(devices, windows, window, frame, heard)?;
+    if let Some(fit) = devices.fit(Recovery::Above, &view) {
+        let reply = open_reply(windows, &fit.window);
+        if let Reply::Opened { .. } = &reply {
+            open(devices, windows, &fit, frame, heard)?;
         }
         return Ok(reply);
     }
-    match devices.stale(&view) {
+    match devices.fit(Recovery::Below, &view) {
         Some(old) => Ok(Reply::Old {
-            eui: old.eui,
-            session: old.session,
-            fcnt: old.fcnt,
+            eui: old.window.eui,
+            session: old.window.session,
+            fcnt: old.window.fcnt,
         }),
         None => Ok(Reply::NoSession),
     }
