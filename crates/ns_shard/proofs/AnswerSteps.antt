@@ -123,7 +123,7 @@ no_ticket-out net h t outcome.Failed = refl
 no_ticket-out net h t (outcome.Success join) = refl
 
 taken-out : (net : Network) (h : List Entry) (t : Ticket) (o : Outcome) (taken : ReplyTake) → ((session : ℕ) (heard : Heard) → taken ≡ take.Accepted session heard → best (ticket_copies h t) ≡ Some heard) →
-    answer_of net (answer_event (address net (dev_eui t)) t o taken) ≡ answer_with net h t o (answer_reply net t taken)
+    answer_of net None (answer_event (address net (dev_eui t)) t o taken) ≡ answer_with net h t o (answer_reply net t taken)
 taken-out net h t o take.NoTicket copies = no_ticket-out net h t o
 taken-out net h t outcome.Failed take.Refused copies = refl
 taken-out net h t (outcome.Success join) take.Refused copies = refl
@@ -139,12 +139,12 @@ taken-out net h t (outcome.Success join) (take.Accepted session heard) copies =
     } in a) (sym (copies session heard refl))
 
 pub answer-answered : (net : Network) (index : ℕ) (h : List Entry) (devices : List Own) (windows : List Window) (t : Ticket) (o : Outcome) → Agrees net index h devices windows → AnswersAgree net h → shard_of (dev_eui t) ≡ index →
-    answer_of net (shard_answer_event devices t o) ≡ answer net h (call.JoinReply t o)
+    answer_of net None (shard_answer_event devices t o) ≡ answer net h (call.JoinReply t o)
 answer-answered net index h devices windows t o agrees law mine =
     ap told (ap (own_of (dev_eui t)) agrees.by_device ∙ own-found net index h (dev_eui t) mine) ∙ step (device net (dev_eui t)) refl
   where
     told : Option Own → Answer
-    told x = answer_of net (option_map_or (own_answer_event t o) x (Quiet reply.NoTicket))
+    told x = answer_of net None (option_map_or (own_answer_event t o) x (Quiet reply.NoTicket))
 
     step : (d : Option Device) → device net (dev_eui t) ≡ d → told (option_map (own_in net h) d) ≡ answer net h (call.JoinReply t o)
     step None is =
@@ -152,7 +152,7 @@ answer-answered net index h devices windows t o agrees law mine =
     step (Some d) is =
         let eui : d.eui ≡ dev_eui t = (found-device net (dev_eui t) d is).1 in
         let addr : device_addr net d ≡ address net (dev_eui t) = ap (λ (x : Option Device). Rattle.std.specs.Prelude.unwrap_or (option_map (device_addr net) x) (record { 0 = 0 })) (sym is) in
-        ap₂ (λ (a : DevAddr) (e : DevEui). answer_of net (answer_event a t o (reply_take (device_record net h e) t o))) addr eui
+        ap₂ (λ (a : DevAddr) (e : DevEui). answer_of net None (answer_event a t o (reply_take (device_record net h e) t o))) addr eui
         ∙ (taken-out net h t o (reply_take (device_record net h (dev_eui t)) t o) (λ session heard taken. law.copies t o session heard taken)
         ∙ ap (answer_with net h t o) (law.replies t o))
 

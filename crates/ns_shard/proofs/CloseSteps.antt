@@ -200,11 +200,11 @@ close-reply : (h : List Entry) (w : WindowName) (found : Option Opening) → ope
 close-reply h w found is = ap (λ (x : Option Opening). first_case (option_map (λ (o : Opening). reply.Closed w (ack_number h o)) x ∷ []) reply.NoWindow) is
 
 pub close-answered : (net : Network) (index : ℕ) (h : List Entry) (devices : List Own) (windows : List Window) (w : WindowName) → Agrees net index h devices windows → ClosingsAgree net h → shard_of w.eui ≡ index →
-    answer_of net (close_event devices (named w windows)) ≡ answer net h (call.Close w)
+    answer_of net (named w windows) (close_event devices (named w windows)) ≡ answer net h (call.Close w)
 close-answered net index h devices windows w agrees law mine =
-    ap₂ (λ ds x. answer_of net (close_event ds x)) agrees.by_device (ap (named w) agrees.by_window ∙ windows-named h w) ∙ step (open_window h w) refl
+    ap₂ (λ ds x. answer_of net x (close_event ds x)) agrees.by_device (ap (named w) agrees.by_window ∙ windows-named h w) ∙ step (open_window h w) refl
   where
-    step : (found : Option Opening) → open_window h w ≡ found → answer_of net (close_event (devices_in net index h) (option_map (window_in h) found)) ≡ answer net h (call.Close w)
+    step : (found : Option Opening) → open_window h w ≡ found → answer_of net (option_map (window_in h) found) (close_event (devices_in net index h) (option_map (window_in h) found)) ≡ answer net h (call.Close w)
     step None is = ap (close_with net h w) (sym (close-reply h w None is))
     step (Some o) is =
         let kept = open-kept net index h devices windows w o agrees is in

@@ -15,7 +15,7 @@ use Rattle.ns_windows.specs.declared.window.Window.{Window}
 use Rattle.ns_shard.specs.declared.devices.Own.{Own}
 use Rattle.ns_shard.specs.Devices.{AreApart}
 use Rattle.ns_shard.specs.Sending.{quiet, answer_of}
-use Rattle.ns_shard.specs.Reaction.{CanReact, uplink_reply, event_of, devices_after, windows_after}
+use Rattle.ns_shard.specs.Reaction.{CanReact, uplink_reply, event_of, window_closed_by, devices_after, windows_after}
 use Rattle.ns_shard.specs.Parts.{Agrees}
 use Rattle.ns_shard.proofs.Apart.{own-apart}
 use Rattle.ns_shard.proofs.PartSteps.{join-replied, agrees-join}
@@ -33,7 +33,7 @@ pub devices-apart : (net : Network) (index : ℕ) (h : List Entry) (devices : Li
 devices-apart net index h devices windows agrees = subst AreApart (sym agrees.by_device) (own-apart net index h agrees.valid)
 
 pub call-answered : (net : Network) (index : ℕ) (h : List Entry) (devices : List Own) (windows : List Window) (c : Call) → Agrees net index h devices windows → shard_of_call c ≡ index →
-    answer_of net (event_of devices windows c) ≡ answer net h c
+    answer_of net (window_closed_by windows c) (event_of devices windows c) ≡ answer net h c
 call-answered net index h devices windows (call.Uplink frame heard) agrees mine = ap quiet (uplink-replied net index h devices windows frame agrees (uplinks_agree net h) mine)
 call-answered net index h devices windows (call.Join t heard) agrees mine = ap quiet (join-replied net index h devices windows t agrees (joins_agree net h) mine)
 call-answered net index h devices windows (call.JoinReply t o) agrees mine = answer-answered net index h devices windows t o agrees (answers_agree net h) mine

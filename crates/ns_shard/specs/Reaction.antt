@@ -79,7 +79,7 @@ with_shard_ack w devices = if is_confirmed w.frame then changed w.name.eui (with
 
 abbrev pub close_event : List Own → Option Window → Event
 close_event devices None = Quiet reply.NoWindow
-close_event devices (Some w) = Closed w (ack_of devices w)
+close_event devices (Some w) = Closed w.name (ack_of devices w)
 
 abbrev pub with_closing : Option Window → List Own → List Own
 with_closing None devices = devices
@@ -146,6 +146,13 @@ event_of devices windows (call.Uplink frame heard) = Quiet (uplink_reply devices
 event_of devices windows (call.Join t heard) = Quiet (shard_join_reply devices t)
 event_of devices windows (call.JoinReply t outcome) = shard_answer_event devices t outcome
 event_of devices windows (call.Close name) = close_event devices (named name windows)
+
+-- the window that a call closes
+abbrev pub window_closed_by : List Window → Call → Option Window
+window_closed_by windows (call.Uplink frame heard) = None
+window_closed_by windows (call.Join t heard) = None
+window_closed_by windows (call.JoinReply t outcome) = None
+window_closed_by windows (call.Close name) = named name windows
 
 abbrev pub devices_after : List Own → List Window → Call → List Own
 devices_after devices windows (call.Uplink frame heard) = with_shard_uplink (uplink_reply devices windows frame) devices

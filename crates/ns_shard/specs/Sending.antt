@@ -45,22 +45,20 @@ abbrev pub ack_from : Network → Window → ℕ → Option Downlink
 ack_from net w n =
     option_map (λ copy. downlink_to (ack_frame w.nwk.0 (data_fields w.frame).addr n) (rx1 copy net.rx1_offset (ack_delay net))) (best w.copies.items)
 
--- ---- of any call
+-- ---- of any call, with the window that it closed, if any
 
 abbrev pub reply_of : Event → Reply
 reply_of (Quiet r) = r
 reply_of (Accepted r downlink) = r
-reply_of (Closed w ack) = reply.Closed w.name ack
+reply_of (Closed name ack) = reply.Closed name ack
 
-abbrev pub uplink_of : Event → Option Uplink
-uplink_of (Quiet r) = None
-uplink_of (Accepted r downlink) = None
-uplink_of (Closed w ack) = Some (uplink_from w)
+abbrev pub uplink_of : Option Window → Option Uplink
+uplink_of closed = option_map uplink_from closed
 
-abbrev pub downlink_of : Network → Event → Option Downlink
-downlink_of net (Quiet r) = None
-downlink_of net (Accepted r downlink) = downlink
-downlink_of net (Closed w ack) = option_and_then (λ n. ack_from net w n) ack
+abbrev pub downlink_of : Network → Option Window → Event → Option Downlink
+downlink_of net closed (Quiet r) = None
+downlink_of net closed (Accepted r downlink) = downlink
+downlink_of net closed (Closed name ack) = option_and_then (λ n. option_and_then (λ w. ack_from net w n) closed) ack
 
-abbrev pub answer_of : Network → Event → Answer
-answer_of net e = record { reply = reply_of e; uplink = uplink_of e; downlink = downlink_of net e }
+abbrev pub answer_of : Network → Option Window → Event → Answer
+answer_of net closed e = record { reply = reply_of e; uplink = uplink_of closed; downlink = downlink_of net closed e }

@@ -1,14 +1,15 @@
 //! What came of a call, and the answer that is made of it.
 
 ghost use Rattle.std.specs.Prelude.{◌≡◌};
-ghost use Rattle.ns_shard.specs.Sending.{reply_of, uplink_of, downlink_of, answer_of};
+ghost use Rattle.ns_shard.specs.Sending.{reply_of, downlink_of, answer_of};
 
-use crate::sending::{ack_from, uplink_from};
-use ns_calls::{Answer, Downlink, Reply, Uplink};
+use crate::sending::{ack_from, uplink_of};
+use ns_calls::{Answer, Downlink, Reply};
 use ns_roster::Roster;
+use ns_types::WindowName;
 use ns_windows::Window;
 
-/// What came of a call: as much as its answer is made of.
+/// What came of a call. It is small: a window that was closed stands beside it.
 #[derive(Drop)]
 pub enum Event {
     /// Nothing goes out with this reply.
@@ -18,9 +19,9 @@ pub enum Event {
         reply: Reply,
         downlink: Option<Downlink>,
     },
-    /// A window was closed, with this acknowledgement number.
+    /// The window of this name was closed, with this acknowledgement number.
     Closed {
-        window: Window,
+        window: WindowName,
         ack: Option<u32>,
     },
 }
@@ -34,42 +35,35 @@ impl Event {
             Event::Quiet(reply) => *reply,
             Event::Accepted { reply, .. } => *reply,
             Event::Closed { window, ack } => Reply::Closed {
-                window: window.name,
+                window: *window,
                 ack: *ack,
             },
         }
     }
 
-    // The downlink that goes out.
-    fn downlink(&self, roster: &Roster) -> Option<Downlink>
-        ensures { result ≡ downlink_of roster.now self.now }
+    /// The downlink that goes out, with the window that was closed, if any.
+    pub fn downlink(&self, roster: &Roster, closed: &Option<Window>) -> Option<Downlink>
+        ensures { result ≡ downlink_of roster.now closed.now self.now }
     {
         match self {
             Event::Quiet(_) => None,
             Event::Accepted { downlink, .. } => *downlink,
-            Event::Closed { window, ack } => ack_from(roster, window, (*ack)?),
+            Event::Closed { ack, .. } => {
+                let number = (*ack)?;
+                ack_from(roster, closed.as_ref()?, number)
+            }
         }
     }
 
-    // The uplink that goes out.
-    fn uplink(self) -> Option<Uplink>
-        ensures { result ≡ uplink_of self }
-    {
-        match self {
-            Event::Quiet(_) | Event::Accepted { .. } => None,
-            Event::Closed { window, .. } => Some(uplink_from(window)),
-        }
-    }
-
-    /// The answer.
-    pub fn answer(self, roster: &Roster) -> Answer
-        ensures { result ≡ answer_of roster.now self }
+    /// The answer, with the window that was closed, if any.
+    pub fn answer(&self, roster: &Roster, closed: Option<Window>) -> Answer
+        ensures { result ≡ answer_of roster.now closed self.now }
     {
         let reply = self.reply();
-        let downlink = self.downlink(roster);
+        let downlink = self.downlink(roster, &closed);
         Answer {
             reply,
-            uplink: self.uplink(),
+            uplink: uplink_of(closed),
             downlink,
         }
     }

@@ -1,13 +1,13 @@
 //! An answer that is kept in no more memory than it needs.
 
 ghost use Rattle.std.specs.Prelude.{◌≡◌, IfOk, Some, is_some};
-ghost use Rattle.ns_shard.specs.Sending.{quiet, answer_of};
+ghost use Rattle.ns_shard.specs.Sending.{quiet, uplink_of};
 
-use crate::event::Event;
+use crate::sending::uplink_of;
 use arrayvec::ArrayVec;
 use ns_calls::{Answer, Bytes, Downlink, Reply, Uplink};
-use ns_roster::Roster;
 use ns_types::{DevAddr, Heard, WindowName};
+use ns_windows::Window;
 use std::alloc::{AllocError, Global};
 use std::marker::Model;
 
@@ -102,15 +102,6 @@ fn packed(alloc: Global, uplink: &Option<Uplink>) -> Result<Option<PackedUplink>
     }
 }
 
-// The answer where something goes out. It stays a function of its own, so that a call with which nothing goes out makes no room for
-// what does.
-#[inline(never)]
-fn packed_answer(alloc: Global, roster: &Roster, event: Event) -> Result<PackedAnswer, AllocError>
-    ensures { IfOk result (λ a. a ≡ answer_of roster.now event) }
-{
-    PackedAnswer::new(alloc, event.answer(roster))
-}
-
 impl PackedAnswer {
     /// A reply with which nothing goes out.
     pub fn quiet(reply: Reply) -> PackedAnswer
@@ -133,18 +124,25 @@ impl PackedAnswer {
         })
     }
 
-    /// The answer that is made of what came of a call. `NoMemory` (`AllocError`) where what goes out finds no memory.
-    pub(crate) fn of(
+    /// A reply with which the uplink of a window goes out, or a downlink. `NoMemory` (`AllocError`) where they find no memory. It stays a
+    /// function of its own, so that a call with which nothing goes out makes no room for what does.
+    #[inline(never)]
+    pub(crate) fn sending(
         alloc: Global,
-        roster: &Roster,
-        event: Event,
+        reply: Reply,
+        closed: Option<Window>,
+        downlink: Option<Downlink>,
     ) -> Result<PackedAnswer, AllocError>
-        ensures { IfOk result (λ a. a ≡ answer_of roster.now event) }
+        ensures { IfOk result (λ a. a ≡ record { reply = reply; uplink = uplink_of closed; downlink = downlink }) }
     {
-        match event {
-            Event::Quiet(reply) => Ok(PackedAnswer::quiet(reply)),
-            sending => packed_answer(alloc, roster, sending),
-        }
+        PackedAnswer::new(
+            alloc,
+            Answer {
+                reply,
+                uplink: uplink_of(closed),
+                downlink,
+            },
+        )
     }
 
     /// The reply.

@@ -1,6 +1,6 @@
 //! The parts of a shard, and what each call does to them.
 
-ghost use Rattle.std.specs.Prelude.{◌≡◌, ◌<◌, IfOk, OnOk, OnErr};
+ghost use Rattle.std.specs.Prelude.{◌≡◌, ◌<◌, None, IfOk, OnOk, OnErr};
 ghost use Rattle.std.specs.Arc.{arc_value};
 ghost use Rattle.ns_calls.specs.Shards.{shard_of_call};
 ghost use Rattle.ns_calls.specs.Out.{answer};
@@ -15,7 +15,7 @@ use crate::reaction::react;
 use ns_calls::{Answer, Call};
 use ns_journal::Journal;
 use ns_roster::Roster;
-use ns_windows::Windows;
+use ns_windows::{Window, Windows};
 use std::alloc::{AllocError, Global};
 use std::sync::Arc;
 
@@ -46,19 +46,20 @@ impl Parts {
         })
     }
 
-    /// Takes a call: what is kept changes, its entry is added, and what came of it is told. Where a growth is refused, nothing has
-    /// changed.
-    fn enter(&mut self, call: &Call) -> Result<Event, AllocError>
+    // Takes a call: what is kept changes, its entry is added, and what came of it is told, with the window that it closed, if any. Where
+    // a growth is refused, nothing has changed.
+    fn enter(&mut self, call: &Call, closed: &mut Option<Window>) -> Result<Event, AllocError>
         requires own { shard_of_call call.now ≡ self.old.index }
         requires agree { AreParts self.old }
+        requires none { closed.old ≡ None }
         ensures roster { self.new.roster ≡ self.old.roster }
-        ensures answer { IfOk result (λ e. answer_of (arc_value self.old.roster) e ≡ answer (arc_value self.old.roster) self.old.journal.entries call.now) }
+        ensures answer { IfOk result (λ e. answer_of (arc_value self.old.roster) closed.new e ≡ answer (arc_value self.old.roster) self.old.journal.entries call.now) }
         ensures state { OnOk result (state_of self.new ≡ after_call (state_of self.old) call.now) }
         ensures err { OnErr result (state_of self.new ≡ state_of self.old) }
         ensures agree { AreParts self.new }
     {
         self.journal.room(1)?;
-        let event = react(&mut self.devices, &mut self.windows, call)?;
+        let event = react(&mut self.devices, &mut self.windows, call, closed)?;
         self.journal.push(*call, event.reply());
         Ok(event)
     }
@@ -72,8 +73,9 @@ impl Parts {
         ensures err { OnErr result (state_of self.new ≡ state_of self.old) }
         ensures agree { AreParts self.new }
     {
-        let event = self.enter(call)?;
-        Ok(event.answer(&self.roster))
+        let mut closed = None;
+        let event = self.enter(call, &mut closed)?;
+        Ok(event.answer(&self.roster, closed))
     }
 
     /// Answers a call, with an answer that is kept. Where a growth is refused, the call may have been taken.
@@ -84,7 +86,12 @@ impl Parts {
         ensures state { OnOk result (state_of self.new ≡ after_call (state_of self.old) call.now) }
         ensures agree { AreParts self.new }
     {
-        let event = self.enter(call)?;
-        PackedAnswer::of(alloc, &self.roster, event)
+        let mut closed = None;
+        let event = self.enter(call, &mut closed)?;
+        let downlink = event.downlink(&self.roster, &closed);
+        if closed.is_none() && downlink.is_none() {
+            return Ok(PackedAnswer::quiet(event.reply()));
+        }
+        PackedAnswer::sending(alloc, event.reply(), closed, downlink)
     }
 }

@@ -6,7 +6,7 @@ ghost use Rattle.ns_secure.specs.declared.Dir.TheVariants.{Up};
 ghost use Rattle.ns_secure.specs.Cipher.{cipher};
 ghost use Rattle.ns_roster.specs.Network.{ack_delay};
 ghost use Rattle.ns_calls.specs.Out.{ack_frame};
-ghost use Rattle.ns_shard.specs.Sending.{payload_key, uplink_from, ack_from};
+ghost use Rattle.ns_shard.specs.Sending.{payload_key, uplink_from, uplink_of, ack_from};
 
 use ns_calls::{Bytes, Downlink, Uplink};
 use ns_creator::{DataCreator, Keys, acknowledgement_law};
@@ -71,8 +71,8 @@ fn payload_of(window: &Window) -> (Bytes<242>, bool)
     }
 }
 
-/// The uplink of a window.
-pub fn uplink_from(window: Window) -> Uplink
+// The uplink of a window.
+fn uplink_from(window: Window) -> Uplink
     ensures { result ≡ uplink_from window }
 {
     let (payload, sealed) = payload_of(&window);
@@ -89,6 +89,13 @@ pub fn uplink_from(window: Window) -> Uplink
         payload,
         copies: window.copies,
     }
+}
+
+/// The uplink of a window that was closed, if any.
+pub fn uplink_of(closed: Option<Window>) -> Option<Uplink>
+    ensures { result ≡ uplink_of closed }
+{
+    Some(uplink_from(closed?))
 }
 
 // The acknowledgement frame with this number.

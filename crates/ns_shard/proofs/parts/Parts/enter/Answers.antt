@@ -20,10 +20,10 @@ react-requires-clause-open c =
     let p = c.args.self.now in
     can_react (arc_value p.roster) p.index p.journal.entries p.devices p.windows c.args.call.now c.requires.agree.agrees c.requires.own
 
-told : (c : After-push) → answer_of (arc_value c.args.self.now.roster) c.in_ok-event.event ≡ answer (arc_value c.args.self.now.roster) c.args.self.now.journal.entries c.args.call.now
+told : (c : After-push) → answer_of (arc_value c.args.self.now.roster) c.react.new.closed c.in_ok-event.event ≡ answer (arc_value c.args.self.now.roster) c.args.self.now.journal.entries c.args.call.now
 told c =
     let p = c.args.self.now in
-    rw c.in_ok-event.ensures.event (call-answered (arc_value p.roster) p.index p.journal.entries p.devices p.windows c.args.call.now c.requires.agree.agrees c.requires.own)
+    rw (c.in_ok-event.ensures.event, c.in_ok-event.ensures.closed) (call-answered (arc_value p.roster) p.index p.journal.entries p.devices p.windows c.args.call.now c.requires.agree.agrees c.requires.own)
 
 pushed : (c : After-push) → c.push.new.self.entries ≡ with_call (arc_value c.args.self.now.roster) c.args.self.now.journal.entries c.args.self.now.journal.made c.args.call.now
 pushed c =
