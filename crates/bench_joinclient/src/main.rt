@@ -9,10 +9,9 @@ ghost use Rattle.std.specs.Prelude.{◌<◌};
 use ns_joinclient::{HostName, ask};
 use ns_types::{Fuse, OverStd};
 use std::alloc::AllocError;
-use std::env;
-use std::io;
 use std::net::TcpStream;
 use std::time::{Duration, Instant};
+use std::{env, io};
 
 /// The measurements of each kind, of which the fastest counts.
 const ROUNDS: u32 = 300;

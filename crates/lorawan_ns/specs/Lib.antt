@@ -1,3 +1,1 @@
-pub mod StepLines
-pub mod Output
-pub mod Found
+pub mod Status

@@ -1,48 +1,48 @@
 //! The network server's program.
 //!
 //! `lorawan_ns replay ROSTER` reads step lines from standard input and writes the lines of their answers to standard output. The
-//! contract of `replay` says what is written; what the words of the command line ask for and the texts of faults are shown by
-//! tests, the exit statuses by hand. It stands on `ns_roster`, which reads the roster, and `ns_shard`, which runs the steps.
+//! contract of `replay` in `ns_replay` says what is written. `lorawan_ns serve ROSTER --join ADDR` hears gateways over UDP and writes
+//! their uplinks: `serve` of `ns_serve` does it, with threads and sockets. Here are the command line, the texts of faults and the
+//! exit statuses: which fault each refusal is and which status follows stand in contracts, what words ask for and the texts are shown
+//! by tests. It stands on `ns_roster`, which reads the roster, on `ns_replay`, `ns_serve` and `log`.
 #![tactic(auto)]
 
 mod fault;
 mod options;
 #[cfg(test)]
-mod recorded;
-mod replay;
-mod step_lines;
-mod taken;
-#[cfg(test)]
 mod tests;
 
-use crate::fault::Fault;
+ghost use Rattle.std.specs.Prelude.{◌≡◌, IsOk, IsErr};
+ghost use Rattle.std.specs.Process.{exit_status};
+ghost use Rattle.lorawan_ns.specs.Status.{IsServed, IsStatusOf};
+
+use crate::fault::{Fault, of_reading, of_roster, of_run, of_serving, status_of};
 use crate::options::{Asked, BadWords, read_words};
-use crate::replay::{ReplayFault, replay as replay_steps};
-use ns_roster::{Roster, RosterFault};
+use log::sink::Console;
+use log::{LevelFilter, Log, Logged};
+use ns_replay::replay;
+use ns_roster::Roster;
+use ns_serve::{ServeOptions, serve};
 use ns_types::OverStd;
 use std::env::Env;
 use std::io::ErrorKind;
+use std::net::{Net, TcpListener, TcpStream};
 use std::process::ExitCode;
 use std::rt::Files;
-use std::sync::Arc;
+use std::sync::{Arc, Wait};
+use std::thread::Threads;
+use std::time::Clock;
 use std::{env, fs, io};
 
 // The roster of a file.
 fn read_roster<'a, R: Files + AllocGlobal>(rt: &R, path: &'a str) -> Result<Roster, Fault<'a>> {
     let bytes = match fs::read(rt, path) {
         Ok(bytes) => bytes,
-        Err(error) => {
-            return Err(if error.kind() == ErrorKind::OutOfMemory {
-                Fault::NoMemory
-            } else {
-                Fault::CannotRead(path)
-            });
-        }
+        Err(error) => return Err(of_reading(error.kind(), path)),
     };
     match Roster::read(rt.alloc(), bytes.as_slice()) {
         Ok(roster) => Ok(roster),
-        Err(RosterFault::NoMemory) => Err(Fault::NoMemory),
-        Err(fault) => Err(Fault::Roster(fault)),
+        Err(fault) => Err(of_roster(fault)),
     }
 }
 
@@ -57,10 +57,35 @@ fn run_replay<'a, R: Files + AllocGlobal + Input + Print>(
     };
     let mut reader = OverStd::new(rt.reader());
     let mut writer = OverStd::new(io::writer(rt));
-    match replay_steps(rt.alloc(), roster, &mut reader, &mut writer) {
+    match replay(rt.alloc(), roster, &mut reader, &mut writer) {
         Ok(()) => Ok(()),
-        Err(ReplayFault::NoMemory) => Err(Fault::NoMemory),
-        Err(ReplayFault::Io) => Err(Fault::Io),
+        Err(fault) => Err(of_run(fault)),
+    }
+}
+
+// The level of log lines: that of RUST_LOG, else `info`.
+fn level<R: Env + AllocGlobal>(rt: &R) -> LevelFilter {
+    match env::var(rt, "RUST_LOG") {
+        Ok(text) => text.as_str().parse().unwrap_or(LevelFilter::Info),
+        Err(_) => LevelFilter::Info,
+    }
+}
+
+// Reads the roster and then serves gateways.
+fn run_serve<'a, R>(rt: &R, path: &'a str, options: &ServeOptions<'_>) -> Result<(), Fault<'a>>
+where
+    R: Files + AllocGlobal + Print + Threads + Wait + Clock + Log + Sync,
+    R: Net<Listener = TcpListener, Stream = TcpStream>,
+    requires { IsServed options.now }
+{
+    let roster = read_roster(rt, path)?;
+    let Ok(roster) = Arc::new(rt.alloc(), roster) else {
+        return Err(Fault::NoMemory);
+    };
+    let writer = OverStd::new(io::writer(rt));
+    match serve(rt, rt.alloc(), roster, options, writer) {
+        Ok(_) => Ok(()),
+        Err(fault) => Err(of_serving(fault)),
     }
 }
 
@@ -73,18 +98,29 @@ fn words<R: Env + AllocGlobal>(rt: &R) -> Result<Vec<String>, BadWords> {
     }
 }
 
-// Says a fault on standard error. The exit status is 1.
-fn failed<R: Eprint>(rt: &R, fault: &Fault) -> ExitCode {
-    let _ = eprintln!(rt; "{fault}");
-    ExitCode::from(1)
+// Writes a fault to standard error, and gives the exit status.
+fn ended<R: Eprint>(rt: &R, outcome: &Result<(), Fault>) -> ExitCode
+    ensures done { IsOk outcome.now → exit_status result ≡ 0 }
+    ensures failed { IsErr outcome.now → exit_status result ≡ 1 }
+{
+    if let Err(fault) = outcome {
+        let _ = eprintln!(rt; "{fault}");
+    }
+    status_of(outcome)
 }
 
-// Says why the words ask for nothing: help on standard output with status 0, else what is wrong with them and status 2.
-fn refused<R: Eprint + Print>(rt: &R, bad: &BadWords) -> ExitCode {
+// Says why the words ask for nothing, and gives the exit status: 0 for help and the version, 2 for bad words.
+fn refused<R: Eprint + Print>(rt: &R, bad: &BadWords) -> ExitCode
+    ensures { IsStatusOf bad.now (exit_status result) }
+{
     match bad {
-        BadWords::NoMemory => failed(rt, &Fault::NoMemory),
+        BadWords::NoMemory => ended(rt, &Err(Fault::NoMemory)),
         BadWords::NotText => {
             let _ = eprintln!(rt; "bad arguments");
+            ExitCode::from(2)
+        }
+        BadWords::BadValue(name) => {
+            let _ = eprintln!(rt; "bad arguments: --{name}");
             ExitCode::from(2)
         }
         BadWords::Shown(error) => {
@@ -94,7 +130,7 @@ fn refused<R: Eprint + Print>(rt: &R, bad: &BadWords) -> ExitCode {
             } else if printed.is_ok() {
                 ExitCode::SUCCESS
             } else {
-                failed(rt, &Fault::Io)
+                ended(rt, &Err(Fault::Io))
             }
         }
     }
@@ -105,12 +141,12 @@ fn main(rt: HostRuntime) -> ExitCode {
         Ok(words) => words,
         Err(bad) => return refused(&rt, &bad),
     };
-    let outcome = match read_words(rt.alloc(), words.as_slice()) {
-        Ok(Asked::Replay(path)) => run_replay(&rt, path),
-        Err(bad) => return refused(&rt, &bad),
-    };
-    match outcome {
-        Ok(()) => ExitCode::SUCCESS,
-        Err(fault) => failed(&rt, &fault),
+    match read_words(rt.alloc(), words.as_slice()) {
+        Ok(Asked::Replay(path)) => ended(&rt, &run_replay(&rt, path)),
+        Ok(Asked::Serve(path, options)) => {
+            let logged = Logged::new(rt, level(&rt), Console(rt));
+            ended(&rt, &run_serve(&logged, path, &options))
+        }
+        Err(bad) => refused(&rt, &bad),
     }
 }

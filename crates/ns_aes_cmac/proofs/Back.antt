@@ -5,7 +5,8 @@ use Rattle.std.proofs.lemmas.Simd.{zip2_of_maps, map-map}
 use lib.Lanes.{zip2}
 use lib.ListN.{get_or}
 use Rattle.ns_aes_cmac.specs.Aes.{product_of_bits, multiply, multiplicative_inverse, inverse_s_box, xor_bytes, mix_columns_by, sum_of_products, inverse_mix_columns, inverse_shift_rows, inverse_sub_bytes, round_keys_by, round_keys, inverse_rounds, unaes}
-use Rattle.ns_aes_cmac.proofs.Bytes.{all_below, all_below-at}
+use Rattle.ns_aes_cmac.proofs.Bytes.{all_below, agree_at}
+use Rattle.ns_aes_cmac.proofs.Rounds.{ten}
 use Rattle.ns_aes_cmac.specs.declared.substitution.TheConstants.{BACK_INTO_LO, BACK_INTO_HI, BACK_I, BACK_J}
 use Rattle.ns_aes_cmac.specs.declared.round.TheConstants.{TIMES_9_LO, TIMES_9_HI, TIMES_11_LO, TIMES_11_HI, TIMES_13_LO, TIMES_13_HI, TIMES_14_LO, TIMES_14_HI}
 use Rattle.ns_aes_cmac.specs.Lookups.{look_at, half_i, half_j, by_halves}
@@ -28,35 +29,28 @@ inverse_substituted v {w} {i} {j} {r} block ew ei ej er =
     let ti = ap (map (look_at BACK_I)) (ei ∙ ap (map half_i) ew ∙ map-map half_i into v) ∙ map-map (look_at BACK_I) (λ b. half_i (into b)) v in
     let tj = ap (map (look_at BACK_J)) (ej ∙ ap (map half_j) ew ∙ map-map half_j into v) ∙ map-map (look_at BACK_J) (λ b. half_j (into b)) v in
     er ∙ zip2_of_maps bit_xor (λ b. look_at BACK_I (half_i (into b))) (λ b. look_at BACK_J (half_j (into b))) v ti tj
-    ∙ map_agree back inverse_s_box v block.1 (λ b h. eqb-true _ _ (all_below-at (λ b. eqb (back b) (inverse_s_box b)) 256 all_back b h))
+    ∙ map_agree back inverse_s_box v block.1 (agree_at back inverse_s_box all_back)
 
-all_9 : all_below (λ b. eqb (by_halves TIMES_9_LO TIMES_9_HI b) (multiply 9 b)) 256 ≡ true
-unfolding product_of_bits
-all_9 = refl
+-- the products by a number, by the two look-ups of its tables
+module _ (m : ℕ) (lo hi : List ℕ) (test : all_below (λ b. eqb (by_halves lo hi b) (multiply m b)) 256 ≡ true) (v : List ℕ) (block : IsBlock v) where
+  times : map (by_halves lo hi) v ≡ map (multiply m) v
+  times = map_agree (by_halves lo hi) (multiply m) v block.1 (agree_at (by_halves lo hi) (multiply m) test)
 
 times_9 : (v : List ℕ) → IsBlock v → map (by_halves TIMES_9_LO TIMES_9_HI) v ≡ map (multiply 9) v
-times_9 v block = map_agree (by_halves TIMES_9_LO TIMES_9_HI) (multiply 9) v block.1 (λ b h. eqb-true _ _ (all_below-at (λ b. eqb (by_halves TIMES_9_LO TIMES_9_HI b) (multiply 9 b)) 256 all_9 b h))
-
-all_11 : all_below (λ b. eqb (by_halves TIMES_11_LO TIMES_11_HI b) (multiply 11 b)) 256 ≡ true
 unfolding product_of_bits
-all_11 = refl
+times_9 = times 9 TIMES_9_LO TIMES_9_HI refl
 
 times_11 : (v : List ℕ) → IsBlock v → map (by_halves TIMES_11_LO TIMES_11_HI) v ≡ map (multiply 11) v
-times_11 v block = map_agree (by_halves TIMES_11_LO TIMES_11_HI) (multiply 11) v block.1 (λ b h. eqb-true _ _ (all_below-at (λ b. eqb (by_halves TIMES_11_LO TIMES_11_HI b) (multiply 11 b)) 256 all_11 b h))
-
-all_13 : all_below (λ b. eqb (by_halves TIMES_13_LO TIMES_13_HI b) (multiply 13 b)) 256 ≡ true
 unfolding product_of_bits
-all_13 = refl
+times_11 = times 11 TIMES_11_LO TIMES_11_HI refl
 
 times_13 : (v : List ℕ) → IsBlock v → map (by_halves TIMES_13_LO TIMES_13_HI) v ≡ map (multiply 13) v
-times_13 v block = map_agree (by_halves TIMES_13_LO TIMES_13_HI) (multiply 13) v block.1 (λ b h. eqb-true _ _ (all_below-at (λ b. eqb (by_halves TIMES_13_LO TIMES_13_HI b) (multiply 13 b)) 256 all_13 b h))
-
-all_14 : all_below (λ b. eqb (by_halves TIMES_14_LO TIMES_14_HI b) (multiply 14 b)) 256 ≡ true
 unfolding product_of_bits
-all_14 = refl
+times_13 = times 13 TIMES_13_LO TIMES_13_HI refl
 
 times_14 : (v : List ℕ) → IsBlock v → map (by_halves TIMES_14_LO TIMES_14_HI) v ≡ map (multiply 14) v
-times_14 v block = map_agree (by_halves TIMES_14_LO TIMES_14_HI) (multiply 14) v block.1 (λ b h. eqb-true _ _ (all_below-at (λ b. eqb (by_halves TIMES_14_LO TIMES_14_HI b) (multiply 14 b)) 256 all_14 b h))
+unfolding product_of_bits
+times_14 = times 14 TIMES_14_LO TIMES_14_HI refl
 
 abbrev turn_0 : List ℕ
 turn_0 = 0 ∷ 1 ∷ 2 ∷ 3 ∷ 4 ∷ 5 ∷ 6 ∷ 7 ∷ 8 ∷ 9 ∷ 10 ∷ 11 ∷ 12 ∷ 13 ∷ 14 ∷ 15 ∷ []
@@ -134,37 +128,13 @@ final k s = xor_bytes k (inverse_sub_bytes (inverse_shift_rows s))
 abbrev full : List ℕ → List ℕ → List ℕ
 full k s = inverse_mix_columns (final k s)
 
-step : (k l : List ℕ) (ks : List (List ℕ)) (s v : List ℕ) → v ≡ full k s → inverse_rounds (k ∷ l ∷ ks) s ≡ inverse_rounds (l ∷ ks) v
+step : (k l : List ℕ) (ks : List (List ℕ)) (s : List ℕ) → inverse_rounds (k ∷ l ∷ ks) s ≡ inverse_rounds (l ∷ ks) (full k s)
 unfolding inverse_rounds
-step k l ks s v e = ap (inverse_rounds (l ∷ ks)) (sym e)
+step k l ks s = refl
 
-end : (k s v : List ℕ) → v ≡ final k s → inverse_rounds (k ∷ []) s ≡ v
+end : (k s : List ℕ) → inverse_rounds (k ∷ []) s ≡ final k s
 unfolding inverse_rounds
-end k s v e = sym e
-
-ten : (k1 k2 k3 k4 k5 k6 k7 k8 k9 k10 : List ℕ) (v0 v1 v2 v3 v4 v5 v6 v7 v8 v9 r : List ℕ)
-    → v1 ≡ full k1 v0
-    → v2 ≡ full k2 v1
-    → v3 ≡ full k3 v2
-    → v4 ≡ full k4 v3
-    → v5 ≡ full k5 v4
-    → v6 ≡ full k6 v5
-    → v7 ≡ full k7 v6
-    → v8 ≡ full k8 v7
-    → v9 ≡ full k9 v8
-    → r ≡ final k10 v9
-    → inverse_rounds (k1 ∷ k2 ∷ k3 ∷ k4 ∷ k5 ∷ k6 ∷ k7 ∷ k8 ∷ k9 ∷ k10 ∷ []) v0 ≡ r
-ten k1 k2 k3 k4 k5 k6 k7 k8 k9 k10 v0 v1 v2 v3 v4 v5 v6 v7 v8 v9 r e1 e2 e3 e4 e5 e6 e7 e8 e9 e10 =
-    step k1 k2 (k3 ∷ k4 ∷ k5 ∷ k6 ∷ k7 ∷ k8 ∷ k9 ∷ k10 ∷ []) v0 v1 e1 ∙
-    step k2 k3 (k4 ∷ k5 ∷ k6 ∷ k7 ∷ k8 ∷ k9 ∷ k10 ∷ []) v1 v2 e2 ∙
-    step k3 k4 (k5 ∷ k6 ∷ k7 ∷ k8 ∷ k9 ∷ k10 ∷ []) v2 v3 e3 ∙
-    step k4 k5 (k6 ∷ k7 ∷ k8 ∷ k9 ∷ k10 ∷ []) v3 v4 e4 ∙
-    step k5 k6 (k7 ∷ k8 ∷ k9 ∷ k10 ∷ []) v4 v5 e5 ∙
-    step k6 k7 (k8 ∷ k9 ∷ k10 ∷ []) v5 v6 e6 ∙
-    step k7 k8 (k9 ∷ k10 ∷ []) v6 v7 e7 ∙
-    step k8 k9 (k10 ∷ []) v7 v8 e8 ∙
-    step k9 k10 ([]) v8 v9 e9 ∙
-    end k10 v9 r e10
+end k s = refl
 
 abbrev key_at : List (List ℕ) → ℕ → List ℕ
 key_at ks i = get_or ks i []
@@ -183,6 +153,6 @@ pub unaes_is : (ks : List (List ℕ)) (key block : List ℕ) (v1 v2 v3 v4 v5 v6 
     → r ≡ unaes key block
 unfolding unaes round_keys_by
 unaes_is ks key block v1 v2 v3 v4 v5 v6 v7 v8 v9 r e e1 e2 e3 e4 e5 e6 e7 e8 e9 e10 =
-    sym (ten (key_at ks 9) (key_at ks 8) (key_at ks 7) (key_at ks 6) (key_at ks 5) (key_at ks 4) (key_at ks 3) (key_at ks 2) (key_at ks 1) (key_at ks 0) (zip2 bit_xor (key_at ks 10) block) v1 v2 v3 v4 v5 v6 v7 v8 v9 r e1 e2 e3 e4 e5 e6 e7 e8 e9 e10)
+    sym (ten inverse_rounds full final step end (key_at ks 9) (key_at ks 8) (key_at ks 7) (key_at ks 6) (key_at ks 5) (key_at ks 4) (key_at ks 3) (key_at ks 2) (key_at ks 1) (key_at ks 0) (zip2 bit_xor (key_at ks 10) block) v1 v2 v3 v4 v5 v6 v7 v8 v9 r e1 e2 e3 e4 e5 e6 e7 e8 e9 e10)
     ∙ ap (λ l. inverse_rounds (key_at l 9 ∷ key_at l 8 ∷ key_at l 7 ∷ key_at l 6 ∷ key_at l 5 ∷ key_at l 4 ∷ key_at l 3 ∷ key_at l 2 ∷ key_at l 1 ∷ key_at l 0 ∷ []) (zip2 bit_xor (key_at ks 10) block)) e
     ∙ ap (inverse_rounds (key_at (key ∷ round_keys key) 9 ∷ key_at (key ∷ round_keys key) 8 ∷ key_at (key ∷ round_keys key) 7 ∷ key_at (key ∷ round_keys key) 6 ∷ key_at (key ∷ round_keys key) 5 ∷ key_at (key ∷ round_keys key) 4 ∷ key_at (key ∷ round_keys key) 3 ∷ key_at (key ∷ round_keys key) 2 ∷ key_at (key ∷ round_keys key) 1 ∷ key_at (key ∷ round_keys key) 0 ∷ [])) (zip2_xor (key_at ks 10) block ∙ ap (λ l. xor_bytes (key_at l 10) block) e)

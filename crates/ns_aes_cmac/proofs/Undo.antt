@@ -1,12 +1,12 @@
 -- Deciphering undoes enciphering, and the other way round.
-use Rattle.std.proofs.Common.{◌≡◌, ℕ, zero, suc, ◌/◌, ◌%◌, ◌<◌, eqb, Bool, true, false, List, [], ◌∷◌, map, length, bit_xor, refl, sym, ap, subst, ◌∙◌, arith, eqb-true, if◌then◌else◌, ◌==◌}
+use Rattle.std.proofs.Common.{◌≡◌, ℕ, zero, suc, ◌*◌, ◌/◌, ◌%◌, ◌<◌, eqb, Bool, true, false, List, [], ◌∷◌, map, length, bit_xor, refl, sym, ap, subst, ◌∙◌, arith, eqb-true, if◌then◌else◌, ◌==◌}
 use Rattle.std.proofs.lemmas.Nat.{xor_comm, xor_lt}
 use Rattle.std.proofs.lemmas.List.{length-map}
 use Rattle.std.proofs.lemmas.Simd.{Each1-from_get_or}
 use lib.Bits.{xor_assoc, xor_self, xor_zero_r}
 use lib.Lanes.{Each1, zip2}
 use Rattle.ns_aes_cmac.specs.Aes.{xtime, product_of_bits, multiply, multiplicative_inverse, s_box, inverse_s_box, sub_bytes, inverse_sub_bytes, shift_rows, inverse_shift_rows, sum_of_products, mix_columns_by, mix_columns, inverse_mix_columns, xor_bytes, next_round_key, round_keys_by, round_keys, round_constants, aes, unaes, IsBlock}
-use Rattle.ns_aes_cmac.proofs.Bytes.{all_below, all_below-at}
+use Rattle.ns_aes_cmac.proofs.Bytes.{all_below, all_below-at, agree_at}
 use Rattle.ns_aes_cmac.proofs.Mix.{sixteen, joined, zip2_xor}
 use Rattle.ns_aes_cmac.proofs.Rounds.{aes_is, key_at}
 use Rattle.ns_aes_cmac.proofs.Back.{unaes_is}
@@ -29,7 +29,7 @@ xtime_pairs : all_below (λ x. all_below (λ y. eqb (xtime (bit_xor x y)) (bit_x
 xtime_pairs = refl
 
 xtime_xor : (x y : ℕ) → x < 256 → y < 256 → xtime (bit_xor x y) ≡ bit_xor (xtime x) (xtime y)
-xtime_xor x y fx fy = eqb-true _ _ (all_below-at (λ y. eqb (xtime (bit_xor x y)) (bit_xor (xtime x) (xtime y))) 256 (all_below-at (λ x. all_below (λ y. eqb (xtime (bit_xor x y)) (bit_xor (xtime x) (xtime y))) 256) 256 xtime_pairs x fx) y fy)
+xtime_xor x y fx fy = agree_at (λ y. xtime (bit_xor x y)) (λ y. bit_xor (xtime x) (xtime y)) (all_below-at (λ x. all_below (λ y. eqb (xtime (bit_xor x y)) (bit_xor (xtime x) (xtime y))) 256) 256 xtime_pairs x fx) y fy
 
 -- a function of a byte that gives a byte, by a test of each
 byte_by : (f : ℕ → ℕ) → all_below (λ b. eqb (f b % 256) (f b)) 256 ≡ true → (b : ℕ) → b < 256 → f b < 256
@@ -122,272 +122,86 @@ module _ (a b c d p q r s w x y z : ℕ) (fw : w < 256) (fx : x < 256) (fy : y <
       out : (m e f g h : ℕ) → multiply m (sum_of_products e f g h w x y z) ≡ parts m e f g h
       out m e f g h = spread m (multiply e w) (multiply f x) (multiply g y) (multiply h z) (product_byte 8 e w fw) (product_byte 8 f x fx) (product_byte 8 g y fy) (product_byte 8 h z fz)
 
--- of a product of matrices that is the identity: an entry is 1 or 0
-abbrev is_one_at : (ℕ → ℕ) → Type 0
-is_one_at f = all_below (λ b. eqb (f b) b) 256 ≡ true
-
-abbrev is_zero_at : (ℕ → ℕ) → Type 0
-is_zero_at f = all_below (λ b. eqb (f b) 0) 256 ≡ true
-
-one_at : (f : ℕ → ℕ) → is_one_at f → (b : ℕ) → b < 256 → f b ≡ b
-one_at f test b fb = eqb-true _ _ (all_below-at (λ b. eqb (f b) b) 256 test b fb)
-
-zero_at : (f : ℕ → ℕ) → is_zero_at f → (b : ℕ) → b < 256 → f b ≡ 0
-zero_at f test b fb = eqb-true _ _ (all_below-at (λ b. eqb (f b) 0) 256 test b fb)
-
 four_is : {a b c d p q r s : ℕ} → a ≡ p → b ≡ q → c ≡ r → d ≡ s → four a b c d ≡ four p q r s
 four_is {a} {b} {c} {d} {p} {q} {r} {s} e f g h =
     ap (λ n. bit_xor (bit_xor n b) (bit_xor c d)) e ∙ ap (λ n. bit_xor (bit_xor p n) (bit_xor c d)) f ∙ ap (λ n. bit_xor (bit_xor p q) (bit_xor n d)) g ∙ ap (λ n. bit_xor (bit_xor p q) (bit_xor r n)) h
 
-forth_0_0 : is_one_at (entry 14 11 13 9 2 1 1 3)
-unfolding product_of_bits
-forth_0_0 = refl
+turned_four : (a b c d : ℕ) → four a b c d ≡ four d a b c
+turned_four a b c d = ap (bit_xor (bit_xor a b)) (xor_comm c d) ∙ swap a b d c ∙ ap (λ n. bit_xor n (bit_xor b c)) (xor_comm a d)
 
-forth_0_1 : is_zero_at (entry 14 11 13 9 3 2 1 1)
-unfolding product_of_bits
-forth_0_1 = refl
+-- the first row of a product of two circulant matrices, by their first rows: its entries, as functions of a byte
+abbrev FirstRow : (a b c d p q r s : ℕ) → (f g h i : ℕ → ℕ) → Type 0
+FirstRow a b c d p q r s f g h i = (x : ℕ) → x < 256
+    → (entry a b c d p s r q x ≡ f x) × (entry a b c d q p s r x ≡ g x) × (entry a b c d r q p s x ≡ h x) × (entry a b c d s r q p x ≡ i x)
 
-forth_0_2 : is_zero_at (entry 14 11 13 9 1 3 2 1)
-unfolding product_of_bits
-forth_0_2 = refl
+-- the next row is the one before, turned by one place
+next_row : (a b c d p q r s : ℕ) (f g h i : ℕ → ℕ) → FirstRow a b c d p q r s f g h i → FirstRow d a b c p q r s i f g h
+next_row a b c d p q r s f g h i row x fx =
+    let e = row x fx in
+    (sym (turned a b c d s r q p) ∙ e.3, sym (turned a b c d p s r q) ∙ e.0, sym (turned a b c d q p s r) ∙ e.1, sym (turned a b c d r q p s) ∙ e.2)
+  where
+    turned : (a b c d p q r s : ℕ) → entry a b c d p q r s x ≡ entry d a b c s p q r x
+    turned a b c d p q r s = turned_four (multiply a (multiply p x)) (multiply b (multiply q x)) (multiply c (multiply r x)) (multiply d (multiply s x))
 
-forth_0_3 : is_zero_at (entry 14 11 13 9 1 1 3 2)
-unfolding product_of_bits
-forth_0_3 = refl
+abbrev same : ℕ → ℕ
+same n = n
 
-forth_1_0 : is_zero_at (entry 9 14 11 13 2 1 1 3)
-unfolding product_of_bits
-forth_1_0 = refl
+abbrev none : ℕ → ℕ
+none n = 0
 
-forth_1_1 : is_one_at (entry 9 14 11 13 3 2 1 1)
-unfolding product_of_bits
-forth_1_1 = refl
-
-forth_1_2 : is_zero_at (entry 9 14 11 13 1 3 2 1)
-unfolding product_of_bits
-forth_1_2 = refl
-
-forth_1_3 : is_zero_at (entry 9 14 11 13 1 1 3 2)
-unfolding product_of_bits
-forth_1_3 = refl
-
-forth_2_0 : is_zero_at (entry 13 9 14 11 2 1 1 3)
-unfolding product_of_bits
-forth_2_0 = refl
-
-forth_2_1 : is_zero_at (entry 13 9 14 11 3 2 1 1)
-unfolding product_of_bits
-forth_2_1 = refl
-
-forth_2_2 : is_one_at (entry 13 9 14 11 1 3 2 1)
-unfolding product_of_bits
-forth_2_2 = refl
-
-forth_2_3 : is_zero_at (entry 13 9 14 11 1 1 3 2)
-unfolding product_of_bits
-forth_2_3 = refl
-
-forth_3_0 : is_zero_at (entry 11 13 9 14 2 1 1 3)
-unfolding product_of_bits
-forth_3_0 = refl
-
-forth_3_1 : is_zero_at (entry 11 13 9 14 3 2 1 1)
-unfolding product_of_bits
-forth_3_1 = refl
-
-forth_3_2 : is_zero_at (entry 11 13 9 14 1 3 2 1)
-unfolding product_of_bits
-forth_3_2 = refl
-
-forth_3_3 : is_one_at (entry 11 13 9 14 1 1 3 2)
-unfolding product_of_bits
-forth_3_3 = refl
+-- the first row of the identity
+abbrev IsUndoneBy : (a b c d p q r s : ℕ) → Type 0
+IsUndoneBy p q r s a b c d = FirstRow a b c d p q r s same none none none
 
 module _ (w x y z : ℕ) (fw : w < 256) (fx : x < 256) (fy : y < 256) (fz : z < 256) where
-  forth_row_0 : sum_of_products 14 11 13 9 (sum_of_products 2 3 1 1 w x y z) (sum_of_products 1 2 3 1 w x y z) (sum_of_products 1 1 2 3 w x y z) (sum_of_products 3 1 1 2 w x y z) ≡ w
-  forth_row_0 =
-      row_of_both 14 11 13 9 2 3 1 1 w x y z fw fx fy fz
-      ∙ four_is (one_at (entry 14 11 13 9 2 1 1 3) forth_0_0 w fw)
-      (zero_at (entry 14 11 13 9 3 2 1 1) forth_0_1 x fx)
-      (zero_at (entry 14 11 13 9 1 3 2 1) forth_0_2 y fy)
-      (zero_at (entry 14 11 13 9 1 1 3 2) forth_0_3 z fz)
-      ∙ ap (λ n. bit_xor n 0) (xor_zero_r w) ∙ xor_zero_r w
+  row_of : (a b c d p q r s : ℕ) (f g h i : ℕ → ℕ) → FirstRow a b c d p q r s f g h i
+      → sum_of_products a b c d (sum_of_products p q r s w x y z) (sum_of_products s p q r w x y z) (sum_of_products r s p q w x y z) (sum_of_products q r s p w x y z) ≡ four (f w) (g x) (h y) (i z)
+  row_of a b c d p q r s f g h i row =
+      row_of_both a b c d p q r s w x y z fw fx fy fz ∙ four_is ((row w fw).0) ((row x fx).1) ((row y fy).2) ((row z fz).3)
 
-  forth_row_1 : sum_of_products 9 14 11 13 (sum_of_products 2 3 1 1 w x y z) (sum_of_products 1 2 3 1 w x y z) (sum_of_products 1 1 2 3 w x y z) (sum_of_products 3 1 1 2 w x y z) ≡ x
-  forth_row_1 =
-      row_of_both 9 14 11 13 2 3 1 1 w x y z fw fx fy fz
-      ∙ four_is (zero_at (entry 9 14 11 13 2 1 1 3) forth_1_0 w fw)
-      (one_at (entry 9 14 11 13 3 2 1 1) forth_1_1 x fx)
-      (zero_at (entry 9 14 11 13 1 3 2 1) forth_1_2 y fy)
-      (zero_at (entry 9 14 11 13 1 1 3 2) forth_1_3 z fz)
-      ∙ xor_zero_r x
+-- columns mixed by a matrix, and by one that undoes it
+module _ (a b c d p q r s : ℕ) (row : IsUndoneBy p q r s a b c d) where
+  second : FirstRow d a b c p q r s none same none none
+  second = next_row a b c d p q r s same none none none row
 
-  forth_row_2 : sum_of_products 13 9 14 11 (sum_of_products 2 3 1 1 w x y z) (sum_of_products 1 2 3 1 w x y z) (sum_of_products 1 1 2 3 w x y z) (sum_of_products 3 1 1 2 w x y z) ≡ y
-  forth_row_2 =
-      row_of_both 13 9 14 11 2 3 1 1 w x y z fw fx fy fz
-      ∙ four_is (zero_at (entry 13 9 14 11 2 1 1 3) forth_2_0 w fw)
-      (zero_at (entry 13 9 14 11 3 2 1 1) forth_2_1 x fx)
-      (one_at (entry 13 9 14 11 1 3 2 1) forth_2_2 y fy)
-      (zero_at (entry 13 9 14 11 1 1 3 2) forth_2_3 z fz)
-      ∙ xor_zero_r y
+  third : FirstRow c d a b p q r s none none same none
+  third = next_row d a b c p q r s none same none none second
 
-  forth_row_3 : sum_of_products 11 13 9 14 (sum_of_products 2 3 1 1 w x y z) (sum_of_products 1 2 3 1 w x y z) (sum_of_products 1 1 2 3 w x y z) (sum_of_products 3 1 1 2 w x y z) ≡ z
-  forth_row_3 =
-      row_of_both 11 13 9 14 2 3 1 1 w x y z fw fx fy fz
-      ∙ four_is (zero_at (entry 11 13 9 14 2 1 1 3) forth_3_0 w fw)
-      (zero_at (entry 11 13 9 14 3 2 1 1) forth_3_1 x fx)
-      (zero_at (entry 11 13 9 14 1 3 2 1) forth_3_2 y fy)
-      (one_at (entry 11 13 9 14 1 1 3 2) forth_3_3 z fz)
-      ∙ refl
+  fourth : FirstRow b c d a p q r s none none none same
+  fourth = next_row c d a b p q r s none none same none third
+
+  unmixed : (n : ℕ) (v : List ℕ) → length v ≡ n * 4 → Each1 (λ b. b < 256) v → mix_columns_by a b c d (mix_columns_by p q r s v) ≡ v
+  unfolding mix_columns_by
+  unmixed n [] long fits = refl
+  unmixed n (w ∷ []) long fits = absurd (omega (arith, long))
+  unmixed n (w ∷ x ∷ []) long fits = absurd (omega (arith, long))
+  unmixed n (w ∷ x ∷ y ∷ []) long fits = absurd (omega (arith, long))
+  unmixed zero (w ∷ x ∷ y ∷ z ∷ v) long fits = absurd (omega (arith, long))
+  unmixed (suc n) (w ∷ x ∷ y ∷ z ∷ v) long (fw, (fx, (fy, (fz, fits)))) =
+      joined (row_of w x y z fw fx fy fz a b c d p q r s same none none none row ∙ ap (λ n. bit_xor n 0) (xor_zero_r w) ∙ xor_zero_r w) (
+      joined (row_of w x y z fw fx fy fz d a b c p q r s none same none none second ∙ xor_zero_r x) (
+      joined (row_of w x y z fw fx fy fz c d a b p q r s none none same none third ∙ xor_zero_r y) (
+      joined (row_of w x y z fw fx fy fz b c d a p q r s none none none same fourth) (
+      unmixed n v (omega (arith, long)) fits))))
+
+-- MixColumns and its inverse undo each other: four entries of each product, on every byte
+entries : (f g h i : ℕ → ℕ) → all_below (λ x. eqb (f x) x) 256 ≡ true → all_below (λ x. eqb (g x) 0) 256 ≡ true → all_below (λ x. eqb (h x) 0) 256 ≡ true → all_below (λ x. eqb (i x) 0) 256 ≡ true
+    → (x : ℕ) → x < 256 → (f x ≡ x) × (g x ≡ 0) × (h x ≡ 0) × (i x ≡ 0)
+entries f g h i tf tg th ti x fx = (agree_at f same tf x fx, agree_at g none tg x fx, agree_at h none th x fx, agree_at i none ti x fx)
+
+undone_forth : IsUndoneBy 2 3 1 1 14 11 13 9
+unfolding product_of_bits
+undone_forth = entries (entry 14 11 13 9 2 1 1 3) (entry 14 11 13 9 3 2 1 1) (entry 14 11 13 9 1 3 2 1) (entry 14 11 13 9 1 1 3 2) refl refl refl refl
+
+undone_back : IsUndoneBy 14 11 13 9 2 3 1 1
+unfolding product_of_bits
+undone_back = entries (entry 2 3 1 1 14 9 13 11) (entry 2 3 1 1 11 14 9 13) (entry 2 3 1 1 13 11 14 9) (entry 2 3 1 1 9 13 11 14) refl refl refl refl
 
 mixed_forth : (v : List ℕ) → Bytes 16 v → inverse_mix_columns (mix_columns v) ≡ v
-unfolding mix_columns_by
-mixed_forth v bytes =
-    sixteen (λ v. Each1 (λ b. b < 256) v → inverse_mix_columns (mix_columns v) ≡ v)
-    (λ a0 a1 a2 a3 a4 a5 a6 a7 a8 a9 a10 a11 a12 a13 a14 a15 f.
-    joined (forth_row_0 a0 a1 a2 a3 f.0 f.1.0 f.1.1.0 f.1.1.1.0) (
-    joined (forth_row_1 a0 a1 a2 a3 f.0 f.1.0 f.1.1.0 f.1.1.1.0) (
-    joined (forth_row_2 a0 a1 a2 a3 f.0 f.1.0 f.1.1.0 f.1.1.1.0) (
-    joined (forth_row_3 a0 a1 a2 a3 f.0 f.1.0 f.1.1.0 f.1.1.1.0) (
-    joined (forth_row_0 a4 a5 a6 a7 f.1.1.1.1.0 f.1.1.1.1.1.0 f.1.1.1.1.1.1.0 f.1.1.1.1.1.1.1.0) (
-    joined (forth_row_1 a4 a5 a6 a7 f.1.1.1.1.0 f.1.1.1.1.1.0 f.1.1.1.1.1.1.0 f.1.1.1.1.1.1.1.0) (
-    joined (forth_row_2 a4 a5 a6 a7 f.1.1.1.1.0 f.1.1.1.1.1.0 f.1.1.1.1.1.1.0 f.1.1.1.1.1.1.1.0) (
-    joined (forth_row_3 a4 a5 a6 a7 f.1.1.1.1.0 f.1.1.1.1.1.0 f.1.1.1.1.1.1.0 f.1.1.1.1.1.1.1.0) (
-    joined (forth_row_0 a8 a9 a10 a11 f.1.1.1.1.1.1.1.1.0 f.1.1.1.1.1.1.1.1.1.0 f.1.1.1.1.1.1.1.1.1.1.0 f.1.1.1.1.1.1.1.1.1.1.1.0) (
-    joined (forth_row_1 a8 a9 a10 a11 f.1.1.1.1.1.1.1.1.0 f.1.1.1.1.1.1.1.1.1.0 f.1.1.1.1.1.1.1.1.1.1.0 f.1.1.1.1.1.1.1.1.1.1.1.0) (
-    joined (forth_row_2 a8 a9 a10 a11 f.1.1.1.1.1.1.1.1.0 f.1.1.1.1.1.1.1.1.1.0 f.1.1.1.1.1.1.1.1.1.1.0 f.1.1.1.1.1.1.1.1.1.1.1.0) (
-    joined (forth_row_3 a8 a9 a10 a11 f.1.1.1.1.1.1.1.1.0 f.1.1.1.1.1.1.1.1.1.0 f.1.1.1.1.1.1.1.1.1.1.0 f.1.1.1.1.1.1.1.1.1.1.1.0) (
-    joined (forth_row_0 a12 a13 a14 a15 f.1.1.1.1.1.1.1.1.1.1.1.1.0 f.1.1.1.1.1.1.1.1.1.1.1.1.1.0 f.1.1.1.1.1.1.1.1.1.1.1.1.1.1.0 f.1.1.1.1.1.1.1.1.1.1.1.1.1.1.1.0) (
-    joined (forth_row_1 a12 a13 a14 a15 f.1.1.1.1.1.1.1.1.1.1.1.1.0 f.1.1.1.1.1.1.1.1.1.1.1.1.1.0 f.1.1.1.1.1.1.1.1.1.1.1.1.1.1.0 f.1.1.1.1.1.1.1.1.1.1.1.1.1.1.1.0) (
-    joined (forth_row_2 a12 a13 a14 a15 f.1.1.1.1.1.1.1.1.1.1.1.1.0 f.1.1.1.1.1.1.1.1.1.1.1.1.1.0 f.1.1.1.1.1.1.1.1.1.1.1.1.1.1.0 f.1.1.1.1.1.1.1.1.1.1.1.1.1.1.1.0) (
-    joined (forth_row_3 a12 a13 a14 a15 f.1.1.1.1.1.1.1.1.1.1.1.1.0 f.1.1.1.1.1.1.1.1.1.1.1.1.1.0 f.1.1.1.1.1.1.1.1.1.1.1.1.1.1.0 f.1.1.1.1.1.1.1.1.1.1.1.1.1.1.1.0) (
-    refl)))))))))))))))))
-    v bytes.0 bytes.1
-
-back_0_0 : is_one_at (entry 2 3 1 1 14 9 13 11)
-unfolding product_of_bits
-back_0_0 = refl
-
-back_0_1 : is_zero_at (entry 2 3 1 1 11 14 9 13)
-unfolding product_of_bits
-back_0_1 = refl
-
-back_0_2 : is_zero_at (entry 2 3 1 1 13 11 14 9)
-unfolding product_of_bits
-back_0_2 = refl
-
-back_0_3 : is_zero_at (entry 2 3 1 1 9 13 11 14)
-unfolding product_of_bits
-back_0_3 = refl
-
-back_1_0 : is_zero_at (entry 1 2 3 1 14 9 13 11)
-unfolding product_of_bits
-back_1_0 = refl
-
-back_1_1 : is_one_at (entry 1 2 3 1 11 14 9 13)
-unfolding product_of_bits
-back_1_1 = refl
-
-back_1_2 : is_zero_at (entry 1 2 3 1 13 11 14 9)
-unfolding product_of_bits
-back_1_2 = refl
-
-back_1_3 : is_zero_at (entry 1 2 3 1 9 13 11 14)
-unfolding product_of_bits
-back_1_3 = refl
-
-back_2_0 : is_zero_at (entry 1 1 2 3 14 9 13 11)
-unfolding product_of_bits
-back_2_0 = refl
-
-back_2_1 : is_zero_at (entry 1 1 2 3 11 14 9 13)
-unfolding product_of_bits
-back_2_1 = refl
-
-back_2_2 : is_one_at (entry 1 1 2 3 13 11 14 9)
-unfolding product_of_bits
-back_2_2 = refl
-
-back_2_3 : is_zero_at (entry 1 1 2 3 9 13 11 14)
-unfolding product_of_bits
-back_2_3 = refl
-
-back_3_0 : is_zero_at (entry 3 1 1 2 14 9 13 11)
-unfolding product_of_bits
-back_3_0 = refl
-
-back_3_1 : is_zero_at (entry 3 1 1 2 11 14 9 13)
-unfolding product_of_bits
-back_3_1 = refl
-
-back_3_2 : is_zero_at (entry 3 1 1 2 13 11 14 9)
-unfolding product_of_bits
-back_3_2 = refl
-
-back_3_3 : is_one_at (entry 3 1 1 2 9 13 11 14)
-unfolding product_of_bits
-back_3_3 = refl
-
-module _ (w x y z : ℕ) (fw : w < 256) (fx : x < 256) (fy : y < 256) (fz : z < 256) where
-  back_row_0 : sum_of_products 2 3 1 1 (sum_of_products 14 11 13 9 w x y z) (sum_of_products 9 14 11 13 w x y z) (sum_of_products 13 9 14 11 w x y z) (sum_of_products 11 13 9 14 w x y z) ≡ w
-  back_row_0 =
-      row_of_both 2 3 1 1 14 11 13 9 w x y z fw fx fy fz
-      ∙ four_is (one_at (entry 2 3 1 1 14 9 13 11) back_0_0 w fw)
-      (zero_at (entry 2 3 1 1 11 14 9 13) back_0_1 x fx)
-      (zero_at (entry 2 3 1 1 13 11 14 9) back_0_2 y fy)
-      (zero_at (entry 2 3 1 1 9 13 11 14) back_0_3 z fz)
-      ∙ ap (λ n. bit_xor n 0) (xor_zero_r w) ∙ xor_zero_r w
-
-  back_row_1 : sum_of_products 1 2 3 1 (sum_of_products 14 11 13 9 w x y z) (sum_of_products 9 14 11 13 w x y z) (sum_of_products 13 9 14 11 w x y z) (sum_of_products 11 13 9 14 w x y z) ≡ x
-  back_row_1 =
-      row_of_both 1 2 3 1 14 11 13 9 w x y z fw fx fy fz
-      ∙ four_is (zero_at (entry 1 2 3 1 14 9 13 11) back_1_0 w fw)
-      (one_at (entry 1 2 3 1 11 14 9 13) back_1_1 x fx)
-      (zero_at (entry 1 2 3 1 13 11 14 9) back_1_2 y fy)
-      (zero_at (entry 1 2 3 1 9 13 11 14) back_1_3 z fz)
-      ∙ xor_zero_r x
-
-  back_row_2 : sum_of_products 1 1 2 3 (sum_of_products 14 11 13 9 w x y z) (sum_of_products 9 14 11 13 w x y z) (sum_of_products 13 9 14 11 w x y z) (sum_of_products 11 13 9 14 w x y z) ≡ y
-  back_row_2 =
-      row_of_both 1 1 2 3 14 11 13 9 w x y z fw fx fy fz
-      ∙ four_is (zero_at (entry 1 1 2 3 14 9 13 11) back_2_0 w fw)
-      (zero_at (entry 1 1 2 3 11 14 9 13) back_2_1 x fx)
-      (one_at (entry 1 1 2 3 13 11 14 9) back_2_2 y fy)
-      (zero_at (entry 1 1 2 3 9 13 11 14) back_2_3 z fz)
-      ∙ xor_zero_r y
-
-  back_row_3 : sum_of_products 3 1 1 2 (sum_of_products 14 11 13 9 w x y z) (sum_of_products 9 14 11 13 w x y z) (sum_of_products 13 9 14 11 w x y z) (sum_of_products 11 13 9 14 w x y z) ≡ z
-  back_row_3 =
-      row_of_both 3 1 1 2 14 11 13 9 w x y z fw fx fy fz
-      ∙ four_is (zero_at (entry 3 1 1 2 14 9 13 11) back_3_0 w fw)
-      (zero_at (entry 3 1 1 2 11 14 9 13) back_3_1 x fx)
-      (zero_at (entry 3 1 1 2 13 11 14 9) back_3_2 y fy)
-      (one_at (entry 3 1 1 2 9 13 11 14) back_3_3 z fz)
-      ∙ refl
+mixed_forth v bytes = unmixed 14 11 13 9 2 3 1 1 undone_forth 4 v bytes.0 bytes.1
 
 mixed_back : (v : List ℕ) → Bytes 16 v → mix_columns (inverse_mix_columns v) ≡ v
-unfolding mix_columns_by
-mixed_back v bytes =
-    sixteen (λ v. Each1 (λ b. b < 256) v → mix_columns (inverse_mix_columns v) ≡ v)
-    (λ a0 a1 a2 a3 a4 a5 a6 a7 a8 a9 a10 a11 a12 a13 a14 a15 f.
-    joined (back_row_0 a0 a1 a2 a3 f.0 f.1.0 f.1.1.0 f.1.1.1.0) (
-    joined (back_row_1 a0 a1 a2 a3 f.0 f.1.0 f.1.1.0 f.1.1.1.0) (
-    joined (back_row_2 a0 a1 a2 a3 f.0 f.1.0 f.1.1.0 f.1.1.1.0) (
-    joined (back_row_3 a0 a1 a2 a3 f.0 f.1.0 f.1.1.0 f.1.1.1.0) (
-    joined (back_row_0 a4 a5 a6 a7 f.1.1.1.1.0 f.1.1.1.1.1.0 f.1.1.1.1.1.1.0 f.1.1.1.1.1.1.1.0) (
-    joined (back_row_1 a4 a5 a6 a7 f.1.1.1.1.0 f.1.1.1.1.1.0 f.1.1.1.1.1.1.0 f.1.1.1.1.1.1.1.0) (
-    joined (back_row_2 a4 a5 a6 a7 f.1.1.1.1.0 f.1.1.1.1.1.0 f.1.1.1.1.1.1.0 f.1.1.1.1.1.1.1.0) (
-    joined (back_row_3 a4 a5 a6 a7 f.1.1.1.1.0 f.1.1.1.1.1.0 f.1.1.1.1.1.1.0 f.1.1.1.1.1.1.1.0) (
-    joined (back_row_0 a8 a9 a10 a11 f.1.1.1.1.1.1.1.1.0 f.1.1.1.1.1.1.1.1.1.0 f.1.1.1.1.1.1.1.1.1.1.0 f.1.1.1.1.1.1.1.1.1.1.1.0) (
-    joined (back_row_1 a8 a9 a10 a11 f.1.1.1.1.1.1.1.1.0 f.1.1.1.1.1.1.1.1.1.0 f.1.1.1.1.1.1.1.1.1.1.0 f.1.1.1.1.1.1.1.1.1.1.1.0) (
-    joined (back_row_2 a8 a9 a10 a11 f.1.1.1.1.1.1.1.1.0 f.1.1.1.1.1.1.1.1.1.0 f.1.1.1.1.1.1.1.1.1.1.0 f.1.1.1.1.1.1.1.1.1.1.1.0) (
-    joined (back_row_3 a8 a9 a10 a11 f.1.1.1.1.1.1.1.1.0 f.1.1.1.1.1.1.1.1.1.0 f.1.1.1.1.1.1.1.1.1.1.0 f.1.1.1.1.1.1.1.1.1.1.1.0) (
-    joined (back_row_0 a12 a13 a14 a15 f.1.1.1.1.1.1.1.1.1.1.1.1.0 f.1.1.1.1.1.1.1.1.1.1.1.1.1.0 f.1.1.1.1.1.1.1.1.1.1.1.1.1.1.0 f.1.1.1.1.1.1.1.1.1.1.1.1.1.1.1.0) (
-    joined (back_row_1 a12 a13 a14 a15 f.1.1.1.1.1.1.1.1.1.1.1.1.0 f.1.1.1.1.1.1.1.1.1.1.1.1.1.0 f.1.1.1.1.1.1.1.1.1.1.1.1.1.1.0 f.1.1.1.1.1.1.1.1.1.1.1.1.1.1.1.0) (
-    joined (back_row_2 a12 a13 a14 a15 f.1.1.1.1.1.1.1.1.1.1.1.1.0 f.1.1.1.1.1.1.1.1.1.1.1.1.1.0 f.1.1.1.1.1.1.1.1.1.1.1.1.1.1.0 f.1.1.1.1.1.1.1.1.1.1.1.1.1.1.1.0) (
-    joined (back_row_3 a12 a13 a14 a15 f.1.1.1.1.1.1.1.1.1.1.1.1.0 f.1.1.1.1.1.1.1.1.1.1.1.1.1.0 f.1.1.1.1.1.1.1.1.1.1.1.1.1.1.0 f.1.1.1.1.1.1.1.1.1.1.1.1.1.1.1.0) (
-    refl)))))))))))))))))
-    v bytes.0 bytes.1
+mixed_back v bytes = unmixed 2 3 1 1 14 11 13 9 undone_back 4 v bytes.0 bytes.1
 
 -- ---- the other steps
 
@@ -397,15 +211,15 @@ shifted_forth v long = sixteen (λ v. inverse_shift_rows (shift_rows v) ≡ v) (
 shifted_back : (v : List ℕ) → length v ≡ 16 → shift_rows (inverse_shift_rows v) ≡ v
 shifted_back v long = sixteen (λ v. shift_rows (inverse_shift_rows v) ≡ v) (λ a0 a1 a2 a3 a4 a5 a6 a7 a8 a9 a10 a11 a12 a13 a14 a15. refl) v long
 
-map_undone : (f g : ℕ → ℕ) → is_one_at (λ b. g (f b)) → (v : List ℕ) → Each1 (λ b. b < 256) v → map g (map f v) ≡ v
+map_undone : (f g : ℕ → ℕ) → all_below (λ b. eqb (g (f b)) b) 256 ≡ true → (v : List ℕ) → Each1 (λ b. b < 256) v → map g (map f v) ≡ v
 map_undone f g test [] fits = refl
-map_undone f g test (x ∷ xs) fits = joined (one_at (λ b. g (f b)) test x fits.0) (map_undone f g test xs fits.1)
+map_undone f g test (x ∷ xs) fits = joined (agree_at (λ b. g (f b)) same test x fits.0) (map_undone f g test xs fits.1)
 
-s_box_forth : is_one_at (λ b. inverse_s_box (s_box b))
+s_box_forth : all_below (λ b. eqb (inverse_s_box (s_box b)) b) 256 ≡ true
 unfolding product_of_bits multiplicative_inverse s_box inverse_s_box
 s_box_forth = refl
 
-s_box_back : is_one_at (λ b. s_box (inverse_s_box b))
+s_box_back : all_below (λ b. eqb (s_box (inverse_s_box b)) b) 256 ≡ true
 unfolding product_of_bits multiplicative_inverse s_box inverse_s_box
 s_box_back = refl
 
@@ -434,15 +248,38 @@ shift_rows-bytes v bytes = sixteen (λ v. Each1 (λ b. b < 256) v → Bytes 16 (
 inverse_shift_rows-bytes : (v : List ℕ) → Bytes 16 v → Bytes 16 (inverse_shift_rows v)
 inverse_shift_rows-bytes v bytes = sixteen (λ v. Each1 (λ b. b < 256) v → Bytes 16 (inverse_shift_rows v)) (λ a0 a1 a2 a3 a4 a5 a6 a7 a8 a9 a10 a11 a12 a13 a14 a15 f. (refl, (f.0, (f.1.1.1.1.1.1.1.1.1.1.1.1.1.0, (f.1.1.1.1.1.1.1.1.1.1.0, (f.1.1.1.1.1.1.1.0, (f.1.1.1.1.0, (f.1.0, (f.1.1.1.1.1.1.1.1.1.1.1.1.1.1.0, (f.1.1.1.1.1.1.1.1.1.1.1.0, (f.1.1.1.1.1.1.1.1.0, (f.1.1.1.1.1.0, (f.1.1.0, (f.1.1.1.1.1.1.1.1.1.1.1.1.1.1.1.0, (f.1.1.1.1.1.1.1.1.1.1.1.1.0, (f.1.1.1.1.1.1.1.1.1.0, (f.1.1.1.1.1.1.0, (f.1.1.1.0, tt)))))))))))))))))) v bytes.0 bytes.1
 
-mix_columns-bytes : (v : List ℕ) → Bytes 16 v → Bytes 16 (mix_columns v)
+mixed-bytes : (a b c d n : ℕ) (v : List ℕ) → Bytes (n * 4) v → Bytes (n * 4) (mix_columns_by a b c d v)
 unfolding mix_columns_by
-mix_columns-bytes v bytes =
-    sixteen (λ v. Each1 (λ b. b < 256) v → Bytes 16 (mix_columns v)) (λ a0 a1 a2 a3 a4 a5 a6 a7 a8 a9 a10 a11 a12 a13 a14 a15 f. (refl, (sum_byte 2 3 1 1 a0 a1 a2 a3 f.0 f.1.0 f.1.1.0 f.1.1.1.0, (sum_byte 1 2 3 1 a0 a1 a2 a3 f.0 f.1.0 f.1.1.0 f.1.1.1.0, (sum_byte 1 1 2 3 a0 a1 a2 a3 f.0 f.1.0 f.1.1.0 f.1.1.1.0, (sum_byte 3 1 1 2 a0 a1 a2 a3 f.0 f.1.0 f.1.1.0 f.1.1.1.0, (sum_byte 2 3 1 1 a4 a5 a6 a7 f.1.1.1.1.0 f.1.1.1.1.1.0 f.1.1.1.1.1.1.0 f.1.1.1.1.1.1.1.0, (sum_byte 1 2 3 1 a4 a5 a6 a7 f.1.1.1.1.0 f.1.1.1.1.1.0 f.1.1.1.1.1.1.0 f.1.1.1.1.1.1.1.0, (sum_byte 1 1 2 3 a4 a5 a6 a7 f.1.1.1.1.0 f.1.1.1.1.1.0 f.1.1.1.1.1.1.0 f.1.1.1.1.1.1.1.0, (sum_byte 3 1 1 2 a4 a5 a6 a7 f.1.1.1.1.0 f.1.1.1.1.1.0 f.1.1.1.1.1.1.0 f.1.1.1.1.1.1.1.0, (sum_byte 2 3 1 1 a8 a9 a10 a11 f.1.1.1.1.1.1.1.1.0 f.1.1.1.1.1.1.1.1.1.0 f.1.1.1.1.1.1.1.1.1.1.0 f.1.1.1.1.1.1.1.1.1.1.1.0, (sum_byte 1 2 3 1 a8 a9 a10 a11 f.1.1.1.1.1.1.1.1.0 f.1.1.1.1.1.1.1.1.1.0 f.1.1.1.1.1.1.1.1.1.1.0 f.1.1.1.1.1.1.1.1.1.1.1.0, (sum_byte 1 1 2 3 a8 a9 a10 a11 f.1.1.1.1.1.1.1.1.0 f.1.1.1.1.1.1.1.1.1.0 f.1.1.1.1.1.1.1.1.1.1.0 f.1.1.1.1.1.1.1.1.1.1.1.0, (sum_byte 3 1 1 2 a8 a9 a10 a11 f.1.1.1.1.1.1.1.1.0 f.1.1.1.1.1.1.1.1.1.0 f.1.1.1.1.1.1.1.1.1.1.0 f.1.1.1.1.1.1.1.1.1.1.1.0, (sum_byte 2 3 1 1 a12 a13 a14 a15 f.1.1.1.1.1.1.1.1.1.1.1.1.0 f.1.1.1.1.1.1.1.1.1.1.1.1.1.0 f.1.1.1.1.1.1.1.1.1.1.1.1.1.1.0 f.1.1.1.1.1.1.1.1.1.1.1.1.1.1.1.0, (sum_byte 1 2 3 1 a12 a13 a14 a15 f.1.1.1.1.1.1.1.1.1.1.1.1.0 f.1.1.1.1.1.1.1.1.1.1.1.1.1.0 f.1.1.1.1.1.1.1.1.1.1.1.1.1.1.0 f.1.1.1.1.1.1.1.1.1.1.1.1.1.1.1.0, (sum_byte 1 1 2 3 a12 a13 a14 a15 f.1.1.1.1.1.1.1.1.1.1.1.1.0 f.1.1.1.1.1.1.1.1.1.1.1.1.1.0 f.1.1.1.1.1.1.1.1.1.1.1.1.1.1.0 f.1.1.1.1.1.1.1.1.1.1.1.1.1.1.1.0, (sum_byte 3 1 1 2 a12 a13 a14 a15 f.1.1.1.1.1.1.1.1.1.1.1.1.0 f.1.1.1.1.1.1.1.1.1.1.1.1.1.0 f.1.1.1.1.1.1.1.1.1.1.1.1.1.1.0 f.1.1.1.1.1.1.1.1.1.1.1.1.1.1.1.0, tt)))))))))))))))))) v bytes.0 bytes.1
+mixed-bytes a b c d n [] bytes = bytes
+mixed-bytes a b c d n (w ∷ []) bytes = let long : 1 ≡ n * 4 = bytes.0 in absurd (omega (arith, long))
+mixed-bytes a b c d n (w ∷ x ∷ []) bytes = let long : 2 ≡ n * 4 = bytes.0 in absurd (omega (arith, long))
+mixed-bytes a b c d n (w ∷ x ∷ y ∷ []) bytes = let long : 3 ≡ n * 4 = bytes.0 in absurd (omega (arith, long))
+mixed-bytes a b c d zero (w ∷ x ∷ y ∷ z ∷ v) bytes = let long : length (w ∷ x ∷ y ∷ z ∷ v) ≡ 0 = bytes.0 in absurd (omega (arith, long))
+mixed-bytes a b c d (suc n) (w ∷ x ∷ y ∷ z ∷ v) (size, (fw, (fx, (fy, (fz, fits))))) =
+    let long : length (w ∷ x ∷ y ∷ z ∷ v) ≡ suc n * 4 = size in
+    let rest = mixed-bytes a b c d n v (omega (arith, long), fits) in
+    let short : length (mix_columns_by a b c d v) ≡ n * 4 = rest.0 in (
+      omega (arith, short),
+      (
+        sum_byte a b c d w x y z fw fx fy fz,
+        (
+          sum_byte d a b c w x y z fw fx fy fz,
+          (
+            sum_byte c d a b w x y z fw fx fy fz,
+            (
+              sum_byte b c d a w x y z fw fx fy fz,
+              rest.1,
+            ),
+          ),
+        ),
+      ),
+    )
+
+mix_columns-bytes : (v : List ℕ) → Bytes 16 v → Bytes 16 (mix_columns v)
+mix_columns-bytes v bytes = mixed-bytes 2 3 1 1 4 v bytes
 
 inverse_mix_columns-bytes : (v : List ℕ) → Bytes 16 v → Bytes 16 (inverse_mix_columns v)
-unfolding mix_columns_by
-inverse_mix_columns-bytes v bytes =
-    sixteen (λ v. Each1 (λ b. b < 256) v → Bytes 16 (inverse_mix_columns v)) (λ a0 a1 a2 a3 a4 a5 a6 a7 a8 a9 a10 a11 a12 a13 a14 a15 f. (refl, (sum_byte 14 11 13 9 a0 a1 a2 a3 f.0 f.1.0 f.1.1.0 f.1.1.1.0, (sum_byte 9 14 11 13 a0 a1 a2 a3 f.0 f.1.0 f.1.1.0 f.1.1.1.0, (sum_byte 13 9 14 11 a0 a1 a2 a3 f.0 f.1.0 f.1.1.0 f.1.1.1.0, (sum_byte 11 13 9 14 a0 a1 a2 a3 f.0 f.1.0 f.1.1.0 f.1.1.1.0, (sum_byte 14 11 13 9 a4 a5 a6 a7 f.1.1.1.1.0 f.1.1.1.1.1.0 f.1.1.1.1.1.1.0 f.1.1.1.1.1.1.1.0, (sum_byte 9 14 11 13 a4 a5 a6 a7 f.1.1.1.1.0 f.1.1.1.1.1.0 f.1.1.1.1.1.1.0 f.1.1.1.1.1.1.1.0, (sum_byte 13 9 14 11 a4 a5 a6 a7 f.1.1.1.1.0 f.1.1.1.1.1.0 f.1.1.1.1.1.1.0 f.1.1.1.1.1.1.1.0, (sum_byte 11 13 9 14 a4 a5 a6 a7 f.1.1.1.1.0 f.1.1.1.1.1.0 f.1.1.1.1.1.1.0 f.1.1.1.1.1.1.1.0, (sum_byte 14 11 13 9 a8 a9 a10 a11 f.1.1.1.1.1.1.1.1.0 f.1.1.1.1.1.1.1.1.1.0 f.1.1.1.1.1.1.1.1.1.1.0 f.1.1.1.1.1.1.1.1.1.1.1.0, (sum_byte 9 14 11 13 a8 a9 a10 a11 f.1.1.1.1.1.1.1.1.0 f.1.1.1.1.1.1.1.1.1.0 f.1.1.1.1.1.1.1.1.1.1.0 f.1.1.1.1.1.1.1.1.1.1.1.0, (sum_byte 13 9 14 11 a8 a9 a10 a11 f.1.1.1.1.1.1.1.1.0 f.1.1.1.1.1.1.1.1.1.0 f.1.1.1.1.1.1.1.1.1.1.0 f.1.1.1.1.1.1.1.1.1.1.1.0, (sum_byte 11 13 9 14 a8 a9 a10 a11 f.1.1.1.1.1.1.1.1.0 f.1.1.1.1.1.1.1.1.1.0 f.1.1.1.1.1.1.1.1.1.1.0 f.1.1.1.1.1.1.1.1.1.1.1.0, (sum_byte 14 11 13 9 a12 a13 a14 a15 f.1.1.1.1.1.1.1.1.1.1.1.1.0 f.1.1.1.1.1.1.1.1.1.1.1.1.1.0 f.1.1.1.1.1.1.1.1.1.1.1.1.1.1.0 f.1.1.1.1.1.1.1.1.1.1.1.1.1.1.1.0, (sum_byte 9 14 11 13 a12 a13 a14 a15 f.1.1.1.1.1.1.1.1.1.1.1.1.0 f.1.1.1.1.1.1.1.1.1.1.1.1.1.0 f.1.1.1.1.1.1.1.1.1.1.1.1.1.1.0 f.1.1.1.1.1.1.1.1.1.1.1.1.1.1.1.0, (sum_byte 13 9 14 11 a12 a13 a14 a15 f.1.1.1.1.1.1.1.1.1.1.1.1.0 f.1.1.1.1.1.1.1.1.1.1.1.1.1.0 f.1.1.1.1.1.1.1.1.1.1.1.1.1.1.0 f.1.1.1.1.1.1.1.1.1.1.1.1.1.1.1.0, (sum_byte 11 13 9 14 a12 a13 a14 a15 f.1.1.1.1.1.1.1.1.1.1.1.1.0 f.1.1.1.1.1.1.1.1.1.1.1.1.1.0 f.1.1.1.1.1.1.1.1.1.1.1.1.1.1.0 f.1.1.1.1.1.1.1.1.1.1.1.1.1.1.1.0, tt)))))))))))))))))) v bytes.0 bytes.1
+inverse_mix_columns-bytes v bytes = mixed-bytes 14 11 13 9 4 v bytes
 
 xor_bytes-bytes : (n : ℕ) (k v : List ℕ) → Bytes n k → Bytes n v → Bytes n (xor_bytes k v)
 unfolding xor_bytes

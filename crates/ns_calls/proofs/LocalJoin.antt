@@ -105,7 +105,7 @@ ticket_copies-own k t mine h =
 -- ---- the replies
 
 -- the reply to a join, by what is asked of the history
-abbrev join_from : Network → Ticket → Option ℕ → Bool → ℕ → ℕ → Reply
+abbrev pub join_from : Network → Ticket → Option ℕ → Bool → ℕ → ℕ → Reply
 join_from net t greatest is_open copies count = first_case (
     when (not (is_known net (dev_eui t) (join_eui t))) reply.NoDevice
     ∷ option_map (λ g. reply.NonceOld (record { 0 = g })) (option_and_then (λ g. when (nat_le (nonce t).0 g) g) greatest)
@@ -113,7 +113,8 @@ join_from net t greatest is_open copies count = first_case (
     ∷ when (nat_le most_tickets count) reply.JoinBusy
     ∷ []) (reply.Ask t)
 
-abbrev join_reply_from : Network → Ticket → Outcome → Bool → Option ℕ → ℕ → Reply
+-- the reply to the answer of a join, in the same way
+abbrev pub join_reply_from : Network → Ticket → Outcome → Bool → Option ℕ → ℕ → Reply
 join_reply_from net t o is_open greatest session = first_case (
     when (not is_open) reply.NoTicket
     ∷ when (is_failed o) reply.JoinRefused

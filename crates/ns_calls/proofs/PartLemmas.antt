@@ -51,7 +51,7 @@ case-has P [] otherwise all holds = holds
 case-has P (None ∷ cases) otherwise all holds = case-has P cases otherwise all.1 holds
 case-has P (Some r ∷ cases) otherwise all holds = all.0
 
-map-has : {X : Type 0} (P : Reply → Type 0) (Q : X → Type 0) (f : X → Reply) (o : Option X) → IfSome o Q → ((x : X) → Q x → P (f x)) → IfSome (option_map f o) P
+pub map-has : {X : Type 0} (P : Reply → Type 0) (Q : X → Type 0) (f : X → Reply) (o : Option X) → IfSome o Q → ((x : X) → Q x → P (f x)) → IfSome (option_map f o) P
 map-has P Q f None holds gives = tt
 map-has P Q f (Some x) holds gives = gives x holds
 
@@ -239,16 +239,16 @@ uplink_by o join copies =
       addr = record { 0 = fields.addr };
       port = fields.port;
       fopts = fields.fopts;
-      sealed = is_none key && nat_lt 0 (length fields.payload);
+      sealed = is_none key;
       payload = option_map_or (λ k. cipher k.0 Up fields.addr o.window.fcnt fields.payload) key fields.payload;
       copies = record { items = copies };
     }
 
-uplink_of-same : (g h : List Entry) (o : Opening) → session_join g o.window.eui o.window.session ≡ session_join h o.window.eui o.window.session → window_copies g o.window ≡ window_copies h o.window → uplink_of g o ≡ uplink_of h o
+pub uplink_of-same : (g h : List Entry) (o : Opening) → session_join g o.window.eui o.window.session ≡ session_join h o.window.eui o.window.session → window_copies g o.window ≡ window_copies h o.window → uplink_of g o ≡ uplink_of h o
 uplink_of-same g h o joins copies =
     ap (λ join. uplink_by o join (window_copies g o.window)) joins ∙ ap (λ hs. uplink_by o (session_join h o.window.eui o.window.session) hs) copies
 
-ack_downlink-same : (net : Network) (g h : List Entry) (o : Opening) (n : ℕ) → session_join g o.window.eui o.window.session ≡ session_join h o.window.eui o.window.session → window_copies g o.window ≡ window_copies h o.window → ack_downlink net g o n ≡ ack_downlink net h o n
+pub ack_downlink-same : (net : Network) (g h : List Entry) (o : Opening) (n : ℕ) → session_join g o.window.eui o.window.session ≡ session_join h o.window.eui o.window.session → window_copies g o.window ≡ window_copies h o.window → ack_downlink net g o n ≡ ack_downlink net h o n
 ack_downlink-same net g h o n joins copies =
     let by : Option JoinAns → List Heard → Option Downlink = λ join hs.
     option_and_then (λ (j : JoinAns). option_map (λ copy. downlink_to (ack_frame j.nwk.0 (data_fields o.frame).addr n) (rx1 copy net.rx1_offset (ack_delay net))) (best hs)) join in
@@ -262,7 +262,7 @@ uplink_out-own k h housed (call.Close w) (reply.Closed closed ack) mine =
     (λ o named_so. uplink_of-same (of_shard k h) h o (session_join-own k o.window.eui (named_so ∙ mine) h o.window.session) (window_copies-own k o.window (named_so ∙ mine) h housed)) (named h w))
 uplink_out-own k h housed _ _ mine = refl
 
-and_then-same : {X Y : Type 0} (f g : X → Option Y) (o : Option X) → IfSome o (λ x. f x ≡ g x) → option_and_then f o ≡ option_and_then g o
+pub and_then-same : {X Y : Type 0} (f g : X → Option Y) (o : Option X) → IfSome o (λ x. f x ≡ g x) → option_and_then f o ≡ option_and_then g o
 and_then-same f g None same = refl
 and_then-same f g (Some x) same = same
 

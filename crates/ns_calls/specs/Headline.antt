@@ -11,9 +11,9 @@ use Rattle.ns_secure.specs.Counter.{Exceeds}
 use Rattle.ns_roster.specs.Network.{Network, is_known}
 use Rattle.ns_calls.specs.declared.call.Call.{Call}
 use Rattle.ns_calls.specs.declared.call.Reply.{Reply}
-use Rattle.ns_calls.specs.declared.call.Reply.TheVariants.{Accepted, Closed}
+use Rattle.ns_calls.specs.declared.call.Reply.TheVariants.{Opened, Copied, Crowded, Old, NoSession, Busy, Ask, JoinCopied, JoinCrowded, NonceOld, NoDevice, JoinBusy, Accepted, JoinRefused, JoinStale, NoTicket, Closed, NoWindow}
 use Rattle.ns_calls.specs.declared.call.Entry.{Entry}
-use Rattle.ns_calls.specs.History.{acceptances, next_session, greatest_nonce, session_counters, session_acks, opening_in, closing_in, open_windows, open_window, open_tickets, session_join, live, is_live, greatest_counter, window_count, ticket_count, window_copies, ticket_copies}
+use Rattle.ns_calls.specs.History.{acceptances, next_session, greatest_nonce, session_counters, session_acks, window_in, closing_in, open_windows, open_window, open_tickets, session_join, live, is_live, greatest_counter, window_count, ticket_count, window_copies, ticket_copies}
 use Rattle.ns_calls.specs.Reply.{devices_at, fits, window_with, most_windows, most_tickets, most_copies}
 use Rattle.ns_calls.specs.Out.{answer}
 
@@ -36,7 +36,7 @@ AcksRise h = (eui : DevEui) (session : ℕ) → Rises (session_acks h eui sessio
 
 -- how many entries open a window of this name, how many close it, and how many such windows are open
 abbrev pub opening_count : List Entry → WindowName → ℕ
-opening_count h w = count_by (λ o. same_window o.window w) (filter_map (λ e. opening_in e.call e.reply) h)
+opening_count h w = count_by (λ o. same_window o.window w) (filter_map (λ e. window_in e.call e.reply) h)
 
 abbrev pub closing_count : List Entry → WindowName → ℕ
 closing_count h w = count_by (λ c. same_window c.window w) (filter_map (λ e. closing_in e.call e.reply) h)
@@ -91,15 +91,47 @@ TicketsAreKnown net h = AllByRecursion (λ t. is_known net (dev_eui t) (join_eui
 abbrev pub WindowsHaveCopies : List Entry → Type 0
 WindowsHaveCopies h = AllByRecursion (λ o. 0 < length (window_copies h o.window)) (open_windows h)
 
--- the replies with which an uplink goes out, and those with which a downlink does
+-- with which replies an uplink goes out
 abbrev pub hands_out_uplink : Reply → Bool
+hands_out_uplink (Opened window) = false
+hands_out_uplink (Copied window place) = false
+hands_out_uplink (Crowded window) = false
+hands_out_uplink (Old eui session fcnt) = false
+hands_out_uplink NoSession = false
+hands_out_uplink (Busy eui) = false
+hands_out_uplink (Ask ticket) = false
+hands_out_uplink (JoinCopied place) = false
+hands_out_uplink JoinCrowded = false
+hands_out_uplink (NonceOld greatest) = false
+hands_out_uplink NoDevice = false
+hands_out_uplink JoinBusy = false
+hands_out_uplink (Accepted eui session addr) = false
+hands_out_uplink JoinRefused = false
+hands_out_uplink (JoinStale greatest) = false
+hands_out_uplink NoTicket = false
 hands_out_uplink (Closed window ack) = true
-hands_out_uplink _ = false
+hands_out_uplink NoWindow = false
 
+-- with which replies a downlink goes out
 abbrev pub hands_out_downlink : Reply → Bool
+hands_out_downlink (Opened window) = false
+hands_out_downlink (Copied window place) = false
+hands_out_downlink (Crowded window) = false
+hands_out_downlink (Old eui session fcnt) = false
+hands_out_downlink NoSession = false
+hands_out_downlink (Busy eui) = false
+hands_out_downlink (Ask ticket) = false
+hands_out_downlink (JoinCopied place) = false
+hands_out_downlink JoinCrowded = false
+hands_out_downlink (NonceOld greatest) = false
+hands_out_downlink NoDevice = false
+hands_out_downlink JoinBusy = false
 hands_out_downlink (Accepted eui session addr) = true
+hands_out_downlink JoinRefused = false
+hands_out_downlink (JoinStale greatest) = false
+hands_out_downlink NoTicket = false
 hands_out_downlink (Closed window ack) = is_some ack
-hands_out_downlink _ = false
+hands_out_downlink NoWindow = false
 
 -- the answer to a call has an uplink and a downlink exactly where its reply says so
 pub record GoesOut (net : Network) (h : List Entry) (call : Call) : Type 0 where

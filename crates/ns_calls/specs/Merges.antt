@@ -1,8 +1,9 @@
 -- Merges of the shards' histories.
-use Rattle.std.specs.Prelude.{ℕ, ◌≡◌, List, take, Some, slice_get}
+use Rattle.std.specs.Prelude.{ℕ, ◌≡◌, ◌<◌, List, length, take, Some, slice_get}
+use Rattle.std.specs.List.{AllByRecursion}
 use Rattle.ns_roster.specs.Network.{Network}
 use Rattle.ns_calls.specs.declared.call.Entry.{Entry}
-use Rattle.ns_calls.specs.Shards.{shard_of_call, IsMerge}
+use Rattle.ns_calls.specs.Shards.{shard_of_call, of_shard, IsMerge}
 use Rattle.ns_calls.specs.Out.{out}
 use Rattle.ns_calls.specs.Legal.{IsLegal, IsHistory}
 
@@ -15,6 +16,11 @@ abbrev pub SendsAlike : Network → List (List Entry) → List Entry → Type 0
 SendsAlike net lists merged =
     (n : ℕ) (e : Entry) → slice_get merged n ≡ Some e
     → (h : List Entry) × (slice_get lists (shard_of_call e.call) ≡ Some h) × (slice_get h e.number ≡ Some e) × (out net (take n merged) e ≡ out net (take e.number h) e)
+
+-- of each shard the list has exactly the shard's part, in its order, and it has nothing of a shard without a part
+pub record IsMadeOf (parts : List (List Entry)) (whole : List Entry) : Type 0 where
+  pub each : (k : ℕ) (part : List Entry) → slice_get parts k ≡ Some part → of_shard k whole ≡ part
+  pub all : AllByRecursion (λ e. shard_of_call e.call < length parts) whole
 
 -- every merge of these histories is a legal history of the one plain server, and what goes out is the same at each entry
 abbrev pub MergesAreLegal : Network → List (List Entry) → Type 0

@@ -28,11 +28,20 @@ device_in (reply.Opened window) = Some window.eui
 device_in (reply.Copied window place) = Some window.eui
 device_in (reply.Crowded window) = Some window.eui
 device_in (reply.Old eui session fcnt) = Some eui
+device_in reply.NoSession = None
 device_in (reply.Busy eui) = Some eui
 device_in (reply.Ask ticket) = Some (dev_eui ticket)
+device_in (reply.JoinCopied place) = None
+device_in reply.JoinCrowded = None
+device_in (reply.NonceOld greatest) = None
+device_in reply.NoDevice = None
+device_in reply.JoinBusy = None
 device_in (reply.Accepted eui session addr) = Some eui
+device_in reply.JoinRefused = None
+device_in (reply.JoinStale greatest) = None
+device_in reply.NoTicket = None
 device_in (reply.Closed window ack) = Some window.eui
-device_in _ = None
+device_in reply.NoWindow = None
 
 -- the reply to a call names a device of the call's shard, or none
 abbrev pub NamesOwnDevice : Call → Reply → Type 0

@@ -1,5 +1,6 @@
 -- The lines of an answer, as bytes without line feeds.
-use Rattle.std.specs.Prelude.{ℕ, List, [], ◌∷◌, ◌++◌, length, flat_map, codes, decimal, Option, Some, None, option_map, if◌then◌else◌}
+use Rattle.std.specs.Prelude.{ℕ, Bool, ◌&&◌, ◌==◌, nat_lt, List, [], ◌∷◌, ◌++◌, length, flat_map, codes, decimal, Option, Some, None, option_map, if◌then◌else◌}
+use Rattle.std.specs.List.{list_any}
 use Rattle.std.specs.Option.{option_to_list}
 use Rattle.std.specs.Int.{w32, w64, to_be_bytes}
 use Rattle.hex.specs.Hex.{encode_lower}
@@ -67,16 +68,24 @@ unfoldable pub gateways_text : List Heard → List ℕ
 gateways_text [] = []
 gateways_text (h ∷ hs) = wide h.gateway.0 ++ flat_map (λ c. codes "," ++ wide c.gateway.0) hs
 
+-- `sealed` where a payload is as received
+abbrev pub kind_text : Uplink → List ℕ
+kind_text u = if u.sealed && nat_lt 0 (length u.payload) then codes " sealed" else codes " plain"
+
 -- the line of an uplink: window, port, whether the payload is as received, options, payload, copies, and the gateways of those
 unfoldable pub up_text : Uplink → List ℕ
 up_text u =
-    codes "up" ++ window_text u.window ++ optional_text u.port ++ (if u.sealed then codes " sealed" else codes " plain") ++ bytes_text u.fopts ++ bytes_text u.payload
+    codes "up" ++ window_text u.window ++ optional_text u.port ++ kind_text u ++ bytes_text u.fopts ++ bytes_text u.payload
     ++ number_text (length u.copies.items) ++ codes " " ++ gateways_text u.copies.items
 
 -- the line of a downlink: gateway, moment, frequency, data rate, frame
 unfoldable pub down_text : Downlink → List ℕ
 down_text d =
     codes "down" ++ id_text d.target.gateway.0 ++ number_text d.target.moment ++ number_text d.target.freq ++ number_text d.target.dr ++ bytes_text d.frame
+
+-- whether a text has a line feed
+abbrev pub has_line_feed : List ℕ → Bool
+has_line_feed line = list_any (λ b. b == 10) line
 
 -- the line of the reply, then those of what goes out
 abbrev pub text : Answer → List (List ℕ)

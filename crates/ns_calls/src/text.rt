@@ -2,7 +2,7 @@
 ghost use Rattle.std.specs.Prelude.{◌≡◌, ◌+◌, ◌*◌, ◌≤◌, ◌++◌, ◌∷◌, [], length, map, decimal, codes, flat_map};
 ghost use Rattle.arrayvec.specs.ArrayString.{array_string_len};
 ghost use Rattle.hex.specs.Hex.{encode_lower};
-ghost use Rattle.ns_calls.specs.Text.{text, reply_text, up_text, down_text, window_text, optional_text, bytes_text, gateways_text, number_text, id_text, address_text, wide};
+ghost use Rattle.ns_calls.specs.Text.{text, reply_text, up_text, down_text, window_text, optional_text, bytes_text, kind_text, gateways_text, number_text, id_text, address_text, wide};
 
 use crate::answer::{Answer, Downlink, Uplink};
 use crate::call::Reply;
@@ -189,8 +189,21 @@ fn put_gateways(line: &mut Line, copies: &[Heard])
     }
 }
 
+// Whether a payload is as received.
+fn put_kind(line: &mut Line, uplink: &Uplink)
+    requires { array_string_len line.old + 7 ≤ 1024 }
+    ensures bytes { line.new.bytes ≡ line.old.bytes ++ kind_text uplink.now }
+    ensures len { array_string_len line.new ≤ array_string_len line.old + 7 }
+{
+    if uplink.sealed && !uplink.payload.as_slice().is_empty() {
+        line.push_str(" sealed");
+    } else {
+        line.push_str(" plain");
+    }
+}
+
 /// Puts the `up` line of an uplink, at most 843 bytes, at the end of a line: `up E S N PORT KIND OPTS BYTES COUNT GATEWAYS`. `KIND`
-/// is `sealed` where the payload is as received, else `plain`; a port, options or payload that is missing is `-`.
+/// is `sealed` where there is a payload and it is as received, else `plain`; a port, options or payload that is missing is `-`.
 #[tactic(auto, unfolding(crate::specs::Text::up_text))]
 pub fn put_uplink(line: &mut Line, uplink: &Uplink)
     requires { array_string_len line.old + 901 ≤ 1024 }
@@ -198,7 +211,7 @@ pub fn put_uplink(line: &mut Line, uplink: &Uplink)
 {
     put_named(line, "up", &uplink.window);
     put_optional(line, uplink.port.map(u32::from));
-    line.push_str(if uplink.sealed { " sealed" } else { " plain" });
+    put_kind(line, uplink);
     put_bytes(line, uplink.fopts.as_slice());
     put_bytes(line, uplink.payload.as_slice());
     put_number(line, uplink.copies.len() as u64);

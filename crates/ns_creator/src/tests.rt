@@ -239,3 +239,56 @@ fn each_length_reads_back(rt: HostRuntime) {
         reads_back(&rt, frame, plain);
     }
 }
+
+/// Once the loan of a frame is given up, the buffer has the frame at its front and is as it was behind it; after a refusal it is as
+/// it was. No clause of `build_into` says so, as those of `write_into` do.
+#[test]
+fn buffers_after_the_loan(rt: HostRuntime) {
+    let request = JoinRequestCreator {
+        join_eui: JoinEui(0x0102030401020304),
+        dev_eui: DevEui(0x0d),
+        nonce: DevNonce(0x0102),
+    };
+    let mut buf = [0xee; 26];
+    assert!(rt; request.build_into(&KEYS, &mut buf).is_ok());
+    assert_eq!(rt; &buf[..3], [0x00, 0x04, 0x03].as_slice());
+    assert_eq!(rt;
+        &buf[19..],
+        [0xc2, 0x9d, 0xd2, 0x58, 0xee, 0xee, 0xee].as_slice()
+    );
+    let mut short = [0xee; 22];
+    assert!(rt; request.build_into(&KEYS, &mut short).is_err());
+    assert_eq!(rt; short, [0xee; 22]);
+
+    let accept = JoinAcceptCreator {
+        join_nonce: [1, 2, 3],
+        net_id: NetId(0x24),
+        addr: ADDR,
+        dl_settings: 0,
+        rx_delay: 1,
+        cflist: None,
+    };
+    let mut buf = [0xee; 20];
+    assert!(rt; accept.build_into(&KEYS, &mut buf).is_ok());
+    assert_eq!(rt; &buf[..3], [0x20, 0xc3, 0x90].as_slice());
+    assert_eq!(rt; &buf[14..], [0xd7, 0x57, 0x44, 0xee, 0xee, 0xee].as_slice());
+    let mut short = [0xee; 16];
+    assert!(rt; accept.build_into(&KEYS, &mut short).is_err());
+    assert_eq!(rt; short, [0xee; 16]);
+
+    // each refusal of a data frame: C2, C3, C4 and C1
+    let bytes = [0x5a; 243];
+    is_untouched(&rt, &uplink(&bytes[..16], None, &[]));
+    is_untouched(&rt, &uplink(&[], None, &bytes));
+    is_untouched(&rt, &uplink(&[], Some(1), &bytes));
+    is_untouched(&rt, &uplink(&[], Some(1), &bytes[..28]));
+}
+
+// That a frame is refused in a buffer of 40 bytes, which is then as it was.
+fn is_untouched(rt: &impl Abort, creator: &DataCreator)
+    requires { AreFlags creator.now.dir creator.now.flags }
+{
+    let mut buf = [0xee; 40];
+    assert!(rt; creator.build_into(&KEYS, &mut buf).is_err());
+    assert_eq!(rt; buf, [0xee; 40]);
+}

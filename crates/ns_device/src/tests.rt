@@ -126,3 +126,32 @@ fn sends_uplinks(rt: HostRuntime) {
     let frame = device.uplink(2, false, None, &plain, &mut buf);
     assert_eq!(rt; frame, Err(DeviceFault::Create(fault)));
 }
+
+/// Once the loan of an uplink is given up, the bytes behind it are as they were, and after a refusal the whole buffer is. No clause
+/// of `uplink` says so, as those of `write_uplink` do.
+#[test]
+fn buffers_after_the_loan(rt: HostRuntime) {
+    let plain = [0x74, 0x65, 0x73, 0x74];
+    let mut device = new_device();
+    let mut buf = [0xee; 20];
+    assert!(rt; device.uplink(2, true, Some(1), &plain, &mut buf).is_err());
+    assert_eq!(rt; buf, [0xee; 20]);
+    assert_eq!(rt; device.accept(NONCE, &ACCEPT), Ok(()));
+    assert!(rt; device.uplink(2, true, None, &plain, &mut buf).is_err());
+    assert!(rt;
+        device
+            .uplink(2, true, Some(1), &plain, &mut buf[..16])
+            .is_err()
+    );
+    assert_eq!(rt; buf, [0xee; 20]);
+    assert!(rt;
+        device
+            .uplink(0x0001_0002, true, Some(1), &plain, &mut buf)
+            .is_ok()
+    );
+    assert_eq!(rt; &buf[..3], [0x80, 0xf1, 0x7d].as_slice());
+    assert_eq!(rt;
+        &buf[13..],
+        [0xf2, 0x15, 0x40, 0x16, 0xee, 0xee, 0xee].as_slice()
+    );
+}

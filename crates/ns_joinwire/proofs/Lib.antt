@@ -1,3 +1,4 @@
 pub mod CutLemmas
 pub mod TextLemmas
 pub mod RequestLemmas
+pub mod SpelledLemmas

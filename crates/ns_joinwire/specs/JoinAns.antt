@@ -1,6 +1,7 @@
 -- What a join server's text answers to a transaction, or its first fault (TS002, JoinAns; this server's profile).
 use Rattle.std.specs.Prelude.{ℕ, List, ◌==◌, ◌≡◌, ◌≢◌, ◌&&◌, Bool, true, false, ⊤, bytes_eq, codes, Result, Ok, Err}
 use Rattle.std.specs.Option.{ok_or}
+use Rattle.serde_json.specs.Data.{Data}
 use Rattle.ns_calls.specs.declared.call.JoinAns.{JoinAns}
 use Rattle.ns_joinwire.specs.declared.fault.AnsFault.{AnsFault}
 use Rattle.ns_joinwire.specs.declared.fault.AnsFault.TheVariants.{NotJson, Field, AnotherMessage, Refused, NoJoinAccept, NwkSKey, NoMemory}
@@ -24,10 +25,9 @@ abbrev pub unless : AnsFault → Bool → Result ⊤ AnsFault
 unless fault true = Ok tt
 unless fault false = Err fault
 
--- the answer to a transaction, or the first fault, by its number
-unfoldable pub joinans : List ℕ → ℕ → Result JoinAns AnsFault
-joinans bytes transaction = do
-  message ← ok_or (value_of bytes) NotJson  -- A1
+-- the answer that a message gives to a transaction, or the first fault, by its number
+abbrev pub answer_of : Data → ℕ → Result JoinAns AnsFault
+answer_of message transaction = do
   head ← ok_or (head_of message) Field  -- A2
   _ ← unless AnotherMessage (bytes_eq head.message_type (codes "JoinAns") && head.transaction == transaction)  -- A3
   _ ← unless (Refused (code_of head.result_code)) (bytes_eq head.result_code (codes "Success"))  -- A4
@@ -36,3 +36,9 @@ joinans bytes transaction = do
   nwk ← ok_or (nwk_key body.nwk) NwkSKey  -- A6
   app ← ok_or (app_key body.app) Field  -- A2
   Ok (record { accept = accept; nwk = nwk; app = app })
+
+-- that of a text's message
+unfoldable pub joinans : List ℕ → ℕ → Result JoinAns AnsFault
+joinans bytes transaction = do
+  message ← ok_or (value_of bytes) NotJson  -- A1
+  answer_of message transaction

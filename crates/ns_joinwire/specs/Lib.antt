@@ -1,5 +1,6 @@
 pub mod Front
 pub mod Parts
 pub mod JoinAns
+pub mod Spelled
 pub mod JoinReq
-pub mod Held
+pub mod Private

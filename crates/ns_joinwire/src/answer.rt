@@ -2,9 +2,9 @@
 
 ghost use Rattle.std.specs.Prelude.{◌≡◌, option_map};
 ghost use Rattle.serde_json.specs.View.{view};
-ghost use Rattle.ns_joinwire.specs.JoinAns.{Gives, joinans};
+ghost use Rattle.ns_joinwire.specs.JoinAns.{Gives, answer_of, joinans};
 ghost use Rattle.ns_joinwire.specs.Parts.{head_of, body_of, transaction_of, result_code_of, app_envelope};
-ghost use Rattle.ns_joinwire.specs.Held.{head_view, body_view, envelope_view};
+ghost use Rattle.ns_joinwire.specs.Private.Held.{head_view, body_view, envelope_view};
 
 use crate::envelope::{KeyEnvelope, app_key, field, join_accept};
 use crate::fault::{AnsFault, ResultCode};
@@ -86,6 +86,24 @@ fn body_of(message: &Value) -> Option<Body<'_>>
     })
 }
 
+// What a message answers to a transaction, or its first fault. It takes no memory.
+fn answer_of(message: &Value, transaction: u32) -> Result<JoinAns, AnsFault>
+    ensures { result ≡ answer_of (view message.now) transaction }
+{
+    let head = head_of(message).ok_or(AnsFault::Field)?;
+    if head.message_type != "JoinAns" || head.transaction != transaction {
+        return Err(AnsFault::AnotherMessage);
+    }
+    if head.result_code != "Success" {
+        return Err(AnsFault::Refused(ResultCode::of(head.result_code)));
+    }
+    let body = body_of(message).ok_or(AnsFault::Field)?;
+    let accept = join_accept(body.phy_payload).ok_or(AnsFault::NoJoinAccept)?;
+    let nwk = body.nwk.nwk_key().ok_or(AnsFault::NwkSKey)?;
+    let app = app_key(body.app).ok_or(AnsFault::Field)?;
+    Ok(JoinAns { accept, nwk, app })
+}
+
 /// What a join server's text answers to a transaction (TS002, JoinAns), or its first fault. The tests come in this order: A1; A2 of
 /// MessageType, TransactionID and ResultCode; A3; A4; A2 of PHYPayload, NwkSKey and AppSKey; A5; A6; A2 of an AppSKey that is not
 /// wrapped and is not 16 bytes. NoMemory where memory ran out before the answer was known.
@@ -94,16 +112,5 @@ pub fn join_ans(alloc: Global, bytes: &[u8], transaction: u32) -> Result<JoinAns
     ensures { Gives result (joinans bytes.now transaction) }
 {
     let message = value_of(alloc, bytes)?.ok_or(AnsFault::NotJson)?;
-    let head = head_of(&message).ok_or(AnsFault::Field)?;
-    if head.message_type != "JoinAns" || head.transaction != transaction {
-        return Err(AnsFault::AnotherMessage);
-    }
-    if head.result_code != "Success" {
-        return Err(AnsFault::Refused(ResultCode::of(head.result_code)));
-    }
-    let body = body_of(&message).ok_or(AnsFault::Field)?;
-    let accept = join_accept(body.phy_payload).ok_or(AnsFault::NoJoinAccept)?;
-    let nwk = body.nwk.nwk_key().ok_or(AnsFault::NwkSKey)?;
-    let app = app_key(body.app).ok_or(AnsFault::Field)?;
-    Ok(JoinAns { accept, nwk, app })
+    answer_of(&message, transaction)
 }

@@ -3,7 +3,7 @@
 ghost use Rattle.std.specs.Prelude.{◌≡◌, option_map};
 ghost use Rattle.serde_json.specs.View.{view};
 ghost use Rattle.ns_joinwire.specs.Parts.{field, label_of, envelope_of, is_plain, key_of, nwk_key, app_key, is_join_accept, frame_of, join_accept};
-ghost use Rattle.ns_joinwire.specs.Held.{envelope_view};
+ghost use Rattle.ns_joinwire.specs.Private.Held.{envelope_view};
 
 use ns_calls::JoinAccept;
 use ns_roster::field::{hex_bytes, text_at};

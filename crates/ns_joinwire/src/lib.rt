@@ -9,10 +9,12 @@
 mod answer;
 mod envelope;
 mod fault;
+mod laws;
 mod request;
 
 pub use crate::answer::join_ans;
 pub use crate::fault::{AnsFault, ResultCode};
+pub use crate::laws::answered_exactly;
 pub use crate::request::join_req;
 
 #[cfg(test)]

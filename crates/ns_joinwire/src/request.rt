@@ -3,7 +3,7 @@
 ghost use Rattle.std.specs.Prelude.{◌≡◌, IfOk, OnOk, Contains, string_bytes};
 ghost use Rattle.serde_json.specs.View.{view};
 ghost use Rattle.ns_joinwire.specs.JoinReq.{hex_number, dl_settings, fields_of, message, joinreq, AsksAbout};
-ghost use Rattle.ns_joinwire.specs.Held.{fields_view};
+ghost use Rattle.ns_joinwire.specs.Private.Held.{fields_view};
 ghost use Rattle.hex.specs.Hex.{encode_lower};
 ghost use Rattle.ns_roster.specs.Field.{hex_bytes};
 ghost use Rattle.ns_roster.specs.Network.{device_addr};

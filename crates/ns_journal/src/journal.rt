@@ -1,6 +1,6 @@
 //! Numbered entries, with room that is made before it is needed.
 
-ghost use Rattle.std.specs.Prelude.{◌≡◌, ◌<◌, ◌≤◌, ◌+◌, [], ◌∷◌, ◌++◌, IsOk, OnOk, vec_len, vec_capacity};
+ghost use Rattle.std.specs.Prelude.{◌≡◌, ◌<◌, ◌≤◌, ◌+◌, [], ◌∷◌, ◌++◌, length, IsOk, OnOk, vec_len, vec_capacity};
 ghost use Rattle.ns_journal.specs.State.{entry_of, next_entry};
 
 use ns_calls::{Call, Entry, Reply};
@@ -47,15 +47,21 @@ impl Journal {
         self.entries.len() as u64
     }
 
-    /// Makes room for `n` more entries. Where the growth is refused, nothing has changed.
+    /// Makes room for `n` more entries. Where it has to grow, there is then room for as many entries as there are, so that entries
+    /// are moved seldom. Where the growth is refused, nothing has changed.
     pub fn room(&mut self, n: usize) -> Result<(), AllocError>
         ensures made { self.new.made ≡ self.old.made }
         ensures entries { self.new.entries ≡ self.old.entries }
         ensures ok { OnOk result (n ≤ self.new.room) }
+        ensures doubled { self.old.room < n → OnOk result (length self.old.entries ≤ self.new.room) }
         ensures kept { self.old.room ≤ self.new.room }
         ensures there_already { n ≤ self.old.room → IsOk result }
     {
-        self.entries.reserve(n)
+        let len = self.entries.len();
+        if n <= self.entries.capacity() - len {
+            return Ok(());
+        }
+        self.entries.reserve(n.max(len))
     }
 
     /// Adds the entry of a call and its reply, and answers its number. It takes no memory.

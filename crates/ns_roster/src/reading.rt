@@ -2,7 +2,7 @@
 
 ghost use Rattle.std.specs.Prelude.{◌≡◌, ◌+◌, ◌≤◌, length, map, [], OnOk, IfOk, option_map};
 ghost use Rattle.serde_json.specs.View.{view};
-ghost use Rattle.ns_roster.specs.Fault.{Gives};
+ghost use Rattle.ns_roster.specs.Fault.{Gives, GivesExactly};
 ghost use Rattle.ns_roster.specs.Text.{eui_at, net_id_at, outer_of, device_of, with_device, with_value, devices_from};
 ghost use Rattle.ns_roster.specs.Valid.{max_slot, AreDevices};
 ghost use Rattle.ns_roster.specs.Held.{Indexes, outer_view};
@@ -48,10 +48,10 @@ pub(crate) struct Outer<'a> {
     pub devices: &'a [Value],
 }
 
-// The outer fields of a value.
+// The outer fields of a value. It takes no memory.
 #[tactic(auto, using(crate::proofs::TextLemmas::items_list_of_items), unfolding(crate::specs::Text::outer_of))]
 pub(crate) fn outer_of(root: &Value) -> Result<Outer<'_>, RosterFault>
-    ensures gives { Gives outer_view result (outer_of (view root.now)) }
+    ensures gives { GivesExactly outer_view result (outer_of (view root.now)) }
     ensures within { IfOk result (λ o. (o.rx1_offset ≤ 5) × (o.rx_delay ≤ 15)) }
 {
     let version = whole_at(root, "version").ok_or(RosterFault::Field)?;
@@ -70,10 +70,10 @@ pub(crate) fn outer_of(root: &Value) -> Result<Outer<'_>, RosterFault>
     })
 }
 
-// The device that a value describes.
+// The device that a value describes. It takes no memory.
 #[tactic(auto, unfolding(crate::specs::Text::device_of))]
 fn device_of(value: &Value) -> Result<Device, RosterFault>
-    ensures gives { Gives (λ d. d) result (device_of (view value.now)) }
+    ensures gives { GivesExactly (λ d. d) result (device_of (view value.now)) }
     ensures slot { IfOk result (λ d. d.slot ≤ max_slot) }
 {
     let eui = eui_at(value, "dev_eui").ok_or(RosterFault::Field)?;

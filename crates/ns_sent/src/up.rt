@@ -55,7 +55,7 @@ fn payload_of(entries: &[Entry], opened: &Opened) -> (Bytes<242>, bool)
             deciphered(&key, frame.dev_addr(), opened.window.fcnt, payload),
             false,
         ),
-        None => (Bytes::of(payload), !payload.is_empty()),
+        None => (Bytes::of(payload), true),
     }
 }
 

@@ -20,3 +20,6 @@ mod state;
 
 pub use options::{ServeFault, ServeOptions};
 pub use service::serve;
+
+#[cfg(test)]
+mod tests;

@@ -1,3 +1,4 @@
+pub mod Recovery
 pub mod Record
 pub mod State
 pub mod Laws

@@ -2,9 +2,12 @@
 
 ghost use Rattle.std.specs.Prelude.{◌≡◌, IfSome, IfNone, option_map};
 ghost use Rattle.ns_types.specs.Ticket.{nonce};
-ghost use Rattle.ns_secure.specs.Counter.{Exceeds, above, below};
+ghost use Rattle.ns_secure.specs.Counter.{Exceeds};
+ghost use Rattle.ns_sessions.specs.declared.recovery.Recovery.TheVariants.{Above};
+ghost use Rattle.ns_sessions.specs.Recovery.{recovery_counter};
 ghost use Rattle.ns_sessions.specs.Record.{no_joins, session_in, device_fit, IsNewCounter, with_uplink, ack_in, with_ack, spent_in, join_take, with_join, accepted, reply_take, with_reply};
 
+use crate::recovery::Recovery;
 use crate::session::Session;
 use crate::take::{JoinTake, ReplyTake};
 use crate::ticket::{OpenTicket, add_copy, take_out};
@@ -177,28 +180,16 @@ impl DeviceState {
         number
     }
 
-    /// The first live session in which the frame's MIC fits at the least counter above the greatest, and that counter.
-    pub fn fresh(&self, view: &DataView) -> Option<(u32, u32)>
-        ensures is { result ≡ device_fit above view.now self.now }
-        ensures new { IfSome result (λ w. IsNewCounter (session_in self.now w.0) w.1) }
+    /// The first live session in which the frame's MIC fits at the counter that is recovered, and that counter.
+    pub fn fit(&self, recovery: Recovery, view: &DataView) -> Option<(u32, u32)>
+        ensures is { result ≡ device_fit (recovery_counter recovery) view.now self.now }
+        ensures new { recovery ≡ Above → IfSome result (λ w. IsNewCounter (session_in self.now w.0) w.1) }
     {
         if let Some(active) = &self.active {
-            if let Some(fit) = active.fresh(view) {
+            if let Some(fit) = active.fit(recovery, view) {
                 return Some(fit);
             }
         }
-        self.pending.as_ref()?.fresh(view)
-    }
-
-    /// The first live session in which the frame's MIC fits at the greatest counter of at most the greatest opened, and that counter.
-    pub fn stale(&self, view: &DataView) -> Option<(u32, u32)>
-        ensures { result ≡ device_fit below view.now self.now }
-    {
-        if let Some(active) = &self.active {
-            if let Some(fit) = active.stale(view) {
-                return Some(fit);
-            }
-        }
-        self.pending.as_ref()?.stale(view)
+        self.pending.as_ref()?.fit(recovery, view)
     }
 }

@@ -13,6 +13,7 @@
 
 mod device;
 mod laws;
+mod recovery;
 mod session;
 mod take;
 mod ticket;
@@ -21,6 +22,7 @@ pub use device::DeviceState;
 pub use laws::{
     answers_agree, closings_agree, joins_agree, joins_in_turn, others_stay, uplinks_agree,
 };
+pub use recovery::Recovery;
 pub use take::{JoinTake, ReplyTake};
 
 #[cfg(test)]

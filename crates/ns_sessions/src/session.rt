@@ -1,13 +1,12 @@
 //! One live session.
 
-ghost use Rattle.std.specs.Prelude.{◌≡◌, option_and_then};
-ghost use Rattle.ns_types.specs.Cases.{when};
-ghost use Rattle.ns_secure.specs.Counter.{above, below};
-ghost use Rattle.ns_secure.specs.Integrity.{mic_fits};
+ghost use Rattle.std.specs.Prelude.{◌≡◌};
+ghost use Rattle.ns_sessions.specs.Recovery.{recovery_counter};
 ghost use Rattle.ns_sessions.specs.Record.{session_fit, session_ack, used_ack, new_session};
 
+use crate::recovery::Recovery;
 use ns_calls::JoinAns;
-use ns_secure::{above, below, mic_fits};
+use ns_secure::mic_fits;
 use ns_types::Key;
 use ns_views::DataView;
 
@@ -38,25 +37,11 @@ impl Session {
         }
     }
 
-    /// The session's number and the counter above its greatest, where the MIC fits there.
-    pub(crate) fn fresh(&self, view: &DataView) -> Option<(u32, u32)>
-        ensures { result ≡ session_fit above view.now self.now }
+    /// The session's number and the counter that is recovered, where the MIC fits there.
+    pub(crate) fn fit(&self, recovery: Recovery, view: &DataView) -> Option<(u32, u32)>
+        ensures { result ≡ session_fit (recovery_counter recovery) view.now self.now }
     {
-        self.fit(view, above(self.greatest_counter, view.fcnt16()))
-    }
-
-    /// The session's number and the counter of at most its greatest, where the MIC fits there.
-    pub(crate) fn stale(&self, view: &DataView) -> Option<(u32, u32)>
-        ensures { result ≡ session_fit below view.now self.now }
-    {
-        self.fit(view, below(self.greatest_counter, view.fcnt16()))
-    }
-
-    /// The session's number and a counter, where the MIC fits there.
-    fn fit(&self, view: &DataView, counter: Option<u32>) -> Option<(u32, u32)>
-        ensures { result ≡ option_and_then (λ n. when (mic_fits view.now self.now.nwk.0 n) (self.now.number, n)) counter }
-    {
-        let counter = counter?;
+        let counter = recovery.counter(self.greatest_counter, view.fcnt16())?;
         if mic_fits(view, &self.nwk, counter) {
             Some((self.number, counter))
         } else {

@@ -1,6 +1,6 @@
 //! Worked values of joins and uplinks.
 
-use crate::{DeviceState, JoinTake, ReplyTake};
+use crate::{DeviceState, JoinTake, Recovery, ReplyTake};
 use ns_calls::{JoinAccept, JoinAns, Outcome};
 use ns_types::{DevNonce, GatewayId, Heard, Key, Ticket};
 use ns_views::{DataView, PhyView, view};
@@ -51,7 +51,7 @@ fn success(app: Option<Key>) -> Outcome {
 
 /// Opens an uplink where it is fresh.
 fn open(state: &mut DeviceState, frame: &DataView) -> Option<(u32, u32)> {
-    let (session, counter) = state.fresh(frame)?;
+    let (session, counter) = state.fit(Recovery::Above, frame)?;
     state.take(session, counter);
     Some((session, counter))
 }
@@ -79,10 +79,10 @@ fn a_join_and_its_first_uplink(rt: HostRuntime) -> Result<(), Fail> {
     let PhyView::Frame(frame) = view(&FRAME).map_err(|_| "refused")? else {
         return Err("no data frame".into());
     };
-    assert_eq!(rt; state.stale(&frame), None);
+    assert_eq!(rt; state.fit(Recovery::Below, &frame), None);
     assert_eq!(rt; open(&mut state, &frame), Some((1, 2)));
-    assert_eq!(rt; state.fresh(&frame), None);
-    assert_eq!(rt; state.stale(&frame), Some((1, 2)));
+    assert_eq!(rt; state.fit(Recovery::Above, &frame), None);
+    assert_eq!(rt; state.fit(Recovery::Below, &frame), Some((1, 2)));
     assert_eq!(rt; state.next_ack(1), Some(0));
     assert_eq!(rt; state.next_ack(1), Some(1));
     assert_eq!(rt; state.next_ack(2), None);

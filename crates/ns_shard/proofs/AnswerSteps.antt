@@ -42,7 +42,9 @@ use Rattle.ns_sessions.proofs.OpenTickets.{at_member}
 use Rattle.ns_windows.specs.declared.window.Window.{Window}
 use Rattle.ns_shard.specs.declared.devices.Own.{Own}
 use Rattle.ns_shard.specs.Devices.{own_in, own_of, changed, answered}
-use Rattle.ns_shard.specs.Taken.{quiet, taken_answer, ended_answer}
+use Rattle.ns_shard.specs.declared.event.Event.TheVariants.{Quiet}
+use Rattle.ns_shard.specs.Sending.{quiet, answer_of}
+use Rattle.ns_shard.specs.Reaction.{answer_event, own_answer_event, shard_answer_event}
 use Rattle.ns_shard.specs.Parts.{Agrees}
 use Rattle.ns_shard.proofs.Roster.{own-found}
 use Rattle.ns_shard.proofs.DeviceSteps.{devices-changed}
@@ -121,7 +123,7 @@ no_ticket-out net h t outcome.Failed = refl
 no_ticket-out net h t (outcome.Success join) = refl
 
 taken-out : (net : Network) (h : List Entry) (t : Ticket) (o : Outcome) (taken : ReplyTake) → ((session : ℕ) (heard : Heard) → taken ≡ take.Accepted session heard → best (ticket_copies h t) ≡ Some heard) →
-    taken_answer (address net (dev_eui t)) t o taken ≡ answer_with net h t o (answer_reply net t taken)
+    answer_of net None (answer_event (address net (dev_eui t)) t o taken) ≡ answer_with net h t o (answer_reply net t taken)
 taken-out net h t o take.NoTicket copies = no_ticket-out net h t o
 taken-out net h t outcome.Failed take.Refused copies = refl
 taken-out net h t (outcome.Success join) take.Refused copies = refl
@@ -136,24 +138,21 @@ taken-out net h t (outcome.Success join) (take.Accepted session heard) copies =
       downlink = option_map (λ copy. downlink_to (accept_bytes join.accept) (rx1 copy 0 join_accept_delay)) o;
     } in a) (sym (copies session heard refl))
 
-addr_of_own : Option Own → DevAddr
-addr_of_own o = option_map_or (λ (x : Own). x.addr) o (record { 0 = 0 })
-
 pub answer-answered : (net : Network) (index : ℕ) (h : List Entry) (devices : List Own) (windows : List Window) (t : Ticket) (o : Outcome) → Agrees net index h devices windows → AnswersAgree net h → shard_of (dev_eui t) ≡ index →
-    ended_answer (option_map_or (λ x. x.addr) (own_of (dev_eui t) devices) (record { 0 = 0 })) t o (option_map (λ x. reply_take x.state t o) (own_of (dev_eui t) devices)) ≡ answer net h (call.JoinReply t o)
+    answer_of net None (shard_answer_event devices t o) ≡ answer net h (call.JoinReply t o)
 answer-answered net index h devices windows t o agrees law mine =
-    ap ended (ap (own_of (dev_eui t)) agrees.by_device ∙ own-found net index h (dev_eui t) mine) ∙ step (device net (dev_eui t)) refl
+    ap told (ap (own_of (dev_eui t)) agrees.by_device ∙ own-found net index h (dev_eui t) mine) ∙ step (device net (dev_eui t)) refl
   where
-    ended : Option Own → Answer
-    ended x = ended_answer (option_map_or (λ (y : Own). y.addr) x (record { 0 = 0 })) t o (option_map (λ (y : Own). reply_take y.state t o) x)
+    told : Option Own → Answer
+    told x = answer_of net None (option_map_or (own_answer_event t o) x (Quiet reply.NoTicket))
 
-    step : (d : Option Device) → device net (dev_eui t) ≡ d → ended (option_map (own_in net h) d) ≡ answer net h (call.JoinReply t o)
+    step : (d : Option Device) → device net (dev_eui t) ≡ d → told (option_map (own_in net h) d) ≡ answer net h (call.JoinReply t o)
     step None is =
         no_ticket-out net h t o ∙ ap (answer_with net h t o) (sym (answer-unknown net h t o (not_open net h t agrees.valid agrees.history.legal is)))
     step (Some d) is =
         let eui : d.eui ≡ dev_eui t = (found-device net (dev_eui t) d is).1 in
         let addr : device_addr net d ≡ address net (dev_eui t) = ap (λ (x : Option Device). Rattle.std.specs.Prelude.unwrap_or (option_map (device_addr net) x) (record { 0 = 0 })) (sym is) in
-        ap₂ (λ (a : DevAddr) (e : DevEui). taken_answer a t o (reply_take (device_record net h e) t o)) addr eui
+        ap₂ (λ (a : DevAddr) (e : DevEui). answer_of net None (answer_event a t o (reply_take (device_record net h e) t o))) addr eui
         ∙ (taken-out net h t o (reply_take (device_record net h (dev_eui t)) t o) (λ session heard taken. law.copies t o session heard taken)
         ∙ ap (answer_with net h t o) (law.replies t o))
 

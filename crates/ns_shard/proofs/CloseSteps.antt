@@ -43,7 +43,8 @@ use Rattle.ns_windows.specs.Windows.{named, without}
 use Rattle.ns_shard.specs.declared.devices.Own.{Own}
 use Rattle.ns_shard.specs.Held.{window_in, windows_in}
 use Rattle.ns_shard.specs.Devices.{own_in, devices_in, own_of, changed}
-use Rattle.ns_shard.specs.Taken.{uplink_from, ack_from, ack_of, closing_answer, closing_devices}
+use Rattle.ns_shard.specs.Sending.{uplink_from, ack_from, answer_of}
+use Rattle.ns_shard.specs.Reaction.{ack_of, close_event, with_closing}
 use Rattle.ns_shard.specs.Parts.{Agrees}
 use Rattle.ns_shard.proofs.Roster.{own-found, members}
 use Rattle.ns_shard.proofs.DeviceSteps.{devices-changed, devices-same}
@@ -199,11 +200,11 @@ close-reply : (h : List Entry) (w : WindowName) (found : Option Opening) → ope
 close-reply h w found is = ap (λ (x : Option Opening). first_case (option_map (λ (o : Opening). reply.Closed w (ack_number h o)) x ∷ []) reply.NoWindow) is
 
 pub close-answered : (net : Network) (index : ℕ) (h : List Entry) (devices : List Own) (windows : List Window) (w : WindowName) → Agrees net index h devices windows → ClosingsAgree net h → shard_of w.eui ≡ index →
-    closing_answer net devices (named w windows) ≡ answer net h (call.Close w)
+    answer_of net (named w windows) (close_event devices (named w windows)) ≡ answer net h (call.Close w)
 close-answered net index h devices windows w agrees law mine =
-    ap₂ (closing_answer net) agrees.by_device (ap (named w) agrees.by_window ∙ windows-named h w) ∙ step (open_window h w) refl
+    ap₂ (λ ds x. answer_of net x (close_event ds x)) agrees.by_device (ap (named w) agrees.by_window ∙ windows-named h w) ∙ step (open_window h w) refl
   where
-    step : (found : Option Opening) → open_window h w ≡ found → closing_answer net (devices_in net index h) (option_map (window_in h) found) ≡ answer net h (call.Close w)
+    step : (found : Option Opening) → open_window h w ≡ found → answer_of net (option_map (window_in h) found) (close_event (devices_in net index h) (option_map (window_in h) found)) ≡ answer net h (call.Close w)
     step None is = ap (close_with net h w) (sym (close-reply h w None is))
     step (Some o) is =
         let kept = open-kept net index h devices windows w o agrees is in
@@ -248,11 +249,11 @@ unnumbered : (net : Network) (h : List Entry) (w : WindowName) (r : Reply) → O
 unnumbered net h w r stay is none eui = stay.others net h (entry_for net h (length h) (call.Close w)) eui (ap (λ x. concerns eui (call.Close w) x) is ∙ none eui)
 
 pub agrees-close : (net : Network) (index : ℕ) (h : List Entry) (devices : List Own) (windows : List Window) (w : WindowName) → Agrees net index h devices windows → OthersStay → ClosingsAgree net h → shard_of w.eui ≡ index →
-    Agrees net index (with_call net h (length h) (call.Close w)) (closing_devices (named w windows) devices) (without w windows)
+    Agrees net index (with_call net h (length h) (call.Close w)) (with_closing (named w windows) devices) (without w windows)
 agrees-close net index h devices windows w agrees stay law mine = record {
   valid = agrees.valid;
   history = history_more net index h (call.Close w) mine agrees.history;
-  by_device = ap₂ closing_devices (ap (named w) agrees.by_window ∙ windows-named h w) agrees.by_device ∙ devices_step (open_window h w) refl;
+  by_device = ap₂ with_closing (ap (named w) agrees.by_window ∙ windows-named h w) agrees.by_device ∙ devices_step (open_window h w) refl;
   by_window = ap (without w) agrees.by_window ∙ sym (windows_after (open_window h w) refl);
 }
   where
@@ -277,7 +278,7 @@ agrees-close net index h devices windows w agrees stay law mine = record {
             ap (λ (x : Reply). let e : Entry = record { number = length h; call = call.Close w; reply = x } in device_record net (h ++ e ∷ []) w.eui) r
             ∙ sym (law.closed (length h) w n some)
 
-    devices_step : (found : Option Opening) → open_window h w ≡ found → closing_devices (option_map (window_in h) found) (devices_in net index h) ≡ devices_in net index now
+    devices_step : (found : Option Opening) → open_window h w ≡ found → with_closing (option_map (window_in h) found) (devices_in net index h) ≡ devices_in net index now
     devices_step None is = sym (devices-same net index h now (unnumbered net h w reply.NoWindow stay (close-reply h w None is) (λ eui. refl)))
     devices_step (Some o) is =
         let kept = open-kept net index h devices windows w o agrees is in

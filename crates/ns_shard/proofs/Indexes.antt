@@ -1,12 +1,12 @@
 -- Places of devices in maps.
-use Rattle.std.proofs.Common.{◌≡◌, ◌+◌, ◌-◌, not, take, map, ℕ, zero, suc, ◌<◌, ◌≤◌, Bool, true, false, cond, ◌++◌, List, [], ◌∷◌, length, get_or, Option, None, Some, refl, sym, ap, ◌∙◌, arith, eqb, filter, drop, inl, inr}
+use Rattle.std.proofs.Common.{◌≡◌, ◌+◌, not, take, map, ℕ, zero, suc, ◌<◌, ◌≤◌, Bool, true, false, cond, ◌++◌, List, [], ◌∷◌, length, get_or, Option, None, Some, refl, sym, ap, ap₂, ◌∙◌, arith, eqb, filter, drop, set, inl, inr}
 use Rattle.std.proofs.lemmas.Grind.{common_steps}
 use Rattle.std.specs.Prelude.{nat_lt}
 use Rattle.std.specs.List.{position, position_or_len}
 use Rattle.std.proofs.lemmas.Bool.{cases_Bool}
-use Rattle.std.proofs.lemmas.List.Folds.{position_or_len_push}
+use Rattle.std.proofs.lemmas.List.Folds.{position_or_len_push, position_or_len-set}
 use Rattle.std.proofs.lemmas.List.Sums.{prefix_len-le-length}
-use Rattle.std.proofs.lemmas.List.{length-append, length-drop, take_all, append-nil}
+use Rattle.std.proofs.lemmas.List.{length-set, length-append, append-nil}
 use Rattle.ns_windows.proofs.Places.{NonePasses}
 use Rattle.ns_shard.specs.declared.devices.Own.{Own}
 use Rattle.ns_shard.specs.Indexes.{Indexes, known_or, PlaceMap, PutsFirst}
@@ -30,6 +30,13 @@ pub Indexes-push : (key : Own → ℕ) (devices : List Own) (x : Own) (old new :
 Indexes-push key devices x old new indexed puts k =
     puts k ∙ ap (λ o. known_or o (eqb (key x) k) (length devices)) (indexed k) ∙ sym (position-push (λ o. eqb (key o) k) devices x)
 
+-- a device that keeps its key is found where it was
+pub Indexes-set : (key : Own → ℕ) (places : PlaceMap) (devices : List Own) (i : ℕ) (old new : Own) → Indexes key places devices → old ≡ get_or devices i old → key new ≡ key old → Indexes key places (set devices i new)
+Indexes-set key places devices i old new indexed at same k =
+    indexed k
+    ∙ sym (ap₂ (λ m n. cond {A = Option ℕ} (nat_lt m n) (Some m) None)
+    (position_or_len-set (λ (o : Own). eqb (key o) k) devices i new old (ap (λ n. eqb n k) (same ∙ ap key at))) (length-set devices i new))
+
 -- before the first that passes there is none
 filter_past : {X : Type 0} (test : X → Bool) (xs : List X) → filter test (drop (position_or_len test xs) xs) ≡ filter test xs
 filter_past test [] = refl
@@ -41,11 +48,10 @@ filter_past {X} test (x ∷ xs) = elim (cases_Bool (test x)) [
     next : (n : ℕ) → filter test (drop n xs) ≡ filter test xs → filter test (drop (1 + n) (x ∷ xs)) ≡ filter test xs
     next n rest = let one_more : 1 + n ≡ suc n = omega arith in rw one_more rest
 
-pub filter-from : {X : Type 0} (test : X → Bool) (xs : List X) (i : ℕ) → position test xs ≡ Some i → filter test (take (length xs - i) (drop i xs)) ≡ filter test xs
-filter-from test xs i at =
+pub filter-drop : {X : Type 0} (test : X → Bool) (xs : List X) (i : ℕ) → position test xs ≡ Some i → filter test (drop i xs) ≡ filter test xs
+filter-drop test xs i at =
     let first : position_or_len test xs ≡ i = grind (arith, common_steps) in
-    let all : take (length xs - i) (drop i xs) ≡ drop i xs = take_all (length xs - i) (drop i xs) (omega (arith, length-drop i xs)) in
-    rw all (rw first at (filter_past test xs))
+    rw first at (filter_past test xs)
 
 pub filter-nothing : {X : Type 0} (test : X → Bool) (xs : List X) → NonePasses test xs → filter test xs ≡ []
 filter-nothing test [] none = refl

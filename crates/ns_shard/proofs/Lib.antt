@@ -3,11 +3,13 @@ pub mod WindowSteps
 pub mod Places
 pub mod Roster
 pub mod DeviceSteps
+pub mod Apart
 pub mod Entries
 pub mod PartSteps
 pub mod AnswerSteps
 pub mod CloseSteps
 pub mod UplinkSteps
+pub mod Reactions
 pub mod RunSteps
 pub mod RunHistories
 pub mod Indexes

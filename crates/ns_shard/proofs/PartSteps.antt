@@ -1,5 +1,5 @@
 -- What comes of a call by the devices and windows that agree with the entries is what comes of it by the entries, and they agree after it.
-use Rattle.std.proofs.Common.{◌≡◌, ℕ, Bool, true, false, not, cond, nat_le, List, [], ◌∷◌, length, map, Option, None, Some, option_map, refl, sym, ap, ap₂, ◌∙◌, arith, inl, inr}
+use Rattle.std.proofs.Common.{◌≡◌, ◌==◌, ℕ, Bool, false, not, cond, nat_le, List, [], ◌∷◌, length, map, Option, None, Some, option_map, refl, sym, ap, ap₂, ◌∙◌, arith, inl, inr}
 use Rattle.std.specs.Option.{option_map_or}
 use Rattle.std.proofs.lemmas.Bool.Decides.{nat_tests}
 use Rattle.ns_types.specs.declared.identity.DevEui.{DevEui}
@@ -24,16 +24,14 @@ use Rattle.ns_calls.specs.Legal.{entry_for, with_call}
 use Rattle.ns_calls.proofs.LocalLemmas.{bool_tells}
 use Rattle.ns_calls.proofs.LegalLemmas.{history_none, history_more}
 use Rattle.ns_calls.proofs.KeyLemmas.{sessions_have_joins}
-use Rattle.ns_sessions.specs.declared.take.JoinTake.{JoinTake}
-use Rattle.ns_sessions.specs.declared.take.JoinTake.TheVariants as join
 use Rattle.ns_sessions.specs.Record.{device_record, join_take}
-use Rattle.ns_sessions.specs.Laws as laws
-use Rattle.ns_sessions.specs.Laws.{OthersStay, JoinsAgree, concerns}
+use Rattle.ns_sessions.specs.Laws.{OthersStay, JoinsAgree, concerns, join_reply}
 use Rattle.ns_windows.specs.declared.window.Window.{Window}
 use Rattle.ns_shard.specs.declared.devices.Own.{Own}
-use Rattle.ns_shard.specs.Devices.{devices_of, own, own_in, devices_in, joinless, own_of, changed, asked}
-use Rattle.ns_shard.specs.Taken.{join_reply, known_reply, joining_reply, joining_devices}
+use Rattle.ns_shard.specs.Devices.{devices_of, own, own_in, devices_in, joinless, is_own, own_of, with_state, asked}
+use Rattle.ns_shard.specs.Reaction.{own_join_reply, with_own_join, shard_join_reply, with_shard_join}
 use Rattle.ns_shard.specs.Parts.{Agrees}
+use Rattle.ns_shard.proofs.Places.{change_first-same, change_first-stays, change_first-none}
 use Rattle.ns_shard.proofs.Roster.{own-found}
 use Rattle.ns_shard.proofs.DeviceSteps.{OthersSame, devices-changed, devices-same}
 use Rattle.ns_shard.proofs.WindowSteps.{windows-quiet, WindowsHaveJoins}
@@ -63,14 +61,6 @@ others-stay net h number c eui stay apart other differs = stay.others net h (ent
 
 -- ---- joins
 
--- a known device is one of the shard's
-known-own : (net : Network) (index : ℕ) (h : List Entry) (t : Ticket) → IsRoster net → shard_of (dev_eui t) ≡ index → is_known net (dev_eui t) (join_eui t) ≡ true → (d : Device) × (own_of (dev_eui t) (devices_in net index h) ≡ Some (own_in net h d)) × (d.eui ≡ dev_eui t)
-known-own net index h t valid mine known = step (device net (dev_eui t)) refl (sym (is_known-by_device net valid (dev_eui t) (join_eui t)) ∙ known)
-  where
-    step : (o : Option Device) → device net (dev_eui t) ≡ o → has_join_eui (join_eui t) o ≡ true → (d : Device) × (own_of (dev_eui t) (devices_in net index h) ≡ Some (own_in net h d)) × (d.eui ≡ dev_eui t)
-    step None is has = absurd (cc has)
-    step (Some d) is has = (d, own-found net index h (dev_eui t) mine ∙ ap (option_map (own_in net h)) is, (found-device net (dev_eui t) d is).1)
-
 -- the reply to a Join-Request, by whether its device is known
 join_reply_by : Bool → Network → List Entry → Ticket → Reply
 join_reply_by known net h t = first_case (
@@ -84,28 +74,26 @@ pub join-unknown : (net : Network) (h : List Entry) (t : Ticket) → is_known ne
 unfolding join_reply_by
 join-unknown net h t unknown = ap (λ b. join_reply_by b net h t) unknown
 
-join_reply-same : (t : Ticket) (take : JoinTake) → join_reply t take ≡ laws.join_reply t take
-join_reply-same t join.Asked = refl
-join_reply-same t (join.Copied place) = refl
-join_reply-same t join.Crowded = refl
-join_reply-same t (join.Old greatest) = refl
-join_reply-same t join.Busy = refl
-
 pub join-replied : (net : Network) (index : ℕ) (h : List Entry) (devices : List Own) (windows : List Window) (t : Ticket) → Agrees net index h devices windows → JoinsAgree net h → shard_of (dev_eui t) ≡ index →
-    joining_reply net devices t ≡ reply_to_join net h t
+    shard_join_reply devices t ≡ reply_to_join net h t
 join-replied net index h devices windows t agrees law mine =
-    let by = λ (b : Bool). cond b (known_reply devices t) reply.NoDevice in
-    elim (bool_tells (is_known net (dev_eui t) (join_eui t))) [
-      | inr unknown ↦ ap by unknown ∙ sym (join-unknown net h t unknown)
-      | inl known ↦
-          (let found = known-own net index h t agrees.valid mine known in
-          let asks = λ (o : Own). join_reply t (join_take o.state t) in
-          ap by known
-          ∙ (ap (λ ds. known_reply ds t) agrees.by_device
-          ∙ (ap (λ o. option_map_or asks o reply.NoDevice) found.1
-          ∙ (ap (λ (e : DevEui). join_reply t (join_take (device_record net h e) t)) found.2
-          ∙ (join_reply-same t _ ∙ law.replies t known)))))
-    ]
+    ap (λ ds. shard_join_reply ds t) agrees.by_device ∙ (ap replied (own-found net index h (dev_eui t) mine) ∙ step (device net (dev_eui t)) refl)
+  where
+    replied : Option Own → Reply
+    replied o = option_map_or (own_join_reply t) o reply.NoDevice
+
+    known_is : is_known net (dev_eui t) (join_eui t) ≡ has_join_eui (join_eui t) (device net (dev_eui t))
+    known_is = is_known-by_device net agrees.valid (dev_eui t) (join_eui t)
+
+    step : (o : Option Device) → device net (dev_eui t) ≡ o → replied (option_map (own_in net h) o) ≡ reply_to_join net h t
+    step None is = sym (join-unknown net h t (known_is ∙ ap (has_join_eui (join_eui t)) is))
+    step (Some d) is =
+        let asks = λ (e : DevEui). join_reply t (join_take (device_record net h e) t) in
+        let by = λ (b : Bool). cond b (asks d.eui) reply.NoDevice in
+        elim (bool_tells (d.join_eui.0 == (join_eui t).0)) [
+          | inl same ↦ ap by same ∙ (ap asks (found-device net (dev_eui t) d is).1 ∙ law.replies t (known_is ∙ (ap (has_join_eui (join_eui t)) is ∙ same)))
+          | inr differs ↦ ap by differs ∙ sym (join-unknown net h t (known_is ∙ (ap (has_join_eui (join_eui t)) is ∙ differs)))
+        ]
 
 pub same_device-false : (d e : DevEui) → same_device d e ≡ false → same_device e d ≡ false
 same_device-false d e differs = grind (arith, nat_tests)
@@ -116,30 +104,47 @@ concerns-join other t heard (reply.JoinCopied place) differs = same_device-false
 concerns-join other t heard _ differs = refl
 
 pub agrees-join : (net : Network) (index : ℕ) (h : List Entry) (devices : List Own) (windows : List Window) (t : Ticket) (heard : Heard) → Agrees net index h devices windows → OthersStay → JoinsAgree net h → shard_of (dev_eui t) ≡ index →
-    Agrees net index (with_call net h (length h) (call.Join t heard)) (joining_devices net t heard devices) windows
+    Agrees net index (with_call net h (length h) (call.Join t heard)) (with_shard_join t heard devices) windows
 agrees-join net index h devices windows t heard agrees stay law mine = record {
   valid = agrees.valid;
   history = history_more net index h (call.Join t heard) mine agrees.history;
-  by_device = by_known;
+  by_device = ap (with_shard_join t heard) agrees.by_device ∙ step (device net (dev_eui t)) refl;
   by_window = agrees.by_window ∙ sym (windows-quiet h (entry_for net h (length h) (call.Join t heard)) (joined net index h devices windows agrees) refl refl refl);
 }
   where
     now : List Entry
     now = with_call net h (length h) (call.Join t heard)
 
-    by_known : joining_devices net t heard devices ≡ devices_in net index (with_call net h (length h) (call.Join t heard))
-    by_known =
-        let by = λ (b : Bool). cond b (changed (dev_eui t) (asked t heard) devices) devices in
-        elim (bool_tells (is_known net (dev_eui t) (join_eui t))) [
-          | inl known ↦
-              ap by known
-              ∙ (ap (changed (dev_eui t) (asked t heard)) agrees.by_device
+    f : Own → Own
+    f = with_own_join t heard
+
+    found : own_of (dev_eui t) (devices_in net index h) ≡ option_map (own_in net h) (device net (dev_eui t))
+    found = own-found net index h (dev_eui t) mine
+
+    known_is : is_known net (dev_eui t) (join_eui t) ≡ has_join_eui (join_eui t) (device net (dev_eui t))
+    known_is = is_known-by_device net agrees.valid (dev_eui t) (join_eui t)
+
+    -- of an unknown device nothing changes
+    stays : is_known net (dev_eui t) (join_eui t) ≡ false → devices_in net index h ≡ devices_in net index now
+    stays unknown =
+        sym (devices-same net index h now (λ other. stay.others net h (entry_for net h (length h) (call.Join t heard)) other
+        (ap (λ (r : Reply). concerns other (call.Join t heard) r) (join-unknown net h t unknown))))
+
+    step : (o : Option Device) → device net (dev_eui t) ≡ o → with_shard_join t heard (devices_in net index h) ≡ devices_in net index now
+    step None is =
+        change_first-none (is_own (dev_eui t)) f (devices_in net index h) (found ∙ ap (option_map (own_in net h)) is)
+        ∙ stays (known_is ∙ ap (has_join_eui (join_eui t)) is)
+    step (Some d) is =
+        let o : Own = own_in net h d in
+        let here : own_of (dev_eui t) (devices_in net index h) ≡ Some o = found ∙ ap (option_map (own_in net h)) is in
+        let by = λ (b : Bool). cond b (with_state (asked t heard) o) o in
+        elim (bool_tells (d.join_eui.0 == (join_eui t).0)) [
+          | inl same ↦
+              change_first-same (is_own (dev_eui t)) f (with_state (asked t heard)) (devices_in net index h) o here (ap by same)
               ∙ sym (devices-changed net index h now (dev_eui t) (asked t heard) agrees.valid
               (others-stay net h (length h) (call.Join t heard) (dev_eui t) stay (λ other differs. concerns-join other t heard (reply_to_join net h t) differs))
-              (sym (law.records agrees.history.legal (length h) t heard known))))
-          | inr unknown ↦
-              ap by unknown
-              ∙ (agrees.by_device
-              ∙ sym (devices-same net index h now (λ other. stay.others net h (entry_for net h (length h) (call.Join t heard)) other
-              (ap (λ (r : Reply). concerns other (call.Join t heard) r) (join-unknown net h t unknown)))))
+              (sym (law.records agrees.history.legal (length h) t heard (known_is ∙ (ap (has_join_eui (join_eui t)) is ∙ same)))))
+          | inr differs ↦
+              change_first-stays (is_own (dev_eui t)) f (devices_in net index h) o here (ap by differs)
+              ∙ stays (known_is ∙ (ap (has_join_eui (join_eui t)) is ∙ differs))
         ]

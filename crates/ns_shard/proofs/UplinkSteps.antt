@@ -1,11 +1,10 @@
 -- What comes of an uplink by the devices and windows that agree with the entries, and that they agree after it.
-use Rattle.std.proofs.Common.{◌≡◌, ℕ, ◌+◌, ◌<◌, ◌≤◌, ◌==◌, Bool, true, false, cond, nat_lt, nat_le, List, [], ◌∷◌, ◌++◌, length, filter, filter_map, find, map, count_by, Option, None, Some, IfSome, option_map, option_to_list, refl, sym, ap, ap₂, subst, ◌∙◌, arith, inl, inr}
+use Rattle.std.proofs.Common.{◌≡◌, ℕ, ◌+◌, ◌<◌, ◌≤◌, ◌==◌, Bool, true, false, cond, nat_lt, nat_le, List, [], ◌∷◌, ◌++◌, length, filter, filter_map, map, count_by, Option, None, Some, IfSome, option_map, option_to_list, refl, sym, ap, ap₂, subst, ◌∙◌, arith, inl, inr}
 use Rattle.std.specs.Prelude.{IsSome, Contains}
 use Rattle.std.specs.List.{AllByRecursion, list_any}
 use Rattle.std.specs.Option.{option_and_then}
 use Rattle.std.proofs.lemmas.List.Elements.{filter_map-append}
 use Rattle.std.proofs.lemmas.Option.{same_Some}
-use Rattle.std.proofs.lemmas.Bool.{false≢true}
 use Rattle.std.proofs.lemmas.Bool.Decides.{nat_tests}
 use Rattle.ns_types.specs.declared.identity.DevEui.{DevEui}
 use Rattle.ns_types.specs.declared.identity.Key.{Key}
@@ -25,7 +24,7 @@ use Rattle.ns_calls.specs.declared.call.Call.TheVariants as call
 use Rattle.ns_calls.specs.declared.call.Reply.{Reply}
 use Rattle.ns_calls.specs.declared.call.Reply.TheVariants as reply
 use Rattle.ns_calls.specs.declared.call.Entry.{Entry}
-use Rattle.ns_calls.specs.History.{Opening, opening_in, window_copy_in, open_windows, open_window, window_count, window_copies, session_join, live, is_live, greatest_counter, next_ack}
+use Rattle.ns_calls.specs.History.{Opening, opening_in, window_copy_in, open_windows, window_count, window_copies, session_join, live, is_live, greatest_counter, next_ack}
 use Rattle.ns_calls.specs.Headline.{opening_count, open_count}
 use Rattle.ns_calls.specs.Reply as plain
 use Rattle.ns_calls.specs.Reply.{reply_to, reply_to_uplink, first_fit, devices_at, copy_reply, open_reply, most_windows, most_copies}
@@ -36,19 +35,20 @@ use Rattle.ns_calls.proofs.PushLemmas.{window_copies-push}
 use Rattle.ns_calls.proofs.LegalLemmas.{history_more}
 use Rattle.ns_calls.proofs.Induction.{legal_induction}
 use Rattle.ns_calls.proofs.UplinkLemmas.{uplink_reply_by, opening_of, opened-cases, IsNewOpening, opening-new}
-use Rattle.ns_calls.proofs.WindowLemmas.{same_window-refl, same_window-eq, windows_open_once}
+use Rattle.ns_calls.proofs.WindowLemmas.{same_window-refl, windows_open_once}
 use Rattle.ns_sessions.specs.declared.session.Session.{Session}
 use Rattle.ns_sessions.specs.Record.{device_record, session_record, session_in, IsNewCounter, with_uplink}
 use Rattle.ns_sessions.specs.Laws.{OthersStay, UplinksAgree, concerns}
 use Rattle.ns_sessions.proofs.Sessions.{Numbered, found_by_number}
 use Rattle.ns_sessions.proofs.Facts.{IsFit, first_fit-live}
 use Rattle.ns_windows.specs.declared.window.Window.{Window}
-use Rattle.ns_windows.specs.declared.window.Added.TheVariants as added
-use Rattle.ns_windows.specs.Windows.{named, framed, added}
+use Rattle.ns_windows.specs.declared.window.Addition.TheVariants as addition
+use Rattle.ns_windows.specs.Windows.{named, framed, addition}
 use Rattle.ns_shard.specs.declared.devices.Own.{Own}
 use Rattle.ns_shard.specs.Held.{window_in, windows_in, nwk_of, app_of}
 use Rattle.ns_shard.specs.Devices.{devices_in, own_of}
-use Rattle.ns_shard.specs.Taken.{copied_reply, opening_reply, taking_reply, taking_devices, taking_windows, with_window, keys_in, IsOpenable}
+use Rattle.ns_shard.specs.Reaction as kept
+use Rattle.ns_shard.specs.Reaction.{uplink_reply, with_shard_uplink, with_copy_or_window, with_window, keys_in, IsOpenable}
 use Rattle.ns_shard.specs.Parts.{Agrees}
 use Rattle.ns_shard.proofs.Maps.{none-count}
 use Rattle.ns_shard.proofs.Roster.{fit-own, members}
@@ -66,62 +66,34 @@ place-test n =
       | inr is ↦ (let past : 16 ≤ n = grind (arith, nat_tests) in let beyond : nat_le (n + 1) 16 ≡ false = grind (arith, nat_tests) in is ∙ sym beyond)
     ]
 
--- a window with which a frame was found is found by its name
-found-named : (h : List Entry) (frame : List ℕ) (o : Opening) → plain.window_with h frame ≡ Some o → (x : Opening) × (open_window h o.window ≡ Some x) × (x.window ≡ o.window)
-found-named h frame o is = step (open_windows h) is
-  where
-    test : Opening → Bool
-    test x = same_window x.window o.window
-
-    step : (os : List Opening) → find (λ (x : Opening). Rattle.std.specs.Prelude.bytes_eq x.frame frame) os ≡ Some o → (x : Opening) × (find test os ≡ Some x) × (x.window ≡ o.window)
-    step [] found = absurd (cc found)
-    step (y ∷ ys) found =
-        let here = λ (b : Bool). cond {A = Option Opening} b (Some y) (find test ys) in
-        elim (bool_tells (test y)) [
-          | inl same ↦ (y, ap here same, same_window-eq y.window o.window same)
-          | inr differs ↦
-              elim (bool_tells (Rattle.std.specs.Prelude.bytes_eq y.frame frame)) [
-                | inl equal ↦
-                    (let is_o : Some y ≡ Some o = sym (ap (λ b. cond {A = Option Opening} b (Some y) (find (λ (x : Opening). Rattle.std.specs.Prelude.bytes_eq x.frame frame) ys)) equal) ∙ found in
-                    let same : y ≡ o = cc in
-                    absurd (false≢true (sym differs ∙ (ap (λ (x : Opening). same_window x.window o.window) same ∙ same_window-refl o.window))))
-                | inr other ↦
-                    (let rest = step ys (sym (ap (λ b. cond {A = Option Opening} b (Some y) (find (λ (x : Opening). Rattle.std.specs.Prelude.bytes_eq x.frame frame) ys)) other) ∙ found) in
-                    (rest.0, ap here differs ∙ rest.1, rest.2))
-              ]
-        ]
-
-copied-same : (h : List Entry) (frame : List ℕ) (o : Opening) → plain.window_with h frame ≡ Some o → copied_reply o.window (added (named o.window (windows_in h))) ≡ copy_reply h o.window
-copied-same h frame o is =
-    let found = found-named h frame o is in
+copied-same : (h : List Entry) (o : Opening) → kept.copy_reply (addition (window_in h o)) ≡ copy_reply h o.window
+copied-same h o =
     let len : ℕ = length (window_copies h o.window) in
-    ap (λ x. copied_reply o.window (added x)) (windows-named h o.window ∙ ap (option_map (window_in h)) found.1)
-    ∙ (ap (λ (v : WindowName). copied_reply o.window (cond (nat_lt (length (window_copies h v)) 16) (added.Copied (length (window_copies h v) + 1)) added.Crowded)) found.2
-    ∙ (ap (λ b. copied_reply o.window (cond b (added.Copied (len + 1)) added.Crowded)) (place-test len)
-    ∙ elim (nat_le (len + 1) 16) as (λ b. copied_reply o.window (cond b (added.Copied (len + 1)) added.Crowded) ≡ cond b (reply.Copied o.window (len + 1)) (reply.Crowded o.window)) [ true ↦ refl | false ↦ refl ]))
+    ap (λ b. kept.copy_reply (cond b (addition.Copied o.window (len + 1)) (addition.Crowded o.window))) (place-test len)
+    ∙ elim (nat_le (len + 1) 16) as (λ b. kept.copy_reply (cond b (addition.Copied o.window (len + 1)) (addition.Crowded o.window)) ≡ cond b (reply.Copied o.window (len + 1)) (reply.Crowded o.window)) [ true ↦ refl | false ↦ refl ]
 
 pub uplink-replied : (net : Network) (index : ℕ) (h : List Entry) (devices : List Own) (windows : List Window) (frame : List ℕ) → Agrees net index h devices windows → UplinksAgree net h →
-    shard_of_addr (record { 0 = (data_fields frame).addr }) ≡ index → taking_reply devices windows frame ≡ reply_to_uplink net h frame
+    shard_of_addr (record { 0 = (data_fields frame).addr }) ≡ index → uplink_reply devices windows frame ≡ reply_to_uplink net h frame
 uplink-replied net index h devices windows frame agrees law mine =
-    ap₂ (λ ds ws. taking_reply ds ws frame) agrees.by_device agrees.by_window
-    ∙ (ap₂ (λ f s. first_case (option_map by_copy (framed frame (windows_in h)) ∷ option_map (opening_reply (windows_in h)) f ∷ option_map old s ∷ []) reply.NoSession)
+    ap₂ (λ ds ws. uplink_reply ds ws frame) agrees.by_device agrees.by_window
+    ∙ (ap₂ (λ f s. first_case (option_map by_copy (framed frame (windows_in h)) ∷ option_map (kept.open_reply (windows_in h)) f ∷ option_map old s ∷ []) reply.NoSession)
     (fit-own above net index h frame agrees.valid (law.fits above frame) mine) (fit-own below net index h frame agrees.valid (law.fits below frame) mine)
-    ∙ (ap (λ x. first_case (option_map by_copy x ∷ option_map (opening_reply (windows_in h)) (first_fit above net h frame) ∷ option_map old (first_fit below net h frame) ∷ []) reply.NoSession) (windows-framed h frame)
+    ∙ (ap (λ x. first_case (option_map by_copy x ∷ option_map (kept.open_reply (windows_in h)) (first_fit above net h frame) ∷ option_map old (first_fit below net h frame) ∷ []) reply.NoSession) (windows-framed h frame)
     ∙ step (plain.window_with h frame) refl (first_fit above net h frame)))
   where
     by_copy : Window → Reply
-    by_copy w = copied_reply w.name (added (named w.name (windows_in h)))
+    by_copy w = kept.copy_reply (addition w)
 
     old : WindowName → Reply
     old w = reply.Old w.eui w.session w.fcnt
 
-    opens : (w : WindowName) → opening_reply (windows_in h) w ≡ open_reply h w
+    opens : (w : WindowName) → kept.open_reply (windows_in h) w ≡ open_reply h w
     opens w = ap (λ n. cond (nat_le most_windows n) (reply.Busy w.eui) (reply.Opened w)) (windows-count h w.eui)
 
     step : (o : Option Opening) → plain.window_with h frame ≡ o → (f : Option WindowName) →
-        first_case (option_map by_copy (option_map (window_in h) o) ∷ option_map (opening_reply (windows_in h)) f ∷ option_map old (first_fit below net h frame) ∷ []) reply.NoSession
+        first_case (option_map by_copy (option_map (window_in h) o) ∷ option_map (kept.open_reply (windows_in h)) f ∷ option_map old (first_fit below net h frame) ∷ []) reply.NoSession
         ≡ first_case (option_map (λ (x : Opening). copy_reply h x.window) o ∷ option_map (open_reply h) f ∷ option_map old (first_fit below net h frame) ∷ []) reply.NoSession
-    step (Some o) is f = copied-same h frame o is
+    step (Some o) is f = copied-same h o
     step None is (Some w) = opens w
     step None is None = refl
 
@@ -309,7 +281,7 @@ opened-keys net index h frame w is = step (session_join h w.eui w.session) refl 
         ∙ ap (λ (j : Option JoinAns). Some (nwk_of j, app_of j)) (sym keyed)))
 
 pub can_open : (net : Network) (index : ℕ) (h : List Entry) (devices : List Own) (windows : List Window) (frame : List ℕ) (heard : Heard) → Agrees net index h devices windows → UplinksAgree net h →
-    shard_of_addr (record { 0 = (data_fields frame).addr }) ≡ index → (w : WindowName) → taking_reply devices windows frame ≡ reply.Opened w → IsOpenable devices windows w
+    shard_of_addr (record { 0 = (data_fields frame).addr }) ≡ index → (w : WindowName) → uplink_reply devices windows frame ≡ reply.Opened w → IsOpenable devices windows w
 can_open net index h devices windows frame heard agrees law mine w said =
     let is : IsOpened net index h frame w =
     is-opened net index h frame heard w agrees.valid agrees.history.legal (history_more net index h (call.Uplink frame heard) mine agrees.history).legal mine (sym (uplink-replied net index h devices windows frame agrees law mine) ∙ said) in
@@ -362,8 +334,8 @@ full-of h None None None w is = absurd (cc is)
 
 -- the devices and the windows after an uplink
 record After (net : Network) (index : ℕ) (h g : List Entry) (frame : List ℕ) (heard : Heard) (r : Reply) : Type 0 where
-  devices_after : taking_devices r (devices_in net index h) ≡ devices_in net index g
-  windows_after : taking_windows r frame heard (devices_in net index h) (windows_in h) ≡ windows_in g
+  devices_after : with_shard_uplink r (devices_in net index h) ≡ devices_in net index g
+  windows_after : with_copy_or_window r frame heard (devices_in net index h) (windows_in h) ≡ windows_in g
 
 after-of : (net : Network) (index : ℕ) (h : List Entry) (devices : List Own) (windows : List Window) (frame : List ℕ) (heard : Heard) → Agrees net index h devices windows → OthersStay → UplinksAgree net h →
     shard_of_addr (record { 0 = (data_fields frame).addr }) ≡ index → (r : Reply) → reply_to_uplink net h frame ≡ r → After net index h (with_call net h (length h) (call.Uplink frame heard)) frame heard r
@@ -432,12 +404,12 @@ after-of net index h devices windows frame heard agrees stay law mine r is = ste
 
 pub agrees-uplink : (net : Network) (index : ℕ) (h : List Entry) (devices : List Own) (windows : List Window) (frame : List ℕ) (heard : Heard) → Agrees net index h devices windows → OthersStay → UplinksAgree net h →
     shard_of_addr (record { 0 = (data_fields frame).addr }) ≡ index → (r : Reply) → reply_to_uplink net h frame ≡ r →
-    Agrees net index (with_call net h (length h) (call.Uplink frame heard)) (taking_devices r devices) (taking_windows r frame heard devices windows)
+    Agrees net index (with_call net h (length h) (call.Uplink frame heard)) (with_shard_uplink r devices) (with_copy_or_window r frame heard devices windows)
 agrees-uplink net index h devices windows frame heard agrees stay law mine r is =
     let after = after-of net index h devices windows frame heard agrees stay law mine r is in
     record {
       valid = agrees.valid;
       history = history_more net index h (call.Uplink frame heard) mine agrees.history;
-      by_device = ap (taking_devices r) agrees.by_device ∙ after.devices_after;
-      by_window = ap₂ (taking_windows r frame heard) agrees.by_device agrees.by_window ∙ after.windows_after;
+      by_device = ap (with_shard_uplink r) agrees.by_device ∙ after.devices_after;
+      by_window = ap₂ (with_copy_or_window r frame heard) agrees.by_device agrees.by_window ∙ after.windows_after;
     }

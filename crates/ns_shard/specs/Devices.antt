@@ -1,5 +1,6 @@
 -- The devices of a shard, and what is asked of them; for private clauses.
-use Rattle.std.specs.Prelude.{ℕ, Bool, ◌==◌, List, [], ◌∷◌, map, filter, filter_map, find, Option, option_map, if◌then◌else◌}
+use Rattle.std.specs.Prelude.{◌≡◌, ℕ, Bool, false, ◌==◌, List, [], ◌∷◌, map, filter, filter_map, find, Option, option_map, if◌then◌else◌}
+use Rattle.std.specs.List.{AllByRecursion}
 use Rattle.ns_types.specs.declared.identity.DevEui.{DevEui}
 use Rattle.ns_types.specs.declared.identity.WindowName.{WindowName}
 use Rattle.ns_types.specs.declared.heard.Heard.{Heard}
@@ -53,6 +54,11 @@ is_addressed frame o = o.addr.0 == (data_fields frame).addr
 -- the window of the first of the devices with the frame's address that fits
 abbrev pub first_own_fit : (Option ℕ → ℕ → Option ℕ) → List ℕ → List Own → Option WindowName
 first_own_fit recover frame devices = first (filter_map (own_fit recover frame) (filter (is_addressed frame) devices))
+
+-- no two devices have one EUI
+abbrev pub AreApart : List Own → Type 0
+AreApart [] = Unit {0}
+AreApart (o ∷ devices) = AllByRecursion (λ x. is_own o.device.eui x ≡ false) devices × AreApart devices
 
 -- ---- changes
 

@@ -1,18 +1,20 @@
 //! The devices of one shard.
 
-ghost use Rattle.std.specs.Prelude.{◌≡◌, ◌==◌, ◌<◌, map, option_map, option_and_then, ◌++◌, ◌∷◌, [], length, position, filter, Contains, IfOk, IfSome, OnOk};
-ghost use Rattle.std.specs.Option.{option_map_or};
+ghost use Rattle.std.specs.Prelude.{◌≡◌, ◌==◌, ◌<◌, ◌≤◌, map, option_map, option_and_then, ◌++◌, ◌∷◌, [], length, drop, position, Some, Contains, IfOk, IfSome, OnOk};
 ghost use Rattle.ns_types.specs.Identity.{shard_of};
 ghost use Rattle.ns_types.specs.Ticket.{dev_eui};
 ghost use Rattle.ns_roster.specs.Valid.{IsRoster};
-ghost use Rattle.ns_secure.specs.Counter.{above, below};
-ghost use Rattle.ns_sessions.specs.Record.{IsNewCounter, session_in, join_take, reply_take, with_uplink, with_ack, ack_in};
-ghost use Rattle.ns_shard.specs.Devices.{joinless, devices_of, is_own, own_of, own_fit, first_own_fit, with_state, changed, asked, answered};
+ghost use Rattle.ns_sessions.specs.Recovery.{recovery_counter};
+ghost use Rattle.ns_sessions.specs.Record.{IsNewCounter, session_in, with_uplink, with_ack, ack_in};
+ghost use Rattle.ns_shard.specs.Devices.{joinless, devices_of, is_own, own_of, own_fit, first_own_fit, with_state, changed, answered, AreApart};
+ghost use Rattle.ns_shard.specs.Reaction.{own_join_reply, with_own_join, shard_join_reply, with_shard_join, own_answer_event, shard_answer_event, keys_in};
 ghost use Rattle.ns_shard.specs.Indexes.{eui_key, addr_key, Indexes, PutsFirst};
 
-use ns_calls::Outcome;
+use crate::event::Event;
+use crate::joining::{answer_event, join_reply};
+use ns_calls::{Outcome, Reply};
 use ns_roster::{Device, Roster};
-use ns_sessions::{DeviceState, JoinTake, ReplyTake};
+use ns_sessions::{DeviceState, Recovery};
 use ns_types::{DevAddr, DevEui, Heard, Key, Ticket, WindowName, shard_of};
 use ns_views::DataView;
 use std::alloc::{AllocError, Global};
@@ -28,10 +30,11 @@ pub struct Own {
 }
 
 impl Own {
-    fn fresh(&self, frame: &DataView) -> Option<WindowName>
-        ensures { result ≡ own_fit above frame.now self.now }
+    // The window that the frame has in the device's sessions.
+    fn fit(&self, recovery: Recovery, frame: &DataView) -> Option<WindowName>
+        ensures { result ≡ own_fit (recovery_counter recovery) frame.now self.now }
     {
-        let (session, fcnt) = self.state.fresh(frame)?;
+        let (session, fcnt) = self.state.fit(recovery, frame)?;
         Some(WindowName {
             eui: self.device.eui,
             session,
@@ -39,32 +42,31 @@ impl Own {
         })
     }
 
-    fn stale(&self, frame: &DataView) -> Option<WindowName>
-        ensures { result ≡ own_fit below frame.now self.now }
+    fn join(&mut self, ticket: &Ticket, heard: &Heard) -> Reply
+        ensures reply { result ≡ own_join_reply ticket.now self.old }
+        ensures own { self.new ≡ with_own_join ticket.now heard.now self.old }
+        ensures device { self.new.device ≡ self.old.device }
+        ensures addr { self.new.addr ≡ self.old.addr }
     {
-        let (session, fcnt) = self.state.stale(frame)?;
-        Some(WindowName {
-            eui: self.device.eui,
-            session,
-            fcnt,
-        })
+        if self.device.join_eui.0 != ticket.join_eui().0 {
+            return Reply::NoDevice;
+        }
+        join_reply(ticket, self.state.ask(ticket, heard))
     }
 
-    fn ask(&mut self, ticket: &Ticket, heard: &Heard) -> JoinTake
-        ensures take { result ≡ join_take self.old.state ticket.now }
-        ensures own { self.new ≡ with_state (asked ticket.now heard.now) self.old }
-    {
-        self.state.ask(ticket, heard)
-    }
-
-    fn answer(&mut self, ticket: &Ticket, outcome: &Outcome) -> ReplyTake
-        ensures take { result ≡ reply_take self.old.state ticket.now outcome.now }
+    fn answer(&mut self, ticket: &Ticket, outcome: &Outcome) -> Event
+        ensures event { result ≡ own_answer_event ticket.now outcome.now self.old }
         ensures own { self.new ≡ with_state (answered ticket.now outcome.now) self.old }
     {
-        self.state.answer(ticket, outcome)
+        answer_event(
+            self.addr,
+            ticket,
+            outcome,
+            self.state.answer(ticket, outcome),
+        )
     }
 
-    fn take(&mut self, session: u32, fcnt: u32)
+    fn open(&mut self, session: u32, fcnt: u32)
         requires { IsNewCounter (session_in self.old.state session) fcnt }
         ensures { self.new ≡ with_state (with_uplink session fcnt) self.old }
     {
@@ -77,6 +79,13 @@ impl Own {
     {
         self.state.next_ack(session)
     }
+}
+
+/// Where a frame fits: the place of the device, and the window that the frame has in its sessions.
+#[derive(Clone, Copy)]
+pub struct Fit {
+    pub place: usize,
+    pub window: WindowName,
 }
 
 /// The devices of a shard, in the roster's order. Contracts see the list of them.
@@ -186,101 +195,76 @@ impl Devices {
         self.firsts.get(&u64::from(addr.0)).copied()
     }
 
-    // Devices among which are all with an address, in their order.
-    fn from_addr(&self, addr: DevAddr) -> &[Own]
-        ensures { filter (λ o. o.addr.0 == addr.0) result.now ≡ filter (λ o. o.addr.0 == addr.0) self.now }
+    // The first device from a place on with the frame's address of which a session fits.
+    fn fit_from(&self, first: usize, recovery: Recovery, frame: &DataView) -> Option<Fit>
+        requires apart { AreApart self.now }
+        requires within { first ≤ length self.now }
+        ensures window { option_map (λ f. f.window) result ≡ first_own_fit (recovery_counter recovery) frame.now (drop first self.now) }
+        ensures place { IfSome result (λ f. position (is_own f.window.eui) self.now ≡ Some f.place) }
     {
-        match self.first_at(addr) {
-            None => &[],
-            Some(first) => &self.list[first..],
+        let addr = frame.dev_addr();
+        let list = self.list.as_slice();
+        'places: for place in first..list.len() {
+            let own = &list[place];
+            if own.addr.0 != addr.0 {
+                continue;
+            }
+            if let Some(window) = own.fit(recovery, frame) {
+                return Some(Fit { place, window });
+            }
         }
+        None
     }
 
-    /// The device of an EUI.
-    pub fn find(&self, eui: DevEui) -> Option<&Own>
-        ensures { option_map (λ o. o.now) result ≡ own_of eui self.now }
+    /// The first device with the frame's address of which a session fits, and the window that the frame has there.
+    pub fn fit(&self, recovery: Recovery, frame: &DataView) -> Option<Fit>
+        requires { AreApart self.now }
+        ensures window { option_map (λ f. f.window) result ≡ first_own_fit (recovery_counter recovery) frame.now self.now }
+        ensures place { IfSome result (λ f. position (is_own f.window.eui) self.now ≡ Some f.place) }
     {
-        match self.place(eui) {
+        match self.first_at(frame.dev_addr()) {
             None => None,
-            Some(place) => Some(&self.list[place]),
+            Some(first) => self.fit_from(first, recovery, frame),
         }
     }
 
-    /// The address of the device of an EUI, or 0 where there is none.
-    pub fn addr(&self, eui: DevEui) -> DevAddr
-        ensures { result ≡ option_map_or (λ o. o.addr) (own_of eui self.now) (record { 0 = 0 }) }
-    {
-        match self.find(eui) {
-            Some(own) => own.addr,
-            None => DevAddr(0),
-        }
-    }
-
-    /// The window of the first device with the frame's address of which a session fits above its counters.
-    pub fn fresh(&self, frame: &DataView) -> Option<WindowName>
-        ensures { result ≡ first_own_fit above frame.now self.now }
-    {
-        let addr = frame.dev_addr();
-        let mut rest = self.from_addr(addr);
-        while let Some((own, others)) = rest.split_first() {
-            if own.addr.0 == addr.0 {
-                if let Some(window) = own.fresh(frame) {
-                    return Some(window);
-                }
-            }
-            rest = others;
-        }
-        None
-    }
-
-    /// The same at or below its counters.
-    pub fn stale(&self, frame: &DataView) -> Option<WindowName>
-        ensures { result ≡ first_own_fit below frame.now self.now }
-    {
-        let addr = frame.dev_addr();
-        let mut rest = self.from_addr(addr);
-        while let Some((own, others)) = rest.split_first() {
-            if own.addr.0 == addr.0 {
-                if let Some(window) = own.stale(frame) {
-                    return Some(window);
-                }
-            }
-            rest = others;
-        }
-        None
-    }
-
-    /// Takes a Join-Request of one of the devices.
-    pub fn ask(&mut self, ticket: &Ticket, heard: &Heard) -> Option<JoinTake>
-        ensures take { result ≡ option_map (λ o. join_take o.state ticket.now) (own_of (dev_eui ticket.now) self.old) }
-        ensures devices { self.new ≡ changed (dev_eui ticket.now) (asked ticket.now heard.now) self.old }
+    /// Takes a Join-Request, which is of one of the devices where DevEUI and JoinEUI are.
+    pub fn join(&mut self, ticket: &Ticket, heard: &Heard) -> Reply
+        ensures reply { result ≡ shard_join_reply self.old ticket.now }
+        ensures devices { self.new ≡ with_shard_join ticket.now heard.now self.old }
     {
         match self.place(ticket.dev_eui()) {
-            None => None,
-            Some(place) => Some(self.list[place].ask(ticket, heard)),
+            None => Reply::NoDevice,
+            Some(place) => self.list[place].join(ticket, heard),
         }
     }
 
-    /// Takes a join server's answer for one of the devices.
-    pub fn answer(&mut self, ticket: &Ticket, outcome: &Outcome) -> Option<ReplyTake>
-        ensures take { result ≡ option_map (λ o. reply_take o.state ticket.now outcome.now) (own_of (dev_eui ticket.now) self.old) }
+    /// Takes a join server's answer.
+    pub fn answer(&mut self, ticket: &Ticket, outcome: &Outcome) -> Event
+        ensures event { result ≡ shard_answer_event self.old ticket.now outcome.now }
         ensures devices { self.new ≡ changed (dev_eui ticket.now) (answered ticket.now outcome.now) self.old }
     {
         match self.place(ticket.dev_eui()) {
-            None => None,
-            Some(place) => Some(self.list[place].answer(ticket, outcome)),
+            None => Event::Quiet(Reply::NoTicket),
+            Some(place) => self.list[place].answer(ticket, outcome),
         }
     }
 
-    /// Opens an uplink of one of the devices.
-    pub fn take(&mut self, name: &WindowName)
-        requires { IfSome (own_of name.now.eui self.old) (λ o. IsNewCounter (session_in o.state name.now.session) name.now.fcnt) }
-        ensures { self.new ≡ changed name.now.eui (with_uplink name.now.session name.now.fcnt) self.old }
+    /// The keys of the live session in which a frame fits.
+    pub fn keys(&self, fit: &Fit) -> Option<(Key, Option<Key>)>
+        requires { position (is_own fit.now.window.eui) self.now ≡ Some fit.now.place }
+        ensures { result ≡ keys_in self.now fit.now.window }
     {
-        match self.place(name.eui) {
-            None => {}
-            Some(place) => self.list[place].take(name.session, name.fcnt),
-        }
+        self.list[fit.place].state.keys(fit.window.session)
+    }
+
+    /// Opens an uplink where it fits.
+    pub fn open(&mut self, fit: &Fit)
+        requires place { position (is_own fit.now.window.eui) self.old ≡ Some fit.now.place }
+        requires counter { IfSome (own_of fit.now.window.eui self.old) (λ o. IsNewCounter (session_in o.state fit.now.window.session) fit.now.window.fcnt) }
+        ensures { self.new ≡ changed fit.now.window.eui (with_uplink fit.now.window.session fit.now.window.fcnt) self.old }
+    {
+        self.list[fit.place].open(fit.window.session, fit.window.fcnt);
     }
 
     /// Uses the next acknowledgement number of a session.
@@ -292,12 +276,5 @@ impl Devices {
             None => None,
             Some(place) => self.list[place].next_ack(name.session),
         }
-    }
-
-    /// The keys of a live session.
-    pub fn keys(&self, name: &WindowName) -> Option<(Key, Option<Key>)>
-        ensures { result ≡ option_and_then (λ o. option_map (λ s. (s.nwk, s.app)) (session_in o.state name.now.session)) (own_of name.now.eui self.now) }
-    {
-        self.find(name.eui)?.state.keys(name.session)
     }
 }

@@ -8,15 +8,17 @@
 #![tactic(auto)]
 
 mod calls;
-mod closing;
 mod devices;
+mod event;
 mod joining;
 mod packed;
 mod parts;
+mod reaction;
 mod run;
+mod sending;
 mod shard;
 mod step;
-mod taking;
+mod uplink;
 
 pub use packed::PackedAnswer;
 pub use run::{Run, Shards, Taken};

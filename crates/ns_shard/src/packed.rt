@@ -1,11 +1,13 @@
 //! An answer that is kept in no more memory than it needs.
 
 ghost use Rattle.std.specs.Prelude.{◌≡◌, IfOk, Some, is_some};
-ghost use Rattle.ns_shard.specs.Taken.{quiet};
+ghost use Rattle.ns_shard.specs.Sending.{quiet, uplink_of};
 
+use crate::sending::uplink_of;
 use arrayvec::ArrayVec;
 use ns_calls::{Answer, Bytes, Downlink, Reply, Uplink};
 use ns_types::{DevAddr, Heard, WindowName};
+use ns_windows::Window;
 use std::alloc::{AllocError, Global};
 use std::marker::Model;
 
@@ -108,13 +110,10 @@ impl PackedAnswer {
         PackedAnswer { reply, sent: None }
     }
 
-    /// This answer. `NoMemory` (`AllocError`) where what goes out finds no memory.
-    pub fn new(alloc: Global, answer: Answer) -> Result<PackedAnswer, AllocError>
+    // This answer. `NoMemory` (`AllocError`) where what goes out finds no memory.
+    fn new(alloc: Global, answer: Answer) -> Result<PackedAnswer, AllocError>
         ensures { IfOk result (λ a. a ≡ answer) }
     {
-        if answer.uplink.is_none() && answer.downlink.is_none() {
-            return Ok(PackedAnswer::quiet(answer.reply));
-        }
         let sent = Sent {
             uplink: packed(alloc, &answer.uplink)?,
             downlink: answer.downlink,
@@ -125,23 +124,25 @@ impl PackedAnswer {
         })
     }
 
-    /// A reply with which an uplink goes out, and perhaps a downlink. `NoMemory` (`AllocError`) where they find no memory.
+    /// A reply with which the uplink of a window goes out, or a downlink. `NoMemory` (`AllocError`) where they find no memory. It stays a
+    /// function of its own, so that a call with which nothing goes out makes no room for what does.
+    #[inline(never)]
     pub(crate) fn sending(
         alloc: Global,
         reply: Reply,
-        uplink: PackedUplink,
+        closed: Option<Window>,
         downlink: Option<Downlink>,
     ) -> Result<PackedAnswer, AllocError>
-        ensures { IfOk result (λ a. a ≡ record { reply = reply; uplink = Some uplink; downlink = downlink }) }
+        ensures { IfOk result (λ a. a ≡ record { reply = reply; uplink = uplink_of closed; downlink = downlink }) }
     {
-        let sent = Sent {
-            uplink: Some(uplink),
-            downlink,
-        };
-        Ok(PackedAnswer {
-            reply,
-            sent: Some(Box::new(alloc, sent)?),
-        })
+        PackedAnswer::new(
+            alloc,
+            Answer {
+                reply,
+                uplink: uplink_of(closed),
+                downlink,
+            },
+        )
     }
 
     /// The reply.

@@ -1,24 +1,21 @@
 //! The parts of a shard, and what each call does to them.
 
-ghost use Rattle.std.specs.Prelude.{◌≡◌, ◌<◌, IfOk, OnOk, OnErr};
+ghost use Rattle.std.specs.Prelude.{◌≡◌, ◌<◌, None, IfOk, OnOk, OnErr};
 ghost use Rattle.std.specs.Arc.{arc_value};
-ghost use Rattle.ns_calls.specs.declared.call.Call.TheVariants.{Uplink, Join, JoinReply, Close};
 ghost use Rattle.ns_calls.specs.Shards.{shard_of_call};
 ghost use Rattle.ns_calls.specs.Out.{answer};
 ghost use Rattle.ns_shard.specs.Parts.{AreParts, state_of};
 ghost use Rattle.ns_shard.specs.State.{no_entries, after_call};
-ghost use Rattle.ns_shard.specs.Taken.{quiet};
+ghost use Rattle.ns_shard.specs.Sending.{answer_of};
 
-use crate::closing::{closing, closing_packed, quiet};
 use crate::devices::Devices;
-use crate::joining::{ended, join};
+use crate::event::Event;
 use crate::packed::PackedAnswer;
-use crate::taking::take;
-use ns_calls::{Answer, Call, DataFrame, Outcome, Reply};
+use crate::reaction::react;
+use ns_calls::{Answer, Call};
 use ns_journal::Journal;
 use ns_roster::Roster;
-use ns_types::{Heard, Ticket, WindowName};
-use ns_windows::Windows;
+use ns_windows::{Window, Windows};
 use std::alloc::{AllocError, Global};
 use std::sync::Arc;
 
@@ -49,68 +46,22 @@ impl Parts {
         })
     }
 
-    /// Takes a Join-Request, with the reply to which nothing goes out.
-    fn join(&mut self, call: &Call, ticket: &Ticket, heard: &Heard) -> Reply
-        requires call { call.now ≡ Join ticket.now heard.now }
-        requires room { 0 < self.old.journal.room }
-        requires own { shard_of_call (Join ticket.now heard.now) ≡ self.old.index }
+    // Takes a call: what is kept changes, its entry is added, and what came of it is told, with the window that it closed, if any. Where
+    // a growth is refused, nothing has changed.
+    fn enter(&mut self, call: &Call, closed: &mut Option<Window>) -> Result<Event, AllocError>
+        requires own { shard_of_call call.now ≡ self.old.index }
         requires agree { AreParts self.old }
-        ensures answer { quiet result ≡ answer (arc_value self.old.roster) self.old.journal.entries (Join ticket.now heard.now) }
-        ensures state { state_of self.new ≡ after_call (state_of self.old) (Join ticket.now heard.now) }
-        ensures agree { AreParts self.new }
-    {
-        let reply = join(&self.roster, &mut self.devices, ticket, heard);
-        self.journal.push(*call, reply);
-        reply
-    }
-
-    /// Takes a join server's answer, or that none came.
-    fn join_reply(&mut self, call: &Call, ticket: &Ticket, outcome: &Outcome) -> Answer
-        requires call { call.now ≡ JoinReply ticket.now outcome.now }
-        requires room { 0 < self.old.journal.room }
-        requires own { shard_of_call (JoinReply ticket.now outcome.now) ≡ self.old.index }
-        requires agree { AreParts self.old }
-        ensures answer { result ≡ answer (arc_value self.old.roster) self.old.journal.entries (JoinReply ticket.now outcome.now) }
-        ensures state { state_of self.new ≡ after_call (state_of self.old) (JoinReply ticket.now outcome.now) }
-        ensures agree { AreParts self.new }
-    {
-        let addr = self.devices.addr(ticket.dev_eui());
-        let taken = self.devices.answer(ticket, outcome);
-        let answer = ended(addr, ticket, outcome, taken);
-        self.journal.push(*call, answer.reply);
-        answer
-    }
-
-    /// Closes a window.
-    fn close(&mut self, call: &Call, name: &WindowName) -> Answer
-        requires call { call.now ≡ Close name.now }
-        requires room { 0 < self.old.journal.room }
-        requires own { shard_of_call (Close name.now) ≡ self.old.index }
-        requires agree { AreParts self.old }
-        ensures answer { result ≡ answer (arc_value self.old.roster) self.old.journal.entries (Close name.now) }
-        ensures state { state_of self.new ≡ after_call (state_of self.old) (Close name.now) }
-        ensures agree { AreParts self.new }
-    {
-        let window = self.windows.take(name);
-        let answer = closing(&self.roster, &mut self.devices, window);
-        self.journal.push(*call, answer.reply);
-        answer
-    }
-
-    /// Takes an uplink, with the reply to which nothing goes out. Where a growth is refused, nothing has changed.
-    fn uplink(&mut self, call: &Call, frame: &DataFrame, heard: &Heard) -> Result<Reply, AllocError>
-        requires call { call.now ≡ Uplink frame.now heard.now }
-        requires room { 0 < self.old.journal.room }
-        requires own { shard_of_call (Uplink frame.now heard.now) ≡ self.old.index }
-        requires agree { AreParts self.old }
-        ensures answer { IfOk result (λ r. quiet r ≡ answer (arc_value self.old.roster) self.old.journal.entries (Uplink frame.now heard.now)) }
-        ensures state { OnOk result (state_of self.new ≡ after_call (state_of self.old) (Uplink frame.now heard.now)) }
+        requires none { closed.old ≡ None }
+        ensures roster { self.new.roster ≡ self.old.roster }
+        ensures answer { IfOk result (λ e. answer_of (arc_value self.old.roster) closed.new e ≡ answer (arc_value self.old.roster) self.old.journal.entries call.now) }
+        ensures state { OnOk result (state_of self.new ≡ after_call (state_of self.old) call.now) }
         ensures err { OnErr result (state_of self.new ≡ state_of self.old) }
         ensures agree { AreParts self.new }
     {
-        let reply = take(&mut self.devices, &mut self.windows, frame, heard)?;
-        self.journal.push(*call, reply);
-        Ok(reply)
+        self.journal.room(1)?;
+        let event = react(&mut self.devices, &mut self.windows, call, closed)?;
+        self.journal.push(*call, event.reply());
+        Ok(event)
     }
 
     /// Answers a call. Where a growth is refused, nothing has changed.
@@ -122,56 +73,9 @@ impl Parts {
         ensures err { OnErr result (state_of self.new ≡ state_of self.old) }
         ensures agree { AreParts self.new }
     {
-        self.journal.room(1)?;
-        match call {
-            Call::Uplink { frame, heard } => Ok(quiet(self.uplink(call, frame, heard)?)),
-            Call::Join { ticket, heard } => Ok(quiet(self.join(call, ticket, heard))),
-            Call::JoinReply { ticket, outcome } => Ok(self.join_reply(call, ticket, outcome)),
-            Call::Close { window } => Ok(self.close(call, window)),
-        }
-    }
-
-    // Takes a join server's answer, with an answer that is kept. This and the next stay functions of their own, so that a call with
-    // which nothing goes out makes no room for what does.
-    #[inline(never)]
-    fn join_reply_packed(
-        &mut self,
-        alloc: Global,
-        call: &Call,
-        ticket: &Ticket,
-        outcome: &Outcome,
-    ) -> Result<PackedAnswer, AllocError>
-        requires call { call.now ≡ JoinReply ticket.now outcome.now }
-        requires room { 0 < self.old.journal.room }
-        requires own { shard_of_call (JoinReply ticket.now outcome.now) ≡ self.old.index }
-        requires agree { AreParts self.old }
-        ensures answer { IfOk result (λ a. a ≡ answer (arc_value self.old.roster) self.old.journal.entries (JoinReply ticket.now outcome.now)) }
-        ensures state { state_of self.new ≡ after_call (state_of self.old) (JoinReply ticket.now outcome.now) }
-        ensures agree { AreParts self.new }
-    {
-        PackedAnswer::new(alloc, self.join_reply(call, ticket, outcome))
-    }
-
-    // Closes a window, with an answer that is kept.
-    #[inline(never)]
-    fn close_packed(
-        &mut self,
-        alloc: Global,
-        call: &Call,
-        name: &WindowName,
-    ) -> Result<PackedAnswer, AllocError>
-        requires call { call.now ≡ Close name.now }
-        requires room { 0 < self.old.journal.room }
-        requires own { shard_of_call (Close name.now) ≡ self.old.index }
-        requires agree { AreParts self.old }
-        ensures answer { IfOk result (λ a. a ≡ answer (arc_value self.old.roster) self.old.journal.entries (Close name.now)) }
-        ensures state { state_of self.new ≡ after_call (state_of self.old) (Close name.now) }
-        ensures agree { AreParts self.new }
-    {
-        let open = self.windows.take(name);
-        let (reply, answer) = closing_packed(alloc, &self.roster, &mut self.devices, &open);
-        self.journal.push(*call, reply);
-        answer
+        let mut closed = None;
+        let event = self.enter(call, &mut closed)?;
+        Ok(event.answer(&self.roster, closed))
     }
 
     /// Answers a call, with an answer that is kept. Where a growth is refused, the call may have been taken.
@@ -182,18 +86,12 @@ impl Parts {
         ensures state { OnOk result (state_of self.new ≡ after_call (state_of self.old) call.now) }
         ensures agree { AreParts self.new }
     {
-        self.journal.room(1)?;
-        match call {
-            Call::Uplink { frame, heard } => {
-                Ok(PackedAnswer::quiet(self.uplink(call, frame, heard)?))
-            }
-            Call::Join { ticket, heard } => {
-                Ok(PackedAnswer::quiet(self.join(call, ticket, heard)))
-            }
-            Call::JoinReply { ticket, outcome } => {
-                self.join_reply_packed(alloc, call, ticket, outcome)
-            }
-            Call::Close { window } => self.close_packed(alloc, call, window),
+        let mut closed = None;
+        let event = self.enter(call, &mut closed)?;
+        let downlink = event.downlink(&self.roster, &closed);
+        if closed.is_none() && downlink.is_none() {
+            return Ok(PackedAnswer::quiet(event.reply()));
         }
+        PackedAnswer::sending(alloc, event.reply(), closed, downlink)
     }
 }

@@ -150,3 +150,75 @@ fn over_std(rt: HostRuntime) -> Result<(), Fail> {
     assert_eq!(rt; write_all(&mut failing, &TEN), Err(Failed));
     Ok(())
 }
+
+/// Moves one byte a call, and fails at one call, in this way.
+#[derive(Drop)]
+struct FailsAt {
+    calls: u8,
+    at: u8,
+    kind: ErrorKind,
+}
+
+impl FailsAt {
+    fn moved(&mut self) -> std::io::Result<usize> {
+        let fails = self.calls == self.at;
+        self.calls = self.calls.wrapping_add(1);
+        if fails {
+            return Err(Error::from(self.kind));
+        }
+        Ok(1)
+    }
+}
+
+impl Read for FailsAt {
+    fn read(&mut self, buf: &mut [u8]) -> std::io::Result<usize> {
+        let moved = self.moved()?.min(buf.len());
+        Ok(moved)
+    }
+}
+
+impl Write for FailsAt {
+    fn write(&mut self, buf: &[u8]) -> std::io::Result<usize> {
+        let moved = self.moved()?.min(buf.len());
+        Ok(moved)
+    }
+
+    fn flush(&mut self) -> std::io::Result<()> {
+        Ok(())
+    }
+}
+
+/// A stream over one of std's fails where that fails, at once, and at no call before: for each call and kind of error. No clause says
+/// so.
+#[test]
+fn fails_where_std_does(rt: HostRuntime) {
+    for kind in [
+        ErrorKind::Interrupted,
+        ErrorKind::TimedOut,
+        ErrorKind::OutOfMemory,
+    ] {
+        for at in 0..4u8 {
+            let mut source = OverStd::new(FailsAt { calls: 0, at, kind });
+            let mut moved = 0u8;
+            for _ in 0..9 {
+                if !source.failed() && source.read(&mut [0; 3]).is_ok() {
+                    moved = moved.wrapping_add(1);
+                }
+            }
+            assert_eq!(rt; moved, at);
+            assert!(rt; source.failed());
+            assert_eq!(rt; source.into_inner().calls, at + 1);
+
+            let mut sink = OverStd::new(FailsAt { calls: 0, at, kind });
+            let mut moved = 0u8;
+            for _ in 0..9 {
+                if !sink.failed() && sink.write(&TEN).is_ok() {
+                    moved = moved.wrapping_add(1);
+                }
+            }
+            assert_eq!(rt; moved, at);
+            assert!(rt; sink.failed());
+            assert_eq!(rt; sink.into_inner().calls, at + 1);
+        }
+    }
+}

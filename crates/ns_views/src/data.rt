@@ -47,6 +47,14 @@ impl<'a> DataView<'a> {
         Ok(DataView { frame: bytes })
     }
 
+    /// The view of bytes that are known to be a data uplink. Nothing of them is tested.
+    pub fn known(bytes: &'a [u8]) -> DataView<'a>
+        requires { IsDataUplink bytes.now (data_fields bytes.now) }
+        ensures { result ≡ bytes.now }
+    {
+        Self { frame: bytes }
+    }
+
     /// The whole frame: header, options, port, payload and MIC, one after the other.
     pub fn bytes(&self) -> &'a [u8]
         ensures value { result.now ≡ self.now }

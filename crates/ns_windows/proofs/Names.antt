@@ -11,7 +11,7 @@ use Rattle.ns_calls.proofs.Lists.{All-filter, All-push}
 use Rattle.ns_calls.proofs.WindowLemmas.{same_window-refl, same_window-eq}
 use Rattle.ns_windows.specs.declared.window.Window.{Window}
 use Rattle.ns_windows.specs.Windows.{is_named, with_copy, copied, most_copies, AreApart}
-use Rattle.ns_windows.proofs.Places.{NonePasses, PassesAt, map-at, map-none}
+use Rattle.ns_windows.proofs.Places.{NonePasses, PassesAt, map-at}
 
 -- two names that differ from each other differ the other way round
 apart-sym : (v w : WindowName) → same_window v w ≡ false → same_window w v ≡ false
@@ -37,6 +37,23 @@ pub place_found : (name : WindowName) (ws : List Window) (i : ℕ) (w : Window) 
 place_found name ws i w apart at is =
     let found = position-Some (is_named name) ws i w at in
     subst (λ v. PassesAt (is_named name) ws i v) (sym is) (named_at name ws i w apart found.0 found.1 found.2)
+
+all_at : {X : Type 0} (P : X → Type 0) (xs : List X) (i : ℕ) (d : X) → AllByRecursion P xs → i < length xs → P (get_or xs i d)
+all_at P [] i d all lt = absurd (omega (arith, lt))
+all_at P (x ∷ xs) zero d all lt = all.0
+all_at P (x ∷ xs) (suc i) d all lt = all_at P xs i d all.1 (omega (arith, lt))
+
+-- the window that stands at a place is the only one of its name
+stands_alone : (ws : List Window) (i : ℕ) (d : Window) → AreApart ws → i < length ws → PassesAt (is_named (get_or ws i d).name) ws i (get_or ws i d)
+stands_alone [] i d apart lt = absurd (omega (arith, lt))
+stands_alone (w ∷ ws) zero d apart lt = (refl, same_window-refl w.name, apart.0)
+stands_alone (w ∷ ws) (suc i) d apart lt =
+    (apart-sym (get_or ws i d).name w.name (all_at (λ v. is_named w.name v ≡ false) ws i d apart.0 (omega (arith, lt))), stands_alone ws i d apart.1 (omega (arith, lt)))
+
+pub place_alone : (test : Window → Bool) (ws : List Window) (i : ℕ) (w : Window) → AreApart ws → position test ws ≡ Some i → w ≡ get_or ws i w → PassesAt (is_named w.name) ws i w
+place_alone test ws i w apart at is =
+    let found = position-Some test ws i w at in
+    subst (λ v. PassesAt (is_named v.name) ws i v) (sym is) (stands_alone ws i w apart found.0)
 
 -- ---- what keeps the names apart
 
@@ -85,6 +102,3 @@ copied-apart name heard ws apart = apart-map (λ w. cond (is_named name w) (with
 -- the list where a copy is added to the window that stands there
 pub copied_at : (name : WindowName) (heard : Heard) (ws : List Window) (i : ℕ) (w : Window) → PassesAt (is_named name) ws i w → set ws i (with_copy heard w) ≡ copied name heard ws
 copied_at name heard ws i w at = sym (map-at (is_named name) (with_copy heard) ws i w at)
-
-pub copied_none : (name : WindowName) (heard : Heard) (ws : List Window) → NonePasses (is_named name) ws → ws ≡ copied name heard ws
-copied_none name heard ws none = sym (map-none (is_named name) (with_copy heard) ws none)

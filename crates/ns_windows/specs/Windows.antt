@@ -1,13 +1,14 @@
 -- Open windows as a list, in the order of their opening.
 use Rattle.std.specs.Prelude.{◌≡◌, ℕ, ◌+◌, Bool, false, not, ◌==◌, nat_lt, List, [], ◌∷◌, ◌++◌, length, map, filter, find, count_by, Option, None, Some, bytes_eq, if◌then◌else◌}
 use Rattle.std.specs.List.{AllByRecursion}
+use Rattle.std.specs.Option.{option_map_or}
 use Rattle.ns_types.specs.declared.identity.DevEui.{DevEui}
 use Rattle.ns_types.specs.declared.identity.WindowName.{WindowName}
 use Rattle.ns_types.specs.declared.heard.Heard.{Heard}
 use Rattle.ns_types.specs.Identity.{same_window}
 use Rattle.ns_windows.specs.declared.window.Window.{Window}
-use Rattle.ns_windows.specs.declared.window.Added.{Added}
-use Rattle.ns_windows.specs.declared.window.Added.TheVariants.{NoWindow, Copied, Crowded}
+use Rattle.ns_windows.specs.declared.window.Addition.{Addition}
+use Rattle.ns_windows.specs.declared.window.Addition.TheVariants.{Copied, Crowded}
 
 -- how many copies a window has at most
 abbrev pub most_copies : ℕ
@@ -38,10 +39,13 @@ with_copy heard w = if nat_lt (length w.copies.items) most_copies then record w 
 abbrev pub copied : WindowName → Heard → List Window → List Window
 copied name heard windows = map (λ w. if is_named name w then with_copy heard w else w) windows
 
--- what adding a copy to a window answers: the copy's place, from 1 on
-abbrev pub added : Option Window → Added
-added None = NoWindow
-added (Some w) = if nat_lt (length w.copies.items) most_copies then Copied (length w.copies.items + 1) else Crowded
+-- what comes of a copy for a window: the copy's place, from 1 on
+abbrev pub addition : Window → Addition
+addition w = if nat_lt (length w.copies.items) most_copies then Copied w.name (length w.copies.items + 1) else Crowded w.name
+
+-- the windows, where the one of a frame has one copy more
+abbrev pub with_copy_of : List ℕ → Heard → List Window → List Window
+with_copy_of frame heard windows = option_map_or (λ w. copied w.name heard windows) (framed frame windows) windows
 
 -- the windows but for the one of a name
 abbrev pub without : WindowName → List Window → List Window

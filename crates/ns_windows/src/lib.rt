@@ -8,5 +8,5 @@
 mod window;
 mod windows;
 
-pub use window::{Added, Window};
+pub use window::{Addition, Window};
 pub use windows::Windows;

@@ -3,9 +3,9 @@
 ghost use Rattle.std.specs.Prelude.{◌≡◌, ◌<◌, ◌≤◌, [], ◌∷◌, ◌++◌, None, Some, option_map, position, IfSome, OnOk, OnErr, length};
 ghost use Rattle.ns_types.specs.Identity.{same_window};
 ghost use Rattle.ns_calls.specs.Queries.{first};
-ghost use Rattle.ns_windows.specs.Windows.{is_named, is_of, named, framed, count, copied, added, without, with_copy, AreApart};
+ghost use Rattle.ns_windows.specs.Windows.{is_named, is_of, named, framed, count, addition, with_copy_of, without, with_copy, AreApart};
 
-use crate::window::{Added, Window};
+use crate::window::{Addition, Window};
 use ns_types::{DevEui, Heard, WindowName};
 use std::alloc::{AllocError, Global};
 use std::marker::Model;
@@ -44,17 +44,29 @@ fn place(list: &[Window], name: &WindowName) -> Option<usize>
     list.iter().position(|window| is_same(&window.name, name))
 }
 
+// Where the window of a frame of equal bytes stands.
+fn place_of_frame(list: &[Window], frame: &[u8]) -> Option<usize>
+    ensures place { result ≡ position (is_of frame.now) list.now }
+    ensures within { IfSome result (λ i. i < length list.now) }
+{
+    list.iter().position(|window| window.frame.bytes() == frame)
+}
+
 // Adds a copy to a window, where it has room for it.
-fn add_to(window: &mut Window, heard: &Heard) -> Added
-    ensures result { result ≡ added (Some window.old) }
+fn add_to(window: &mut Window, heard: &Heard) -> Addition
+    ensures result { result ≡ addition window.old }
     ensures window { window.new ≡ with_copy heard.now window.old }
 {
+    let name = window.name;
     let copies = window.copies.len();
     if copies >= 16 {
-        return Added::Crowded;
+        return Addition::Crowded { window: name };
     }
     window.copies.push(*heard);
-    Added::Copied(copies as u8 + 1)
+    Addition::Copied {
+        window: name,
+        place: copies as u8 + 1,
+    }
 }
 
 impl Windows {
@@ -65,16 +77,6 @@ impl Windows {
         Windows {
             list: Vec::new(alloc),
         }
-    }
-
-    /// The name of the open window of a frame of equal bytes.
-    pub fn find(&self, frame: &[u8]) -> Option<WindowName>
-        ensures { result ≡ option_map (λ w. w.name) (framed frame.now self.now) }
-    {
-        self.list
-            .iter()
-            .find(|window| window.frame.bytes() == frame)
-            .map(|window| window.name)
     }
 
     /// How many windows of a device are open.
@@ -94,14 +96,14 @@ impl Windows {
         self.list.first().map(|window| window.name)
     }
 
-    /// Adds a copy to a window that has fewer than 16.
-    pub fn add_copy(&mut self, name: &WindowName, heard: &Heard) -> Added
-        ensures result { result ≡ added (named name.now self.old) }
-        ensures windows { self.new ≡ copied name.now heard.now self.old }
+    /// Adds a copy to the window of a frame of equal bytes, where there is one, and where it has fewer than 16.
+    pub fn add_copy(&mut self, frame: &[u8], heard: &Heard) -> Option<Addition>
+        ensures result { result ≡ option_map addition (framed frame.now self.old) }
+        ensures windows { self.new ≡ with_copy_of frame.now heard.now self.old }
     {
-        match place(self.list.as_slice(), name) {
-            None => Added::NoWindow,
-            Some(place) => add_to(&mut self.list[place], heard),
+        match place_of_frame(self.list.as_slice(), frame) {
+            None => None,
+            Some(place) => Some(add_to(&mut self.list[place], heard)),
         }
     }
 

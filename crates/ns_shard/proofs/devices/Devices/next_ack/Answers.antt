@@ -3,8 +3,8 @@ use Rattle.std.specs.Option.{option_and_then}
 use Rattle.ns_shard.specs.declared.devices.Own.{Own}
 use Rattle.ns_shard.specs.Devices.{is_own, with_state}
 use Rattle.ns_sessions.specs.Record.{ack_in, with_ack}
-use Rattle.ns_windows.proofs.Places.{NonePasses, find-none, position-none}
-use Rattle.ns_shard.proofs.Places.{PassesFirst, first-find, first-set, none-change, place-first}
+use Rattle.ns_windows.proofs.Places.{NonePasses, PassesFirst, find-none, first-find, place-first, position-none}
+use Rattle.ns_shard.proofs.Places.{first-set, none-change}
 use Rattle.ns_shard.proofs.devices.Devices.next_ack.Goals as goal
 use Rattle.ns_shard.proofs.devices.Devices.next_ack.Goals.{In-None, After-self-1}
 

@@ -1,6 +1,0 @@
-pub mod LineLemmas
-pub mod FoundLemmas
-pub mod FrontLemmas
-pub mod Digits
-pub mod Woven
-pub mod Blocks

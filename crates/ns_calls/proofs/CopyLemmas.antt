@@ -1,0 +1,346 @@
+-- The copies of an open window are the first 16 hearings of its frame since it was opened.
+use Rattle.std.proofs.Common.{◌≡◌, ◌⊎◌, ℕ, zero, suc, ◌+◌, ◌<◌, ◌≤◌, Bool, true, false, not, cond, nat_le, List, [], ◌∷◌, ◌++◌, filter, filter_map, find, map, length, take, min, length-append, Option, None, Some, IfSome, option_map, option_to_list, bytes_eq, refl, sym, ap, subst, ◌∙◌, arith, inl, inr}
+use Rattle.std.specs.List.{AllByRecursion}
+use Rattle.std.specs.Option.{option_or}
+use Rattle.std.proofs.lemmas.List.{append_assoc, append-nil, take-append-le, length-take}
+use Rattle.std.proofs.lemmas.List.Elements.{filter_map-append}
+use Rattle.std.proofs.lemmas.List.Folds.{find-append}
+use Rattle.std.proofs.lemmas.Bool.{false≢true}
+use Rattle.std.proofs.lemmas.Bool.Decides.{nat_tests}
+use Rattle.std.proofs.lemmas.Option.{same_Some}
+use Rattle.std.proofs.lemmas.Slice.Eq.{bytes_eq-Decides}
+use Rattle.ns_types.specs.declared.identity.WindowName.{WindowName}
+use Rattle.ns_types.specs.declared.heard.Heard.{Heard}
+use Rattle.ns_types.specs.Cases.{first_case, when}
+use Rattle.ns_types.specs.Identity.{same_window}
+use Rattle.ns_secure.specs.Counter.{above, below}
+use Rattle.ns_roster.specs.Network.{Network}
+use Rattle.ns_calls.specs.declared.answer.Uplink as answer_uplink
+use Rattle.ns_calls.specs.declared.call.Call.{Call}
+use Rattle.ns_calls.specs.declared.call.Call.TheVariants as call
+use Rattle.ns_calls.specs.declared.call.Reply.{Reply}
+use Rattle.ns_calls.specs.declared.call.Reply.TheVariants as reply
+use Rattle.ns_calls.specs.declared.call.Entry.{Entry}
+use Rattle.ns_calls.specs.History.{Opening, opening_in, window_copy_in, closes, open_windows, open_window, window_copies, window_count}
+use Rattle.ns_calls.specs.Reply.{most_copies, most_windows, window_with, first_fit, copy_reply, open_reply, reply_to, ack_number}
+use Rattle.ns_calls.specs.Out.{uplink_of, uplink_out, answer}
+use Rattle.ns_calls.specs.Legal.{IsLegal}
+use Rattle.ns_calls.specs.Open.{IsOpenWindow, hearing_in, hearings, HasJustItsCopies}
+use Rattle.ns_calls.proofs.LocalLemmas.{bool_tells}
+use Rattle.ns_calls.proofs.Lists.{one_more, All-append, All-filter, All-weaker, find-has, find-none}
+use Rattle.ns_calls.proofs.PushLemmas.{open_windows-push, window_copies-push}
+use Rattle.ns_calls.proofs.PartLemmas.{case-has, map-has}
+use Rattle.ns_calls.proofs.Induction.{legal-front, legal-next}
+use Rattle.ns_calls.proofs.UplinkLemmas.{uplink_reply_by}
+use Rattle.ns_calls.proofs.WindowLemmas.{same_window-refl, same_window-eq}
+use Rattle.ns_calls.proofs.FreshLemmas.{opened-new}
+use Rattle.ns_calls.proofs.OpenLemmas.{find-contained, open_window-is}
+
+-- ---- the first so many
+
+take-all : {X : Type 0} (n : ℕ) (xs : List X) → length xs ≤ n → take n xs ≡ xs
+take-all zero [] few = refl
+take-all zero (y ∷ ys) few = absurd (omega (arith, few))
+take-all (suc n) [] few = refl
+take-all (suc n) (y ∷ ys) few = ap (λ l. y ∷ l) (take-all n ys (omega (arith, few)))
+
+-- there is room for one more
+take-room : (most : ℕ) (hs cs : List Heard) (x : Heard) → cs ≡ take most hs → length cs + 1 ≤ most → cs ++ x ∷ [] ≡ take most (hs ++ x ∷ [])
+take-room most hs cs x is room =
+    let long : length cs ≡ min most (length hs) = ap length is ∙ length-take most hs in
+    let fewer : length hs + 1 ≤ most = omega (arith, long, room) in
+    let here : length (hs ++ x ∷ []) ≡ length hs + 1 = length-append hs (x ∷ []) in
+    let whole : length (hs ++ x ∷ []) ≤ most = omega (arith, here, fewer) in
+    let all : length hs ≤ most = omega (arith, fewer) in
+    ap (λ l. l ++ x ∷ []) (is ∙ take-all most hs all) ∙ sym (take-all most (hs ++ x ∷ []) whole)
+
+-- there is none
+take-full : (most : ℕ) (hs cs : List Heard) (x : Heard) → cs ≡ take most hs → most < length cs + 1 → cs ≡ take most (hs ++ x ∷ [])
+take-full most hs cs x is full =
+    let long : length cs ≡ min most (length hs) = ap length is ∙ length-take most hs in
+    let enough : most ≤ length hs = omega (arith, long, full) in
+    is ∙ sym (take-append-le most hs (x ∷ []) enough)
+
+-- ---- what is found while the list changes
+
+-- what is found is still found where it is kept
+find-kept : {X : Type 0} (test keep : X → Bool) (xs : List X) (x : X) → find test xs ≡ Some x → keep x ≡ true → find test (filter keep xs) ≡ Some x
+find-kept test keep [] x is kept = absurd (cc is)
+find-kept {X} test keep (y ∷ ys) x is kept = step (λ at. find-kept test keep ys x at kept) (test y) (keep y) refl refl is
+  where
+    step : (find test ys ≡ Some x → find test (filter keep ys) ≡ Some x) → (found stays : Bool) → test y ≡ found → keep y ≡ stays → cond {A = Option X} found (Some y) (find test ys) ≡ Some x → find test (cond {A = List X} stays (y ∷ filter keep ys) (filter keep ys)) ≡ Some x
+    step later true true here in_list at = ap (λ b. cond {A = Option X} b (Some y) (find test (filter keep ys))) here ∙ at
+    step later true false here in_list at = (let same : y ≡ x = same_Some y x at in absurd (false≢true (sym in_list ∙ (ap keep same ∙ kept))))
+    step later false true here in_list at = ap (λ b. cond {A = Option X} b (Some y) (find test (filter keep ys))) here ∙ later at
+    step later false false here in_list at = later at
+
+find-first : {X : Type 0} (test : X → Bool) (xs ys : List X) (x : X) → find test xs ≡ Some x → find test (xs ++ ys) ≡ Some x
+find-first {X} test xs ys x is = find-append test xs ys ∙ ap (λ (o : Option X). option_or o (find test ys)) is
+
+-- nothing is found: no element passes
+none-passes : {X : Type 0} (test : X → Bool) (xs : List X) → find test xs ≡ None → AllByRecursion (λ x. test x ≡ false) xs
+none-passes test [] is = tt
+none-passes {X} test (x ∷ xs) is = step (none-passes test xs) (test x) refl is
+  where
+    step : (find test xs ≡ None → AllByRecursion (λ y. test y ≡ false) xs) → (b : Bool) → test x ≡ b → cond {A = Option X} b (Some x) (find test xs) ≡ None → AllByRecursion (λ y. test y ≡ false) (x ∷ xs)
+    step later true here none = absurd (cc none)
+    step later false here none = (here, later none)
+
+-- an element that passes another test is found by that test, or one before it
+found-otherwise : {X : Type 0} (test other : X → Bool) (xs : List X) (x : X) → find test xs ≡ Some x → other x ≡ true → find other xs ≡ None → ⊥
+found-otherwise test other [] x is passes none = cc is
+found-otherwise {X} test other (y ∷ ys) x is passes none = step (λ found nothing. found-otherwise test other ys x found passes nothing) (test y) (other y) refl is none
+  where
+    step : (find test ys ≡ Some x → find other ys ≡ None → ⊥) → (b c : Bool) → other y ≡ c → cond {A = Option X} b (Some y) (find test ys) ≡ Some x → cond {A = Option X} c (Some y) (find other ys) ≡ None → ⊥
+    step later b true tells found nothing = cc nothing
+    step later true false tells found nothing = (let same : y ≡ x = same_Some y x found in false≢true (sym tells ∙ (ap other same ∙ passes)))
+    step later false false tells found nothing = later found nothing
+
+-- ---- an opening
+
+pub opening_is : (c : Call) (r : Reply) (o : Opening) → opening_in c r ≡ Some o → (c ≡ call.Uplink o.frame o.heard) × (r ≡ reply.Opened o.window)
+opening_is (call.Uplink frame heard) (reply.Opened w) o is =
+    let same = same_Some (the w frame heard) o is in
+    ((λ i. call.Uplink (same i).frame (same i).heard), ap (λ (p : Opening). reply.Opened p.window) same)
+  where
+    the : WindowName → List ℕ → Heard → Opening
+    the window bytes copy = record { window = window; frame = bytes; heard = copy }
+opening_is (call.Uplink frame heard) _ o is = absurd (cc is)
+opening_is (call.Join t heard) r o is = absurd (cc is)
+opening_is (call.JoinReply t x) r o is = absurd (cc is)
+opening_is (call.Close w) r o is = absurd (cc is)
+
+same_bytes : (bytes : List ℕ) → bytes_eq bytes bytes ≡ true
+same_bytes bytes = (bytes_eq-Decides bytes bytes).1 refl
+
+-- ---- what one call adds
+
+-- the copies that a call adds to a window
+abbrev added : WindowName → Call → Reply → List Heard
+added w c r = map (λ (x : WindowName × Heard). x.1) (filter (λ (x : WindowName × Heard). same_window x.0 w) (option_to_list (window_copy_in c r)))
+
+hearings-push : (frame : List ℕ) (es : List Entry) (e : Entry) → hearings frame (es ++ e ∷ []) ≡ hearings frame es ++ option_to_list (hearing_in frame e.call)
+hearings-push frame es e =
+    let says : Entry → Option Heard = λ x. hearing_in frame x.call in
+    filter_map-append says es (e ∷ []) ∙ ap (λ l. filter_map says es ++ l) (one_more says e)
+
+-- the reply opens a window, or adds no copy to w
+abbrev Elsewhere : WindowName → List ℕ → Heard → Reply → Type 0
+Elsewhere w frame heard r = ((v : WindowName) × (r ≡ reply.Opened v)) ⊎ IfSome (window_copy_in (call.Uplink frame heard) r) (λ x. same_window x.0 w ≡ false)
+
+copied-elsewhere : (w : WindowName) (frame : List ℕ) (heard : Heard) (h : List Entry) (v : WindowName) → same_window v w ≡ false → Elsewhere w frame heard (copy_reply h v)
+copied-elsewhere w frame heard h v apart = step (nat_le (length (window_copies h v) + 1) most_copies)
+  where
+    step : (b : Bool) → Elsewhere w frame heard (cond b (reply.Copied v (length (window_copies h v) + 1)) (reply.Crowded v))
+    step true = inr apart
+    step false = inr tt
+
+opened-elsewhere : (w : WindowName) (frame : List ℕ) (heard : Heard) (h : List Entry) (v : WindowName) → Elsewhere w frame heard (open_reply h v)
+opened-elsewhere w frame heard h v = step (nat_le most_windows (window_count h v.eui))
+  where
+    step : (b : Bool) → Elsewhere w frame heard (cond b (reply.Busy v.eui) (reply.Opened v))
+    step true = inr tt
+    step false = inl (v, refl)
+
+-- a frame that no open window of the name has adds no copy to it
+other_frame : (net : Network) (h : List Entry) (frame : List ℕ) (heard : Heard) (w : WindowName) → AllByRecursion (λ o. same_window o.window w ≡ true → bytes_eq o.frame frame ≡ false) (open_windows h)
+    → Elsewhere w frame heard (reply_to net h (call.Uplink frame heard))
+other_frame net h frame heard w apart =
+    let Apart : Opening → Type 0 = λ o. same_window o.window w ≡ true → bytes_eq o.frame frame ≡ false in
+    let P : Reply → Type 0 = Elsewhere w frame heard in
+    case-has P (
+    option_map (λ (o : Opening). copy_reply h o.window) (window_with h frame)
+    ∷ option_map (open_reply h) (first_fit above net h frame)
+    ∷ option_map (λ (v : WindowName). reply.Old v.eui v.session v.fcnt) (first_fit below net h frame) ∷ []
+    ) reply.NoSession (
+      map-has P (λ (o : Opening). Apart o × (bytes_eq o.frame frame ≡ true)) (λ (o : Opening). copy_reply h o.window) (window_with h frame)
+          (find-has Apart (λ (o : Opening). bytes_eq o.frame frame) (open_windows h) apart)
+          (λ o both. copied-elsewhere w frame heard h o.window (differs o both)),
+      (
+        map-has P (λ _. Unit {0}) (open_reply h) (first_fit above net h frame) (some-any (first_fit above net h frame)) (λ v _. opened-elsewhere w frame heard h v),
+        (map-has P (λ _. Unit {0}) (λ (v : WindowName). reply.Old v.eui v.session v.fcnt) (first_fit below net h frame) (some-any (first_fit below net h frame)) (λ v _. inr tt), tt),
+      ),
+    ) (inr tt)
+  where
+    some-any : {X : Type 0} (o : Option X) → IfSome o (λ _. Unit {0})
+    some-any None = tt
+    some-any (Some x) = tt
+
+    differs : (o : Opening) → (same_window o.window w ≡ true → bytes_eq o.frame frame ≡ false) × (bytes_eq o.frame frame ≡ true) → same_window o.window w ≡ false
+    differs o both = elim (bool_tells (same_window o.window w)) [
+      | inl same ↦ absurd (false≢true (sym (both.0 same) ∙ both.1))
+      | inr other ↦ other
+    ]
+
+-- ---- an open window, and what was heard since it was opened
+
+-- whether an open window has the frame of this one
+abbrev has_frame : Opening → Opening → Bool
+has_frame o x = bytes_eq x.frame o.frame
+
+-- whether a window stays open after an entry
+abbrev outlives : Entry → Opening → Bool
+outlives e x = not (closes x.window e)
+
+-- whoever has the name of this window is this window
+abbrev Only : Opening → Opening → Type 0
+Only o x = same_window x.window o.window ≡ true → x ≡ o
+
+record Inv (o : Opening) (g since : List Entry) : Type 0 where
+  found : window_with g o.frame ≡ Some o
+  only : AllByRecursion (Only o) (open_windows g)
+  copies : window_copies g o.window ≡ take most_copies (hearings o.frame since)
+
+-- no second window opens under the name of an open one
+name_taken : (net : Network) (g : List Entry) → IsLegal net g → (o : Opening) → window_with g o.frame ≡ Some o → (frame : List ℕ) (heard : Heard) (v : WindowName) → reply_to net g (call.Uplink frame heard) ≡ reply.Opened v → same_window v o.window ≡ false
+name_taken net g legal o found frame heard v is =
+    let none : open_window g v ≡ None = (opened-new net g legal frame heard v is).name in
+    elim (bool_tells (same_window v o.window)) [
+      | inl same ↦
+          (let same_name : v ≡ o.window = same_window-eq v o.window same in
+          let missing : open_window g o.window ≡ None = subst (λ (x : WindowName). open_window g x ≡ None) same_name none in
+          absurd (found-otherwise (λ (x : Opening). bytes_eq x.frame o.frame) (λ (x : Opening). same_window x.window o.window) (open_windows g) o found (same_window-refl o.window) missing))
+      | inr other ↦ other
+    ]
+
+unchanged : (o : Opening) (g since : List Entry) → Inv o g since → (more : List Heard) (heard : Option Heard) → more ≡ [] → heard ≡ None →
+    window_copies g o.window ++ more ≡ take most_copies (hearings o.frame since ++ option_to_list heard)
+unchanged o g since inv more heard no_more not_heard =
+    ap (λ l. window_copies g o.window ++ l) no_more
+    ∙ (append-nil (window_copies g o.window)
+    ∙ (inv.copies
+    ∙ ap (take most_copies) (sym (append-nil (hearings o.frame since)) ∙ ap (λ (p : Option Heard). hearings o.frame since ++ option_to_list p) (sym not_heard))))
+
+-- a frame of the same bytes is one more copy, while there are fewer than 16
+same_frame : (net : Network) (o : Opening) (g since : List Entry) → Inv o g since → (frame : List ℕ) (heard : Heard) → bytes_eq o.frame frame ≡ true →
+    window_copies g o.window ++ added o.window (call.Uplink frame heard) (reply_to net g (call.Uplink frame heard)) ≡ take most_copies (hearings o.frame since ++ option_to_list (hearing_in o.frame (call.Uplink frame heard)))
+same_frame net o g since inv frame heard same =
+    let c : Call = call.Uplink frame heard in
+    let is : o.frame ≡ frame = (bytes_eq-Decides o.frame frame).0 same in
+    let found : window_with g frame ≡ Some o = subst (λ bytes. window_with g bytes ≡ Some o) is inv.found in
+    let copied : reply_to net g c ≡ copy_reply g o.window = ap (λ (p : Option Opening). uplink_reply_by g p (first_fit above net g frame) (first_fit below net g frame)) found in
+    let heard_it : hearing_in o.frame c ≡ Some heard = ap (λ b. when b heard) same in
+    ap (λ r. window_copies g o.window ++ added o.window c r) copied
+    ∙ (step (nat_le (length (window_copies g o.window) + 1) most_copies) refl
+    ∙ ap (λ (p : Option Heard). take most_copies (hearings o.frame since ++ option_to_list p)) (sym heard_it))
+  where
+    step : (b : Bool) → nat_le (length (window_copies g o.window) + 1) most_copies ≡ b →
+        window_copies g o.window ++ added o.window (call.Uplink frame heard) (cond b (reply.Copied o.window (length (window_copies g o.window) + 1)) (reply.Crowded o.window)) ≡ take most_copies (hearings o.frame since ++ heard ∷ [])
+    step true fits =
+        let room : length (window_copies g o.window) + 1 ≤ most_copies = grind (arith, nat_tests, fits) in
+        ap (λ b. window_copies g o.window ++ map (λ (x : WindowName × Heard). x.1) (cond {A = List (WindowName × Heard)} b ((o.window, heard) ∷ []) [])) (same_window-refl o.window)
+        ∙ take-room most_copies (hearings o.frame since) (window_copies g o.window) heard inv.copies room
+    step false full =
+        let more : most_copies < length (window_copies g o.window) + 1 = grind (arith, nat_tests, full) in
+        append-nil (window_copies g o.window) ∙ take-full most_copies (hearings o.frame since) (window_copies g o.window) heard inv.copies more
+
+another_frame : (net : Network) (o : Opening) (g since : List Entry) → IsLegal net g → Inv o g since → (frame : List ℕ) (heard : Heard) → bytes_eq o.frame frame ≡ false →
+    added o.window (call.Uplink frame heard) (reply_to net g (call.Uplink frame heard)) ≡ []
+another_frame net o g since legal inv frame heard differs =
+    elim (other_frame net g frame heard o.window
+    (All-weaker (λ (x : Opening). same_window x.window o.window ≡ true → x ≡ o) (λ (x : Opening). same_window x.window o.window ≡ true → bytes_eq x.frame frame ≡ false)
+    (λ x only same. ap (λ (y : Opening). bytes_eq y.frame frame) (only same) ∙ differs) (open_windows g) inv.only)) [
+      | inl opens ↦
+          (let apart : same_window opens.0 o.window ≡ false = name_taken net g legal o inv.found frame heard opens.0 opens.1 in
+          ap (added o.window (call.Uplink frame heard)) opens.1
+          ∙ ap (λ b. map (λ (x : WindowName × Heard). x.1) (cond {A = List (WindowName × Heard)} b ((opens.0, heard) ∷ []) [])) apart)
+      | inr elsewhere ↦ none_here (window_copy_in (call.Uplink frame heard) (reply_to net g (call.Uplink frame heard))) elsewhere
+    ]
+  where
+    none_here : (p : Option (WindowName × Heard)) → IfSome p (λ x. same_window x.0 o.window ≡ false) → map (λ (x : WindowName × Heard). x.1) (filter (λ (x : WindowName × Heard). same_window x.0 o.window) (option_to_list p)) ≡ []
+    none_here None apart = refl
+    none_here (Some x) apart = ap (λ b. map (λ (y : WindowName × Heard). y.1) (cond {A = List (WindowName × Heard)} b (x ∷ []) [])) apart
+
+copies_now : (net : Network) (o : Opening) (g since : List Entry) → IsLegal net g → Inv o g since → (c : Call) →
+    window_copies g o.window ++ added o.window c (reply_to net g c) ≡ take most_copies (hearings o.frame since ++ option_to_list (hearing_in o.frame c))
+copies_now net o g since legal inv (call.Join t heard) = unchanged o g since inv [] None refl refl
+copies_now net o g since legal inv (call.JoinReply t x) = unchanged o g since inv [] None refl refl
+copies_now net o g since legal inv (call.Close w) = unchanged o g since inv [] None refl refl
+copies_now net o g since legal inv (call.Uplink frame heard) =
+    elim (bool_tells (bytes_eq o.frame frame)) [
+      | inl same ↦ same_frame net o g since inv frame heard same
+      | inr differs ↦
+          unchanged o g since inv (added o.window (call.Uplink frame heard) (reply_to net g (call.Uplink frame heard))) (hearing_in o.frame (call.Uplink frame heard)) (another_frame net o g since legal inv frame heard differs)
+          (ap (λ b. when b heard) differs)
+    ]
+
+-- the window stays open
+stays : (net : Network) (o : Opening) (g since : List Entry) (e : Entry) → IsLegal net g → e.reply ≡ reply_to net g e.call → closes o.window e ≡ false → Inv o g since → Inv o (g ++ e ∷ []) (since ++ e ∷ [])
+stays net o g since e legal is not_closed inv = record {
+  found = ap (find (has_frame o)) (open_windows-push g e) ∙ find-first (has_frame o) (filter (outlives e) (open_windows g)) (option_to_list (opening_in e.call e.reply)) o (find-kept (has_frame o) (outlives e) (open_windows g) o inv.found (ap not not_closed));
+  only = subst (AllByRecursion (Only o)) (sym (open_windows-push g e)) (All-append (Only o) (filter (outlives e) (open_windows g)) (option_to_list (opening_in e.call e.reply)) (All-filter (Only o) (outlives e) (open_windows g) inv.only) (new (opening_in e.call e.reply) refl));
+  copies =
+      window_copies-push g e o.window
+      ∙ (ap (λ r. window_copies g o.window ++ added o.window e.call r) is
+      ∙ (copies_now net o g since legal inv e.call
+      ∙ ap (take most_copies) (sym (hearings-push o.frame since e))));
+}
+  where
+    new : (p : Option Opening) → opening_in e.call e.reply ≡ p → AllByRecursion (λ x. same_window x.window o.window ≡ true → x ≡ o) (option_to_list p)
+    new None says = tt
+    new (Some x) says =
+        let opening = opening_is e.call e.reply x says in
+        let replied : reply_to net g (call.Uplink x.frame x.heard) ≡ reply.Opened x.window = ap (reply_to net g) (sym opening.0) ∙ (sym is ∙ opening.1) in
+        (λ same. absurd (false≢true (sym (name_taken net g legal o inv.found x.frame x.heard x.window replied) ∙ same)), tt)
+
+-- the window is opened
+begins : (net : Network) (o : Opening) (g : List Entry) (e : Entry) → IsLegal net g → e.reply ≡ reply_to net g e.call → opening_in e.call e.reply ≡ Some o → Inv o (g ++ e ∷ []) (e ∷ [])
+begins net o g e legal is says =
+    let opening = opening_is e.call e.reply o says in
+    let new = opened-new net g legal o.frame o.heard o.window (ap (reply_to net g) (sym opening.0) ∙ (sym is ∙ opening.1)) in
+    let now : open_windows (g ++ e ∷ []) ≡ filter (outlives e) (open_windows g) ++ o ∷ [] = open_windows-push g e ∙ ap (λ (p : Option Opening). filter (outlives e) (open_windows g) ++ option_to_list p) says in
+    let apart : find (has_frame o) (filter (outlives e) (open_windows g)) ≡ None = find-none (has_frame o) (filter (outlives e) (open_windows g)) (All-filter (λ x. has_frame o x ≡ false) (outlives e) (open_windows g) (none-passes (has_frame o) (open_windows g) new.frame_apart)) in
+    let no_name : AllByRecursion (Only o) (open_windows g) =
+    All-weaker (λ (x : Opening). same_window x.window o.window ≡ false) (Only o) (λ x other same. absurd (false≢true (sym other ∙ same))) (open_windows g) (none-passes (λ (x : Opening). same_window x.window o.window) (open_windows g) new.name) in
+    record {
+      found =
+          ap (find (has_frame o)) now
+          ∙ (find-append (has_frame o) (filter (outlives e) (open_windows g)) (o ∷ [])
+          ∙ (ap (λ (p : Option Opening). option_or p (find (has_frame o) (o ∷ []))) apart
+          ∙ ap (λ b. cond {A = Option Opening} b (Some o) None) (same_bytes o.frame)));
+      only = subst (AllByRecursion (Only o)) (sym now) (All-append (Only o) (filter (outlives e) (open_windows g)) (o ∷ []) (All-filter (Only o) (outlives e) (open_windows g) no_name) (λ _. refl, tt));
+      copies =
+          window_copies-push g e o.window
+          ∙ (ap (λ cs. cs ++ added o.window e.call e.reply) new.copies
+          ∙ (ap (λ (c : Call). added o.window c e.reply) opening.0
+          ∙ (ap (added o.window (call.Uplink o.frame o.heard)) opening.1
+          ∙ (ap (λ b. map (λ (x : WindowName × Heard). x.1) (cond {A = List (WindowName × Heard)} b ((o.window, o.heard) ∷ []) [])) (same_window-refl o.window)
+          ∙ ap (take most_copies) (sym (one_more (λ (x : Entry). hearing_in o.frame x.call) e ∙ (ap (λ (c : Call). option_to_list (hearing_in o.frame c)) opening.0 ∙ ap (λ b. option_to_list (when b o.heard)) (same_bytes o.frame))))))));
+    }
+
+copies_on : (net : Network) (o : Opening) (g since ys : List Entry) → IsLegal net (g ++ ys) → Inv o g since → AllByRecursion (λ e. closes o.window e ≡ false) ys → window_copies (g ++ ys) o.window ≡ take most_copies (hearings o.frame (since ++ ys))
+copies_on net o g since [] legal inv is_open =
+    ap (λ l. window_copies l o.window) (append-nil g) ∙ (inv.copies ∙ ap (λ l. take most_copies (hearings o.frame l)) (sym (append-nil since)))
+copies_on net o g since (e ∷ ys) legal inv is_open =
+    let next = stays net o g since e (legal-front net g (e ∷ ys) legal) (legal-next net g ys e legal) is_open.0 inv in
+    let same : (g ++ e ∷ []) ++ ys ≡ g ++ e ∷ ys = append_assoc g (e ∷ []) ys in
+    let whole = copies_on net o (g ++ e ∷ []) (since ++ e ∷ []) ys (subst (IsLegal net) (sym same) legal) next is_open.1 in
+    ap (λ l. window_copies l o.window) (sym same) ∙ (whole ∙ ap (λ l. take most_copies (hearings o.frame l)) (append_assoc since (e ∷ []) ys))
+
+pub open_copies : (net : Network) (h : List Entry) → IsLegal net h → (o : Opening) (is_open : IsOpenWindow h o) → window_copies h o.window ≡ take most_copies (hearings o.frame (is_open.entry ∷ is_open.after))
+open_copies net h legal o is_open =
+    let cut : h ≡ (is_open.before ++ is_open.entry ∷ []) ++ is_open.after = is_open.is ∙ sym (append_assoc is_open.before (is_open.entry ∷ []) is_open.after) in
+    let whole : IsLegal net (is_open.before ++ is_open.entry ∷ is_open.after) = subst (IsLegal net) is_open.is legal in
+    let inv = begins net o is_open.before is_open.entry (legal-front net is_open.before (is_open.entry ∷ is_open.after) whole) (legal-next net is_open.before is_open.after is_open.entry whole) is_open.opened in
+    ap (λ l. window_copies l o.window) cut ∙ copies_on net o (is_open.before ++ is_open.entry ∷ []) (is_open.entry ∷ []) is_open.after (subst (IsLegal net) cut legal) inv is_open.not_closed
+
+-- ---- what a closing hands out
+
+closed_copies : (net : Network) (h : List Entry) → IsLegal net h → (w : WindowName) (u : answer_uplink.Uplink) (p : Option Opening) → open_window h w ≡ p
+    → uplink_out h (call.Close w) (first_case (option_map (λ (o : Opening). reply.Closed w (ack_number h o)) p ∷ []) reply.NoWindow) ≡ Some u → HasJustItsCopies h u
+closed_copies net h legal w u None found is = absurd (cc is)
+closed_copies net h legal w u (Some o) found is =
+    let same : uplink_of h o ≡ u = same_Some (uplink_of h o) u (sym (ap (option_map (uplink_of h)) found) ∙ is) in
+    let is_open : IsOpenWindow h o = open_window-is h o (find-contained (λ (x : Opening). same_window x.window w) (open_windows h) o found) in
+    record {
+      opening = o;
+      window = ap (λ (x : answer_uplink.Uplink). x.window) same;
+      is_open = is_open;
+      copies = ap (λ (x : answer_uplink.Uplink). x.copies.items) (sym same) ∙ open_copies net h legal o is_open;
+    }
+
+pub just_its_copies : (net : Network) (h : List Entry) → IsLegal net h → (c : Call) (u : answer_uplink.Uplink) → (answer net h c).uplink ≡ Some u → HasJustItsCopies h u
+just_its_copies net h legal (call.Close w) u is = closed_copies net h legal w u (open_window h w) refl is
+just_its_copies net h legal (call.Uplink frame heard) u is = absurd (cc is)
+just_its_copies net h legal (call.Join t heard) u is = absurd (cc is)
+just_its_copies net h legal (call.JoinReply t x) u is = absurd (cc is)

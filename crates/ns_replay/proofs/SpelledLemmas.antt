@@ -1,0 +1,290 @@
+-- A line is a step line exactly where it spells a step.
+use Rattle.std.proofs.Common.{◌≡◌, ℕ, suc, ◌+◌, ◌-◌, ◌<◌, ◌==◌, Bool, true, false, not, ◌||◌, ◌&&◌, cond, List, [], ◌∷◌, ◌++◌, length, take, drop, Option, Some, None, option_map, refl, sym, ap, ◌∙◌, subst, arith, inl, inr, length-append, bytes_eq}
+use Rattle.std.specs.Prelude.{Result, Ok, Err, if◌then◌else◌, codes, option_and_then, slice_index, position, nat_lt, nat_le, ◌^◌, ◌%◌, ◌/◌}
+use Rattle.std.specs.List.{list_any, list_all, position_or_len}
+use Rattle.std.specs.Result.{result_ok}
+use Rattle.std.proofs.lemmas.Bool.{eqb-true, cases_Bool}
+use Rattle.std.proofs.lemmas.Bool.Decides.{nat_tests}
+use Rattle.std.proofs.lemmas.Option.{same_Some}
+use Rattle.std.proofs.lemmas.Slice.Eq.{bytes_eq-Decides}
+use Rattle.std.proofs.Math.Seq.{take-append_seam}
+use Rattle.hex.specs.Hex as hex_spec
+use Rattle.hex.specs.Hex.{decode_of, decode_sized, decode_pairs, hex_digit_value, value_at, digit_or_error, pair_value}
+use Rattle.hex.specs.declared.error.FromHexError.{FromHexError}
+use Rattle.hex.specs.declared.error.FromHexError.TheVariants.{OddLength, InvalidStringLength}
+use Rattle.ns_types.specs.Cases.{when}
+use Rattle.ns_types.specs.declared.identity.DevEui.{DevEui}
+use Rattle.ns_types.specs.declared.identity.WindowName.{WindowName}
+use Rattle.ns_types.specs.declared.ticket.Ticket.{Ticket}
+use Rattle.ns_shard.specs.declared.step.Act.{Act}
+use Rattle.ns_shard.specs.declared.step.Act.TheVariants.{Datagram, Answer, Lost, Close}
+use Rattle.ns_replay.specs.StepLines.{without_return, parted, is_digit, decimal_value, number, eui, ticket, heard, answered, lost, counters, closed, act, step}
+use Rattle.ns_replay.specs.Spelled.{Says, SpellsTicket, SpellsWindow, SpellsStep, Spells}
+use Rattle.ns_replay.proofs.LineLemmas.{byte_at}
+
+-- whether a space stands in a text
+abbrev has_space : List ℕ → Bool
+has_space text = list_any (λ b. b == 32) text
+
+-- ---- words
+
+drop_seam : (xs ys : List ℕ) (y : ℕ) → drop (length xs + 1) (xs ++ y ∷ ys) ≡ ys
+drop_seam [] ys y = refl
+drop_seam (x ∷ xs) ys y = (let more : length (x ∷ xs) + 1 ≡ suc (length xs + 1) = omega arith in ap (λ n. drop n (x ∷ xs ++ y ∷ ys)) more ∙ drop_seam xs ys y)
+
+first_space : (word rest : List ℕ) → has_space word ≡ false → position_or_len (λ b. b == 32) (word ++ 32 ∷ rest) ≡ length word
+first_space [] rest none = refl
+first_space (b ∷ word) rest none =
+    let parts = or_none (b == 32) (has_space word) none in
+    let ih = first_space word rest parts.1 in
+    ap (λ t. cond (not t) (1 + position_or_len (λ c. c == 32) (word ++ 32 ∷ rest)) 0) parts.0 ∙ omega (arith, ih)
+  where
+    or_none : (x y : Bool) → (x || y) ≡ false → (x ≡ false) × (y ≡ false)
+    or_none true y is = absurd (cc is)
+    or_none false y is = (refl, is)
+
+-- the words before and behind the first space
+parted-from : (word rest : List ℕ) → has_space word ≡ false → parted (word ++ 32 ∷ rest) ≡ Some (word, rest)
+unfolding parted
+parted-from word rest none =
+    let whole : List ℕ = word ++ 32 ∷ rest in
+    let first = first_space word rest none in
+    let long : length whole ≡ length word + length (32 ∷ rest) = length-append word (32 ∷ rest) in
+    let some : 0 < length (32 ∷ rest) = omega arith in
+    let inside : nat_lt (length word) (length whole) ≡ true = grind (arith, nat_tests, long, some) in
+    ap (λ n. option_map (λ i. (take i whole, drop (i + 1) whole)) (cond (nat_lt n (length whole)) (Some n) None)) first
+    ∙ (ap (λ t. option_map (λ i. (take i whole, drop (i + 1) whole)) (cond t (Some (length word)) None)) inside
+    ∙ ap Some (both (take-append_seam word (32 ∷ rest)) (drop_seam word rest 32)))
+  where
+    both : {a c b d : List ℕ} → a ≡ c → b ≡ d → ◌≡◌ {A = List ℕ × List ℕ} (a, b) (c, d)
+    both first second = λ i. (first i, second i)
+
+parted-is : (text : List ℕ) (p : List ℕ × List ℕ) → parted text ≡ Some p → text ≡ p.0 ++ 32 ∷ p.1
+unfolding parted
+parted-is text p is = found (position (λ b. b == 32) text) refl is
+  where
+    found : (o : Option ℕ) → position (λ b. b == 32) text ≡ o → option_map (λ i. (take i text, drop (i + 1) text)) o ≡ Some p → text ≡ p.0 ++ 32 ∷ p.1
+    found None at h = cc
+    found (Some i) at h =
+        let same : (take i text, drop (i + 1) text) ≡ p = same_Some _ p h in
+        byte_at 32 text i at ∙ ap (λ (q : List ℕ × List ℕ). q.0 ++ 32 ∷ q.1) same
+
+-- ---- the end of a line
+
+last_of : (words : List ℕ) (b : ℕ) → slice_index (words ++ b ∷ []) (length (words ++ b ∷ []) - 1) ≡ b
+last_of [] b = refl
+last_of (w ∷ words) b =
+    let long : length (words ++ b ∷ []) ≡ length words + 1 = length-append words (b ∷ []) in
+    let at : length (w ∷ (words ++ b ∷ [])) - 1 ≡ suc (length (words ++ b ∷ []) - 1) = omega (arith, long) in
+    ap (slice_index (w ∷ (words ++ b ∷ []))) at ∙ last_of words b
+
+front_of : (words : List ℕ) (b : ℕ) → take (length (words ++ b ∷ []) - 1) (words ++ b ∷ []) ≡ words
+front_of words b =
+    let long : length (words ++ b ∷ []) ≡ length words + 1 = length-append words (b ∷ []) in
+    let at : length (words ++ b ∷ []) - 1 ≡ length words = omega (arith, long) in
+    ap (λ n. take n (words ++ b ∷ [])) at ∙ take-append_seam words (b ∷ [])
+
+split_last : (line : List ℕ) (b : ℕ) → (slice_index line (length line - 1) == 13) ≡ true → line ≡ take (length line - 1) line ++ 13 ∷ []
+split_last [] b is = absurd (cc is)
+split_last (x ∷ []) b is = ap (λ n. n ∷ []) (eqb-true x 13 is)
+split_last (x ∷ y ∷ more) b is =
+    let at : length (x ∷ y ∷ more) - 1 ≡ suc (length (y ∷ more) - 1) = omega arith in
+    let inner : (slice_index (y ∷ more) (length (y ∷ more) - 1) == 13) ≡ true = sym (ap (λ n. slice_index (x ∷ y ∷ more) n == 13) at) ∙ is in
+    ap (λ l. x ∷ l) (split_last (y ∷ more) b inner) ∙ ap (λ n. take n (x ∷ y ∷ more) ++ 13 ∷ []) (sym at)
+
+says-without : (line : List ℕ) → Says line (without_return line)
+unfolding without_return
+says-without line = by (slice_index line (length line - 1) == 13) refl
+  where
+    by : (b : Bool) → (slice_index line (length line - 1) == 13) ≡ b → Says line (cond b (take (length line - 1) line) line)
+    by true is = inl (split_last line 0 is)
+    by false is = inr (refl, is)
+
+without-says : (line words : List ℕ) → Says line words → without_return line ≡ words
+unfolding without_return
+without-says line words (inl is) =
+    let ends : (slice_index (words ++ 13 ∷ []) (length (words ++ 13 ∷ []) - 1) == 13) ≡ true = ap (λ n. n == 13) (last_of words 13) in
+    ap (λ (l : List ℕ). cond (slice_index l (length l - 1) == 13) (take (length l - 1) l) l) is
+    ∙ (ap (λ b. cond {A = List ℕ} b (take (length (words ++ 13 ∷ []) - 1) (words ++ 13 ∷ [])) (words ++ 13 ∷ [])) ends ∙ front_of words 13)
+without-says line words (inr is) =
+    ap (λ (l : List ℕ). cond (slice_index l (length l - 1) == 13) (take (length l - 1) l) l) is.0
+    ∙ ap (λ b. cond {A = List ℕ} b (take (length words - 1) words) words) is.1
+
+-- ---- hex digits and decimal digits are no spaces
+
+digit_no_space : (b i v : ℕ) → value_at b i ≡ Ok v → (b == 32) ≡ false
+digit_no_space b i v is = elim (cases_Bool (b == 32)) [
+  | inl space ↦
+      (let at : hex_digit_value b ≡ None = ap hex_digit_value (eqb-true b 32 space) in
+      let bad : Err _ ≡ Ok v = sym (ap (digit_or_error b i) at) ∙ is in
+      absurd (cc bad))
+  | inr other ↦ other
+]
+
+bind-hex : {A B : Type 0} (r : Result A FromHexError) (f : A → Result B FromHexError) (y : B) → (hex_spec.◌>>=◌ r f) ≡ Ok y → (x : A) × (r ≡ Ok x) × (f x ≡ Ok y)
+bind-hex (Ok x) f y h = (x, refl, h)
+bind-hex (Err e) f y h = cc
+
+pairs-no_space : (i : ℕ) (text bytes : List ℕ) → decode_pairs i text ≡ Ok bytes → has_space text ≡ false
+unfolding decode_pairs
+pairs-no_space i [] bytes is = refl
+pairs-no_space i (digit ∷ []) bytes is = absurd (cc is)
+pairs-no_space i (high ∷ low ∷ rest) bytes is =
+    let p = bind-hex (pair_value high low i) _ bytes is in
+    let q = bind-hex (decode_pairs (i + 2) rest) _ bytes p.2 in
+    let h = bind-hex (value_at high i) _ p.0 p.1 in
+    let l = bind-hex (value_at low (i + 1)) _ p.0 h.2 in
+    ap (λ b. b || ((low == 32) || has_space rest)) (digit_no_space high i h.0 h.1)
+    ∙ (ap (λ b. b || has_space rest) (digit_no_space low (i + 1) l.0 l.1) ∙ pairs-no_space (i + 2) rest q.0 q.1)
+
+sized-no_space : (text : List ℕ) (n : ℕ) (bytes : List ℕ) → decode_sized text n ≡ Ok bytes → has_space text ≡ false
+sized-no_space text n bytes is = by (length text % 2 == 1) (length text / 2 == n) is
+  where
+    by : (odd sized : Bool) → (if odd then Err OddLength else if sized then decode_pairs 0 text else Err InvalidStringLength) ≡ Ok bytes → has_space text ≡ false
+    by true sized h = absurd (cc h)
+    by false true h = pairs-no_space 0 text bytes h
+    by false false h = absurd (cc h)
+
+and_parts : (a b : Bool) → (a && b) ≡ true → (a ≡ true) × (b ≡ true)
+and_parts true b h = (refl, h)
+and_parts false b h = absurd (cc h)
+
+digits-no_space : (text : List ℕ) → list_all is_digit text ≡ true → has_space text ≡ false
+digits-no_space [] is = refl
+digits-no_space (b ∷ text) is =
+    let parts = and_parts (is_digit b) (list_all is_digit text) is in
+    let range = and_parts (nat_le 48 b) (nat_le b 57) parts.0 in
+    let other : (b == 32) ≡ false = grind (arith, nat_tests, range.0) in
+    ap (λ t. t || has_space text) other ∙ digits-no_space text parts.1
+
+when-is : {X : Type 0} (b : Bool) (x y : X) → when b x ≡ Some y → (b ≡ true) × (x ≡ y)
+when-is true x y h = (refl, same_Some x y h)
+when-is false x y h = absurd (cc h)
+
+number-no_space : (text : List ℕ) (n : ℕ) → number text ≡ Some n → has_space text ≡ false
+unfolding number
+number-no_space text n is =
+    let w = when-is (nat_lt 0 (length text) && list_all is_digit text && nat_lt (decimal_value text) (2 ^ 32)) (decimal_value text) n is in
+    let p = and_parts (nat_lt 0 (length text) && list_all is_digit text) (nat_lt (decimal_value text) (2 ^ 32)) w.0 in
+    digits-no_space text (and_parts (nat_lt 0 (length text)) (list_all is_digit text) p.0).1
+
+-- ---- what is read is spelled
+
+bind-some : {A B : Type 0} (o : Option A) (f : A → Option B) (y : B) → option_and_then f o ≡ Some y → (x : A) × (o ≡ Some x) × (f x ≡ Some y)
+bind-some None f y h = cc
+bind-some (Some x) f y h = (x, refl, h)
+
+map-some : {A B : Type 0} (o : Option A) (f : A → B) (y : B) → option_map f o ≡ Some y → (x : A) × (o ≡ Some x) × (f x ≡ y)
+map-some None f y h = cc
+map-some (Some x) f y h = (x, refl, same_Some (f x) y h)
+
+ok-is : {A : Type 0} (r : Result A FromHexError) (x : A) → result_ok r ≡ Some x → r ≡ Ok x
+ok-is (Ok y) x h = ap Ok (same_Some y x h)
+ok-is (Err e) x h = absurd (cc h)
+
+ticket-spelled : (text : List ℕ) (t : Ticket) → ticket text ≡ Some t → SpellsTicket text t
+ticket-spelled text t is =
+    let m = map-some (result_ok (decode_sized text 23)) _ t is in
+    ok-is (decode_sized text 23) m.0 m.1 ∙ ap (λ (x : Ticket). Ok x.0) m.2
+
+heard-spelled : (rest : List ℕ) (a : Act) → heard rest ≡ Some a → SpellsStep (codes "heard " ++ rest) a
+unfolding heard
+heard-spelled rest a is =
+    let b = bind-some (result_ok (decode_of rest)) _ a is in
+    let w = when-is (nat_lt 0 (length b.0)) (Datagram b.0) a b.2 in
+    let some : 0 < length b.0 = grind (arith, nat_tests, w.0) in
+    subst (SpellsStep (codes "heard " ++ rest)) w.1 (rest, refl, ok-is (decode_of rest) b.0 b.1, some)
+
+answered-spelled : (rest : List ℕ) (a : Act) → answered rest ≡ Some a → SpellsStep (codes "answer " ++ rest) a
+unfolding answered
+answered-spelled rest a is =
+    let p = bind-some (parted rest) _ a is in
+    let m = map-some (ticket p.0.0) _ a p.2 in
+    subst (SpellsStep (codes "answer " ++ rest)) m.2 (p.0.0, ap (λ r. codes "answer " ++ r) (parted-is rest p.0 p.1), ticket-spelled p.0.0 m.0 m.1)
+
+lost-spelled : (rest : List ℕ) (a : Act) → lost rest ≡ Some a → SpellsStep (codes "lost " ++ rest) a
+unfolding lost
+lost-spelled rest a is =
+    let m = map-some (ticket rest) Lost a is in
+    subst (SpellsStep (codes "lost " ++ rest)) m.2 (rest, refl, ticket-spelled rest m.0 m.1)
+
+closed-spelled : (rest : List ℕ) (a : Act) → closed rest ≡ Some a → SpellsStep (codes "close " ++ rest) a
+unfolding closed counters
+closed-spelled rest a is =
+    let p = bind-some (parted rest) _ a is in
+    let e = bind-some (eui p.0.0) _ a p.2 in
+    let c = map-some (counters p.0.1) _ a e.2 in
+    let q = bind-some (parted p.0.1) _ c.0 c.1 in
+    let s = bind-some (number q.0.0) _ c.0 q.2 in
+    let f = map-some (number q.0.1) _ c.0 s.2 in
+    let b = map-some (result_ok (decode_sized p.0.0 8)) _ e.0 e.1 in
+    subst (SpellsStep (codes "close " ++ rest)) c.2 (
+      rest,
+      refl,
+      record {
+        eui = p.0.0;
+        session = q.0.0;
+        fcnt = q.0.1;
+        are = parted-is rest p.0 p.1 ∙ ap (λ r. p.0.0 ++ 32 ∷ r) (parted-is p.0.1 q.0 q.1);
+        bytes = b.0;
+        hex = ok-is (decode_sized p.0.0 8) b.0 b.1;
+        is_eui = ap (λ (d : DevEui). d.0) b.2;
+        is_session = s.1 ∙ ap (λ (n : ℕ × ℕ). Some n.0) f.2;
+        is_fcnt = f.1 ∙ ap (λ (n : ℕ × ℕ). Some n.1) f.2;
+      },
+    )
+
+act-spelled : (word rest : List ℕ) (a : Act) → act word rest ≡ Some a → SpellsStep (word ++ 32 ∷ rest) a
+unfolding act
+act-spelled word rest a is = by (bytes_eq word (codes "heard")) refl (bytes_eq word (codes "answer")) refl (bytes_eq word (codes "lost")) refl (bytes_eq word (codes "close")) refl is
+  where
+    under : (known : List ℕ) → bytes_eq word known ≡ true → SpellsStep (known ++ 32 ∷ rest) a → SpellsStep (word ++ 32 ∷ rest) a
+    under known same spelled = subst (λ w. SpellsStep (w ++ 32 ∷ rest) a) (sym ((bytes_eq-Decides word known).0 same)) spelled
+
+    by : (h : Bool) → bytes_eq word (codes "heard") ≡ h → (n : Bool) → bytes_eq word (codes "answer") ≡ n → (l : Bool) → bytes_eq word (codes "lost") ≡ l → (c : Bool) → bytes_eq word (codes "close") ≡ c
+        → (if h then heard rest else if n then answered rest else if l then lost rest else if c then closed rest else None) ≡ Some a → SpellsStep (word ++ 32 ∷ rest) a
+    by true same n _ l _ c _ x = under (codes "heard") same (heard-spelled rest a x)
+    by false _ true same l _ c _ x = under (codes "answer") same (answered-spelled rest a x)
+    by false _ false _ true same c _ x = under (codes "lost") same (lost-spelled rest a x)
+    by false _ false _ false _ true same x = under (codes "close") same (closed-spelled rest a x)
+    by false _ false _ false _ false _ x = absurd (cc x)
+
+pub step-spelled : (line : List ℕ) (a : Act) → step line ≡ Some a → Spells line a
+unfolding step
+step-spelled line a is =
+    let p = bind-some (parted (without_return line)) _ a is in
+    (without_return line, says-without line, subst (λ words. SpellsStep words a) (sym (parted-is (without_return line) p.0 p.1)) (act-spelled p.0.0 p.0.1 a p.2))
+
+-- ---- what is spelled is read
+
+abbrev reads : List ℕ → Option Act
+reads words = option_and_then (λ (p : List ℕ × List ℕ). act p.0 p.1) (parted words)
+
+ticket-from : (hex : List ℕ) (t : Ticket) → SpellsTicket hex t → ticket hex ≡ Some t
+ticket-from hex t is = ap (λ (r : Result (List ℕ) FromHexError). option_map (λ (bytes : List ℕ). let x : Ticket = record { 0 = bytes } in x) (result_ok r)) is
+
+closed-from : (rest : List ℕ) (w : WindowName) → SpellsWindow rest w → closed rest ≡ Some (Close w)
+unfolding closed counters
+closed-from rest w spelled =
+    let tail : List ℕ = spelled.session ++ (32 ∷ spelled.fcnt) in
+    let whole : parted rest ≡ Some (spelled.eui, tail) = ap parted spelled.are ∙ parted-from spelled.eui tail (sized-no_space spelled.eui 8 spelled.bytes spelled.hex) in
+    let inner : parted tail ≡ Some (spelled.session, spelled.fcnt) = parted-from spelled.session spelled.fcnt (number-no_space spelled.session w.session spelled.is_session) in
+    rw (whole, spelled.hex, inner, spelled.is_session, spelled.is_fcnt, spelled.is_eui) refl
+
+reads-from : (words : List ℕ) (a : Act) → SpellsStep words a → reads words ≡ Some a
+unfolding act heard answered lost
+reads-from words (Datagram bytes) (hex, is, decoded, some) =
+    let is_some : nat_lt 0 (length bytes) ≡ true = grind (arith, nat_tests, some) in
+    ap reads is ∙ (ap (option_and_then (λ (p : List ℕ × List ℕ). act p.0 p.1)) (parted-from (codes "heard") hex refl) ∙ rw (decoded, is_some) refl)
+reads-from words (Answer t text) (hex, is, spelled) =
+    ap reads is
+    ∙ (ap (option_and_then (λ (p : List ℕ × List ℕ). act p.0 p.1)) (parted-from (codes "answer") (hex ++ (32 ∷ text)) refl)
+    ∙ rw (parted-from hex text (sized-no_space hex 23 t.0 spelled), ticket-from hex t spelled) refl)
+reads-from words (Lost t) (hex, is, spelled) =
+    ap reads is ∙ (ap (option_and_then (λ (p : List ℕ × List ℕ). act p.0 p.1)) (parted-from (codes "lost") hex refl) ∙ rw (ticket-from hex t spelled) refl)
+reads-from words (Close w) (rest, is, spelled) =
+    ap reads is ∙ (ap (option_and_then (λ (p : List ℕ × List ℕ). act p.0 p.1)) (parted-from (codes "close") rest refl) ∙ closed-from rest w spelled)
+
+pub spelled-step : (line : List ℕ) (a : Act) → Spells line a → step line ≡ Some a
+unfolding step
+spelled-step line a (words, says, spelled) = ap reads (without-says line words says) ∙ reads-from words a spelled

@@ -1,0 +1,5 @@
+pub mod HexText
+pub mod StepLines
+pub mod Spelled
+pub mod Output
+pub mod Private

@@ -1,0 +1,45 @@
+-- What a run answers, line by line.
+use Rattle.std.specs.Prelude.{ℕ, List, [], ◌∷◌, ◌++◌, flat_map, codes, decimal, Option, Some, None}
+use Rattle.ns_link.specs.Faults as link_fault
+use Rattle.ns_views.specs.Faults as view_fault
+use Rattle.ns_roster.specs.Network.{Network}
+use Rattle.ns_calls.specs.Text.{text}
+use Rattle.ns_shard.specs.declared.step.Act.{Act}
+use Rattle.ns_shard.specs.declared.step.Step.{Step}
+use Rattle.ns_shard.specs.declared.run.Taken.{Taken}
+use Rattle.ns_shard.specs.declared.run.Taken.TheVariants.{Link, View, Made}
+use Rattle.ns_shard.specs.Steps.{step_taken}
+use Rattle.ns_replay.specs.StepLines.{steps}
+
+-- the step of a line, made by the one worker of a recorded run
+abbrev pub step_of : Act → Step
+step_of act = record { worker = 0; act = act }
+
+-- what comes of lines, one after the other, after the steps of the lines before them: nothing where a line is no step line
+abbrev pub all_lines : Network → List Step → List (Option Act) → List (Option Taken)
+all_lines net before [] = []
+all_lines net before (None ∷ lines) = None ∷ all_lines net before lines
+all_lines net before (Some act ∷ lines) = Some (step_taken net before (step_of act)) ∷ all_lines net (before ++ step_of act ∷ []) lines
+
+-- the line of a refusal
+abbrev pub refusal_text : List ℕ → Option ℕ → List ℕ
+refusal_text word None = word
+refusal_text word (Some number) = word ++ decimal number
+
+-- the lines that are written of it
+unfoldable pub lines_of : Option Taken → List (List ℕ)
+lines_of None = refusal_text (codes "refused line") None ∷ []
+lines_of (Some (Link fault)) = refusal_text (codes "refused G") (Some (link_fault.number fault)) ∷ []
+lines_of (Some (View fault)) = refusal_text (codes "refused V") (Some (view_fault.number fault)) ∷ []
+lines_of (Some (Made shard number answer)) = text answer
+
+-- a line with its line feed
+abbrev pub ended : List ℕ → List ℕ
+ended line = line ++ 10 ∷ []
+
+abbrev pub text_of : Option Taken → List ℕ
+text_of taken = flat_map ended (lines_of taken)
+
+-- what is written for a text of step lines
+abbrev pub output : Network → List ℕ → List ℕ
+output net input = flat_map text_of (all_lines net [] (steps input))

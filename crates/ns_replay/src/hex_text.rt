@@ -1,0 +1,64 @@
+//! Hex text read by a table.
+
+ghost use Rattle.std.specs.Prelude.{◌≡◌, ◌*◌, length, option_map, Ok, IfOk, IsErr};
+ghost use Rattle.std.specs.Bool.{OnTrue, OnFalse};
+ghost use Rattle.std.specs.Result.{result_ok};
+ghost use Rattle.hex.specs.Hex.{decode_of};
+ghost use Rattle.ns_replay.specs.HexText.{digit_or_16};
+
+use std::alloc::{AllocError, Global};
+
+// The value of each byte as a hex digit, in either case, and 16 where it is none.
+static DIGITS: [u8; 256] = [
+    16, 16, 16, 16, 16, 16, 16, 16, 16, 16, 16, 16, 16, 16, 16, 16, 16, 16, 16, 16, 16, 16, 16, 16,
+    16, 16, 16, 16, 16, 16, 16, 16, 16, 16, 16, 16, 16, 16, 16, 16, 16, 16, 16, 16, 16, 16, 16, 16,
+    0, 1, 2, 3, 4, 5, 6, 7, 8, 9, 16, 16, 16, 16, 16, 16, 16, 10, 11, 12, 13, 14, 15, 16, 16, 16,
+    16, 16, 16, 16, 16, 16, 16, 16, 16, 16, 16, 16, 16, 16, 16, 16, 16, 16, 16, 16, 16, 16, 16, 10,
+    11, 12, 13, 14, 15, 16, 16, 16, 16, 16, 16, 16, 16, 16, 16, 16, 16, 16, 16, 16, 16, 16, 16, 16,
+    16, 16, 16, 16, 16, 16, 16, 16, 16, 16, 16, 16, 16, 16, 16, 16, 16, 16, 16, 16, 16, 16, 16, 16,
+    16, 16, 16, 16, 16, 16, 16, 16, 16, 16, 16, 16, 16, 16, 16, 16, 16, 16, 16, 16, 16, 16, 16, 16,
+    16, 16, 16, 16, 16, 16, 16, 16, 16, 16, 16, 16, 16, 16, 16, 16, 16, 16, 16, 16, 16, 16, 16, 16,
+    16, 16, 16, 16, 16, 16, 16, 16, 16, 16, 16, 16, 16, 16, 16, 16, 16, 16, 16, 16, 16, 16, 16, 16,
+    16, 16, 16, 16, 16, 16, 16, 16, 16, 16, 16, 16, 16, 16, 16, 16, 16, 16, 16, 16, 16, 16, 16, 16,
+    16, 16, 16, 16, 16, 16, 16, 16, 16, 16, 16, 16, 16, 16,
+];
+
+// The value of a hex digit, or 16 where the byte is none.
+#[inline(always)]
+fn digit(byte: u8) -> u8
+    ensures { result ≡ digit_or_16 byte }
+{
+    DIGITS[byte as usize]
+}
+
+// Puts the bytes of a text of hex digits, which is twice as long as `out`, and says whether all were digits.
+fn decode_into(text: &[u8], out: &mut [u8]) -> bool
+    requires { length text.now ≡ 2 * length out.old }
+    ensures read { OnTrue result (decode_of text.now ≡ Ok out.new) }
+    ensures refused { OnFalse result (IsErr (decode_of text.now)) }
+{
+    'bytes: for i in 0..out.len() {
+        let high = digit(text[2 * i]);
+        let low = digit(text[2 * i + 1]);
+        if high > 15 || low > 15 {
+            return false;
+        }
+        out[i] = high * 16 + low;
+    }
+    true
+}
+
+/// The bytes of a text of hex digits, in either case: none where the text is odd or a byte of it is no digit.
+pub fn decoded(alloc: Global, text: &[u8]) -> Result<Option<Vec<u8>>, AllocError>
+    ensures { IfOk result (λ found. option_map (λ bytes. bytes.items) found ≡ result_ok (decode_of text.now)) }
+{
+    if text.len() % 2 == 1 {
+        return Ok(None);
+    }
+    let mut bytes = vec![in alloc; 0u8; text.len() / 2]?;
+    if decode_into(text, bytes.as_mut_slice()) {
+        Ok(Some(bytes))
+    } else {
+        Ok(None)
+    }
+}

@@ -1,0 +1,99 @@
+//! A run of recorded steps, from a source of step lines to a sink of answer lines.
+
+ghost use Rattle.std.specs.Prelude.{◌≡◌, ◌⊎◌, [], false, true, flat_map, OnOk, IfErr, IfOk, IfSome, ◌↔◌};
+ghost use Rattle.ns_types.specs.declared.transfer.ReadFault.TheVariants.{Io};
+ghost use Rattle.std.specs.Arc.{arc_value};
+ghost use Rattle.std.specs.Io.KnownBytes.{Appends};
+ghost use Rattle.ns_types.specs.Streams.{AppendsFront};
+ghost use Rattle.ns_shard.specs.Steps.{all_taken};
+ghost use Rattle.ns_replay.specs.Output.{output, text_of};
+ghost use Rattle.ns_replay.specs.Private.Lines.{woven};
+
+use crate::step_lines::{StepLines, read_steps};
+use crate::taken::write_lines;
+use ns_roster::Roster;
+use ns_shard::{Run, Shards, Step, Taken};
+use ns_types::{ReadFault, Sink, Source};
+use std::alloc::{AllocError, Global};
+use std::sync::Arc;
+
+/// Why a run ended early.
+#[derive(Clone, Copy, Debug, PartialEq, Eq)]
+pub enum ReplayFault {
+    /// A growth was refused. Nothing was written.
+    NoMemory,
+    /// The reader failed, and nothing was written; or the writer failed, and has a beginning of the text.
+    Io,
+}
+
+// What comes of steps. Neither they nor the shards are needed any more when it is written down.
+fn taken_of(alloc: Global, roster: Arc<Roster>, steps: Vec<Step>) -> Result<Vec<Taken>, AllocError>
+    ensures { IfOk result (λ taken. taken.items ≡ all_taken (arc_value roster) [] steps.items) }
+{
+    let Run { shards: _, taken } = Shards::run(alloc, roster, steps.as_slice())?;
+    Ok(taken)
+}
+
+// What is known of step lines when their steps are made.
+#[derive(Drop)]
+struct Answers {
+    // For each line, whether it is a step line.
+    are_steps: Vec<bool>,
+    // What came of each step.
+    taken: Vec<Taken>,
+}
+
+// What comes of the lines of a source.
+#[tactic(auto, using(crate::proofs::Woven::all_lines_woven))]
+fn answered<R: Source>(
+    alloc: Global,
+    roster: Arc<Roster>,
+    reader: &mut R,
+) -> Result<Answers, ReadFault>
+    requires { R.Stream.has_failed reader.old ≡ false }
+    ensures lines { IfOk result (λ a. IfSome (R.left reader.old)
+        (λ input. flat_map text_of (woven a.are_steps.items a.taken.items) ≡ output (arc_value roster) input)) }
+    ensures sound { OnOk result (R.Stream.has_failed reader.new ≡ false) }
+    ensures io { IfErr result (λ e. (e ≡ Io) ↔ (R.Stream.has_failed reader.new ≡ true)) }
+{
+    let StepLines { steps, are_steps } = read_steps(alloc, reader)?;
+    let taken = taken_of(alloc, roster, steps)?;
+    Ok(Answers { are_steps, taken })
+}
+
+/// Reads step lines to the end, and then writes the lines of their answers.
+///
+/// What is written is the refusal lines and the answers of the run of the steps of the bytes read, in order, each line with a line
+/// feed: each answer is the plain server's, after the entries of its shard that the steps before it made. `Io` comes exactly where the reader or the writer failed.
+pub fn replay<R: Source, W: Sink>(
+    alloc: Global,
+    roster: Arc<Roster>,
+    reader: &mut R,
+    writer: &mut W,
+) -> Result<(), ReplayFault>
+    requires reader_sound { R.Stream.has_failed reader.old ≡ false }
+    requires writer_sound { W.Stream.has_failed writer.old ≡ false }
+
+    // What is written is the answers' lines, or where the writer fails a beginning of them.
+    ensures ok { OnOk result (IfSome (R.left reader.old)
+        (λ input. Appends (W.taken writer.old) (W.taken writer.new) (output (arc_value roster) input))) }
+    ensures front { (writer.new ≡ writer.old) ⊎ IfSome (R.left reader.old)
+        (λ input. AppendsFront (W.taken writer.old) (W.taken writer.new) (output (arc_value roster) input)) }
+
+    // When each fault comes, and that nothing was written before the end was read.
+    ensures sound { OnOk result ((R.Stream.has_failed reader.new ≡ false) × (W.Stream.has_failed writer.new ≡ false)) }
+    ensures io { (result ≡ Err ReplayFault.Io)
+        ↔ ((R.Stream.has_failed reader.new ≡ true) ⊎ (W.Stream.has_failed writer.new ≡ true)) }
+    ensures memory { result ≡ Err ReplayFault.NoMemory → writer.new ≡ writer.old }
+    ensures unread { R.Stream.has_failed reader.new ≡ true → writer.new ≡ writer.old }
+{
+    let Answers { are_steps, taken } = match answered(alloc, roster, reader) {
+        Ok(answered) => answered,
+        Err(ReadFault::NoMemory) => return Err(ReplayFault::NoMemory),
+        Err(ReadFault::Io) => return Err(ReplayFault::Io),
+    };
+    match write_lines(writer, are_steps.as_slice(), taken.as_slice()) {
+        Ok(()) => Ok(()),
+        Err(_) => Err(ReplayFault::Io),
+    }
+}

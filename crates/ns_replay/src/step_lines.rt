@@ -1,0 +1,298 @@
+//! Step lines: the steps that the lines of a source ask for.
+
+ghost use Rattle.std.specs.Prelude.{◌≡◌, ◌<◌, ◌≤◌, ◌∷◌, ◌++◌, [], ℕ, List, false, true, slice_index_or, vec_len, length, option_map, IfOk, IfErr, OnOk, IfSome, position, ◌==◌, ◌↔◌};
+ghost use Rattle.ns_types.specs.declared.transfer.ReadFault.TheVariants.{Io};
+ghost use Rattle.ns_replay.specs.Private.Lines.{steps_in, are_steps};
+ghost use Rattle.ns_replay.specs.StepLines.{without_return, parted, number, eui, ticket, heard, answered, lost, counters, closed, act, step};
+ghost use Rattle.ns_replay.specs.Private.Found.{FoundIn, StepsOf, Longer};
+
+use crate::hex_text::decoded;
+use hex::FromHex;
+use ns_shard::{Act, DatagramBytes, OwnedBytes, Step};
+use ns_types::{DevEui, ReadFault, Source, Ticket, WindowName};
+use std::alloc::{AllocError, Global};
+
+// How many bytes are looked at together.
+const BLOCK: usize = 32;
+
+// How many bytes are read at once, into memory that is taken before anything is read.
+const READ_ROOM: usize = 65_536;
+
+// How many bytes of blocks in which a byte does not stand come first. A block is passed as a whole, which is faster than byte by byte.
+fn passed(byte: u8, text: &[u8]) -> usize
+    ensures within { result ≤ length text.now }
+    ensures none { (k d : ℕ) → k < result → (slice_index_or text.now k d == byte) ≡ false }
+{
+    let mut from = 0;
+    'passing: while text.len() - from > BLOCK && !text[from..from + BLOCK].contains(&byte) {
+        from += BLOCK;
+    }
+    from
+}
+
+// Where a byte first stands, looked for byte by byte.
+fn first_of(byte: u8, text: &[u8]) -> Option<usize>
+    ensures value { result ≡ position (λ b. b == byte) text.now }
+    ensures within { IfSome result (λ i. i < length text.now) }
+{
+    text.iter().position(|b| *b == byte)
+}
+
+// Where a byte first stands.
+fn place_of(byte: u8, text: &[u8]) -> Option<usize>
+    ensures value { result ≡ position (λ b. b == byte) text.now }
+    ensures within { IfSome result (λ i. i < length text.now) }
+{
+    let from = passed(byte, text);
+    match first_of(byte, &text[from..]) {
+        Some(at) => Some(from + at),
+        None => None,
+    }
+}
+
+// The line without one carriage return at its end.
+#[tactic(auto, unfolding(crate::specs::StepLines::without_return))]
+fn without_return(line: &[u8]) -> &[u8]
+    ensures { result.now ≡ without_return line.now }
+{
+    if !line.is_empty() && line[line.len() - 1] == b'\r' {
+        &line[..line.len() - 1]
+    } else {
+        line
+    }
+}
+
+// The text before the first space and the text behind it.
+#[tactic(auto, unfolding(crate::specs::StepLines::parted))]
+fn parted(text: &[u8]) -> Option<(&[u8], &[u8])>
+    ensures { option_map (λ p. (p.0.now, p.1.now)) result ≡ parted text.now }
+{
+    match place_of(b' ', text) {
+        Some(at) => Some((&text[..at], &text[at + 1..])),
+        None => None,
+    }
+}
+
+// The value of decimal digits.
+#[tactic(auto, unfolding(crate::specs::StepLines::number))]
+fn number(text: &[u8]) -> Option<u32>
+    ensures { result ≡ number text.now }
+{
+    if text.is_empty() {
+        return None;
+    }
+    let mut value = 0u64;
+    'digits: for digit in text {
+        if !digit.is_ascii_digit() {
+            return None;
+        }
+        value = value * 10 + u64::from(*digit - b'0');
+        if value > u64::from(u32::MAX) {
+            return None;
+        }
+    }
+    Some(value as u32)
+}
+
+// The device of 16 hex digits.
+fn eui(text: &[u8]) -> Option<DevEui>
+    ensures { result ≡ eui text.now }
+{
+    let bytes = <[u8; 8]>::from_hex(text).ok()?;
+    Some(DevEui(u64::from_be_bytes(bytes)))
+}
+
+// The ticket of 46 hex digits.
+fn ticket(text: &[u8]) -> Option<Ticket>
+    ensures { result ≡ ticket text.now }
+{
+    let bytes = <[u8; 23]>::from_hex(text).ok()?;
+    Some(Ticket(bytes))
+}
+
+// The step of the text behind `heard`.
+#[tactic(auto, unfolding(crate::specs::StepLines::heard))]
+fn heard(alloc: Global, text: &[u8]) -> Result<Option<Act>, AllocError>
+    ensures { IfOk result (λ a. a ≡ heard text.now) }
+{
+    match decoded(alloc, text)? {
+        Some(bytes) if !bytes.is_empty() => Ok(Some(Act::Datagram(DatagramBytes::new(bytes)))),
+        _ => Ok(None),
+    }
+}
+
+// The step of the text behind `answer`.
+#[tactic(auto, unfolding(crate::specs::StepLines::answered))]
+fn answered(alloc: Global, text: &[u8]) -> Result<Option<Act>, AllocError>
+    ensures { IfOk result (λ a. a ≡ answered text.now) }
+{
+    let Some((word, body)) = parted(text) else {
+        return Ok(None);
+    };
+    let Some(ticket) = ticket(word) else {
+        return Ok(None);
+    };
+    let body = OwnedBytes::new(Vec::from_slice(alloc, body)?);
+    Ok(Some(Act::Answer { ticket, body }))
+}
+
+// The step of the text behind `lost`.
+#[tactic(auto, unfolding(crate::specs::StepLines::lost))]
+fn lost(text: &[u8]) -> Option<Act>
+    ensures { result ≡ lost text.now }
+{
+    Some(Act::Lost {
+        ticket: ticket(text)?,
+    })
+}
+
+// The session and the counter of the text behind a device.
+#[tactic(auto, unfolding(crate::specs::StepLines::counters))]
+fn counters(text: &[u8]) -> Option<(u32, u32)>
+    ensures { result ≡ counters text.now }
+{
+    let (session, fcnt) = parted(text)?;
+    Some((number(session)?, number(fcnt)?))
+}
+
+// The step of the text behind `close`.
+#[tactic(auto, unfolding(crate::specs::StepLines::closed))]
+fn closed(text: &[u8]) -> Option<Act>
+    ensures { result ≡ closed text.now }
+{
+    let (device, text) = parted(text)?;
+    let eui = eui(device)?;
+    let (session, fcnt) = counters(text)?;
+    Some(Act::Close(WindowName { eui, session, fcnt }))
+}
+
+// The step that a first word asks for, with the text behind it.
+#[tactic(auto, unfolding(crate::specs::StepLines::act))]
+fn act(alloc: Global, word: &[u8], text: &[u8]) -> Result<Option<Act>, AllocError>
+    ensures { IfOk result (λ a. a ≡ act word.now text.now) }
+{
+    if word == b"heard".as_slice() {
+        heard(alloc, text)
+    } else if word == b"answer".as_slice() {
+        answered(alloc, text)
+    } else if word == b"lost".as_slice() {
+        Ok(lost(text))
+    } else if word == b"close".as_slice() {
+        Ok(closed(text))
+    } else {
+        Ok(None)
+    }
+}
+
+// The step that a line asks for.
+#[tactic(auto, unfolding(crate::specs::StepLines::step))]
+#[inline(always)]
+fn step(alloc: Global, line: &[u8]) -> Result<Option<Act>, AllocError>
+    ensures { IfOk result (λ a. a ≡ step line.now) }
+{
+    match parted(without_return(line)) {
+        Some((word, text)) => act(alloc, word, text),
+        None => Ok(None),
+    }
+}
+
+/// The steps of a text, and which of its lines are step lines.
+#[derive(Drop)]
+pub struct StepLines {
+    /// The steps of the step lines, in order.
+    pub steps: Vec<Step>,
+    /// For each line, whether it is a step line.
+    pub are_steps: Vec<bool>,
+}
+
+// Adds what a line asks for.
+#[inline(always)]
+fn add(found: &mut StepLines, act: Option<Act>) -> Result<(), AllocError>
+    ensures steps { OnOk result (found.new.steps.items ≡ found.old.steps.items ++ steps_in (act ∷ [])) }
+    ensures are_steps { OnOk result (found.new.are_steps.items ≡ found.old.are_steps.items ++ are_steps (act ∷ [])) }
+{
+    found.are_steps.push(act.is_some())?;
+    if let Some(act) = act {
+        found.steps.push(Step { worker: 0, act })?;
+    }
+    Ok(())
+}
+
+// Adds the lines that end in a block of a text. `line` has what stands in the text behind its last line feed, so each line is
+// looked at once, however the blocks fall.
+fn add_block(
+    alloc: Global,
+    found: &mut StepLines,
+    line: &mut Vec<u8>,
+    block: &[u8],
+) -> Result<(), AllocError>
+    ensures found { OnOk result ((text : List ℕ) → FoundIn found.old line.old.items text → FoundIn found.new line.new.items (text ++ block.now)) }
+    ensures longer { OnOk result (Longer found.old line.old.items found.new line.new.items (length block.now)) }
+{
+    let mut rest = block;
+    'lines: while let Some(end) = place_of(b'\n', rest) {
+        line.extend_from_slice(&rest[..end])?;
+        add(found, step(alloc, line.as_slice())?)?;
+        line.clear();
+        rest = &rest[end + 1..];
+    }
+    line.extend_from_slice(rest)?;
+    Ok(())
+}
+
+// Adds what stands behind the last line feed, which is a line where it isn't empty.
+fn add_last(alloc: Global, found: &mut StepLines, line: &[u8]) -> Result<(), AllocError>
+    ensures { OnOk result ((text : List ℕ) → FoundIn found.old line.now text → StepsOf found.new text) }
+{
+    if line.is_empty() {
+        return Ok(());
+    }
+    add(found, step(alloc, line)?)?;
+    Ok(())
+}
+
+// Memory of n bytes.
+fn zeros(alloc: Global, n: usize) -> Result<Vec<u8>, AllocError>
+    ensures { IfOk result (λ bytes. vec_len bytes ≡ n) }
+{
+    vec![in alloc; 0u8; n]
+}
+
+// The steps of all the lines that a source gives, read to `block`.
+fn read_lines<S: Source>(
+    alloc: Global,
+    source: &mut S,
+    block: &mut [u8],
+) -> Result<StepLines, ReadFault>
+    requires sound { S.Stream.has_failed source.old ≡ false }
+    requires room { 0 < length block.old }
+    ensures steps { IfOk result (λ found. IfSome (S.left source.old) (StepsOf found)) }
+    ensures sound { OnOk result (S.Stream.has_failed source.new ≡ false) }
+    ensures io { IfErr result (λ e. (e ≡ Io) ↔ (S.Stream.has_failed source.new ≡ true)) }
+{
+    let mut found = StepLines {
+        steps: Vec::new(alloc),
+        are_steps: Vec::new(alloc),
+    };
+    let mut line = Vec::new(alloc);
+    'reading: loop {
+        let n = source.read(block)?;
+        if n == 0 {
+            add_last(alloc, &mut found, line.as_slice())?;
+            return Ok(found);
+        }
+        add_block(alloc, &mut found, &mut line, &block[..n])?;
+    }
+}
+
+/// The steps of all the lines that a source gives, in order, and which of them are step lines. Of the text itself one block and
+/// one line are in memory at a time. The block is the first memory that a run takes.
+pub fn read_steps<S: Source>(alloc: Global, source: &mut S) -> Result<StepLines, ReadFault>
+    requires { S.Stream.has_failed source.old ≡ false }
+    ensures steps { IfOk result (λ found. IfSome (S.left source.old) (StepsOf found)) }
+    ensures sound { OnOk result (S.Stream.has_failed source.new ≡ false) }
+    ensures io { IfErr result (λ e. (e ≡ Io) ↔ (S.Stream.has_failed source.new ≡ true)) }
+{
+    let mut block = zeros(alloc, READ_ROOM)?;
+    read_lines(alloc, source, block.as_mut_slice())
+}

@@ -1,0 +1,14 @@
+use Rattle.std.proofs.Common.{sym, ap, option_map, ◌∙◌}
+use Rattle.std.specs.Option.{option_and_then}
+use Rattle.ns_sessions.specs.declared.session.Session.{Session}
+use Rattle.ns_sessions.specs.Record.{session_in}
+use Rattle.ns_windows.proofs.Places.{first-find, place-first}
+use Rattle.ns_shard.specs.declared.devices.Own.{Own}
+use Rattle.ns_shard.specs.Devices.{is_own}
+use Rattle.ns_shard.proofs.devices.Devices.keys.Goals as goal
+
+pub returns : goal.returns
+returns c =
+    let name = c.args.fit.now.window in
+    let at = place-first (is_own name.eui) c.self.inside.list.items c.args.fit.now.place c.index.result.now (rw (← c.self.view_is) at c.requires) c.index.ensures in
+    rw (← c.self.view_is) (c.keys.ensures ∙ ap (option_and_then (λ (o : Own). option_map (λ (s : Session). (s.nwk, s.app)) (session_in o.state name.session))) (sym (first-find _ _ _ _ at)))
