@@ -18,8 +18,7 @@ ghost use Rattle.lorawan_ns.specs.Status.{IsServed, IsStatusOf};
 
 use crate::fault::{Fault, of_reading, of_roster, of_run, of_serving, status_of};
 use crate::options::{Asked, BadWords, read_words};
-use log::sink::Console;
-use log::{LevelFilter, Log, Logged};
+use log::Log;
 use ns_replay::replay;
 use ns_roster::Roster;
 use ns_serve::{ServeOptions, serve};
@@ -60,14 +59,6 @@ fn run_replay<'a, R: Files + AllocGlobal + Input + Print>(
     match replay(rt.alloc(), roster, &mut reader, &mut writer) {
         Ok(()) => Ok(()),
         Err(fault) => Err(of_run(fault)),
-    }
-}
-
-// The level of log lines: that of RUST_LOG, else `info`.
-fn level<R: Env + AllocGlobal>(rt: &R) -> LevelFilter {
-    match env::var(rt, "RUST_LOG") {
-        Ok(text) => text.as_str().parse().unwrap_or(LevelFilter::Info),
-        Err(_) => LevelFilter::Info,
     }
 }
 
@@ -143,10 +134,7 @@ fn main(rt: HostRuntime) -> ExitCode {
     };
     match read_words(rt.alloc(), words.as_slice()) {
         Ok(Asked::Replay(path)) => ended(&rt, &run_replay(&rt, path)),
-        Ok(Asked::Serve(path, options)) => {
-            let logged = Logged::new(rt, level(&rt), Console(rt));
-            ended(&rt, &run_serve(&logged, path, &options))
-        }
+        Ok(Asked::Serve(path, options)) => ended(&rt, &run_serve(&rt, path, &options)),
         Err(bad) => refused(&rt, &bad),
     }
 }

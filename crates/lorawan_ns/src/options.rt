@@ -18,8 +18,7 @@ pub const VERSION: &str = "0.1.0";
 const STREAMS: &str = "\
 Standard input (replay): step lines.
 Standard output: the lines of their answers (replay), the uplinks (serve).
-Standard error: why the program ended early, and log lines (serve), by the level
-in RUST_LOG: off, error, warn, info, debug or trace; info where it is not set.
+Standard error: why the program ended early, and log lines (serve).
 
 Status: 0 at a good end; 1 for a roster or a file that could not be read, for
 want of memory, and where a stream or the socket failed; 2 for a bad command line.

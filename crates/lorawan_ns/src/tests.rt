@@ -137,7 +137,7 @@ fn help_names_streams_and_statuses(rt: HostRuntime) -> Result<(), Fail> {
         ("--help", "Standard output"),
         ("--help", "Status"),
         ("--help", "docs/FORMATS.md"),
-        ("--help", "RUST_LOG"),
+        ("--help", "log lines"),
         ("--version", "lorawan_ns 0.1.0"),
     ] {
         let mut words = Vec::new(rt.alloc());
