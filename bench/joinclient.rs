@@ -1,7 +1,8 @@
 // One HTTP exchange with a join server over memory in plain Rust, timed in the same way as the crate bench_joinclient.
 //
 // The head is read by hand, as the crate httparse reads it: empty lines before it, a line feed alone as a line's end, a missing
-// reason, values without the white space around them. As the proved body it is read anew after each read.
+// reason, values without the white space around them. It is read anew after each read, as a caller of httparse would do it; the
+// proved body keeps the place where the bytes end.
 use std::hint::black_box;
 use std::time::Instant;
 

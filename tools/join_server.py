@@ -12,7 +12,7 @@
 It answers each JoinReq that is POSTed to it: `Success` with the Join-Accept and the session keys in clear, `MICFailed`
 where the Join-Request's MIC does not fit, `Other` for a device that it does not know; a text that is no JoinReq gets
 status 400. Formulas: LoRaWAN L2 1.0.4, section 6.2; AES and CMAC are those of the package `cryptography`
-(`apt-get install python3-cryptography`). It is for trials: it keeps no DevNonces and no state on disk, so after a
+(`apt-get install python3-cryptography`), or slow ones of this folder where it is not there. It is for trials: it keeps no DevNonces and no state on disk, so after a
 restart its JoinNonces begin again, and it speaks plain HTTP and wraps no keys, so let it be reached from its own
 machine only. The interrupt and termination signals end it with status 0.
 """
@@ -25,29 +25,9 @@ import sys
 import threading
 import time
 
-from cryptography.hazmat.primitives.ciphers import Cipher, algorithms, modes
-from cryptography.hazmat.primitives.cmac import CMAC
+import aes_cmac
 
 MOST_BODY, LAST_NONCE = 65536, 0xFFFFFF
-
-
-def encrypted(key, blocks):
-    """AES-128 encrypt of each block (FIPS 197)."""
-    cipher = Cipher(algorithms.AES(key), modes.ECB()).encryptor()
-    return cipher.update(blocks) + cipher.finalize()
-
-
-def decrypted(key, blocks):
-    """AES-128 decrypt of each block, by which a Join-Accept is enciphered."""
-    cipher = Cipher(algorithms.AES(key), modes.ECB()).decryptor()
-    return cipher.update(blocks) + cipher.finalize()
-
-
-def mic(key, message):
-    """The first four bytes of the CMAC (RFC 4493)."""
-    code = CMAC(algorithms.AES(key))
-    code.update(message)
-    return code.finalize()[:4]
 
 
 # ---------------------------------------------------------------- JoinReq
@@ -93,11 +73,11 @@ class JoinReq:
 
 def granted(request, key, join_nonce):
     """The Join-Accept and the session keys NwkSKey and AppSKey of a JoinNonce."""
-    nonce = join_nonce.to_bytes(3, 'little')
+    cipher, nonce = aes_cmac.of(key), join_nonce.to_bytes(3, 'little')
     fields = nonce + request.net_id[::-1] + request.address[::-1] + request.settings + bytes([request.delay])
-    accept = b'\x20' + decrypted(key, fields + mic(key, b'\x20' + fields))
+    accept = b'\x20' + cipher.decrypt(fields + cipher.mic(b'\x20' + fields))
     front = nonce + request.net_id[::-1] + request.nonce + bytes(7)
-    return accept, encrypted(key, b'\x01' + front), encrypted(key, b'\x02' + front)
+    return accept, cipher.encrypt(b'\x01' + front), cipher.encrypt(b'\x02' + front)
 
 
 class JoinServer:
@@ -117,7 +97,7 @@ class JoinServer:
         answer = {'MessageType': 'JoinAns', 'Result': {'ResultCode': 'Other'}, 'TransactionID': request.transaction}
         with self.lock:
             key = self.keys.get(request.eui)
-            if key is not None and mic(key, request.ticket[:19]) != request.ticket[19:]:
+            if key is not None and aes_cmac.of(key).mic(request.ticket[:19]) != request.ticket[19:]:
                 answer['Result']['ResultCode'] = 'MICFailed'
             elif key is not None:
                 accept, nwk, app = granted(request, key, self.take_nonce())

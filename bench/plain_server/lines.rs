@@ -103,8 +103,7 @@ impl Text {
 
     /// A downlink in the first receive window of the best copy, the first one of the strongest.
     pub fn down(&mut self, entries: &[Entry], copies: &Copies, offset: u8, delay: u64, frame: &[u8]) {
-        let stronger = |a: &Heard, b: &Heard| (a.snr, a.rssi) > (b.snr, b.rssi);
-        let best = copies.heard(entries).reduce(|best, copy| if stronger(copy, best) { copy } else { best }).unwrap();
+        let best = copies.best(entries);
         self.line("down").eui(best.gateway).number(best.moment.wrapping_add(delay)).number(best.freq);
         self.number(best.dr.saturating_sub(offset)).hex(frame).end();
     }

@@ -2,6 +2,9 @@
 //!
 //!     rustc -O --edition 2021 -o plain_server bench/plain_server/main.rs
 //!     plain_server replay ROSTER < STEPS     prints what `lorawan_ns replay ROSTER` prints
+//!     plain_server serve ROSTER --join ADDR [--listen ADDR] [--workers N] [--join-workers N] [--window MS] [--stop-after N]
+//!                                            does what `lorawan_ns serve` does
+//!     plain_server receive [--listen ADDR] [--workers N]     receives datagrams by the same calls and does nothing with them
 //!     plain_server sizes                     prints the sizes of its types in bytes
 //!
 //! It is a measure alone and no part of the server: nothing is proved of it, and its AES reads tables at secret addresses. It follows
@@ -21,6 +24,7 @@ use std::process::ExitCode;
 mod aes;
 mod json;
 mod lines;
+mod serve;
 
 use aes::*;
 use json::*;
@@ -209,7 +213,7 @@ fn below(greatest: Option<u32>, low: u16) -> Option<u32> {
 
 struct RosterDevice { eui: u64, join_eui: u64, addr: u32 }
 
-struct Roster { rx1_offset: u8, ack_delay: u64, devices: Vec<RosterDevice> }
+struct Roster { net: [u8; 3], rx1_offset: u8, rx_delay: u8, ack_delay: u64, devices: Vec<RosterDevice> }
 
 impl Roster {
     fn read(text: &[u8]) -> Result<Roster, &'static str> {
@@ -245,7 +249,7 @@ impl Roster {
             let addr = (net[2] as u32 & 63) << 25 | (eui as u32 % 16) << 21 | slot as u32;
             devices.push(RosterDevice { eui, join_eui, addr });
         }
-        Ok(Roster { rx1_offset, ack_delay: 1_000_000 * rx_delay.max(1), devices })
+        Ok(Roster { net, rx1_offset, rx_delay: rx_delay as u8, ack_delay: 1_000_000 * rx_delay.max(1), devices })
     }
 }
 
@@ -290,6 +294,12 @@ impl Copies {
     }
 
     fn frame<'a>(&self, entries: &'a [Entry]) -> &'a [u8] { entries[self.entries[0] as usize].frame() }
+
+    /// The first one of the strongest.
+    fn best<'a>(&self, entries: &'a [Entry]) -> &'a Heard {
+        let stronger = |a: &Heard, b: &Heard| (a.snr, a.rssi) > (b.snr, b.rssi);
+        self.heard(entries).reduce(|best, copy| if stronger(copy, best) { copy } else { best }).unwrap()
+    }
 }
 
 struct OpenTicket { ticket: Ticket, copies: Copies }
@@ -301,6 +311,18 @@ struct Window {
 }
 
 struct Session { number: u32, greatest: Option<u32>, next_ack: u64, nwk: MacKey, app: Option<Key> }
+
+impl Session {
+    /// The acknowledgement of a number.
+    fn ack_frame(&self, addr: u32, number: u32) -> [u8; 12] {
+        let mut frame = [0x60, 0, 0, 0, 0, 0x20, 0, 0, 0, 0, 0, 0];
+        frame[1..5].copy_from_slice(&addr.to_le_bytes());
+        frame[6..8].copy_from_slice(&(number as u16).to_le_bytes());
+        let mic = self.nwk.mic(1, addr, number, &frame[..8]);
+        frame[8..].copy_from_slice(&mic);
+        frame
+    }
+}
 
 struct Device {
     eui: u64,
@@ -474,6 +496,7 @@ impl Shard {
 }
 
 fn shard_of(eui: u64) -> usize { eui as usize % SHARDS }
+fn shards_of(roster: &Roster) -> Vec<Shard> { (0..SHARDS as u64).map(|shard| Shard::new(roster, shard)).collect() }
 
 // ---- The server
 
@@ -482,7 +505,7 @@ struct Server { rx1_offset: u8, ack_delay: u64, shards: Vec<Shard>, datagram: Ve
 impl Server {
     fn new(roster: &Roster) -> Self {
         let Roster { rx1_offset, ack_delay, .. } = *roster;
-        let shards = (0..SHARDS as u64).map(|shard| Shard::new(roster, shard)).collect();
+        let shards = shards_of(roster);
         Server { rx1_offset, ack_delay, shards, datagram: Vec::new(), out: Text(Vec::new()) }
     }
 
@@ -548,12 +571,7 @@ impl Server {
             self.out.up(&shard.entries, &window, session, &copies);
             if let Some(n) = ack {
                 let addr = Data::of(copies.frame(&shard.entries)).addr;
-                let mut frame = [0x60, 0, 0, 0, 0, 0x20, 0, 0, 0, 0, 0, 0];
-                frame[1..5].copy_from_slice(&addr.to_le_bytes());
-                frame[6..8].copy_from_slice(&(n as u16).to_le_bytes());
-                let mic = session.nwk.mic(1, addr, n, &frame[..8]);
-                frame[8..].copy_from_slice(&mic);
-                self.out.down(&shard.entries, &copies, self.rx1_offset, self.ack_delay, &frame);
+                self.out.down(&shard.entries, &copies, self.rx1_offset, self.ack_delay, &session.ack_frame(addr, n));
             }
         }
         shard.log(Call::Close { window }, reply);
@@ -600,11 +618,15 @@ fn replay(server: &mut Server) -> io::Result<()> {
     output.flush()
 }
 
-fn run(path: &str) -> Result<(), String> {
+fn read_roster(path: &str) -> Result<Roster, String> {
     let text = std::fs::read(path).map_err(|_| format!("cannot read {path}"))?;
-    let roster = Roster::read(&text).map_err(|fault| format!("roster: {fault}"))?;
+    Roster::read(&text).map_err(|fault| format!("roster: {fault}"))
+}
+
+fn run(path: &str) -> Result<(), String> {
+    let roster = read_roster(path)?;
     let mut server = Server::new(&roster);
-    drop((text, roster));
+    drop(roster);
     replay(&mut server).map_err(|_| "io".to_string())?;
     std::mem::forget(server); // The system takes its memory back at once.
     Ok(())
@@ -617,12 +639,20 @@ fn main() -> ExitCode {
             Ok(()) => return ExitCode::SUCCESS,
             Err(fault) => (1, fault),
         },
+        ["serve", path, ref options @ ..] => match read_roster(path).and_then(|roster| serve::serve(&roster, options)) {
+            Ok(()) => return ExitCode::SUCCESS,
+            Err(fault) => (1, fault),
+        },
+        ["receive", ref options @ ..] => match serve::receive(options) {
+            Ok(()) => return ExitCode::SUCCESS,
+            Err(fault) => (1, fault),
+        },
         ["sizes"] => {
             println!("Entry {}\nCall {}\nReply {}", size_of::<Entry>(), size_of::<Call>(), size_of::<Reply>());
             println!("Device {}\nSession {}\nWindow {}", size_of::<Device>(), size_of::<Session>(), size_of::<Window>());
             return ExitCode::SUCCESS;
         }
-        _ => (2, "plain_server replay ROSTER < STEPS\nplain_server sizes".to_string()),
+        _ => (2, "plain_server replay ROSTER < STEPS\nplain_server serve ROSTER --join ADDR ..\nplain_server receive ..\nplain_server sizes".to_string()),
     };
     eprintln!("{fault}");
     ExitCode::from(status)

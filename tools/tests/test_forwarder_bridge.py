@@ -8,9 +8,9 @@ import socket
 import threading
 import unittest
 
-from device import Device
 from live import APP_KEY, JOIN_EUI, Forwarder, StandIn, ended, roster_of, rxpk, started, wait_for
 
+from device import Device
 import forwarder_bridge as bridge
 import join_server
 

@@ -6,9 +6,9 @@ import tempfile
 import unittest
 from concurrent.futures import ThreadPoolExecutor
 
-from device import Device, WrongAccept
 from live import (APP_KEY, HAS_PROGRAM, JOIN_EUI, PROGRAM, SLOT, ended, join_req, posted, replayed, roster_of, started)
 
+from device import Device, WrongAccept
 import join_server
 
 # A JoinReq and its answers, whose Join-Accepts and keys OpenSSL made: the vectors of crates/ns_device.

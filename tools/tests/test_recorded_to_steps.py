@@ -8,10 +8,10 @@ import random
 import tempfile
 import unittest
 
-from device import Device
 from live import APP_KEY, HAS_PROGRAM, JOIN_EUI, PROGRAM, SLOT, Forwarder, StandIn, ended, join_req, replayed, roster_of
 from live import rxpk, started, wait_for
 
+from device import Device
 import join_server
 import recorded_to_steps
 

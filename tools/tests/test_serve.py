@@ -2,46 +2,19 @@
 import base64
 import json
 import os
-import subprocess
-import tempfile
 import unittest
 
-from device import Device
-from live import (APP_KEY, HAS_PROGRAM, JOIN_EUI, LONGEST, PROGRAM, Forwarder, ended, roster_of, rxpk, started)
+from live import APP_KEY, JOIN_EUI, Forwarder, ended, roster_of, rxpk, started
+from serving import Served
 
 import by_shard
+from device import Device
 
 A1, A2 = bytes.fromhex('00000000000000a1'), bytes.fromhex('00000000000000a2')
 WRAP = 1 << 32
-HAS_SERVE = HAS_PROGRAM and subprocess.run([PROGRAM, 'serve', '--help'], capture_output=True).returncode == 0
 
 
-class Serve:
-    """A running `serve`: `where` it listens, and at its end its lines."""
-
-    def __init__(self, roster, join, *words):
-        self.child = subprocess.Popen(
-            [PROGRAM, 'serve', roster, '--join', '%s:%d' % join, '--listen', '127.0.0.1:0', *words],
-            stdout=subprocess.PIPE, stderr=subprocess.PIPE, text=True)
-        word, where = self.child.stdout.readline().split()
-        assert word == 'listening'
-        host, _, port = where.rpartition(':')
-        self.where = host, int(port)
-
-    def lines(self):
-        """Waits for the end: the lines behind the first one."""
-        output, errors = self.child.communicate(timeout=LONGEST)
-        assert self.child.returncode == 0, errors
-        return output.splitlines()
-
-
-@unittest.skipUnless(HAS_SERVE, PROGRAM + ' has no command serve')
-class Served(unittest.TestCase):
-    def setUp(self):
-        folder = tempfile.TemporaryDirectory()
-        self.addCleanup(folder.cleanup)
-        self.folder = folder.name
-
+class Bridged(Served):
     def kept(self, child):
         """A child that is gone when the test is over."""
         def over():
@@ -50,22 +23,11 @@ class Served(unittest.TestCase):
                 child.communicate()
         self.addCleanup(over)
 
-    def written(self, name, text):
-        name = os.path.join(self.folder, name)
-        with open(name, 'w', encoding='utf-8') as file:
-            file.write(text)
-        return name
-
-    def joins(self, euis):
+    def join_server(self, euis):
         keys = self.written('keys', ''.join('%016x %s\n' % (eui, APP_KEY.hex()) for eui in euis))
         child, where = started([keys, '--listen', '127.0.0.1:0', '--seconds', '60'], 'join_server.py')
         self.kept(child)
         return where
-
-    def serve(self, roster, join, *words):
-        server = Serve(roster, join, *words)
-        self.kept(server.child)
-        return server
 
     def bridge(self, servers):
         serve = [word for server in servers for word in ('--serve', '%s:%d' % server.where)]
@@ -82,7 +44,7 @@ class Served(unittest.TestCase):
     def test_uplinks_and_acknowledgements_across_the_wrap(self):
         """From `rxpk` to the `up` line, and the Join-Accept and acknowledgements back at the right `tmst`."""
         roster = self.written('roster.json', json.dumps(roster_of([13])))
-        server = self.serve(roster, self.joins([13]), '--window', '300', '--stop-after', '5')
+        server = self.serve(roster, self.join_server([13]), '--window', '300', '--stop-after', '5')
         child, where = self.bridge([server])
         worse, better = self.forwarder(A1, where), self.forwarder(A2, where)
         device = Device(13, JOIN_EUI, APP_KEY)
@@ -120,13 +82,14 @@ class Served(unittest.TestCase):
         return [server.lines() for server in servers]
 
     def test_sixteen_servers(self):
-        """Sixteen servers, each with one shard: their `up` lines together are those of one server with all devices."""
-        euis, join = range(32), self.joins(range(32))
+        """Sixteen servers, each with one shard: their `up` lines together are those of one server with all devices. A device's two
+        uplinks come at once, so each server has one worker: of two, one could take the second uplink before the first."""
+        euis, join = range(32), self.join_server(range(32))
         roster = self.written('roster.json', json.dumps(roster_of(euis)))
         self.assertEqual(by_shard.main([roster, self.folder]), 0)
-        one, = self.run_devices(euis, [self.serve(roster, join, '--window', '50', '--stop-after', '96')])
+        one, = self.run_devices(euis, [self.serve(roster, join, '--workers', '1', '--window', '50', '--stop-after', '96')])
         parts = self.run_devices(euis, [
-            self.serve(os.path.join(self.folder, '%d.json' % k), join, '--window', '50', '--stop-after', '6')
+            self.serve(os.path.join(self.folder, '%d.json' % k), join, '--workers', '1', '--window', '50', '--stop-after', '6')
             for k in range(16)])
         self.assertEqual([part.pop() for part in parts], ['settled 12'] * 16)
         self.assertEqual(one.pop(), 'settled 192')

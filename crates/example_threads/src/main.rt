@@ -11,13 +11,13 @@ ghost use Rattle.ns_server.specs.Settled.{AreStates, MergesToLegal};
 
 mod workers;
 
-use crate::workers::{all_work, parted};
+use crate::workers::all_work;
 use anyhow::anyhow;
 use ns_calls::{Answer, lines};
 use ns_roster::Roster;
 use ns_server::{Naming, Receipt, Server, Settled};
 use ns_tally::Blanks;
-use ns_threads::roster;
+use ns_threads::{parted, roster};
 use std::alloc::Global;
 use std::marker::Brand;
 use std::sync::{Arc, Wait};
@@ -47,7 +47,8 @@ pub fn served<B: Naming + Send + Sync, R: Threads + Wait + Sync>(
     // Each thread has a pass and shares the server. A call takes the lock of its shard alone; its receipt has the entry that it made,
     // whose reply is the plain server's after the entries of the shard before it, and what goes out with it.
     let done = all_work(rt, alloc, &server, passes)?;
-    let (passes, receipts) = parted(alloc, done)?;
+    let mut receipts = Vec::new(alloc);
+    let passes = parted(alloc, done, &mut receipts)?;
 
     // With every pass given back the histories are as long as the passes have counted, each is legal, and so is every merge of them.
     // With one missing, both come back.

@@ -1,20 +1,12 @@
 //! What each worker does: its devices join, and then it hears an uplink of each device.
 
 use crate::DEVICES;
-use ns_calls::Call;
-use ns_server::{Gate, Naming, Pass, Receipt, Server};
-use ns_threads::{join, join_reply, uplink};
+use ns_server::{Naming, Pass, Receipt, Server};
+use ns_threads::{join, join_reply, make, uplink};
 use std::alloc::{AllocError, Global};
 use std::sync::Wait;
 use std::thread;
 use std::thread::Threads;
-
-// A gate is visited once in each call, under the lock. This one lets every call go on at once.
-struct Open;
-
-impl<R> Gate<R> for Open {
-    fn visit(&self, _rt: &R, _shard: u8, _number: u64) {}
-}
 
 /// Lends the server to a thread for each pass, and waits for all of them.
 pub fn all_work<B: Naming + Send + Sync, R: Threads + Wait + Sync>(
@@ -24,19 +16,6 @@ pub fn all_work<B: Naming + Send + Sync, R: Threads + Wait + Sync>(
     passes: Vec<Pass<B>>,
 ) -> Result<Vec<(Pass<B>, Vec<Receipt>)>, AllocError> {
     thread::map_vec(rt, passes, &|pass| work(rt, alloc, server, pass))
-}
-
-// Makes a call, and keeps its receipt where there is memory for it.
-fn make<B: Naming, R: Wait>(
-    rt: &R,
-    server: &Server<B>,
-    pass: &mut Pass<B>,
-    call: Call,
-    receipts: &mut Vec<Receipt>,
-) -> Result<(), AllocError> {
-    let receipt = server.call(rt, pass, call, &Open)?;
-    receipts.push(receipt)?;
-    Ok(())
 }
 
 // All devices join, and an uplink of each is heard. Calls that another worker made first are answered as copies, or as too late.
@@ -56,20 +35,4 @@ fn work<B: Naming, R: Wait>(
         }
     }
     (pass, receipts)
-}
-
-/// The passes, and the receipts of all of them.
-pub fn parted<B: Naming>(
-    alloc: Global,
-    mut done: Vec<(Pass<B>, Vec<Receipt>)>,
-) -> Result<(Vec<Pass<B>>, Vec<Receipt>), AllocError> {
-    let mut passes = Vec::new(alloc);
-    let mut receipts = Vec::new(alloc);
-    'workers: while let Some((pass, mut mine)) = done.pop() {
-        passes.push(pass)?;
-        'receipts: while let Some(receipt) = mine.pop() {
-            receipts.push(receipt)?;
-        }
-    }
-    Ok((passes, receipts))
 }

@@ -33,5 +33,5 @@ abbrev pub IsServed : ServeOptions → Type 0
 IsServed options = ((0 < options.workers) × (options.workers ≤ 16)) × ((0 < options.join_workers) × (options.join_workers ≤ 16))
 
 abbrev pub IsDoable : Asked → Type 0
-IsDoable (Replay path) = ⊤
+IsDoable (Replay path closing) = ⊤
 IsDoable (Serve path options) = IsServed options

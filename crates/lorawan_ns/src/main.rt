@@ -8,6 +8,7 @@
 #![tactic(auto)]
 
 mod fault;
+mod logging;
 mod options;
 #[cfg(test)]
 mod tests;
@@ -17,13 +18,16 @@ ghost use Rattle.std.specs.Process.{exit_status};
 ghost use Rattle.lorawan_ns.specs.Status.{IsServed, IsStatusOf};
 
 use crate::fault::{Fault, of_reading, of_roster, of_run, of_serving, status_of};
+use crate::logging::{Logging, VARIABLE, filter_of};
 use crate::options::{Asked, BadWords, read_words};
-use log::Log;
+use log::filter::{Filter, FilteredLog};
+use log::sink::Console;
 use ns_replay::replay;
 use ns_roster::Roster;
 use ns_serve::{ServeOptions, serve};
 use ns_types::OverStd;
-use std::env::Env;
+use std::alloc::AllocError;
+use std::env::{Env, VarError};
 use std::io::ErrorKind;
 use std::net::{Net, TcpListener, TcpStream};
 use std::process::ExitCode;
@@ -45,10 +49,11 @@ fn read_roster<'a, R: Files + AllocGlobal>(rt: &R, path: &'a str) -> Result<Rost
     }
 }
 
-// Reads the roster and then answers the steps of standard input.
+// Reads the roster and then answers the steps of standard input, and writes the closing roster where it is asked for.
 fn run_replay<'a, R: Files + AllocGlobal + Input + Print>(
     rt: &R,
     path: &'a str,
+    closing: bool,
 ) -> Result<(), Fault<'a>> {
     let roster = read_roster(rt, path)?;
     let Ok(roster) = Arc::new(rt.alloc(), roster) else {
@@ -56,16 +61,25 @@ fn run_replay<'a, R: Files + AllocGlobal + Input + Print>(
     };
     let mut reader = OverStd::new(rt.reader());
     let mut writer = OverStd::new(io::writer(rt));
-    match replay(rt.alloc(), roster, &mut reader, &mut writer) {
+    match replay(rt.alloc(), roster, closing, &mut reader, &mut writer) {
         Ok(()) => Ok(()),
         Err(fault) => Err(of_run(fault)),
+    }
+}
+
+// The filter of log lines that the environment asks for.
+fn read_filter<R: Env + AllocGlobal>(rt: &R) -> Result<Filter, AllocError> {
+    match env::var(rt, VARIABLE) {
+        Ok(text) => filter_of(rt.alloc(), Some(text.as_str())),
+        Err(VarError::OutOfMemory) => Err(AllocError),
+        Err(_) => filter_of(rt.alloc(), None),
     }
 }
 
 // Reads the roster and then serves gateways.
 fn run_serve<'a, R>(rt: &R, path: &'a str, options: &ServeOptions<'_>) -> Result<(), Fault<'a>>
 where
-    R: Files + AllocGlobal + Print + Threads + Wait + Clock + Log + Sync,
+    R: Files + AllocGlobal + Print + Eprint + Env + Threads + Wait + Clock + Sync,
     R: Net<Listener = TcpListener, Stream = TcpStream>,
     requires { IsServed options.now }
 {
@@ -73,8 +87,12 @@ where
     let Ok(roster) = Arc::new(rt.alloc(), roster) else {
         return Err(Fault::NoMemory);
     };
+    let Ok(filter) = read_filter(rt) else {
+        return Err(Fault::NoMemory);
+    };
+    let logging = Logging::new(rt, FilteredLog::new(Console(rt), filter));
     let writer = OverStd::new(io::writer(rt));
-    match serve(rt, rt.alloc(), roster, options, writer) {
+    match serve(&logging, rt.alloc(), roster, options, writer) {
         Ok(_) => Ok(()),
         Err(fault) => Err(of_serving(fault)),
     }
@@ -133,7 +151,7 @@ fn main(rt: HostRuntime) -> ExitCode {
         Err(bad) => return refused(&rt, &bad),
     };
     match read_words(rt.alloc(), words.as_slice()) {
-        Ok(Asked::Replay(path)) => ended(&rt, &run_replay(&rt, path)),
+        Ok(Asked::Replay(path, closing)) => ended(&rt, &run_replay(&rt, path, closing)),
         Ok(Asked::Serve(path, options)) => ended(&rt, &run_serve(&rt, path, &options)),
         Err(bad) => refused(&rt, &bad),
     }

@@ -17,7 +17,8 @@ pub const VERSION: &str = "0.1.0";
 // What stands at the end of the help.
 const STREAMS: &str = "\
 Standard input (replay): step lines.
-Standard output: the lines of their answers (replay), the uplinks (serve).
+Standard output: the lines of their answers (replay), the uplinks (serve); with
+--closing the last line is the roster from which the next run begins.
 Standard error: why the program ended early, and log lines (serve).
 
 Status: 0 at a good end; 1 for a roster or a file that could not be read, for
@@ -29,8 +30,8 @@ docs/OPERATOR.md says how to use them.";
 /// What the words ask for.
 #[derive(Drop)]
 pub enum Asked<'a> {
-    /// To answer the step lines of standard input over the roster of this file.
-    Replay(&'a str),
+    /// To answer the step lines of standard input over the roster of this file, and whether the closing roster is written.
+    Replay(&'a str, bool),
     /// To serve gateways over the roster of this file.
     Serve(&'a str, ServeOptions<'a>),
 }
@@ -90,6 +91,14 @@ fn number<'a>(alloc: Global, name: &'a str, value: &'a str, most: u64, help: &'a
     option(alloc, name, value, help).value_parser(ValueParser::unsigned(1, most))
 }
 
+// The option that asks for the closing roster.
+fn closing<'a>(alloc: Global) -> Arg<'a> {
+    Arg::new(alloc, "closing")
+        .long("closing")
+        .action(ArgAction::SetTrue)
+        .help("Writes at the end the roster from which the next run begins")
+}
+
 // The command that serves gateways.
 fn serve_command<'a>(alloc: Global) -> Result<Command<'a>, AllocError> {
     let join = option(
@@ -142,7 +151,8 @@ fn serve_command<'a>(alloc: Global) -> Result<Command<'a>, AllocError> {
             "N",
             4_294_967_295,
             "After how many datagrams to stop; without it, never",
-        ))
+        ))?
+        .arg(closing(alloc))
 }
 
 // The command that answers recorded steps.
@@ -150,7 +160,8 @@ fn replay_command<'a>(alloc: Global) -> Result<Command<'a>, AllocError> {
     Command::new(alloc, "replay")
         .about("Answers the step lines of standard input")
         .after_help(STREAMS)
-        .arg(roster(alloc))
+        .arg(roster(alloc))?
+        .arg(closing(alloc))
 }
 
 // The program's commands.
@@ -206,6 +217,7 @@ fn serve_options<'a>(found: &ArgMatches<'a>) -> Result<ServeOptions<'a>, BadWord
         join_workers: count(found, "join-workers", 16)? as usize,
         window_ms: count(found, "window", 60_000)?,
         stop_after,
+        closing: found.get_flag("closing"),
     })
 }
 
@@ -224,6 +236,6 @@ pub fn read_words<'a>(alloc: Global, words: &'a [String]) -> Result<Asked<'a>, B
     if name == "serve" {
         Ok(Asked::Serve(path, serve_options(found)?))
     } else {
-        Ok(Asked::Replay(path))
+        Ok(Asked::Replay(path, found.get_flag("closing")))
     }
 }

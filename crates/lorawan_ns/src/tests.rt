@@ -41,18 +41,22 @@ fn are_usual(options: &ServeOptions<'_>) -> bool {
         && options.join_workers == 1
         && options.window_ms == 200
         && options.stop_after.is_none()
+        && !options.closing
 }
 
-// What some words ask for: R to replay, U to serve with the usual options, S to serve with others, T a text that was asked for; V is
-// a value that an option cannot have, E another error. Beside it the exit status where nothing is to be done.
+// What some words ask for: R to replay, C to replay with the closing roster, U to serve with the usual options, D to serve with the
+// closing roster, S to serve with others, T a text that was asked for; V is a value that an option cannot have, E another error. Beside
+// it the exit status where nothing is to be done.
 fn asked(rt: &HostRuntime, list: &[&str]) -> Result<(char, ExitCode), Fail> {
     let mut words = Vec::new(rt.alloc());
     for word in list {
         words.push(String::from_str(rt.alloc(), word)?)?;
     }
     Ok(match read_words(rt.alloc(), words.as_slice()) {
-        Ok(Asked::Replay("roster.json")) => ('R', ExitCode::SUCCESS),
+        Ok(Asked::Replay("roster.json", false)) => ('R', ExitCode::SUCCESS),
+        Ok(Asked::Replay("roster.json", true)) => ('C', ExitCode::SUCCESS),
         Ok(Asked::Serve("roster.json", options)) if are_usual(&options) => ('U', ExitCode::SUCCESS),
+        Ok(Asked::Serve("roster.json", options)) if options.closing => ('D', ExitCode::SUCCESS),
         Ok(Asked::Serve("roster.json", _)) => ('S', ExitCode::SUCCESS),
         Ok(_) => ('?', ExitCode::SUCCESS),
         Err(bad) => (letter(&bad), refused(rt, &bad)),
@@ -75,6 +79,10 @@ fn words_of_the_command_line(rt: HostRuntime) -> Result<(), Fail> {
     assert_eq!(rt;
         asked(&rt, &["lorawan_ns", "replay", "roster.json"])?,
         ('R', done)
+    );
+    assert_eq!(rt;
+        asked(&rt, &["lorawan_ns", "replay", "roster.json", "--closing"])?,
+        ('C', done)
     );
     assert_eq!(rt; asked(&rt, &["lorawan_ns", "--help"])?, ('T', done));
     assert_eq!(rt;
@@ -99,6 +107,15 @@ fn words_of_serving(rt: HostRuntime) -> Result<(), Fail> {
         asked(&rt, &["lorawan_ns", "serve", "roster.json"])?,
         ('E', bad)
     );
+    let words = [
+        "lorawan_ns",
+        "serve",
+        "roster.json",
+        "--join",
+        "127.0.0.1:8080",
+        "--closing",
+    ];
+    assert_eq!(rt; asked(&rt, &words)?, ('D', done));
     for (name, value, wanted) in [
         ("--host", "localhost", ('U', done)),
         ("--host", "js.local", ('S', done)),

@@ -22,7 +22,7 @@ use Rattle.ns_calls.specs.History.{Opening, Closing, closing_in, closings, same_
 use Rattle.ns_calls.specs.Reply.{ack_number, reply_to}
 use Rattle.ns_calls.specs.Legal.{IsLegal, entry_for, with_call}
 use Rattle.ns_calls.specs.Headline.{Rises, AcksRise}
-use Rattle.ns_calls.proofs.Lists.{said-push, said-cases, find-has, Exceeds-each, Rises-push}
+use Rattle.ns_calls.proofs.Lists.{said-push, said-cases, find-has, Exceeds-each, Rises-push, at_some}
 use Rattle.ns_calls.proofs.Induction.{legal_induction}
 use Rattle.ns_calls.proofs.JoinLemmas.{same_device-eq}
 
@@ -93,10 +93,6 @@ one_ack false x = refl
 next_if : (P : ℕ → Type 0) (b : Bool) (ack : Option ℕ) → (b ≡ true → IfSome ack P) → IfSome (cond b ack None) P
 next_if P true ack holds = holds refl
 next_if P false ack holds = tt
-
-at_some : {X : Type 0} (P : X → Type 0) (o : Option X) (x : X) → o ≡ Some x → IfSome o P → P x
-at_some P None x is holds = absurd (cc is)
-at_some P (Some y) x is holds = subst P (same_Some y x is) holds
 
 -- the next number of a window's session is that of the session, where the window is the device's and of the session
 of_session : (h : List Entry) (x : Closing) (eui : DevEui) (session : ℕ) → same_device x.window.eui eui ≡ true → IsNextAck h x.window x.ack → (x.window.session == session) ≡ true →

@@ -22,7 +22,7 @@ use Rattle.ns_calls.specs.declared.call.Reply.{Reply}
 use Rattle.ns_calls.specs.declared.call.Reply.TheVariants as reply
 use Rattle.ns_calls.specs.declared.call.Entry.{Entry}
 use Rattle.ns_calls.specs.History.{Opening, opening_in, window_copy_in, closes, open_windows, open_window, window_copies, window_count}
-use Rattle.ns_calls.specs.Reply.{most_copies, most_windows, window_with, first_fit, copy_reply, open_reply, reply_to, ack_number}
+use Rattle.ns_calls.specs.Reply.{most_copies, most_windows, window_with, Fit, window_of, first_fit, copy_reply, open_reply, reply_to, ack_number}
 use Rattle.ns_calls.specs.Out.{uplink_of, uplink_out, answer}
 use Rattle.ns_calls.specs.Legal.{IsLegal}
 use Rattle.ns_calls.specs.Open.{IsOpenWindow, hearing_in, hearings, HasJustItsCopies}
@@ -150,15 +150,15 @@ other_frame net h frame heard w apart =
     let P : Reply → Type 0 = Elsewhere w frame heard in
     case-has P (
     option_map (λ (o : Opening). copy_reply h o.window) (window_with h frame)
-    ∷ option_map (open_reply h) (first_fit above net h frame)
-    ∷ option_map (λ (v : WindowName). reply.Old v.eui v.session v.fcnt) (first_fit below net h frame) ∷ []
+    ∷ option_map (λ (f : Fit). open_reply h (window_of f)) (first_fit above net h frame)
+    ∷ option_map (λ (f : Fit). reply.Old f.eui f.session f.counter) (first_fit below net h frame) ∷ []
     ) reply.NoSession (
       map-has P (λ (o : Opening). Apart o × (bytes_eq o.frame frame ≡ true)) (λ (o : Opening). copy_reply h o.window) (window_with h frame)
           (find-has Apart (λ (o : Opening). bytes_eq o.frame frame) (open_windows h) apart)
           (λ o both. copied-elsewhere w frame heard h o.window (differs o both)),
       (
-        map-has P (λ _. Unit {0}) (open_reply h) (first_fit above net h frame) (some-any (first_fit above net h frame)) (λ v _. opened-elsewhere w frame heard h v),
-        (map-has P (λ _. Unit {0}) (λ (v : WindowName). reply.Old v.eui v.session v.fcnt) (first_fit below net h frame) (some-any (first_fit below net h frame)) (λ v _. inr tt), tt),
+        map-has P (λ _. Unit {0}) (λ (f : Fit). open_reply h (window_of f)) (first_fit above net h frame) (some-any (first_fit above net h frame)) (λ f _. opened-elsewhere w frame heard h (window_of f)),
+        (map-has P (λ _. Unit {0}) (λ (f : Fit). reply.Old f.eui f.session f.counter) (first_fit below net h frame) (some-any (first_fit below net h frame)) (λ f _. inr tt), tt),
       ),
     ) (inr tt)
   where
@@ -321,7 +321,7 @@ pub open_copies : (net : Network) (h : List Entry) → IsLegal net h → (o : Op
 open_copies net h legal o is_open =
     let cut : h ≡ (is_open.before ++ is_open.entry ∷ []) ++ is_open.after = is_open.is ∙ sym (append_assoc is_open.before (is_open.entry ∷ []) is_open.after) in
     let whole : IsLegal net (is_open.before ++ is_open.entry ∷ is_open.after) = subst (IsLegal net) is_open.is legal in
-    let inv = begins net o is_open.before is_open.entry (legal-front net is_open.before (is_open.entry ∷ is_open.after) whole) (legal-next net is_open.before is_open.after is_open.entry whole) is_open.opened in
+    let inv = begins net o is_open.before is_open.entry (legal-front net is_open.before (is_open.entry ∷ is_open.after) whole) (legal-next net is_open.before is_open.after is_open.entry whole) is_open.opens in
     ap (λ l. window_copies l o.window) cut ∙ copies_on net o (is_open.before ++ is_open.entry ∷ []) (is_open.entry ∷ []) is_open.after (subst (IsLegal net) cut legal) inv is_open.not_closed
 
 -- ---- what a closing hands out

@@ -1,5 +1,5 @@
 -- A window that is opened is new.
-use Rattle.std.proofs.Common.{◌≡◌, ◌⊎◌, ℕ, ◌+◌, ◌≤◌, ◌==◌, Bool, true, false, ◌||◌, cond, List, [], ◌∷◌, ◌++◌, filter, map, find, count_by, length, nat_le, Option, None, Some, IfSome, option_to_list, refl, sym, ap, subst, ◌∙◌, arith, inl, inr}
+use Rattle.std.proofs.Common.{◌≡◌, ◌⊎◌, ℕ, ◌+◌, ◌≤◌, ◌==◌, Bool, true, false, ◌||◌, cond, List, [], ◌∷◌, ◌++◌, filter, map, find, count_by, length, nat_le, Option, None, Some, IfSome, option_map, option_to_list, refl, sym, ap, subst, ◌∙◌, arith, inl, inr}
 use Rattle.std.specs.Prelude.{is_some}
 use Rattle.std.specs.List.{AllByRecursion, list_any}
 use Rattle.std.specs.Option.{option_and_then, option_map_or}
@@ -22,11 +22,11 @@ use Rattle.ns_calls.specs.declared.call.Reply.{Reply}
 use Rattle.ns_calls.specs.declared.call.Reply.TheVariants as reply
 use Rattle.ns_calls.specs.declared.call.Entry.{Entry}
 use Rattle.ns_calls.specs.History.{Opening, opening_in, window_copy_in, live, is_live, session_join, greatest_counter, open_windows, open_window, window_copies, window_count}
-use Rattle.ns_calls.specs.Reply.{window_of, session_fit, device_fit, devices_at, first_fit, window_with, most_copies, most_windows, reply_to}
+use Rattle.ns_calls.specs.Reply.{Fit, fit_of, window_of, fitting_counter, session_fit, device_fit, devices_at, first_fit, window_with, most_copies, most_windows, reply_to}
 use Rattle.ns_calls.specs.Legal.{IsLegal, entry_for, with_call}
 use Rattle.ns_calls.specs.Headline.{opening_count, open_count, WindowsOpenOnce, IsNewWindow}
 use Rattle.ns_calls.proofs.LocalLemmas.{bool_tells}
-use Rattle.ns_calls.proofs.Lists.{All-weaker, first-gives, first-gives_of, count-cons, count-found}
+use Rattle.ns_calls.proofs.Lists.{All-weaker, first-gives, first-gives_of, count-cons, count-found, IfSome-weaker, at_some}
 use Rattle.ns_calls.proofs.PushLemmas.{window_copies-push}
 use Rattle.ns_calls.proofs.Induction.{legal_induction}
 use Rattle.ns_calls.proofs.UplinkLemmas.{IsNewOpening, uplink_reply_by, opening_of, opening-new, opened-cases}
@@ -51,7 +51,7 @@ count-member {X} counts test (y ∷ ys) x is here =
     ]
 
 -- what an uplink adds a copy to: nothing, the open window of an equal frame, or the window that it opens
-copied-cases : (h : List Entry) (frame : List ℕ) (heard : Heard) (copied : Option Opening) (fresh stale : Option WindowName) →
+copied-cases : (h : List Entry) (frame : List ℕ) (heard : Heard) (copied : Option Opening) (fresh stale : Option Fit) →
     let r : Reply = uplink_reply_by h copied fresh stale in
     (window_copy_in (call.Uplink frame heard) r ≡ None)
     ⊎ (((o : Opening) × (copied ≡ Some o) × (window_copy_in (call.Uplink frame heard) r ≡ Some (o.window, heard)))
@@ -62,7 +62,8 @@ copied-cases h frame heard (Some o) fresh stale =
       | inl room ↦ inr (inl (o, refl, ap (λ b. window_copy_in (call.Uplink frame heard) (cond b (reply.Copied o.window place) (reply.Crowded o.window))) room))
       | inr full ↦ inl (ap (λ b. window_copy_in (call.Uplink frame heard) (cond b (reply.Copied o.window place) (reply.Crowded o.window))) full)
     ]
-copied-cases h frame heard None (Some w) stale =
+copied-cases h frame heard None (Some f) stale =
+    let w : WindowName = window_of f in
     elim (bool_tells (nat_le most_windows (window_count h w.eui))) [
       | inl busy ↦ inl (ap (λ b. window_copy_in (call.Uplink frame heard) (cond b (reply.Busy w.eui) (reply.Opened w))) busy)
       | inr room ↦
@@ -72,7 +73,7 @@ copied-cases h frame heard None (Some w) stale =
             ap (λ b. window_copy_in (call.Uplink frame heard) (cond b (reply.Busy w.eui) (reply.Opened w))) room,
           ))
     ]
-copied-cases h frame heard None None (Some w) = inl refl
+copied-cases h frame heard None None (Some f) = inl refl
 copied-cases h frame heard None None None = inl refl
 
 NoCopiesBefore : List Entry → Type 0
@@ -150,25 +151,25 @@ some-equal (s ∷ ss) =
     or_later true b later = refl
     or_later false b later = later
 
-session_fit-live : (recover : Option ℕ → ℕ → Option ℕ) (h : List Entry) (frame : List ℕ) (eui : DevEui) (session : ℕ) → is_live h eui session ≡ true → IfSome (session_fit recover h frame eui session) (λ w. is_live h w.eui w.session ≡ true)
-session_fit-live recover h frame eui session lives = step (recover (greatest_counter h eui session) (data_fields frame).fcnt16)
+-- the fit's session lives
+abbrev Lives : List Entry → Fit → Type 0
+Lives h f = is_live h f.eui f.session ≡ true
+
+session_fit-live : (recover : Option ℕ → ℕ → Option ℕ) (h : List Entry) (frame : List ℕ) (eui : DevEui) (session : ℕ) → is_live h eui session ≡ true → IfSome (session_fit recover h frame eui session) (Lives h)
+session_fit-live recover h frame eui session lives = step (option_and_then (λ (join : JoinAns). fitting_counter recover frame join.nwk (greatest_counter h eui session)) (session_join h eui session))
   where
-    test : (n : ℕ) (b : Bool) → IfSome (when b (window_of eui session n)) (λ w. is_live h w.eui w.session ≡ true)
-    test n true = lives
-    test n false = tt
-
-    step : (o : Option ℕ) → IfSome (option_and_then (λ counter. when (option_map_or (λ (join : JoinAns). mic_fits frame join.nwk.0 counter) (session_join h eui session) false) (window_of eui session counter)) o) (λ w. is_live h w.eui w.session ≡ true)
+    step : (o : Option ℕ) → IfSome (option_map (fit_of eui session) o) (Lives h)
     step None = tt
-    step (Some n) = test n (option_map_or (λ (join : JoinAns). mic_fits frame join.nwk.0 n) (session_join h eui session) false)
+    step (Some n) = lives
 
-pub device_fit-live : (recover : Option ℕ → ℕ → Option ℕ) (h : List Entry) (frame : List ℕ) (eui : DevEui) → IfSome (device_fit recover h frame eui) (λ w. is_live h w.eui w.session ≡ true)
+pub device_fit-live : (recover : Option ℕ → ℕ → Option ℕ) (h : List Entry) (frame : List ℕ) (eui : DevEui) → IfSome (device_fit recover h frame eui) (Lives h)
 device_fit-live recover h frame eui =
-    first-gives_of (λ (w : WindowName). is_live h w.eui w.session ≡ true) (session_fit recover h frame eui) (live h eui)
-    (All-weaker (λ s. is_live h eui s ≡ true) (λ s. IfSome (session_fit recover h frame eui s) (λ w. is_live h w.eui w.session ≡ true)) (λ s lives. session_fit-live recover h frame eui s lives) (live h eui) (some-equal (live h eui)))
+    first-gives_of (Lives h) (session_fit recover h frame eui) (live h eui)
+    (All-weaker (λ s. is_live h eui s ≡ true) (λ s. IfSome (session_fit recover h frame eui s) (Lives h)) (λ s lives. session_fit-live recover h frame eui s lives) (live h eui) (some-equal (live h eui)))
 
-first_fit-live : (recover : Option ℕ → ℕ → Option ℕ) (net : Network) (h : List Entry) (frame : List ℕ) → IfSome (first_fit recover net h frame) (λ w. is_live h w.eui w.session ≡ true)
+first_fit-live : (recover : Option ℕ → ℕ → Option ℕ) (net : Network) (h : List Entry) (frame : List ℕ) → IfSome (first_fit recover net h frame) (Lives h)
 first_fit-live recover net h frame =
-    first-gives (λ (w : WindowName). is_live h w.eui w.session ≡ true) (λ (d : Device). device_fit recover h frame d.eui) (λ d. device_fit-live recover h frame d.eui) (devices_at net (data_fields frame).addr)
+    first-gives (Lives h) (λ (d : Device). device_fit recover h frame d.eui) (λ d. device_fit-live recover h frame d.eui) (devices_at net (data_fields frame).addr)
 
 -- ---- what fits is of a device with the frame's address
 
@@ -184,24 +185,16 @@ member (d ∷ ds) =
     or_later true b later = refl
     or_later false b later = later
 
-IfSome-weaker : {X : Type 0} (P Q : X → Type 0) (o : Option X) → ((x : X) → P x → Q x) → IfSome o P → IfSome o Q
-IfSome-weaker P Q None weaker holds = tt
-IfSome-weaker P Q (Some x) weaker holds = weaker x holds
-
-first_fit-device : (recover : Option ℕ → ℕ → Option ℕ) (net : Network) (h : List Entry) (frame : List ℕ) → IfSome (first_fit recover net h frame) (λ w. list_any (λ d. d.eui.0 == w.eui.0) (devices_at net (data_fields frame).addr) ≡ true)
+first_fit-device : (recover : Option ℕ → ℕ → Option ℕ) (net : Network) (h : List Entry) (frame : List ℕ) → IfSome (first_fit recover net h frame) (λ f. list_any (λ d. d.eui.0 == f.eui.0) (devices_at net (data_fields frame).addr) ≡ true)
 first_fit-device recover net h frame =
     let devices : List Device = devices_at net (data_fields frame).addr in
-    let Known = λ (w : WindowName). list_any (λ (x : Device). x.eui.0 == w.eui.0) devices ≡ true in
+    let Known = λ (f : Fit). list_any (λ (x : Device). x.eui.0 == f.eui.0) devices ≡ true in
     first-gives_of Known (λ (d : Device). device_fit recover h frame d.eui) devices
     (All-weaker (λ (d : Device). list_any (λ (x : Device). x.eui.0 == d.eui.0) devices ≡ true) (λ (d : Device). IfSome (device_fit recover h frame d.eui) Known)
-    (λ d is. IfSome-weaker (λ (w : WindowName). w.eui ≡ d.eui) Known (device_fit recover h frame d.eui) (λ w names. subst (λ (e : DevEui). list_any (λ (x : Device). x.eui.0 == e.0) devices ≡ true) (sym names) is) (device_fit-names recover h frame d.eui))
+    (λ d is. IfSome-weaker (λ (f : Fit). f.eui ≡ d.eui) Known (device_fit recover h frame d.eui) (λ f names. subst (λ (e : DevEui). list_any (λ (x : Device). x.eui.0 == e.0) devices ≡ true) (sym names) is) (device_fit-names recover h frame d.eui))
     devices (member devices))
 
 -- ---- the window of an opening
-
-at_some : {X : Type 0} (P : X → Type 0) (o : Option X) (x : X) → o ≡ Some x → IfSome o P → P x
-at_some P None x is holds = absurd (cc is)
-at_some {X} P (Some y) x is holds = subst P (same_Some y x is) holds
 
 none_found : (h : List Entry) (w : WindowName) → WindowsOpenOnce h → opening_count h w ≡ 0 → open_window h w ≡ None
 none_found h w once none = step (open_window h w) refl
@@ -224,10 +217,10 @@ opened-new net h legal frame heard w is =
     elim (opened-cases h frame heard (window_with h frame) (first_fit above net h frame) (first_fit below net h frame)) [
       | inl nothing ↦ absurd (cc (nothing, says))
       | inr found ↦
-          (let same : opening_of found.0 frame heard ≡ o = same_Some _ o (sym found.3 ∙ says) in
-          let window : found.0 ≡ w = ap (λ (x : Opening). x.window) same in
-          let lives = at_some (λ (v : WindowName). is_live h v.eui v.session ≡ true) (first_fit above net h frame) found.0 found.2 (first_fit-live above net h frame) in
-          let known = at_some (λ (v : WindowName). list_any (λ d. d.eui.0 == v.eui.0) (devices_at net (data_fields frame).addr) ≡ true) (first_fit above net h frame) found.0 found.2 (first_fit-device above net h frame) in
+          (let same : opening_of (window_of found.0) frame heard ≡ o = same_Some _ o (sym found.3 ∙ says) in
+          let window : window_of found.0 ≡ w = ap (λ (x : Opening). x.window) same in
+          let lives = at_some (Lives h) (first_fit above net h frame) found.0 found.2 (first_fit-live above net h frame) in
+          let known = at_some (λ (f : Fit). list_any (λ d. d.eui.0 == f.eui.0) (devices_at net (data_fields frame).addr) ≡ true) (first_fit above net h frame) found.0 found.2 (first_fit-device above net h frame) in
           record {
             device = subst (λ (v : WindowName). list_any (λ d. d.eui.0 == v.eui.0) (devices_at net (data_fields frame).addr) ≡ true) window known;
             mic = new.fresh.mic;

@@ -21,12 +21,12 @@ use Rattle.ns_calls.specs.declared.call.Reply.{Reply}
 use Rattle.ns_calls.specs.declared.call.Reply.TheVariants as reply
 use Rattle.ns_calls.specs.declared.call.Entry.{Entry}
 use Rattle.ns_calls.specs.Queries.{maximum, greater}
-use Rattle.ns_calls.specs.History.{Acceptance, acceptance_in, acceptances, same_device, greatest_nonce, next_session, is_ticket_open}
+use Rattle.ns_calls.specs.History.{Acceptance, acceptance_in, acceptances, same_device, last_nonce, greatest_accepted, greatest_nonce, next_session, is_ticket_open}
 use Rattle.ns_calls.specs.Reply.{spent_by, is_failed, address}
 use Rattle.ns_calls.specs.Legal.{IsLegal, entry_for, with_call}
-use Rattle.ns_calls.specs.Headline.{Rises, NoncesRise, nonces_up_to, SessionsAreBounded}
-use Rattle.ns_calls.proofs.Lists.{said, said-push, said-cases, All-push, Exceeds-each, Rises-push}
-use Rattle.ns_calls.proofs.QueryLemmas.{maximum-push}
+use Rattle.ns_calls.specs.Headline.{Rises, NoncesRise, nonces_up_to, SessionsAreBounded, Reaches, nonces_of, NoncesAreWithin, AreBelow}
+use Rattle.ns_calls.proofs.Lists.{said, said-push, said-cases, All-push, Exceeds-greater, Exceeds-each, Rises-push, All-weaker}
+use Rattle.ns_calls.proofs.QueryLemmas.{greater-assoc, maximum-push}
 use Rattle.ns_calls.proofs.Induction.{legal_induction}
 
 -- the reply to the answer to a join, by what is asked of the history
@@ -121,7 +121,7 @@ nonces_step net h number c rises eui =
       | inl same ↦ subst (λ joins. Rises (map (λ a. (nonce a.ticket).0) joins)) (sym same) (rises eui)
       | inr new ↦
           (let nonces : List ℕ = map (λ a. (nonce a.ticket).0) (acceptances h eui) in
-          let more : Rises (nonces ++ (nonce new.a.ticket).0 ∷ []) = Rises-push nonces _ (rises eui) (Exceeds-each nonces _ new.nonce_above) in
+          let more : Rises (nonces ++ (nonce new.a.ticket).0 ∷ []) = Rises-push nonces _ (rises eui) (Exceeds-each nonces _ (Exceeds-greater (last_nonce net eui) (maximum nonces) _ new.nonce_above).1) in
           subst (λ joins. Rises (map (λ a. (nonce a.ticket).0) joins)) (sym new.joined) (rw map-append more))
     ]
 
@@ -147,7 +147,7 @@ sessions_step net h number c bounded = record {
     each_device : (eui : DevEui) → (next_session (with_call net h number c) eui ≤ nonces_up_to (greatest_nonce net (with_call net h number c) eui) + 1)
         × AllByRecursion (λ a. a.session ≤ (nonce a.ticket).0 + 1) (acceptances (with_call net h number c) eui)
     each_device eui =
-        let Holds = λ (joins : List Acceptance). (unwrap_or (maximum (map (λ (a : Acceptance). a.session) joins)) 0 + 1 ≤ nonces_up_to (maximum (map (λ (a : Acceptance). (nonce a.ticket).0) joins)) + 1)
+        let Holds = λ (joins : List Acceptance). (unwrap_or (maximum (map (λ (a : Acceptance). a.session) joins)) 0 + 1 ≤ nonces_up_to (greater (last_nonce net eui) (maximum (map (λ (a : Acceptance). (nonce a.ticket).0) joins))) + 1)
         × AllByRecursion (λ (a : Acceptance). a.session ≤ (nonce a.ticket).0 + 1) joins in
         elim (acceptances-cases net h number c eui) [
           | inl same ↦ subst Holds (sym same) (bounded.next eui, bounded.each eui)
@@ -155,11 +155,12 @@ sessions_step net h number c bounded = record {
               (let joins : List Acceptance = acceptances h eui in
               let sessions : List ℕ = map (λ (a : Acceptance). a.session) joins in
               let nonces : List ℕ = map (λ (a : Acceptance). (nonce a.ticket).0) joins in
-              let more = bounded_more (maximum sessions) (maximum nonces) (nonce new.a.ticket).0 (bounded.next eui) new.nonce_above in
+              let more = bounded_more (maximum sessions) (greater (last_nonce net eui) (maximum nonces)) (nonce new.a.ticket).0 (bounded.next eui) new.nonce_above in
               let top_session : maximum (map (λ (a : Acceptance). a.session) (joins ++ new.a ∷ [])) ≡ greater (maximum sessions) (Some (next_session h eui)) =
               ap maximum (map-append (λ (a : Acceptance). a.session) joins (new.a ∷ [])) ∙ (maximum-push sessions new.a.session ∙ ap (λ s. greater (maximum sessions) (Some s)) new.session) in
-              let top_nonce : maximum (map (λ (a : Acceptance). (nonce a.ticket).0) (joins ++ new.a ∷ [])) ≡ greater (maximum nonces) (Some (nonce new.a.ticket).0) =
-              ap maximum (map-append (λ (a : Acceptance). (nonce a.ticket).0) joins (new.a ∷ [])) ∙ maximum-push nonces (nonce new.a.ticket).0 in
+              let top_nonce : greater (last_nonce net eui) (maximum (map (λ (a : Acceptance). (nonce a.ticket).0) (joins ++ new.a ∷ []))) ≡ greater (greater (last_nonce net eui) (maximum nonces)) (Some (nonce new.a.ticket).0) =
+              ap (greater (last_nonce net eui)) (ap maximum (map-append (λ (a : Acceptance). (nonce a.ticket).0) joins (new.a ∷ [])) ∙ maximum-push nonces (nonce new.a.ticket).0)
+              ∙ greater-assoc (last_nonce net eui) (maximum nonces) (Some (nonce new.a.ticket).0) in
               let here : new.a.session ≤ (nonce new.a.ticket).0 + 1 = subst (λ s. s ≤ (nonce new.a.ticket).0 + 1) (sym new.session) more.1 in
               subst Holds (sym new.joined) (rw (top_session, top_nonce) more.0, All-push (λ (a : Acceptance). a.session ≤ (nonce a.ticket).0 + 1) joins new.a (bounded.each eui) here))
         ]
@@ -167,3 +168,53 @@ sessions_step net h number c bounded = record {
 pub sessions_bounded : (net : Network) (h : List Entry) → IsLegal net h → SessionsAreBounded net h
 sessions_bounded net h legal =
     legal_induction net (SessionsAreBounded net) (record { next = λ eui. omega arith; each = λ eui. tt }) (λ g number c ok bounded. sessions_step net g number c bounded) h legal
+
+-- ---- nonces are above the last one that the roster names, and at most the greatest
+
+above_step : (net : Network) (h : List Entry) (number : ℕ) (c : Call) → ((eui : DevEui) → AllByRecursion (λ n. Exceeds (last_nonce net eui) n) (nonces_of h eui))
+    → (eui : DevEui) → AllByRecursion (λ n. Exceeds (last_nonce net eui) n) (nonces_of (with_call net h number c) eui)
+above_step net h number c above eui =
+    let Holds = λ (joins : List Acceptance). AllByRecursion (λ (n : ℕ). Exceeds (last_nonce net eui) n) (map (λ (a : Acceptance). (nonce a.ticket).0) joins) in
+    elim (acceptances-cases net h number c eui) [
+      | inl same ↦ subst Holds (sym same) (above eui)
+      | inr new ↦
+          (let nonces : List ℕ = nonces_of h eui in
+          let more = All-push (λ (n : ℕ). Exceeds (last_nonce net eui) n) nonces _ (above eui) (Exceeds-greater (last_nonce net eui) (maximum nonces) _ new.nonce_above).0 in
+          subst Holds (sym new.joined) (rw map-append more))
+    ]
+
+reaches_first : (a c : Option ℕ) (m : ℕ) → Reaches (greater (greater a (Some m)) c) m
+reaches_first None None m = omega arith
+reaches_first None (Some c) m = omega arith
+reaches_first (Some a) None m = omega arith
+reaches_first (Some a) (Some c) m = omega arith
+
+-- the greatest of a number and a list reaches each of the list
+all_reached : (a : Option ℕ) (ns : List ℕ) → AllByRecursion (λ n. Reaches (greater a (maximum ns)) n) ns
+all_reached a [] = tt
+all_reached a (m ∷ ms) =
+    subst (λ (o : Option ℕ). AllByRecursion (λ n. Reaches o n) (m ∷ ms)) (sym (greater-assoc a (Some m) (maximum ms)))
+    (reaches_first a (maximum ms) m, all_reached (greater a (Some m)) ms)
+
+pub nonces_within : (net : Network) (h : List Entry) → IsLegal net h → NoncesAreWithin net h
+nonces_within net h legal = record {
+  above =
+      legal_induction net (λ g. (eui : DevEui) → AllByRecursion (λ n. Exceeds (last_nonce net eui) n) (nonces_of g eui)) (λ eui. tt)
+      (λ g number c ok above. above_step net g number c above) h legal;
+  up_to = λ eui. all_reached (last_nonce net eui) (nonces_of h eui);
+}
+
+-- a number that the greatest reaches is below one that exceeds it
+below : (greatest : Option ℕ) (m n : ℕ) → Reaches greatest m → Exceeds greatest n → m < n
+below None m n reaches above = absurd reaches
+below (Some g) m n reaches above = omega (arith, reaches, above)
+
+pub later_above : (first second : Network) (before after : List Entry) → IsLegal first before → IsLegal second after → (eui : DevEui) → last_nonce second eui ≡ greatest_nonce first before eui
+    → AreBelow (nonces_of before eui) (nonces_of after eui)
+later_above first second before after legal later eui same =
+    let greatest : Option ℕ = greatest_nonce first before eui in
+    let above : AllByRecursion (λ n. Exceeds greatest n) (nonces_of after eui) =
+    subst (λ (o : Option ℕ). AllByRecursion (λ n. Exceeds o n) (nonces_of after eui)) same ((nonces_within second after later).above eui) in
+    All-weaker (λ (m : ℕ). Reaches greatest m) (λ (m : ℕ). AllByRecursion (λ n. m < n) (nonces_of after eui))
+    (λ m reached. All-weaker (λ (n : ℕ). Exceeds greatest n) (λ (n : ℕ). m < n) (λ n exceeds. below greatest m n reached exceeds) (nonces_of after eui) above)
+    (nonces_of before eui) ((nonces_within first before legal).up_to eui)

@@ -18,11 +18,11 @@ use Rattle.ns_calls.specs.declared.call.Reply.{Reply}
 use Rattle.ns_calls.specs.declared.call.Reply.TheVariants as reply
 use Rattle.ns_calls.specs.declared.call.Entry.{Entry}
 use Rattle.ns_calls.specs.History.{Opening, opening_in, asking_in, window_copy_in, ticket_copy_in, same_device, same_ticket, is_ticket, closes, ends_ticket, asks_for, open_windows, open_tickets, window_count, window_copies, is_ticket_open, ticket_count, copies_of_ticket, ticket_copies}
-use Rattle.ns_calls.specs.Reply.{most_copies, most_windows, most_tickets, window_with, first_fit, copy_reply, open_reply, spent_by, join_copy_reply, reply_to}
+use Rattle.ns_calls.specs.Reply.{most_copies, most_windows, most_tickets, window_with, Fit, window_of, first_fit, copy_reply, open_reply, spent_by, join_copy_reply, reply_to}
 use Rattle.ns_calls.specs.Legal.{IsLegal, entry_for, with_call}
 use Rattle.ns_calls.specs.Headline.{LimitsHold}
 use Rattle.ns_calls.proofs.LocalLemmas.{bool_tells}
-use Rattle.ns_calls.proofs.Lists.{count-append, count-cons}
+use Rattle.ns_calls.proofs.Lists.{count-append, count-cons, IfSome-weaker}
 use Rattle.ns_calls.proofs.PushLemmas.{open_windows-push, window_copies-push, open_tickets-push, ticket_copies-push}
 use Rattle.ns_calls.proofs.Induction.{legal_induction}
 use Rattle.ns_calls.proofs.JoinLemmas.{same_device-eq}
@@ -61,13 +61,13 @@ uplink-room net h frame heard =
     let P : Reply → Type 0 = HasRoom net h in
     let cases : List (Option Reply) =
     option_map (λ (o : Opening). copy_reply h o.window) (window_with h frame)
-    ∷ option_map (open_reply h) (first_fit above net h frame)
-    ∷ option_map (λ (w : WindowName). reply.Old w.eui w.session w.fcnt) (first_fit below net h frame) ∷ [] in
+    ∷ option_map (λ (f : Fit). open_reply h (window_of f)) (first_fit above net h frame)
+    ∷ option_map (λ (f : Fit). reply.Old f.eui f.session f.counter) (first_fit below net h frame) ∷ [] in
     case-has P cases reply.NoSession (
       map-all P (λ (o : Opening). copy_reply h o.window) (window_with h frame) (λ o. copy-room net h o.window),
       (
-        map-all P (open_reply h) (first_fit above net h frame) (λ w. open-room net h w),
-        (map-all P (λ (w : WindowName). reply.Old w.eui w.session w.fcnt) (first_fit below net h frame) (λ w. tt), tt),
+        map-all P (λ (f : Fit). open_reply h (window_of f)) (first_fit above net h frame) (λ f. open-room net h (window_of f)),
+        (map-all P (λ (f : Fit). reply.Old f.eui f.session f.counter) (first_fit below net h frame) (λ f. tt), tt),
       ),
     ) tt
 
@@ -106,10 +106,6 @@ reply-room net h (call.Uplink frame heard) = opening-room net h (call.Uplink fra
 reply-room net h (call.Join t heard) = tt
 reply-room net h (call.JoinReply t o) = tt
 reply-room net h (call.Close w) = tt
-
-IfSome-weaker : {X : Type 0} (P Q : X → Type 0) (o : Option X) → ((x : X) → P x → Q x) → IfSome o P → IfSome o Q
-IfSome-weaker P Q None weaker holds = tt
-IfSome-weaker P Q (Some x) weaker holds = weaker x holds
 
 windows_step : (net : Network) (h : List Entry) (number : ℕ) (c : Call) (eui : DevEui) → window_count h eui ≤ most_windows → window_count (with_call net h number c) eui ≤ most_windows
 windows_step net h number c eui within =

@@ -1,5 +1,5 @@
 -- Lists: what holds of each element, greatest numbers, rising numbers, and what is found.
-use Rattle.std.proofs.Common.{◌≡◌, ◌⊎◌, ℕ, ◌+◌, ◌<◌, ◌≤◌, Bool, true, false, cond, List, [], ◌∷◌, ◌++◌, filter, filter_map, map, find, count_by, zero-add, Option, None, Some, option_to_list, IfSome, refl, sym, ap, ◌∙◌, arith, inl, inr}
+use Rattle.std.proofs.Common.{◌≡◌, ◌⊎◌, ℕ, ◌+◌, ◌<◌, ◌≤◌, Bool, true, false, cond, List, [], ◌∷◌, ◌++◌, filter, filter_map, map, find, count_by, zero-add, Option, None, Some, option_to_list, IfSome, refl, sym, ap, subst, ◌∙◌, arith, inl, inr}
 use Rattle.std.specs.List.{AllByRecursion, cons_option}
 use Rattle.std.specs.Option.{option_or, is_some}
 use Rattle.std.proofs.lemmas.List.Elements.{filter-append, filter_map-append}
@@ -209,3 +209,12 @@ find-own {X} own test (x ∷ xs) mine =
             | inr other ↦ ap part outside ∙ (ih ∙ sym (ap (λ b. cond {A = Option X} b (Some x) (find test xs)) other))
           ]
     ]
+
+-- what follows from what holds of the value, if there is one
+pub IfSome-weaker : {X : Type 0} (P Q : X → Type 0) (o : Option X) → ((x : X) → P x → Q x) → IfSome o P → IfSome o Q
+IfSome-weaker P Q None weaker holds = tt
+IfSome-weaker P Q (Some x) weaker holds = weaker x holds
+
+-- what holds of the value, if there is one, holds of the one that is there
+pub at_some : {X : Type 0} (P : X → Type 0) (o : Option X) (x : X) → o ≡ Some x → IfSome o P → P x
+at_some P o x is holds = subst (λ p. IfSome p P) is holds

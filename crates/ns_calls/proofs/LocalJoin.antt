@@ -18,8 +18,8 @@ use Rattle.ns_calls.specs.declared.call.Reply.{Reply}
 use Rattle.ns_calls.specs.declared.call.Reply.TheVariants as reply
 use Rattle.ns_calls.specs.declared.call.Entry.{Entry}
 use Rattle.ns_types.specs.Cases.{first_case, when}
-use Rattle.ns_calls.specs.Queries.{maximum, from_last}
-use Rattle.ns_calls.specs.History.{Acceptance, same_device, same_ticket, acceptance_in, asking_in, ending_in, ticket_copy_in, is_ticket, asks_for, ends_ticket, acceptances, greatest_nonce, next_session, open_tickets, is_ticket_open, ticket_count, copies_of_ticket, ticket_copies}
+use Rattle.ns_calls.specs.Queries.{greater, maximum, from_last}
+use Rattle.ns_calls.specs.History.{Acceptance, same_device, same_ticket, acceptance_in, asking_in, ending_in, ticket_copy_in, is_ticket, asks_for, ends_ticket, acceptances, last_nonce, greatest_nonce, next_session, open_tickets, is_ticket_open, ticket_count, copies_of_ticket, ticket_copies}
 use Rattle.ns_calls.specs.Reply.{reply_to_join, reply_to_join_reply, address, is_failed, most_copies, most_tickets}
 use Rattle.ns_calls.specs.Shards.{shard_of_call, of_shard}
 use Rattle.ns_calls.proofs.TicketLemmas.{same_ticket-eq}
@@ -127,7 +127,7 @@ reply_to_join-own net h t =
     let eui : DevEui = dev_eui t in
     let part : List Entry = of_shard k h in
     let mine : own k t ≡ true = eq-eqb k k refl in
-    ap (λ g. join_from net t g (is_ticket_open part t) (length (ticket_copies part t)) (ticket_count part eui)) (ap (λ accepted. maximum (map (λ a. (nonce a.ticket).0) accepted)) (acceptances-own k eui refl h))
+    ap (λ g. join_from net t g (is_ticket_open part t) (length (ticket_copies part t)) (ticket_count part eui)) (ap (λ accepted. greater (last_nonce net eui) (maximum (map (λ a. (nonce a.ticket).0) accepted))) (acceptances-own k eui refl h))
     ∙ (ap (λ b. join_from net t (greatest_nonce net h eui) b (length (ticket_copies part t)) (ticket_count part eui)) (is_ticket_open-own k t mine h)
     ∙ (ap (λ hs. join_from net t (greatest_nonce net h eui) (is_ticket_open h t) (length hs) (ticket_count part eui)) (ticket_copies-own k t mine h)
     ∙ ap (λ n. join_from net t (greatest_nonce net h eui) (is_ticket_open h t) (length (ticket_copies h t)) n) (ticket_count-own k eui refl h)))
@@ -140,4 +140,4 @@ reply_to_join_reply-own net h t o =
     let mine : own k t ≡ true = eq-eqb k k refl in
     let same = acceptances-own k eui refl h in
     ap (λ b. join_reply_from net t o b (greatest_nonce net part eui) (next_session part eui)) (is_ticket_open-own k t mine h)
-    ∙ ap (λ accepted. join_reply_from net t o (is_ticket_open h t) (maximum (map (λ a. (nonce a.ticket).0) accepted)) (unwrap_or (maximum (map (λ a. a.session) accepted)) 0 + 1)) same
+    ∙ ap (λ accepted. join_reply_from net t o (is_ticket_open h t) (greater (last_nonce net eui) (maximum (map (λ a. (nonce a.ticket).0) accepted))) (unwrap_or (maximum (map (λ a. a.session) accepted)) 0 + 1)) same

@@ -80,20 +80,20 @@ stands-from {E} {X} opens ends (b ∷ before) e after x is stays =
 pub open_window-is : (h : List Entry) (o : Opening) → Contains (open_windows h) o → IsOpenWindow h o
 open_window-is h o has =
     let s = opened-stands (λ (e : Entry). opening_in e.call e.reply) (λ (p : Opening) e. closes p.window e) h o has in
-    record { before = s.before; entry = s.entry; after = s.after; is = s.is; opened = s.opened; not_closed = s.stays }
+    record { before = s.before; entry = s.entry; after = s.after; is = s.is; opens = s.opened; not_closed = s.stays }
 
 pub is-open_window : (h : List Entry) (o : Opening) → IsOpenWindow h o → Contains (open_windows h) o
 is-open_window h o s =
-    subst (λ es. Contains (open_windows es) o) (sym s.is) (stands-from (λ (e : Entry). opening_in e.call e.reply) (λ (p : Opening) e. closes p.window e) s.before s.entry s.after o s.opened s.not_closed)
+    subst (λ es. Contains (open_windows es) o) (sym s.is) (stands-from (λ (e : Entry). opening_in e.call e.reply) (λ (p : Opening) e. closes p.window e) s.before s.entry s.after o s.opens s.not_closed)
 
 pub open_ticket-is : (h : List Entry) (t : Ticket) → Contains (open_tickets h) t → IsOpenTicket h t
 open_ticket-is h t has =
     let s = opened-stands (λ (e : Entry). asking_in e.call e.reply) ends_ticket h t has in
-    record { before = s.before; entry = s.entry; after = s.after; is = s.is; asked = s.opened; not_ended = s.stays }
+    record { before = s.before; entry = s.entry; after = s.after; is = s.is; asks = s.opened; not_ended = s.stays }
 
 pub is-open_ticket : (h : List Entry) (t : Ticket) → IsOpenTicket h t → Contains (open_tickets h) t
 is-open_ticket h t s =
-    subst (λ es. Contains (open_tickets es) t) (sym s.is) (stands-from (λ (e : Entry). asking_in e.call e.reply) ends_ticket s.before s.entry s.after t s.asked s.not_ended)
+    subst (λ es. Contains (open_tickets es) t) (sym s.is) (stands-from (λ (e : Entry). asking_in e.call e.reply) ends_ticket s.before s.entry s.after t s.asks s.not_ended)
 
 -- what is found is an element
 pub find-contained : {X : Type 0} (test : X → Bool) (xs : List X) (x : X) → find test xs ≡ Some x → Contains xs x

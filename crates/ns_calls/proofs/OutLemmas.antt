@@ -26,12 +26,12 @@ use Rattle.ns_calls.specs.declared.call.Entry.{Entry}
 use Rattle.ns_calls.specs.Accept.{accept_bytes}
 use Rattle.ns_calls.specs.Queries.{from_last}
 use Rattle.ns_calls.specs.History.{Opening, opening_in, asking_in, window_copy_in, ticket_copy_in, closes, is_ticket, asks_for, ends_ticket, same_ticket, open_windows, open_window, window_copies, is_ticket_open, ticket_count, ticket_copies, copies_of_ticket, session_join, next_session, window_count}
-use Rattle.ns_calls.specs.Reply.{reply_to, window_with, first_fit, copy_reply, open_reply, most_copies, most_windows, most_tickets, spent_by, join_copy_reply, is_failed, address, ack_number}
+use Rattle.ns_calls.specs.Reply.{reply_to, window_with, Fit, window_of, first_fit, copy_reply, open_reply, most_copies, most_windows, most_tickets, spent_by, join_copy_reply, is_failed, address, ack_number}
 use Rattle.ns_calls.specs.Out.{uplink_of, uplink_out, downlink_out, downlink_to, ack_frame, ack_downlink, join_accept_delay}
 use Rattle.ns_calls.specs.Legal.{IsLegal, entry_for, with_call}
 use Rattle.ns_calls.specs.Headline.{WindowsHaveCopies, hands_out_uplink, hands_out_downlink, GoesOut}
 use Rattle.ns_calls.proofs.LocalLemmas.{bool_tells}
-use Rattle.ns_calls.proofs.Lists.{All-append, All-filter, All-weaker, find-has}
+use Rattle.ns_calls.proofs.Lists.{All-append, All-filter, All-weaker, find-has, IfSome-weaker}
 use Rattle.ns_calls.proofs.PushLemmas.{open_windows-push, window_copies-push}
 use Rattle.ns_calls.proofs.TicketLemmas.{is_ticket_open-cons}
 use Rattle.ns_calls.proofs.Induction.{legal_induction}
@@ -173,15 +173,15 @@ quiet_when : (b : Bool) (r : Reply) → IsQuiet r → IfSome (when b r) IsQuiet
 quiet_when true r quiet = quiet
 quiet_when false r quiet = tt
 
-uplink-quiet : (h : List Entry) (copied : Option Opening) (fresh stale : Option WindowName) → IsQuiet (uplink_reply_by h copied fresh stale)
+uplink-quiet : (h : List Entry) (copied : Option Opening) (fresh stale : Option Fit) → IsQuiet (uplink_reply_by h copied fresh stale)
 unfolding IsQuiet
 uplink-quiet h copied fresh stale =
-    let cases : List (Option Reply) = option_map (λ (o : Opening). copy_reply h o.window) copied ∷ option_map (open_reply h) fresh ∷ option_map (λ (w : WindowName). reply.Old w.eui w.session w.fcnt) stale ∷ [] in
+    let cases : List (Option Reply) = option_map (λ (o : Opening). copy_reply h o.window) copied ∷ option_map (λ (f : Fit). open_reply h (window_of f)) fresh ∷ option_map (λ (f : Fit). reply.Old f.eui f.session f.counter) stale ∷ [] in
     quiet_first cases reply.NoSession (
       quiet_map (λ (o : Opening). copy_reply h o.window) copied (λ o. quiet_cond (nat_le (length (window_copies h o.window) + 1) most_copies) (reply.Copied o.window (length (window_copies h o.window) + 1)) (reply.Crowded o.window) (refl, refl) (refl, refl)),
       (
-        quiet_map (open_reply h) fresh (λ w. quiet_cond (nat_le most_windows (window_count h w.eui)) (reply.Busy w.eui) (reply.Opened w) (refl, refl) (refl, refl)),
-        (quiet_map (λ (w : WindowName). reply.Old w.eui w.session w.fcnt) stale (λ w. (refl, refl)), tt),
+        quiet_map (λ (f : Fit). open_reply h (window_of f)) fresh (λ f. quiet_cond (nat_le most_windows (window_count h f.eui)) (reply.Busy f.eui) (reply.Opened (window_of f)) (refl, refl) (refl, refl)),
+        (quiet_map (λ (f : Fit). reply.Old f.eui f.session f.counter) stale (λ f. (refl, refl)), tt),
       ),
     ) (refl, refl)
 
@@ -245,10 +245,6 @@ out_of_close net h w (Some o) is whole =
 All-both : {X : Type 0} (P Q : X → Type 0) (xs : List X) → AllByRecursion P xs → AllByRecursion Q xs → AllByRecursion (λ x. P x × Q x) xs
 All-both P Q [] all other = tt
 All-both P Q (x ∷ xs) all other = ((all.0, other.0), All-both P Q xs all.1 other.1)
-
-IfSome-weaker : {X : Type 0} (P Q : X → Type 0) (o : Option X) → ((x : X) → P x → Q x) → IfSome o P → IfSome o Q
-IfSome-weaker P Q None weaker holds = tt
-IfSome-weaker P Q (Some x) weaker holds = weaker x holds
 
 pub goes_out : (net : Network) (h : List Entry) (c : Call) → IsLegal net h → GoesOut net h c
 unfolding IsQuiet

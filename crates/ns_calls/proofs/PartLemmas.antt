@@ -32,11 +32,11 @@ use Rattle.ns_calls.specs.declared.answer.Downlink.{Downlink}
 use Rattle.ns_calls.specs.Accept.{accept_bytes}
 use Rattle.ns_calls.specs.Queries.{last, maximum}
 use Rattle.ns_calls.specs.History.{Acceptance, Opening, Closing, acceptances, openings, closings, first_and_other, session_join, next_session, open_windows, open_window, window_count, window_copies, ticket_copies, is_ticket_open, ticket_count}
-use Rattle.ns_calls.specs.Reply.{first_fit, window_with, copy_reply, open_reply, most_copies, most_windows, most_tickets, reply_to, reply_to_uplink, spent_by, join_copy_reply, is_failed, address, ack_number}
-use Rattle.ns_calls.specs.Out.{payload_key, uplink_of, uplink_out, downlink_out, downlink_to, ack_frame, ack_downlink, join_accept_delay, out}
+use Rattle.ns_calls.specs.Reply.{Fit, window_of, first_fit, window_with, copy_reply, open_reply, most_copies, most_windows, most_tickets, reply_to, reply_to_uplink, spent_by, join_copy_reply, is_failed, address, ack_number}
+use Rattle.ns_calls.specs.Out.{payload_key, uplink_under, uplink_of, uplink_out, downlink_out, ack_at, ack_downlink, accept_at, out}
 use Rattle.ns_calls.specs.Legal.{IsLegal, entry_for}
 use Rattle.ns_calls.specs.Shards.{shard_of_call, of_shard, NamesOwnDevice}
-use Rattle.ns_calls.proofs.Lists.{All-push, find-has}
+use Rattle.ns_calls.proofs.Lists.{All-push, find-has, IfSome-weaker}
 use Rattle.ns_calls.proofs.Induction.{legal_induction}
 use Rattle.ns_calls.proofs.LocalJoin.{acceptances-own, ticket_copies-own, reply_to_join-own, reply_to_join_reply-own}
 use Rattle.ns_calls.proofs.UplinkLemmas.{uplink_reply_by}
@@ -86,17 +86,18 @@ names-uplink net own h housed frame heard =
     let c : Call = call.Uplink frame heard in
     let P : Reply → Type 0 = NamesOwnDevice c in
     let Mine : WindowName → Type 0 = λ w. shard_of w.eui ≡ shard_of_frame frame in
+    let Fits : Fit → Type 0 = λ f. shard_of f.eui ≡ shard_of_frame frame in
     let cases : List (Option Reply) =
     option_map (λ (o : Opening). copy_reply h o.window) (window_with h frame)
-    ∷ option_map (open_reply h) (first_fit above net h frame)
-    ∷ option_map (λ (w : WindowName). reply.Old w.eui w.session w.fcnt) (first_fit below net h frame) ∷ [] in
+    ∷ option_map (λ (f : Fit). open_reply h (window_of f)) (first_fit above net h frame)
+    ∷ option_map (λ (f : Fit). reply.Old f.eui f.session f.counter) (first_fit below net h frame) ∷ [] in
     case-has P cases reply.NoSession (
       map-has P (λ (o : Opening). Mine o.window) (λ (o : Opening). copy_reply h o.window) (window_with h frame) (window_with-names h housed frame)
           (λ o mine. either-has P (nat_le (length (window_copies h o.window) + 1) most_copies) (reply.Copied o.window (length (window_copies h o.window) + 1)) (reply.Crowded o.window) mine mine),
       (
-        map-has P Mine (open_reply h) (first_fit above net h frame) (first_fit-names above net own h frame)
-            (λ w mine. either-has P (nat_le most_windows (window_count h w.eui)) (reply.Busy w.eui) (reply.Opened w) mine mine),
-        (map-has P Mine (λ (w : WindowName). reply.Old w.eui w.session w.fcnt) (first_fit below net h frame) (first_fit-names below net own h frame) (λ w mine. mine), tt),
+        map-has P Fits (λ (f : Fit). open_reply h (window_of f)) (first_fit above net h frame) (first_fit-names above net own h frame)
+            (λ f mine. either-has P (nat_le most_windows (window_count h f.eui)) (reply.Busy f.eui) (reply.Opened (window_of f)) mine mine),
+        (map-has P Fits (λ (f : Fit). reply.Old f.eui f.session f.counter) (first_fit below net h frame) (first_fit-names below net own h frame) (λ f mine. mine), tt),
       ),
     ) tt
 
@@ -147,17 +148,13 @@ legal-housed net own h legal = legal_induction net AllHoused tt (λ g number c o
 
 -- ---- the reply
 
-uplink_by-own : (g h : List Entry) (copied : Option Opening) (fresh stale : Option WindowName) → IfSome copied (λ o. window_copies g o.window ≡ window_copies h o.window) → IfSome fresh (λ w. window_count g w.eui ≡ window_count h w.eui) →
+uplink_by-own : (g h : List Entry) (copied : Option Opening) (fresh stale : Option Fit) → IfSome copied (λ o. window_copies g o.window ≡ window_copies h o.window) → IfSome fresh (λ f. window_count g f.eui ≡ window_count h f.eui) →
     uplink_reply_by g copied fresh stale ≡ uplink_reply_by h copied fresh stale
 uplink_by-own g h (Some o) fresh stale copies counts =
     ap (λ (hs : List Heard). cond (nat_le (length hs + 1) most_copies) (reply.Copied o.window (length hs + 1)) (reply.Crowded o.window)) copies
-uplink_by-own g h None (Some w) stale copies counts = ap (λ n. cond (nat_le most_windows n) (reply.Busy w.eui) (reply.Opened w)) counts
-uplink_by-own g h None None (Some w) copies counts = refl
+uplink_by-own g h None (Some f) stale copies counts = ap (λ n. cond (nat_le most_windows n) (reply.Busy f.eui) (reply.Opened (window_of f))) counts
+uplink_by-own g h None None (Some f) copies counts = refl
 uplink_by-own g h None None None copies counts = refl
-
-IfSome-weaker : {X : Type 0} (P Q : X → Type 0) (o : Option X) → ((x : X) → P x → Q x) → IfSome o P → IfSome o Q
-IfSome-weaker P Q None weaker holds = tt
-IfSome-weaker P Q (Some x) weaker holds = weaker x holds
 
 uplink-own : (net : Network) → AllByRecursion (InShard net) net.devices → (h : List Entry) → AllHoused h → (frame : List ℕ) → reply_to_uplink net (of_shard (shard_of_frame frame) h) frame ≡ reply_to_uplink net h frame
 uplink-own net own h housed frame =
@@ -171,7 +168,7 @@ uplink-own net own h housed frame =
     ∙ (ap (λ o. uplink_reply_by part (window_with h frame) (first_fit above net h frame) o) stale
     ∙ uplink_by-own part h (window_with h frame) (first_fit above net h frame) (first_fit below net h frame)
     (IfSome-weaker (λ (o : Opening). shard_of o.window.eui ≡ k) (λ (o : Opening). window_copies part o.window ≡ window_copies h o.window) (window_with h frame) (λ o mine. window_copies-own k o.window mine h housed) (window_with-names h housed frame))
-    (IfSome-weaker (λ (w : WindowName). shard_of w.eui ≡ k) (λ (w : WindowName). window_count part w.eui ≡ window_count h w.eui) (first_fit above net h frame) (λ w mine. window_count-own k w.eui mine h housed) (first_fit-names above net own h frame))))
+    (IfSome-weaker (λ (f : Fit). shard_of f.eui ≡ k) (λ (f : Fit). window_count part f.eui ≡ window_count h f.eui) (first_fit above net h frame) (λ f mine. window_count-own k f.eui mine h housed) (first_fit-names above net own h frame))))
 
 -- whether a session is live, and its next acknowledgement number, by what is told of the device
 abbrev live_by : ℕ → List Acceptance → List Opening → Bool
@@ -231,18 +228,7 @@ session_join-own k eui mine h session = ap (λ joins. option_map (λ (a : Accept
 
 -- an uplink, by the answer that made its session and by its copies
 abbrev uplink_by : Opening → Option JoinAns → List Heard → Uplink
-uplink_by o join copies =
-    let fields = data_fields o.frame in
-    let key : Option Key = option_and_then (payload_key fields.port) join in
-    record {
-      window = o.window;
-      addr = record { 0 = fields.addr };
-      port = fields.port;
-      fopts = fields.fopts;
-      sealed = is_none key;
-      payload = option_map_or (λ k. cipher k.0 Up fields.addr o.window.fcnt fields.payload) key fields.payload;
-      copies = record { items = copies };
-    }
+uplink_by o join copies = uplink_under o.window o.frame copies (option_and_then (λ (j : JoinAns). payload_key (data_fields o.frame).port j.nwk j.app) join)
 
 pub uplink_of-same : (g h : List Entry) (o : Opening) → session_join g o.window.eui o.window.session ≡ session_join h o.window.eui o.window.session → window_copies g o.window ≡ window_copies h o.window → uplink_of g o ≡ uplink_of h o
 uplink_of-same g h o joins copies =
@@ -251,7 +237,7 @@ uplink_of-same g h o joins copies =
 pub ack_downlink-same : (net : Network) (g h : List Entry) (o : Opening) (n : ℕ) → session_join g o.window.eui o.window.session ≡ session_join h o.window.eui o.window.session → window_copies g o.window ≡ window_copies h o.window → ack_downlink net g o n ≡ ack_downlink net h o n
 ack_downlink-same net g h o n joins copies =
     let by : Option JoinAns → List Heard → Option Downlink = λ join hs.
-    option_and_then (λ (j : JoinAns). option_map (λ copy. downlink_to (ack_frame j.nwk.0 (data_fields o.frame).addr n) (rx1 copy net.rx1_offset (ack_delay net))) (best hs)) join in
+    option_and_then (λ (j : JoinAns). option_map (ack_at net o.frame j.nwk n) (best hs)) join in
     ap (λ join. by join (window_copies g o.window)) joins ∙ ap (λ hs. by (session_join h o.window.eui o.window.session) hs) copies
 
 uplink_out-own : (k : ℕ) (h : List Entry) → AllHoused h → (c : Call) (r : Reply) → shard_of_call c ≡ k → uplink_out (of_shard k h) c r ≡ uplink_out h c r
@@ -271,7 +257,7 @@ own-ticket k t mine = eq-eqb (shard_of (dev_eui t)) k mine
 
 downlink_out-own : (net : Network) (k : ℕ) (h : List Entry) → AllHoused h → (c : Call) (r : Reply) → shard_of_call c ≡ k → downlink_out net (of_shard k h) c r ≡ downlink_out net h c r
 downlink_out-own net k h housed (call.JoinReply t (outcome.Success join)) (reply.Accepted eui session addr) mine =
-    ap (λ hs. option_map (λ copy. downlink_to (accept_bytes join.accept) (rx1 copy 0 join_accept_delay)) (best hs)) (ticket_copies-own k t (own-ticket k t mine) h)
+    ap (λ hs. option_map (accept_at join) (best hs)) (ticket_copies-own k t (own-ticket k t mine) h)
 downlink_out-own net k h housed (call.Close w) (reply.Closed closed (Some n)) mine =
     ap (option_and_then (λ (o : Opening). ack_downlink net (of_shard k h) o n)) (open_window-own k w mine h housed)
     ∙ and_then-same (λ (o : Opening). ack_downlink net (of_shard k h) o n) (λ (o : Opening). ack_downlink net h o n) (open_window h w)

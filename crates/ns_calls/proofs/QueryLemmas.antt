@@ -15,7 +15,7 @@ greater-None : (a : Option ℕ) → greater a None ≡ a
 greater-None None = refl
 greater-None (Some a) = refl
 
-greater-assoc : (a b c : Option ℕ) → greater a (greater b c) ≡ greater (greater a b) c
+pub greater-assoc : (a b c : Option ℕ) → greater a (greater b c) ≡ greater (greater a b) c
 greater-assoc None b c = refl
 greater-assoc (Some a) None c = refl
 greater-assoc (Some a) (Some b) None = refl

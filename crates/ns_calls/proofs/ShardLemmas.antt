@@ -22,11 +22,11 @@ use Rattle.ns_calls.specs.declared.call.Reply.TheVariants as reply
 use Rattle.ns_calls.specs.declared.call.Entry.{Entry}
 use Rattle.ns_calls.specs.Queries.{first, last, maximum}
 use Rattle.ns_calls.specs.History.{Acceptance, Opening, Closing, opening_in, closing_in, window_copy_in, closes, same_device, acceptances, openings, closings, first_and_other, live, session_join, greatest_counter, open_windows, open_window, window_count, window_copies}
-use Rattle.ns_calls.specs.Reply.{window_of, session_fit, device_fit, devices_at, first_fit, window_with}
+use Rattle.ns_calls.specs.Reply.{Fit, fit_of, fitting_counter, session_fit, device_fit, devices_at, first_fit, window_with}
 use Rattle.ns_calls.specs.Shards.{shard_of_call, of_shard, NamesOwnDevice}
 use Rattle.ns_calls.proofs.LocalLemmas.{All-each, filter_map-own, filter_map-own_of, still_open-own_of, count_by-own}
 use Rattle.ns_calls.proofs.LocalJoin.{here, other_device, none_single, acceptances-own}
-use Rattle.ns_calls.proofs.Lists.{All-append, All-filter, All-weaker, All-passed, filter_map-same, first-gives, first-gives_of, find-own}
+use Rattle.ns_calls.proofs.Lists.{All-append, All-filter, All-weaker, All-passed, filter_map-same, first-gives, first-gives_of, find-own, IfSome-weaker}
 use Rattle.ns_calls.proofs.WindowLemmas.{same_window-eq}
 
 -- the reply of an entry names a device of its call's shard
@@ -181,12 +181,12 @@ window_with-own k frame mine h housed =
 -- ---- what fits
 
 -- what fits, by the joins and the openings of the device
-abbrev fit_by : (Option ℕ → ℕ → Option ℕ) → List ℕ → DevEui → List Acceptance → List Opening → Option WindowName
+abbrev fit_by : (Option ℕ → ℕ → Option ℕ) → List ℕ → DevEui → List Acceptance → List Opening → Option Fit
 fit_by recover frame eui joins opened =
     first (filter_map (λ session.
-    option_and_then (λ counter.
-    when (option_map_or (λ join. mic_fits frame join.nwk.0 counter) (option_map (λ a. a.join_ans) (find (λ a. a.session == session) joins)) false) (window_of eui session counter))
-    (recover (maximum (map (λ o. o.window.fcnt) (filter (λ o. o.window.session == session) opened))) (data_fields frame).fcnt16))
+    option_map (fit_of eui session)
+    (option_and_then (λ join. fitting_counter recover frame join.nwk (maximum (map (λ o. o.window.fcnt) (filter (λ o. o.window.session == session) opened))))
+    (option_map (λ a. a.join_ans) (find (λ a. a.session == session) joins))))
     (first_and_other (option_map (λ o. o.window.session) (last opened)) (option_map (λ a. a.session) (last joins))))
 
 pub device_fit-own : (recover : Option ℕ → ℕ → Option ℕ) (k : ℕ) (eui : DevEui) → shard_of eui ≡ k → (h : List Entry) → AllHoused h → (frame : List ℕ) →
@@ -222,31 +222,23 @@ first_fit-own recover net own h housed frame =
         (λ d is. device_fit-own recover (shard_of_frame frame) d.eui is h housed frame) ds mine
 
 -- what fits names a device of the frame's shard
-session_fit-names : (recover : Option ℕ → ℕ → Option ℕ) (h : List Entry) (frame : List ℕ) (eui : DevEui) (session : ℕ) → IfSome (session_fit recover h frame eui session) (λ w. w.eui ≡ eui)
-session_fit-names recover h frame eui session = step (recover (greatest_counter h eui session) (data_fields frame).fcnt16)
+session_fit-names : (recover : Option ℕ → ℕ → Option ℕ) (h : List Entry) (frame : List ℕ) (eui : DevEui) (session : ℕ) → IfSome (session_fit recover h frame eui session) (λ f. f.eui ≡ eui)
+session_fit-names recover h frame eui session = step (option_and_then (λ (join : JoinAns). fitting_counter recover frame join.nwk (greatest_counter h eui session)) (session_join h eui session))
   where
-    test : (n : ℕ) (b : Bool) → IfSome (when b (window_of eui session n)) (λ w. w.eui ≡ eui)
-    test n true = refl
-    test n false = tt
-
-    step : (o : Option ℕ) → IfSome (option_and_then (λ counter. when (option_map_or (λ (join : JoinAns). mic_fits frame join.nwk.0 counter) (session_join h eui session) false) (window_of eui session counter)) o) (λ w. w.eui ≡ eui)
+    step : (o : Option ℕ) → IfSome (option_map (fit_of eui session) o) (λ f. f.eui ≡ eui)
     step None = tt
-    step (Some n) = test n (option_map_or (λ (join : JoinAns). mic_fits frame join.nwk.0 n) (session_join h eui session) false)
+    step (Some n) = refl
 
-IfSome-weaker : {X : Type 0} (P Q : X → Type 0) (o : Option X) → ((x : X) → P x → Q x) → IfSome o P → IfSome o Q
-IfSome-weaker P Q None weaker holds = tt
-IfSome-weaker P Q (Some x) weaker holds = weaker x holds
-
-pub device_fit-names : (recover : Option ℕ → ℕ → Option ℕ) (h : List Entry) (frame : List ℕ) (eui : DevEui) → IfSome (device_fit recover h frame eui) (λ w. w.eui ≡ eui)
-device_fit-names recover h frame eui = first-gives (λ (w : WindowName). w.eui ≡ eui) (session_fit recover h frame eui) (session_fit-names recover h frame eui) (live h eui)
+pub device_fit-names : (recover : Option ℕ → ℕ → Option ℕ) (h : List Entry) (frame : List ℕ) (eui : DevEui) → IfSome (device_fit recover h frame eui) (λ f. f.eui ≡ eui)
+device_fit-names recover h frame eui = first-gives (λ (f : Fit). f.eui ≡ eui) (session_fit recover h frame eui) (session_fit-names recover h frame eui) (live h eui)
 
 pub first_fit-names : (recover : Option ℕ → ℕ → Option ℕ) (net : Network) → AllByRecursion (InShard net) net.devices → (h : List Entry) (frame : List ℕ) →
-    IfSome (first_fit recover net h frame) (λ w. shard_of w.eui ≡ shard_of_addr (record { 0 = (data_fields frame).addr }))
+    IfSome (first_fit recover net h frame) (λ f. shard_of f.eui ≡ shard_of_addr (record { 0 = (data_fields frame).addr }))
 first_fit-names recover net own h frame =
-    let Mine = λ (w : WindowName). shard_of w.eui ≡ shard_of_addr (record { 0 = (data_fields frame).addr }) in
+    let Mine = λ (f : Fit). shard_of f.eui ≡ shard_of_addr (record { 0 = (data_fields frame).addr }) in
     let devices : List Device = devices_at net (data_fields frame).addr in
     first-gives_of Mine (λ (d : Device). device_fit recover h frame d.eui) devices
     (All-weaker (λ (d : Device). shard_of d.eui ≡ shard_of_addr (record { 0 = (data_fields frame).addr })) (λ (d : Device). IfSome (device_fit recover h frame d.eui) Mine)
-    (λ d is. IfSome-weaker (λ (w : WindowName). w.eui ≡ d.eui) Mine (device_fit recover h frame d.eui) (λ w names. ap shard_of names ∙ is)
-    (first-gives (λ (w : WindowName). w.eui ≡ d.eui) (session_fit recover h frame d.eui) (session_fit-names recover h frame d.eui) (live h d.eui)))
+    (λ d is. IfSome-weaker (λ (f : Fit). f.eui ≡ d.eui) Mine (device_fit recover h frame d.eui) (λ f names. ap shard_of names ∙ is)
+    (first-gives (λ (f : Fit). f.eui ≡ d.eui) (session_fit recover h frame d.eui) (session_fit-names recover h frame d.eui) (live h d.eui)))
     devices (devices-own net (data_fields frame).addr own))

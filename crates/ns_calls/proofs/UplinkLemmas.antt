@@ -1,6 +1,6 @@
 -- The uplinks that a legal history opens.
 use Rattle.std.proofs.Common.{◌≡◌, ◌⊎◌, ℕ, ◌+◌, ◌^◌, ◌<◌, Bool, true, false, ◌==◌, cond, List, [], ◌∷◌, ◌++◌, filter, map, nat_le, nat_lt, length, Option, None, Some, IfSome, option_map, refl, sym, ap, subst, ◌∙◌, arith, inl, inr}
-use Rattle.std.specs.Option.{option_and_then}
+use Rattle.std.specs.Option.{option_and_then, option_map_or}
 use Rattle.std.proofs.lemmas.List.{append-nil, map-append}
 use Rattle.std.proofs.lemmas.List.Elements.{filter-append}
 use Rattle.std.proofs.lemmas.Option.{same_Some}
@@ -11,19 +11,21 @@ use Rattle.ns_types.specs.declared.heard.Heard.{Heard}
 use Rattle.ns_types.specs.Cases.{first_case, when}
 use Rattle.ns_views.specs.Frame.{data_fields}
 use Rattle.ns_secure.specs.Counter.{Exceeds, above, with_low}
+use Rattle.ns_secure.specs.Integrity.{mic_fits}
 use Rattle.ns_roster.specs.declared.Device.{Device}
 use Rattle.ns_roster.specs.Network.{Network}
+use Rattle.ns_calls.specs.declared.call.JoinAns.{JoinAns}
 use Rattle.ns_calls.specs.declared.call.Call.{Call}
 use Rattle.ns_calls.specs.declared.call.Call.TheVariants as call
 use Rattle.ns_calls.specs.declared.call.Reply.{Reply}
 use Rattle.ns_calls.specs.declared.call.Reply.TheVariants as reply
 use Rattle.ns_calls.specs.declared.call.Entry.{Entry}
-use Rattle.ns_calls.specs.History.{Opening, opening_in, openings, same_device, session_counters, greatest_counter, live, window_count, window_copies}
-use Rattle.ns_calls.specs.Reply.{fits, window_of, session_fit, device_fit, devices_at, first_fit, window_with, copy_reply, open_reply, most_copies, most_windows, reply_to}
+use Rattle.ns_calls.specs.History.{Opening, opening_in, openings, same_device, session_counters, greatest_counter, session_join, live, window_count, window_copies}
+use Rattle.ns_calls.specs.Reply.{fits, Fit, fit_of, window_of, fitting_counter, session_fit, device_fit, devices_at, first_fit, window_with, copy_reply, open_reply, most_copies, most_windows, reply_to}
 use Rattle.ns_calls.specs.Legal.{IsLegal, entry_for, with_call}
 use Rattle.ns_calls.specs.Headline.{Rises, CountersRise}
 use Rattle.ns_calls.proofs.LocalLemmas.{bool_tells}
-use Rattle.ns_calls.proofs.Lists.{said-push, said-cases, first-gives, Exceeds-each, Rises-push}
+use Rattle.ns_calls.proofs.Lists.{said-push, said-cases, first-gives, Exceeds-each, Rises-push, at_some}
 use Rattle.ns_calls.proofs.Induction.{legal_induction}
 use Rattle.ns_calls.proofs.JoinLemmas.{same_device-eq}
 
@@ -50,66 +52,71 @@ above-exceeds (Some g) low = step (nat_lt g (with_low g low)) refl
     step true is = capped (λ n. g < n) (with_low g low) (grind (arith, nat_tests))
     step false is = capped (λ n. g < n) (with_low g low + 65536) (omega arith)
 
-session_fit-fresh : (h : List Entry) (frame : List ℕ) (eui : DevEui) (session : ℕ) → IfSome (session_fit above h frame eui session) (IsFresh h frame)
-session_fit-fresh h frame eui session = step (above greatest (data_fields frame).fcnt16) (above-exceeds greatest (data_fields frame).fcnt16)
+-- a window that is opened at this fit is fresh
+abbrev pub IsFreshFit : List Entry → List ℕ → Fit → Type 0
+IsFreshFit h frame f = IsFresh h frame (window_of f)
+
+session_fit-fresh : (h : List Entry) (frame : List ℕ) (eui : DevEui) (session : ℕ) → IfSome (session_fit above h frame eui session) (IsFreshFit h frame)
+session_fit-fresh h frame eui session = joined (session_join h eui session) refl
   where
     greatest : Option ℕ
     greatest = greatest_counter h eui session
 
-    test : (n : ℕ) → Exceeds greatest n → (b : Bool) → fits h frame (window_of eui session n) ≡ b → IfSome (when b (window_of eui session n)) (IsFresh h frame)
-    test n exceeds true is = record { counter = exceeds; mic = is }
-    test n exceeds false is = tt
+    test : (join : JoinAns) → session_join h eui session ≡ Some join → (n : ℕ) → Exceeds greatest n → (b : Bool) → mic_fits frame join.nwk.0 n ≡ b → IfSome (option_map (fit_of eui session) (when b n)) (IsFreshFit h frame)
+    test join is n exceeds true mic = record { counter = exceeds; mic = ap (λ (j : Option JoinAns). option_map_or (λ (x : JoinAns). mic_fits frame x.nwk.0 n) j false) is ∙ mic }
+    test join is n exceeds false mic = tt
 
-    step : (o : Option ℕ) → IfSome o (λ n. Exceeds greatest n) →
-        IfSome (option_and_then (λ counter. when (fits h frame (window_of eui session counter)) (window_of eui session counter)) o) (IsFresh h frame)
-    step None exceeds = tt
-    step (Some n) exceeds = test n exceeds (fits h frame (window_of eui session n)) refl
+    step : (join : JoinAns) → session_join h eui session ≡ Some join → (o : Option ℕ) → IfSome o (λ n. Exceeds greatest n) →
+        IfSome (option_map (fit_of eui session) (option_and_then (λ counter. when (mic_fits frame join.nwk.0 counter) counter) o)) (IsFreshFit h frame)
+    step join is None exceeds = tt
+    step join is (Some n) exceeds = test join is n exceeds (mic_fits frame join.nwk.0 n) refl
 
-pub device_fit-fresh : (h : List Entry) (frame : List ℕ) (eui : DevEui) → IfSome (device_fit above h frame eui) (IsFresh h frame)
-device_fit-fresh h frame eui = first-gives (IsFresh h frame) (session_fit above h frame eui) (session_fit-fresh h frame eui) (live h eui)
+    joined : (j : Option JoinAns) → session_join h eui session ≡ j → IfSome (option_map (fit_of eui session) (option_and_then (λ (join : JoinAns). fitting_counter above frame join.nwk greatest) j)) (IsFreshFit h frame)
+    joined None is = tt
+    joined (Some join) is = step join is (above greatest (data_fields frame).fcnt16) (above-exceeds greatest (data_fields frame).fcnt16)
 
-pub first_fit-fresh : (net : Network) (h : List Entry) (frame : List ℕ) → IfSome (first_fit above net h frame) (IsFresh h frame)
+pub device_fit-fresh : (h : List Entry) (frame : List ℕ) (eui : DevEui) → IfSome (device_fit above h frame eui) (IsFreshFit h frame)
+device_fit-fresh h frame eui = first-gives (IsFreshFit h frame) (session_fit above h frame eui) (session_fit-fresh h frame eui) (live h eui)
+
+pub first_fit-fresh : (net : Network) (h : List Entry) (frame : List ℕ) → IfSome (first_fit above net h frame) (IsFreshFit h frame)
 first_fit-fresh net h frame =
-    first-gives (IsFresh h frame) (λ (d : Device). device_fit above h frame d.eui) (λ d. device_fit-fresh h frame d.eui) (devices_at net (data_fields frame).addr)
+    first-gives (IsFreshFit h frame) (λ (d : Device). device_fit above h frame d.eui) (λ d. device_fit-fresh h frame d.eui) (devices_at net (data_fields frame).addr)
 
 -- ---- what is opened
 
 -- the reply to an uplink, by what is asked of the history
-abbrev pub uplink_reply_by : List Entry → Option Opening → Option WindowName → Option WindowName → Reply
+abbrev pub uplink_reply_by : List Entry → Option Opening → Option Fit → Option Fit → Reply
 uplink_reply_by h copied fresh stale = first_case (
     option_map (λ o. copy_reply h o.window) copied
-    ∷ option_map (open_reply h) fresh
-    ∷ option_map (λ w. reply.Old w.eui w.session w.fcnt) stale
+    ∷ option_map (λ f. open_reply h (window_of f)) fresh
+    ∷ option_map (λ f. reply.Old f.eui f.session f.counter) stale
     ∷ []) reply.NoSession
 
 abbrev pub opening_of : WindowName → List ℕ → Heard → Opening
 opening_of w frame heard = record { window = w; frame = frame; heard = heard }
 
 -- what is opened is the window that fits, of a frame that no open window has
-pub opened-cases : (h : List Entry) (frame : List ℕ) (heard : Heard) (copied : Option Opening) (fresh stale : Option WindowName) →
+pub opened-cases : (h : List Entry) (frame : List ℕ) (heard : Heard) (copied : Option Opening) (fresh stale : Option Fit) →
     let said_by : Option Opening = opening_in (call.Uplink frame heard) (uplink_reply_by h copied fresh stale) in
-    (said_by ≡ None) ⊎ ((w : WindowName) × (copied ≡ None) × (fresh ≡ Some w) × (said_by ≡ Some (opening_of w frame heard)))
+    (said_by ≡ None) ⊎ ((f : Fit) × (copied ≡ None) × (fresh ≡ Some f) × (said_by ≡ Some (opening_of (window_of f) frame heard)))
 opened-cases h frame heard (Some o) fresh stale = inl (step (nat_le (length (window_copies h o.window) + 1) most_copies))
   where
     step : (b : Bool) → opening_in (call.Uplink frame heard) (cond b (reply.Copied o.window (length (window_copies h o.window) + 1)) (reply.Crowded o.window)) ≡ None
     step true = refl
     step false = refl
-opened-cases h frame heard None (Some w) stale =
+opened-cases h frame heard None (Some f) stale =
+    let w : WindowName = window_of f in
     elim (bool_tells (nat_le most_windows (window_count h w.eui))) [
       | inl busy ↦ inl (ap (λ b. opening_in (call.Uplink frame heard) (cond b (reply.Busy w.eui) (reply.Opened w))) busy)
-      | inr room ↦ inr (w, refl, refl, ap (λ b. opening_in (call.Uplink frame heard) (cond b (reply.Busy w.eui) (reply.Opened w))) room)
+      | inr room ↦ inr (f, refl, refl, ap (λ b. opening_in (call.Uplink frame heard) (cond b (reply.Busy w.eui) (reply.Opened w))) room)
     ]
-opened-cases h frame heard None None (Some w) = inl refl
+opened-cases h frame heard None None (Some f) = inl refl
 opened-cases h frame heard None None None = inl refl
 
 -- what a call opens: nothing, or a fresh window of a frame that no open window has
 pub record IsNewOpening (h : List Entry) (o : Opening) : Type 0 where
   pub fresh : IsFresh h o.frame o.window
   pub apart : window_with h o.frame ≡ None
-
-at_some : {X : Type 0} (P : X → Type 0) (o : Option X) (x : X) → o ≡ Some x → IfSome o P → P x
-at_some P None x is holds = absurd (cc is)
-at_some {X} P (Some y) x is holds = subst P (same_Some y x is) holds
 
 pub opening-new : (net : Network) (h : List Entry) (c : Call) → IfSome (opening_in c (reply_to net h c)) (IsNewOpening h)
 opening-new net h (call.Join t heard) = tt
@@ -120,7 +127,7 @@ opening-new net h (call.Uplink frame heard) =
       | inl none ↦ subst (λ o. IfSome o (IsNewOpening h)) (sym none) tt
       | inr found ↦
           subst (λ o. IfSome o (IsNewOpening h)) (sym found.3)
-          (record { fresh = at_some (IsFresh h frame) (first_fit above net h frame) found.0 found.2 (first_fit-fresh net h frame); apart = found.1 })
+          (record { fresh = at_some (IsFreshFit h frame) (first_fit above net h frame) found.0 found.2 (first_fit-fresh net h frame); apart = found.1 })
     ]
 
 -- what a call adds to the openings of a device

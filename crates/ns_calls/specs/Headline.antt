@@ -13,7 +13,7 @@ use Rattle.ns_calls.specs.declared.call.Call.{Call}
 use Rattle.ns_calls.specs.declared.call.Reply.{Reply}
 use Rattle.ns_calls.specs.declared.call.Reply.TheVariants.{Opened, Copied, Crowded, Old, NoSession, Busy, Ask, JoinCopied, JoinCrowded, NonceOld, NoDevice, JoinBusy, Accepted, JoinRefused, JoinStale, NoTicket, Closed, NoWindow}
 use Rattle.ns_calls.specs.declared.call.Entry.{Entry}
-use Rattle.ns_calls.specs.History.{acceptances, next_session, greatest_nonce, session_counters, session_acks, window_in, closing_in, open_windows, open_window, open_tickets, session_join, live, is_live, greatest_counter, window_count, ticket_count, window_copies, ticket_copies}
+use Rattle.ns_calls.specs.History.{acceptances, next_session, greatest_nonce, session_counters, session_acks, window_in, closing_in, open_windows, open_window, open_tickets, session_join, live, is_live, greatest_counter, window_count, ticket_count, window_copies, ticket_copies, last_nonce}
 use Rattle.ns_calls.specs.Reply.{devices_at, fits, window_with, most_windows, most_tickets, most_copies}
 use Rattle.ns_calls.specs.Out.{answer}
 
@@ -25,6 +25,24 @@ Rises (n ∷ ns) = AllByRecursion (λ m. n < m) ns × Rises ns
 -- the nonces that are accepted of a device strictly rise, so none is accepted twice
 abbrev pub NoncesRise : List Entry → Type 0
 NoncesRise h = (eui : DevEui) → Rises (map (λ a. (nonce a.ticket).0) (acceptances h eui))
+
+-- the nonces that are accepted of a device, in order
+abbrev pub nonces_of : List Entry → DevEui → List ℕ
+nonces_of h eui = map (λ a. (nonce a.ticket).0) (acceptances h eui)
+
+-- there is a greatest number, and n is at most that
+abbrev pub Reaches : Option ℕ → ℕ → Type 0
+Reaches None n = ⊥
+Reaches (Some greatest) n = n ≤ greatest
+
+-- each nonce that is accepted of a device is above the last one that the roster names, and at most the greatest one
+pub record NoncesAreWithin (net : Network) (h : List Entry) : Type 0 where
+  pub above : (eui : DevEui) → AllByRecursion (λ n. Exceeds (last_nonce net eui) n) (nonces_of h eui)
+  pub up_to : (eui : DevEui) → AllByRecursion (λ n. Reaches (greatest_nonce net h eui) n) (nonces_of h eui)
+
+-- each of some numbers is below each of the others
+abbrev pub AreBelow : List ℕ → List ℕ → Type 0
+AreBelow ms ns = AllByRecursion (λ m. AllByRecursion (λ n. m < n) ns) ms
 
 -- the counters that are opened in a session of a device strictly rise
 abbrev pub CountersRise : List Entry → Type 0

@@ -17,7 +17,7 @@ pub record IsOpenWindow (h : List Entry) (o : Opening) : Type 0 where
   pub entry : Entry
   pub after : List Entry
   pub is : h ≡ before ++ entry ∷ after
-  pub opened : window_in entry.call entry.reply ≡ Some o
+  pub opens : window_in entry.call entry.reply ≡ Some o
   pub not_closed : AllByRecursion (λ e. closes o.window e ≡ false) after
 
 -- an entry asked for the ticket, and none after it ended it
@@ -26,7 +26,7 @@ pub record IsOpenTicket (h : List Entry) (t : Ticket) : Type 0 where
   pub entry : Entry
   pub after : List Entry
   pub is : h ≡ before ++ entry ∷ after
-  pub asked : asking_in entry.call entry.reply ≡ Some t
+  pub asks : asking_in entry.call entry.reply ≡ Some t
   pub not_ended : AllByRecursion (λ e. ends_ticket t e ≡ false) after
 
 -- how a call heard a frame of these bytes, where it did

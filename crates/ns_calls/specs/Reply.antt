@@ -4,6 +4,7 @@ use Rattle.std.specs.Option.{option_map_or}
 use Rattle.ns_types.specs.declared.identity.DevEui.{DevEui}
 use Rattle.ns_types.specs.declared.identity.DevAddr.{DevAddr}
 use Rattle.ns_types.specs.declared.identity.WindowName.{WindowName}
+use Rattle.ns_types.specs.declared.identity.Key.{Key}
 use Rattle.ns_types.specs.declared.ticket.Ticket.{Ticket}
 use Rattle.ns_types.specs.Cases.{first_case, when}
 use Rattle.ns_types.specs.Ticket.{dev_eui, join_eui, nonce}
@@ -39,26 +40,35 @@ most_tickets = 4
 abbrev pub fits : List Entry → List ℕ → WindowName → Bool
 fits h frame w = option_map_or (λ join. mic_fits frame join.nwk.0 w.fcnt) (session_join h w.eui w.session) false
 
--- the window of a session with this counter
-abbrev pub window_of : DevEui → ℕ → ℕ → WindowName
-window_of eui session counter = record { eui = eui; session = session; fcnt = counter }
+-- a session of a device, and a counter of it: where a frame's MIC fits
+pub record Fit : Type 0 where
+  pub eui : DevEui
+  pub session : ℕ
+  pub counter : ℕ
 
--- the window that the frame has in a session, where its MIC fits at the counter that recover gives
-abbrev pub session_fit : (Option ℕ → ℕ → Option ℕ) → List Entry → List ℕ → DevEui → ℕ → Option WindowName
+abbrev pub fit_of : DevEui → ℕ → ℕ → Fit
+fit_of eui session counter = record { eui = eui; session = session; counter = counter }
+
+-- the counter that recover gives after the greatest one of a session, where the frame's MIC fits there under the session's NwkSKey (4.4)
+abbrev pub fitting_counter : (Option ℕ → ℕ → Option ℕ) → List ℕ → Key → Option ℕ → Option ℕ
+fitting_counter recover frame nwk greatest = option_and_then (λ counter. when (mic_fits frame nwk.0 counter) counter) (recover greatest (data_fields frame).fcnt16)
+
+-- where the frame fits in a session
+abbrev pub session_fit : (Option ℕ → ℕ → Option ℕ) → List Entry → List ℕ → DevEui → ℕ → Option Fit
 session_fit recover h frame eui session =
-    option_and_then (λ counter. when (fits h frame (window_of eui session counter)) (window_of eui session counter))
-    (recover (greatest_counter h eui session) (data_fields frame).fcnt16)
+    option_map (fit_of eui session)
+    (option_and_then (λ join. fitting_counter recover frame join.nwk (greatest_counter h eui session)) (session_join h eui session))
 
--- the window of the first live session of a device that fits
-abbrev pub device_fit : (Option ℕ → ℕ → Option ℕ) → List Entry → List ℕ → DevEui → Option WindowName
+-- where it fits first among the live sessions of a device
+abbrev pub device_fit : (Option ℕ → ℕ → Option ℕ) → List Entry → List ℕ → DevEui → Option Fit
 device_fit recover h frame eui = first (filter_map (session_fit recover h frame eui) (live h eui))
 
 -- the devices with an address, in the roster's order
 abbrev pub devices_at : Network → ℕ → List Device
 devices_at net addr = filter (λ d. (device_addr net d).0 == addr) net.devices
 
--- the window of the first of the devices with the frame's address that fits
-abbrev pub first_fit : (Option ℕ → ℕ → Option ℕ) → Network → List Entry → List ℕ → Option WindowName
+-- where it fits first among the devices with its address
+abbrev pub first_fit : (Option ℕ → ℕ → Option ℕ) → Network → List Entry → List ℕ → Option Fit
 first_fit recover net h frame = first (filter_map (λ d. device_fit recover h frame d.eui) (devices_at net (data_fields frame).addr))
 
 -- the open window of an equal frame
@@ -69,6 +79,10 @@ window_with h frame = find (λ o. bytes_eq o.frame frame) (open_windows h)
 abbrev pub copy_reply : List Entry → WindowName → Reply
 copy_reply h w = let place = length (window_copies h w) + 1 in if nat_le place most_copies then Copied w place else Crowded w
 
+-- the name of the window that is opened where a frame fits
+abbrev pub window_of : Fit → WindowName
+window_of f = record { eui = f.eui; session = f.session; fcnt = f.counter }
+
 -- a window that is to be opened
 abbrev pub open_reply : List Entry → WindowName → Reply
 open_reply h w = if nat_le most_windows (window_count h w.eui) then Busy w.eui else Opened w
@@ -76,8 +90,8 @@ open_reply h w = if nat_le most_windows (window_count h w.eui) then Busy w.eui e
 abbrev pub reply_to_uplink : Network → List Entry → List ℕ → Reply
 reply_to_uplink net h frame = first_case (
     option_map (λ o. copy_reply h o.window) (window_with h frame)
-    ∷ option_map (open_reply h) (first_fit above net h frame)
-    ∷ option_map (λ w. Old w.eui w.session w.fcnt) (first_fit below net h frame)
+    ∷ option_map (λ f. open_reply h (window_of f)) (first_fit above net h frame)
+    ∷ option_map (λ f. Old f.eui f.session f.counter) (first_fit below net h frame)
     ∷ []) NoSession
 
 -- ---- a join

@@ -10,9 +10,5 @@ AreBytes-front xs ys h = subst AreBytes (take-append_seam xs ys) (All-take (λ b
 pub AreBytes-back : (xs ys : List ℕ) → AreBytes (xs ++ ys) → AreBytes ys
 AreBytes-back xs ys h = subst AreBytes (drop-append_seam xs ys) (All-drop (λ b. b < 256) (length xs) (xs ++ ys) h)
 
--- what the type of a slice of bytes says of them
-pub AreBytes-slice : (bytes : List ℕ) → ((i : ℕ) → get_or bytes i 0 < 256) → AreBytes bytes
-AreBytes-slice bytes h = All-from_get_or (λ b. b < 256) bytes 0 (λ i _. h i)
-
 pub front_is : (size : ℕ) (frame behind : List ℕ) → length frame ≡ size → take size (frame ++ behind) ≡ frame
 front_is size frame behind e = rw (← e) (take-append_seam frame behind)

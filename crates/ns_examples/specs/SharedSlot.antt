@@ -16,7 +16,7 @@ second_eui = record { 0 = 0x1d }
 
 -- the device, and a second one with its slot
 abbrev pub network_of_two : Network
-network_of_two = record { net_id = network.net_id; rx1_offset = 0; rx_delay = 1; devices = device ∷ record { eui = second_eui; join_eui = device.join_eui; slot = device.slot } ∷ [] }
+network_of_two = record { net_id = network.net_id; rx1_offset = 0; rx_delay = 1; devices = device ∷ record { eui = second_eui; join_eui = device.join_eui; slot = device.slot; last_nonce = None } ∷ [] }
 
 abbrev pub second_join : Ticket
 second_join = record { 0 = (0x00 ∷ 0x04 ∷ 0x03 ∷ 0x02 ∷ 0x01 ∷ 0x04 ∷ 0x03 ∷ 0x02 ∷ 0x01 ∷ 0x1d ∷ 0x00 ∷ 0x00 ∷ 0x00 ∷ 0x00 ∷ 0x00 ∷ 0x00 ∷ 0x00 ∷ 0x01 ∷ 0x00 ∷ 0x02 ∷ 0x00 ∷ 0x00 ∷ 0x00 ∷ []) }

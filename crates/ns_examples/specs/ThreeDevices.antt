@@ -20,7 +20,7 @@ abbrev pub eui_1d : DevEui
 eui_1d = record { 0 = 0x1d }
 
 abbrev pub device_of : ℕ → ℕ → Device
-device_of eui slot = record { eui = record { 0 = eui }; join_eui = record { 0 = 9 }; slot = slot }
+device_of eui slot = record { eui = record { 0 = eui }; join_eui = record { 0 = 9 }; slot = slot; last_nonce = None }
 
 -- the devices 1d and 0d have one address. RX1DROffset is 5; RxDelay 0 means one second
 abbrev pub network : Network

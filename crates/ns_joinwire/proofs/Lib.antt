@@ -1,4 +1,3 @@
 pub mod CutLemmas
-pub mod TextLemmas
 pub mod RequestLemmas
 pub mod SpelledLemmas

@@ -1,18 +1,13 @@
 -- The text that asks a join server (TS002, JoinReq; this server's profile).
 use Rattle.std.specs.Prelude.{ℕ, ◌*◌, ◌≡◌, List, codes, Some, option_and_then}
-use Rattle.std.specs.Int.{bytes_high_first}
 use Rattle.hex.specs.Hex.{encode_lower}
 use Rattle.serde_json.specs.Data.{Data, number, unsigned, string, object, member, no_members}
 use Rattle.serde_json.specs.Written.{compact_text}
 use Rattle.ns_types.specs.declared.ticket.Ticket.{Ticket}
 use Rattle.ns_types.specs.Ticket.{transaction}
 use Rattle.ns_roster.specs.declared.Device.{Device}
-use Rattle.ns_roster.specs.Field.{value_of, text_at, whole_at, hex_bytes}
+use Rattle.ns_roster.specs.Field.{value_of, text_at, whole_at, hex_bytes, hex_number}
 use Rattle.ns_roster.specs.Network.{Network, device_addr}
-
--- a number of n bytes in hex, the highest byte first
-abbrev pub hex_number : ℕ → ℕ → List ℕ
-hex_number n x = encode_lower (bytes_high_first n x)
 
 -- DLSettings (LoRaWAN L2 1.0.4, 6.2.6): RX1DROffset in bits 6 to 4, and RX2DataRate 0
 abbrev pub dl_settings : Network → ℕ

@@ -2,14 +2,15 @@
 
 ghost use Rattle.std.specs.Prelude.{◌≡◌, IfOk, OnOk, Contains, string_bytes};
 ghost use Rattle.serde_json.specs.View.{view};
-ghost use Rattle.ns_joinwire.specs.JoinReq.{hex_number, dl_settings, fields_of, message, joinreq, AsksAbout};
+ghost use Rattle.ns_joinwire.specs.JoinReq.{dl_settings, fields_of, message, joinreq, AsksAbout};
 ghost use Rattle.ns_joinwire.specs.Private.Held.{fields_view};
 ghost use Rattle.hex.specs.Hex.{encode_lower};
-ghost use Rattle.ns_roster.specs.Field.{hex_bytes};
+ghost use Rattle.ns_roster.specs.Field.{hex_bytes, hex_number};
 ghost use Rattle.ns_roster.specs.Network.{device_addr};
 
+use ns_roster::field::{eui_text, net_id_text};
 use ns_roster::{Device, Roster};
-use ns_types::{NetId, Ticket, addr_of};
+use ns_types::{Ticket, addr_of};
 use serde_json::{Value, json};
 use std::alloc::{AllocError, Global};
 
@@ -41,19 +42,6 @@ fn addr_text(alloc: Global, roster: &Roster, device: &Device) -> Result<String, 
 {
     let addr = addr_of(roster.net_id(), device.eui, device.slot);
     hex::encode(alloc, addr.0.to_be_bytes())
-}
-
-fn eui_text(alloc: Global, eui: u64) -> Result<String, AllocError>
-    ensures { IfOk result (λ s. string_bytes s ≡ hex_number 8 eui) }
-{
-    hex::encode(alloc, eui.to_be_bytes())
-}
-
-// The low 24 bits of a NetID.
-fn net_id_text(alloc: Global, net_id: NetId) -> Result<String, AllocError>
-    ensures { IfOk result (λ s. string_bytes s ≡ hex_number 3 net_id.0) }
-{
-    hex::encode(alloc, &net_id.0.to_be_bytes()[1..])
 }
 
 // The Join-Request. It is read back.

@@ -11,8 +11,8 @@ use Rattle.ns_types.specs.Ticket.{nonce}
 use Rattle.ns_roster.specs.Network.{Network}
 use Rattle.ns_calls.specs.declared.call.Call.{Call}
 use Rattle.ns_calls.specs.declared.call.Entry.{Entry}
-use Rattle.ns_calls.specs.Queries.{last, maximum}
-use Rattle.ns_calls.specs.History.{Acceptance, Opening, same_device, acceptances, openings, first_and_other, session_join, session_counters, session_acks, open_windows, open_window, window_copies, open_tickets}
+use Rattle.ns_calls.specs.Queries.{last, greater, maximum}
+use Rattle.ns_calls.specs.History.{Acceptance, Opening, same_device, acceptances, openings, first_and_other, session_join, session_counters, session_acks, open_windows, open_window, window_copies, open_tickets, last_nonce}
 use Rattle.ns_calls.specs.Legal.{IsLegal, with_call}
 use Rattle.ns_calls.specs.Headline.{Rises}
 use Rattle.ns_calls.proofs.Lists.{All-weaker, Exceeds-each, Rises-push}
@@ -104,9 +104,11 @@ alike-within net h legal mark names ks within windows tickets =
       tickets = open_tickets-with_closings mark names ks ∙ tickets;
       copies_of_tickets = λ t opens. ticket_copies-with_closings mark names ks t ∙ ticket_copies-within h t opens ks h within;
       nonces = λ eui.
+          ap (greater (last_nonce net eui)) (
           ap (λ (joins : List Acceptance). maximum (map (λ (a : Acceptance). (nonce a.ticket).0) joins)) (joined eui)
           ∙ maximum-within (is_kept h) (λ es. map (λ (a : Acceptance). (nonce a.ticket).0) (acceptances es eui)) (Adds-map (λ (a : Acceptance). (nonce a.ticket).0) _ (acceptances-adds eui))
-          (idle-map (λ (a : Acceptance). (nonce a.ticket).0) (is_kept h) (λ es. acceptances es eui) (acceptances-idle h eui)) ks h within (nonces_rise net h legal eui);
+          (idle-map (λ (a : Acceptance). (nonce a.ticket).0) (is_kept h) (λ es. acceptances es eui) (acceptances-idle h eui)) ks h within (nonces_rise net h legal eui)
+          );
       next = λ eui.
           ap (λ (joins : List Acceptance). unwrap_or (maximum (sessions_of joins)) 0 + 1) (joined eui)
           ∙ ap (λ o. unwrap_or o 0 + 1)

@@ -7,3 +7,4 @@ pub mod FrontLemmas
 pub mod Digits
 pub mod Woven
 pub mod Blocks
+pub mod ClosingLemmas

@@ -1,5 +1,6 @@
 -- What a run answers, line by line.
-use Rattle.std.specs.Prelude.{ℕ, List, [], ◌∷◌, ◌++◌, flat_map, codes, decimal, Option, Some, None}
+use Rattle.ns_roster.specs.Closing.{network_text}
+use Rattle.std.specs.Prelude.{ℕ, List, [], ◌∷◌, ◌++◌, flat_map, codes, decimal, Option, Some, None, Bool, map, filter_map, if◌then◌else◌}
 use Rattle.ns_link.specs.Faults as link_fault
 use Rattle.ns_views.specs.Faults as view_fault
 use Rattle.ns_roster.specs.Network.{Network}
@@ -8,7 +9,7 @@ use Rattle.ns_shard.specs.declared.step.Act.{Act}
 use Rattle.ns_shard.specs.declared.step.Step.{Step}
 use Rattle.ns_shard.specs.declared.run.Taken.{Taken}
 use Rattle.ns_shard.specs.declared.run.Taken.TheVariants.{Link, View, Made}
-use Rattle.ns_shard.specs.Steps.{step_taken}
+use Rattle.ns_shard.specs.Steps.{step_taken, closing_roster}
 use Rattle.ns_replay.specs.StepLines.{steps}
 
 -- the step of a line, made by the one worker of a recorded run
@@ -40,6 +41,14 @@ ended line = line ++ 10 ∷ []
 abbrev pub text_of : Option Taken → List ℕ
 text_of taken = flat_map ended (lines_of taken)
 
+-- the steps of a text of step lines
+abbrev pub steps_of : List ℕ → List Step
+steps_of input = map step_of (filter_map (λ line. line) (steps input))
+
+-- the closing roster after steps, with a line feed, where it is asked for
+abbrev pub closing_line : Bool → Network → List Step → List ℕ
+closing_line closing net done = if closing then ended (network_text (closing_roster net done)) else []
+
 -- what is written for a text of step lines
-abbrev pub output : Network → List ℕ → List ℕ
-output net input = flat_map text_of (all_lines net [] (steps input))
+abbrev pub output : Bool → Network → List ℕ → List ℕ
+output closing net input = flat_map text_of (all_lines net [] (steps input)) ++ closing_line closing net (steps_of input)

@@ -1,3 +1,5 @@
 -- For private clauses alone: no promise rests on these.
 pub mod Lines
 pub mod Found
+pub mod Written
+pub mod Nonces

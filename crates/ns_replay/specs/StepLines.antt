@@ -1,5 +1,5 @@
 -- The step lines of a text: what stands between line feeds, and the step that each line asks for.
-use Rattle.std.specs.Prelude.{ℕ, ◌+◌, ◌-◌, ◌*◌, ◌^◌, Bool, ◌&&◌, ◌==◌, nat_le, nat_lt, List, [], ◌∷◌, length, take, drop, map, position, fold, slice_index, codes, bytes_eq, Option, None, option_map, option_and_then, if◌then◌else◌}
+use Rattle.std.specs.Prelude.{ℕ, ◌+◌, ◌-◌, ◌*◌, ◌^◌, Bool, ◌&&◌, ◌==◌, nat_le, nat_lt, List, [], ◌∷◌, length, take, drop, map, position, fold, slice_index, codes, bytes_eq, Option, None, Some, option_map, option_and_then, if◌then◌else◌}
 use Rattle.std.specs.List.{list_all, slice_split}
 use Rattle.std.specs.Result.{result_ok}
 use Rattle.std.specs.Int.{w64, from_be_bytes}
@@ -53,13 +53,23 @@ ticket text = option_map (λ bytes. record { 0 = bytes }) (result_ok (decode_siz
 
 -- ---- steps
 
+-- the next part, where this one was read
+infixl 10 ◌>>=◌
+abbrev pub ◌>>=◌ : {A B : Type 0} → Option A → (A → Option B) → Option B
+part >>= f = option_and_then f part
+
 -- `heard HEX`: one byte or more
 unfoldable pub heard : List ℕ → Option Act
-heard text = option_and_then (λ bytes. when (nat_lt 0 (length bytes)) (Datagram bytes)) (result_ok (decode_of text))
+heard text = do
+  bytes ← result_ok (decode_of text)
+  when (nat_lt 0 (length bytes)) (Datagram bytes)
 
 -- `answer TICKET TEXT`
 unfoldable pub answered : List ℕ → Option Act
-answered text = option_and_then (λ words. option_map (λ t. Answer t words.1) (ticket words.0)) (parted text)
+answered text = do
+  words ← parted text
+  t ← ticket words.0
+  Some (Answer t words.1)
 
 -- `lost TICKET`
 unfoldable pub lost : List ℕ → Option Act
@@ -67,14 +77,22 @@ lost text = option_map Lost (ticket text)
 
 -- `SESSION FCNT`
 unfoldable pub counters : List ℕ → Option (ℕ × ℕ)
-counters text = option_and_then (λ words. option_and_then (λ session. option_map (λ fcnt. (session, fcnt)) (number words.1)) (number words.0)) (parted text)
+counters text = do
+  words ← parted text
+  session ← number words.0
+  fcnt ← number words.1
+  Some (session, fcnt)
 
 abbrev pub window : DevEui → ℕ × ℕ → WindowName
 window device numbers = record { eui = device; session = numbers.0; fcnt = numbers.1 }
 
 -- `close EUI SESSION FCNT`
 unfoldable pub closed : List ℕ → Option Act
-closed text = option_and_then (λ words. option_and_then (λ device. option_map (λ numbers. Close (window device numbers)) (counters words.1)) (eui words.0)) (parted text)
+closed text = do
+  words ← parted text
+  device ← eui words.0
+  numbers ← counters words.1
+  Some (Close (window device numbers))
 
 -- the step that a first word asks for, with the text behind it
 unfoldable pub act : List ℕ → List ℕ → Option Act
@@ -87,7 +105,9 @@ act word text =
 
 -- the step that a line asks for, where it is a step line
 unfoldable pub step : List ℕ → Option Act
-step line = option_and_then (λ words. act words.0 words.1) (parted (without_return line))
+step line = do
+  words ← parted (without_return line)
+  act words.0 words.1
 
 -- the steps of a text, in order, and nothing for each line that is no step line
 abbrev pub steps : List ℕ → List (Option Act)

@@ -1,11 +1,12 @@
 //! Hex text read by a table.
 
-ghost use Rattle.std.specs.Prelude.{◌≡◌, ◌*◌, length, option_map, Ok, IfOk, IsErr};
+ghost use Rattle.std.specs.Prelude.{◌≡◌, ◌≤◌, ◌*◌, ◌%◌, length, option_map, Ok, IfOk, IsErr};
 ghost use Rattle.std.specs.Bool.{OnTrue, OnFalse};
 ghost use Rattle.std.specs.Result.{result_ok};
 ghost use Rattle.hex.specs.Hex.{decode_of};
 ghost use Rattle.ns_replay.specs.HexText.{digit_or_16};
 
+use ns_shard::{DatagramBytes, SHORT_DATAGRAM};
 use std::alloc::{AllocError, Global};
 
 // The value of each byte as a hex digit, in either case, and 16 where it is none.
@@ -48,8 +49,8 @@ fn decode_into(text: &[u8], out: &mut [u8]) -> bool
     true
 }
 
-/// The bytes of a text of hex digits, in either case: none where the text is odd or a byte of it is no digit.
-pub fn decoded(alloc: Global, text: &[u8]) -> Result<Option<Vec<u8>>, AllocError>
+// The bytes of a text of hex digits, in either case: none where the text is odd or a byte of it is no digit.
+fn decoded(alloc: Global, text: &[u8]) -> Result<Option<Vec<u8>>, AllocError>
     ensures { IfOk result (λ found. option_map (λ bytes. bytes.items) found ≡ result_ok (decode_of text.now)) }
 {
     if text.len() % 2 == 1 {
@@ -60,5 +61,33 @@ pub fn decoded(alloc: Global, text: &[u8]) -> Result<Option<Vec<u8>>, AllocError
         Ok(Some(bytes))
     } else {
         Ok(None)
+    }
+}
+
+// The same for a text of at most 190 digits, which takes no memory.
+fn short_datagram(alloc: Global, text: &[u8]) -> Result<Option<DatagramBytes>, AllocError>
+    requires even { length text.now % 2 ≡ 0 }
+    requires short { length text.now ≤ 190 }
+    ensures { IfOk result (λ found. found ≡ result_ok (decode_of text.now)) }
+{
+    let count = text.len() / 2;
+    let mut room = [0u8; SHORT_DATAGRAM];
+    if decode_into(text, &mut room[..count]) {
+        Ok(Some(DatagramBytes::of(alloc, &room[..count])?))
+    } else {
+        Ok(None)
+    }
+}
+
+/// The datagram of a text of hex digits, in either case: none where the text is odd or a byte of it is no digit.
+pub fn datagram(alloc: Global, text: &[u8]) -> Result<Option<DatagramBytes>, AllocError>
+    ensures { IfOk result (λ found. found ≡ result_ok (decode_of text.now)) }
+{
+    if text.len() % 2 == 0 && text.len() <= 2 * SHORT_DATAGRAM {
+        return short_datagram(alloc, text);
+    }
+    match decoded(alloc, text)? {
+        Some(bytes) => Ok(Some(DatagramBytes::new(bytes))),
+        None => Ok(None),
     }
 }

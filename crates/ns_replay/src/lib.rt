@@ -6,6 +6,7 @@
 //! lines of an answer. `steps_are_spelled` and `lines_are_spelled` say what step lines are without an order of tests. It has no streams of its own: a program passes it any `Source` and any `Sink`.
 #![tactic(auto)]
 
+mod closing;
 mod hex_text;
 mod laws;
 mod run;
@@ -15,6 +16,8 @@ mod taken;
 pub use laws::{lines_are_spelled, steps_are_spelled};
 pub use run::{ReplayFault, replay};
 
+#[cfg(test)]
+mod closing_tests;
 #[cfg(test)]
 mod hex_tests;
 #[cfg(test)]

@@ -181,7 +181,7 @@ fn a_line_of_64_kb(rt: HostRuntime) -> Result<(), Fail> {
     for most in [7usize, 100_000] {
         let mut reader = fuse(&rt, steps.as_str().as_bytes(), most, None, None)?;
         let mut writer = fuse(&rt, b"", 8192, None, None)?;
-        let outcome = replay(alloc, roster(&rt, ROSTER)?, &mut reader, &mut writer);
+        let outcome = replay(alloc, roster(&rt, ROSTER)?, false, &mut reader, &mut writer);
         assert_eq!(rt; outcome, Ok(()));
         assert_eq!(rt; writer.written(), JOINED.as_bytes());
     }

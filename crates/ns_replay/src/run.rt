@@ -1,19 +1,20 @@
 //! A run of recorded steps, from a source of step lines to a sink of answer lines.
 
-ghost use Rattle.std.specs.Prelude.{◌≡◌, ◌⊎◌, [], false, true, flat_map, OnOk, IfErr, IfOk, IfSome, ◌↔◌};
+ghost use Rattle.std.specs.Prelude.{◌≡◌, ◌⊎◌, [], false, true, string_bytes, OnOk, OnErr, IfErr, IfOk, IfSome, ◌↔◌};
 ghost use Rattle.ns_types.specs.declared.transfer.ReadFault.TheVariants.{Io};
 ghost use Rattle.std.specs.Arc.{arc_value};
 ghost use Rattle.std.specs.Io.KnownBytes.{Appends};
 ghost use Rattle.ns_types.specs.Streams.{AppendsFront};
 ghost use Rattle.ns_shard.specs.Steps.{all_taken};
-ghost use Rattle.ns_replay.specs.Output.{output, text_of};
-ghost use Rattle.ns_replay.specs.Private.Lines.{woven};
+ghost use Rattle.ns_replay.specs.Output.{output, closing_line};
+ghost use Rattle.ns_replay.specs.Private.Written.{text_in};
 
+use crate::closing::closing_line;
 use crate::step_lines::{StepLines, read_steps};
 use crate::taken::write_lines;
 use ns_roster::Roster;
 use ns_shard::{Run, Shards, Step, Taken};
-use ns_types::{ReadFault, Sink, Source};
+use ns_types::{Failed, ReadFault, Sink, Source, write_all};
 use std::alloc::{AllocError, Global};
 use std::sync::Arc;
 
@@ -26,12 +27,31 @@ pub enum ReplayFault {
     Io,
 }
 
-// What comes of steps. Neither they nor the shards are needed any more when it is written down.
-fn taken_of(alloc: Global, roster: Arc<Roster>, steps: Vec<Step>) -> Result<Vec<Taken>, AllocError>
-    ensures { IfOk result (λ taken. taken.items ≡ all_taken (arc_value roster) [] steps.items) }
+// What is written of a run: what came of its steps, and its closing line, which is empty where it is not asked for.
+#[derive(Drop)]
+struct Ran {
+    taken: Vec<Taken>,
+    closing: String,
+}
+
+// What is written of the run of steps. Neither they nor the shards are needed any more when it is written down.
+fn run_of(
+    alloc: Global,
+    roster: Arc<Roster>,
+    closing: bool,
+    steps: Vec<Step>,
+) -> Result<Ran, AllocError>
+    ensures taken { IfOk result (λ r. r.taken.items ≡ all_taken (arc_value roster) [] steps.items) }
+    ensures closing { IfOk result (λ r. string_bytes r.closing ≡ closing_line closing (arc_value roster) steps.items) }
 {
-    let Run { shards: _, taken } = Shards::run(alloc, roster, steps.as_slice())?;
-    Ok(taken)
+    let run = Shards::run(alloc, roster.clone()?, steps.as_slice())?;
+    let closing = if closing {
+        closing_line(alloc, &roster, &run)?
+    } else {
+        String::new(alloc)
+    };
+    let Run { shards: _, taken } = run;
+    Ok(Ran { taken, closing })
 }
 
 // What is known of step lines when their steps are made.
@@ -41,6 +61,8 @@ struct Answers {
     are_steps: Vec<bool>,
     // What came of each step.
     taken: Vec<Taken>,
+    // The closing roster with a line feed, or empty.
+    closing: String,
 }
 
 // What comes of the lines of a source.
@@ -48,26 +70,48 @@ struct Answers {
 fn answered<R: Source>(
     alloc: Global,
     roster: Arc<Roster>,
+    closing: bool,
     reader: &mut R,
 ) -> Result<Answers, ReadFault>
     requires { R.Stream.has_failed reader.old ≡ false }
     ensures lines { IfOk result (λ a. IfSome (R.left reader.old)
-        (λ input. flat_map text_of (woven a.are_steps.items a.taken.items) ≡ output (arc_value roster) input)) }
+        (λ input. text_in a ≡ output closing (arc_value roster) input)) }
     ensures sound { OnOk result (R.Stream.has_failed reader.new ≡ false) }
     ensures io { IfErr result (λ e. (e ≡ Io) ↔ (R.Stream.has_failed reader.new ≡ true)) }
 {
     let StepLines { steps, are_steps } = read_steps(alloc, reader)?;
-    let taken = taken_of(alloc, roster, steps)?;
-    Ok(Answers { are_steps, taken })
+    let Ran { taken, closing } = run_of(alloc, roster, closing, steps)?;
+    Ok(Answers {
+        are_steps,
+        taken,
+        closing,
+    })
+}
+
+// Writes the lines of the answers, and then the closing line.
+fn write_answers<W: Sink>(writer: &mut W, answers: &Answers) -> Result<(), Failed>
+    requires { W.Stream.has_failed writer.old ≡ false }
+    ensures ok { OnOk result (Appends (W.taken writer.old) (W.taken writer.new) (text_in answers.now)) }
+    ensures sound { OnOk result (W.Stream.has_failed writer.new ≡ false) }
+    ensures front { AppendsFront (W.taken writer.old) (W.taken writer.new) (text_in answers.now) }
+    ensures failed { OnErr result (W.Stream.has_failed writer.new ≡ true) }
+{
+    write_lines(
+        writer,
+        answers.are_steps.as_slice(),
+        answers.taken.as_slice(),
+    )?;
+    write_all(writer, answers.closing.as_str().as_bytes())
 }
 
 /// Reads step lines to the end, and then writes the lines of their answers.
 ///
 /// What is written is the refusal lines and the answers of the run of the steps of the bytes read, in order, each line with a line
-/// feed: each answer is the plain server's, after the entries of its shard that the steps before it made. `Io` comes exactly where the reader or the writer failed.
+/// feed, and then where `closing` asks for it the roster with the devices' greatest nonces, from which the next run begins: each answer is the plain server's, after the entries of its shard that the steps before it made. `Io` comes exactly where the reader or the writer failed.
 pub fn replay<R: Source, W: Sink>(
     alloc: Global,
     roster: Arc<Roster>,
+    closing: bool,
     reader: &mut R,
     writer: &mut W,
 ) -> Result<(), ReplayFault>
@@ -76,9 +120,9 @@ pub fn replay<R: Source, W: Sink>(
 
     // What is written is the answers' lines, or where the writer fails a beginning of them.
     ensures ok { OnOk result (IfSome (R.left reader.old)
-        (λ input. Appends (W.taken writer.old) (W.taken writer.new) (output (arc_value roster) input))) }
+        (λ input. Appends (W.taken writer.old) (W.taken writer.new) (output closing (arc_value roster) input))) }
     ensures front { (writer.new ≡ writer.old) ⊎ IfSome (R.left reader.old)
-        (λ input. AppendsFront (W.taken writer.old) (W.taken writer.new) (output (arc_value roster) input)) }
+        (λ input. AppendsFront (W.taken writer.old) (W.taken writer.new) (output closing (arc_value roster) input)) }
 
     // When each fault comes, and that nothing was written before the end was read.
     ensures sound { OnOk result ((R.Stream.has_failed reader.new ≡ false) × (W.Stream.has_failed writer.new ≡ false)) }
@@ -87,12 +131,12 @@ pub fn replay<R: Source, W: Sink>(
     ensures memory { result ≡ Err ReplayFault.NoMemory → writer.new ≡ writer.old }
     ensures unread { R.Stream.has_failed reader.new ≡ true → writer.new ≡ writer.old }
 {
-    let Answers { are_steps, taken } = match answered(alloc, roster, reader) {
+    let answers = match answered(alloc, roster, closing, reader) {
         Ok(answered) => answered,
         Err(ReadFault::NoMemory) => return Err(ReplayFault::NoMemory),
         Err(ReadFault::Io) => return Err(ReplayFault::Io),
     };
-    match write_lines(writer, are_steps.as_slice(), taken.as_slice()) {
+    match write_answers(writer, &answers) {
         Ok(()) => Ok(()),
         Err(_) => Err(ReplayFault::Io),
     }

@@ -6,9 +6,9 @@ ghost use Rattle.ns_replay.specs.Private.Lines.{steps_in, are_steps};
 ghost use Rattle.ns_replay.specs.StepLines.{without_return, parted, number, eui, ticket, heard, answered, lost, counters, closed, act, step};
 ghost use Rattle.ns_replay.specs.Private.Found.{FoundIn, StepsOf, Longer};
 
-use crate::hex_text::decoded;
+use crate::hex_text::datagram;
 use hex::FromHex;
-use ns_shard::{Act, DatagramBytes, OwnedBytes, Step};
+use ns_shard::{Act, OwnedBytes, Step};
 use ns_types::{DevEui, ReadFault, Source, Ticket, WindowName};
 use std::alloc::{AllocError, Global};
 
@@ -115,8 +115,8 @@ fn ticket(text: &[u8]) -> Option<Ticket>
 fn heard(alloc: Global, text: &[u8]) -> Result<Option<Act>, AllocError>
     ensures { IfOk result (λ a. a ≡ heard text.now) }
 {
-    match decoded(alloc, text)? {
-        Some(bytes) if !bytes.is_empty() => Ok(Some(Act::Datagram(DatagramBytes::new(bytes)))),
+    match datagram(alloc, text)? {
+        Some(bytes) if !bytes.as_slice().is_empty() => Ok(Some(Act::Datagram(bytes))),
         _ => Ok(None),
     }
 }

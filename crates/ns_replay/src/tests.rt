@@ -84,7 +84,7 @@ fn answers_each_line(rt: HostRuntime) -> Result<(), Fail> {
     for most in [1usize, 7, 8192] {
         let mut reader = fuse(&rt, STEPS.as_bytes(), most, None, None)?;
         let mut writer = fuse(&rt, b"", most, None, None)?;
-        let outcome = replay(rt.alloc(), roster.clone()?, &mut reader, &mut writer);
+        let outcome = replay(rt.alloc(), roster.clone()?, false, &mut reader, &mut writer);
         assert_eq!(rt; outcome, Ok(()));
         assert_eq!(rt; writer.written(), LINES.as_bytes());
     }
@@ -103,7 +103,7 @@ pub fn same_lines<R: Abort + AllocGlobal>(
     let input = Vec::from_slice(alloc, steps.as_bytes())?;
     let mut reader = Fuse::new(alloc, input, 8192, None, None);
     let mut writer = Fuse::new(alloc, Vec::new(alloc), 8192, None, None);
-    let outcome = replay(alloc, roster, &mut reader, &mut writer);
+    let outcome = replay(alloc, roster, false, &mut reader, &mut writer);
     assert_eq!(rt; outcome, Ok(()));
     assert_eq!(rt; writer.written(), lines.as_bytes());
     Ok(())
@@ -145,7 +145,7 @@ fn many_lines(rt: HostRuntime) -> Result<(), Fail> {
     for writes in 0..40u64 {
         let mut reader = fuse(&rt, steps.as_str().as_bytes(), 100_000, None, None)?;
         let mut writer = fuse(&rt, b"", 100_000, None, Some(writes))?;
-        let outcome = replay(rt.alloc(), roster.clone()?, &mut reader, &mut writer);
+        let outcome = replay(rt.alloc(), roster.clone()?, false, &mut reader, &mut writer);
         if writer.failed() {
             assert_eq!(rt; outcome, Err(ReplayFault::Io));
             assert!(rt; writer.written().len() < lines.len());
@@ -166,7 +166,7 @@ fn a_failed_read_writes_nothing(rt: HostRuntime) -> Result<(), Fail> {
     for reads in 0..12 {
         let mut reader = fuse(&rt, STEPS.as_bytes(), 200, Some(reads), None)?;
         let mut writer = fuse(&rt, b"", 200, None, None)?;
-        let outcome = replay(rt.alloc(), roster.clone()?, &mut reader, &mut writer);
+        let outcome = replay(rt.alloc(), roster.clone()?, false, &mut reader, &mut writer);
         if reader.failed() {
             assert_eq!(rt; outcome, Err(ReplayFault::Io));
             assert_eq!(rt; writer.written().len(), 0);
@@ -183,7 +183,7 @@ fn a_failed_write_leaves_a_beginning(rt: HostRuntime) -> Result<(), Fail> {
     for writes in 0..12 {
         let mut reader = fuse(&rt, STEPS.as_bytes(), 8192, None, None)?;
         let mut writer = fuse(&rt, b"", 30, None, Some(writes))?;
-        let outcome = replay(rt.alloc(), roster.clone()?, &mut reader, &mut writer);
+        let outcome = replay(rt.alloc(), roster.clone()?, false, &mut reader, &mut writer);
         let wanted = if writer.failed() {
             Err(ReplayFault::Io)
         } else {
@@ -234,7 +234,7 @@ pub fn refuses_each_growth<R: Abort + AllocGlobal>(
     for input in inputs {
         let mut reader = Fuse::new(rt.alloc(), input, 8192, None, None);
         let mut writer = Fuse::new(rt.alloc(), Vec::new(rt.alloc()), 8192, None, None);
-        let outcome = replay(rt.alloc(), roster.clone()?, &mut reader, &mut writer);
+        let outcome = replay(rt.alloc(), roster.clone()?, false, &mut reader, &mut writer);
         match outcome {
             Err(ReplayFault::NoMemory) => {
                 if !writer.written().is_empty() {

@@ -95,6 +95,13 @@ found_contained eui (x ∷ ds) d h = elim (cases_Bool (eqb x.eui.0 eui)) [
   | inr f ↦ Contains-later x ds d (found_contained eui ds d (rw f at h))
 ]
 
+pub device-held : (eui : DevEui) (ds : List Device) → IfSome (find (λ d. d.eui.0 == eui.0) ds) (λ d. Contains ds d)
+device-held eui ds = step (find (λ d. d.eui.0 == eui.0) ds) refl
+  where
+    step : (o : Option Device) → find (λ d. d.eui.0 == eui.0) ds ≡ o → IfSome o (λ d. Contains ds d)
+    step None is = tt
+    step (Some d) is = found_contained eui.0 ds d is
+
 pub found-device : (net : Network) (eui : DevEui) (d : Device) → device net eui ≡ Some d → Contains net.devices d × (d.eui ≡ eui)
 found-device net eui d h = (found_contained eui.0 net.devices d h, IfSome-at d (find (λ x. x.eui.0 == eui.0) net.devices) h (λ x. x.eui ≡ eui) (device-eui eui net.devices))
 

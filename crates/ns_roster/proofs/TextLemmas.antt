@@ -40,15 +40,15 @@ device_with-push devices x old new none indexed updates q =
     ∙ sym (find-append (λ d. eqb d.eui.0 q) devices (x ∷ []))
 
 -- what the list from one value on gives, where that value gives a device, and where it gives a fault
-pub devices_from-next : {X : Type 0} (f : X → Data) (devices : List Device) (vs : List X) (i : ℕ) (v : X) (r : Result (List Device) RosterFault)
-    → i < length vs → v ≡ get_or vs i v → with_value devices (f v) ≡ r
-    → devices_from devices (drop i (map f vs)) ≡ (r >>= λ more. devices_from more (drop (i + 1) (map f vs)))
-devices_from-next f devices vs i v r within item step =
+pub devices_from-next : {X : Type 0} (version : ℕ) (f : X → Data) (devices : List Device) (vs : List X) (i : ℕ) (v : X) (r : Result (List Device) RosterFault)
+    → i < length vs → v ≡ get_or vs i v → with_value version devices (f v) ≡ r
+    → devices_from version devices (drop i (map f vs)) ≡ (r >>= λ more. devices_from version more (drop (i + 1) (map f vs)))
+devices_from-next version f devices vs i v r within item step =
     let here : get_or (map f vs) i (f v) ≡ f v = get_or-map f vs i v (f v) within ∙ ap f (sym item) in
     let inside : i < length (map f vs) = rw (length-map vs f) within in
-    at_drop_more (devices_from devices) (map f vs) i (f v) inside
-    ∙ ap (λ d. with_value devices d >>= λ more. devices_from more (drop (i + 1) (map f vs))) here
-    ∙ ap (λ s. s >>= λ more. devices_from more (drop (i + 1) (map f vs))) step
+    at_drop_more (devices_from version devices) (map f vs) i (f v) inside
+    ∙ ap (λ d. with_value version devices d >>= λ more. devices_from version more (drop (i + 1) (map f vs))) here
+    ∙ ap (λ s. s >>= λ more. devices_from version more (drop (i + 1) (map f vs))) step
 
 -- a list's values, of a list of values
 pub items_list_of_items : (ds : List Data) → items_list (items_of ds) ≡ ds

@@ -14,4 +14,4 @@ Indexes by_eui devices = (eui : ℕ) → get nat_eq by_eui eui ≡ device_with e
 
 -- the outer fields in the code
 abbrev pub outer_view : code.Outer → Outer
-outer_view o = record { net_id = o.net_id; rx1_offset = o.rx1_offset; rx_delay = o.rx_delay; devices = map view o.devices.now }
+outer_view o = record { version = o.version; net_id = o.net_id; rx1_offset = o.rx1_offset; rx_delay = o.rx_delay; devices = map view o.devices.now }

@@ -24,6 +24,10 @@ max_devices = 65536
 abbrev pub max_slot : ℕ
 max_slot = 2097151
 
+-- the greatest DevNonce, of 16 bits (LoRaWAN L2 1.0.4, 6.2.5)
+abbrev pub max_nonce : ℕ
+max_nonce = 65535
+
 -- two devices have different DevEUIs
 abbrev pub Differ : Device → Device → Type 0
 Differ a b = a.eui.0 ≢ b.eui.0

@@ -3,25 +3,30 @@
 ghost use Rattle.std.specs.Prelude.{◌≡◌, ◌+◌, ◌≤◌, length, map, [], OnOk, IfOk, option_map};
 ghost use Rattle.serde_json.specs.View.{view};
 ghost use Rattle.ns_roster.specs.Fault.{Gives, GivesExactly};
-ghost use Rattle.ns_roster.specs.Text.{eui_at, net_id_at, outer_of, device_of, with_device, with_value, devices_from};
+ghost use Rattle.ns_roster.specs.Text.{eui_at, net_id_at, outer_of, is_version, last_nonce_of, device_of, with_device, with_value, devices_from};
 ghost use Rattle.ns_roster.specs.Valid.{max_slot, AreDevices};
 ghost use Rattle.ns_roster.specs.Held.{Indexes, outer_view};
 
 use crate::Device;
 use crate::fault::RosterFault;
-use crate::field::{hex_bytes, list_at, text_at, whole_at};
-use ns_types::{DevEui, JoinEui, NetId};
+use crate::field::{hex_bytes, is_missing, list_at, text_at, whole_at};
+use ns_types::{DevEui, DevNonce, JoinEui, NetId};
 use serde_json::Value;
 use std::alloc::Global;
 use std::collections::HashMap;
 
-const VERSION: u64 = 1;
+const VERSION_1: u64 = 1;
+
+// In this version a device may name its last nonce.
+const VERSION_2: u64 = 2;
 
 const MAX_RX1_OFFSET: u64 = 5;
 
 const MAX_RX_DELAY: u64 = 15;
 
 const MAX_SLOT: u64 = 0x1F_FFFF;
+
+const MAX_NONCE: u64 = 0xFFFF;
 
 // The EUI at a key.
 fn eui_at(value: &Value, key: &str) -> Option<u64>
@@ -42,10 +47,17 @@ fn net_id_at(value: &Value, key: &str) -> Option<u32>
 // The outer fields, and the values of the devices.
 #[derive(Drop)]
 pub(crate) struct Outer<'a> {
+    pub version: u64,
     pub net_id: NetId,
     pub rx1_offset: u8,
     pub rx_delay: u8,
     pub devices: &'a [Value],
+}
+
+fn is_version(version: u64) -> bool
+    ensures { result ≡ is_version version }
+{
+    version == VERSION_1 || version == VERSION_2
 }
 
 // The outer fields of a value. It takes no memory.
@@ -59,10 +71,11 @@ pub(crate) fn outer_of(root: &Value) -> Result<Outer<'_>, RosterFault>
     let rx1_offset = whole_at(root, "rx1_offset").ok_or(RosterFault::Field)?;
     let rx_delay = whole_at(root, "rx_delay").ok_or(RosterFault::Field)?;
     let devices = list_at(root, "devices").ok_or(RosterFault::Field)?;
-    if version != VERSION || rx1_offset > MAX_RX1_OFFSET || rx_delay > MAX_RX_DELAY {
+    if !is_version(version) || rx1_offset > MAX_RX1_OFFSET || rx_delay > MAX_RX_DELAY {
         return Err(RosterFault::Field);
     }
     Ok(Outer {
+        version,
         net_id: NetId(net_id),
         rx1_offset: rx1_offset as u8,
         rx_delay: rx_delay as u8,
@@ -70,15 +83,30 @@ pub(crate) fn outer_of(root: &Value) -> Result<Outer<'_>, RosterFault>
     })
 }
 
-// The device that a value describes. It takes no memory.
+// The last nonce that a device names, in a text of this version. It takes no memory.
+fn last_nonce_of(version: u64, value: &Value) -> Result<Option<DevNonce>, RosterFault>
+    ensures { GivesExactly (λ n. n) result (last_nonce_of version (view value.now)) }
+{
+    if version != VERSION_2 || is_missing(value, "last_nonce") {
+        return Ok(None);
+    }
+    let nonce = whole_at(value, "last_nonce").ok_or(RosterFault::Field)?;
+    if nonce > MAX_NONCE {
+        return Err(RosterFault::Field);
+    }
+    Ok(Some(DevNonce(nonce as u16)))
+}
+
+// The device that a value describes, in a text of this version. It takes no memory.
 #[tactic(auto, unfolding(crate::specs::Text::device_of))]
-fn device_of(value: &Value) -> Result<Device, RosterFault>
-    ensures gives { GivesExactly (λ d. d) result (device_of (view value.now)) }
+fn device_of(version: u64, value: &Value) -> Result<Device, RosterFault>
+    ensures gives { GivesExactly (λ d. d) result (device_of version (view value.now)) }
     ensures slot { IfOk result (λ d. d.slot ≤ max_slot) }
 {
     let eui = eui_at(value, "dev_eui").ok_or(RosterFault::Field)?;
     let join_eui = eui_at(value, "join_eui").ok_or(RosterFault::Field)?;
     let slot = whole_at(value, "slot").ok_or(RosterFault::Field)?;
+    let last_nonce = last_nonce_of(version, value)?;
     if slot > MAX_SLOT {
         return Err(RosterFault::Slot);
     }
@@ -86,6 +114,7 @@ fn device_of(value: &Value) -> Result<Device, RosterFault>
         eui: DevEui(eui),
         join_eui: JoinEui(join_eui),
         slot: slot as u32,
+        last_nonce,
     })
 }
 
@@ -111,8 +140,9 @@ fn add(
     Ok(())
 }
 
-// Adds the device that a value describes.
+// Adds the device that a value describes, in a text of this version.
 fn add_value(
+    version: u64,
     devices: &mut Vec<Device>,
     by_eui: &mut HashMap<u64, Device>,
     value: &Value,
@@ -120,21 +150,22 @@ fn add_value(
     requires indexed { Indexes by_eui.old devices.old.items }
     requires valid { AreDevices devices.old.items }
     ensures gives { Gives (λ _. devices.new.items) result
-        (with_value devices.old.items (view value.now)) }
+        (with_value version devices.old.items (view value.now)) }
     ensures indexed { OnOk result (Indexes by_eui.new devices.new.items) }
     ensures valid { OnOk result (AreDevices devices.new.items) }
     ensures len { OnOk result (length devices.new.items ≡ length devices.old.items + 1) }
 {
-    let device = device_of(value)?;
+    let device = device_of(version, value)?;
     add(devices, by_eui, device)
 }
 
 // The devices that the values describe, and each at its DevEUI.
 pub(crate) fn read_devices(
     alloc: Global,
+    version: u64,
     values: &[Value],
 ) -> Result<(Vec<Device>, HashMap<u64, Device>), RosterFault>
-    ensures gives { Gives (λ r. r.0.items) result (devices_from [] (map view values.now)) }
+    ensures gives { Gives (λ r. r.0.items) result (devices_from version [] (map view values.now)) }
     ensures indexed { IfOk result (λ r. Indexes r.1 r.0.items) }
     ensures valid { IfOk result (λ r. AreDevices r.0.items) }
     ensures len { IfOk result (λ r. length r.0.items ≡ length values.now) }
@@ -142,7 +173,7 @@ pub(crate) fn read_devices(
     let mut devices = Vec::new(alloc);
     let mut by_eui = HashMap::new(alloc);
     for value in values {
-        add_value(&mut devices, &mut by_eui, value)?;
+        add_value(version, &mut devices, &mut by_eui, value)?;
     }
     Ok((devices, by_eui))
 }

@@ -60,7 +60,7 @@ impl Roster {
         if outer.devices.len() > MAX_DEVICES {
             return Err(RosterFault::TooMany);
         }
-        let (devices, by_eui) = read_devices(alloc, outer.devices)?;
+        let (devices, by_eui) = read_devices(alloc, outer.version, outer.devices)?;
         Ok(Roster {
             net_id: outer.net_id,
             rx1_offset: outer.rx1_offset,
@@ -107,6 +107,7 @@ impl Roster {
     pub fn find(&self, eui: DevEui) -> Option<&Device>
         ensures is { option_map (λ d. d.now) result ≡ device self.now eui }
         ensures eui { IfSome result (λ d. d.now.eui ≡ eui) }
+        ensures held { IfSome result (λ d. Contains self.now.devices d.now) }
         ensures valid { IsRoster self.now }
     {
         self.by_eui.get(&eui.0)

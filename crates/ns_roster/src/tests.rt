@@ -5,7 +5,7 @@ use crate::{Device, Roster, RosterFault};
 use ns_types::{DevAddr, DevEui, JoinEui, NetId};
 use std::test::Fail;
 
-const ROSTER_A: &str =
+pub(crate) const ROSTER_A: &str =
     r#"{"version":1,"net_id":"000024","rx1_offset":0,"rx_delay":1,"devices":[{"dev_eui":"000000000000000d","join_eui":"0102030401020304","slot":1998321}]}"#;
 
 // A roster of these devices.
@@ -50,6 +50,7 @@ fn reads_roster_a(rt: HostRuntime) -> Result<(), Fail> {
         eui,
         join_eui,
         slot: 1_998_321,
+        last_nonce: None,
     };
     assert_eq!(rt; roster.devices().len(), 1);
     let device = roster.find(eui).ok_or("no device")?;
@@ -100,11 +101,11 @@ fn outer_faults(rt: HostRuntime) -> Result<(), Fail> {
         ),
         // Of equal keys the last one counts.
         (
-            r#"{"version":2,"net_id":"000024","rx1_offset":0,"rx_delay":1,"devices":[],"version":1}"#,
+            r#"{"version":3,"net_id":"000024","rx1_offset":0,"rx_delay":1,"devices":[],"version":1}"#,
             None,
         ),
         (
-            r#"{"version":1,"net_id":"000024","rx1_offset":0,"rx_delay":1,"devices":[],"version":2}"#,
+            r#"{"version":1,"net_id":"000024","rx1_offset":0,"rx_delay":1,"devices":[],"version":3}"#,
             Some(RosterFault::Field),
         ),
         // Numbers that are not whole, or out of range.
@@ -253,7 +254,7 @@ fn faults_are_printed(rt: HostRuntime) -> Result<(), Fail> {
 }
 
 // Blocks of falling size until none can be had.
-fn all_memory(rt: &HostRuntime) -> Result<Vec<Vec<u8>>, Fail> {
+pub(crate) fn all_memory(rt: &HostRuntime) -> Result<Vec<Vec<u8>>, Fail> {
     let mut held = Vec::with_capacity(rt.alloc(), 200_000)?;
     let mut size = 1usize << 46;
     for _ in 0..400_000u32 {

@@ -1,20 +1,17 @@
 -- What a search of a history finds in single entries, in the words of the history.
 use Rattle.std.specs.Prelude.{ℕ, ◌&&◌, ◌==◌, List, Option, option_map, option_and_then}
 use Rattle.ns_types.specs.declared.identity.DevEui.{DevEui}
-use Rattle.ns_types.specs.declared.identity.Key.{Key}
 use Rattle.ns_types.specs.declared.identity.WindowName.{WindowName}
 use Rattle.ns_types.specs.declared.heard.Heard.{Heard}
 use Rattle.ns_types.specs.declared.ticket.Ticket.{Ticket}
 use Rattle.ns_types.specs.Cases.{when}
-use Rattle.ns_types.specs.Heard.{best, rx1}
+use Rattle.ns_types.specs.Heard.{best}
 use Rattle.ns_types.specs.Identity.{same_window}
-use Rattle.ns_views.specs.Frame.{data_fields}
 use Rattle.ns_calls.specs.declared.call.JoinAns.{JoinAns}
 use Rattle.ns_calls.specs.declared.call.Entry.{Entry}
 use Rattle.ns_calls.specs.declared.answer.Downlink.{Downlink}
-use Rattle.ns_calls.specs.Accept.{accept_bytes}
-use Rattle.ns_calls.specs.History.{Opening, same_device, same_ticket, acceptance_in, window_copy_in, ticket_copy_in, session_join, ticket_copies}
-use Rattle.ns_calls.specs.Out.{payload_key, downlink_to, join_accept_delay}
+use Rattle.ns_calls.specs.History.{Opening, same_device, same_ticket, acceptance_in, window_copy_in, ticket_copy_in, ticket_copies}
+use Rattle.ns_calls.specs.Out.{accept_at}
 use Rattle.ns_sent.specs.declared.search.Opened.{Opened}
 
 -- the opening of a window that was found
@@ -32,10 +29,6 @@ window_copy w e = option_and_then (λ c. when (same_window c.0 w) c.1) (window_c
 abbrev pub ticket_copy : Ticket → Entry → Option Heard
 ticket_copy t e = option_and_then (λ c. when (same_ticket t c.0) c.1) (ticket_copy_in e.call e.reply)
 
--- the key of a window's payload, where there is one
-abbrev pub key_of : List Entry → Opening → Option Key
-key_of h o = option_and_then (payload_key (data_fields o.frame).port) (session_join h o.window.eui o.window.session)
-
 -- the Join-Accept that goes out for a ticket
 abbrev pub accept_downlink : List Entry → Ticket → JoinAns → Option Downlink
-accept_downlink h t join = option_map (λ copy. downlink_to (accept_bytes join.accept) (rx1 copy 0 join_accept_delay)) (best (ticket_copies h t))
+accept_downlink h t join = option_map (accept_at join) (best (ticket_copies h t))

@@ -8,6 +8,7 @@ ghost use Rattle.ns_roster.specs.Network.{ack_delay};
 ghost use Rattle.ns_calls.specs.Headline.{LimitsHold};
 ghost use Rattle.ns_calls.specs.History.{window_copies, ticket_copies};
 ghost use Rattle.ns_calls.specs.Out.{ack_frame, ack_downlink, downlink_out};
+ghost use Rattle.ns_calls.specs.Reply.{most_copies};
 ghost use Rattle.ns_sent.specs.Found.{opening, accept_downlink};
 
 use crate::search::{Opened, open_window, session_join, ticket_copies, window_copies};
@@ -56,7 +57,7 @@ fn ack_frame(nwk: &Key, addr: DevAddr, n: u32) -> Bytes<33>
 
 // The acknowledgement of an open window with this number, at RX1 of its best copy.
 fn ack_downlink(roster: &Roster, entries: &[Entry], opened: &Opened, n: u32) -> Option<Downlink>
-    requires { length (window_copies entries.now opened.now.window) ≤ 16 }
+    requires { length (window_copies entries.now opened.now.window) ≤ most_copies }
     ensures { result ≡ ack_downlink roster.now entries.now (opening opened.now) n }
 {
     let join = session_join(entries, opened.window.eui, opened.window.session)?;
@@ -70,7 +71,7 @@ fn ack_downlink(roster: &Roster, entries: &[Entry], opened: &Opened, n: u32) -> 
 
 // The Join-Accept of a ticket, at RX1 of the ticket's best copy.
 fn accept_downlink(entries: &[Entry], ticket: &Ticket, join: &JoinAns) -> Option<Downlink>
-    requires { length (ticket_copies entries.now ticket.now) ≤ 16 }
+    requires { length (ticket_copies entries.now ticket.now) ≤ most_copies }
     ensures { result ≡ accept_downlink entries.now ticket.now join.now }
 {
     let copies = ticket_copies(entries, ticket);

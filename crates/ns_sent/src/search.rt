@@ -4,11 +4,12 @@ ghost use Rattle.std.specs.Prelude.{◌≡◌, ◌≤◌, length, option_map};
 ghost use Rattle.std.specs.List.{list_any};
 ghost use Rattle.ns_types.specs.Identity.{same_window};
 ghost use Rattle.ns_calls.specs.Queries.{from_last};
-ghost use Rattle.ns_calls.specs.History.{opening_in, closes, asks_for, window_copy_in, ticket_copy_in, open_window, session_join, window_copies, copies_of_ticket, ticket_copies};
+ghost use Rattle.ns_calls.specs.History.{window_in, closes, asks_for, window_copy_in, ticket_copy_in, open_window, session_join, window_copies, copies_of_ticket, ticket_copies};
+ghost use Rattle.ns_calls.specs.Reply.{most_copies};
 ghost use Rattle.ns_sent.specs.Found.{opening, session_answer, window_copy, ticket_copy};
 
 use arrayvec::ArrayVec;
-use ns_calls::{Call, DataFrame, Entry, JoinAns, Outcome, Reply};
+use ns_calls::{Call, DataFrame, Entry, JoinAns, MOST_COPIES, Outcome, Reply};
 use ns_types::{DevEui, Heard, Ticket, WindowName};
 
 /// A window that an entry opened, with the frame and the copy that opened it.
@@ -28,7 +29,7 @@ fn is_same(a: &WindowName, b: &WindowName) -> bool
 
 // The window that an entry opened.
 fn window_opened(entry: &Entry) -> Option<Opened>
-    ensures { option_map opening result ≡ opening_in entry.now.call entry.now.reply }
+    ensures { option_map opening result ≡ window_in entry.now.call entry.now.reply }
 {
     let Call::Uplink { frame, heard } = &entry.call else {
         return None;
@@ -130,9 +131,9 @@ fn window_copy(entry: &Entry, name: &WindowName) -> Option<Heard>
     }
 }
 
-/// The copies of a window, the opening one first, of which there are at most 16.
-pub fn window_copies(entries: &[Entry], name: &WindowName) -> ArrayVec<Heard, 16>
-    requires { length (window_copies entries.now name.now) ≤ 16 }
+/// The copies of a window, the opening one first, of which there are at most `MOST_COPIES`.
+pub fn window_copies(entries: &[Entry], name: &WindowName) -> ArrayVec<Heard, MOST_COPIES>
+    requires { length (window_copies entries.now name.now) ≤ most_copies }
     ensures { result.items ≡ window_copies entries.now name.now }
 {
     let mut copies = ArrayVec::new();
@@ -202,8 +203,8 @@ fn ticket_copy(entry: &Entry, ticket: &Ticket) -> Option<Heard>
 }
 
 // The copies that these entries add to a ticket.
-fn copies_of_ticket(entries: &[Entry], ticket: &Ticket) -> ArrayVec<Heard, 16>
-    requires { length (copies_of_ticket entries.now ticket.now) ≤ 16 }
+fn copies_of_ticket(entries: &[Entry], ticket: &Ticket) -> ArrayVec<Heard, MOST_COPIES>
+    requires { length (copies_of_ticket entries.now ticket.now) ≤ most_copies }
     ensures { result.items ≡ copies_of_ticket entries.now ticket.now }
 {
     let mut copies = ArrayVec::new();
@@ -217,9 +218,9 @@ fn copies_of_ticket(entries: &[Entry], ticket: &Ticket) -> ArrayVec<Heard, 16>
     copies
 }
 
-/// The copies of a ticket since it was last asked for, the asking one first, of which there are at most 16.
-pub fn ticket_copies(entries: &[Entry], ticket: &Ticket) -> ArrayVec<Heard, 16>
-    requires { length (ticket_copies entries.now ticket.now) ≤ 16 }
+/// The copies of a ticket since it was last asked for, the asking one first, of which there are at most `MOST_COPIES`.
+pub fn ticket_copies(entries: &[Entry], ticket: &Ticket) -> ArrayVec<Heard, MOST_COPIES>
+    requires { length (ticket_copies entries.now ticket.now) ≤ most_copies }
     ensures { result.items ≡ ticket_copies entries.now ticket.now }
 {
     copies_of_ticket(since_asked(entries, ticket), ticket)

@@ -1,33 +1,84 @@
 //! What the workers' monitor counts and logs.
+ghost use Rattle.std.specs.Prelude.{◌≡◌, ◌+◌, ◌<◌, ◌≤◌, ◌↔◌, IsTrue};
+ghost use Rattle.ns_serve.specs.Counts.{reply_place, refusal_place};
 
 use log::{Log, debug, info, warn};
 use ns_calls::{Downlink, Reply};
 use ns_joinclient::AskFault;
 use ns_joinwire::AnsFault;
+use ns_link::LinkFault;
 use ns_types::Ticket;
 use ns_workers::{JoinFault, Monitor, Refused};
+use std::fmt;
+use std::fmt::{Display, Formatter};
 use std::sync::atomic::{AtomicU64, Ordering};
 
-/// How often each thing happened. The places of `layouts` and `frames` are the numbers of the refusals.
+// Between two log lines of the counts, in milliseconds.
+const MINUTE_MS: u64 = 60_000;
+
+// The refusals of datagrams and frames that a gateway worker meets, in the order of their places.
+const REFUSALS: [&str; 12] = [
+    "G1", "G2", "G3", "G4", "G5", "G6", "V1", "V2", "V3", "V4", "V5", "V6",
+];
+
+// The replies by the words of their answer lines, in the order of their places.
+const REPLIES: [&str; 18] = [
+    "opened",
+    "copied",
+    "crowded",
+    "old",
+    "nosession",
+    "busy",
+    "ask",
+    "joincopied",
+    "joincrowded",
+    "nonceold",
+    "nodevice",
+    "joinbusy",
+    "accepted",
+    "joinrefused",
+    "joinstale",
+    "noticket",
+    "closed",
+    "nowindow",
+];
+
+/// How often each thing happened.
 #[derive(Drop)]
 pub(crate) struct Counts {
     // When they were logged last, in milliseconds since the server began.
     logged_ms: AtomicU64,
-    layouts: [AtomicU64; 8],
-    frames: [AtomicU64; 7],
+    refusals: [AtomicU64; 12],
+    replies: [AtomicU64; 18],
     dropped: AtomicU64,
-    opened: AtomicU64,
-    copied: AtomicU64,
-    not_opened: AtomicU64,
-    asked: AtomicU64,
-    join_copied: AtomicU64,
-    not_asked: AtomicU64,
     unanswered: AtomicU64,
     unsent: AtomicU64,
 }
 
-// One more.
-fn add(counter: &AtomicU64) {
+// Counters with their names.
+#[derive(Clone, Copy)]
+struct Named<'a> {
+    names: &'a [&'static str],
+    counters: &'a [AtomicU64],
+}
+
+impl<'a> Display for Named<'a> {
+    fn fmt<W: fmt::Write>(&self, f: &mut Formatter<W>) -> fmt::Result {
+        for (name, counter) in self.names.iter().zip(self.counters.iter()) {
+            write!(f, " {name} {}", value(counter))?;
+        }
+        Ok(())
+    }
+}
+
+// One more at a place, if there is such a place.
+fn add(counters: &[AtomicU64], place: usize) {
+    if let Some(counter) = counters.get(place) {
+        more(counter);
+    }
+}
+
+fn more(counter: &AtomicU64) {
     counter.fetch_add(1, Ordering::SeqCst);
 }
 
@@ -35,60 +86,78 @@ fn value(counter: &AtomicU64) -> u64 {
     counter.load(Ordering::SeqCst)
 }
 
-fn zero() -> AtomicU64 {
-    AtomicU64::new(0)
+// The place of a reply's counter.
+fn place_of_reply(reply: &Reply) -> usize
+    ensures place { result ≡ reply_place reply.now }
+    ensures bound { result < 18 }
+{
+    match reply {
+        Reply::Opened { .. } => 0,
+        Reply::Copied { .. } => 1,
+        Reply::Crowded { .. } => 2,
+        Reply::Old { .. } => 3,
+        Reply::NoSession => 4,
+        Reply::Busy { .. } => 5,
+        Reply::Ask { .. } => 6,
+        Reply::JoinCopied { .. } => 7,
+        Reply::JoinCrowded => 8,
+        Reply::NonceOld { .. } => 9,
+        Reply::NoDevice => 10,
+        Reply::JoinBusy => 11,
+        Reply::Accepted { .. } => 12,
+        Reply::JoinRefused => 13,
+        Reply::JoinStale { .. } => 14,
+        Reply::NoTicket => 15,
+        Reply::Closed { .. } => 16,
+        Reply::NoWindow => 17,
+    }
+}
+
+// The place of a refusal's counter: the layouts' refusals come first. None has a full buffer, which no datagram that comes meets.
+fn place_of_refusal(why: Refused) -> usize
+    ensures { result ≡ refusal_place why }
+{
+    match why {
+        Refused::Link(LinkFault::Buffer) => 12,
+        Refused::Link(fault) => usize::from(fault.number()) - 1,
+        Refused::View(fault) => usize::from(fault.number()) + 5,
+    }
+}
+
+// Whether a minute has passed.
+fn is_minute_later(last_ms: u64, now_ms: u64) -> bool
+    ensures { IsTrue result ↔ (last_ms + 60000 ≤ now_ms) }
+{
+    now_ms >= MINUTE_MS && now_ms - MINUTE_MS >= last_ms
 }
 
 impl Counts {
     /// Nothing has happened.
     pub fn new() -> Counts {
         Counts {
-            logged_ms: zero(),
-            layouts: [
-                zero(),
-                zero(),
-                zero(),
-                zero(),
-                zero(),
-                zero(),
-                zero(),
-                zero(),
-            ],
-            frames: [zero(), zero(), zero(), zero(), zero(), zero(), zero()],
-            dropped: zero(),
-            opened: zero(),
-            copied: zero(),
-            not_opened: zero(),
-            asked: zero(),
-            join_copied: zero(),
-            not_asked: zero(),
-            unanswered: zero(),
-            unsent: zero(),
+            logged_ms: AtomicU64::new(0),
+            refusals: Default::default(),
+            replies: Default::default(),
+            dropped: AtomicU64::new(0),
+            unanswered: AtomicU64::new(0),
+            unsent: AtomicU64::new(0),
         }
     }
 
-    // Counts a reply by its kind.
-    fn count_reply(&self, reply: &Reply) {
-        match reply {
-            Reply::Opened { .. } => add(&self.opened),
-            Reply::Copied { .. } | Reply::Crowded { .. } => add(&self.copied),
-            Reply::Old { .. } | Reply::NoSession | Reply::Busy { .. } => add(&self.not_opened),
-            Reply::Ask { .. } => add(&self.asked),
-            Reply::JoinCopied { .. } | Reply::JoinCrowded => add(&self.join_copied),
-            Reply::NonceOld { .. } | Reply::NoDevice | Reply::JoinBusy => add(&self.not_asked),
-            _ => {}
-        }
+    /// Counts a reply.
+    pub fn replied(&self, reply: &Reply) {
+        add(&self.replies, place_of_reply(reply));
     }
 
     /// Logs the counts once a minute, by whoever calls first.
     pub fn log_each_minute<R: Log>(&self, rt: &R, now_ms: u64, read: u64) {
-        let last = self.logged_ms.load(Ordering::SeqCst);
-        if now_ms < last.saturating_add(60_000) {
+        let last_ms = value(&self.logged_ms);
+        if !is_minute_later(last_ms, now_ms) {
             return;
         }
         let was = self
             .logged_ms
-            .compare_exchange(last, now_ms, Ordering::SeqCst, Ordering::SeqCst);
+            .compare_exchange(last_ms, now_ms, Ordering::SeqCst, Ordering::SeqCst);
         if was.is_ok() {
             self.log_all(rt, read);
         }
@@ -96,48 +165,44 @@ impl Counts {
 
     /// Logs the counts.
     pub fn log_all<R: Log>(&self, rt: &R, read: u64) {
-        let [_, g1, g2, g3, g4, g5, g6, _] = &self.layouts;
-        let [_, v1, v2, v3, v4, v5, v6] = &self.frames;
-        info!(rt; "read {read} dropped {} uplinks {} copies {} refused {} joins {} copies {} refused {} unanswered {} downlinks lost {}",
-            value(&self.dropped), value(&self.opened), value(&self.copied), value(&self.not_opened), value(&self.asked),
-            value(&self.join_copied), value(&self.not_asked), value(&self.unanswered), value(&self.unsent));
-        info!(rt; "refused G1 {} G2 {} G3 {} G4 {} G5 {} G6 {} V1 {} V2 {} V3 {} V4 {} V5 {} V6 {}",
-            value(g1), value(g2), value(g3), value(g4), value(g5), value(g6),
-            value(v1), value(v2), value(v3), value(v4), value(v5), value(v6));
+        let refusals = Named {
+            names: &REFUSALS,
+            counters: &self.refusals,
+        };
+        let replies = Named {
+            names: &REPLIES,
+            counters: &self.replies,
+        };
+        let (dropped, unanswered, unsent) = (
+            value(&self.dropped),
+            value(&self.unanswered),
+            value(&self.unsent),
+        );
+        info!(rt; "datagrams: read {read} dropped {dropped}{refusals}");
+        info!(rt; "replies:{replies} unanswered {unanswered} unsent {unsent}");
     }
 }
 
 impl<R: Log> Monitor<R> for Counts {
     fn refused(&self, rt: &R, why: Refused) {
+        add(&self.refusals, place_of_refusal(why));
         match why {
-            Refused::Link(fault) => {
-                let number = fault.number();
-                if let Some(counter) = self.layouts.get(usize::from(number)) {
-                    add(counter);
-                }
-                debug!(rt; "datagram refused: G{number}");
-            }
-            Refused::View(fault) => {
-                let number = fault.number();
-                if let Some(counter) = self.frames.get(usize::from(number)) {
-                    add(counter);
-                }
-                debug!(rt; "datagram refused: V{number}");
-            }
+            Refused::Link(fault) => debug!(rt; "datagram refused: G{}", fault.number()),
+            Refused::View(fault) => debug!(rt; "datagram refused: V{}", fault.number()),
         }
     }
 
     fn replied(&self, _rt: &R, reply: &Reply) {
-        self.count_reply(reply);
+        Counts::replied(self, reply);
     }
 
     fn dropped(&self, rt: &R) {
-        add(&self.dropped);
+        more(&self.dropped);
         warn!(rt; "datagram dropped: no memory");
     }
 
     fn unanswered(&self, rt: &R, ticket: &Ticket, why: &JoinFault) {
-        add(&self.unanswered);
+        more(&self.unanswered);
         let eui = ticket.dev_eui().0;
         match why {
             // A device that the join server does not take is the device's matter.
@@ -149,7 +214,7 @@ impl<R: Log> Monitor<R> for Counts {
     }
 
     fn unsent(&self, rt: &R, downlink: &Downlink) {
-        add(&self.unsent);
+        more(&self.unsent);
         warn!(rt; "downlink to gateway {:016x} not sent", downlink.target.gateway.0);
     }
 }

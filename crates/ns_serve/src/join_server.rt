@@ -1,5 +1,6 @@
 //! Connections to the join server, each with one limit for connecting and the whole exchange.
-ghost use Rattle.std.specs.Prelude.{None};
+ghost use Rattle.std.specs.Prelude.{◌≡◌, ◌+◌, ◌<◌, ◌≤◌, ◌↔◌, None, IsNone, IfSome};
+ghost use Rattle.std.specs.Duration.{as_nanos};
 ghost use Rattle.std.specs.Io.{ReadsAtMost, WritesAtMost};
 
 use ns_types::{Failed, Sink, Source, Stream};
@@ -45,12 +46,19 @@ impl<'a, R: Net<Listener = TcpListener, Stream = TcpStream> + Clock> Connections
     }
 }
 
+// What is left of a time, if anything is.
+fn left_of(limit: Duration, elapsed: Duration) -> Option<Duration>
+    ensures none { IsNone result ↔ (as_nanos limit ≤ as_nanos elapsed) }
+    ensures left { IfSome result (λ d. as_nanos d + as_nanos elapsed ≡ as_nanos limit) }
+{
+    let left = limit.saturating_sub(elapsed);
+    if left.is_zero() { None } else { Some(left) }
+}
+
 impl<'a, R: Clock> Within<'a, R> {
-    // What is left of the time, if anything is.
+    // What is left of the time for the exchange, if anything is.
     fn left(&self) -> Option<Duration> {
-        let elapsed = self.start.elapsed(self.rt).ok()?;
-        let left = self.limit.saturating_sub(elapsed);
-        if left.is_zero() { None } else { Some(left) }
+        left_of(self.limit, self.start.elapsed(self.rt).ok()?)
     }
 
     fn read_some(&self, buf: &mut [u8]) -> io::Result<usize>

@@ -8,6 +8,7 @@
 
 mod channels;
 mod clock;
+mod closing;
 mod counts;
 mod join_server;
 mod options;

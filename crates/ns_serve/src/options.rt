@@ -1,4 +1,7 @@
 //! What is to be served, and why serving ended.
+ghost use Rattle.std.specs.Prelude.{◌≡◌, ◌↔◌};
+ghost use Rattle.ns_serve.specs.declared.options.ServeFault.TheVariants as serve;
+ghost use Rattle.ns_workers.specs.declared.outside.WorkerFault.TheVariants as worker;
 
 use ns_joinclient::HostName;
 use ns_workers::WorkerFault;
@@ -22,6 +25,8 @@ pub struct ServeOptions<'a> {
     pub window_ms: u32,
     /// After how many datagrams the server stops, if it does.
     pub stop_after: Option<u32>,
+    /// Whether the roster from which the next run begins is written at the end.
+    pub closing: bool,
 }
 
 /// Why serving ended.
@@ -36,6 +41,8 @@ pub enum ServeFault {
 }
 
 impl From<WorkerFault> for ServeFault {
+    ghost from_gives = { λ fault e. (e ≡ serve.NoMemory) ↔ (fault ≡ worker.NoMemory) };
+
     fn from(fault: WorkerFault) -> ServeFault {
         match fault {
             WorkerFault::NoMemory => ServeFault::NoMemory,

@@ -1,5 +1,9 @@
 //! The output, which all workers share.
-ghost use Rattle.std.specs.Prelude.{◌≡◌, false, None};
+ghost use Rattle.std.specs.Prelude.{◌≡◌, ◌≢◌, [], false, true, None, Err, OnOk, OnErr};
+ghost use Rattle.std.specs.Io.KnownBytes.{Appends, append_known};
+ghost use Rattle.std.specs.Net.Text.{socket_text};
+ghost use Rattle.ns_types.specs.Streams.{AppendsFront};
+ghost use Rattle.ns_serve.specs.Output.{line, settled_line, listening_line};
 
 use crate::options::ServeFault;
 use arrayvec::ArrayVec;
@@ -10,7 +14,7 @@ use std::alloc::Global;
 use std::net::SocketAddr;
 use std::sync::{Mutex, Wait};
 
-/// A writer, and whole lines that are not written yet.
+/// A writer, and whole lines that are not written yet. What it has been told is what the writer has, and then these lines.
 #[derive(Drop)]
 pub(crate) struct Output<W> {
     writer: W,
@@ -19,7 +23,10 @@ pub(crate) struct Output<W> {
 
 impl<W: Sink> Output<W> {
     /// An output with no lines.
-    pub fn new(writer: W) -> Output<W> {
+    pub fn new(writer: W) -> Output<W>
+        ensures writer { result.writer ≡ writer }
+        ensures lines { result.lines.items ≡ [] }
+    {
         Output {
             writer,
             lines: ArrayVec::new(),
@@ -27,7 +34,11 @@ impl<W: Sink> Output<W> {
     }
 
     /// Adds whole lines. Where there is no room for them, those before them are written first.
-    pub fn put(&mut self, lines: &[u8]) -> Result<(), Failed> {
+    pub fn put(&mut self, lines: &[u8]) -> Result<(), Failed>
+        ensures ok { OnOk result (Appends (append_known (W.taken self.old.writer) self.old.lines.items)
+            (append_known (W.taken self.new.writer) self.new.lines.items) lines.now) }
+        ensures failed { OnErr result (W.has_failed self.new.writer ≡ true) }
+    {
         if self.lines.try_extend_from_slice(lines).is_ok() {
             return Ok(());
         }
@@ -38,40 +49,68 @@ impl<W: Sink> Output<W> {
         write_whole(&mut self.writer, lines)
     }
 
-    /// Writes the lines that are not written yet.
-    pub fn flush(&mut self) -> Result<(), Failed> {
+    /// Writes the lines that are not written yet. Those that could not be written are lost.
+    pub fn flush(&mut self) -> Result<(), Failed>
+        ensures ok { OnOk result (Appends (W.taken self.old.writer) (W.taken self.new.writer) self.old.lines.items) }
+        ensures front { AppendsFront (W.taken self.old.writer) (W.taken self.new.writer) self.old.lines.items }
+        ensures empty { self.new.lines.items ≡ [] }
+        ensures failed { OnErr result (W.has_failed self.new.writer ≡ true) }
+    {
         let written = write_whole(&mut self.writer, self.lines.as_slice());
         self.lines.clear();
         written
     }
 
     /// Adds a line, with a line feed.
-    pub fn put_line(&mut self, line: &str) -> Result<(), ServeFault> {
-        if self.put(line.as_bytes()).is_err() || self.put(b"\n").is_err() {
+    pub fn put_line(&mut self, text: &str) -> Result<(), ServeFault>
+        ensures ok { OnOk result (Appends (append_known (W.taken self.old.writer) self.old.lines.items)
+            (append_known (W.taken self.new.writer) self.new.lines.items) (line text.now)) }
+        ensures failed { OnErr result (W.has_failed self.new.writer ≡ true) }
+        ensures io { result ≢ Err ServeFault.NoMemory }
+    {
+        if self.put(text.as_bytes()).is_err() || self.put(b"\n").is_err() {
             return Err(ServeFault::Io);
         }
         Ok(())
     }
 
     /// Writes the first line: the address at which gateways are heard.
-    pub fn put_listening(&mut self, alloc: Global, addr: SocketAddr) -> Result<(), ServeFault> {
-        let Ok(line) = format!(in alloc; "listening {addr}") else {
+    pub fn put_listening(&mut self, alloc: Global, addr: SocketAddr) -> Result<(), ServeFault>
+        ensures { OnOk result (Appends (append_known (W.taken self.old.writer) self.old.lines.items)
+            (W.taken self.new.writer) (listening_line (socket_text addr))) }
+    {
+        let Ok(text) = format!(in alloc; "listening {addr}") else {
             return Err(ServeFault::NoMemory);
         };
-        self.put_line(line.as_str())?;
+        self.put_line(text.as_str())?;
         self.flush_all()
     }
 
-    /// Writes the last line: how many entries there are.
-    pub fn put_settled(&mut self, total: u128) -> Result<(), ServeFault> {
-        let mut line = Line::new();
-        line.push_str("settled ");
-        line.push_str(Buffer::new().format(total));
-        self.put_line(line.as_str())?;
+    /// Writes how many entries there are.
+    pub fn put_settled(&mut self, total: u128) -> Result<(), ServeFault>
+        ensures { OnOk result (Appends (append_known (W.taken self.old.writer) self.old.lines.items)
+            (W.taken self.new.writer) (settled_line total)) }
+    {
+        let mut text = Line::new();
+        text.push_str("settled ");
+        text.push_str(Buffer::new().format(total));
+        self.put_line(text.as_str())?;
         self.flush_all()
     }
 
-    fn flush_all(&mut self) -> Result<(), ServeFault> {
+    /// Writes the text of the closing roster, with a line feed.
+    pub fn put_closing(&mut self, text: &str) -> Result<(), ServeFault>
+        ensures { OnOk result (Appends (append_known (W.taken self.old.writer) self.old.lines.items)
+            (W.taken self.new.writer) (line text.now)) }
+    {
+        self.put_line(text)?;
+        self.flush_all()
+    }
+
+    // Writes the lines that are not written yet.
+    fn flush_all(&mut self) -> Result<(), ServeFault>
+        ensures { OnOk result (Appends (W.taken self.old.writer) (W.taken self.new.writer) self.old.lines.items) }
+    {
         if self.flush().is_err() {
             return Err(ServeFault::Io);
         }
@@ -80,7 +119,11 @@ impl<W: Sink> Output<W> {
 }
 
 // Writes all the bytes, where the writer has not failed before.
-fn write_whole<W: Sink>(writer: &mut W, bytes: &[u8]) -> Result<(), Failed> {
+fn write_whole<W: Sink>(writer: &mut W, bytes: &[u8]) -> Result<(), Failed>
+    ensures ok { OnOk result (Appends (W.taken writer.old) (W.taken writer.new) bytes.now) }
+    ensures front { AppendsFront (W.taken writer.old) (W.taken writer.new) bytes.now }
+    ensures failed { OnErr result (W.has_failed writer.new ≡ true) }
+{
     if writer.failed() {
         return Err(Failed);
     }
@@ -120,7 +163,11 @@ impl<'a, R, W> Stream for Lines<'a, R, W> {
 }
 
 // Adds lines, and writes them at once if that is asked.
-fn put_lines<W: Sink>(output: &mut Output<W>, lines: &[u8], is_eager: bool) -> Result<(), Failed> {
+fn put_lines<W: Sink>(output: &mut Output<W>, lines: &[u8], is_eager: bool) -> Result<(), Failed>
+    ensures ok { OnOk result (Appends (append_known (W.taken output.old.writer) output.old.lines.items)
+        (append_known (W.taken output.new.writer) output.new.lines.items) lines.now) }
+    ensures eager { OnOk result (is_eager ≡ true → output.new.lines.items ≡ []) }
+{
     output.put(lines)?;
     if is_eager { output.flush() } else { Ok(()) }
 }

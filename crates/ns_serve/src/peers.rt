@@ -1,4 +1,6 @@
 //! The addresses from which gateways were last heard.
+ghost use Rattle.std.specs.Prelude.{◌≡◌, ◌≢◌, ◌<◌, ◌≤◌, ℕ, Some, None, IfSome};
+ghost use Rattle.std.specs.BTreeMap.{btree_map_len};
 
 use std::alloc::Global;
 use std::collections::BTreeMap;
@@ -11,8 +13,9 @@ struct Peer {
     turn: u64,
 }
 
-/// The addresses of at most so many gateways. When it is full, the gateway not heard for longest goes. Gateway numbers are not
-/// authenticated, so both maps are ordered: no choice of numbers makes them slow.
+/// The addresses of at most so many gateways. When it is full, the gateway not heard for longest goes. A turn is written anew once it
+/// is old by a 64th of the room, so that a gateway which is heard again and again costs one look. Gateway numbers are not
+/// authenticated, so both maps are ordered: no choice of numbers makes them slow. Each gateway has one entry in each.
 #[derive(Drop)]
 pub(crate) struct Peers {
     most: usize,
@@ -20,11 +23,20 @@ pub(crate) struct Peers {
     by_gateway: BTreeMap<u64, Peer>,
     // Each gateway in the turn in which it was last heard.
     by_turn: BTreeMap<u64, u64>,
+    ghost some: { 0 < most },
+    ghost bounded: { btree_map_len by_gateway ≤ most },
+    ghost turns: { btree_map_len by_turn ≤ most },
 }
 
 impl Peers {
+    ghost use Rattle.ns_serve.specs.Peers.{addr_of};
+
     /// Room for the addresses of so many gateways.
-    pub fn new(alloc: Global, most: usize) -> Peers {
+    pub fn new(alloc: Global, most: usize) -> Peers
+        requires { 0 < most }
+        ensures most { result.most ≡ most }
+        ensures none { (gateway : ℕ) → addr_of result gateway ≡ None }
+    {
         Peers {
             most,
             turn: 0,
@@ -34,7 +46,9 @@ impl Peers {
     }
 
     /// Where a gateway was last heard.
-    pub fn addr(&self, gateway: u64) -> Option<SocketAddr> {
+    pub fn addr(&self, gateway: u64) -> Option<SocketAddr>
+        ensures { result ≡ addr_of self.now gateway }
+    {
         match self.by_gateway.get(&gateway) {
             Some(peer) => Some(peer.addr),
             None => None,
@@ -42,24 +56,32 @@ impl Peers {
     }
 
     /// A gateway was heard from here. Where a growth is refused it may be forgotten.
-    pub fn heard(&mut self, gateway: u64, addr: SocketAddr) {
+    pub fn heard(&mut self, gateway: u64, addr: SocketAddr)
+        ensures here { IfSome (addr_of self.new gateway) (λ a. a ≡ addr) }
+        ensures others { (other : ℕ) → other ≢ gateway
+            → IfSome (addr_of self.new other) (λ a. addr_of self.old other ≡ Some a) }
+        ensures bound { btree_map_len self.new.by_gateway ≤ self.old.most }
+        ensures most { self.new.most ≡ self.old.most }
+    {
         let before = match self.by_gateway.get(&gateway) {
             Some(peer) => Some(*peer),
             None => None,
         };
-        match before {
-            Some(peer) => {
-                if peer.turn == self.turn && peer.addr == addr {
-                    return;
-                }
-                let _ = self.by_turn.remove(&peer.turn);
+        if let Some(peer) = before {
+            let age = self.turn.wrapping_sub(peer.turn);
+            if peer.addr == addr && age <= (self.most / 64) as u64 {
+                return;
             }
-            None => self.make_room(),
+            let _ = self.by_gateway.remove(&gateway);
+            let _ = self.by_turn.remove(&peer.turn);
+        }
+        self.make_room();
+        if self.by_gateway.len() >= self.most {
+            return;
         }
         self.turn = self.turn.wrapping_add(1);
         let turn = self.turn;
         if self.by_turn.insert(turn, gateway).is_err() {
-            let _ = self.by_gateway.remove(&gateway);
             return;
         }
         if self
@@ -72,8 +94,13 @@ impl Peers {
     }
 
     // Forgets the gateway not heard for longest, where there is no room for one more.
-    fn make_room(&mut self) {
-        if self.by_gateway.len() < self.most {
+    fn make_room(&mut self)
+        ensures room { btree_map_len self.new.by_turn < self.new.most }
+        ensures fewer { btree_map_len self.new.by_gateway ≤ btree_map_len self.old.by_gateway }
+        ensures kept { (other : ℕ) → IfSome (addr_of self.new other) (λ a. addr_of self.old other ≡ Some a) }
+        ensures most { self.new.most ≡ self.old.most }
+    {
+        if self.by_turn.len() < self.most {
             return;
         }
         if let Some((_, gateway)) = self.by_turn.pop_first() {

@@ -1,7 +1,10 @@
 //! The threads: each worker from its start to its end.
+ghost use Rattle.std.specs.Prelude.{◌≡◌, ◌+◌, ◌≤◌, ◌⊎◌, ◌++◌, ◌∷◌, [], true, vec_len, Some, IsNone, IfOk};
+ghost use Rattle.ns_serve.specs.Ends.{IsWorse};
 
 use crate::channels::{ClosingsOf, FromChannel, IntoChannel};
 use crate::clock::SinceStart;
+use crate::counts::Counts;
 use crate::join_server::ToJoinServer;
 use crate::options::{ServeFault, ServeOptions};
 use crate::output::{Lines, Output};
@@ -30,6 +33,7 @@ const AT_A_TIME: u32 = 1024;
 const EXCHANGE_MS: u64 = 4000;
 
 // A gate that lets every call pass.
+#[derive(Clone, Copy)]
 struct Open;
 
 impl<R> Gate<R> for Open {
@@ -42,12 +46,27 @@ struct Around<'a, B: Naming, R, W> {
     rt: &'a R,
     alloc: Global,
     server: &'a Server<B>,
+    gate: Open,
+    down: ToSocket<'a>,
     roster: &'a Roster,
     host: HostName<'a>,
     join: SocketAddr,
     state: &'a State,
     output: &'a Mutex<Output<W>>,
     window_ms: u32,
+}
+
+impl<'a, B: Naming, R, W> Around<'a, B, R, W> {
+    // What a worker shares with the others.
+    fn shared(&self) -> Shared<'_, B, R, Open, ToSocket<'a>, Counts> {
+        Shared {
+            rt: self.rt,
+            server: self.server,
+            gate: &self.gate,
+            down: &self.down,
+            monitor: &self.state.counts,
+        }
+    }
 }
 
 // What a gateway worker takes along.
@@ -104,10 +123,12 @@ fn start_thread<'s, E, A: Work<K, O> + Sync, K: Send + Drop + 's, O: Send + Drop
 fn start_all<'s, E, A: Work<K, O> + Sync, K: Send + Drop + 's, O: Send + Drop + 's>(
     scope: &Scope<'s, E>,
     around: &'s A,
-    kits: Vec<K>,
+    mut kits: Vec<K>,
     handles: &mut Vec<JoinHandle<O>>,
-) -> bool {
-    for kit in kits {
+) -> bool
+    ensures { result ≡ true → vec_len handles.new ≡ vec_len handles.old + vec_len kits }
+{
+    while let Some(kit) = kits.pop() {
         let Some(handle) = start_thread(scope, around, kit) else {
             return false;
         };
@@ -141,13 +162,7 @@ fn gateway_thread<B: Naming, R: Wait + Clock + Log, W: Sink>(
     let closes = IntoChannel { sender: closes };
     let asks = IntoChannel { sender: asks };
     let mut sink = Lines::new(rt, output, true);
-    let shared = Shared {
-        rt,
-        server: around.server,
-        gate: &Open,
-        down: &ToSocket { state },
-        monitor: &state.counts,
-    };
+    let shared = around.shared();
     let served = run_gateway(
         &shared,
         &mut pass,
@@ -180,13 +195,7 @@ fn join_thread<
         addr: around.join,
         limit: Duration::from_millis(EXCHANGE_MS),
     };
-    let shared = Shared {
-        rt,
-        server: around.server,
-        gate: &Open,
-        down: &ToSocket { state },
-        monitor: &state.counts,
-    };
+    let shared = around.shared();
     let joined = run_join(
         around.alloc,
         &shared,
@@ -214,13 +223,7 @@ fn closer_thread<B: Naming, R: Wait + Clock + Log, W: Sink>(
         output,
     };
     let timer = SinceStart { state, output };
-    let shared = Shared {
-        rt,
-        server: around.server,
-        gate: &Open,
-        down: &ToSocket { state },
-        monitor: &state.counts,
-    };
+    let shared = around.shared();
     for _turn in rt.forever() {
         let mut sink = Lines::new(rt, output, false);
         let ended = run_closer(
@@ -247,12 +250,28 @@ pub(crate) struct Ends<B: Naming> {
     pub fault: Option<ServeFault>,
 }
 
-// Keeps a pass that came back, and the fault of its worker.
-fn keep<B: Naming>(ends: &mut Ends<B>, back: Back<B>) {
-    let (pass, fault) = back;
-    if let Some(fault) = fault {
-        ends.fault = Some(ServeFault::from(fault));
+// The fault of a server, with that of one worker more. Want of memory is told before all else.
+fn worse(before: Option<ServeFault>, fault: Option<WorkerFault>) -> Option<ServeFault>
+    ensures { IsWorse before fault result }
+{
+    match (before, fault) {
+        (Some(ServeFault::NoMemory), _) | (_, Some(WorkerFault::NoMemory)) => {
+            Some(ServeFault::NoMemory)
+        }
+        (Some(ServeFault::Io), _) | (_, Some(_)) => Some(ServeFault::Io),
+        (None, None) => None,
     }
+}
+
+// Keeps a pass that came back, and the fault of its worker.
+fn keep<B: Naming>(ends: &mut Ends<B>, back: Back<B>)
+    ensures none { IsNone ends.new.fault → IsNone ends.old.fault × IsNone back.1 }
+    ensures memory { (ends.old.fault ≡ Some ServeFault.NoMemory) ⊎ (back.1 ≡ Some WorkerFault.NoMemory)
+        → ends.new.fault ≡ Some ServeFault.NoMemory }
+    ensures kept { IsNone ends.new.fault → ends.new.passes.items ≡ ends.old.passes.items ++ back.0 ∷ [] }
+{
+    let (pass, fault) = back;
+    ends.fault = worse(ends.fault, fault);
     if ends.passes.push(pass).is_err() {
         ends.fault = Some(ServeFault::NoMemory);
     }
@@ -264,15 +283,19 @@ fn join_kits<B: Naming>(
     passes: &mut Vec<Pass<B>>,
     count: usize,
     asks: &Receiver<AskJob>,
-) -> Result<Vec<JoinKit<B>>, AllocError> {
+) -> Result<Vec<JoinKit<B>>, AllocError>
+    ensures { IfOk result (λ kits. count ≤ vec_len passes.old
+        → (vec_len kits ≡ count) × (vec_len passes.new + count ≡ vec_len passes.old)) }
+{
     let mut kits = Vec::new(alloc);
-    for _i in 0..count {
-        if let Some(pass) = passes.pop() {
-            kits.push(JoinKit {
-                pass,
-                asks: asks.clone()?,
-            })?;
-        }
+    while kits.len() < count {
+        let Some(pass) = passes.pop() else {
+            return Ok(kits);
+        };
+        kits.push(JoinKit {
+            pass,
+            asks: asks.clone()?,
+        })?;
     }
     Ok(kits)
 }
@@ -280,12 +303,14 @@ fn join_kits<B: Naming>(
 // Takes the passes for gateway workers.
 fn gateway_kits<B: Naming>(
     alloc: Global,
-    passes: Vec<Pass<B>>,
+    mut passes: Vec<Pass<B>>,
     closes: Sender<CloseJob>,
     asks: Sender<AskJob>,
-) -> Result<Vec<GatewayKit<B>>, AllocError> {
+) -> Result<Vec<GatewayKit<B>>, AllocError>
+    ensures { IfOk result (λ kits. vec_len kits ≡ vec_len passes) }
+{
     let mut kits = Vec::new(alloc);
-    for pass in passes {
+    while let Some(pass) = passes.pop() {
         kits.push(GatewayKit {
             pass,
             closes: closes.clone()?,
@@ -329,6 +354,8 @@ pub(crate) fn run_all<
         rt,
         alloc,
         server,
+        gate: Open,
+        down: ToSocket { state },
         roster,
         host: options.host,
         join: options.join,

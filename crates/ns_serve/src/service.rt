@@ -1,8 +1,12 @@
 //! A server from its start to what it settled.
-ghost use Rattle.std.specs.Prelude.{◌≡◌, ◌+◌, ◌≤◌, ◌<◌, false};
+ghost use Rattle.std.specs.Prelude.{◌≡◌, ◌+◌, ◌≤◌, ◌<◌, false, true, OnOk, OnErr};
+ghost use Rattle.std.specs.Io.KnownBytes.{Appends, append_known};
 ghost use Rattle.std.specs.Arc.{arc_value};
 ghost use Rattle.ns_tally.specs.Tally.{AreNamed};
+ghost use Rattle.ns_server.specs.Drain.{NoneOpen, EachIsClosed};
+ghost use Rattle.ns_workers.specs.Lines.{uplink_line};
 
+use crate::closing::closing_text;
 use crate::counts::Counts;
 use crate::options::{ServeFault, ServeOptions};
 use crate::output::Output;
@@ -16,6 +20,7 @@ use ns_roster::Roster;
 use ns_server::{Naming, Receipt, Server, Settled};
 use ns_tally::Blanks;
 use ns_types::Sink;
+use ns_workers::Monitor;
 use std::alloc::Global;
 use std::marker::Brand;
 use std::net::{Net, SocketAddr, TcpListener, TcpStream, UdpSocket};
@@ -57,28 +62,37 @@ fn log_start<R: Log>(rt: &R, roster: &Roster, addr: SocketAddr, options: &ServeO
 }
 
 // Writes what goes up with the closing of a window, and sends what goes down.
-fn hand_out<R: Wait, W: Sink>(
+fn hand_out<R: Wait + Log, W: Sink>(
     rt: &R,
     state: &State,
     output: &mut Output<W>,
     receipt: &Receipt,
-) -> Result<(), ServeFault> {
+) -> Result<(), ServeFault>
+    ensures ok { OnOk result (Appends (append_known (W.taken output.old.writer) output.old.lines.items)
+        (append_known (W.taken output.new.writer) output.new.lines.items) (uplink_line receipt.now.uplink)) }
+    ensures failed { OnErr result (W.has_failed output.new.writer ≡ true) }
+{
+    state.counts.replied(&receipt.entry.reply);
     if let Some(downlink) = &receipt.downlink {
-        let _ = send_down(rt, state, downlink);
+        if !send_down(rt, state, downlink) {
+            state.counts.unsent(rt, downlink);
+        }
     }
-    if let Some(uplink) = &receipt.uplink {
-        output.put_line(up_line(uplink).as_str())?;
+    match &receipt.uplink {
+        Some(uplink) => output.put_line(up_line(uplink).as_str()),
+        None => Ok(()),
     }
-    Ok(())
 }
 
 // Closes all windows that are still open, the oldest of each shard first.
-fn drain<B: Naming, R: Wait, W: Sink>(
+fn drain<B: Naming, R: Wait + Log, W: Sink>(
     rt: &R,
     state: &State,
     settled: &mut Settled<B>,
     output: &mut Output<W>,
-) -> Result<(), ServeFault> {
+) -> Result<(), ServeFault>
+    ensures closed { OnOk result (NoneOpen settled.new × EachIsClosed settled.new) }
+{
     for _turn in rt.forever() {
         match settled.drain_next() {
             Ok(None) => return Ok(()),
@@ -87,6 +101,31 @@ fn drain<B: Naming, R: Wait, W: Sink>(
         }
     }
     unreachable!()
+}
+
+// Closes what is still open, and writes the last lines: how many entries there are, which it gives, and the closing roster where it
+// is asked for.
+fn finish<B: Naming, R: Wait + Log, W: Sink>(
+    rt: &R,
+    alloc: Global,
+    roster: &Roster,
+    state: &State,
+    settled: &mut Settled<B>,
+    output: &mut Output<W>,
+    closing: bool,
+) -> Result<u128, ServeFault> {
+    drain(rt, state, settled, output)?;
+    let total = settled.total();
+    if !closing {
+        output.put_settled(total)?;
+        return Ok(total);
+    }
+    let Ok(text) = closing_text(alloc, roster, settled) else {
+        return Err(ServeFault::NoMemory);
+    };
+    output.put_settled(total)?;
+    output.put_closing(text.as_str())?;
+    Ok(total)
 }
 
 // A server of this many workers, from its start to what it settled.
@@ -129,16 +168,23 @@ fn run_server<
     let Ok(mut settled) = server.settle(passes) else {
         return Err(ServeFault::NoMemory);
     };
-    drain(rt, state, &mut settled, &mut output)?;
-    let total = settled.total();
-    output.put_settled(total)?;
-    state.counts.log_all(rt, state.read.load(Ordering::SeqCst));
+    let total = finish(
+        rt,
+        alloc,
+        &known,
+        state,
+        &mut settled,
+        &mut output,
+        options.closing,
+    )?;
+    let read = state.read.load(Ordering::SeqCst);
+    state.counts.log_all(rt, read.min(state.most));
     Ok(total)
 }
 
 /// Serves gateways over UDP, with a join server over TCP, until so many datagrams have come, if the options say how many. Writes
-/// `listening ADDR`, the `up` lines as windows close, those of the windows that are still open at the end, and `settled T`, each with a
-/// line feed, and gives T, which is how many entries there are in all shards.
+/// `listening ADDR`, the `up` lines as windows close, those of the windows that are still open at the end, `settled T`, and the closing
+/// roster where the options ask for it, each with a line feed, and gives T, which is how many entries there are in all shards.
 ///
 /// `NoMemory` where a growth was refused, or a thread could not be made; `Io` where the socket or the writer failed.
 pub fn serve<

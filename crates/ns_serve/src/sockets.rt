@@ -15,7 +15,7 @@ use std::sync::atomic::Ordering;
 use std::time::Clock;
 
 // The counts are looked at after so many datagrams, and whenever none comes.
-const BETWEEN_LOOKS: u64 = 1024;
+const BETWEEN_LOOKS: u64 = 64;
 
 /// The datagrams of the socket.
 #[derive(Drop)]
@@ -45,13 +45,7 @@ impl<'a, R: Wait + Clock + Log> Datagrams<R> for FromSocket<'a> {
             Err(error) => {
                 return match error.kind() {
                     ErrorKind::WouldBlock | ErrorKind::TimedOut | ErrorKind::Interrupted => {
-                        state
-                            .counts
-                            .log_each_minute(
-                                rt,
-                                now_ms(rt, state),
-                                state.read.load(Ordering::SeqCst),
-                            );
+                        look(rt, state);
                         Received::Idle
                     }
                     _ => Received::Failed,
@@ -63,13 +57,19 @@ impl<'a, R: Wait + Clock + Log> Datagrams<R> for FromSocket<'a> {
             return Received::End;
         }
         if before % BETWEEN_LOOKS == 0 {
-            state
-                .counts
-                .log_each_minute(rt, now_ms(rt, state), state.read.load(Ordering::SeqCst));
+            look(rt, state);
         }
         note_peer(rt, state, &buf[..n], peer);
         Received::Got(n)
     }
+}
+
+// Logs the counts where a minute has passed.
+fn look<R: Clock + Log>(rt: &R, state: &State) {
+    let read = state.read.load(Ordering::SeqCst);
+    state
+        .counts
+        .log_each_minute(rt, now_ms(rt, state), read.min(state.most));
 }
 
 /// Downlinks by the same socket, each to where its gateway was heard last.

@@ -164,6 +164,7 @@ fn serve_four<
         join_workers: 1,
         window_ms: 2000,
         stop_after: Some(4),
+        closing: true,
     };
     serve(rt, alloc, roster, &options, OverStd::new(output))
 }
@@ -203,7 +204,8 @@ fn served<R: Threads + Wait + Clock + Net<Listener = TcpListener, Stream = TcpSt
     Ok((total, bytes))
 }
 
-/// A join is answered, an uplink that two gateways hear goes out with two copies, and all entries are counted.
+/// A join is answered, an uplink that two gateways hear goes out with two copies, all entries are counted, and the closing roster has
+/// the nonce of the join.
 #[test]
 fn one_device_over_loopback(rt: HostRuntime) -> Result<(), Fail> {
     let alloc: Global = rt.alloc();
@@ -212,7 +214,7 @@ fn one_device_over_loopback(rt: HostRuntime) -> Result<(), Fail> {
     assert_eq!(rt; bytes, Some(45));
     assert_eq!(rt; total, Ok(5));
     let want =
-        b"listening 127.0.0.1:17001\nup 000000000000000d 1 0 1 plain - 74657374 2 00000000000000a1,00000000000000a2\nsettled 5\n";
+        b"listening 127.0.0.1:17001\nup 000000000000000d 1 0 1 plain - 74657374 2 00000000000000a1,00000000000000a2\nsettled 5\n{\"devices\":[{\"dev_eui\":\"000000000000000d\",\"join_eui\":\"0102030401020304\",\"last_nonce\":1,\"slot\":1998321}],\"net_id\":\"000024\",\"rx1_offset\":0,\"rx_delay\":1,\"version\":2}\n";
     assert_eq!(rt; output.as_slice(), want.as_slice());
     Ok(())
 }

@@ -8,10 +8,11 @@ use Rattle.ns_types.specs.declared.identity.WindowName.{WindowName}
 use Rattle.ns_types.specs.Identity.{same_window}
 use Rattle.ns_calls.specs.declared.call.Entry.{Entry}
 use Rattle.ns_calls.specs.Queries.{first}
-use Rattle.ns_calls.specs.History.{Opening, opening_in, open_windows, oldest}
+use Rattle.ns_calls.specs.History.{Opening, window_in, open_windows, oldest}
 use Rattle.ns_calls.specs.Legal.{IsLegal}
 use Rattle.ns_roster.specs.Network.{Network}
 use Rattle.ns_shard.specs.State.{State}
+use Rattle.ns_server.proofs.Shards.{entries_history}
 use Rattle.ns_server.specs.Settled.{AreStates}
 use Rattle.ns_server.specs.Drain.{NoneOpen, EachIsClosed}
 use Rattle.ns_calls.specs.Headline.{opening_count, closing_count, open_count, WindowsOpenOnce}
@@ -40,17 +41,17 @@ front_passes test o os passes =
     omega (arith, one, sum_by-cons (λ x. cond (test x) 1 0) o os)
 
 -- an entry that opens a window is counted
-opened_counts : (h : List Entry) (n : ℕ) (e : Entry) (o : Opening) → slice_get h n ≡ Some e → opening_in e.call e.reply ≡ Some o → 0 < opening_count h o.window
+opened_counts : (h : List Entry) (n : ℕ) (e : Entry) (o : Opening) → slice_get h n ≡ Some e → window_in e.call e.reply ≡ Some o → 0 < opening_count h o.window
 opened_counts [] n e o at opens = absurd cc
 opened_counts (x ∷ h) zero e o at opens =
     let same : x ≡ e = cc in
     let test = λ (q : Opening). same_window q.window o.window in
-    let rest = filter_map (λ (y : Entry). opening_in y.call y.reply) h in
-    let is : opening_in x.call x.reply ≡ Some o = ap (λ (y : Entry). opening_in y.call y.reply) same ∙ opens in
+    let rest = filter_map (λ (y : Entry). window_in y.call y.reply) h in
+    let is : window_in x.call x.reply ≡ Some o = ap (λ (y : Entry). window_in y.call y.reply) same ∙ opens in
     subst (λ q. 0 < count_by test (cons_option q rest)) (sym is) (front_passes test o rest (same_itself o.window))
 opened_counts (x ∷ h) (suc n) e o at opens =
     let test = λ (q : Opening). same_window q.window o.window in
-    omega (arith, opened_counts h n e o at opens, more_pass test (opening_in x.call x.reply) (filter_map (λ (y : Entry). opening_in y.call y.reply) h))
+    omega (arith, opened_counts h n e o at opens, more_pass test (window_in x.call x.reply) (filter_map (λ (y : Entry). window_in y.call y.reply) h))
 
 -- no window is the oldest, so none is open
 none_first : (os : List Opening) → option_map (λ (o : Opening). o.window) (first os) ≡ None → os ≡ []
@@ -61,7 +62,7 @@ none_open : (h : List Entry) → oldest h ≡ None → open_windows h ≡ []
 none_open h none = none_first (open_windows h) none
 
 -- an entry that opened a window has one that closed it
-closed_once : (h : List Entry) → WindowsOpenOnce h → oldest h ≡ None → (n : ℕ) (e : Entry) (o : Opening) → slice_get h n ≡ Some e → opening_in e.call e.reply ≡ Some o → closing_count h o.window ≡ 1
+closed_once : (h : List Entry) → WindowsOpenOnce h → oldest h ≡ None → (n : ℕ) (e : Entry) (o : Opening) → slice_get h n ≡ Some e → window_in e.call e.reply ≡ Some o → closing_count h o.window ≡ 1
 closed_once h once none n e o at opens =
     let some = opened_counts h n e o at opens in
     let shut : open_count h o.window ≡ 0 = ap (λ (os : List Opening). count_by (λ q. same_window q.window o.window) os) (none_open h none) in
@@ -69,4 +70,4 @@ closed_once h once none n e o at opens =
 
 -- where no shard has an open window, each opening has one closing
 pub each_closed : (net : Network) (states : List State) → ((h : List Entry) → IsLegal net h → WindowsOpenOnce h) → AreStates net states → NoneOpen states → EachIsClosed states
-each_closed net states law are none k s at n e o stands opens = closed_once s.entries (law s.entries (are k s at).history.legal) (none k s at) n e o stands opens
+each_closed net states law are none k s at n e o stands opens = closed_once s.entries (law s.entries (entries_history net k s (are k s at)).legal) (none k s at) n e o stands opens

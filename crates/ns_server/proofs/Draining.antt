@@ -1,12 +1,10 @@
 -- A shard among sixteen closes a window.
-use Rattle.std.proofs.Common.{◌⊎◌, inl, inr, ◌≡◌, ℕ, zero, suc, ◌+◌, ◌<◌, List, [], ◌∷◌, length, set, Some, refl, ap, sym, ◌∙◌, subst, arith, length-append}
+use Rattle.std.proofs.Common.{◌⊎◌, inl, inr, ◌≡◌, ℕ, zero, suc, ◌<◌, List, [], ◌∷◌, set, Some, refl, ap, sym, ◌∙◌, subst}
 use Rattle.std.specs.Prelude.{slice_get}
 use Rattle.ns_types.specs.declared.identity.WindowName.{WindowName}
 use Rattle.ns_roster.specs.Network.{Network}
 use Rattle.ns_calls.specs.declared.call.Call.TheVariants.{Close}
-use Rattle.ns_calls.specs.History.{oldest}
-use Rattle.ns_calls.specs.Legal.{IsHistory, entry_for}
-use Rattle.ns_shard.specs.State.{State, after_call}
+use Rattle.ns_shard.specs.State.{State, IsState, after_call, oldest_in}
 use Rattle.ns_server.specs.declared.kept.Receipt.{Receipt}
 use Rattle.ns_server.specs.Receipts.{receipt_for}
 use Rattle.ns_server.specs.Kept.{IsStateOf}
@@ -34,19 +32,12 @@ states_set net ss i new are is k s at = pick (get_set ss i k new s at)
     pick (inr there) = are k s there
 
 -- a state after a call of its shard
-pub state_after : (net : Network) (i : ℕ) (w : WindowName) (old new : State) → IsStateOf net i old → new ≡ after_call old (Close w) → IsHistory new.roster new.index new.entries → IsStateOf net i new
-state_after net i w old new was is history =
-    let set_up : new.roster ≡ net = ap (λ (s : State). s.roster) is ∙ was.set_up in
-    let index : new.index ≡ i = ap (λ (s : State). s.index) is ∙ was.index in
-    let made : new.made ≡ old.made + 1 = ap (λ (s : State). s.made) is in
-    let more : length new.entries ≡ length old.entries + 1 =
-    ap (λ (s : State). length s.entries) is ∙ length-append old.entries (entry_for old.roster old.entries old.made (Close w) ∷ []) in
-    record {
-      set_up = set_up;
-      index = index;
-      history = subst (λ n. IsHistory net n new.entries) index (subst (λ r. IsHistory r new.index new.entries) set_up history);
-      counted = omega (arith, made, more, was.counted);
-    }
+pub state_after : (net : Network) (i : ℕ) (w : WindowName) (old new : State) → IsStateOf net i old → new ≡ after_call old (Close w) → IsState new → IsStateOf net i new
+state_after net i w old new was is state = record {
+  set_up = ap (λ (s : State). s.roster) is ∙ was.set_up;
+  index = ap (λ (s : State). s.index) is ∙ was.index;
+  state = state;
+}
 
 -- the window that was opened first, of the first shard that has one, is closed
 pub drains : (net : Network) (ss : List State) (i : ℕ) (w : WindowName) (old new : State) (r : Receipt) → AreStates net ss → slice_get ss i ≡ Some old → OpensFirst ss i w
@@ -58,7 +49,7 @@ drains net ss i w old new r are at first is receipt =
       state = old;
       window = w;
       shard = ap (slice_get ss) place ∙ at;
-      oldest_of = ap (λ (s : State). oldest s.entries) (sym same) ∙ first.oldest_of;
+      oldest_of = ap (λ (s : State). oldest_in s) (sym same) ∙ first.oldest_of;
       first = λ j s lt found. first.first j s (subst (λ n. j < n) place lt) found;
       receipt = receipt;
       after = ap (λ n. set ss n new) (sym place) ∙ ap (set ss r.shard) is;

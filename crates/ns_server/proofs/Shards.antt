@@ -1,14 +1,18 @@
 -- The sixteen shards, one after the other.
-use Rattle.std.proofs.Common.{◌≡◌, ℕ, zero, suc, ◌+◌, List, [], ◌∷◌, Some, refl, ap, sym, ◌∙◌, subst, arith}
+use Rattle.std.proofs.Common.{◌≡◌, ℕ, zero, suc, ◌+◌, List, [], ◌∷◌, Bool, cond, Some, None, refl, ap, sym, ◌∙◌, subst, arith, eq-eqb}
+use Rattle.std.specs.Option.{option_and_then}
 use Rattle.std.specs.Prelude.{slice_get, slice_index}
+use Rattle.ns_types.specs.Identity.{shard_of}
+use Rattle.ns_types.specs.declared.identity.DevEui.{DevEui}
 use Rattle.ns_roster.specs.Network.{Network}
 use Rattle.ns_calls.specs.declared.call.Entry.{Entry}
 use Rattle.ns_calls.specs.Legal.{IsHistory}
 use Rattle.ns_calls.specs.Merges.{AreHistories}
-use Rattle.ns_shard.specs.State.{State}
-use Rattle.ns_tally.specs.Tally.{added}
-use Rattle.ns_server.specs.Kept.{IsStateOf}
-use Rattle.ns_server.specs.Settled.{histories, AreStates}
+use Rattle.ns_shard.specs.State.{State, no_entries, known_greatest, greatest_in}
+use Rattle.ns_tally.specs.declared.ShardBook.{ShardBook}
+use Rattle.ns_tally.specs.Tally.{added, shard_of_book, total_of_book}
+use Rattle.ns_server.specs.Kept.{IsStateOf, IsKept}
+use Rattle.ns_server.specs.Settled.{histories, AreStates, greatest_of}
 use Rattle.ns_server.specs.Rows.{AreRow, AreCounted}
 
 row_from : (net : Network) (i : ℕ) (ss : List State) → AreRow net i ss → (k : ℕ) (s : State) → slice_get ss k ≡ Some s → IsStateOf net (i + k) s
@@ -59,8 +63,35 @@ history_at [] k s at = absurd cc
 history_at (x ∷ ss) zero s at = let same : x ≡ s = cc in ap (λ (w : State). Some w.entries) same
 history_at (x ∷ ss) (suc k) s at = history_at ss k s at
 
+-- what the shard of a device gives as its greatest nonce is the definition's over that shard's history
+pub greatest_there : (net : Network) (ss : List State) (eui : DevEui) (s : State) → AreStates net ss → slice_get ss (shard_of eui) ≡ Some s → greatest_in s eui ≡ greatest_of net ss eui
+greatest_there net ss eui s are at =
+    let is = are (shard_of eui) s at in
+    let mine : shard_of eui ≡ s.index = sym is.index in
+    ap (λ (b : Bool). cond b (known_greatest s.roster s.entries eui) None) (eq-eqb _ _ mine)
+    ∙ (ap (λ (n : Network). known_greatest n s.entries eui) is.set_up
+    ∙ sym (ap (option_and_then (λ (h : List Entry). known_greatest net h eui)) (history_at ss (shard_of eui) s at)))
+
+-- the entries of a state are a history of its shard
+pub entries_history : (net : Network) (k : ℕ) (s : State) → IsStateOf net k s → IsHistory net k s.entries
+entries_history net k s is =
+    let history = is.state.history in
+    subst (IsHistory net k) (sym is.state.keeps.entries) (subst (λ n. IsHistory n k history) is.set_up (subst (λ i. IsHistory s.roster i history) is.index is.state.is_history))
+
 -- the histories of the shards, each in its place, are histories of the shards of their places
 pub states_histories : (net : Network) (ss : List State) → AreStates net ss → AreHistories net (histories ss)
 states_histories net ss are k h at =
     let found = get_history ss k h at in
-    subst (IsHistory net k) found.2 (are k found.0 found.1).history
+    subst (IsHistory net k) found.2 (entries_history net k found.0 (are k found.0 found.1))
+
+no_history : (net : Network) (k : ℕ) → IsHistory net k []
+no_history net k = record { legal = λ n e at. absurd (cc at); own = λ n e at. absurd (cc at); numbered = λ n e at. absurd (cc at) }
+
+-- a new shard, with a book of it that has counted nothing, may be put under its lock
+pub kept_new : {B : Type 0} (net : Network) (k : ℕ) (s : State) (book : ShardBook B) → s ≡ no_entries net k → shard_of_book book ≡ k → total_of_book book ≡ 0 → IsKept net k s book
+kept_new net k s book is own none =
+    subst (λ (q : State). IsKept net k q book) (sym is) (record {
+      state = record { set_up = refl; index = refl; state = record { history = []; is_history = no_history net k; keeps = record { made = refl; entries = refl } } };
+      book_of = own;
+      counted = none;
+    })

@@ -1,17 +1,15 @@
 -- What a lock keeps.
-use Rattle.std.specs.Prelude.{ℕ, ◌≡◌, length}
+use Rattle.std.specs.Prelude.{ℕ, ◌≡◌}
 use Rattle.ns_roster.specs.Network.{Network}
-use Rattle.ns_calls.specs.Legal.{IsHistory}
-use Rattle.ns_shard.specs.State.{State}
+use Rattle.ns_shard.specs.State.{State, IsState}
 use Rattle.ns_tally.specs.declared.ShardBook.{ShardBook}
 use Rattle.ns_tally.specs.Tally.{shard_of_book, total_of_book}
 
--- a state of this shard under this roster: its entries are a history of the shard, and as many as were made
+-- a state of this shard under this roster
 pub record IsStateOf (net : Network) (shard : ℕ) (s : State) : Type 0 where
   pub set_up : s.roster ≡ net
   pub index : s.index ≡ shard
-  pub history : IsHistory net shard s.entries
-  pub counted : s.made ≡ length s.entries
+  pub state : IsState s
 
 -- such a state, with the book that counts its entries
 pub record IsKept {B : Type 0} (net : Network) (shard : ℕ) (s : State) (book : ShardBook B) : Type 0 where

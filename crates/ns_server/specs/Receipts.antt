@@ -6,9 +6,9 @@ use Rattle.ns_calls.specs.declared.call.Entry.{Entry}
 use Rattle.ns_calls.specs.declared.answer.Answer.{Answer}
 use Rattle.ns_calls.specs.Shards.{shard_of_call}
 use Rattle.ns_calls.specs.Reply.{reply_to}
-use Rattle.ns_calls.specs.Out.{out, answer}
+use Rattle.ns_calls.specs.Out.{out}
 use Rattle.ns_calls.specs.Legal.{IsHistory}
-use Rattle.ns_shard.specs.State.{State}
+use Rattle.ns_shard.specs.State.{State, answer_in}
 use Rattle.ns_server.specs.declared.kept.Receipt.{Receipt}
 
 -- the receipt of a call that made the entry of this number, with this answer
@@ -18,7 +18,7 @@ receipt_of shard number call a =
 
 -- the receipt of a call on a shard in this state: the entry that the call makes, and what goes out with it
 abbrev pub receipt_for : State → Call → Receipt
-receipt_for s call = receipt_of (shard_of_call call) s.made call (answer s.roster s.entries call)
+receipt_for s call = receipt_of (shard_of_call call) s.made call (answer_in s call)
 
 -- the receipt tells what goes out at its entry, after these entries
 pub record Sends (net : Network) (h : List Entry) (r : Receipt) : Type 0 where

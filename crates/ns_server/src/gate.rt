@@ -5,3 +5,10 @@
 pub trait Gate<R> {
     fn visit(&self, rt: &R, shard: u8, number: u64);
 }
+
+/// A gate that lets every call go on at once.
+pub struct Open;
+
+impl<R> Gate<R> for Open {
+    fn visit(&self, _rt: &R, _shard: u8, _number: u64) {}
+}

@@ -18,7 +18,7 @@ mod pass;
 mod server;
 mod settled;
 
-pub use gate::Gate;
+pub use gate::{Gate, Open};
 pub use kept::{Kept, Receipt};
 pub use laws::receipts_are_all;
 pub use names::Naming;

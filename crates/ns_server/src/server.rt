@@ -1,12 +1,12 @@
 //! Sixteen shards, each behind its own lock.
 
-ghost use Rattle.std.specs.Prelude.{◌≡◌, ◌≤◌, ◌<◌, length, slice_index, vec_len, All, IfOk, OnOk, OnErr};
+ghost use Rattle.std.specs.Prelude.{◌≡◌, ◌≤◌, ◌<◌, suc, length, slice_index, vec_len, All, IfOk, OnOk, OnErr};
 ghost use Rattle.std.specs.Arc.{arc_value};
 ghost use Rattle.ns_calls.specs.Shards.{shard_of_call};
 ghost use Rattle.ns_tally.specs.Tally.{none_made, shard_of_book, total_of_book, AreNamed};
 ghost use Rattle.ns_server.specs.Receipts.{HasHistory, RisesAt};
 ghost use Rattle.ns_server.specs.Kept.{IsStateOf};
-ghost use Rattle.ns_server.specs.Rows.{AreRow, AreCounted};
+ghost use Rattle.ns_server.specs.Rows.{new_states, AreRow, AreCounted};
 
 use crate::gate::Gate;
 use crate::kept::{Kept, Receipt};
@@ -15,7 +15,7 @@ use crate::pass::Pass;
 use ns_calls::{Call, shard_of_call};
 use ns_roster::Roster;
 use ns_shard::Shard;
-use ns_tally::{Blanks, Books, ShardBook, Shares};
+use ns_tally::{Blanks, ShardBook, Shares};
 use std::alloc::{AllocError, Global};
 use std::marker::Model;
 use std::sync::{Arc, Mutex, Wait};
@@ -98,18 +98,28 @@ fn run<B: Naming, const K: usize, R: Wait, G: Gate<R>>(
     kept.step(pass, call)
 }
 
-// A lock round a new shard.
-fn new_lock<B: Naming, const K: usize>(
-    alloc: Global,
-    roster: &Arc<Roster>,
-    book: ShardBook<B>,
-) -> Result<Mutex<Kept<B, K>>, AllocError>
-    requires shard { K < 16 }
-    requires roster { arc_value roster.now ≡ B.roster }
-    requires book { (shard_of_book book ≡ K) × (total_of_book book ≡ 0) }
+// The sixteen shards, with no entries.
+fn new_shards(alloc: Global, roster: &Arc<Roster>) -> Result<Vec<Shard>, AllocError>
+    ensures { IfOk result (λ v. v.items ≡ new_states (arc_value roster.now) 16) }
 {
-    let shard = Shard::new(alloc, roster.clone()?, K as u8)?;
-    Ok(Mutex::new(Kept { shard, book }))
+    let mut shards = Vec::new(alloc);
+    for index in 0..16u8 {
+        shards.push(Shard::new(alloc, roster.clone()?, index)?)?;
+    }
+    Ok(shards)
+}
+
+// A lock round the last of the new shards.
+fn new_lock<B: Naming, const K: usize>(
+    shards: &mut Vec<Shard>,
+    book: ShardBook<B>,
+) -> Mutex<Kept<B, K>>
+    requires shards { shards.old.items ≡ new_states B.roster (suc K) }
+    requires book { (shard_of_book book ≡ K) × (total_of_book book ≡ 0) }
+    ensures { shards.new.items ≡ new_states B.roster K }
+{
+    let shard = shards.pop().unwrap();
+    Mutex::new(Kept { shard, book })
 }
 
 // Passes with which nothing was made yet.
@@ -148,44 +158,27 @@ impl<B: Naming> Server<B> {
         ensures server { IfOk result (λ r. r.0 ≡ workers) }
         ensures passes { IfOk result (λ r. (vec_len r.1 ≡ workers) × All (λ p. p ≡ none_made) r.1.items) }
     {
+        let mut shards = new_shards(alloc, &roster)?;
         let (books, shares) = blanks.open::<B>();
         let passes = new_passes(alloc, shares, workers)?;
-        let Books {
-            k0,
-            k1,
-            k2,
-            k3,
-            k4,
-            k5,
-            k6,
-            k7,
-            k8,
-            k9,
-            k10,
-            k11,
-            k12,
-            k13,
-            k14,
-            k15,
-        } = books;
         let server = Server {
             workers,
-            k0: new_lock(alloc, &roster, k0)?,
-            k1: new_lock(alloc, &roster, k1)?,
-            k2: new_lock(alloc, &roster, k2)?,
-            k3: new_lock(alloc, &roster, k3)?,
-            k4: new_lock(alloc, &roster, k4)?,
-            k5: new_lock(alloc, &roster, k5)?,
-            k6: new_lock(alloc, &roster, k6)?,
-            k7: new_lock(alloc, &roster, k7)?,
-            k8: new_lock(alloc, &roster, k8)?,
-            k9: new_lock(alloc, &roster, k9)?,
-            k10: new_lock(alloc, &roster, k10)?,
-            k11: new_lock(alloc, &roster, k11)?,
-            k12: new_lock(alloc, &roster, k12)?,
-            k13: new_lock(alloc, &roster, k13)?,
-            k14: new_lock(alloc, &roster, k14)?,
-            k15: new_lock(alloc, &roster, k15)?,
+            k15: new_lock(&mut shards, books.k15),
+            k14: new_lock(&mut shards, books.k14),
+            k13: new_lock(&mut shards, books.k13),
+            k12: new_lock(&mut shards, books.k12),
+            k11: new_lock(&mut shards, books.k11),
+            k10: new_lock(&mut shards, books.k10),
+            k9: new_lock(&mut shards, books.k9),
+            k8: new_lock(&mut shards, books.k8),
+            k7: new_lock(&mut shards, books.k7),
+            k6: new_lock(&mut shards, books.k6),
+            k5: new_lock(&mut shards, books.k5),
+            k4: new_lock(&mut shards, books.k4),
+            k3: new_lock(&mut shards, books.k3),
+            k2: new_lock(&mut shards, books.k2),
+            k1: new_lock(&mut shards, books.k1),
+            k0: new_lock(&mut shards, books.k0),
             roster,
         };
         Ok((server, passes))

@@ -1,13 +1,12 @@
 //! A server whose passes have all come back: its histories, its sum, and the closing of what is still open.
 
-ghost use Rattle.std.specs.Prelude.{◌≡◌, ℕ, ◌<◌, ◌↔◌, Some, length, slice_get, slice_index, vec_len, sum_by, IfOk, IfErr, IsOk, OnOk, OnErr, IfSome, IfNone};
+ghost use Rattle.std.specs.Prelude.{◌≡◌, ℕ, ◌<◌, ◌↔◌, Some, length, slice_get, slice_index, vec_len, sum_by, option_map, IfOk, IfErr, IsOk, OnOk, OnErr, IfSome, IfNone};
 ghost use Rattle.ns_types.specs.Identity.{shard_of};
 ghost use Rattle.ns_calls.specs.declared.call.Call.TheVariants.{Close};
-ghost use Rattle.ns_calls.specs.Legal.{IsHistory};
-ghost use Rattle.ns_shard.specs.State.{after_call};
+ghost use Rattle.ns_shard.specs.State.{after_call, IsState};
 ghost use Rattle.ns_server.specs.Receipts.{receipt_for};
 ghost use Rattle.ns_server.specs.Kept.{IsStateOf};
-ghost use Rattle.ns_server.specs.Settled.{histories, AreStates, AreMadeBy, MergesToLegal};
+ghost use Rattle.ns_server.specs.Settled.{histories, AreStates, AreMadeBy, MergesToLegal, greatest_of};
 ghost use Rattle.ns_server.specs.Drain.{Drains, NoneOpen, EachIsClosed, OpensFirst};
 
 use crate::kept::{Receipt, receipt_of};
@@ -18,7 +17,7 @@ use ns_calls::{Call, Entry, merges_are_legal, windows_open_once};
 use ns_roster::Roster;
 use ns_shard::Shard;
 use ns_tally::Shares;
-use ns_types::WindowName;
+use ns_types::{DevEui, DevNonce, WindowName, shard_of};
 use std::alloc::AllocError;
 use std::marker::{Model, PhantomData};
 use std::sync::Arc;
@@ -114,6 +113,15 @@ impl<B: Naming> Settled<B> {
         total
     }
 
+    /// The greatest DevNonce of a device: of those accepted, and of the last one that the roster names. None where the roster does not
+    /// have the device. No memory is taken.
+    pub fn greatest(&self, eui: DevEui) -> Option<DevNonce>
+        ensures { option_map (λ n. n.0) result ≡ greatest_of B.roster self.now eui }
+    {
+        let place = usize::from(shard_of(eui));
+        self.shards[place].greatest(eui)
+    }
+
     /// Closes the open window that was opened first, of the first shard that has one, and gives the receipt. None where no window is
     /// open: then each window that was opened was closed exactly once. `NoMemory` (`AllocError`) where a growth was refused, and then
     /// nothing has changed.
@@ -152,7 +160,7 @@ fn close(shard: &mut Shard, window: WindowName) -> Result<Receipt, AllocError>
     ensures done { OnOk result (shard.new ≡ after_call shard.old (Close window)) }
     ensures receipt { IfOk result (λ r. r ≡ receipt_for shard.old (Close window)) }
     ensures err { OnErr result (shard.new ≡ shard.old) }
-    ensures history { IsHistory shard.new.roster shard.new.index shard.new.entries }
+    ensures state { IsState shard.new }
 {
     let number = shard.made();
     let answer = shard.apply(Call::Close { window })?;

@@ -1,5 +1,5 @@
 -- The window in which a frame fits.
-use Rattle.std.proofs.Common.{◌≡◌, ℕ, Bool, true, false, cond, ◌==◌, List, ◌∷◌, ◌++◌, find, option_to_list, Option, None, Some, IfSome, refl, sym, subst, arith}
+use Rattle.std.proofs.Common.{◌≡◌, ℕ, Bool, true, false, cond, ◌==◌, List, ◌∷◌, ◌++◌, find, option_map, option_to_list, Option, None, Some, IfSome, refl, sym, subst, arith}
 use Rattle.std.specs.Option.{option_and_then}
 use Rattle.std.proofs.lemmas.Bool.Decides.{nat_tests}
 use Rattle.ns_types.specs.Cases.{when}
@@ -19,11 +19,11 @@ IsNewIn s w = (w.0 ≡ s.number) × Exceeds s.greatest_counter w.1
 pub session_fit-new : (frame : List ℕ) (s : Session) → IfSome (session_fit above frame s) (IsNewIn s)
 session_fit-new frame s = step (above s.greatest_counter (data_fields frame).fcnt16) (above-exceeds s.greatest_counter (data_fields frame).fcnt16)
   where
-    test : (n : ℕ) → Exceeds s.greatest_counter n → (b : Bool) → IfSome (when b (s.number, n)) (IsNewIn s)
+    test : (n : ℕ) → Exceeds s.greatest_counter n → (b : Bool) → IfSome (option_map (λ counter. (s.number, counter)) (when b n)) (IsNewIn s)
     test n exceeds true = (refl, exceeds)
     test n exceeds false = tt
 
-    step : (o : Option ℕ) → IfSome o (λ n. Exceeds s.greatest_counter n) → IfSome (option_and_then (λ n. when (mic_fits frame s.nwk.0 n) (s.number, n)) o) (IsNewIn s)
+    step : (o : Option ℕ) → IfSome o (λ n. Exceeds s.greatest_counter n) → IfSome (option_map (λ counter. (s.number, counter)) (option_and_then (λ n. when (mic_fits frame s.nwk.0 n) n) o)) (IsNewIn s)
     step None exceeds = tt
     step (Some n) exceeds = test n exceeds (mic_fits frame s.nwk.0 n)
 

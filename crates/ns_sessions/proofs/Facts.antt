@@ -24,11 +24,11 @@ use Rattle.ns_calls.specs.declared.call.Reply.TheVariants as reply
 use Rattle.ns_calls.specs.declared.call.Entry.{Entry}
 use Rattle.ns_calls.specs.Queries.{first, last}
 use Rattle.ns_calls.specs.History.{Acceptance, Opening, Closing, first_and_other, opening_in, closing_in, acceptances, openings, closings, same_device, session_join, session_counters, active_session, newest_session, live, is_live, greatest_counter, open_windows, open_window}
-use Rattle.ns_calls.specs.Reply.{fits, window_of, session_fit, device_fit, devices_at, first_fit, window_with, ack_number, reply_to}
+use Rattle.ns_calls.specs.Reply.{Fit, fit_of, fitting_counter, session_fit, device_fit, devices_at, first_fit, window_with, ack_number, reply_to}
 use Rattle.ns_calls.specs.Legal.{IsLegal, entry_for, with_call}
 use Rattle.ns_calls.specs.Headline.{SessionsHaveJoins}
 use Rattle.ns_calls.proofs.LocalLemmas.{bool_tells}
-use Rattle.ns_calls.proofs.Lists.{said-push, said-cases, All-push, All-weaker, find-has}
+use Rattle.ns_calls.proofs.Lists.{said-push, said-cases, All-push, All-weaker, find-has, at_some, first-gives_of}
 use Rattle.ns_calls.proofs.QueryLemmas.{last-push}
 use Rattle.ns_calls.proofs.Induction.{legal_induction}
 use Rattle.ns_calls.proofs.JoinLemmas.{acceptances-cases, same_device-eq}
@@ -39,43 +39,27 @@ use Rattle.ns_sessions.proofs.Basics.{or_last, or_later}
 
 -- ---- where an uplink fits
 
--- what a function may give at each element of a list, where each thing that it gives has the property
-first-gives_of : {X Y : Type 0} (P : Y → Type 0) (f : X → Option Y) (xs : List X) → AllByRecursion (λ x. IfSome (f x) P) xs → IfSome (first (filter_map f xs)) P
-first-gives_of P f [] all = tt
-first-gives_of {X} {Y} P f (x ∷ xs) all = step (f x) all.0 (first-gives_of P f xs all.1)
-  where
-    step : (o : Option Y) → IfSome o P → IfSome (first (filter_map f xs)) P → IfSome (first (cons_option o (filter_map f xs))) P
-    step None here later = later
-    step (Some y) here later = here
-
 each_member : (xs : List ℕ) → AllByRecursion (λ s. list_any (λ n. n == s) xs ≡ true) xs
 each_member [] = tt
 each_member (x ∷ xs) =
     let here : (x == x) ≡ true = grind (arith, nat_tests) in
     (ap (λ b. b || list_any (λ n. n == x) xs) here, All-weaker (λ s. list_any (λ n. n == s) xs ≡ true) (λ s. list_any (λ n. n == s) (x ∷ xs) ≡ true) (λ s is. or_later (x == s) _ is) xs (each_member xs))
 
--- the window's session lives, and has keys
-pub record IsFit (h : List Entry) (w : WindowName) : Type 0 where
-  pub lives : is_live h w.eui w.session ≡ true
-  pub keyed : IsSome (session_join h w.eui w.session)
-
-fits-keyed : (h : List Entry) (frame : List ℕ) (w : WindowName) → fits h frame w ≡ true → IsSome (session_join h w.eui w.session)
-fits-keyed h frame w fit = step (session_join h w.eui w.session) fit
-  where
-    step : (o : Option JoinAns) → option_map_or (λ (join : JoinAns). mic_fits frame join.nwk.0 w.fcnt) o false ≡ true → IsSome o
-    step None is = absurd (cc is)
-    step (Some join) is = refl
+-- the fit's session lives, and has keys
+pub record IsFit (h : List Entry) (f : Fit) : Type 0 where
+  pub lives : is_live h f.eui f.session ≡ true
+  pub keyed : IsSome (session_join h f.eui f.session)
 
 session_fit-live : (recover : Option ℕ → ℕ → Option ℕ) (h : List Entry) (frame : List ℕ) (eui : DevEui) (session : ℕ) → is_live h eui session ≡ true → IfSome (session_fit recover h frame eui session) (IsFit h)
-session_fit-live recover h frame eui session lives = step (recover (greatest_counter h eui session) (data_fields frame).fcnt16)
+session_fit-live recover h frame eui session lives = joined (session_join h eui session) refl
   where
-    test : (n : ℕ) (b : Bool) → fits h frame (window_of eui session n) ≡ b → IfSome (when b (window_of eui session n)) (IsFit h)
-    test n true is = record { lives = lives; keyed = fits-keyed h frame (window_of eui session n) is }
-    test n false is = tt
+    step : IsSome (session_join h eui session) → (o : Option ℕ) → IfSome (option_map (fit_of eui session) o) (IsFit h)
+    step keyed None = tt
+    step keyed (Some n) = record { lives = lives; keyed = keyed }
 
-    step : (o : Option ℕ) → IfSome (option_and_then (λ counter. when (fits h frame (window_of eui session counter)) (window_of eui session counter)) o) (IsFit h)
-    step None = tt
-    step (Some n) = test n (fits h frame (window_of eui session n)) refl
+    joined : (j : Option JoinAns) → session_join h eui session ≡ j → IfSome (option_map (fit_of eui session) (option_and_then (λ (join : JoinAns). fitting_counter recover frame join.nwk (greatest_counter h eui session)) j)) (IsFit h)
+    joined None is = tt
+    joined (Some join) is = step (subst (λ o. IsSome o) (sym is) refl) (fitting_counter recover frame join.nwk (greatest_counter h eui session))
 
 pub device_fit-live : (recover : Option ℕ → ℕ → Option ℕ) (h : List Entry) (frame : List ℕ) (eui : DevEui) → IfSome (device_fit recover h frame eui) (IsFit h)
 device_fit-live recover h frame eui =
@@ -90,20 +74,22 @@ first_fit-live recover net h frame =
     each [] = tt
     each (d ∷ ds) = (device_fit-live recover h frame d.eui, each ds)
 
-at_some : {X : Type 0} (P : X → Type 0) (o : Option X) (x : X) → o ≡ Some x → IfSome o P → P x
-at_some P None x is holds = absurd (cc is)
-at_some {X} P (Some y) x is holds = subst P (same_Some y x is) holds
+-- the window's session lives, and has keys
+pub record IsLiveWindow (h : List Entry) (w : WindowName) : Type 0 where
+  pub lives : is_live h w.eui w.session ≡ true
+  pub keyed : IsSome (session_join h w.eui w.session)
 
 -- what a call opens fits in a live session
-opening-live : (net : Network) (h : List Entry) (c : Call) → IfSome (opening_in c (reply_to net h c)) (λ o. IsFit h o.window)
+opening-live : (net : Network) (h : List Entry) (c : Call) → IfSome (opening_in c (reply_to net h c)) (λ o. IsLiveWindow h o.window)
 opening-live net h (call.Join t heard) = tt
 opening-live net h (call.JoinReply t o) = tt
 opening-live net h (call.Close w) = tt
 opening-live net h (call.Uplink frame heard) =
     elim (opened-cases h frame heard (window_with h frame) (first_fit above net h frame) _) [
-      | inl none ↦ subst (λ o. IfSome o (λ x. IsFit h x.window)) (sym none) tt
+      | inl none ↦ subst (λ o. IfSome o (λ x. IsLiveWindow h x.window)) (sym none) tt
       | inr found ↦
-          subst (λ o. IfSome o (λ x. IsFit h x.window)) (sym found.3) (at_some (IsFit h) (first_fit above net h frame) found.0 found.2 (first_fit-live above net h frame))
+          (let fit = at_some (IsFit h) (first_fit above net h frame) found.0 found.2 (first_fit-live above net h frame) in
+          subst (λ o. IfSome o (λ x. IsLiveWindow h x.window)) (sym found.3) (record { lives = fit.lives; keyed = fit.keyed }))
     ]
 
 -- what a call closes was open
@@ -124,7 +110,7 @@ pub record LiveOpening (h : List Entry) (eui : DevEui) (now : List Opening) : Ty
   pub o : Opening
   pub joined : now ≡ openings h eui ++ o ∷ []
   pub device : o.window.eui ≡ eui
-  pub fit : IsFit h o.window
+  pub fit : IsLiveWindow h o.window
 
 pub openings-live : (net : Network) (h : List Entry) (number : ℕ) (c : Call) (eui : DevEui) →
     let now : List Opening = openings (with_call net h number c) eui in
@@ -140,7 +126,7 @@ openings-live net h number c eui =
         o = one.0;
         joined = pushed ∙ ap (λ ys. openings h eui ++ ys) one.3;
         device = same_device-eq one.0.window.eui eui one.2;
-        fit = at_some (λ o. IsFit h o.window) (opening_in c (reply_to net h c)) one.0 one.1 (opening-live net h c);
+        fit = at_some (λ o. IsLiveWindow h o.window) (opening_in c (reply_to net h c)) one.0 one.1 (opening-live net h c);
       })
     ]
 

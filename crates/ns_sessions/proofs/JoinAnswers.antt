@@ -21,18 +21,18 @@ use Rattle.ns_calls.specs.declared.call.Call.TheVariants as call
 use Rattle.ns_calls.specs.declared.call.Reply.TheVariants as reply
 use Rattle.ns_calls.specs.declared.call.Entry.{Entry}
 use Rattle.ns_calls.specs.Queries.{last, greater, maximum}
-use Rattle.ns_calls.specs.History.{Acceptance, Opening, Closing, acceptance_in, asks_for, open_tickets, is_ticket_open, ticket_copies, greatest_nonce, next_session, session_join, acceptances, openings, closings, same_device, active_session, first_and_other, session_counters}
+use Rattle.ns_calls.specs.History.{Acceptance, Opening, Closing, acceptance_in, asks_for, open_tickets, is_ticket_open, ticket_copies, greatest_nonce, next_session, session_join, acceptances, openings, closings, same_device, active_session, first_and_other, session_counters, last_nonce, greatest_accepted}
 use Rattle.ns_calls.specs.Reply.{spent_by, is_failed, address, reply_to_join_reply}
 use Rattle.ns_calls.specs.Legal.{IsLegal}
 use Rattle.ns_calls.proofs.LocalLemmas.{bool_tells}
-use Rattle.ns_calls.proofs.Lists.{last-has}
-use Rattle.ns_calls.proofs.QueryLemmas.{last-push, maximum-push}
+use Rattle.ns_calls.proofs.Lists.{last-has, IfSome-weaker}
+use Rattle.ns_calls.proofs.QueryLemmas.{last-push, maximum-push, greater-assoc}
 use Rattle.ns_calls.proofs.PushLemmas.{acceptances-push, openings-push, closings-push}
 use Rattle.ns_calls.proofs.KeyLemmas.{session_join-next}
 use Rattle.ns_sessions.specs.declared.ticket.OpenTicket.{OpenTicket}
-use Rattle.ns_sessions.specs.declared.take.ReplyTake.{ReplyTake}
-use Rattle.ns_sessions.specs.declared.take.ReplyTake.TheVariants as answer
-use Rattle.ns_sessions.specs.Record.{device_record, ticket_record, ticket_in, reply_take, with_reply, without, new_session}
+use Rattle.ns_sessions.specs.declared.decision.AnswerDecision.{AnswerDecision}
+use Rattle.ns_sessions.specs.declared.decision.AnswerDecision.TheVariants as answer
+use Rattle.ns_sessions.specs.Record.{device_record, ticket_record, ticket_in, answer_decision, with_reply, without, new_session}
 use Rattle.ns_sessions.specs.Laws.{entry_of, answer_reply, AnswersAgree}
 use Rattle.ns_sessions.proofs.Sessions.{join_by, counter_by, greatest_ack_by, next_ack_by, session_of, session_by, active_by, newest_by, sessions_by, join-push}
 use Rattle.ns_sessions.proofs.SessionSteps.{Counts, joined}
@@ -46,26 +46,26 @@ use Rattle.ns_sessions.proofs.Basics.{exceeds_greater, unspent}
 
 -- ---- replies
 
--- the take, by what is asked of the state
-abbrev pub reply_take_by : Option OpenTicket → Bool → Option ℕ → ℕ → ReplyTake
-reply_take_by found failed spent next = first_case (
+-- the decision, by what is asked of the state
+abbrev pub answer_decision_by : Option OpenTicket → Bool → Option ℕ → ℕ → AnswerDecision
+answer_decision_by found failed spent next = first_case (
     when (not (is_some found)) answer.NoTicket
     ∷ when failed answer.Refused
     ∷ option_map (λ g. answer.Stale (record { 0 = g })) spent
-    ∷ option_map (λ heard. answer.Accepted next heard) (option_and_then (λ (o : OpenTicket). best o.copies) found)
+    ∷ option_map (λ heard. answer.Accepted next heard) (option_and_then (λ (o : OpenTicket). o.copies.best) found)
     ∷ []) answer.NoTicket
 
-take_said : (net : Network) (h : List Entry) (t : Ticket) (outcome : Outcome) →
-    reply_take (device_record net h (dev_eui t)) t outcome ≡ reply_take_by (cond (is_ticket_open h t) (Some (ticket_record h t)) None) (is_failed outcome) (spent_by net h t) (next_session h (dev_eui t))
-take_said net h t outcome =
-    ap (λ r. reply_take r t outcome) (record_said net h (dev_eui t)) ∙ ap (λ o. reply_take_by o (is_failed outcome) (spent_by net h t) (next_session h (dev_eui t))) (ticket_said h t)
+decision_said : (net : Network) (h : List Entry) (t : Ticket) (outcome : Outcome) →
+    answer_decision (device_record net h (dev_eui t)) t outcome ≡ answer_decision_by (cond (is_ticket_open h t) (Some (ticket_record h t)) None) (is_failed outcome) (spent_by net h t) (next_session h (dev_eui t))
+decision_said net h t outcome =
+    ap (λ r. answer_decision r t outcome) (record_said net h (dev_eui t)) ∙ ap (λ o. answer_decision_by o (is_failed outcome) (spent_by net h t) (next_session h (dev_eui t))) (ticket_said net h t)
 
 -- an open ticket has a best copy
 open_best : (h : List Entry) (t : Ticket) → is_ticket_open h t ≡ true → (heard : Heard) × (best (ticket_copies h t) ≡ Some heard)
 open_best h t is = asked_copies h t (at_member (λ u. list_any (asks_for u) h ≡ true) t (open_tickets h) is (open_asked h))
 
 reply_cases : (net : Network) (h : List Entry) (t : Ticket) (is_open : Bool) → is_ticket_open h t ≡ is_open → (failed : Bool) (spent : Option ℕ) (next : ℕ) →
-    answer_reply net t (reply_take_by (cond is_open (Some (ticket_record h t)) None) failed spent next)
+    answer_reply net t (answer_decision_by (cond is_open (Some (ticket_record h t)) None) failed spent next)
     ≡ first_case (when (not is_open) reply.NoTicket ∷ when failed reply.JoinRefused ∷ option_map (λ g. reply.JoinStale (record { 0 = g })) spent ∷ []) (reply.Accepted (dev_eui t) next (address net (dev_eui t)))
 reply_cases net h t false is failed spent next = refl
 reply_cases net h t true is true spent next = refl
@@ -73,13 +73,13 @@ reply_cases net h t true is false (Some g) next = refl
 reply_cases net h t true is false None next =
     ap (λ o. answer_reply net t (first_case (option_map (λ heard. answer.Accepted next heard) o ∷ []) answer.NoTicket)) (open_best h t is).1
 
-answer_replies : (net : Network) (h : List Entry) (t : Ticket) (outcome : Outcome) → answer_reply net t (reply_take (device_record net h (dev_eui t)) t outcome) ≡ reply_to_join_reply net h t outcome
+answer_replies : (net : Network) (h : List Entry) (t : Ticket) (outcome : Outcome) → answer_reply net t (answer_decision (device_record net h (dev_eui t)) t outcome) ≡ reply_to_join_reply net h t outcome
 answer_replies net h t outcome =
-    ap (answer_reply net t) (take_said net h t outcome) ∙ reply_cases net h t (is_ticket_open h t) refl (is_failed outcome) (spent_by net h t) (next_session h (dev_eui t))
+    ap (answer_reply net t) (decision_said net h t outcome) ∙ reply_cases net h t (is_ticket_open h t) refl (is_failed outcome) (spent_by net h t) (next_session h (dev_eui t))
 
 -- what is accepted has the best copy
 copies_cases : (h : List Entry) (t : Ticket) (is_open failed : Bool) (spent : Option ℕ) (next session : ℕ) (heard : Heard) →
-    reply_take_by (cond is_open (Some (ticket_record h t)) None) failed spent next ≡ answer.Accepted session heard → best (ticket_copies h t) ≡ Some heard
+    answer_decision_by (cond is_open (Some (ticket_record h t)) None) failed spent next ≡ answer.Accepted session heard → best (ticket_copies h t) ≡ Some heard
 copies_cases h t false failed spent next session heard is = absurd (cc is)
 copies_cases h t true true spent next session heard is = absurd (cc is)
 copies_cases h t true false (Some g) next session heard is = absurd (cc is)
@@ -89,30 +89,30 @@ copies_cases h t true false None next session heard is = step (best (ticket_copi
     step None eq = absurd (cc eq)
     step (Some x) eq = cc
 
--- ---- what a take is
+-- ---- what a decision is
 
--- what holds where the take is this one
-abbrev TakeFits : Network → List Entry → Ticket → Outcome → ReplyTake → Type 0
-TakeFits net h t outcome answer.NoTicket = is_ticket_open h t ≡ false
-TakeFits net h t outcome (answer.Accepted session heard) = (is_failed outcome ≡ false) × (session ≡ next_session h (dev_eui t)) × Exceeds (greatest_nonce net h (dev_eui t)) (nonce t).0
-TakeFits net h t outcome _ = Unit {0}
+-- what holds where the decision is this one
+abbrev DecisionFits : Network → List Entry → Ticket → Outcome → AnswerDecision → Type 0
+DecisionFits net h t outcome answer.NoTicket = is_ticket_open h t ≡ false
+DecisionFits net h t outcome (answer.Accepted session heard) = (is_failed outcome ≡ false) × (session ≡ next_session h (dev_eui t)) × Exceeds (greatest_nonce net h (dev_eui t)) (nonce t).0
+DecisionFits net h t outcome _ = Unit {0}
 
-take_fits : (net : Network) (h : List Entry) (t : Ticket) (outcome : Outcome) (is_open failed : Bool) (spent : Option ℕ) → is_ticket_open h t ≡ is_open → is_failed outcome ≡ failed → spent_by net h t ≡ spent →
-    TakeFits net h t outcome (reply_take_by (cond is_open (Some (ticket_record h t)) None) failed spent (next_session h (dev_eui t)))
-take_fits net h t outcome false failed spent opens fails is = opens
-take_fits net h t outcome true true spent opens fails is = tt
-take_fits net h t outcome true false (Some g) opens fails is = tt
-take_fits net h t outcome true false None opens fails is =
+decision_fits : (net : Network) (h : List Entry) (t : Ticket) (outcome : Outcome) (is_open failed : Bool) (spent : Option ℕ) → is_ticket_open h t ≡ is_open → is_failed outcome ≡ failed → spent_by net h t ≡ spent →
+    DecisionFits net h t outcome (answer_decision_by (cond is_open (Some (ticket_record h t)) None) failed spent (next_session h (dev_eui t)))
+decision_fits net h t outcome false failed spent opens fails is = opens
+decision_fits net h t outcome true true spent opens fails is = tt
+decision_fits net h t outcome true false (Some g) opens fails is = tt
+decision_fits net h t outcome true false None opens fails is =
     let found = open_best h t opens in
-    subst (λ o. TakeFits net h t outcome (first_case (option_map (λ heard. answer.Accepted (next_session h (dev_eui t)) heard) o ∷ []) answer.NoTicket)) (sym found.1)
+    subst (λ o. DecisionFits net h t outcome (first_case (option_map (λ heard. answer.Accepted (next_session h (dev_eui t)) heard) o ∷ []) answer.NoTicket)) (sym found.1)
     (fails, refl, unspent (greatest_nonce net h (dev_eui t)) (nonce t).0 is)
 
 -- ---- a join that is refused
 
 -- where nothing is accepted only the tickets change
 refused_keeps : (net : Network) (h : List Entry) (e : Entry) (eui : DevEui) → acceptances (h ++ e ∷ []) eui ≡ acceptances h eui → openings (h ++ e ∷ []) eui ≡ openings h eui → closings (h ++ e ∷ []) eui ≡ closings h eui →
-    device_record net (h ++ e ∷ []) eui ≡ record_by (acceptances h eui) (sessions_by (acceptances h eui) (openings h eui) (closings h eui)) (tickets_said (h ++ e ∷ []) eui)
-refused_keeps net h e eui joins os cs = record_said net (h ++ e ∷ []) eui ∙ (λ i. record_by (joins i) (sessions_by (joins i) (os i) (cs i)) (tickets_said (h ++ e ∷ []) eui))
+    device_record net (h ++ e ∷ []) eui ≡ record_by (last_nonce net eui) (acceptances h eui) (sessions_by (acceptances h eui) (openings h eui) (closings h eui)) (tickets_said (h ++ e ∷ []) eui)
+refused_keeps net h e eui joins os cs = record_said net (h ++ e ∷ []) eui ∙ (λ i. record_by (last_nonce net eui) (joins i) (sessions_by (joins i) (os i) (cs i)) (tickets_said (h ++ e ∷ []) eui))
 
 no_acceptance : (h : List Entry) (e : Entry) (eui : DevEui) → acceptance_in e.call e.reply ≡ None → acceptances (h ++ e ∷ []) eui ≡ acceptances h eui
 no_acceptance h e eui none =
@@ -178,10 +178,6 @@ IfSome-both : (P Q : ℕ → Type 0) (o : Option ℕ) → IfSome o P → IfSome 
 IfSome-both P Q None p q = tt
 IfSome-both P Q (Some n) p q = (p, q)
 
-IfSome-weaker : (P Q : ℕ → Type 0) → ((n : ℕ) → P n → Q n) → (o : Option ℕ) → IfSome o P → IfSome o Q
-IfSome-weaker P Q weaker None p = tt
-IfSome-weaker P Q weaker (Some n) p = weaker n p
-
 -- a number other than that of the next session
 other_number : (h : List Entry) (eui : DevEui) (n : ℕ) → IsSome (session_join h eui n) → (n == next_session h eui) ≡ false
 other_number h eui n keyed =
@@ -205,12 +201,12 @@ sessions_joined net h legal eui a number =
     let now : session_by (accepted ++ a ∷ []) os cs new ≡ Some (new_session new a.join_ans) = made (session_join-next h eui) in
     let active : IfSome (active_by os) (λ x. ((x == new) ≡ false) × Counts true (session_by accepted os cs x)) =
     IfSome-both (λ x. (x == new) ≡ false) (λ x. Counts true (session_by accepted os cs x)) (active_by os)
-    (IfSome-weaker (λ x. IsSome (session_join h eui x)) (λ x. (x == new) ≡ false) (λ x keyed. other_number h eui x keyed) (active_by os)
+    (IfSome-weaker (λ x. IsSome (session_join h eui x)) (λ x. (x == new) ≡ false) (active_by os) (λ x keyed. other_number h eui x keyed)
     (IfSome-map (λ x. IsSome (session_join h eui x)) (λ (o : Opening). o.window.session) (last os) (last-has (λ (o : Opening). IsSome (session_join h eui o.window.session)) os (facts.of_openings eui))))
-    (IfSome-weaker (λ x. is_some (counter_by os x) ≡ true) (λ x. Counts true (session_by accepted os cs x)) (λ x is. counts_by x (counter_by os x) (next_ack_by (greatest_ack_by cs x)) (join_by accepted x) true is) (active_by os) (active_counts os)) in
+    (IfSome-weaker (λ x. is_some (counter_by os x) ≡ true) (λ x. Counts true (session_by accepted os cs x)) (active_by os) (λ x is. counts_by x (counter_by os x) (next_ack_by (greatest_ack_by cs x)) (join_by accepted x) true is) (active_counts os)) in
     let newest : IfSome (newest_by accepted) (λ y. (option_map (λ x. x == y) (active_by os) ≡ Some true) ⊎ Counts false (session_by accepted os cs y)) =
     IfSome-weaker (λ y. (option_map (λ x. x == y) (active_by os) ≡ Some true) ⊎ (session_counters h eui y ≡ [])) (λ y. (option_map (λ x. x == y) (active_by os) ≡ Some true) ⊎ Counts false (session_by accepted os cs y))
-    (λ y either. unused y either) (newest_by accepted) (facts.newest eui) in
+    (newest_by accepted) (λ y either. unused y either) (facts.newest eui) in
     ap (λ (o : Option Acceptance). filter_map (session_by (accepted ++ a ∷ []) os cs) (first_and_other (active_by os) (option_map (λ (x : Acceptance). x.session) o))) (last-push accepted a)
     ∙ (ap (λ n. filter_map (session_by (accepted ++ a ∷ []) os cs) (first_and_other (active_by os) (Some n))) number
     ∙ joined (session_by accepted os cs) (session_by (accepted ++ a ∷ []) os cs) new (new_session new a.join_ans) apart_from now (active_by os) (newest_by accepted) active newest)
@@ -246,38 +242,39 @@ sessions_joined net h legal eui a number =
         inr (counts_by y (counter_by (openings h eui) y) (next_ack_by (greatest_ack_by (closings h eui) y)) (join_by (acceptances h eui) y) false counter)
 
 pub join_accepted : (net : Network) (h : List Entry) → IsLegal net h → (number : ℕ) (t : Ticket) (join : JoinAns) (heard : Heard) → Exceeds (greatest_nonce net h (dev_eui t)) (nonce t).0 →
-    let take : ReplyTake = answer.Accepted (next_session h (dev_eui t)) heard in
-    with_reply take t (outcome.Success join) (device_record net h (dev_eui t)) ≡ device_record net (h ++ entry_of number (call.JoinReply t (outcome.Success join)) (answer_reply net t take) ∷ []) (dev_eui t)
+    let decision : AnswerDecision = answer.Accepted (next_session h (dev_eui t)) heard in
+    with_reply decision t (outcome.Success join) (device_record net h (dev_eui t)) ≡ device_record net (h ++ entry_of number (call.JoinReply t (outcome.Success join)) (answer_reply net t decision) ∷ []) (dev_eui t)
 join_accepted net h legal number t join heard above =
     let eui : DevEui = dev_eui t in
     let new : ℕ = next_session h eui in
-    let take : ReplyTake = answer.Accepted new heard in
-    let e : Entry = entry_of number (call.JoinReply t (outcome.Success join)) (answer_reply net t take) in
+    let decision : AnswerDecision = answer.Accepted new heard in
+    let e : Entry = entry_of number (call.JoinReply t (outcome.Success join)) (answer_reply net t decision) in
     let a : Acceptance = record { eui = eui; session = new; ticket = t; join_ans = join } in
     let accepted_now : acceptances (h ++ e ∷ []) eui ≡ acceptances h eui ++ a ∷ [] = acceptances-push h e eui ∙ one_added (λ (x : Acceptance). same_device x.eui eui) (acceptances h eui) a (same_device-refl eui) in
     let os : openings (h ++ e ∷ []) eui ≡ openings h eui = openings-push h e eui ∙ append-nil (openings h eui) in
     let cs : closings (h ++ e ∷ []) eui ≡ closings h eui = closings-push h e eui ∙ append-nil (closings h eui) in
     let tickets = tickets_ended net h legal e t refl refl refl in
     let sessions = sessions_joined net h legal eui a refl in
-    let nonces : maximum (map (λ (x : Acceptance). (nonce x.ticket).0) (acceptances h eui ++ a ∷ [])) ≡ Some (nonce t).0 =
-    ap maximum (map-append (λ (x : Acceptance). (nonce x.ticket).0) (acceptances h eui) (a ∷ []))
-    ∙ (maximum-push (map (λ (x : Acceptance). (nonce x.ticket).0) (acceptances h eui)) (nonce t).0 ∙ exceeds_greater (greatest_nonce net h eui) (nonce t).0 above) in
+    let nonces : greater (last_nonce net eui) (maximum (map (λ (x : Acceptance). (nonce x.ticket).0) (acceptances h eui ++ a ∷ []))) ≡ Some (nonce t).0 =
+    ap (greater (last_nonce net eui)) (ap maximum (map-append (λ (x : Acceptance). (nonce x.ticket).0) (acceptances h eui) (a ∷ []))
+    ∙ maximum-push (map (λ (x : Acceptance). (nonce x.ticket).0) (acceptances h eui)) (nonce t).0)
+    ∙ (greater-assoc (last_nonce net eui) (greatest_accepted h eui) (Some (nonce t).0) ∙ exceeds_greater (greatest_nonce net h eui) (nonce t).0 above) in
     let numbers : unwrap_or (maximum (map (λ (x : Acceptance). x.session) (acceptances h eui ++ a ∷ []))) 0 + 1 ≡ new + 1 =
     ap (λ o. unwrap_or o 0 + 1) (ap maximum (map-append (λ (x : Acceptance). x.session) (acceptances h eui) (a ∷ [])) ∙ maximum-push (map (λ (x : Acceptance). x.session) (acceptances h eui)) new)
     ∙ next_number (maximum (map (λ (x : Acceptance). x.session) (acceptances h eui))) in
-    let after : device_record net (h ++ e ∷ []) eui ≡ record_by (acceptances h eui ++ a ∷ []) (sessions_by (acceptances h eui ++ a ∷ []) (openings h eui) (closings h eui)) (without t (tickets_said h eui)) =
-    record_said net (h ++ e ∷ []) eui ∙ (λ i. record_by (accepted_now i) (sessions_by (accepted_now i) (os i) (cs i)) (tickets i)) in
-    let made : record_by (acceptances h eui ++ a ∷ []) (sessions_by (acceptances h eui ++ a ∷ []) (openings h eui) (closings h eui)) (without t (tickets_said h eui)) ≡ with_reply take t (outcome.Success join) (said_of h eui) =
+    let after : device_record net (h ++ e ∷ []) eui ≡ record_by (last_nonce net eui) (acceptances h eui ++ a ∷ []) (sessions_by (acceptances h eui ++ a ∷ []) (openings h eui) (closings h eui)) (without t (tickets_said h eui)) =
+    record_said net (h ++ e ∷ []) eui ∙ (λ i. record_by (last_nonce net eui) (accepted_now i) (sessions_by (accepted_now i) (os i) (cs i)) (tickets i)) in
+    let made : record_by (last_nonce net eui) (acceptances h eui ++ a ∷ []) (sessions_by (acceptances h eui ++ a ∷ []) (openings h eui) (closings h eui)) (without t (tickets_said h eui)) ≡ with_reply decision t (outcome.Success join) (said_of net h eui) =
     λ i. record { greatest_nonce = nonces i; next_session = numbers i; sessions = sessions i; tickets = without t (tickets_said h eui) } in
-    ap (with_reply take t (outcome.Success join)) (record_said net h eui) ∙ sym (after ∙ made)
+    ap (with_reply decision t (outcome.Success join)) (record_said net h eui) ∙ sym (after ∙ made)
 
 -- ---- any answer
 
-after_answer : (net : Network) (h : List Entry) → IsLegal net h → (number : ℕ) (t : Ticket) (outcome : Outcome) (take : ReplyTake) → TakeFits net h t outcome take →
-    with_reply take t outcome (device_record net h (dev_eui t)) ≡ device_record net (h ++ entry_of number (call.JoinReply t outcome) (answer_reply net t take) ∷ []) (dev_eui t)
+after_answer : (net : Network) (h : List Entry) → IsLegal net h → (number : ℕ) (t : Ticket) (outcome : Outcome) (decision : AnswerDecision) → DecisionFits net h t outcome decision →
+    with_reply decision t outcome (device_record net h (dev_eui t)) ≡ device_record net (h ++ entry_of number (call.JoinReply t outcome) (answer_reply net t decision) ∷ []) (dev_eui t)
 after_answer net h legal number t outcome answer.NoTicket fits =
-    let r = said_of h (dev_eui t) in
-    let none : ticket_in r t ≡ None = ticket_said h t ∙ ap (λ b. cond {A = Option OpenTicket} b (Some (ticket_record h t)) None) fits in
+    let r = said_of net h (dev_eui t) in
+    let none : ticket_in r t ≡ None = ticket_said net h t ∙ ap (λ b. cond {A = Option OpenTicket} b (Some (ticket_record h t)) None) fits in
     let same : without t (tickets_said h (dev_eui t)) ≡ tickets_said h (dev_eui t) = without_absent t (tickets_said h (dev_eui t)) none in
     ap (with_reply answer.NoTicket t outcome) (record_said net h (dev_eui t))
     ∙ (ap (λ ts. record r { tickets = ts }) same
@@ -285,30 +282,30 @@ after_answer net h legal number t outcome answer.NoTicket fits =
 after_answer net h legal number t outcome answer.Refused fits =
     let e : Entry = entry_of number (call.JoinReply t outcome) reply.JoinRefused in
     let eui : DevEui = dev_eui t in
-    let r = said_of h eui in
+    let r = said_of net h eui in
     ap (with_reply answer.Refused t outcome) (record_said net h eui)
     ∙ sym (refused_keeps net h e eui (no_acceptance h e eui (refused_none t outcome)) (openings-push h e eui ∙ append-nil (openings h eui)) (closings-push h e eui ∙ append-nil (closings h eui))
     ∙ ap (λ ts. record r { tickets = ts }) (tickets_ended net h legal e t refl refl refl))
 after_answer net h legal number t outcome (answer.Stale greatest) fits =
     let e : Entry = entry_of number (call.JoinReply t outcome) (reply.JoinStale greatest) in
     let eui : DevEui = dev_eui t in
-    let r = said_of h eui in
+    let r = said_of net h eui in
     ap (with_reply (answer.Stale greatest) t outcome) (record_said net h eui)
     ∙ sym (refused_keeps net h e eui (no_acceptance h e eui (stale_none t outcome greatest.0)) (openings-push h e eui ∙ append-nil (openings h eui)) (closings-push h e eui ∙ append-nil (closings h eui))
     ∙ ap (λ ts. record r { tickets = ts }) (tickets_ended net h legal e t refl refl refl))
 after_answer net h legal number t outcome.Failed (answer.Accepted session heard) fits = absurd (false≢true (sym fits.0))
 after_answer net h legal number t (outcome.Success join) (answer.Accepted session heard) fits =
-    subst (λ s. let take : ReplyTake = answer.Accepted s heard in
-    with_reply take t (outcome.Success join) (device_record net h (dev_eui t)) ≡ device_record net (h ++ entry_of number (call.JoinReply t (outcome.Success join)) (answer_reply net t take) ∷ []) (dev_eui t))
+    subst (λ s. let decision : AnswerDecision = answer.Accepted s heard in
+    with_reply decision t (outcome.Success join) (device_record net h (dev_eui t)) ≡ device_record net (h ++ entry_of number (call.JoinReply t (outcome.Success join)) (answer_reply net t decision) ∷ []) (dev_eui t))
     (sym fits.1) (join_accepted net h legal number t join heard fits.2)
 
 pub answers_agree : (net : Network) (h : List Entry) → AnswersAgree net h
 answers_agree net h = record {
   replies = λ t outcome. answer_replies net h t outcome;
-  copies = λ t outcome session heard is. copies_cases h t (is_ticket_open h t) (is_failed outcome) (spent_by net h t) (next_session h (dev_eui t)) session heard (sym (take_said net h t outcome) ∙ is);
+  copies = λ t outcome session heard is. copies_cases h t (is_ticket_open h t) (is_failed outcome) (spent_by net h t) (next_session h (dev_eui t)) session heard (sym (decision_said net h t outcome) ∙ is);
   records = λ legal number t outcome.
-      (let take = reply_take (device_record net h (dev_eui t)) t outcome in
-      after_answer net h legal number t outcome take
-      (subst (TakeFits net h t outcome) (sym (take_said net h t outcome)) (take_fits net h t outcome (is_ticket_open h t) (is_failed outcome) (spent_by net h t) refl refl refl))
+      (let decision = answer_decision (device_record net h (dev_eui t)) t outcome in
+      after_answer net h legal number t outcome decision
+      (subst (DecisionFits net h t outcome) (sym (decision_said net h t outcome)) (decision_fits net h t outcome (is_ticket_open h t) (is_failed outcome) (spent_by net h t) refl refl refl))
       ∙ ap (λ r. device_record net (h ++ entry_of number (call.JoinReply t outcome) r ∷ []) (dev_eui t)) (answer_replies net h t outcome));
 }

@@ -1,12 +1,13 @@
 -- What a Join-Request and the answer to a join make of a device's open tickets.
 use Rattle.std.proofs.Common.{◌≡◌, ℕ, Bool, true, false, not, ◌||◌, cond, List, [], ◌∷◌, ◌++◌, filter, map, Option, None, Some, option_to_list, refl, sym, ap, ◌∙◌, inl, inr}
 use Rattle.std.specs.List.{AllByRecursion, list_any}
-use Rattle.std.proofs.lemmas.List.{append-nil, map-append}
+use Rattle.std.proofs.lemmas.List.{append-nil, length-append, map-append}
 use Rattle.std.proofs.lemmas.List.Elements.{filter-append}
 use Rattle.ns_types.specs.declared.identity.DevEui.{DevEui}
 use Rattle.ns_types.specs.declared.heard.Heard.{Heard}
 use Rattle.ns_types.specs.declared.ticket.Ticket.{Ticket}
 use Rattle.ns_types.specs.Ticket.{dev_eui}
+use Rattle.ns_types.proofs.HeardLemmas.{best-one_more}
 use Rattle.ns_roster.specs.Network.{Network}
 use Rattle.ns_calls.specs.declared.call.Call.TheVariants as call
 use Rattle.ns_calls.specs.declared.call.Reply.TheVariants as reply
@@ -18,7 +19,8 @@ use Rattle.ns_calls.proofs.Lists.{All-weaker, All-filter, filter-all}
 use Rattle.ns_calls.proofs.TicketLemmas.{same_ticket-eq}
 use Rattle.ns_calls.proofs.PushLemmas.{open_tickets-push, ticket_copies-push}
 use Rattle.ns_sessions.specs.declared.ticket.OpenTicket.{OpenTicket}
-use Rattle.ns_sessions.specs.Record.{ticket_record, tickets_of, one_copy, ticket_among, copied, without}
+use Rattle.ns_sessions.specs.Copies.{CopiesRecord, copies_record, with_one_more}
+use Rattle.ns_sessions.specs.Record.{ticket_record, tickets_of, one_copy, ticket_among, tickets_after_copy, without}
 use Rattle.ns_sessions.specs.Laws.{entry_of}
 use Rattle.ns_sessions.proofs.Records.{tickets_said}
 use Rattle.ns_sessions.proofs.OpenTickets.{same_ticket-refl, same_ticket-sym, same_device-refl, copies_said, copies_in, copies_more, tickets_of-stay, same_records, IsOwnAsked, tickets_own}
@@ -33,6 +35,10 @@ one_said t u heard same = ap (λ b. map (λ (c : Ticket × Heard). c.1) (cond {A
 
 none_said : (t u : Ticket) (heard : Heard) → same_ticket t u ≡ false → copies_said t (Some (u, heard)) ≡ []
 none_said t u heard other = ap (λ b. map (λ (c : Ticket × Heard). c.1) (cond {A = List (Ticket × Heard)} b ((u, heard) ∷ []) [])) other
+
+-- what is kept of copies and one more
+copies_record-push : (copies : List Heard) (heard : Heard) → copies_record (copies ++ heard ∷ []) ≡ with_one_more heard (copies_record copies)
+copies_record-push copies heard = λ i. record { count = length-append copies (heard ∷ []) i; best = best-one_more copies heard i }
 
 -- ---- a ticket that is asked for
 
@@ -58,7 +64,7 @@ tickets_asked h number t heard closed =
     ap (map (ticket_record now)) there
     ∙ (map-append (ticket_record now) (tickets_of h eui) (t ∷ [])
     ∙ (ap (λ ys. ys ++ ticket_record now t ∷ []) before
-    ∙ ap (λ cs. let o : OpenTicket = record { ticket = t; copies = cs } in tickets_said h eui ++ o ∷ []) copies))
+    ∙ ap (λ cs. let o : OpenTicket = record { ticket = t; copies = copies_record cs } in tickets_said h eui ++ o ∷ []) copies))
 
 -- ---- one more copy
 
@@ -76,28 +82,28 @@ apart_from t u ts same apart =
     (λ v differs. same_ticket-sym t v false (ap (λ (w : Ticket). same_ticket w v) (same_ticket-eq t u same) ∙ differs)) ts apart
 
 copied_records : (h now : List Entry) (t : Ticket) (heard : Heard) (ts : List Ticket) → AreApart ts → AllByRecursion (λ u. ticket_copies now u ≡ ticket_copies h u ++ copies_said u (Some (t, heard))) ts →
-    map (ticket_record now) ts ≡ copied t heard (map (ticket_record h) ts)
+    map (ticket_record now) ts ≡ tickets_after_copy t heard (map (ticket_record h) ts)
 copied_records h now t heard [] apart more = refl
 copied_records h now t heard (u ∷ ts) apart more =
     let rest : List OpenTicket = map (ticket_record h) ts in
     let o : OpenTicket = ticket_record h u in
-    let with_one : OpenTicket = record { ticket = u; copies = ticket_copies h u ++ heard ∷ [] } in
-    let made : List Heard → OpenTicket = λ cs. record { ticket = u; copies = cs } in
+    let with_one : OpenTicket = record { ticket = u; copies = with_one_more heard (copies_record (ticket_copies h u)) } in
+    let made : CopiesRecord → OpenTicket = λ cs. record { ticket = u; copies = cs } in
     elim (bool_tells (same_ticket t u)) [
       | inl same ↦
           (let head : ticket_copies now u ≡ ticket_copies h u ++ heard ∷ [] = more.0 ∙ ap (λ ys. ticket_copies h u ++ ys) (one_said u t heard (same_ticket-sym t u true same)) in
-          ap (λ cs. made cs ∷ map (ticket_record now) ts) head
+          ap (λ cs. made cs ∷ map (ticket_record now) ts) (ap copies_record head ∙ copies_record-push (ticket_copies h u) heard)
           ∙ (ap (λ os. with_one ∷ os) (same_records h now ts (others_keep h now t heard ts (apart_from t u ts same apart.0) more.1))
-          ∙ sym (ap (λ b. cond {A = List OpenTicket} b (with_one ∷ rest) (o ∷ copied t heard rest)) same)))
+          ∙ sym (ap (λ b. cond {A = List OpenTicket} b (with_one ∷ rest) (o ∷ tickets_after_copy t heard rest)) same)))
       | inr differs ↦
           (let head : ticket_copies now u ≡ ticket_copies h u = more.0 ∙ (ap (λ ys. ticket_copies h u ++ ys) (none_said u t heard (same_ticket-sym t u false differs)) ∙ append-nil (ticket_copies h u)) in
-          ap (λ cs. made cs ∷ map (ticket_record now) ts) head
+          ap (λ cs. made (copies_record cs) ∷ map (ticket_record now) ts) head
           ∙ (ap (λ os. o ∷ os) (copied_records h now t heard ts apart.1 more.1)
-          ∙ sym (ap (λ b. cond {A = List OpenTicket} b (with_one ∷ rest) (o ∷ copied t heard rest)) differs)))
+          ∙ sym (ap (λ b. cond {A = List OpenTicket} b (with_one ∷ rest) (o ∷ tickets_after_copy t heard rest)) differs)))
     ]
 
 pub tickets_copied : (net : Network) (h : List Entry) → IsLegal net h → (number place : ℕ) (t : Ticket) (heard : Heard) →
-    tickets_said (h ++ entry_of number (call.Join t heard) (reply.JoinCopied place) ∷ []) (dev_eui t) ≡ copied t heard (tickets_said h (dev_eui t))
+    tickets_said (h ++ entry_of number (call.Join t heard) (reply.JoinCopied place) ∷ []) (dev_eui t) ≡ tickets_after_copy t heard (tickets_said h (dev_eui t))
 tickets_copied net h legal number place t heard =
     let e : Entry = entry_of number (call.Join t heard) (reply.JoinCopied place) in
     let eui : DevEui = dev_eui t in

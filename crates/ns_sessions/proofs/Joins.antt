@@ -12,14 +12,14 @@ use Rattle.ns_calls.specs.declared.call.Call.TheVariants as call
 use Rattle.ns_calls.specs.declared.call.Reply.{Reply}
 use Rattle.ns_calls.specs.declared.call.Reply.TheVariants as reply
 use Rattle.ns_calls.specs.declared.call.Entry.{Entry}
-use Rattle.ns_calls.specs.History.{open_tickets, is_ticket_open, ticket_count, acceptances, openings, closings, same_device}
+use Rattle.ns_calls.specs.History.{open_tickets, is_ticket_open, ticket_count, acceptances, openings, closings, same_device, last_nonce}
 use Rattle.ns_calls.specs.Reply.{spent_by, join_copy_reply, most_copies, most_tickets, reply_to_join}
 use Rattle.ns_calls.specs.Legal.{IsLegal}
 use Rattle.ns_calls.proofs.PushLemmas.{acceptances-push, openings-push, closings-push}
 use Rattle.ns_sessions.specs.declared.ticket.OpenTicket.{OpenTicket}
-use Rattle.ns_sessions.specs.declared.take.JoinTake.{JoinTake}
-use Rattle.ns_sessions.specs.declared.take.JoinTake.TheVariants as join
-use Rattle.ns_sessions.specs.Record.{DeviceRecord, device_record, ticket_record, tickets_of, ticket_in, copy_take, join_take, with_join}
+use Rattle.ns_sessions.specs.declared.decision.JoinDecision.{JoinDecision}
+use Rattle.ns_sessions.specs.declared.decision.JoinDecision.TheVariants as join
+use Rattle.ns_sessions.specs.Record.{DeviceRecord, device_record, ticket_record, tickets_of, ticket_in, copy_decision, join_decision, with_join}
 use Rattle.ns_sessions.specs.Laws.{entry_of, join_reply, JoinsAgree}
 use Rattle.ns_sessions.proofs.Sessions.{sessions_by}
 use Rattle.ns_sessions.proofs.Records.{tickets_said, record_by, record_said}
@@ -27,26 +27,26 @@ use Rattle.ns_sessions.proofs.JoinSteps.{tickets_asked, tickets_copied, among_sa
 use Rattle.ns_sessions.proofs.Uplinks.{record_stays}
 
 -- the record, by what the history says
-abbrev pub said_of : List Entry → DevEui → DeviceRecord
-said_of h eui = record_by (acceptances h eui) (sessions_by (acceptances h eui) (openings h eui) (closings h eui)) (tickets_said h eui)
+abbrev pub said_of : Network → List Entry → DevEui → DeviceRecord
+said_of net h eui = record_by (last_nonce net eui) (acceptances h eui) (sessions_by (acceptances h eui) (openings h eui) (closings h eui)) (tickets_said h eui)
 
-pub ticket_said : (h : List Entry) (t : Ticket) → ticket_in (said_of h (dev_eui t)) t ≡ cond (is_ticket_open h t) (Some (ticket_record h t)) None
-ticket_said h t = among_said h t (open_tickets h)
+pub ticket_said : (net : Network) (h : List Entry) (t : Ticket) → ticket_in (said_of net h (dev_eui t)) t ≡ cond (is_ticket_open h t) (Some (ticket_record h t)) None
+ticket_said net h t = among_said h t (open_tickets h)
 
 -- ---- Join-Requests
 
--- the take, by what is asked of the state
-abbrev join_take_by : Option ℕ → Option OpenTicket → Bool → JoinTake
-join_take_by spent found busy = first_case (option_map (λ g. join.Old (record { 0 = g })) spent ∷ option_map copy_take found ∷ when busy join.Busy ∷ []) join.Asked
+-- the decision, by what is asked of the state
+abbrev join_decision_by : Option ℕ → Option OpenTicket → Bool → JoinDecision
+join_decision_by spent found busy = first_case (option_map (λ g. join.Old (record { 0 = g })) spent ∷ option_map copy_decision found ∷ when busy join.Busy ∷ []) join.Ask
 
 join_cases : (t : Ticket) (spent : Option ℕ) (is_open : Bool) (o : OpenTicket) (busy : Bool) →
-    join_reply t (join_take_by spent (cond is_open (Some o) None) busy)
-    ≡ first_case (when (not true) reply.NoDevice ∷ option_map (λ g. reply.NonceOld (record { 0 = g })) spent ∷ when is_open (let place = length o.copies + 1 in cond (nat_le place most_copies) (reply.JoinCopied place) reply.JoinCrowded)
+    join_reply t (join_decision_by spent (cond is_open (Some o) None) busy)
+    ≡ first_case (when (not true) reply.NoDevice ∷ option_map (λ g. reply.NonceOld (record { 0 = g })) spent ∷ when is_open (let place = o.copies.count + 1 in cond (nat_le place most_copies) (reply.JoinCopied place) reply.JoinCrowded)
     ∷ when busy reply.JoinBusy ∷ []) (reply.Ask t)
 join_cases t (Some g) is_open o busy = refl
-join_cases t None true o busy = step (nat_le (length o.copies + 1) most_copies)
+join_cases t None true o busy = step (nat_le (o.copies.count + 1) most_copies)
   where
-    step : (b : Bool) → join_reply t (cond b (join.Copied (length o.copies + 1)) join.Crowded) ≡ cond b (reply.JoinCopied (length o.copies + 1)) reply.JoinCrowded
+    step : (b : Bool) → join_reply t (cond b (join.Copied (o.copies.count + 1)) join.Crowded) ≡ cond b (reply.JoinCopied (o.copies.count + 1)) reply.JoinCrowded
     step true = refl
     step false = refl
 join_cases t None false o true = refl
@@ -55,60 +55,60 @@ join_cases t None false o false = refl
 count_said : (h : List Entry) (eui : DevEui) → length (tickets_said h eui) ≡ ticket_count h eui
 count_said h eui = length-map (tickets_of h eui) (ticket_record h) ∙ length-filter (λ u. same_device (dev_eui u) eui) (open_tickets h)
 
-take_said : (net : Network) (h : List Entry) (t : Ticket) →
-    join_take (device_record net h (dev_eui t)) t ≡ join_take_by (spent_by net h t) (cond (is_ticket_open h t) (Some (ticket_record h t)) None) (nat_le most_tickets (ticket_count h (dev_eui t)))
-take_said net h t =
-    ap (λ r. join_take r t) (record_said net h (dev_eui t))
-    ∙ (ap (λ o. join_take_by (spent_by net h t) o (nat_le most_tickets (length (tickets_said h (dev_eui t))))) (ticket_said h t)
-    ∙ ap (λ n. join_take_by (spent_by net h t) (cond (is_ticket_open h t) (Some (ticket_record h t)) None) (nat_le most_tickets n)) (count_said h (dev_eui t)))
+decision_said : (net : Network) (h : List Entry) (t : Ticket) →
+    join_decision (device_record net h (dev_eui t)) t ≡ join_decision_by (spent_by net h t) (cond (is_ticket_open h t) (Some (ticket_record h t)) None) (nat_le most_tickets (ticket_count h (dev_eui t)))
+decision_said net h t =
+    ap (λ r. join_decision r t) (record_said net h (dev_eui t))
+    ∙ (ap (λ o. join_decision_by (spent_by net h t) o (nat_le most_tickets (length (tickets_said h (dev_eui t))))) (ticket_said net h t)
+    ∙ ap (λ n. join_decision_by (spent_by net h t) (cond (is_ticket_open h t) (Some (ticket_record h t)) None) (nat_le most_tickets n)) (count_said h (dev_eui t)))
 
-join_replies : (net : Network) (h : List Entry) (t : Ticket) → is_known net (dev_eui t) (join_eui t) ≡ true → join_reply t (join_take (device_record net h (dev_eui t)) t) ≡ reply_to_join net h t
+join_replies : (net : Network) (h : List Entry) (t : Ticket) → is_known net (dev_eui t) (join_eui t) ≡ true → join_reply t (join_decision (device_record net h (dev_eui t)) t) ≡ reply_to_join net h t
 join_replies net h t known =
-    ap (join_reply t) (take_said net h t)
+    ap (join_reply t) (decision_said net h t)
     ∙ (join_cases t (spent_by net h t) (is_ticket_open h t) (ticket_record h t) (nat_le most_tickets (ticket_count h (dev_eui t)))
     ∙ sym (ap (λ b. first_case (when (not b) reply.NoDevice ∷ option_map (λ g. reply.NonceOld (record { 0 = g })) (spent_by net h t) ∷ when (is_ticket_open h t) (join_copy_reply h t)
     ∷ when (nat_le most_tickets (ticket_count h (dev_eui t))) reply.JoinBusy ∷ []) (reply.Ask t)) known))
 
 -- what is asked for was not open
-asked_closed : (spent : Option ℕ) (is_open : Bool) (o : OpenTicket) (busy : Bool) → join_take_by spent (cond is_open (Some o) None) busy ≡ join.Asked → is_open ≡ false
+asked_closed : (spent : Option ℕ) (is_open : Bool) (o : OpenTicket) (busy : Bool) → join_decision_by spent (cond is_open (Some o) None) busy ≡ join.Ask → is_open ≡ false
 asked_closed (Some g) is_open o busy is = absurd (cc is)
-asked_closed None true o busy is = absurd (step (nat_le (length o.copies + 1) most_copies) is)
+asked_closed None true o busy is = absurd (step (nat_le (o.copies.count + 1) most_copies) is)
   where
-    step : (b : Bool) → cond b (join.Copied (length o.copies + 1)) join.Crowded ≡ join.Asked → ⊥
+    step : (b : Bool) → cond b (join.Copied (o.copies.count + 1)) join.Crowded ≡ join.Ask → ⊥
     step true eq = cc eq
     step false eq = cc eq
 asked_closed None false o busy is = refl
 
 -- the sessions stay
 join_keeps : (net : Network) (h : List Entry) (number : ℕ) (t : Ticket) (heard : Heard) (r : Reply) → let e : Entry = entry_of number (call.Join t heard) r in
-    device_record net (h ++ e ∷ []) (dev_eui t) ≡ record_by (acceptances h (dev_eui t)) (sessions_by (acceptances h (dev_eui t)) (openings h (dev_eui t)) (closings h (dev_eui t))) (tickets_said (h ++ e ∷ []) (dev_eui t))
+    device_record net (h ++ e ∷ []) (dev_eui t) ≡ record_by (last_nonce net (dev_eui t)) (acceptances h (dev_eui t)) (sessions_by (acceptances h (dev_eui t)) (openings h (dev_eui t)) (closings h (dev_eui t))) (tickets_said (h ++ e ∷ []) (dev_eui t))
 join_keeps net h number t heard r =
     let e : Entry = entry_of number (call.Join t heard) r in
     let eui : DevEui = dev_eui t in
     let joins : acceptances (h ++ e ∷ []) eui ≡ acceptances h eui = acceptances-push h e eui ∙ append-nil (acceptances h eui) in
     let os : openings (h ++ e ∷ []) eui ≡ openings h eui = openings-push h e eui ∙ append-nil (openings h eui) in
     let cs : closings (h ++ e ∷ []) eui ≡ closings h eui = closings-push h e eui ∙ append-nil (closings h eui) in
-    record_said net (h ++ e ∷ []) eui ∙ (λ i. record_by (joins i) (sessions_by (joins i) (os i) (cs i)) (tickets_said (h ++ e ∷ []) eui))
+    record_said net (h ++ e ∷ []) eui ∙ (λ i. record_by (last_nonce net eui) (joins i) (sessions_by (joins i) (os i) (cs i)) (tickets_said (h ++ e ∷ []) eui))
 
-after_take : (net : Network) (h : List Entry) → IsLegal net h → (number : ℕ) (t : Ticket) (heard : Heard) (take : JoinTake) → (take ≡ join.Asked → is_ticket_open h t ≡ false) →
-    with_join take t heard (device_record net h (dev_eui t)) ≡ device_record net (h ++ entry_of number (call.Join t heard) (join_reply t take) ∷ []) (dev_eui t)
-after_take net h legal number t heard join.Asked closed =
-    let r = said_of h (dev_eui t) in
-    ap (with_join join.Asked t heard) (record_said net h (dev_eui t))
+after_decision : (net : Network) (h : List Entry) → IsLegal net h → (number : ℕ) (t : Ticket) (heard : Heard) (decision : JoinDecision) → (decision ≡ join.Ask → is_ticket_open h t ≡ false) →
+    with_join decision t heard (device_record net h (dev_eui t)) ≡ device_record net (h ++ entry_of number (call.Join t heard) (join_reply t decision) ∷ []) (dev_eui t)
+after_decision net h legal number t heard join.Ask closed =
+    let r = said_of net h (dev_eui t) in
+    ap (with_join join.Ask t heard) (record_said net h (dev_eui t))
     ∙ sym (join_keeps net h number t heard (reply.Ask t) ∙ ap (λ ts. record r { tickets = ts }) (tickets_asked h number t heard (closed refl)))
-after_take net h legal number t heard (join.Copied place) closed =
-    let r = said_of h (dev_eui t) in
+after_decision net h legal number t heard (join.Copied place) closed =
+    let r = said_of net h (dev_eui t) in
     ap (with_join (join.Copied place) t heard) (record_said net h (dev_eui t))
     ∙ sym (join_keeps net h number t heard (reply.JoinCopied place) ∙ ap (λ ts. record r { tickets = ts }) (tickets_copied net h legal number place t heard))
-after_take net h legal number t heard join.Crowded closed = sym (record_stays net h (entry_of number (call.Join t heard) reply.JoinCrowded) (dev_eui t) refl)
-after_take net h legal number t heard (join.Old greatest) closed = sym (record_stays net h (entry_of number (call.Join t heard) (reply.NonceOld greatest)) (dev_eui t) refl)
-after_take net h legal number t heard join.Busy closed = sym (record_stays net h (entry_of number (call.Join t heard) reply.JoinBusy) (dev_eui t) refl)
+after_decision net h legal number t heard join.Crowded closed = sym (record_stays net h (entry_of number (call.Join t heard) reply.JoinCrowded) (dev_eui t) refl)
+after_decision net h legal number t heard (join.Old greatest) closed = sym (record_stays net h (entry_of number (call.Join t heard) (reply.NonceOld greatest)) (dev_eui t) refl)
+after_decision net h legal number t heard join.Busy closed = sym (record_stays net h (entry_of number (call.Join t heard) reply.JoinBusy) (dev_eui t) refl)
 
 pub joins_agree : (net : Network) (h : List Entry) → JoinsAgree net h
 joins_agree net h = record {
   replies = λ t known. join_replies net h t known;
   records = λ legal number t heard known.
-      (let take = join_take (device_record net h (dev_eui t)) t in
-      after_take net h legal number t heard take (λ is. asked_closed (spent_by net h t) (is_ticket_open h t) (ticket_record h t) (nat_le most_tickets (ticket_count h (dev_eui t))) (sym (take_said net h t) ∙ is))
+      (let decision = join_decision (device_record net h (dev_eui t)) t in
+      after_decision net h legal number t heard decision (λ is. asked_closed (spent_by net h t) (is_ticket_open h t) (ticket_record h t) (nat_le most_tickets (ticket_count h (dev_eui t))) (sym (decision_said net h t) ∙ is))
       ∙ ap (λ r. device_record net (h ++ entry_of number (call.Join t heard) r ∷ []) (dev_eui t)) (join_replies net h t known));
 }

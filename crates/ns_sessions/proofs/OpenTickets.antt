@@ -24,6 +24,7 @@ use Rattle.ns_calls.proofs.Lists.{All-append, All-weaker, All-filter, said, said
 use Rattle.ns_calls.proofs.TicketLemmas.{same_ticket-eq}
 use Rattle.ns_calls.proofs.PushLemmas.{open_tickets-push, ticket_copies-push}
 use Rattle.ns_sessions.specs.declared.ticket.OpenTicket.{OpenTicket}
+use Rattle.ns_sessions.specs.Copies.{copies_record}
 use Rattle.ns_sessions.specs.Record.{ticket_record, tickets_of}
 use Rattle.ns_sessions.proofs.Records.{tickets_said}
 use Rattle.ns_sessions.proofs.Basics.{or_later}
@@ -173,7 +174,7 @@ tickets_of-stay h e eui asks ends =
 pub same_records : (h g : List Entry) (ts : List Ticket) → AllByRecursion (λ t. ticket_copies g t ≡ ticket_copies h t) ts → map (ticket_record g) ts ≡ map (ticket_record h) ts
 same_records h g [] same = refl
 same_records h g (t ∷ ts) same =
-    ap (λ copies. let o : OpenTicket = record { ticket = t; copies = copies } in o ∷ map (ticket_record g) ts) same.0 ∙ ap (λ os. ticket_record h t ∷ os) (same_records h g ts same.1)
+    ap (λ cs. let o : OpenTicket = record { ticket = t; copies = copies_record cs } in o ∷ map (ticket_record g) ts) same.0 ∙ ap (λ os. ticket_record h t ∷ os) (same_records h g ts same.1)
 
 -- the open tickets of a device are its own, and were asked for
 pub record IsOwnAsked (h : List Entry) (eui : DevEui) (t : Ticket) : Type 0 where

@@ -12,7 +12,7 @@ use Rattle.ns_calls.specs.declared.call.Reply.{Reply}
 use Rattle.ns_calls.specs.declared.call.Reply.TheVariants as reply
 use Rattle.ns_calls.specs.declared.call.Entry.{Entry}
 use Rattle.ns_calls.specs.Queries.{greater, maximum}
-use Rattle.ns_calls.specs.History.{Acceptance, Opening, Closing, acceptance_in, opening_in, closing_in, acceptances, openings, closings, same_device, first_and_other}
+use Rattle.ns_calls.specs.History.{Acceptance, Opening, Closing, acceptance_in, opening_in, closing_in, acceptances, openings, closings, same_device, first_and_other, last_nonce}
 use Rattle.ns_calls.proofs.LocalJoin.{none_single}
 use Rattle.ns_calls.proofs.PushLemmas.{acceptances-push, openings-push, closings-push}
 use Rattle.ns_sessions.specs.declared.session.Session.{Session}
@@ -25,15 +25,15 @@ use Rattle.ns_sessions.proofs.Basics.{greater-none}
 abbrev pub tickets_said : List Entry → DevEui → List OpenTicket
 tickets_said h eui = map (ticket_record h) (tickets_of h eui)
 
-abbrev pub record_by : List Acceptance → List Session → List OpenTicket → DeviceRecord
-record_by joins sessions tickets = record {
-  greatest_nonce = maximum (map (λ (a : Acceptance). (nonce a.ticket).0) joins);
+abbrev pub record_by : Option ℕ → List Acceptance → List Session → List OpenTicket → DeviceRecord
+record_by named joins sessions tickets = record {
+  greatest_nonce = greater named (maximum (map (λ (a : Acceptance). (nonce a.ticket).0) joins));
   next_session = unwrap_or (maximum (map (λ (a : Acceptance). a.session) joins)) 0 + 1;
   sessions = sessions;
   tickets = tickets;
 }
 
-pub record_said : (net : Network) (h : List Entry) (eui : DevEui) → device_record net h eui ≡ record_by (acceptances h eui) (sessions_by (acceptances h eui) (openings h eui) (closings h eui)) (tickets_said h eui)
+pub record_said : (net : Network) (h : List Entry) (eui : DevEui) → device_record net h eui ≡ record_by (last_nonce net eui) (acceptances h eui) (sessions_by (acceptances h eui) (openings h eui) (closings h eui)) (tickets_said h eui)
 unfolding device_record
 record_said net h eui = refl
 

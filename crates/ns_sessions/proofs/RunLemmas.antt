@@ -6,7 +6,6 @@ use Rattle.std.proofs.lemmas.Option.{same_Some}
 use Rattle.ns_types.specs.declared.heard.Heard.{Heard}
 use Rattle.ns_types.specs.declared.ticket.Ticket.{Ticket}
 use Rattle.ns_types.specs.Cases.{first_case}
-use Rattle.ns_types.specs.Heard.{best}
 use Rattle.ns_types.specs.Ticket.{nonce}
 use Rattle.ns_secure.specs.Counter.{Exceeds}
 use Rattle.ns_calls.specs.declared.call.Outcome.{Outcome}
@@ -18,14 +17,15 @@ use Rattle.ns_calls.proofs.LocalLemmas.{bool_tells}
 use Rattle.ns_calls.proofs.Lists.{All-weaker, count-append, count-cons}
 use Rattle.ns_calls.proofs.TicketLemmas.{same_ticket-eq}
 use Rattle.ns_sessions.specs.declared.ticket.OpenTicket.{OpenTicket}
-use Rattle.ns_sessions.specs.declared.take.JoinTake.{JoinTake}
-use Rattle.ns_sessions.specs.declared.take.JoinTake.TheVariants as join
-use Rattle.ns_sessions.specs.declared.take.ReplyTake.{ReplyTake}
-use Rattle.ns_sessions.specs.declared.take.ReplyTake.TheVariants as answer
-use Rattle.ns_sessions.specs.Record.{DeviceRecord, no_joins, ticket_among, ticket_in, spent_in, one_copy, copied, without, join_take, with_join, reply_take, with_reply}
-use Rattle.ns_sessions.specs.Runs.{StateCall, Ask, Answer, Take, NextAck, after_call, nonce_in, accepted_nonce, accepted_nonces, is_asked, is_answered, asks, answers, times_asked, times_answered, JoinsInTurn}
+use Rattle.ns_sessions.specs.declared.decision.JoinDecision.{JoinDecision}
+use Rattle.ns_sessions.specs.declared.decision.JoinDecision.TheVariants as join
+use Rattle.ns_sessions.specs.declared.decision.AnswerDecision.{AnswerDecision}
+use Rattle.ns_sessions.specs.declared.decision.AnswerDecision.TheVariants as answer
+use Rattle.ns_sessions.specs.Copies.{with_one_more}
+use Rattle.ns_sessions.specs.Record.{DeviceRecord, no_joins, ticket_among, ticket_in, spent_in, one_copy, tickets_after_copy, without, join_decision, with_join, answer_decision, with_reply}
+use Rattle.ns_sessions.specs.Runs.{StateCall, Ask, Answer, Open, NextAck, after_call, nonce_in, accepted_nonce, accepted_nonces, is_asked, is_answered, asks, answers, times_asked, times_answered, JoinsInTurn}
 use Rattle.ns_sessions.proofs.Basics.{unspent}
-use Rattle.ns_sessions.proofs.JoinAnswers.{reply_take_by}
+use Rattle.ns_sessions.proofs.JoinAnswers.{answer_decision_by}
 
 -- ---- nonces
 
@@ -34,26 +34,26 @@ NextNonce : Option ℕ → Option ℕ → Option ℕ → Type 0
 NextNonce accepted before after = (accepted ≡ None) × (after ≡ before) ⊎ ((n : ℕ) × (accepted ≡ Some n) × (after ≡ Some n) × Exceeds before n)
 
 answer_nonce : (r : DeviceRecord) (t : Ticket) (o : Outcome) (found : Option OpenTicket) (spent : Option ℕ) → spent_in r t ≡ spent →
-    NextNonce (nonce_in (reply_take_by found (is_failed o) spent r.next_session) t) r.greatest_nonce (with_reply (reply_take_by found (is_failed o) spent r.next_session) t o r).greatest_nonce
+    NextNonce (nonce_in (answer_decision_by found (is_failed o) spent r.next_session) t) r.greatest_nonce (with_reply (answer_decision_by found (is_failed o) spent r.next_session) t o r).greatest_nonce
 unfolding NextNonce
 answer_nonce r t o None spent is = inl (refl, refl)
 answer_nonce r t outcome.Failed (Some x) spent is = inl (refl, refl)
 answer_nonce r t (outcome.Success j) (Some x) (Some g) is = inl (refl, refl)
-answer_nonce r t (outcome.Success j) (Some x) None is = step (best x.copies)
+answer_nonce r t (outcome.Success j) (Some x) None is = step x.copies.best
   where
-    take_of : Option Heard → ReplyTake
-    take_of b = first_case (option_map (λ heard. answer.Accepted r.next_session heard) b ∷ []) answer.NoTicket
+    decision_of : Option Heard → AnswerDecision
+    decision_of b = first_case (option_map (λ heard. answer.Accepted r.next_session heard) b ∷ []) answer.NoTicket
 
-    step : (b : Option Heard) → let take : ReplyTake = first_case (option_map (λ heard. answer.Accepted r.next_session heard) b ∷ []) answer.NoTicket in
-        (nonce_in take t ≡ None) × ((with_reply take t (outcome.Success j) r).greatest_nonce ≡ r.greatest_nonce)
-        ⊎ ((n : ℕ) × (nonce_in take t ≡ Some n) × ((with_reply take t (outcome.Success j) r).greatest_nonce ≡ Some n) × Exceeds r.greatest_nonce n)
+    step : (b : Option Heard) → let decision : AnswerDecision = first_case (option_map (λ heard. answer.Accepted r.next_session heard) b ∷ []) answer.NoTicket in
+        (nonce_in decision t ≡ None) × ((with_reply decision t (outcome.Success j) r).greatest_nonce ≡ r.greatest_nonce)
+        ⊎ ((n : ℕ) × (nonce_in decision t ≡ Some n) × ((with_reply decision t (outcome.Success j) r).greatest_nonce ≡ Some n) × Exceeds r.greatest_nonce n)
     step None = inl (refl, refl)
     step (Some heard) = inr ((nonce t).0, refl, refl, unspent r.greatest_nonce (nonce t).0 is)
 
 next_nonce : (c : StateCall) (r : DeviceRecord) → NextNonce (accepted_nonce c r) r.greatest_nonce (after_call c r).greatest_nonce
 unfolding NextNonce
 next_nonce (Ask t heard) r = inl (refl, refl)
-next_nonce (Take session counter) r = inl (refl, refl)
+next_nonce (Open session counter) r = inl (refl, refl)
 next_nonce (NextAck session) r = inl (refl, refl)
 next_nonce (Answer t o) r = answer_nonce r t o (ticket_in r t) (spent_in r t) refl
 
@@ -89,19 +89,19 @@ count_one t u heard os =
     let test : OpenTicket → Bool = λ o. same_ticket t o.ticket in
     count-append test os (one_copy u heard ∷ []) ∙ ap (λ n. open_count t os + n) (count-cons test (one_copy u heard) [])
 
-count_copied : (t u : Ticket) (heard : Heard) (os : List OpenTicket) → open_count t (copied u heard os) ≡ open_count t os
+count_copied : (t u : Ticket) (heard : Heard) (os : List OpenTicket) → open_count t (tickets_after_copy u heard os) ≡ open_count t os
 count_copied t u heard [] = refl
 count_copied t u heard (o ∷ os) = step (same_ticket u o.ticket) (count_copied t u heard os)
   where
     test : OpenTicket → Bool
     test x = same_ticket t x.ticket
 
-    step : (b : Bool) → open_count t (copied u heard os) ≡ open_count t os →
-        open_count t (cond {A = List OpenTicket} b ((record o { copies = o.copies ++ heard ∷ [] }) ∷ os) (o ∷ copied u heard os)) ≡ open_count t (o ∷ os)
+    step : (b : Bool) → open_count t (tickets_after_copy u heard os) ≡ open_count t os →
+        open_count t (cond {A = List OpenTicket} b ((record o { copies = with_one_more heard o.copies }) ∷ os) (o ∷ tickets_after_copy u heard os)) ≡ open_count t (o ∷ os)
     step true ih =
-        count-cons (λ (x : OpenTicket). same_ticket t x.ticket) (record o { copies = o.copies ++ heard ∷ [] }) os ∙ sym (count-cons (λ (x : OpenTicket). same_ticket t x.ticket) o os)
+        count-cons (λ (x : OpenTicket). same_ticket t x.ticket) (record o { copies = with_one_more heard o.copies }) os ∙ sym (count-cons (λ (x : OpenTicket). same_ticket t x.ticket) o os)
     step false ih =
-        count-cons (λ (x : OpenTicket). same_ticket t x.ticket) o (copied u heard os)
+        count-cons (λ (x : OpenTicket). same_ticket t x.ticket) o (tickets_after_copy u heard os)
         ∙ (ap (λ n. cond (same_ticket t o.ticket) 1 0 + n) ih ∙ sym (count-cons (λ (x : OpenTicket). same_ticket t x.ticket) o os))
 
 -- a ticket that is there is one fewer without it
@@ -138,8 +138,8 @@ count_less t u (o ∷ os) = step (same_ticket u o.ticket) (count_less t u os)
 InStep : Ticket → StateCall → DeviceRecord → Type 0
 InStep t c r = cond (answers t c r) 1 0 + open_count t (after_call c r).tickets ≤ cond (asks t c r) 1 0 + open_count t r.tickets
 
-ask_in_step : (t u : Ticket) (heard : Heard) (r : DeviceRecord) (take : JoinTake) → open_count t (with_join take u heard r).tickets ≤ cond (same_ticket t u && is_asked take) 1 0 + open_count t r.tickets
-ask_in_step t u heard r join.Asked = step (same_ticket t u) (count_one t u heard r.tickets)
+ask_in_step : (t u : Ticket) (heard : Heard) (r : DeviceRecord) (decision : JoinDecision) → open_count t (with_join decision u heard r).tickets ≤ cond (same_ticket t u && is_asked decision) 1 0 + open_count t r.tickets
+ask_in_step t u heard r join.Ask = step (same_ticket t u) (count_one t u heard r.tickets)
   where
     step : (b : Bool) → open_count t (r.tickets ++ one_copy u heard ∷ []) ≡ open_count t r.tickets + (cond b 1 0 + 0) → open_count t (r.tickets ++ one_copy u heard ∷ []) ≤ cond (b && true) 1 0 + open_count t r.tickets
     step true is = omega (arith, is)
@@ -150,19 +150,19 @@ ask_in_step t u heard r (join.Old greatest) = omega arith
 ask_in_step t u heard r join.Busy = omega arith
 
 -- an answer other than NoTicket is to an open ticket
-answered_open : (found : Option OpenTicket) (o : Outcome) (spent : Option ℕ) (next : ℕ) → is_answered (reply_take_by found (is_failed o) spent next) ≡ true → is_some found ≡ true
+answered_open : (found : Option OpenTicket) (o : Outcome) (spent : Option ℕ) (next : ℕ) → is_answered (answer_decision_by found (is_failed o) spent next) ≡ true → is_some found ≡ true
 answered_open None o spent next is = absurd (cc is)
 answered_open (Some x) o spent next is = refl
 
 -- an answer takes its ticket out of the open tickets
-tickets_after : (take : ReplyTake) (t : Ticket) (o : Outcome) (r : DeviceRecord) → (with_reply take t o r).tickets ≡ without t r.tickets
+tickets_after : (decision : AnswerDecision) (t : Ticket) (o : Outcome) (r : DeviceRecord) → (with_reply decision t o r).tickets ≡ without t r.tickets
 tickets_after answer.NoTicket t o r = refl
 tickets_after answer.Refused t o r = refl
 tickets_after (answer.Stale greatest) t o r = refl
 tickets_after (answer.Accepted session heard) t outcome.Failed r = refl
 tickets_after (answer.Accepted session heard) t (outcome.Success j) r = refl
 
-answer_in_step : (t u : Ticket) (o : Outcome) (r : DeviceRecord) (b c : Bool) → same_ticket t u ≡ b → is_answered (reply_take r u o) ≡ c →
+answer_in_step : (t u : Ticket) (o : Outcome) (r : DeviceRecord) (b c : Bool) → same_ticket t u ≡ b → is_answered (answer_decision r u o) ≡ c →
     cond (b && c) 1 0 + open_count t (without u r.tickets) ≤ 0 + open_count t r.tickets
 answer_in_step t u o r true true same is =
     let open_one : is_some (ticket_in r u) ≡ true = answered_open (ticket_in r u) o (spent_in r u) r.next_session is in
@@ -174,12 +174,12 @@ answer_in_step t u o r false c same is = (let less = count_less t u r.tickets in
 
 in_step : (t : Ticket) (c : StateCall) (r : DeviceRecord) → InStep t c r
 unfolding InStep
-in_step t (Ask u heard) r = (let more = ask_in_step t u heard r (join_take r u) in omega (arith, more))
-in_step t (Take session counter) r = omega arith
+in_step t (Ask u heard) r = (let more = ask_in_step t u heard r (join_decision r u) in omega (arith, more))
+in_step t (Open session counter) r = omega arith
 in_step t (NextAck session) r = omega arith
 in_step t (Answer u o) r =
-    let less = answer_in_step t u o r (same_ticket t u) (is_answered (reply_take r u o)) refl refl in
-    let after : open_count t (with_reply (reply_take r u o) u o r).tickets ≡ open_count t (without u r.tickets) = ap (open_count t) (tickets_after (reply_take r u o) u o r) in
+    let less = answer_in_step t u o r (same_ticket t u) (is_answered (answer_decision r u o)) refl refl in
+    let after : open_count t (with_reply (answer_decision r u o) u o r).tickets ≡ open_count t (without u r.tickets) = ap (open_count t) (tickets_after (answer_decision r u o) u o r) in
     omega (arith, less, after)
 
 answered_from : (t : Ticket) (r : DeviceRecord) (calls : List StateCall) → times_answered t r calls ≤ times_asked t r calls + open_count t r.tickets
@@ -190,8 +190,9 @@ answered_from t r (c ∷ calls) =
     let rest = answered_from t (after_call c r) calls in
     omega (arith, now, rest)
 
-pub joins_in_turn : (calls : List StateCall) → JoinsInTurn calls
-joins_in_turn calls = record {
-  nonces_rise = (nonces_from no_joins calls).1;
-  answered_once = λ t. (let most = answered_from t no_joins calls in omega (arith, most));
+pub joins_in_turn : (last : Option ℕ) (calls : List StateCall) → JoinsInTurn last calls
+joins_in_turn last calls = record {
+  nonces_above = (nonces_from (no_joins last) calls).0;
+  nonces_rise = (nonces_from (no_joins last) calls).1;
+  answered_once = λ t. (let most = answered_from t (no_joins last) calls in omega (arith, most));
 }

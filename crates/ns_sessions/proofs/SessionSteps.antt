@@ -8,7 +8,7 @@ use Rattle.std.proofs.lemmas.Bool.Decides.{nat_tests}
 use Rattle.ns_calls.specs.History.{first_and_other}
 use Rattle.ns_calls.proofs.LocalLemmas.{bool_tells}
 use Rattle.ns_sessions.specs.declared.session.Session.{Session}
-use Rattle.ns_sessions.specs.Record.{opened, used_ack, acknowledged}
+use Rattle.ns_sessions.specs.Record.{sessions_after_uplink, session_after_ack, sessions_after_ack}
 use Rattle.ns_sessions.proofs.Sessions.{Numbered, AreApart, same_on, others_same}
 use Rattle.ns_sessions.proofs.Basics.{or_last}
 
@@ -25,7 +25,7 @@ number_test s x y b number is = ap (λ n. n == s) number ∙ is
 
 -- an opening in session s
 pub opened_from : (f g : ℕ → Option Session) (s counter : ℕ) (r : Session) → Numbered f → ((n : ℕ) → (n == s) ≡ false → f n ≡ g n) → f s ≡ Some r → g s ≡ Some (with_counter counter r) →
-    (xs : List ℕ) → AreApart xs → filter_map g (from s xs) ≡ opened s counter (filter_map f xs)
+    (xs : List ℕ) → AreApart xs → filter_map g (from s xs) ≡ sessions_after_uplink s counter (filter_map f xs)
 opened_from f g s counter r numbered same was now [] apart = refl
 opened_from f g s counter r numbered same was now (x ∷ xs) apart =
     let after : List Session = filter_map f xs in
@@ -38,16 +38,16 @@ opened_from f g s counter r numbered same was now (x ∷ xs) apart =
           ap (filter_map g) (ap (λ b. cond {A = List ℕ} b (x ∷ xs) (from s xs)) here)
           ∙ (ap (λ o. cons_option o (filter_map g xs)) (ap g is ∙ now)
           ∙ (ap (λ ys. with_counter counter r ∷ ys) rest
-          ∙ (sym (ap (λ b. cond {A = List Session} b (with_counter counter r ∷ after) (opened s counter after)) (number_test s x r true number here))
-          ∙ sym (ap (λ o. opened s counter (cons_option o after)) (ap f is ∙ was))))))
+          ∙ (sym (ap (λ b. cond {A = List Session} b (with_counter counter r ∷ after) (sessions_after_uplink s counter after)) (number_test s x r true number here))
+          ∙ sym (ap (λ o. sessions_after_uplink s counter (cons_option o after)) (ap f is ∙ was))))))
       | inr there ↦
           ap (filter_map g) (ap (λ b. cond {A = List ℕ} b (x ∷ xs) (from s xs)) there)
           ∙ (opened_from f g s counter r numbered same was now xs apart.1 ∙ sym (skipped (f x) (numbered x) there))
     ]
   where
-    skipped : (o : Option Session) → IfSome o (λ y. y.number ≡ x) → (x == s) ≡ false → opened s counter (cons_option o (filter_map f xs)) ≡ opened s counter (filter_map f xs)
+    skipped : (o : Option Session) → IfSome o (λ y. y.number ≡ x) → (x == s) ≡ false → sessions_after_uplink s counter (cons_option o (filter_map f xs)) ≡ sessions_after_uplink s counter (filter_map f xs)
     skipped None number differs = refl
-    skipped (Some y) number differs = ap (λ b. cond {A = List Session} b (with_counter counter y ∷ filter_map f xs) (opened s counter (filter_map f xs))) (number_test s x y false number differs)
+    skipped (Some y) number differs = ap (λ b. cond {A = List Session} b (with_counter counter y ∷ filter_map f xs) (sessions_after_uplink s counter (filter_map f xs))) (number_test s x y false number differs)
 
 -- the session of the last opening comes first
 pub live_opened : (a b : Option ℕ) (s : ℕ) → list_any (λ n. n == s) (first_and_other a b) ≡ true → first_and_other (Some s) b ≡ from s (first_and_other a b)
@@ -89,8 +89,8 @@ live_opened (Some x) (Some y) s lives =
     kept false here = ap (λ b. cond {A = List ℕ} b (x ∷ y ∷ []) (from s (y ∷ []))) here
 
 -- a closing with a number in session s
-pub acknowledged_in : (f g : ℕ → Option Session) (s : ℕ) → Numbered f → ((n : ℕ) → (n == s) ≡ false → f n ≡ g n) → g s ≡ option_map used_ack (f s) →
-    (xs : List ℕ) → AreApart xs → filter_map g xs ≡ acknowledged s (filter_map f xs)
+pub acknowledged_in : (f g : ℕ → Option Session) (s : ℕ) → Numbered f → ((n : ℕ) → (n == s) ≡ false → f n ≡ g n) → g s ≡ option_map session_after_ack (f s) →
+    (xs : List ℕ) → AreApart xs → filter_map g xs ≡ sessions_after_ack s (filter_map f xs)
 acknowledged_in f g s numbered same now [] apart = refl
 acknowledged_in f g s numbered same now (x ∷ xs) apart =
     let after : List Session = filter_map f xs in
@@ -99,27 +99,27 @@ acknowledged_in f g s numbered same now (x ∷ xs) apart =
           (let is : x ≡ s = grind (arith, nat_tests) in
           let others : AllByRecursion (λ n. (n == s) ≡ false) xs = subst (λ m. AllByRecursion (λ n. (n == m) ≡ false) xs) is apart.0 in
           let rest : filter_map g xs ≡ after = sym (same_on f g xs (others_same f g s same xs others)) in
-          let used : g x ≡ option_map used_ack (f x) = ap g is ∙ (now ∙ ap (λ n. option_map used_ack (f n)) (sym is)) in
+          let used : g x ≡ option_map session_after_ack (f x) = ap g is ∙ (now ∙ ap (λ n. option_map session_after_ack (f n)) (sym is)) in
           ap (λ ys. cons_option (g x) ys) rest ∙ (ap (λ o. cons_option o after) used ∙ hit (f x) (numbered x) here (none_there xs others)))
-      | inr there ↦ ap (λ ys. cons_option (g x) ys) (acknowledged_in f g s numbered same now xs apart.1) ∙ (ap (λ o. cons_option o (acknowledged s after)) (sym (same x there)) ∙ missed (f x) (numbered x) there)
+      | inr there ↦ ap (λ ys. cons_option (g x) ys) (acknowledged_in f g s numbered same now xs apart.1) ∙ (ap (λ o. cons_option o (sessions_after_ack s after)) (sym (same x there)) ∙ missed (f x) (numbered x) there)
     ]
   where
-    missed : (o : Option Session) → IfSome o (λ y. y.number ≡ x) → (x == s) ≡ false → cons_option o (acknowledged s (filter_map f xs)) ≡ acknowledged s (cons_option o (filter_map f xs))
+    missed : (o : Option Session) → IfSome o (λ y. y.number ≡ x) → (x == s) ≡ false → cons_option o (sessions_after_ack s (filter_map f xs)) ≡ sessions_after_ack s (cons_option o (filter_map f xs))
     missed None number differs = refl
-    missed (Some y) number differs = sym (ap (λ b. cond {A = List Session} b (used_ack y ∷ filter_map f xs) (y ∷ acknowledged s (filter_map f xs))) (number_test s x y false number differs))
+    missed (Some y) number differs = sym (ap (λ b. cond {A = List Session} b (session_after_ack y ∷ filter_map f xs) (y ∷ sessions_after_ack s (filter_map f xs))) (number_test s x y false number differs))
 
-    hit : (o : Option Session) → IfSome o (λ y. y.number ≡ x) → (x == s) ≡ true → acknowledged s (filter_map f xs) ≡ filter_map f xs → cons_option (option_map used_ack o) (filter_map f xs) ≡ acknowledged s (cons_option o (filter_map f xs))
+    hit : (o : Option Session) → IfSome o (λ y. y.number ≡ x) → (x == s) ≡ true → sessions_after_ack s (filter_map f xs) ≡ filter_map f xs → cons_option (option_map session_after_ack o) (filter_map f xs) ≡ sessions_after_ack s (cons_option o (filter_map f xs))
     hit None number here none = sym none
-    hit (Some y) number here none = sym (ap (λ b. cond {A = List Session} b (used_ack y ∷ filter_map f xs) (y ∷ acknowledged s (filter_map f xs))) (number_test s x y true number here))
+    hit (Some y) number here none = sym (ap (λ b. cond {A = List Session} b (session_after_ack y ∷ filter_map f xs) (y ∷ sessions_after_ack s (filter_map f xs))) (number_test s x y true number here))
 
-    none_there : (ys : List ℕ) → AllByRecursion (λ n. (n == s) ≡ false) ys → acknowledged s (filter_map f ys) ≡ filter_map f ys
+    none_there : (ys : List ℕ) → AllByRecursion (λ n. (n == s) ≡ false) ys → sessions_after_ack s (filter_map f ys) ≡ filter_map f ys
     none_there [] others = refl
     none_there (y ∷ ys) others = other_one y (f y) (numbered y) others.0 (filter_map f ys) (none_there ys others.1)
       where
-        other_one : (y : ℕ) (o : Option Session) → IfSome o (λ z. z.number ≡ y) → (y == s) ≡ false → (rest : List Session) → acknowledged s rest ≡ rest → acknowledged s (cons_option o rest) ≡ cons_option o rest
+        other_one : (y : ℕ) (o : Option Session) → IfSome o (λ z. z.number ≡ y) → (y == s) ≡ false → (rest : List Session) → sessions_after_ack s rest ≡ rest → sessions_after_ack s (cons_option o rest) ≡ cons_option o rest
         other_one y None number differs rest later = later
         other_one y (Some z) number differs rest later =
-            ap (λ b. cond {A = List Session} b (used_ack z ∷ rest) (z ∷ acknowledged s rest)) (number_test s y z false number differs) ∙ ap (λ zs. z ∷ zs) later
+            ap (λ b. cond {A = List Session} b (session_after_ack z ∷ rest) (z ∷ sessions_after_ack s rest)) (number_test s y z false number differs) ∙ ap (λ zs. z ∷ zs) later
 
 -- ---- a join that is accepted
 

@@ -12,7 +12,6 @@ use Rattle.ns_calls.specs.History.{Acceptance, Opening, Closing, first_and_other
 use Rattle.ns_calls.proofs.LocalLemmas.{bool_tells}
 use Rattle.ns_calls.proofs.QueryLemmas.{maximum-push}
 use Rattle.ns_sessions.specs.declared.session.Session.{Session}
-use Rattle.ns_sessions.specs.Record.{opened}
 use Rattle.ns_sessions.proofs.Basics.{greater-none}
 
 -- ---- a device's sessions, from its acceptances, openings and closings

@@ -1,5 +1,5 @@
 -- The first ticket of equal bytes in a list.
-use Rattle.std.proofs.Common.{◌≡◌, ℕ, zero, suc, ◌+◌, ◌<◌, Bool, true, false, cond, List, [], ◌∷◌, ◌++◌, nat_le, length, set, get_or, Option, None, Some, refl, sym, ap, subst, ◌∙◌, arith}
+use Rattle.std.proofs.Common.{◌≡◌, ℕ, zero, suc, ◌+◌, ◌<◌, Bool, true, false, cond, List, [], ◌∷◌, nat_le, length, set, get_or, Option, None, Some, refl, sym, ap, subst, ◌∙◌, arith}
 use Rattle.std.specs.List.{position, position_from, remove}
 use Rattle.std.proofs.lemmas.List.Quantifiers.{position-Some}
 use Rattle.std.proofs.lemmas.Iterator.Adapters.{position_from-zero}
@@ -7,10 +7,11 @@ use Rattle.ns_types.specs.declared.heard.Heard.{Heard}
 use Rattle.ns_types.specs.declared.ticket.Ticket.{Ticket}
 use Rattle.ns_calls.specs.History.{same_ticket}
 use Rattle.ns_sessions.specs.declared.ticket.OpenTicket.{OpenTicket}
-use Rattle.ns_sessions.specs.declared.take.JoinTake.{JoinTake}
-use Rattle.ns_sessions.specs.declared.take.JoinTake.TheVariants as join
+use Rattle.ns_sessions.specs.declared.decision.JoinDecision.{JoinDecision}
+use Rattle.ns_sessions.specs.declared.decision.JoinDecision.TheVariants as join
 use Rattle.ns_calls.specs.Reply.{most_copies}
-use Rattle.ns_sessions.specs.Record.{ticket_among, copy_take, with_copy, copied, asked, without}
+use Rattle.ns_sessions.specs.Copies.{with_one_more}
+use Rattle.ns_sessions.specs.Record.{ticket_among, copy_decision, with_copy, tickets_after_copy, tickets_after_join, without}
 
 abbrev pub is_of : Ticket → OpenTicket → Bool
 is_of t o = same_ticket t o.ticket
@@ -51,14 +52,14 @@ among-first t [] i o at = absurd at
 among-first t (x ∷ xs) zero o at = ap (λ b. cond {A = Option OpenTicket} b (Some x) (ticket_among t xs)) at.1 ∙ ap Some at.0
 among-first t (x ∷ xs) (suc i) o at = ap (λ b. cond {A = Option OpenTicket} b (Some x) (ticket_among t xs)) at.0 ∙ among-first t xs i o at.1
 
-copied-first : (t : Ticket) (heard : Heard) (xs : List OpenTicket) (i : ℕ) (o : OpenTicket) → FirstAt t xs i o → set xs i (record o { copies = o.copies ++ heard ∷ [] }) ≡ copied t heard xs
+copied-first : (t : Ticket) (heard : Heard) (xs : List OpenTicket) (i : ℕ) (o : OpenTicket) → FirstAt t xs i o → set xs i (record o { copies = with_one_more heard o.copies }) ≡ tickets_after_copy t heard xs
 copied-first t heard [] i o at = absurd at
 copied-first t heard (x ∷ xs) zero o at =
-    let more : OpenTicket → OpenTicket = λ y. record y { copies = y.copies ++ heard ∷ [] } in
-    ap (λ y. more y ∷ xs) (sym at.0) ∙ sym (ap (λ b. cond {A = List OpenTicket} b (more x ∷ xs) (x ∷ copied t heard xs)) at.1)
+    let more : OpenTicket → OpenTicket = λ y. record y { copies = with_one_more heard y.copies } in
+    ap (λ y. more y ∷ xs) (sym at.0) ∙ sym (ap (λ b. cond {A = List OpenTicket} b (more x ∷ xs) (x ∷ tickets_after_copy t heard xs)) at.1)
 copied-first t heard (x ∷ xs) (suc i) o at =
-    let more : OpenTicket → OpenTicket = λ y. record y { copies = y.copies ++ heard ∷ [] } in
-    ap (λ ys. x ∷ ys) (copied-first t heard xs i o at.1) ∙ sym (ap (λ b. cond {A = List OpenTicket} b (more x ∷ xs) (x ∷ copied t heard xs)) at.0)
+    let more : OpenTicket → OpenTicket = λ y. record y { copies = with_one_more heard y.copies } in
+    ap (λ ys. x ∷ ys) (copied-first t heard xs i o at.1) ∙ sym (ap (λ b. cond {A = List OpenTicket} b (more x ∷ xs) (x ∷ tickets_after_copy t heard xs)) at.0)
 
 same-first : (t : Ticket) (xs : List OpenTicket) (i : ℕ) (o : OpenTicket) → FirstAt t xs i o → set xs i o ≡ xs
 same-first t [] i o at = absurd at
@@ -66,11 +67,11 @@ same-first t (x ∷ xs) zero o at = ap (λ y. y ∷ xs) (sym at.0)
 same-first t (x ∷ xs) (suc i) o at = ap (λ ys. x ∷ ys) (same-first t xs i o at.1)
 
 -- what came of one more copy of the ticket that stands there
-pub asked-first : (take : JoinTake) (t : Ticket) (heard : Heard) (xs : List OpenTicket) (i : ℕ) (o : OpenTicket) → FirstAt t xs i o → take ≡ copy_take o →
-    set xs i (with_copy take heard o) ≡ asked take t heard xs
-asked-first take t heard xs i o at is = subst (λ k. set xs i (with_copy k heard o) ≡ asked k t heard xs) (sym is) (step (nat_le (length o.copies + 1) most_copies))
+pub asked-first : (decision : JoinDecision) (t : Ticket) (heard : Heard) (xs : List OpenTicket) (i : ℕ) (o : OpenTicket) → FirstAt t xs i o → decision ≡ copy_decision o →
+    set xs i (with_copy decision heard o) ≡ tickets_after_join decision t heard xs
+asked-first decision t heard xs i o at is = subst (λ k. set xs i (with_copy k heard o) ≡ tickets_after_join k t heard xs) (sym is) (step (nat_le (o.copies.count + 1) most_copies))
   where
-    step : (b : Bool) → let k : JoinTake = cond b (join.Copied (length o.copies + 1)) join.Crowded in set xs i (with_copy k heard o) ≡ asked k t heard xs
+    step : (b : Bool) → let k : JoinDecision = cond b (join.Copied (o.copies.count + 1)) join.Crowded in set xs i (with_copy k heard o) ≡ tickets_after_join k t heard xs
     step true = copied-first t heard xs i o at
     step false = same-first t xs i o at
 

@@ -22,22 +22,22 @@ use Rattle.ns_calls.specs.declared.call.Reply.{Reply}
 use Rattle.ns_calls.specs.declared.call.Reply.TheVariants as reply
 use Rattle.ns_calls.specs.declared.call.Entry.{Entry}
 use Rattle.ns_calls.specs.Queries.{first, greater}
-use Rattle.ns_calls.specs.History.{Acceptance, Opening, Closing, asking_in, ending_in, ticket_copy_in, acceptances, openings, closings, same_device, session_join, greatest_counter, next_ack_number, live, is_live, first_and_other}
+use Rattle.ns_calls.specs.History.{Acceptance, Opening, Closing, asking_in, ending_in, ticket_copy_in, acceptances, openings, closings, same_device, session_join, greatest_counter, next_ack_number, live, is_live, first_and_other, last_nonce}
 use Rattle.ns_calls.specs.Reply as plain
-use Rattle.ns_calls.specs.Reply.{window_of, ack_number}
+use Rattle.ns_calls.specs.Reply.{Fit, fit_of, fitting_counter, ack_number}
 use Rattle.ns_calls.specs.Legal.{IsLegal}
 use Rattle.ns_calls.proofs.LocalLemmas.{bool_tells}
 use Rattle.ns_calls.proofs.QueryLemmas.{last-push}
 use Rattle.ns_calls.proofs.PushLemmas.{acceptances-push, openings-push, closings-push}
 use Rattle.ns_calls.proofs.KeyLemmas.{sessions_have_joins}
 use Rattle.ns_sessions.specs.declared.session.Session.{Session}
-use Rattle.ns_sessions.specs.Record.{device_record, session_record, session_in, session_fit, IsNewCounter, with_uplink, opened, session_ack, used_ack, ack_in, with_ack, acknowledged}
+use Rattle.ns_sessions.specs.Record.{device_record, session_record, session_in, session_fit, IsNewCounter, with_uplink, sessions_after_uplink, session_ack, session_after_ack, ack_in, with_ack, sessions_after_ack, no_joins}
 use Rattle.ns_sessions.specs.Laws.{entry_of, concerns, OthersStay, UplinksAgree, ClosingsAgree}
 use Rattle.ns_sessions.proofs.Sessions.{join_by, counter_by, greatest_ack_by, next_ack_by, session_of, session_by, active_by, newest_by, sessions_by, counter-push, ack-push, session_by-numbered, live-apart, found_by_number}
 use Rattle.ns_sessions.proofs.SessionSteps.{from, opened_from, live_opened, acknowledged_in}
 use Rattle.ns_sessions.proofs.Records.{tickets_said, record_by, record_said, sessions_said, one_added, sessions_stay, acceptances_stay}
 use Rattle.ns_sessions.proofs.OpenTickets.{IsQuiet, tickets_stay, same_device-refl}
-use Rattle.ns_sessions.proofs.Basics.{exceeds_greater}
+use Rattle.ns_sessions.proofs.Basics.{exceeds_greater, greater-none}
 
 -- ---- entries that do not concern a device
 
@@ -62,11 +62,11 @@ record_stays net h e eui other =
     let joins = acceptances_stay h e eui other in
     let sessions = sessions_stay h e eui other in
     let tickets = tickets_stay h e eui quiet in
-    record_said net (h ++ e ∷ []) eui ∙ (λ i. record_by (joins i) (sessions i) (tickets i)) ∙ sym (record_said net h eui)
+    record_said net (h ++ e ∷ []) eui ∙ (λ i. record_by (last_nonce net eui) (joins i) (sessions i) (tickets i)) ∙ sym (record_said net h eui)
 
 pub others_stay : OthersStay
 unfolding device_record
-others_stay = record { none = λ net eui. refl; others = record_stays }
+others_stay = record { none = λ net eui. ap no_joins (greater-none (last_nonce net eui)); others = record_stays }
 
 -- ---- what fits
 
@@ -75,41 +75,32 @@ first-cons None xs = refl
 first-cons (Some x) xs = refl
 
 -- the first that is found, one element at a time
-fit_next : (eui : DevEui) (o : Option (ℕ × ℕ)) (p : Option WindowName) (rest : List (ℕ × ℕ)) (windows : List WindowName) →
-    option_map (λ w. window_of eui w.0 w.1) o ≡ p → option_map (λ w. window_of eui w.0 w.1) (first rest) ≡ first windows →
-    option_map (λ w. window_of eui w.0 w.1) (first (cons_option o rest)) ≡ first (cons_option p windows)
-fit_next eui None p rest windows here later = later ∙ ap (λ q. first (cons_option q windows)) here
-fit_next eui (Some w) p rest windows here later = ap (λ q. first (cons_option q windows)) here
+fit_next : (eui : DevEui) (o : Option (ℕ × ℕ)) (p : Option Fit) (rest : List (ℕ × ℕ)) (fits : List Fit) →
+    option_map (λ f. fit_of eui f.0 f.1) o ≡ p → option_map (λ f. fit_of eui f.0 f.1) (first rest) ≡ first fits →
+    option_map (λ f. fit_of eui f.0 f.1) (first (cons_option o rest)) ≡ first (cons_option p fits)
+fit_next eui None p rest fits here later = later ∙ ap (λ q. first (cons_option q fits)) here
+fit_next eui (Some f) p rest fits here later = ap (λ q. first (cons_option q fits)) here
 
 mapped_next : (f : Session → Option (ℕ × ℕ)) (o : Option Session) (rest : List Session) → filter_map f (cons_option o rest) ≡ cons_option (option_and_then f o) (filter_map f rest)
 mapped_next f None rest = refl
 mapped_next f (Some s) rest = refl
 
 one_fit : (recover : Option ℕ → ℕ → Option ℕ) (frame : List ℕ) (eui : DevEui) (n : ℕ) (greatest : Option ℕ) (ack : ℕ) (joined : Option JoinAns) →
-    option_map (λ (w : ℕ × ℕ). window_of eui w.0 w.1) (option_and_then (session_fit recover frame) (option_map (session_of n greatest ack) joined))
-    ≡ option_and_then (λ counter. when (option_map_or (λ (j : JoinAns). mic_fits frame j.nwk.0 counter) joined false) (window_of eui n counter)) (recover greatest (data_fields frame).fcnt16)
-one_fit recover frame eui n greatest ack None = step (recover greatest (data_fields frame).fcnt16)
+    option_map (λ (f : ℕ × ℕ). fit_of eui f.0 f.1) (option_and_then (session_fit recover frame) (option_map (session_of n greatest ack) joined))
+    ≡ option_map (fit_of eui n) (option_and_then (λ (j : JoinAns). fitting_counter recover frame j.nwk greatest) joined)
+one_fit recover frame eui n greatest ack None = refl
+one_fit recover frame eui n greatest ack (Some j) = step (fitting_counter recover frame j.nwk greatest)
   where
-    step : (o : Option ℕ) → None ≡ option_and_then (λ counter. when false (window_of eui n counter)) o
+    step : (o : Option ℕ) → option_map (λ (f : ℕ × ℕ). fit_of eui f.0 f.1) (option_map (λ counter. (n, counter)) o) ≡ option_map (fit_of eui n) o
     step None = refl
     step (Some counter) = refl
-one_fit recover frame eui n greatest ack (Some j) = step (recover greatest (data_fields frame).fcnt16)
-  where
-    test : (counter : ℕ) (b : Bool) → option_map (λ (w : ℕ × ℕ). window_of eui w.0 w.1) (when b (n, counter)) ≡ when b (window_of eui n counter)
-    test counter true = refl
-    test counter false = refl
-
-    step : (o : Option ℕ) → option_map (λ (w : ℕ × ℕ). window_of eui w.0 w.1) (option_and_then (λ counter. when (mic_fits frame j.nwk.0 counter) (n, counter)) o)
-        ≡ option_and_then (λ counter. when (mic_fits frame j.nwk.0 counter) (window_of eui n counter)) o
-    step None = refl
-    step (Some counter) = test counter (mic_fits frame j.nwk.0 counter)
 
 fits_in : (recover : Option ℕ → ℕ → Option ℕ) (h : List Entry) (frame : List ℕ) (eui : DevEui) (ns : List ℕ) →
-    option_map (λ w. window_of eui w.0 w.1) (first (filter_map (session_fit recover frame) (filter_map (session_record h eui) ns))) ≡ first (filter_map (plain.session_fit recover h frame eui) ns)
+    option_map (λ f. fit_of eui f.0 f.1) (first (filter_map (session_fit recover frame) (filter_map (session_record h eui) ns))) ≡ first (filter_map (plain.session_fit recover h frame eui) ns)
 fits_in recover h frame eui [] = refl
 fits_in recover h frame eui (n ∷ ns) =
     let joins : List Acceptance = acceptances h eui in
-    ap (λ ws. option_map (λ (w : ℕ × ℕ). window_of eui w.0 w.1) (first ws)) (mapped_next (session_fit recover frame) (session_record h eui n) (filter_map (session_record h eui) ns))
+    ap (λ fs. option_map (λ (f : ℕ × ℕ). fit_of eui f.0 f.1) (first fs)) (mapped_next (session_fit recover frame) (session_record h eui n) (filter_map (session_record h eui) ns))
     ∙ fit_next eui (option_and_then (session_fit recover frame) (session_record h eui n)) (plain.session_fit recover h frame eui n)
     (filter_map (session_fit recover frame) (filter_map (session_record h eui) ns)) (filter_map (plain.session_fit recover h frame eui) ns)
     (one_fit recover frame eui n (greatest_counter h eui n) (next_ack_by (greatest_ack_by (closings h eui) n)) (session_join h eui n))
@@ -123,7 +114,7 @@ found_live true o counter is = refl
 found_live false o counter is = absurd is
 
 new_sessions : (joins : List Acceptance) (os : List Opening) (cs : List Closing) (o : Opening) → IsNewCounter (find (λ s. s.number == o.window.session) (sessions_by joins os cs)) o.window.fcnt →
-    opened o.window.session o.window.fcnt (sessions_by joins os cs) ≡ sessions_by joins (os ++ o ∷ []) cs
+    sessions_after_uplink o.window.session o.window.fcnt (sessions_by joins os cs) ≡ sessions_by joins (os ++ o ∷ []) cs
 new_sessions joins os cs o new =
     let s : ℕ = o.window.session in
     let ns : List ℕ = first_and_other (active_by os) (newest_by joins) in
@@ -143,7 +134,7 @@ new_sessions joins os cs o new =
 
     step : (j : Option JoinAns) → join_by joins o.window.session ≡ j →
         IsNewCounter (option_map (session_of o.window.session (counter_by os o.window.session) (next_ack_by (greatest_ack_by cs o.window.session))) j) o.window.fcnt →
-        filter_map (session_by joins (os ++ o ∷ []) cs) (from o.window.session (first_and_other (active_by os) (newest_by joins))) ≡ opened o.window.session o.window.fcnt (sessions_by joins os cs)
+        filter_map (session_by joins (os ++ o ∷ []) cs) (from o.window.session (first_and_other (active_by os) (newest_by joins))) ≡ sessions_after_uplink o.window.session o.window.fcnt (sessions_by joins os cs)
     step None is above = absurd above
     step (Some j) is above =
         let s : ℕ = o.window.session in
@@ -170,8 +161,8 @@ uplink_opened net h number frame heard w new =
     subst (λ ss. IsNewCounter (find (λ s. s.number == w.session) ss) w.fcnt) (sessions_said net h w.eui) new in
     let sessions = new_sessions (acceptances h w.eui) (openings h w.eui) (closings h w.eui) o known in
     ap (with_uplink w.session w.fcnt) (record_said net h w.eui)
-    ∙ (λ i. record_by (acceptances h w.eui) (sessions i) (tickets_said h w.eui))
-    ∙ sym (record_said net (h ++ e ∷ []) w.eui ∙ (λ i. record_by (joins i) (sessions_by (joins i) (os i) (cs i)) (tickets i)))
+    ∙ (λ i. record_by (last_nonce net w.eui) (acceptances h w.eui) (sessions i) (tickets_said h w.eui))
+    ∙ sym (record_said net (h ++ e ∷ []) w.eui ∙ (λ i. record_by (last_nonce net w.eui) (joins i) (sessions_by (joins i) (os i) (cs i)) (tickets i)))
 
 -- ---- an acknowledgement
 
@@ -191,7 +182,7 @@ ack_known true (Some j) s counter ack n is = step (nat_lt ack (2 ^ 32)) refl is
     step false fits some = absurd (cc some)
 
 used_one : (s : ℕ) (counter : Option ℕ) (ack n next : ℕ) (j : Option JoinAns) → nat_lt ack (2 ^ 32) ≡ true → ack ≡ n → next ≡ n + 1 →
-    option_map (session_of s counter next) j ≡ option_map used_ack (option_map (session_of s counter ack) j)
+    option_map (session_of s counter next) j ≡ option_map session_after_ack (option_map (session_of s counter ack) j)
 used_one s counter ack n next None fits is more = refl
 used_one s counter ack n next (Some j) fits is more =
     let up : next ≡ ack + 1 = more ∙ ap (λ m. m + 1) (sym is) in
@@ -199,7 +190,7 @@ used_one s counter ack n next (Some j) fits is more =
 
 acked_sessions : (joins : List Acceptance) (os : List Opening) (cs : List Closing) (w : WindowName) (n : ℕ) →
     option_and_then session_ack (find (λ s. s.number == w.session) (sessions_by joins os cs)) ≡ Some n →
-    acknowledged w.session (sessions_by joins os cs) ≡ sessions_by joins os (cs ++ (record { window = w; ack = Some n }) ∷ [])
+    sessions_after_ack w.session (sessions_by joins os cs) ≡ sessions_by joins os (cs ++ (record { window = w; ack = Some n }) ∷ [])
 acked_sessions joins os cs w n is =
     let c : Closing = record { window = w; ack = Some n } in
     let s : ℕ = w.session in
@@ -209,7 +200,7 @@ acked_sessions joins os cs w n is =
     let passes : (s == s) ≡ true = grind (arith, nat_tests) in
     let greatest : greatest_ack_by (cs ++ c ∷ []) s ≡ greater (greatest_ack_by cs s) (Some n) = ack-push cs c s ∙ ap (λ b. cond b (greater (greatest_ack_by cs s) (Some n)) (greatest_ack_by cs s)) passes in
     let next : next_ack_by (greatest_ack_by (cs ++ c ∷ []) s) ≡ n + 1 = ap next_ack_by greatest ∙ next_after (greatest_ack_by cs s) n known.1 in
-    let now : session_by joins os (cs ++ c ∷ []) s ≡ option_map used_ack (session_by joins os cs s) =
+    let now : session_by joins os (cs ++ c ∷ []) s ≡ option_map session_after_ack (session_by joins os cs s) =
     used_one s (counter_by os s) (next_ack_by (greatest_ack_by cs s)) n (next_ack_by (greatest_ack_by (cs ++ c ∷ []) s)) (join_by joins s) known.0 known.1 next in
     sym (acknowledged_in (session_by joins os cs) (session_by joins os (cs ++ c ∷ [])) s (session_by-numbered joins os cs) apart_from now ns (live-apart (active_by os) (newest_by joins)))
   where
@@ -233,8 +224,8 @@ window_closed net h number w ack is =
     subst (λ ss. option_and_then session_ack (find (λ s. s.number == w.session) ss) ≡ Some ack) (sessions_said net h w.eui) is in
     let sessions = acked_sessions (acceptances h w.eui) (openings h w.eui) (closings h w.eui) w ack known in
     ap (with_ack w.session) (record_said net h w.eui)
-    ∙ (λ i. record_by (acceptances h w.eui) (sessions i) (tickets_said h w.eui))
-    ∙ sym (record_said net (h ++ e ∷ []) w.eui ∙ (λ i. record_by (joins i) (sessions_by (joins i) (os i) (cs i)) (tickets i)))
+    ∙ (λ i. record_by (last_nonce net w.eui) (acceptances h w.eui) (sessions i) (tickets_said h w.eui))
+    ∙ sym (record_said net (h ++ e ∷ []) w.eui ∙ (λ i. record_by (last_nonce net w.eui) (joins i) (sessions_by (joins i) (os i) (cs i)) (tickets i)))
 
 -- a property of each number of a list is one of a number that is there
 at_number : (P : ℕ → Type 0) (s : ℕ) (xs : List ℕ) → list_any (λ n. n == s) xs ≡ true → AllByRecursion P xs → P s
@@ -273,12 +264,12 @@ ack_numbers net h legal o = step (is_confirmed o.frame)
 pub closings_agree : (net : Network) (h : List Entry) → ClosingsAgree net h
 closings_agree net h = record {
   numbers = λ legal o. ack_numbers net h legal o;
-  closed = λ number w ack is. window_closed net h number w ack is;
+  records = λ number w ack is. window_closed net h number w ack is;
 }
 
 pub uplinks_agree : (net : Network) (h : List Entry) → UplinksAgree net h
 unfolding device_record
 uplinks_agree net h = record {
   fits = λ recover frame eui. fits_in recover h frame eui (live h eui);
-  opened = λ number frame heard w new. uplink_opened net h number frame heard w new;
+  records = λ number frame heard w new. uplink_opened net h number frame heard w new;
 }

@@ -15,15 +15,15 @@ use Rattle.ns_calls.specs.declared.call.Call.TheVariants as call
 use Rattle.ns_calls.specs.declared.call.Reply.{Reply}
 use Rattle.ns_calls.specs.declared.call.Reply.TheVariants as reply
 use Rattle.ns_calls.specs.declared.call.Entry.{Entry}
-use Rattle.ns_calls.specs.History.{Opening, same_device, ticket_copies}
+use Rattle.ns_calls.specs.History.{Opening, same_device, ticket_copies, last_nonce}
 use Rattle.ns_calls.specs.Reply as plain
-use Rattle.ns_calls.specs.Reply.{window_of, address, ack_number, reply_to_join, reply_to_join_reply}
+use Rattle.ns_calls.specs.Reply.{fit_of, address, ack_number, reply_to_join, reply_to_join_reply}
 use Rattle.ns_calls.specs.Legal.{IsLegal, with_call}
-use Rattle.ns_sessions.specs.declared.take.JoinTake.{JoinTake}
-use Rattle.ns_sessions.specs.declared.take.JoinTake.TheVariants as join
-use Rattle.ns_sessions.specs.declared.take.ReplyTake.{ReplyTake}
-use Rattle.ns_sessions.specs.declared.take.ReplyTake.TheVariants as answer
-use Rattle.ns_sessions.specs.Record.{no_joins, device_record, device_fit, session_in, IsNewCounter, with_uplink, ack_in, with_ack, join_take, with_join, reply_take, with_reply}
+use Rattle.ns_sessions.specs.declared.decision.JoinDecision.{JoinDecision}
+use Rattle.ns_sessions.specs.declared.decision.JoinDecision.TheVariants as join
+use Rattle.ns_sessions.specs.declared.decision.AnswerDecision.{AnswerDecision}
+use Rattle.ns_sessions.specs.declared.decision.AnswerDecision.TheVariants as answer
+use Rattle.ns_sessions.specs.Record.{no_joins, device_record, device_fit, session_in, IsNewCounter, with_uplink, ack_in, with_ack, join_decision, with_join, answer_decision, with_reply}
 
 abbrev pub entry_of : ℕ → Call → Reply → Entry
 entry_of number c r = record { number = number; call = c; reply = r }
@@ -43,16 +43,16 @@ concerns eui _ _ = false
 
 -- a history of no entries says that the device has not joined; an entry that does not concern a device leaves what is said of it
 pub record OthersStay : Type 0 where
-  pub none : (net : Network) (eui : DevEui) → device_record net [] eui ≡ no_joins
+  pub none : (net : Network) (eui : DevEui) → device_record net [] eui ≡ no_joins (last_nonce net eui)
   pub others : (net : Network) (h : List Entry) (e : Entry) (eui : DevEui) → concerns eui e.call e.reply ≡ false → device_record net (h ++ e ∷ []) eui ≡ device_record net h eui
 
 -- ---- uplinks
 
--- A frame fits where the plain server says, and an uplink that is opened changes the state as `take` does.
+-- A frame fits where the plain server says, and an uplink that is opened changes the state as `open` does.
 pub record UplinksAgree (net : Network) (h : List Entry) : Type 0 where
   pub fits : (recover : Option ℕ → ℕ → Option ℕ) (frame : List ℕ) (eui : DevEui) →
-      option_map (λ w. window_of eui w.0 w.1) (device_fit recover frame (device_record net h eui)) ≡ plain.device_fit recover h frame eui
-  pub opened : (number : ℕ) (frame : List ℕ) (heard : Heard) (w : WindowName) → IsNewCounter (session_in (device_record net h w.eui) w.session) w.fcnt →
+      option_map (λ f. fit_of eui f.0 f.1) (device_fit recover frame (device_record net h eui)) ≡ plain.device_fit recover h frame eui
+  pub records : (number : ℕ) (frame : List ℕ) (heard : Heard) (w : WindowName) → IsNewCounter (session_in (device_record net h w.eui) w.session) w.fcnt →
       with_uplink w.session w.fcnt (device_record net h w.eui) ≡ device_record net (h ++ entry_of number (call.Uplink frame heard) (reply.Opened w) ∷ []) w.eui
 
 -- ---- acknowledgements
@@ -60,35 +60,35 @@ pub record UplinksAgree (net : Network) (h : List Entry) : Type 0 where
 -- A closing bears the session's next number where one is owed, and with that number it changes the state as `next_ack` does.
 pub record ClosingsAgree (net : Network) (h : List Entry) : Type 0 where
   pub numbers : IsLegal net h → (o : Opening) → ack_number h o ≡ (if is_confirmed o.frame then ack_in (device_record net h o.window.eui) o.window.session else None)
-  pub closed : (number : ℕ) (w : WindowName) (ack : ℕ) → ack_in (device_record net h w.eui) w.session ≡ Some ack →
+  pub records : (number : ℕ) (w : WindowName) (ack : ℕ) → ack_in (device_record net h w.eui) w.session ≡ Some ack →
       with_ack w.session (device_record net h w.eui) ≡ device_record net (h ++ entry_of number (call.Close w) (reply.Closed w (Some ack)) ∷ []) w.eui
 
 -- ---- joins
 
--- the reply that a take stands for
-abbrev pub join_reply : Ticket → JoinTake → Reply
-join_reply t join.Asked = reply.Ask t
+-- the reply that a decision stands for
+abbrev pub join_reply : Ticket → JoinDecision → Reply
+join_reply t join.Ask = reply.Ask t
 join_reply t (join.Copied place) = reply.JoinCopied place
 join_reply t join.Crowded = reply.JoinCrowded
 join_reply t (join.Old greatest) = reply.NonceOld greatest
 join_reply t join.Busy = reply.JoinBusy
 
 pub record JoinsAgree (net : Network) (h : List Entry) : Type 0 where
-  pub replies : (t : Ticket) → is_known net (dev_eui t) (join_eui t) ≡ true → join_reply t (join_take (device_record net h (dev_eui t)) t) ≡ reply_to_join net h t
+  pub replies : (t : Ticket) → is_known net (dev_eui t) (join_eui t) ≡ true → join_reply t (join_decision (device_record net h (dev_eui t)) t) ≡ reply_to_join net h t
   pub records : IsLegal net h → (number : ℕ) (t : Ticket) (heard : Heard) → is_known net (dev_eui t) (join_eui t) ≡ true →
-      let r = device_record net h (dev_eui t) in with_join (join_take r t) t heard r ≡ device_record net (with_call net h number (call.Join t heard)) (dev_eui t)
+      let r = device_record net h (dev_eui t) in with_join (join_decision r t) t heard r ≡ device_record net (with_call net h number (call.Join t heard)) (dev_eui t)
 
 -- ---- answers of join servers
 
-abbrev pub answer_reply : Network → Ticket → ReplyTake → Reply
+abbrev pub answer_reply : Network → Ticket → AnswerDecision → Reply
 answer_reply net t answer.NoTicket = reply.NoTicket
 answer_reply net t answer.Refused = reply.JoinRefused
 answer_reply net t (answer.Stale greatest) = reply.JoinStale greatest
 answer_reply net t (answer.Accepted session heard) = reply.Accepted (dev_eui t) session (address net (dev_eui t))
 
 pub record AnswersAgree (net : Network) (h : List Entry) : Type 0 where
-  pub replies : (t : Ticket) (outcome : Outcome) → answer_reply net t (reply_take (device_record net h (dev_eui t)) t outcome) ≡ reply_to_join_reply net h t outcome
+  pub replies : (t : Ticket) (outcome : Outcome) → answer_reply net t (answer_decision (device_record net h (dev_eui t)) t outcome) ≡ reply_to_join_reply net h t outcome
   pub copies : (t : Ticket) (outcome : Outcome) (session : ℕ) (heard : Heard) →
-      reply_take (device_record net h (dev_eui t)) t outcome ≡ answer.Accepted session heard → best (ticket_copies h t) ≡ Some heard
+      answer_decision (device_record net h (dev_eui t)) t outcome ≡ answer.Accepted session heard → best (ticket_copies h t) ≡ Some heard
   pub records : IsLegal net h → (number : ℕ) (t : Ticket) (outcome : Outcome) →
-      let r = device_record net h (dev_eui t) in with_reply (reply_take r t outcome) t outcome r ≡ device_record net (with_call net h number (call.JoinReply t outcome)) (dev_eui t)
+      let r = device_record net h (dev_eui t) in with_reply (answer_decision r t outcome) t outcome r ≡ device_record net (with_call net h number (call.JoinReply t outcome)) (dev_eui t)

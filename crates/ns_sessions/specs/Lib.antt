@@ -1,4 +1,5 @@
 pub mod Recovery
+pub mod Copies
 pub mod Record
 pub mod State
 pub mod Laws

@@ -5,11 +5,8 @@ use Rattle.ns_types.specs.declared.identity.DevEui.{DevEui}
 use Rattle.ns_types.specs.declared.heard.Heard.{Heard}
 use Rattle.ns_types.specs.declared.ticket.Ticket.{Ticket}
 use Rattle.ns_types.specs.Cases.{first_case, when}
-use Rattle.ns_types.specs.Heard.{best}
 use Rattle.ns_types.specs.Ticket.{dev_eui, nonce}
-use Rattle.ns_views.specs.Frame.{data_fields}
 use Rattle.ns_secure.specs.Counter.{Exceeds}
-use Rattle.ns_secure.specs.Integrity.{mic_fits}
 use Rattle.ns_roster.specs.Network.{Network}
 use Rattle.ns_calls.specs.declared.call.JoinAns.{JoinAns}
 use Rattle.ns_calls.specs.declared.call.Outcome.{Outcome}
@@ -17,13 +14,14 @@ use Rattle.ns_calls.specs.declared.call.Outcome.TheVariants.{Success}
 use Rattle.ns_calls.specs.declared.call.Entry.{Entry}
 use Rattle.ns_calls.specs.Queries.{first}
 use Rattle.ns_calls.specs.History.{same_device, same_ticket, greatest_nonce, next_session, session_join, live, greatest_counter, next_ack, open_tickets, ticket_copies}
-use Rattle.ns_calls.specs.Reply.{most_copies, most_tickets, is_failed}
+use Rattle.ns_calls.specs.Reply.{most_copies, most_tickets, is_failed, fitting_counter}
 use Rattle.ns_sessions.specs.declared.session.Session.{Session}
 use Rattle.ns_sessions.specs.declared.ticket.OpenTicket.{OpenTicket}
-use Rattle.ns_sessions.specs.declared.take.JoinTake.{JoinTake}
-use Rattle.ns_sessions.specs.declared.take.JoinTake.TheVariants as join
-use Rattle.ns_sessions.specs.declared.take.ReplyTake.{ReplyTake}
-use Rattle.ns_sessions.specs.declared.take.ReplyTake.TheVariants as reply
+use Rattle.ns_sessions.specs.declared.decision.JoinDecision.{JoinDecision}
+use Rattle.ns_sessions.specs.declared.decision.JoinDecision.TheVariants as join
+use Rattle.ns_sessions.specs.declared.decision.AnswerDecision.{AnswerDecision}
+use Rattle.ns_sessions.specs.declared.decision.AnswerDecision.TheVariants as reply
+use Rattle.ns_sessions.specs.Copies.{copies_record, with_one_more}
 
 -- The greatest nonce accepted, the number of the next session, the live sessions, and the open tickets in order.
 pub record DeviceRecord : Type 0 where
@@ -32,9 +30,9 @@ pub record DeviceRecord : Type 0 where
   pub sessions : List Session
   pub tickets : List OpenTicket
 
--- a device that has not joined
-abbrev pub no_joins : DeviceRecord
-no_joins = record { greatest_nonce = None; next_session = 1; sessions = []; tickets = [] }
+-- a device that has not joined, with the last nonce that the roster names of it
+abbrev pub no_joins : Option ℕ → DeviceRecord
+no_joins last = record { greatest_nonce = last; next_session = 1; sessions = []; tickets = [] }
 
 -- the live session of this number
 abbrev pub session_in : DeviceRecord → ℕ → Option Session
@@ -44,8 +42,7 @@ session_in r number = find (λ s. s.number == number) r.sessions
 
 -- the session's number and the counter that recover gives, where the frame's MIC fits there (4.4)
 abbrev pub session_fit : (Option ℕ → ℕ → Option ℕ) → List ℕ → Session → Option (ℕ × ℕ)
-session_fit recover frame s =
-    option_and_then (λ counter. when (mic_fits frame s.nwk.0 counter) (s.number, counter)) (recover s.greatest_counter (data_fields frame).fcnt16)
+session_fit recover frame s = option_map (λ counter. (s.number, counter)) (fitting_counter recover frame s.nwk s.greatest_counter)
 
 -- those of the first live session that fits
 abbrev pub device_fit : (Option ℕ → ℕ → Option ℕ) → List ℕ → DeviceRecord → Option (ℕ × ℕ)
@@ -57,12 +54,12 @@ IsNewCounter None counter = ⊥
 IsNewCounter (Some s) counter = Exceeds s.greatest_counter counter
 
 -- an uplink is opened in a session: the sessions before it end
-abbrev pub opened : ℕ → ℕ → List Session → List Session
-opened number counter [] = []
-opened number counter (s ∷ sessions) = if s.number == number then (record s { greatest_counter = Some counter }) ∷ sessions else opened number counter sessions
+abbrev pub sessions_after_uplink : ℕ → ℕ → List Session → List Session
+sessions_after_uplink number counter [] = []
+sessions_after_uplink number counter (s ∷ sessions) = if s.number == number then (record s { greatest_counter = Some counter }) ∷ sessions else sessions_after_uplink number counter sessions
 
 abbrev pub with_uplink : ℕ → ℕ → DeviceRecord → DeviceRecord
-with_uplink number counter r = record r { sessions = opened number counter r.sessions }
+with_uplink number counter r = record r { sessions = sessions_after_uplink number counter r.sessions }
 
 -- ---- acknowledgements
 
@@ -74,15 +71,15 @@ abbrev pub ack_in : DeviceRecord → ℕ → Option ℕ
 ack_in r number = option_and_then session_ack (session_in r number)
 
 -- that number is used
-abbrev pub used_ack : Session → Session
-used_ack s = if nat_lt s.next_ack (2 ^ 32) then record s { next_ack = s.next_ack + 1 } else s
+abbrev pub session_after_ack : Session → Session
+session_after_ack s = if nat_lt s.next_ack (2 ^ 32) then record s { next_ack = s.next_ack + 1 } else s
 
-abbrev pub acknowledged : ℕ → List Session → List Session
-acknowledged number [] = []
-acknowledged number (s ∷ sessions) = if s.number == number then used_ack s ∷ sessions else s ∷ acknowledged number sessions
+abbrev pub sessions_after_ack : ℕ → List Session → List Session
+sessions_after_ack number [] = []
+sessions_after_ack number (s ∷ sessions) = if s.number == number then session_after_ack s ∷ sessions else s ∷ sessions_after_ack number sessions
 
 abbrev pub with_ack : ℕ → DeviceRecord → DeviceRecord
-with_ack number r = record r { sessions = acknowledged number r.sessions }
+with_ack number r = record r { sessions = sessions_after_ack number r.sessions }
 
 -- ---- joins
 
@@ -98,47 +95,47 @@ abbrev pub ticket_in : DeviceRecord → Ticket → Option OpenTicket
 ticket_in r t = ticket_among t r.tickets
 
 -- one more copy of an open ticket
-abbrev pub copy_take : OpenTicket → JoinTake
-copy_take o = let place = length o.copies + 1 in if nat_le place most_copies then join.Copied place else join.Crowded
+abbrev pub copy_decision : OpenTicket → JoinDecision
+copy_decision o = let place = o.copies.count + 1 in if nat_le place most_copies then join.Copied place else join.Crowded
 
 -- what comes of a Join-Request
-abbrev pub join_take : DeviceRecord → Ticket → JoinTake
-join_take r t = first_case (
+abbrev pub join_decision : DeviceRecord → Ticket → JoinDecision
+join_decision r t = first_case (
     option_map (λ g. join.Old (record { 0 = g })) (spent_in r t)
-    ∷ option_map copy_take (ticket_in r t)
+    ∷ option_map copy_decision (ticket_in r t)
     ∷ when (nat_le most_tickets (length r.tickets)) join.Busy
-    ∷ []) join.Asked
+    ∷ []) join.Ask
 
 abbrev pub one_copy : Ticket → Heard → OpenTicket
-one_copy t heard = record { ticket = t; copies = heard ∷ [] }
+one_copy t heard = record { ticket = t; copies = copies_record (heard ∷ []) }
 
-abbrev pub with_copy : JoinTake → Heard → OpenTicket → OpenTicket
-with_copy (join.Copied place) heard o = record o { copies = o.copies ++ heard ∷ [] }
+abbrev pub with_copy : JoinDecision → Heard → OpenTicket → OpenTicket
+with_copy (join.Copied place) heard o = record o { copies = with_one_more heard o.copies }
 with_copy _ heard o = o
 
 -- one more copy of the ticket of equal bytes
-abbrev pub copied : Ticket → Heard → List OpenTicket → List OpenTicket
-copied t heard [] = []
-copied t heard (o ∷ tickets) = if same_ticket t o.ticket then (record o { copies = o.copies ++ heard ∷ [] }) ∷ tickets else o ∷ copied t heard tickets
+abbrev pub tickets_after_copy : Ticket → Heard → List OpenTicket → List OpenTicket
+tickets_after_copy t heard [] = []
+tickets_after_copy t heard (o ∷ tickets) = if same_ticket t o.ticket then (record o { copies = with_one_more heard o.copies }) ∷ tickets else o ∷ tickets_after_copy t heard tickets
 
 -- the open tickets after a Join-Request
-abbrev pub asked : JoinTake → Ticket → Heard → List OpenTicket → List OpenTicket
-asked join.Asked t heard tickets = tickets ++ one_copy t heard ∷ []
-asked (join.Copied place) t heard tickets = copied t heard tickets
-asked _ t heard tickets = tickets
+abbrev pub tickets_after_join : JoinDecision → Ticket → Heard → List OpenTicket → List OpenTicket
+tickets_after_join join.Ask t heard tickets = tickets ++ one_copy t heard ∷ []
+tickets_after_join (join.Copied place) t heard tickets = tickets_after_copy t heard tickets
+tickets_after_join _ t heard tickets = tickets
 
-abbrev pub with_join : JoinTake → Ticket → Heard → DeviceRecord → DeviceRecord
-with_join take t heard r = record r { tickets = asked take t heard r.tickets }
+abbrev pub with_join : JoinDecision → Ticket → Heard → DeviceRecord → DeviceRecord
+with_join decision t heard r = record r { tickets = tickets_after_join decision t heard r.tickets }
 
 -- ---- answers of join servers
 
 -- the best copy of an open ticket
 abbrev pub best_in : DeviceRecord → Ticket → Option Heard
-best_in r t = option_and_then (λ o. best o.copies) (ticket_in r t)
+best_in r t = option_and_then (λ o. o.copies.best) (ticket_in r t)
 
 -- what comes of the answer to a join. An open ticket has a copy
-abbrev pub reply_take : DeviceRecord → Ticket → Outcome → ReplyTake
-reply_take r t outcome = first_case (
+abbrev pub answer_decision : DeviceRecord → Ticket → Outcome → AnswerDecision
+answer_decision r t outcome = first_case (
     when (not (is_some (ticket_in r t))) reply.NoTicket
     ∷ when (is_failed outcome) reply.Refused
     ∷ option_map (λ g. reply.Stale (record { 0 = g })) (spent_in r t)
@@ -154,19 +151,19 @@ abbrev pub new_session : ℕ → JoinAns → Session
 new_session number join_ans = record { number = number; nwk = join_ans.nwk; app = join_ans.app; greatest_counter = None; next_ack = 0 }
 
 -- a join is accepted: the session in which nothing was opened ends
-abbrev pub accepted : ℕ → JoinAns → DeviceRecord → DeviceRecord
-accepted nonce join_ans r = record r {
+abbrev pub after_acceptance : ℕ → JoinAns → DeviceRecord → DeviceRecord
+after_acceptance nonce join_ans r = record r {
   greatest_nonce = Some nonce;
   next_session = r.next_session + 1;
   sessions = filter (λ s. is_some s.greatest_counter) r.sessions ++ new_session r.next_session join_ans ∷ [];
 }
 
-abbrev pub with_session : ReplyTake → Ticket → Outcome → DeviceRecord → DeviceRecord
-with_session (reply.Accepted session best) t (Success join_ans) r = accepted (nonce t).0 join_ans r
+abbrev pub with_session : AnswerDecision → Ticket → Outcome → DeviceRecord → DeviceRecord
+with_session (reply.Accepted session best) t (Success join_ans) r = after_acceptance (nonce t).0 join_ans r
 with_session _ t outcome r = r
 
-abbrev pub with_reply : ReplyTake → Ticket → Outcome → DeviceRecord → DeviceRecord
-with_reply take t outcome r = with_session take t outcome (record r { tickets = without t r.tickets })
+abbrev pub with_reply : AnswerDecision → Ticket → Outcome → DeviceRecord → DeviceRecord
+with_reply decision t outcome r = with_session decision t outcome (record r { tickets = without t r.tickets })
 
 -- ---- what a history says of a device
 
@@ -176,7 +173,7 @@ session_record h eui number =
     (session_join h eui number)
 
 abbrev pub ticket_record : List Entry → Ticket → OpenTicket
-ticket_record h t = record { ticket = t; copies = ticket_copies h t }
+ticket_record h t = record { ticket = t; copies = copies_record (ticket_copies h t) }
 
 abbrev pub tickets_of : List Entry → DevEui → List Ticket
 tickets_of h eui = filter (λ t. same_device (dev_eui t) eui) (open_tickets h)

@@ -5,19 +5,19 @@ ghost use Rattle.ns_types.specs.Ticket.{nonce};
 ghost use Rattle.ns_secure.specs.Counter.{Exceeds};
 ghost use Rattle.ns_sessions.specs.declared.recovery.Recovery.TheVariants.{Above};
 ghost use Rattle.ns_sessions.specs.Recovery.{recovery_counter};
-ghost use Rattle.ns_sessions.specs.Record.{no_joins, session_in, device_fit, IsNewCounter, with_uplink, ack_in, with_ack, spent_in, join_take, with_join, accepted, reply_take, with_reply};
+ghost use Rattle.ns_sessions.specs.Record.{no_joins, session_in, device_fit, IsNewCounter, with_uplink, ack_in, with_ack, spent_in, join_decision, with_join, after_acceptance, answer_decision, with_reply};
 
+use crate::decision::{AnswerDecision, JoinDecision};
 use crate::recovery::Recovery;
 use crate::session::Session;
-use crate::take::{JoinTake, ReplyTake};
-use crate::ticket::{OpenTicket, add_copy, take_out};
+use crate::ticket::{OpenTicket, add_copy, remove_ticket};
 use arrayvec::ArrayVec;
-use ns_calls::{JoinAns, Outcome};
+use ns_calls::{JoinAns, MOST_TICKETS, Outcome};
 use ns_types::{DevNonce, Heard, Key, Ticket};
 use ns_views::DataView;
 use std::marker::Model;
 
-/// What a server keeps of one device: its greatest nonce, its live sessions, and its open tickets with their copies.
+/// What a server keeps of one device: its greatest nonce, its live sessions, and its open tickets, each with the count of its copies and the best of them.
 #[derive(Drop)]
 pub struct DeviceState {
     greatest_nonce: Option<u16>,
@@ -26,7 +26,7 @@ pub struct DeviceState {
     active: Option<Session>,
     /// The session of the last join, where no uplink came in it yet.
     pending: Option<Session>,
-    tickets: ArrayVec<OpenTicket, 4>,
+    tickets: ArrayVec<OpenTicket, MOST_TICKETS>,
 }
 
 impl Model for DeviceState {
@@ -42,16 +42,26 @@ impl Model for DeviceState {
 }
 
 impl DeviceState {
-    /// A device that has not joined.
-    pub fn new() -> DeviceState
-        ensures { result ≡ no_joins }
+    /// A device that has not joined, with the last nonce that the roster names of it: joins at or below that are old.
+    pub fn new(last_nonce: Option<DevNonce>) -> DeviceState
+        ensures { result ≡ no_joins (option_map (λ n. n.0) last_nonce) }
     {
         DeviceState {
-            greatest_nonce: None,
+            greatest_nonce: last_nonce.map(|nonce| nonce.0),
             next_session: 1,
             active: None,
             pending: None,
             tickets: ArrayVec::new(),
+        }
+    }
+
+    /// The greatest nonce: of those accepted, and of the last one that the roster names.
+    pub fn greatest(&self) -> Option<DevNonce>
+        ensures { option_map (λ n. n.0) result ≡ self.now.greatest_nonce }
+    {
+        match self.greatest_nonce {
+            Some(greatest) => Some(DevNonce(greatest)),
+            None => None,
         }
     }
 
@@ -81,7 +91,7 @@ impl DeviceState {
     }
 
     /// Opens an uplink in a session: the session before it, if any, ends.
-    pub fn take(&mut self, session: u32, fcnt: u32)
+    pub fn open(&mut self, session: u32, fcnt: u32)
         requires { IsNewCounter (session_in self.old session) fcnt }
         ensures { self.new ≡ with_uplink session fcnt self.old }
     {
@@ -130,38 +140,38 @@ impl DeviceState {
     }
 
     /// Takes a Join-Request of the device.
-    pub fn ask(&mut self, ticket: &Ticket, heard: &Heard) -> JoinTake
-        ensures take { result ≡ join_take self.old ticket.now }
+    pub fn ask(&mut self, ticket: &Ticket, heard: &Heard) -> JoinDecision
+        ensures decision { result ≡ join_decision self.old ticket.now }
         ensures record { self.new ≡ with_join result ticket.now heard.now self.old }
     {
         if let Some(greatest) = self.spent(ticket) {
-            return JoinTake::Old(greatest);
+            return JoinDecision::Old(greatest);
         }
-        if let Some(take) = add_copy(self.tickets.as_mut_slice(), ticket, heard) {
-            return take;
+        if let Some(decision) = add_copy(self.tickets.as_mut_slice(), ticket, heard) {
+            return decision;
         }
         if self.tickets.is_full() {
-            return JoinTake::Busy;
+            return JoinDecision::Busy;
         }
         self.tickets.push(OpenTicket::new(ticket, heard));
-        JoinTake::Asked
+        JoinDecision::Ask
     }
 
     /// Takes a join server's answer, which ends the join.
-    pub fn answer(&mut self, ticket: &Ticket, outcome: &Outcome) -> ReplyTake
-        ensures take { result ≡ reply_take self.old ticket.now outcome.now }
+    pub fn answer(&mut self, ticket: &Ticket, outcome: &Outcome) -> AnswerDecision
+        ensures decision { result ≡ answer_decision self.old ticket.now outcome.now }
         ensures record { self.new ≡ with_reply result ticket.now outcome.now self.old }
     {
-        let Some(open) = take_out(&mut self.tickets, ticket) else {
-            return ReplyTake::NoTicket;
+        let Some(open) = remove_ticket(&mut self.tickets, ticket) else {
+            return AnswerDecision::NoTicket;
         };
         let Outcome::Success(join) = outcome else {
-            return ReplyTake::Refused;
+            return AnswerDecision::Refused;
         };
         if let Some(greatest) = self.spent(ticket) {
-            return ReplyTake::Stale(greatest);
+            return AnswerDecision::Stale(greatest);
         }
-        ReplyTake::Accepted {
+        AnswerDecision::Accepted {
             session: self.begin(ticket.nonce(), join),
             best: open.copies.best(),
         }
@@ -171,7 +181,7 @@ impl DeviceState {
     fn begin(&mut self, nonce: DevNonce, join: &JoinAns) -> u32
         requires { Exceeds self.old.greatest_nonce nonce.0 }
         ensures number { result ≡ self.old.next_session }
-        ensures record { self.new ≡ accepted nonce.0 join.now self.old }
+        ensures record { self.new ≡ after_acceptance nonce.0 join.now self.old }
     {
         let number = self.next_session;
         self.greatest_nonce = Some(nonce.0);

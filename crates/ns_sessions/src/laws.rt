@@ -1,6 +1,6 @@
 //! Laws of a device's state and the history of its shard, as contracts of functions that do nothing.
 
-ghost use Rattle.std.specs.Prelude.{List};
+ghost use Rattle.std.specs.Prelude.{ℕ, List, Option};
 ghost use Rattle.ns_roster.specs.Network.{Network};
 ghost use Rattle.ns_calls.specs.declared.call.Entry.{Entry};
 ghost use Rattle.ns_sessions.specs.Laws.{OthersStay, UplinksAgree, ClosingsAgree, JoinsAgree, AnswersAgree};
@@ -11,7 +11,7 @@ pub fn others_stay()
     ensures { OthersStay }
 {}
 
-/// A frame fits where the plain server says, and `take` leaves what the history with the opening says.
+/// A frame fits where the plain server says, and `open` leaves what the history with the opening says.
 pub fn uplinks_agree()
     ensures { (net : Network) (h : List Entry) → UplinksAgree net h }
 {}
@@ -31,8 +31,8 @@ pub fn answers_agree()
     ensures { (net : Network) (h : List Entry) → AnswersAgree net h }
 {}
 
-/// In every run of calls on one state the accepted nonces strictly rise, and a ticket is answered at most once for each time that it
+/// In every run of calls on one state the accepted nonces are above its last nonce and strictly rise, and a ticket is answered at most once for each time that it
 /// was asked for.
 pub fn joins_in_turn()
-    ensures { (calls : List StateCall) → JoinsInTurn calls }
+    ensures { (last : Option ℕ) (calls : List StateCall) → JoinsInTurn last calls }
 {}

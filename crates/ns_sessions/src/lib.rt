@@ -1,7 +1,7 @@
 //! One device's nonces, sessions and open joins.
 //!
 //! `DeviceState` has the greatest DevNonce that was accepted, the live sessions with their keys and counters, and the open
-//! tickets with their copies. It is of fixed size and takes no memory, and no call of it is refused.
+//! tickets, each with the count of its copies and the best of them. It is of fixed size and takes no memory, and no call of it is refused.
 //!
 //! Each call is proved to be its definition on a `DeviceRecord` (`specs/Record`), and to agree with the history of the
 //! device's shard (`specs/Laws`): it gives the plain server's answer for the device, and leaves what the history with the
@@ -11,19 +11,19 @@
 //! the definitions of histories.
 #![tactic(auto)]
 
+mod decision;
 mod device;
 mod laws;
 mod recovery;
 mod session;
-mod take;
 mod ticket;
 
+pub use decision::{AnswerDecision, JoinDecision};
 pub use device::DeviceState;
 pub use laws::{
     answers_agree, closings_agree, joins_agree, joins_in_turn, others_stay, uplinks_agree,
 };
 pub use recovery::Recovery;
-pub use take::{JoinTake, ReplyTake};
 
 #[cfg(test)]
 mod tests;

@@ -2,7 +2,7 @@
 
 ghost use Rattle.std.specs.Prelude.{◌≡◌};
 ghost use Rattle.ns_sessions.specs.Recovery.{recovery_counter};
-ghost use Rattle.ns_sessions.specs.Record.{session_fit, session_ack, used_ack, new_session};
+ghost use Rattle.ns_sessions.specs.Record.{session_fit, session_ack, session_after_ack, new_session};
 
 use crate::recovery::Recovery;
 use ns_calls::JoinAns;
@@ -52,7 +52,7 @@ impl Session {
     /// Uses the next acknowledgement number, where there is one.
     pub(crate) fn use_ack(&mut self) -> Option<u32>
         ensures number { result ≡ session_ack self.old }
-        ensures session { self.new ≡ used_ack self.old }
+        ensures session { self.new ≡ session_after_ack self.old }
     {
         if self.next_ack > 0xffff_ffff {
             return None;

@@ -1,6 +1,6 @@
 //! Worked values of joins and uplinks.
 
-use crate::{DeviceState, JoinTake, Recovery, ReplyTake};
+use crate::{AnswerDecision, DeviceState, JoinDecision, Recovery};
 use ns_calls::{JoinAccept, JoinAns, Outcome};
 use ns_types::{DevNonce, GatewayId, Heard, Key, Ticket};
 use ns_views::{DataView, PhyView, view};
@@ -52,26 +52,26 @@ fn success(app: Option<Key>) -> Outcome {
 /// Opens an uplink where it is fresh.
 fn open(state: &mut DeviceState, frame: &DataView) -> Option<(u32, u32)> {
     let (session, counter) = state.fit(Recovery::Above, frame)?;
-    state.take(session, counter);
+    state.open(session, counter);
     Some((session, counter))
 }
 
 #[test]
 fn a_join_and_its_first_uplink(rt: HostRuntime) -> Result<(), Fail> {
-    let mut state = DeviceState::new();
+    let mut state = DeviceState::new(None);
     let ticket = request(1);
     let first = heard(0xa1, 1_000_000, 75);
     let second = heard(0xa2, 1_001_000, 80);
-    assert_eq!(rt; state.ask(&ticket, &first), JoinTake::Asked);
-    assert_eq!(rt; state.ask(&ticket, &second), JoinTake::Copied(2));
-    let want = ReplyTake::Accepted {
+    assert_eq!(rt; state.ask(&ticket, &first), JoinDecision::Ask);
+    assert_eq!(rt; state.ask(&ticket, &second), JoinDecision::Copied(2));
+    let want = AnswerDecision::Accepted {
         session: 1,
         best: second,
     };
     assert_eq!(rt; state.answer(&ticket, &success(Some(APP_S_KEY))), want);
     assert_eq!(rt;
         state.answer(&ticket, &success(Some(APP_S_KEY))),
-        ReplyTake::NoTicket
+        AnswerDecision::NoTicket
     );
     assert!(rt; state.keys(1) == Some((NWK_S_KEY, Some(APP_S_KEY))));
     assert!(rt; state.keys(2).is_none());
@@ -91,21 +91,24 @@ fn a_join_and_its_first_uplink(rt: HostRuntime) -> Result<(), Fail> {
 
 #[test]
 fn later_joins(rt: HostRuntime) {
-    let mut state = DeviceState::new();
+    let mut state = DeviceState::new(None);
     let copy = heard(0xa1, 1_000_000, 75);
     state.ask(&request(1), &copy);
     state.answer(&request(1), &success(None));
-    assert_eq!(rt; state.ask(&request(1), &copy), JoinTake::Old(DevNonce(1)));
-    assert_eq!(rt; state.ask(&request(5), &copy), JoinTake::Asked);
-    assert_eq!(rt; state.ask(&request(6), &copy), JoinTake::Asked);
-    let want = ReplyTake::Accepted {
+    assert_eq!(rt;
+        state.ask(&request(1), &copy),
+        JoinDecision::Old(DevNonce(1))
+    );
+    assert_eq!(rt; state.ask(&request(5), &copy), JoinDecision::Ask);
+    assert_eq!(rt; state.ask(&request(6), &copy), JoinDecision::Ask);
+    let want = AnswerDecision::Accepted {
         session: 2,
         best: copy,
     };
     assert_eq!(rt; state.answer(&request(6), &success(None)), want);
     assert_eq!(rt;
         state.answer(&request(5), &success(None)),
-        ReplyTake::Stale(DevNonce(6))
+        AnswerDecision::Stale(DevNonce(6))
     );
     // nothing was opened in session 1
     assert!(rt; state.keys(1).is_none());
@@ -114,47 +117,47 @@ fn later_joins(rt: HostRuntime) {
 
 #[test]
 fn a_refused_join_is_asked_again(rt: HostRuntime) {
-    let mut state = DeviceState::new();
+    let mut state = DeviceState::new(None);
     let copy = heard(0xa1, 1_000_000, 75);
-    assert_eq!(rt; state.ask(&request(0), &copy), JoinTake::Asked);
+    assert_eq!(rt; state.ask(&request(0), &copy), JoinDecision::Ask);
     assert_eq!(rt;
         state.answer(&request(0), &Outcome::Failed),
-        ReplyTake::Refused
+        AnswerDecision::Refused
     );
-    assert_eq!(rt; state.ask(&request(0), &copy), JoinTake::Asked);
+    assert_eq!(rt; state.ask(&request(0), &copy), JoinDecision::Ask);
 }
 
 #[test]
 fn four_joins_are_open_at_most(rt: HostRuntime) {
-    let mut state = DeviceState::new();
+    let mut state = DeviceState::new(None);
     let copy = heard(0xa1, 1_000_000, 75);
     for nonce in 1..5 {
-        assert_eq!(rt; state.ask(&request(nonce), &copy), JoinTake::Asked);
+        assert_eq!(rt; state.ask(&request(nonce), &copy), JoinDecision::Ask);
     }
-    assert_eq!(rt; state.ask(&request(5), &copy), JoinTake::Busy);
+    assert_eq!(rt; state.ask(&request(5), &copy), JoinDecision::Busy);
     assert_eq!(rt;
         state.answer(&request(2), &Outcome::Failed),
-        ReplyTake::Refused
+        AnswerDecision::Refused
     );
-    assert_eq!(rt; state.ask(&request(5), &copy), JoinTake::Asked);
+    assert_eq!(rt; state.ask(&request(5), &copy), JoinDecision::Ask);
 }
 
 #[test]
 fn a_join_has_sixteen_copies_at_most(rt: HostRuntime) {
-    let mut state = DeviceState::new();
+    let mut state = DeviceState::new(None);
     let ticket = request(1);
     let copy = heard(0xa1, 1_000_000, 75);
-    assert_eq!(rt; state.ask(&ticket, &copy), JoinTake::Asked);
+    assert_eq!(rt; state.ask(&ticket, &copy), JoinDecision::Ask);
     for place in 2..17 {
-        assert_eq!(rt; state.ask(&ticket, &copy), JoinTake::Copied(place));
+        assert_eq!(rt; state.ask(&ticket, &copy), JoinDecision::Copied(place));
     }
-    assert_eq!(rt; state.ask(&ticket, &copy), JoinTake::Crowded);
+    assert_eq!(rt; state.ask(&ticket, &copy), JoinDecision::Crowded);
 }
 
 /// The older session lives until an uplink is opened in the newer one.
 #[test]
 fn two_sessions(rt: HostRuntime) -> Result<(), Fail> {
-    let mut state = DeviceState::new();
+    let mut state = DeviceState::new(None);
     let copy = heard(0xa1, 1_000_000, 75);
     let PhyView::Frame(frame) = view(&FRAME).map_err(|_| "refused")? else {
         return Err("no data frame".into());

@@ -1,65 +1,67 @@
 //! One open ticket and its copies.
 
-ghost use Rattle.std.specs.Prelude.{◌≡◌, ◌<◌, ◌≤◌, [], ◌∷◌, ◌++◌, Some, length, position, IfSome, IfNone, option_map};
-ghost use Rattle.ns_types.specs.Heard.{best};
+ghost use Rattle.std.specs.Prelude.{◌≡◌, ◌<◌, ◌≤◌, [], ◌∷◌, Some, length, position, IfSome, IfNone, option_map};
 ghost use Rattle.ns_calls.specs.History.{same_ticket};
-ghost use Rattle.ns_sessions.specs.Record.{ticket_among, copy_take, with_copy, asked, without};
+ghost use Rattle.ns_calls.specs.Reply.{most_copies};
+ghost use Rattle.ns_sessions.specs.Copies.{copies_record, with_one_more};
+ghost use Rattle.ns_sessions.specs.Record.{ticket_among, copy_decision, with_copy, tickets_after_join, without};
 
-use crate::take::JoinTake;
+use crate::decision::JoinDecision;
 use arrayvec::ArrayVec;
-use ns_types::{GatewayId, Heard, Ticket, best};
+use ns_calls::{MOST_COPIES, MOST_TICKETS};
+use ns_types::{GatewayId, Heard, Ticket, better};
 use std::marker::Model;
 
-/// The copies of a Join-Request, in order: at least one, and at most 16.
+/// The copies of a Join-Request: how many there were, 1 to 16, and the best of them.
 #[derive(Drop)]
 pub struct Copies {
-    heard: [Heard; 16],
     count: u8,
+    best: Heard,
 }
 
 impl Model for Copies {
-    ghost use Rattle.std.specs.Prelude.{◌≡◌, List, ◌<◌, ◌≤◌, length, take};
-    ghost use Rattle.ns_types.specs.declared.heard.Heard.{Heard};
+    ghost use Rattle.std.specs.Prelude.{◌<◌, ◌≤◌, Some};
+    ghost use Rattle.ns_calls.specs.Reply.{most_copies};
+    ghost use Rattle.ns_sessions.specs.Copies.{CopiesRecord};
 
-    ghost Value = { List Heard };
+    ghost Value = { CopiesRecord };
 
-    ghost view = { λ c. take c.count c.heard };
+    ghost view = { λ c. record { count = c.count; best = Some c.best } };
 
-    ghost invariant = { λ c. (0 < c.count) × (c.count ≤ 16) × (length c.heard ≡ 16) };
+    ghost invariant = { λ c. (0 < c.count) × (c.count ≤ most_copies) };
 }
 
 impl Copies {
     /// The first copy.
     fn of(heard: &Heard) -> Copies
-        ensures { result ≡ heard.now ∷ [] }
+        ensures { result ≡ copies_record (heard.now ∷ []) }
     {
         Copies {
-            heard: [*heard; 16],
             count: 1,
+            best: *heard,
         }
     }
 
     pub(crate) fn count(&self) -> u8
-        ensures is { result ≡ length self.now }
-        ensures within { result ≤ 16 }
+        ensures is { result ≡ self.now.count }
+        ensures within { result ≤ most_copies }
     {
         self.count
     }
 
     pub(crate) fn push(&mut self, heard: &Heard)
-        requires { length self.old < 16 }
-        ensures { self.new ≡ self.old ++ heard.now ∷ [] }
+        requires { self.old.count < most_copies }
+        ensures { self.new ≡ with_one_more heard.now self.old }
     {
-        self.heard[self.count as usize] = *heard;
         self.count += 1;
+        self.best = better(&self.best, heard);
     }
 
     /// The best copy.
     pub(crate) fn best(&self) -> Heard
-        ensures { best self.now ≡ Some result }
+        ensures { self.now.best ≡ Some result }
     {
-        let copies = &self.heard[..self.count as usize];
-        copies[best(copies)]
+        self.best
     }
 }
 
@@ -74,7 +76,7 @@ impl OpenTicket {
     /// A ticket with its first copy.
     pub(crate) fn new(ticket: &Ticket, heard: &Heard) -> OpenTicket
         ensures ticket { result.ticket ≡ ticket.now }
-        ensures copies { result.copies ≡ heard.now ∷ [] }
+        ensures copies { result.copies ≡ copies_record (heard.now ∷ []) }
     {
         OpenTicket {
             ticket: *ticket,
@@ -83,16 +85,16 @@ impl OpenTicket {
     }
 
     /// Adds a copy, where there is room for it.
-    pub(crate) fn add_copy(&mut self, heard: &Heard) -> JoinTake
-        ensures take { result ≡ copy_take self.old }
+    pub(crate) fn add_copy(&mut self, heard: &Heard) -> JoinDecision
+        ensures decision { result ≡ copy_decision self.old }
         ensures copy { self.new ≡ with_copy result heard.now self.old }
     {
         let count = self.copies.count();
-        if count >= 16 {
-            return JoinTake::Crowded;
+        if usize::from(count) >= MOST_COPIES {
+            return JoinDecision::Crowded;
         }
         self.copies.push(heard);
-        JoinTake::Copied(count + 1)
+        JoinDecision::Copied(count + 1)
     }
 }
 
@@ -123,17 +125,20 @@ pub(crate) fn add_copy(
     tickets: &mut [OpenTicket],
     ticket: &Ticket,
     heard: &Heard,
-) -> Option<JoinTake>
-    ensures take { result ≡ option_map copy_take (ticket_among ticket.now tickets.old) }
+) -> Option<JoinDecision>
+    ensures decision { result ≡ option_map copy_decision (ticket_among ticket.now tickets.old) }
     ensures none { IfNone result (tickets.new ≡ tickets.old) }
-    ensures some { IfSome result (λ take. tickets.new ≡ asked take ticket.now heard.now tickets.old) }
+    ensures some { IfSome result (λ decision. tickets.new ≡ tickets_after_join decision ticket.now heard.now tickets.old) }
 {
     let place = place_of(tickets, ticket)?;
     Some(tickets[place].add_copy(heard))
 }
 
 /// Takes the ticket of equal bytes out, where there is one.
-pub(crate) fn take_out(tickets: &mut ArrayVec<OpenTicket, 4>, ticket: &Ticket) -> Option<OpenTicket>
+pub(crate) fn remove_ticket(
+    tickets: &mut ArrayVec<OpenTicket, MOST_TICKETS>,
+    ticket: &Ticket,
+) -> Option<OpenTicket>
     ensures ticket { result ≡ ticket_among ticket.now tickets.old.items }
     ensures others { tickets.new.items ≡ without ticket.now tickets.old.items }
 {

@@ -34,14 +34,14 @@ use Rattle.ns_calls.proofs.PushLemmas.{open_tickets-push}
 use Rattle.ns_calls.proofs.LegalLemmas.{history_more}
 use Rattle.ns_calls.proofs.Induction.{legal_induction}
 use Rattle.ns_calls.proofs.JoinLemmas.{join_reply_by}
-use Rattle.ns_sessions.specs.declared.take.ReplyTake.{ReplyTake}
-use Rattle.ns_sessions.specs.declared.take.ReplyTake.TheVariants as take
-use Rattle.ns_sessions.specs.Record.{device_record, reply_take}
+use Rattle.ns_sessions.specs.declared.decision.AnswerDecision.{AnswerDecision}
+use Rattle.ns_sessions.specs.declared.decision.AnswerDecision.TheVariants as decision
+use Rattle.ns_sessions.specs.Record.{device_record, answer_decision}
 use Rattle.ns_sessions.specs.Laws.{OthersStay, AnswersAgree, concerns, answer_reply}
 use Rattle.ns_sessions.proofs.OpenTickets.{at_member}
 use Rattle.ns_windows.specs.declared.window.Window.{Window}
 use Rattle.ns_shard.specs.declared.devices.Own.{Own}
-use Rattle.ns_shard.specs.Devices.{own_in, own_of, changed, answered}
+use Rattle.ns_shard.specs.Devices.{own_in, own_of, changed, after_answer}
 use Rattle.ns_shard.specs.declared.event.Event.TheVariants.{Quiet}
 use Rattle.ns_shard.specs.Sending.{quiet, answer_of}
 use Rattle.ns_shard.specs.Reaction.{answer_event, own_answer_event, shard_answer_event}
@@ -122,15 +122,15 @@ no_ticket-out : (net : Network) (h : List Entry) (t : Ticket) (o : Outcome) → 
 no_ticket-out net h t outcome.Failed = refl
 no_ticket-out net h t (outcome.Success join) = refl
 
-taken-out : (net : Network) (h : List Entry) (t : Ticket) (o : Outcome) (taken : ReplyTake) → ((session : ℕ) (heard : Heard) → taken ≡ take.Accepted session heard → best (ticket_copies h t) ≡ Some heard) →
-    answer_of net None (answer_event (address net (dev_eui t)) t o taken) ≡ answer_with net h t o (answer_reply net t taken)
-taken-out net h t o take.NoTicket copies = no_ticket-out net h t o
-taken-out net h t outcome.Failed take.Refused copies = refl
-taken-out net h t (outcome.Success join) take.Refused copies = refl
-taken-out net h t outcome.Failed (take.Stale greatest) copies = refl
-taken-out net h t (outcome.Success join) (take.Stale greatest) copies = refl
-taken-out net h t outcome.Failed (take.Accepted session heard) copies = refl
-taken-out net h t (outcome.Success join) (take.Accepted session heard) copies =
+decision-out : (net : Network) (h : List Entry) (t : Ticket) (o : Outcome) (d : AnswerDecision) → ((session : ℕ) (heard : Heard) → d ≡ decision.Accepted session heard → best (ticket_copies h t) ≡ Some heard) →
+    answer_of net None (answer_event (address net (dev_eui t)) t o d) ≡ answer_with net h t o (answer_reply net t d)
+decision-out net h t o decision.NoTicket copies = no_ticket-out net h t o
+decision-out net h t outcome.Failed decision.Refused copies = refl
+decision-out net h t (outcome.Success join) decision.Refused copies = refl
+decision-out net h t outcome.Failed (decision.Stale greatest) copies = refl
+decision-out net h t (outcome.Success join) (decision.Stale greatest) copies = refl
+decision-out net h t outcome.Failed (decision.Accepted session heard) copies = refl
+decision-out net h t (outcome.Success join) (decision.Accepted session heard) copies =
     ap (λ (o : Option Heard).
     let a : Answer = record {
       reply = reply.Accepted (dev_eui t) session (address net (dev_eui t));
@@ -152,8 +152,8 @@ answer-answered net index h devices windows t o agrees law mine =
     step (Some d) is =
         let eui : d.eui ≡ dev_eui t = (found-device net (dev_eui t) d is).1 in
         let addr : device_addr net d ≡ address net (dev_eui t) = ap (λ (x : Option Device). Rattle.std.specs.Prelude.unwrap_or (option_map (device_addr net) x) (record { 0 = 0 })) (sym is) in
-        ap₂ (λ (a : DevAddr) (e : DevEui). answer_of net None (answer_event a t o (reply_take (device_record net h e) t o))) addr eui
-        ∙ (taken-out net h t o (reply_take (device_record net h (dev_eui t)) t o) (λ session heard taken. law.copies t o session heard taken)
+        ap₂ (λ (a : DevAddr) (e : DevEui). answer_of net None (answer_event a t o (answer_decision (device_record net h e) t o))) addr eui
+        ∙ (decision-out net h t o (answer_decision (device_record net h (dev_eui t)) t o) (λ session heard is. law.copies t o session heard is)
         ∙ ap (answer_with net h t o) (law.replies t o))
 
 -- ---- after it
@@ -165,13 +165,13 @@ concerns-answer other t o (reply.JoinStale greatest) differs = same_device-false
 concerns-answer other t o _ differs = refl
 
 pub agrees-answer : (net : Network) (index : ℕ) (h : List Entry) (devices : List Own) (windows : List Window) (t : Ticket) (o : Outcome) → Agrees net index h devices windows → OthersStay → AnswersAgree net h → shard_of (dev_eui t) ≡ index →
-    Agrees net index (with_call net h (length h) (call.JoinReply t o)) (changed (dev_eui t) (answered t o) devices) windows
+    Agrees net index (with_call net h (length h) (call.JoinReply t o)) (changed (dev_eui t) (after_answer t o) devices) windows
 agrees-answer net index h devices windows t o agrees stay law mine = record {
   valid = agrees.valid;
   history = history_more net index h (call.JoinReply t o) mine agrees.history;
   by_device =
-      ap (changed (dev_eui t) (answered t o)) agrees.by_device
-      ∙ sym (devices-changed net index h (with_call net h (length h) (call.JoinReply t o)) (dev_eui t) (answered t o) agrees.valid
+      ap (changed (dev_eui t) (after_answer t o)) agrees.by_device
+      ∙ sym (devices-changed net index h (with_call net h (length h) (call.JoinReply t o)) (dev_eui t) (after_answer t o) agrees.valid
       (others-stay net h (length h) (call.JoinReply t o) (dev_eui t) stay (λ other differs. concerns-answer other t o (reply_to_join_reply net h t o) differs))
       (sym (law.records agrees.history.legal (length h) t o)));
   by_window = agrees.by_window ∙ sym (windows-quiet h (entry_for net h (length h) (call.JoinReply t o)) (joined net index h devices windows agrees) refl refl refl);

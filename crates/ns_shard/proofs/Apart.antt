@@ -5,18 +5,15 @@ use Rattle.std.proofs.lemmas.Grind.{common_steps}
 use Rattle.std.proofs.lemmas.Bool.{false≢true}
 use Rattle.std.proofs.lemmas.List.Sums.{position_or_len_is}
 use Rattle.ns_types.specs.declared.identity.DevEui.{DevEui}
-use Rattle.ns_types.specs.declared.identity.WindowName.{WindowName}
 use Rattle.ns_roster.specs.declared.Device.{Device}
 use Rattle.ns_roster.specs.Network.{Network}
 use Rattle.ns_roster.specs.Valid.{IsRoster}
 use Rattle.ns_calls.specs.declared.call.Entry.{Entry}
 use Rattle.ns_calls.specs.History.{same_device}
-use Rattle.ns_calls.specs.Reply.{window_of}
 use Rattle.ns_calls.proofs.LocalLemmas.{bool_tells}
 use Rattle.ns_calls.proofs.JoinLemmas.{same_device-eq}
-use Rattle.ns_sessions.specs.Record.{device_fit}
 use Rattle.ns_shard.specs.declared.devices.Own.{Own}
-use Rattle.ns_shard.specs.Devices.{devices_of, own_in, devices_in, is_own, own_fit, AreApart}
+use Rattle.ns_shard.specs.Devices.{devices_of, own_in, devices_in, is_own, AreApart}
 use Rattle.ns_shard.proofs.Roster.{AreDistinct, own-distinct}
 
 -- ---- distinct EUIs
@@ -67,14 +64,3 @@ place-own devices i o apart lt is =
     position_or_len_is (is_own eui) devices i o (omega (arith, lt)) (λ k less. none_before devices i k o apart lt less) (λ _. here) in
     let found : position (is_own eui) devices ≡ Some i = grind (arith, common_steps) in
     subst (λ (x : Own). position (is_own x.device.eui) devices ≡ Some i) (sym is) found
-
--- ---- what fits
-
-pub own_fit-eui : (recover : Option ℕ → ℕ → Option ℕ) (frame : List ℕ) (o : Own) (w : WindowName) → own_fit recover frame o ≡ Some w → w.eui ≡ o.device.eui
-own_fit-eui recover frame o w is = step (device_fit recover frame o.state) is
-  where
-    step : (x : Option (ℕ × ℕ)) → option_map (λ (p : ℕ × ℕ). window_of o.device.eui p.0 p.1) x ≡ Some w → w.eui ≡ o.device.eui
-    step None none = absurd (cc none)
-    step (Some p) some =
-        let same : window_of o.device.eui p.0 p.1 ≡ w = cc in
-        ap (λ (v : WindowName). v.eui) (sym same)

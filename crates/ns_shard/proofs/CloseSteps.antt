@@ -25,18 +25,18 @@ use Rattle.ns_calls.specs.declared.answer.Downlink.{Downlink}
 use Rattle.ns_calls.specs.Queries.{first}
 use Rattle.ns_calls.specs.History.{Opening, same_device, opening_in, closes, open_windows, open_window, window_copies, session_join, live, greatest_counter}
 use Rattle.ns_calls.specs.Reply as plain
-use Rattle.ns_calls.specs.Reply.{reply_to, reply_to_close, ack_number, window_of, fits, devices_at, first_fit, window_with}
+use Rattle.ns_calls.specs.Reply.{reply_to, reply_to_close, ack_number, Fit, fit_of, fitting_counter, devices_at, first_fit, window_with}
 use Rattle.ns_calls.specs.Out.{answer, uplink_of, uplink_out, downlink_out, ack_downlink}
 use Rattle.ns_calls.specs.Legal.{IsLegal, entry_for, with_call}
 use Rattle.ns_calls.proofs.LocalLemmas.{bool_tells}
-use Rattle.ns_calls.proofs.Lists.{All-append, All-filter, All-weaker, find-has, first-gives}
+use Rattle.ns_calls.proofs.Lists.{All-append, All-filter, All-weaker, find-has, first-gives, IfSome-weaker, at_some}
 use Rattle.ns_calls.proofs.PushLemmas.{open_windows-push}
 use Rattle.ns_calls.proofs.LegalLemmas.{history_more}
 use Rattle.ns_calls.proofs.Induction.{legal_induction}
 use Rattle.ns_calls.proofs.UplinkLemmas.{opened-cases}
 use Rattle.ns_calls.proofs.WindowLemmas.{same_window-eq}
 use Rattle.ns_sessions.specs.declared.session.Session.{Session}
-use Rattle.ns_sessions.specs.Record.{DeviceRecord, device_record, ack_in, with_ack, session_ack, used_ack, acknowledged}
+use Rattle.ns_sessions.specs.Record.{DeviceRecord, device_record, ack_in, with_ack, session_ack, session_after_ack, sessions_after_ack}
 use Rattle.ns_sessions.specs.Laws.{OthersStay, ClosingsAgree, concerns}
 use Rattle.ns_windows.specs.declared.window.Window.{Window}
 use Rattle.ns_windows.specs.Windows.{named, without}
@@ -61,42 +61,31 @@ gives-all {X} {Y} P f (x ∷ xs) all = step (f x) all.0 (gives-all P f xs all.1)
     step None here later = later
     step (Some y) here later = here
 
-session_fit-eui : (recover : Option ℕ → ℕ → Option ℕ) (h : List Entry) (frame : List ℕ) (eui : DevEui) (session : ℕ) → IfSome (plain.session_fit recover h frame eui session) (λ w. w.eui ≡ eui)
-session_fit-eui recover h frame eui session = step (recover (greatest_counter h eui session) (data_fields frame).fcnt16)
+session_fit-eui : (recover : Option ℕ → ℕ → Option ℕ) (h : List Entry) (frame : List ℕ) (eui : DevEui) (session : ℕ) → IfSome (plain.session_fit recover h frame eui session) (λ f. f.eui ≡ eui)
+session_fit-eui recover h frame eui session = step (option_and_then (λ (join : JoinAns). fitting_counter recover frame join.nwk (greatest_counter h eui session)) (session_join h eui session))
   where
-    test : (n : ℕ) (b : Bool) → IfSome (when b (window_of eui session n)) (λ w. w.eui ≡ eui)
-    test n true = refl
-    test n false = tt
-
-    step : (o : Option ℕ) → IfSome (option_and_then (λ counter. when (fits h frame (window_of eui session counter)) (window_of eui session counter)) o) (λ w. w.eui ≡ eui)
+    step : (o : Option ℕ) → IfSome (option_map (fit_of eui session) o) (λ f. f.eui ≡ eui)
     step None = tt
-    step (Some n) = test n (fits h frame (window_of eui session n))
+    step (Some n) = refl
 
-pub device_fit-eui : (recover : Option ℕ → ℕ → Option ℕ) (h : List Entry) (frame : List ℕ) (eui : DevEui) → IfSome (plain.device_fit recover h frame eui) (λ w. w.eui ≡ eui)
-device_fit-eui recover h frame eui = first-gives (λ (w : WindowName). w.eui ≡ eui) (plain.session_fit recover h frame eui) (session_fit-eui recover h frame eui) (live h eui)
-
-pub IfSome-weaker : {X : Type 0} (P Q : X → Type 0) → ((x : X) → P x → Q x) → (o : Option X) → IfSome o P → IfSome o Q
-IfSome-weaker P Q weaker None is = tt
-IfSome-weaker P Q weaker (Some x) is = weaker x is
+pub device_fit-eui : (recover : Option ℕ → ℕ → Option ℕ) (h : List Entry) (frame : List ℕ) (eui : DevEui) → IfSome (plain.device_fit recover h frame eui) (λ f. f.eui ≡ eui)
+device_fit-eui recover h frame eui = first-gives (λ (f : Fit). f.eui ≡ eui) (plain.session_fit recover h frame eui) (session_fit-eui recover h frame eui) (live h eui)
 
 -- what fits is of a device of the roster
-pub fit-known : (recover : Option ℕ → ℕ → Option ℕ) (net : Network) (h : List Entry) (frame : List ℕ) → IsRoster net → IfSome (first_fit recover net h frame) (λ w. IsSome (device net w.eui))
+pub fit-known : (recover : Option ℕ → ℕ → Option ℕ) (net : Network) (h : List Entry) (frame : List ℕ) → IsRoster net → IfSome (first_fit recover net h frame) (λ f. IsSome (device net f.eui))
 fit-known recover net h frame valid =
     gives-all Known (λ (d : Device). plain.device_fit recover h frame d.eui) (devices_at net (data_fields frame).addr)
     (All-filter (λ (d : Device). IfSome (plain.device_fit recover h frame d.eui) Known) (λ (d : Device). (device_addr net d).0 == (data_fields frame).addr) net.devices
     (All-weaker (Contains net.devices) (λ (d : Device). IfSome (plain.device_fit recover h frame d.eui) Known) each net.devices (members net)))
   where
-    Known : WindowName → Type 0
-    Known w = IsSome (device net w.eui)
+    Known : Fit → Type 0
+    Known f = IsSome (device net f.eui)
 
     each : (d : Device) → Contains net.devices d → IfSome (plain.device_fit recover h frame d.eui) Known
     each d member =
         let found : device net d.eui ≡ Some d = device-found net valid d.eui d (member, refl) in
         let here : IsSome (device net d.eui) = subst (λ (o : Option Device). IsSome o) (sym found) refl in
-        IfSome-weaker (λ (w : WindowName). w.eui ≡ d.eui) Known (λ w is. subst (λ (e : DevEui). IsSome (device net e)) (sym is) here) (plain.device_fit recover h frame d.eui) (device_fit-eui recover h frame d.eui)
-
-pub at_some : {X : Type 0} (P : X → Type 0) (o : Option X) (x : X) → o ≡ Some x → IfSome o P → P x
-at_some P o x is holds = subst (λ p. IfSome p P) is holds
+        IfSome-weaker (λ (f : Fit). f.eui ≡ d.eui) Known (plain.device_fit recover h frame d.eui) (λ f is. subst (λ (e : DevEui). IsSome (device net e)) (sym is) here) (device_fit-eui recover h frame d.eui)
 
 opened-known : (net : Network) (h : List Entry) → IsRoster net → (c : Call) → IfSome (opening_in c (reply_to net h c)) (λ o. IsSome (device net o.window.eui))
 opened-known net h valid (call.Join t heard) = tt
@@ -105,7 +94,7 @@ opened-known net h valid (call.Close w) = tt
 opened-known net h valid (call.Uplink frame heard) =
     elim (opened-cases h frame heard (window_with h frame) (first_fit above net h frame) _) [
       | inl none ↦ subst (λ o. IfSome o (λ x. IsSome (device net x.window.eui))) (sym none) tt
-      | inr found ↦ subst (λ o. IfSome o (λ x. IsSome (device net x.window.eui))) (sym found.3) (at_some (λ (w : WindowName). IsSome (device net w.eui)) (first_fit above net h frame) found.0 found.2 (fit-known above net h frame valid))
+      | inr found ↦ subst (λ o. IfSome o (λ x. IsSome (device net x.window.eui))) (sym found.3) (at_some (λ (f : Fit). IsSome (device net f.eui)) (first_fit above net h frame) found.0 found.2 (fit-known above net h frame valid))
     ]
 
 WindowsKnown : Network → List Entry → Type 0
@@ -219,18 +208,18 @@ close-answered net index h devices windows w agrees law mine =
 -- ---- after it
 
 -- where there is no number, nothing is used
-no_ack : (s : Session) → session_ack s ≡ None → used_ack s ≡ s
+no_ack : (s : Session) → session_ack s ≡ None → session_after_ack s ≡ s
 no_ack s is = step (nat_lt s.next_ack (2 ^ 32)) is
   where
     step : (b : Bool) → when b s.next_ack ≡ None → cond b (record s { next_ack = s.next_ack + 1 }) s ≡ s
     step true none = absurd (cc none)
     step false none = refl
 
-none-acknowledged : (number : ℕ) (sessions : List Session) → option_and_then session_ack (find (λ s. s.number == number) sessions) ≡ None → acknowledged number sessions ≡ sessions
+none-acknowledged : (number : ℕ) (sessions : List Session) → option_and_then session_ack (find (λ s. s.number == number) sessions) ≡ None → sessions_after_ack number sessions ≡ sessions
 none-acknowledged number [] none = refl
 none-acknowledged number (s ∷ sessions) none =
     let asked = λ (b : Bool). option_and_then session_ack (cond {A = Option Session} b (Some s) (find (λ (x : Session). x.number == number) sessions)) in
-    let left = λ (b : Bool). cond {A = List Session} b (used_ack s ∷ sessions) (s ∷ acknowledged number sessions) in
+    let left = λ (b : Bool). cond {A = List Session} b (session_after_ack s ∷ sessions) (s ∷ sessions_after_ack number sessions) in
     elim (bool_tells (s.number == number)) [
       | inl here ↦ ap left here ∙ ap (λ (x : Session). x ∷ sessions) (no_ack s (sym (ap asked here) ∙ none))
       | inr other ↦ ap left other ∙ ap (λ xs. s ∷ xs) (none-acknowledged number sessions (sym (ap asked other) ∙ none))
@@ -276,7 +265,7 @@ agrees-close net index h devices windows w agrees stay law mine = record {
         this None none r = unnumbered net h w (reply.Closed w None) stay r (λ eui. refl) w.eui ∙ sym (with_ack-none w.session (device_record net h w.eui) none)
         this (Some n) some r =
             ap (λ (x : Reply). let e : Entry = record { number = length h; call = call.Close w; reply = x } in device_record net (h ++ e ∷ []) w.eui) r
-            ∙ sym (law.closed (length h) w n some)
+            ∙ sym (law.records (length h) w n some)
 
     devices_step : (found : Option Opening) → open_window h w ≡ found → with_closing (option_map (window_in h) found) (devices_in net index h) ≡ devices_in net index now
     devices_step None is = sym (devices-same net index h now (unnumbered net h w reply.NoWindow stay (close-reply h w None is) (λ eui. refl)))

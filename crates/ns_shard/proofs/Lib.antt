@@ -13,3 +13,5 @@ pub mod Reactions
 pub mod RunSteps
 pub mod RunHistories
 pub mod Indexes
+pub mod RunTaken
+pub mod Openings

@@ -1,8 +1,11 @@
 -- What comes of a call by the devices and windows that agree with the entries is what comes of it by the entries, and they agree after it.
-use Rattle.std.proofs.Common.{◌≡◌, ◌==◌, ℕ, Bool, false, not, cond, nat_le, List, [], ◌∷◌, length, map, Option, None, Some, option_map, refl, sym, ap, ap₂, ◌∙◌, arith, inl, inr}
-use Rattle.std.specs.Option.{option_map_or}
+use Rattle.std.proofs.Common.{◌≡◌, ◌==◌, ℕ, zero, suc, All, Bool, false, not, cond, nat_le, List, [], ◌∷◌, length, map, Option, None, Some, option_map, refl, sym, ap, ap₂, ◌∙◌, arith, inl, inr}
+use Rattle.std.specs.Prelude.{Contains}
+use Rattle.std.specs.Option.{option_map_or, option_and_then}
+use Rattle.std.proofs.lemmas.List.Elements.{All-filter}
 use Rattle.std.proofs.lemmas.Bool.Decides.{nat_tests}
 use Rattle.ns_types.specs.declared.identity.DevEui.{DevEui}
+use Rattle.ns_types.specs.declared.identity.DevNonce.{DevNonce}
 use Rattle.ns_types.specs.declared.heard.Heard.{Heard}
 use Rattle.ns_types.specs.declared.ticket.Ticket.{Ticket}
 use Rattle.ns_types.specs.Cases.{first_case, when}
@@ -11,24 +14,24 @@ use Rattle.ns_types.specs.Ticket.{dev_eui, join_eui}
 use Rattle.ns_roster.specs.declared.Device.{Device}
 use Rattle.ns_roster.specs.Network.{Network, device, is_known, has_join_eui}
 use Rattle.ns_roster.specs.Valid.{IsRoster}
-use Rattle.ns_roster.proofs.DeviceLemmas.{is_known-by_device, found-device}
+use Rattle.ns_roster.proofs.DeviceLemmas.{is_known-by_device, found-device, device-found}
 use Rattle.ns_calls.specs.declared.call.Call.{Call}
 use Rattle.ns_calls.specs.declared.call.Call.TheVariants as call
 use Rattle.ns_calls.specs.declared.call.Reply.{Reply}
 use Rattle.ns_calls.specs.declared.call.Reply.TheVariants as reply
 use Rattle.ns_calls.specs.declared.call.Entry.{Entry}
 use Rattle.ns_calls.specs.History.{same_device}
-use Rattle.ns_calls.specs.History.{is_ticket_open, ticket_count}
+use Rattle.ns_calls.specs.History.{last_nonce, is_ticket_open, ticket_count}
 use Rattle.ns_calls.specs.Reply.{reply_to, reply_to_join, spent_by, join_copy_reply, most_tickets}
 use Rattle.ns_calls.specs.Legal.{entry_for, with_call}
 use Rattle.ns_calls.proofs.LocalLemmas.{bool_tells}
 use Rattle.ns_calls.proofs.LegalLemmas.{history_none, history_more}
 use Rattle.ns_calls.proofs.KeyLemmas.{sessions_have_joins}
-use Rattle.ns_sessions.specs.Record.{device_record, join_take}
+use Rattle.ns_sessions.specs.Record.{no_joins, device_record, join_decision}
 use Rattle.ns_sessions.specs.Laws.{OthersStay, JoinsAgree, concerns, join_reply}
 use Rattle.ns_windows.specs.declared.window.Window.{Window}
 use Rattle.ns_shard.specs.declared.devices.Own.{Own}
-use Rattle.ns_shard.specs.Devices.{devices_of, own, own_in, devices_in, joinless, is_own, own_of, with_state, asked}
+use Rattle.ns_shard.specs.Devices.{devices_of, own, own_in, devices_in, joinless, is_own, own_of, with_state, after_join}
 use Rattle.ns_shard.specs.Reaction.{own_join_reply, with_own_join, shard_join_reply, with_shard_join}
 use Rattle.ns_shard.specs.Parts.{Agrees}
 use Rattle.ns_shard.proofs.Places.{change_first-same, change_first-stays, change_first-none}
@@ -38,17 +41,31 @@ use Rattle.ns_shard.proofs.WindowSteps.{windows-quiet, WindowsHaveJoins}
 
 -- ---- no entries
 
+-- each element of a list is one of it
+contained_each : {X : Type 0} (xs : List X) → All (Contains xs) xs
+contained_each [] k d within = absurd (omega (arith, within))
+contained_each (x ∷ xs) zero d within = (0, omega arith, refl)
+contained_each (x ∷ xs) (suc k) d within =
+    let held = contained_each xs k d (omega (arith, within)) in
+    (suc held.0, omega (arith, held.1), held.2)
+
 pub agrees-new : (net : Network) (index : ℕ) → OthersStay → IsRoster net → Agrees net index [] (map (joinless net) (devices_of net index)) []
 agrees-new net index stay valid = record {
   valid = valid;
   history = history_none net index;
-  by_device = each (devices_of net index);
+  by_device = each (devices_of net index) (All-filter (λ d. shard_of d.eui == index) (Contains net.devices) net.devices (contained_each net.devices));
   by_window = refl;
 }
   where
-    each : (ds : List Device) → map (joinless net) ds ≡ map (own_in net []) ds
-    each [] = refl
-    each (d ∷ ds) = ap₂ (λ (o : Own) os. o ∷ os) (ap (λ r. own net r d) (sym (stay.none net d.eui))) (each ds)
+    -- the device that is found at the EUI of one of the devices is that one
+    named : (d : Device) → Contains net.devices d → option_map (λ (n : DevNonce). n.0) d.last_nonce ≡ last_nonce net d.eui
+    named d held = sym (ap (option_and_then (λ (x : Device). option_map (λ (n : DevNonce). n.0) x.last_nonce)) (device-found net valid d.eui d (held, refl)))
+
+    each : (ds : List Device) → All (Contains net.devices) ds → map (joinless net) ds ≡ map (own_in net []) ds
+    each [] held = refl
+    each (d ∷ ds) held =
+        ap₂ (λ (o : Own) os. o ∷ os) (ap (λ r. own net r d) (ap no_joins (named d (held 0 d (omega arith))) ∙ sym (stay.none net d.eui)))
+        (each ds (λ k x within. held (suc k) x (omega (arith, within))))
 
 -- ---- any call
 
@@ -88,7 +105,7 @@ join-replied net index h devices windows t agrees law mine =
     step : (o : Option Device) → device net (dev_eui t) ≡ o → replied (option_map (own_in net h) o) ≡ reply_to_join net h t
     step None is = sym (join-unknown net h t (known_is ∙ ap (has_join_eui (join_eui t)) is))
     step (Some d) is =
-        let asks = λ (e : DevEui). join_reply t (join_take (device_record net h e) t) in
+        let asks = λ (e : DevEui). join_reply t (join_decision (device_record net h e) t) in
         let by = λ (b : Bool). cond b (asks d.eui) reply.NoDevice in
         elim (bool_tells (d.join_eui.0 == (join_eui t).0)) [
           | inl same ↦ ap by same ∙ (ap asks (found-device net (dev_eui t) d is).1 ∙ law.replies t (known_is ∙ (ap (has_join_eui (join_eui t)) is ∙ same)))
@@ -137,11 +154,11 @@ agrees-join net index h devices windows t heard agrees stay law mine = record {
     step (Some d) is =
         let o : Own = own_in net h d in
         let here : own_of (dev_eui t) (devices_in net index h) ≡ Some o = found ∙ ap (option_map (own_in net h)) is in
-        let by = λ (b : Bool). cond b (with_state (asked t heard) o) o in
+        let by = λ (b : Bool). cond b (with_state (after_join t heard) o) o in
         elim (bool_tells (d.join_eui.0 == (join_eui t).0)) [
           | inl same ↦
-              change_first-same (is_own (dev_eui t)) f (with_state (asked t heard)) (devices_in net index h) o here (ap by same)
-              ∙ sym (devices-changed net index h now (dev_eui t) (asked t heard) agrees.valid
+              change_first-same (is_own (dev_eui t)) f (with_state (after_join t heard)) (devices_in net index h) o here (ap by same)
+              ∙ sym (devices-changed net index h now (dev_eui t) (after_join t heard) agrees.valid
               (others-stay net h (length h) (call.Join t heard) (dev_eui t) stay (λ other differs. concerns-join other t heard (reply_to_join net h t) differs))
               (sym (law.records agrees.history.legal (length h) t heard (known_is ∙ (ap (has_join_eui (join_eui t)) is ∙ same)))))
           | inr differs ↦

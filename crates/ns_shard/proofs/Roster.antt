@@ -1,5 +1,8 @@
 -- The devices of a shard are those of the roster that are asked for.
-use Rattle.std.proofs.Common.{◌≡◌, ℕ, zero, suc, ◌==◌, Bool, true, false, cond, List, [], ◌∷◌, filter, filter_map, map, find, Option, Some, option_map, refl, sym, ap, ap₂, ◌∙◌, arith, inl, inr}
+use Rattle.ns_shard.specs.State.{known_greatest}
+use Rattle.ns_shard.specs.declared.devices.Own.{Own}
+use Rattle.std.specs.Option.{option_and_then}
+use Rattle.std.proofs.Common.{◌≡◌, ℕ, zero, suc, ◌==◌, Bool, true, false, cond, List, [], ◌∷◌, filter, filter_map, map, find, Option, Some, option_map, refl, sym, ap, ap₂, ◌∙◌, arith, inl, inr, None}
 use Rattle.std.specs.Prelude.{All, AllPairs, Contains}
 use Rattle.std.specs.List.{AllByRecursion, cons_option}
 use Rattle.std.proofs.lemmas.List.Elements.{Contains-get_or}
@@ -10,12 +13,12 @@ use Rattle.ns_views.specs.Frame.{data_fields}
 use Rattle.ns_roster.specs.declared.Device.{Device}
 use Rattle.ns_roster.specs.Network.{Network, device, device_addr}
 use Rattle.ns_roster.specs.Valid.{IsRoster, Differ}
-use Rattle.ns_roster.proofs.DeviceLemmas.{shard_of_device, later_differ, rest_apart}
+use Rattle.ns_roster.proofs.DeviceLemmas.{shard_of_device, later_differ, rest_apart, found-device}
 use Rattle.ns_calls.specs.declared.call.Entry.{Entry}
 use Rattle.ns_calls.specs.Queries.{first}
-use Rattle.ns_calls.specs.History.{same_device}
+use Rattle.ns_calls.specs.History.{same_device, greatest_nonce}
 use Rattle.ns_calls.specs.Reply as plain
-use Rattle.ns_calls.specs.Reply.{window_of, devices_at, first_fit}
+use Rattle.ns_calls.specs.Reply.{fit_of, devices_at, first_fit}
 use Rattle.ns_calls.proofs.LocalLemmas.{bool_tells}
 use Rattle.ns_calls.proofs.Lists.{All-filter, All-weaker}
 use Rattle.ns_calls.proofs.JoinLemmas.{same_device-eq}
@@ -96,6 +99,16 @@ own-found net index h eui mine =
         let shard : shard_of d.eui ≡ index = ap shard_of (same_device-eq d.eui eui is) ∙ mine in
         grind (arith, nat_tests)
 
+-- the greatest nonce of a device of the shard
+pub greatest-found : (net : Network) (index : ℕ) (h : List Entry) (eui : DevEui) → shard_of eui ≡ index
+    → option_and_then (λ (o : Own). o.state.greatest_nonce) (own_of eui (devices_in net index h)) ≡ known_greatest net h eui
+unfolding device_record
+greatest-found net index h eui mine = ap (option_and_then (λ (o : Own). o.state.greatest_nonce)) (own-found net index h eui mine) ∙ step (device net eui) refl
+  where
+    step : (found : Option Device) → device net eui ≡ found → option_and_then (λ (o : Own). o.state.greatest_nonce) (option_map (own_in net h) found) ≡ option_and_then (λ (d : Device). greatest_nonce net h eui) found
+    step None is = refl
+    step (Some d) is = ap (greatest_nonce net h) (found-device net eui d is).1
+
 -- ---- what fits
 
 filter-filter : {X : Type 0} (p q : X → Bool) (xs : List X) → AllByRecursion (λ x. p x ≡ true → q x ≡ true) xs → filter p (filter q xs) ≡ filter p xs
@@ -125,7 +138,7 @@ filter_map-same f g same (x ∷ xs) = ap₂ cons_option (same x) (filter_map-sam
 
 -- the sessions that a device's record holds fit where the plain server says
 abbrev pub FitsAgree : (Option ℕ → ℕ → Option ℕ) → Network → List Entry → List ℕ → Type 0
-FitsAgree recover net h frame = (eui : DevEui) → option_map (λ p. window_of eui p.0 p.1) (device_fit recover frame (device_record net h eui)) ≡ plain.device_fit recover h frame eui
+FitsAgree recover net h frame = (eui : DevEui) → option_map (λ p. fit_of eui p.0 p.1) (device_fit recover frame (device_record net h eui)) ≡ plain.device_fit recover h frame eui
 
 -- the first of the shard's devices that fits is the first of the roster's
 pub fit-own : (recover : Option ℕ → ℕ → Option ℕ) (net : Network) (index : ℕ) (h : List Entry) (frame : List ℕ) → IsRoster net → FitsAgree recover net h frame →

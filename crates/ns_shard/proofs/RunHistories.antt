@@ -1,27 +1,38 @@
 -- What a run leaves in each shard is a legal history of the calls that reached it.
-use Rattle.std.proofs.Common.{◌≡◌, ℕ, ◌<◌, List, [], ◌∷◌, ◌++◌, length, map, filter, slice_get, take, drop, ◌≤◌, Some, Result, Ok, Err, refl, sym, ap, ◌∙◌, subst, arith, eqb, cond, inl, inr}
+use Rattle.ns_shard.proofs.Maps.{find-map}
+use Rattle.ns_calls.specs.History.{last_nonce, greatest_nonce}
+use Rattle.ns_roster.proofs.DeviceLemmas.{device-found}
+use Rattle.ns_roster.specs.Closing.{devices_with}
+use Rattle.ns_roster.specs.Valid.{IsRoster}
+use Rattle.ns_roster.specs.declared.Device.{Device}
+use Rattle.ns_types.specs.Identity.{shard_of}
+use Rattle.ns_types.specs.declared.identity.DevNonce.{DevNonce}
+use Rattle.ns_types.specs.declared.identity.DevEui.{DevEui}
+use Rattle.std.specs.Option.{option_and_then}
+use Rattle.std.specs.Prelude.{Contains}
+use Rattle.std.proofs.Common.{◌≡◌, ℕ, ◌<◌, List, [], ◌∷◌, ◌++◌, length, map, filter, slice_get, take, drop, ◌≤◌, Some, Result, Ok, Err, refl, sym, ap, ◌∙◌, subst, arith, eqb, cond, inl, inr, None, Option, option_map, find, ◌==◌, eq-eqb}
 use Rattle.std.specs.List.{AllByRecursion}
 use Rattle.std.proofs.lemmas.Bool.Decides.{eqb_tells}
 use Rattle.std.proofs.lemmas.List.{append_assoc, append-nil, map_push, drop_all}
 use Rattle.std.proofs.lemmas.Option.{slice_get_within}
-use Rattle.ns_roster.specs.Network.{Network}
+use Rattle.ns_roster.specs.Network.{Network, device}
 use Rattle.ns_calls.specs.declared.call.Call.{Call}
 use Rattle.ns_calls.specs.declared.call.Entry.{Entry}
 use Rattle.ns_calls.specs.Legal.{IsHistory, with_call}
 use Rattle.ns_calls.specs.Shards.{shard_of_call}
 use Rattle.ns_calls.specs.Steps.{Refusal, link, view}
 use Rattle.ns_calls.specs.Runs.{history_after}
-use Rattle.ns_calls.specs.Headline.{NoncesRise, CountersRise, AcksRise, WindowsOpenOnce}
+use Rattle.ns_calls.specs.Headline.{NoncesRise, CountersRise, AcksRise, WindowsOpenOnce, NoncesAreWithin, AreBelow}
 use Rattle.ns_calls.proofs.LegalLemmas.{history_none, history_more}
-use Rattle.ns_calls.proofs.JoinLemmas.{nonces_rise}
+use Rattle.ns_calls.proofs.JoinLemmas.{nonces_rise, nonces_within, later_above}
 use Rattle.ns_calls.proofs.UplinkLemmas.{counters_rise}
 use Rattle.ns_calls.proofs.WindowLemmas.{windows_open_once}
 use Rattle.ns_calls.proofs.AckLemmas.{acks_rise}
 use Rattle.ns_calls.proofs.OutLemmas.{goes_out}
 use Rattle.ns_shard.specs.declared.step.Step.{Step}
 use Rattle.ns_shard.specs.declared.run.Taken.{Taken}
-use Rattle.ns_shard.specs.State.{State}
-use Rattle.ns_shard.specs.Steps.{call_of, calls_of, shard_history, call_taken, all_taken, state_after, AreAfter, OfEach, HandsOut}
+use Rattle.ns_shard.specs.State.{State, known_greatest, greatest_in}
+use Rattle.ns_shard.specs.Steps.{call_of, calls_of, shard_history, call_taken, all_taken, state_after, AreAfter, OfEach, HandsOut, greatest_among, greatest_after, closing_roster, accepted_by}
 
 -- calls of one shard lengthen a history of it
 is_history : (net : Network) (shard : ℕ) (before : List Entry) (calls : List Call) → AllByRecursion (λ c. shard_of_call c ≡ shard) calls → IsHistory net shard before → IsHistory net shard (history_after net before calls)
@@ -40,7 +51,7 @@ own_calls shard (c ∷ calls) = elim (eqb_tells (shard_of_call c) shard) [
   | inr other ↦ subst (λ b. AllByRecursion (λ x. shard_of_call x ≡ shard) (cond {A = List Call} b (c ∷ filter (λ x. eqb (shard_of_call x) shard) calls) (filter (λ x. eqb (shard_of_call x) shard) calls))) (sym other.0) (own_calls shard calls)
 ]
 
-shard_history-is : (net : Network) (shard : ℕ) (steps : List Step) → IsHistory net shard (shard_history net shard steps)
+pub shard_history-is : (net : Network) (shard : ℕ) (steps : List Step) → IsHistory net shard (shard_history net shard steps)
 shard_history-is net shard steps = is_history net shard [] (calls_of shard steps) (own_calls shard _) (history_none net shard)
 
 -- the entries of a shard after steps
@@ -87,3 +98,51 @@ all-hand_out net before (step ∷ steps) = (hands_out net before (call_of step.a
 pub told-all : (net : Network) (steps : List Step) (i : ℕ) (taken : List Taken) → length steps ≤ i → taken ++ all_taken net (take i steps) (drop i steps) ≡ all_taken net [] steps → taken ≡ all_taken net [] steps
 told-all net steps i taken whole told =
     sym (ap (λ rest. taken ++ all_taken net (take i steps) rest) (drop_all i steps whole) ∙ append-nil taken) ∙ told
+
+pub histories-within : (net : Network) (steps : List Step) (shards : List State) → AreAfter net steps shards → OfEach shards (λ shard h. NoncesAreWithin net h)
+histories-within net steps shards after = of_each (λ shard h. NoncesAreWithin net h) net steps shards after (λ shard. nonces_within net _ (shard_history-is net shard steps).legal)
+
+-- the greatest nonce of a device, as its shard has it after the steps
+pub greatest-after : (net : Network) (steps : List Step) (shards : List State) → AreAfter net steps shards → (eui : DevEui) → greatest_among shards eui ≡ greatest_after net steps eui
+greatest-after net steps shards after eui =
+    let shard : ℕ = shard_of eui in
+    let s : State = state_after net shard steps in
+    ap (option_and_then (λ (t : State). greatest_in t eui)) (after.each shard (omega arith))
+    ∙ ap (λ b. cond b (known_greatest net s.entries eui) None) (eq-eqb shard shard refl)
+
+-- ---- two runs
+
+-- the nonce of a number
+nonce_of : ℕ → DevNonce
+nonce_of n = record { 0 = n }
+
+same_number : (o : Option ℕ) → option_map (λ (n : DevNonce). n.0) (option_map nonce_of o) ≡ o
+unfolding nonce_of
+same_number None = refl
+same_number (Some n) = refl
+
+-- the devices with the nonces that f gives
+with_each : (f : Device → Option DevNonce) (ds : List Device) → devices_with ds (map f ds) ≡ map (λ (d : Device). record d { last_nonce = f d }) ds
+with_each f [] = refl
+with_each f (d ∷ ds) = ap (λ es. (record d { last_nonce = f d }) ∷ es) (with_each f ds)
+
+-- the last nonce of a device in the closing roster is its greatest after the run
+closing-last : (net : Network) → IsRoster net → (steps : List Step) (d : Device) → Contains net.devices d
+    → last_nonce (closing_roster net steps) d.eui ≡ greatest_nonce net (shard_history net (shard_of d.eui) steps) d.eui
+unfolding nonce_of
+closing-last net valid steps d held =
+    let f : Device → Option DevNonce = λ x. option_map nonce_of (greatest_after net steps x.eui) in
+    let g : Device → Device = λ x. record x { last_nonce = f x } in
+    let found : device net d.eui ≡ Some d = device-found net valid d.eui d (held, refl) in
+    let there : device (closing_roster net steps) d.eui ≡ Some (g d) =
+    ap (find (λ (x : Device). x.eui.0 == d.eui.0)) (with_each f net.devices) ∙ (find-map g (λ (x : Device). x.eui.0 == d.eui.0) net.devices ∙ ap (option_map g) found) in
+    ap (option_and_then (λ (x : Device). option_map (λ (n : DevNonce). n.0) x.last_nonce)) there
+    ∙ (same_number (greatest_after net steps d.eui)
+    ∙ ap (option_and_then (λ (x : Device). greatest_nonce net (shard_history net (shard_of d.eui) steps) d.eui)) found)
+
+pub next_above : (net : Network) → IsRoster net → (first second : List Step) (d : Device) → Contains net.devices d
+    → AreBelow (accepted_by net first d.eui) (accepted_by (closing_roster net first) second d.eui)
+next_above net valid first second d held =
+    let shard : ℕ = shard_of d.eui in
+    later_above net (closing_roster net first) (shard_history net shard first) (shard_history (closing_roster net first) shard second)
+    (shard_history-is net shard first).legal (shard_history-is (closing_roster net first) shard second).legal d.eui (closing-last net valid first d held)

@@ -26,7 +26,7 @@ history_after-push net before [] c = refl
 history_after-push net before (call ∷ calls) c = history_after-push net (with_call net before (length before) call) calls c
 
 -- the calls of one step more
-abbrev one_call : (shard : ℕ) → Result Call Refusal → List Call
+abbrev pub one_call : (shard : ℕ) → Result Call Refusal → List Call
 one_call shard r = filter (λ c. eqb (shard_of_call c) shard) (option_to_list (result_ok r))
 
 cons_option-nil : {Y : Type 0} (o : Option Y) → cons_option o [] ≡ option_to_list o
@@ -36,32 +36,43 @@ cons_option-nil (Some y) = refl
 filter_map-one : {X Y : Type 0} (f : X → Option Y) (x : X) → filter_map f (x ∷ []) ≡ option_to_list (f x)
 filter_map-one f x = cons_option-nil (f x)
 
+-- the calls of the steps so far and of more steps
+pub calls_of-joined : (shard : ℕ) (steps more : List Step) → calls_of shard (steps ++ more) ≡ calls_of shard steps ++ calls_of shard more
+calls_of-joined shard steps more =
+    let own : Call → Bool = λ c. eqb (shard_of_call c) shard in
+    let of : Step → Option Call = λ s. result_ok (call_of s.act) in
+    ap (filter own) (filter_map-append of steps more) ∙ filter-append own (filter_map of steps) (filter_map of more)
+
 calls_of-push : (shard : ℕ) (steps : List Step) (step : Step) → calls_of shard (steps ++ step ∷ []) ≡ calls_of shard steps ++ one_call shard (call_of step.act)
 calls_of-push shard steps step =
     let own : Call → Bool = λ c. eqb (shard_of_call c) shard in
-    let of : Step → Option Call = λ s. result_ok (call_of s.act) in
-    ap (filter own) (filter_map-append of steps (step ∷ []) ∙ ap (λ cs. filter_map of steps ++ cs) (filter_map-one of step))
-    ∙ filter-append own (filter_map of steps) (option_to_list (of step))
+    calls_of-joined shard steps (step ∷ [])
+    ∙ ap (λ cs. calls_of shard steps ++ filter own cs) (filter_map-one (λ s. result_ok (call_of s.act)) step)
 
 shard_history-push : (net : Network) (shard : ℕ) (steps : List Step) (step : Step) → shard_history net shard (steps ++ step ∷ []) ≡ history_of net (calls_of shard steps ++ one_call shard (call_of step.act))
 shard_history-push net shard steps step = ap (history_of net) (calls_of-push shard steps step)
 
 -- a step that makes no call on a shard
-state_after-other : (net : Network) (shard : ℕ) (steps : List Step) (step : Step) → one_call shard (call_of step.act) ≡ [] → state_after net shard (steps ++ step ∷ []) ≡ state_after net shard steps
-state_after-other net shard steps step none =
-    let same : shard_history net shard (steps ++ step ∷ []) ≡ shard_history net shard steps =
-    shard_history-push net shard steps step ∙ ap (λ cs. history_of net (calls_of shard steps ++ cs)) none ∙ ap (history_of net) (append-nil (calls_of shard steps)) in
-    let state : List Entry → State = λ h. record { roster = net; index = shard; made = length h; entries = h } in
-    ap state same
+pub shard_history-other : (net : Network) (shard : ℕ) (steps : List Step) (step : Step) → one_call shard (call_of step.act) ≡ [] → shard_history net shard (steps ++ step ∷ []) ≡ shard_history net shard steps
+shard_history-other net shard steps step none =
+    shard_history-push net shard steps step ∙ ap (λ cs. history_of net (calls_of shard steps ++ cs)) none ∙ ap (history_of net) (append-nil (calls_of shard steps))
 
 -- a step that makes a call on a shard
+pub shard_history-own : (net : Network) (shard : ℕ) (steps : List Step) (step : Step) (c : Call) → one_call shard (call_of step.act) ≡ c ∷ [] →
+    let h = shard_history net shard steps in shard_history net shard (steps ++ step ∷ []) ≡ with_call net h (length h) c
+shard_history-own net shard steps step c one =
+    shard_history-push net shard steps step ∙ ap (λ cs. history_of net (calls_of shard steps ++ cs)) one ∙ history_after-push net [] (calls_of shard steps) c
+
+state_after-other : (net : Network) (shard : ℕ) (steps : List Step) (step : Step) → one_call shard (call_of step.act) ≡ [] → state_after net shard (steps ++ step ∷ []) ≡ state_after net shard steps
+state_after-other net shard steps step none =
+    let state : List Entry → State = λ h. record { roster = net; index = shard; made = length h; entries = h } in
+    ap state (shard_history-other net shard steps step none)
+
 state_after-own : (net : Network) (shard : ℕ) (steps : List Step) (step : Step) (c : Call) → one_call shard (call_of step.act) ≡ c ∷ [] → state_after net shard (steps ++ step ∷ []) ≡ after_call (state_after net shard steps) c
 state_after-own net shard steps step c one =
     let h = shard_history net shard steps in
-    let longer : shard_history net shard (steps ++ step ∷ []) ≡ with_call net h (length h) c =
-    shard_history-push net shard steps step ∙ ap (λ cs. history_of net (calls_of shard steps ++ cs)) one ∙ history_after-push net [] (calls_of shard steps) c in
     let state : ℕ → List Entry → State = λ n es. record { roster = net; index = shard; made = n; entries = es } in
-    ap (λ es. state (length es) es) longer ∙ ap (λ n. state n (with_call net h (length h) c)) (length-append h _)
+    ap (λ es. state (length es) es) (shard_history-own net shard steps step c one) ∙ ap (λ n. state n (with_call net h (length h) c)) (length-append h _)
 
 -- what comes of a step in the shards after the steps before it
 pub taken-after : (net : Network) (before : List Step) (shards : List State) (r : Result Call Refusal) → AreAfter net before shards

@@ -27,10 +27,10 @@ use Rattle.ns_calls.specs.declared.call.Entry.{Entry}
 use Rattle.ns_calls.specs.History.{Opening, opening_in, window_copy_in, open_windows, window_count, window_copies, session_join, live, is_live, greatest_counter, next_ack}
 use Rattle.ns_calls.specs.Headline.{opening_count, open_count}
 use Rattle.ns_calls.specs.Reply as plain
-use Rattle.ns_calls.specs.Reply.{reply_to, reply_to_uplink, first_fit, devices_at, copy_reply, open_reply, most_windows, most_copies}
+use Rattle.ns_calls.specs.Reply.{reply_to, reply_to_uplink, Fit, window_of, first_fit, devices_at, copy_reply, open_reply, most_windows, most_copies}
 use Rattle.ns_calls.specs.Legal.{IsLegal, entry_for, with_call}
 use Rattle.ns_calls.proofs.LocalLemmas.{bool_tells}
-use Rattle.ns_calls.proofs.Lists.{All-weaker, find-has, find-none, one_more, count-append, count-cons}
+use Rattle.ns_calls.proofs.Lists.{All-weaker, find-has, find-none, one_more, count-append, count-cons, IfSome-weaker, at_some}
 use Rattle.ns_calls.proofs.PushLemmas.{window_copies-push}
 use Rattle.ns_calls.proofs.LegalLemmas.{history_more}
 use Rattle.ns_calls.proofs.Induction.{legal_induction}
@@ -55,7 +55,7 @@ use Rattle.ns_shard.proofs.Roster.{fit-own, members}
 use Rattle.ns_shard.proofs.DeviceSteps.{devices-changed, devices-same}
 use Rattle.ns_shard.proofs.WindowSteps.{windows-quiet, windows-copied, windows-opened, windows-framed, windows-named, windows-count, copied-full}
 use Rattle.ns_shard.proofs.PartSteps.{joined, same_device-false}
-use Rattle.ns_shard.proofs.CloseSteps.{gives-all, device_fit-eui, IfSome-weaker, fit-known, own-some, at_some}
+use Rattle.ns_shard.proofs.CloseSteps.{gives-all, device_fit-eui, fit-known, own-some}
 
 -- ---- the reply
 
@@ -76,25 +76,28 @@ pub uplink-replied : (net : Network) (index : ℕ) (h : List Entry) (devices : L
     shard_of_addr (record { 0 = (data_fields frame).addr }) ≡ index → uplink_reply devices windows frame ≡ reply_to_uplink net h frame
 uplink-replied net index h devices windows frame agrees law mine =
     ap₂ (λ ds ws. uplink_reply ds ws frame) agrees.by_device agrees.by_window
-    ∙ (ap₂ (λ f s. first_case (option_map by_copy (framed frame (windows_in h)) ∷ option_map (kept.open_reply (windows_in h)) f ∷ option_map old s ∷ []) reply.NoSession)
+    ∙ (ap₂ (λ f s. first_case (option_map by_copy (framed frame (windows_in h)) ∷ option_map kept_open f ∷ option_map old s ∷ []) reply.NoSession)
     (fit-own above net index h frame agrees.valid (law.fits above frame) mine) (fit-own below net index h frame agrees.valid (law.fits below frame) mine)
-    ∙ (ap (λ x. first_case (option_map by_copy x ∷ option_map (kept.open_reply (windows_in h)) (first_fit above net h frame) ∷ option_map old (first_fit below net h frame) ∷ []) reply.NoSession) (windows-framed h frame)
+    ∙ (ap (λ x. first_case (option_map by_copy x ∷ option_map kept_open (first_fit above net h frame) ∷ option_map old (first_fit below net h frame) ∷ []) reply.NoSession) (windows-framed h frame)
     ∙ step (plain.window_with h frame) refl (first_fit above net h frame)))
   where
     by_copy : Window → Reply
     by_copy w = kept.copy_reply (addition w)
 
-    old : WindowName → Reply
-    old w = reply.Old w.eui w.session w.fcnt
+    old : Fit → Reply
+    old f = reply.Old f.eui f.session f.counter
+
+    kept_open : Fit → Reply
+    kept_open f = kept.open_reply (windows_in h) (window_of f)
 
     opens : (w : WindowName) → kept.open_reply (windows_in h) w ≡ open_reply h w
     opens w = ap (λ n. cond (nat_le most_windows n) (reply.Busy w.eui) (reply.Opened w)) (windows-count h w.eui)
 
-    step : (o : Option Opening) → plain.window_with h frame ≡ o → (f : Option WindowName) →
-        first_case (option_map by_copy (option_map (window_in h) o) ∷ option_map (kept.open_reply (windows_in h)) f ∷ option_map old (first_fit below net h frame) ∷ []) reply.NoSession
-        ≡ first_case (option_map (λ (x : Opening). copy_reply h x.window) o ∷ option_map (open_reply h) f ∷ option_map old (first_fit below net h frame) ∷ []) reply.NoSession
+    step : (o : Option Opening) → plain.window_with h frame ≡ o → (f : Option Fit) →
+        first_case (option_map by_copy (option_map (window_in h) o) ∷ option_map kept_open f ∷ option_map old (first_fit below net h frame) ∷ []) reply.NoSession
+        ≡ first_case (option_map (λ (x : Opening). copy_reply h x.window) o ∷ option_map (λ (x : Fit). open_reply h (window_of x)) f ∷ option_map old (first_fit below net h frame) ∷ []) reply.NoSession
     step (Some o) is f = copied-same h o
-    step None is (Some w) = opens w
+    step None is (Some f) = opens (window_of f)
     step None is None = refl
 
 -- ---- a name that never opened has no copies
@@ -115,20 +118,23 @@ no_copies : (w : WindowName) (o : Option (WindowName × Heard)) → IfSome o (λ
 no_copies w None apart = refl
 no_copies w (Some p) apart = ap (λ b. map (λ (c : WindowName × Heard). c.1) (cond {A = List (WindowName × Heard)} b (p ∷ []) [])) apart
 
-copy-apart : (h : List Entry) (frame : List ℕ) (heard : Heard) (w : WindowName) (copied fresh : Option _) (stale : Option WindowName) → IfSome copied (λ (o : Opening). same_window o.window w ≡ false) →
+copy-apart : (h : List Entry) (frame : List ℕ) (heard : Heard) (w : WindowName) (copied : Option Opening) (fresh stale : Option Fit) → IfSome copied (λ (o : Opening). same_window o.window w ≡ false) →
     IfSome (opening_in (call.Uplink frame heard) (uplink_reply_by h copied fresh stale)) (λ o. same_window o.window w ≡ false) → IfSome (window_copy_in (call.Uplink frame heard) (uplink_reply_by h copied fresh stale)) (λ p. same_window p.0 w ≡ false)
 copy-apart h frame heard w (Some o) fresh stale apart opened = step (nat_le (length (window_copies h o.window) + 1) most_copies)
   where
     step : (b : Bool) → IfSome (window_copy_in (call.Uplink frame heard) (cond b (reply.Copied o.window (length (window_copies h o.window) + 1)) (reply.Crowded o.window))) (λ p. same_window p.0 w ≡ false)
     step true = apart
     step false = tt
-copy-apart h frame heard w None (Some v) stale apart opened = step (nat_le most_windows (window_count h v.eui)) opened
+copy-apart h frame heard w None (Some f) stale apart opened = step (nat_le most_windows (window_count h f.eui)) opened
   where
+    v : WindowName
+    v = window_of f
+
     step : (b : Bool) → IfSome (opening_in (call.Uplink frame heard) (cond b (reply.Busy v.eui) (reply.Opened v))) (λ o. same_window o.window w ≡ false) →
         IfSome (window_copy_in (call.Uplink frame heard) (cond b (reply.Busy v.eui) (reply.Opened v))) (λ p. same_window p.0 w ≡ false)
     step true is = tt
     step false is = is
-copy-apart h frame heard w None None (Some v) apart opened = tt
+copy-apart h frame heard w None None (Some f) apart opened = tt
 copy-apart h frame heard w None None None apart opened = tt
 
 NoCopies : List Entry → Type 0
@@ -154,7 +160,7 @@ copies_step net h number c legal holds w none =
     each (call.Close v) before is = tt
     each (call.Uplink frame heard) before is =
         copy-apart h frame heard w (plain.window_with h frame) (first_fit above net h frame) (first_fit below net h frame)
-        (IfSome-weaker (λ (o : Opening). (same_window o.window w ≡ false) × (Rattle.std.specs.Prelude.bytes_eq o.frame frame ≡ true)) (λ (o : Opening). same_window o.window w ≡ false) (λ o both. both.0) (plain.window_with h frame)
+        (IfSome-weaker (λ (o : Opening). (same_window o.window w ≡ false) × (Rattle.std.specs.Prelude.bytes_eq o.frame frame ≡ true)) (λ (o : Opening). same_window o.window w ≡ false) (plain.window_with h frame) (λ o both. both.0)
         (find-has (λ (o : Opening). same_window o.window w ≡ false) (λ (o : Opening). Rattle.std.specs.Prelude.bytes_eq o.frame frame) (open_windows h) (apart_in net h w legal before))) is
 
 copies_none : (net : Network) (h : List Entry) → IsLegal net h → NoCopies h
@@ -167,15 +173,15 @@ none_copied net h w legal never = copies_none net h legal w never
 
 -- ---- an uplink that is opened
 
--- what is opened is of a frame that no open window has, and fits
-opened-facts : (net : Network) (h : List Entry) (frame : List ℕ) (heard : Heard) (w : WindowName) → reply_to_uplink net h frame ≡ reply.Opened w → (plain.window_with h frame ≡ None) × (first_fit above net h frame ≡ Some w)
+-- what is opened is of a frame that no open window has, where it fits
+opened-facts : (net : Network) (h : List Entry) (frame : List ℕ) (heard : Heard) (w : WindowName) → reply_to_uplink net h frame ≡ reply.Opened w → (plain.window_with h frame ≡ None) × (f : Fit) × (first_fit above net h frame ≡ Some f) × (window_of f ≡ w)
 opened-facts net h frame heard w is =
     let said : opening_in (call.Uplink frame heard) (reply_to_uplink net h frame) ≡ Some (opening_of w frame heard) = ap (opening_in (call.Uplink frame heard)) is in
     elim (opened-cases h frame heard (plain.window_with h frame) (first_fit above net h frame) _) [
       | inl none ↦ absurd (cc (sym none ∙ said))
       | inr found ↦
-          (let same : opening_of found.0 frame heard ≡ opening_of w frame heard = same_Some _ _ (sym found.3 ∙ said) in
-          (found.1, found.2 ∙ ap Some (ap (λ (o : Opening). o.window) same)))
+          (let same : opening_of (window_of found.0) frame heard ≡ opening_of w frame heard = same_Some _ _ (sym found.3 ∙ said) in
+          (found.1, found.0, found.2, ap (λ (o : Opening). o.window) same))
     ]
 
 -- the session of a window that fits is one of the record's, with its keys and its counter
@@ -200,14 +206,14 @@ filter-passes {X} P test (x ∷ xs) all = step (test x) refl (filter-passes P te
     step false is rest = rest
 
 -- what fits is of a device of the frame's shard
-fit-shard : (recover : Option ℕ → ℕ → Option ℕ) (net : Network) (index : ℕ) (h : List Entry) (frame : List ℕ) → IsRoster net → shard_of_addr (record { 0 = (data_fields frame).addr }) ≡ index → IfSome (first_fit recover net h frame) (λ w. shard_of w.eui ≡ index)
+fit-shard : (recover : Option ℕ → ℕ → Option ℕ) (net : Network) (index : ℕ) (h : List Entry) (frame : List ℕ) → IsRoster net → shard_of_addr (record { 0 = (data_fields frame).addr }) ≡ index → IfSome (first_fit recover net h frame) (λ f. shard_of f.eui ≡ index)
 fit-shard recover net index h frame valid mine =
     gives-all Mine (λ (d : Device). plain.device_fit recover h frame d.eui) (devices_at net (data_fields frame).addr)
     (All-weaker (λ (d : Device). Contains net.devices d × (addressed d ≡ true)) (λ (d : Device). IfSome (plain.device_fit recover h frame d.eui) Mine) each (devices_at net (data_fields frame).addr)
     (filter-passes (Contains net.devices) addressed net.devices (members net)))
   where
-    Mine : WindowName → Type 0
-    Mine w = shard_of w.eui ≡ index
+    Mine : Fit → Type 0
+    Mine f = shard_of f.eui ≡ index
 
     addressed : Device → Bool
     addressed d = (device_addr net d).0 == (data_fields frame).addr
@@ -216,7 +222,7 @@ fit-shard recover net index h frame valid mine =
     each d both =
         let addr : (device_addr net d).0 ≡ (data_fields frame).addr = (let is = both.1 in grind (arith, nat_tests)) in
         let shard : shard_of d.eui ≡ index = sym (shard_of_device net valid d both.0) ∙ (ap (λ n. shard_of_addr (record { 0 = n })) addr ∙ mine) in
-        IfSome-weaker (λ (w : WindowName). w.eui ≡ d.eui) Mine (λ w is. ap shard_of is ∙ shard) (plain.device_fit recover h frame d.eui) (device_fit-eui recover h frame d.eui)
+        IfSome-weaker (λ (f : Fit). f.eui ≡ d.eui) Mine (plain.device_fit recover h frame d.eui) (λ f is. ap shard_of is ∙ shard) (device_fit-eui recover h frame d.eui)
 
 -- what is known of a window that is opened
 record IsOpened (net : Network) (index : ℕ) (h : List Entry) (frame : List ℕ) (w : WindowName) : Type 0 where
@@ -232,8 +238,10 @@ is-opened : (net : Network) (index : ℕ) (h : List Entry) (frame : List ℕ) (h
 is-opened net index h frame heard w valid legal after mine is =
     let c : Call = call.Uplink frame heard in
     let e : Entry = entry_for net h (length h) c in
-    let fit : first_fit above net h frame ≡ Some w = (opened-facts net h frame heard w is).1 in
-    let lives : IsFit h w = at_some (IsFit h) (first_fit above net h frame) w fit (first_fit-live above net h frame) in
+    let facts = opened-facts net h frame heard w is in
+    let fit : first_fit above net h frame ≡ Some facts.1 = facts.2 in
+    let name : window_of facts.1 ≡ w = facts.3 in
+    let lives : IsFit h facts.1 = at_some (IsFit h) (first_fit above net h frame) facts.1 fit (first_fit-live above net h frame) in
     let said : opening_in c (reply_to net h c) ≡ Some (opening_of w frame heard) = ap (opening_in c) is in
     let new : IsNewOpening h (opening_of w frame heard) = at_some (IsNewOpening h) (opening_in c (reply_to net h c)) (opening_of w frame heard) said (opening-new net h c) in
     let test : Opening → Bool = λ o. same_window o.window w in
@@ -242,10 +250,10 @@ is-opened net index h frame heard w valid legal after mine is =
     let pushed : opening_count (h ++ e ∷ []) w ≡ opening_count h w + count_by test (option_to_list (opening_in c (reply_to net h c))) = openings-pushed h e w in
     let once : opening_count (h ++ e ∷ []) w ≤ 1 = (windows_open_once net (h ++ e ∷ []) after).opens w in
     record {
-      shard = at_some (λ (v : WindowName). shard_of v.eui ≡ index) (first_fit above net h frame) w fit (fit-shard above net index h frame valid mine);
-      known = at_some (λ (v : WindowName). IsSome (device net v.eui)) (first_fit above net h frame) w fit (fit-known above net h frame valid);
-      keyed = lives.keyed;
-      found = session-found net h w.eui w.session lives.lives;
+      shard = subst (λ (v : WindowName). shard_of v.eui ≡ index) name (at_some (λ (f : Fit). shard_of f.eui ≡ index) (first_fit above net h frame) facts.1 fit (fit-shard above net index h frame valid mine));
+      known = subst (λ (v : WindowName). IsSome (device net v.eui)) name (at_some (λ (f : Fit). IsSome (device net f.eui)) (first_fit above net h frame) facts.1 fit (fit-known above net h frame valid));
+      keyed = subst (λ (v : WindowName). IsSome (session_join h v.eui v.session)) name lives.keyed;
+      found = session-found net h w.eui w.session (subst (λ (v : WindowName). is_live h v.eui v.session ≡ true) name lives.lives);
       counter = new.fresh.counter;
       never = omega (arith, one, pushed, once);
     }
@@ -299,7 +307,7 @@ can_open net index h devices windows frame heard agrees law mine w said =
 
 -- ---- after it
 
-room-of : (h : List Entry) (copied : Option Opening) (fresh stale : Option WindowName) (w : WindowName) (place : ℕ) → uplink_reply_by h copied fresh stale ≡ reply.Copied w place → length (window_copies h w) < most_copies
+room-of : (h : List Entry) (copied : Option Opening) (fresh stale : Option Fit) (w : WindowName) (place : ℕ) → uplink_reply_by h copied fresh stale ≡ reply.Copied w place → length (window_copies h w) < most_copies
 room-of h (Some o) fresh stale w place is = step (nat_le (length (window_copies h o.window) + 1) most_copies) refl is
   where
     step : (b : Bool) → nat_le (length (window_copies h o.window) + 1) most_copies ≡ b → cond b (reply.Copied o.window (length (window_copies h o.window) + 1)) (reply.Crowded o.window) ≡ reply.Copied w place → length (window_copies h w) < most_copies
@@ -308,15 +316,18 @@ room-of h (Some o) fresh stale w place is = step (nat_le (length (window_copies 
         let less : length (window_copies h o.window) < 16 = grind (arith, nat_tests) in
         let same : o.window ≡ w = cc in
         subst (λ (v : WindowName). length (window_copies h v) < 16) same less
-room-of h None (Some v) stale w place is = step (nat_le most_windows (window_count h v.eui)) is
+room-of h None (Some f) stale w place is = step (nat_le most_windows (window_count h f.eui)) is
   where
+    v : WindowName
+    v = window_of f
+
     step : (b : Bool) → cond b (reply.Busy v.eui) (reply.Opened v) ≡ reply.Copied w place → length (window_copies h w) < most_copies
     step true said = absurd (cc said)
     step false said = absurd (cc said)
-room-of h None None (Some v) w place is = absurd (cc is)
+room-of h None None (Some f) w place is = absurd (cc is)
 room-of h None None None w place is = absurd (cc is)
 
-full-of : (h : List Entry) (copied : Option Opening) (fresh stale : Option WindowName) (w : WindowName) → uplink_reply_by h copied fresh stale ≡ reply.Crowded w → nat_lt (length (window_copies h w)) most_copies ≡ false
+full-of : (h : List Entry) (copied : Option Opening) (fresh stale : Option Fit) (w : WindowName) → uplink_reply_by h copied fresh stale ≡ reply.Crowded w → nat_lt (length (window_copies h w)) most_copies ≡ false
 full-of h (Some o) fresh stale w is = step (nat_le (length (window_copies h o.window) + 1) most_copies) refl is
   where
     step : (b : Bool) → nat_le (length (window_copies h o.window) + 1) most_copies ≡ b → cond b (reply.Copied o.window (length (window_copies h o.window) + 1)) (reply.Crowded o.window) ≡ reply.Crowded w → nat_lt (length (window_copies h w)) most_copies ≡ false
@@ -324,12 +335,15 @@ full-of h (Some o) fresh stale w is = step (nat_le (length (window_copies h o.wi
     step false fits said =
         let same : o.window ≡ w = cc in
         ap (λ (v : WindowName). nat_lt (length (window_copies h v)) 16) (sym same) ∙ (place-test (length (window_copies h o.window)) ∙ fits)
-full-of h None (Some v) stale w is = step (nat_le most_windows (window_count h v.eui)) is
+full-of h None (Some f) stale w is = step (nat_le most_windows (window_count h f.eui)) is
   where
+    v : WindowName
+    v = window_of f
+
     step : (b : Bool) → cond b (reply.Busy v.eui) (reply.Opened v) ≡ reply.Crowded w → nat_lt (length (window_copies h w)) most_copies ≡ false
     step true said = absurd (cc said)
     step false said = absurd (cc said)
-full-of h None None (Some v) w is = absurd (cc is)
+full-of h None None (Some f) w is = absurd (cc is)
 full-of h None None None w is = absurd (cc is)
 
 -- the devices and the windows after an uplink
@@ -377,7 +391,7 @@ after-of net index h devices windows frame heard agrees stay law mine r is = ste
               sym (devices-changed net index h (h ++ e ∷ []) w.eui (with_uplink w.session w.fcnt) agrees.valid
               (λ other differs. stay.others net h e other (ap (concerns other (call.Uplink frame heard)) said ∙ same_device-false other w.eui differs))
               (ap (λ (x : Reply). let d : Entry = record { number = length h; call = call.Uplink frame heard; reply = x } in device_record net (h ++ d ∷ []) w.eui) said
-              ∙ sym (law.opened (length h) frame heard w (new_counter net index h frame w opened))));
+              ∙ sym (law.records (length h) frame heard w (new_counter net index h frame w opened))));
           windows_after =
               ap (λ keys. with_window frame heard w keys (windows_in h)) (opened-keys net index h frame w opened)
               ∙ sym (windows-opened h e o (joined net index h devices windows agrees) opened.keyed refl (ap (opening_in (call.Uplink frame heard)) said) (ap (window_copy_in (call.Uplink frame heard)) said)

@@ -2,7 +2,6 @@
 use Rattle.std.specs.Prelude.{◌≡◌, ℕ, Bool, false, ◌==◌, List, [], ◌∷◌, map, filter, filter_map, find, Option, option_map, if◌then◌else◌}
 use Rattle.std.specs.List.{AllByRecursion}
 use Rattle.ns_types.specs.declared.identity.DevEui.{DevEui}
-use Rattle.ns_types.specs.declared.identity.WindowName.{WindowName}
 use Rattle.ns_types.specs.declared.heard.Heard.{Heard}
 use Rattle.ns_types.specs.declared.ticket.Ticket.{Ticket}
 use Rattle.ns_types.specs.Identity.{shard_of}
@@ -13,9 +12,10 @@ use Rattle.ns_calls.specs.declared.call.Outcome.{Outcome}
 use Rattle.ns_calls.specs.declared.call.Entry.{Entry}
 use Rattle.ns_calls.specs.Queries.{first}
 use Rattle.ns_calls.specs.History.{same_device}
-use Rattle.ns_calls.specs.Reply.{window_of}
-use Rattle.ns_sessions.specs.Record.{DeviceRecord, no_joins, device_fit, device_record, join_take, with_join, reply_take, with_reply}
+use Rattle.ns_calls.specs.Reply.{Fit, fit_of}
+use Rattle.ns_sessions.specs.Record.{DeviceRecord, no_joins, device_fit, device_record, join_decision, with_join, answer_decision, with_reply}
 use Rattle.ns_shard.specs.declared.devices.Own.{Own}
+use Rattle.ns_shard.specs.declared.devices.Placed.{Placed}
 
 -- the devices of a shard, in the roster's order
 abbrev pub devices_of : Network → ℕ → List Device
@@ -24,9 +24,9 @@ devices_of net index = filter (λ d. shard_of d.eui == index) net.devices
 abbrev pub own : Network → DeviceRecord → Device → Own
 own net state d = record { device = d; addr = device_addr net d; state = state }
 
--- a device that has not joined
+-- a device that has not joined, with its last nonce
 abbrev pub joinless : Network → Device → Own
-joinless net d = own net no_joins d
+joinless net d = own net (no_joins (option_map (λ n. n.0) d.last_nonce)) d
 
 -- a device, as the entries tell it
 abbrev pub own_in : Network → List Entry → Device → Own
@@ -44,15 +44,19 @@ is_own eui o = same_device o.device.eui eui
 abbrev pub own_of : DevEui → List Own → Option Own
 own_of eui devices = find (is_own eui) devices
 
--- the window that a frame has in a device's sessions
-abbrev pub own_fit : (Option ℕ → ℕ → Option ℕ) → List ℕ → Own → Option WindowName
-own_fit recover frame o = option_map (λ p. window_of o.device.eui p.0 p.1) (device_fit recover frame o.state)
+-- where a frame fits in a device's sessions
+abbrev pub own_fit : (Option ℕ → ℕ → Option ℕ) → List ℕ → Own → Option Fit
+own_fit recover frame o = option_map (λ p. fit_of o.device.eui p.0 p.1) (device_fit recover frame o.state)
+
+-- that, without the place of the device
+abbrev pub fit_at : Placed → Fit
+fit_at f = fit_of f.eui f.session f.counter
 
 abbrev pub is_addressed : List ℕ → Own → Bool
 is_addressed frame o = o.addr.0 == (data_fields frame).addr
 
--- the window of the first of the devices with the frame's address that fits
-abbrev pub first_own_fit : (Option ℕ → ℕ → Option ℕ) → List ℕ → List Own → Option WindowName
+-- where it fits first among the devices with its address
+abbrev pub first_own_fit : (Option ℕ → ℕ → Option ℕ) → List ℕ → List Own → Option Fit
 first_own_fit recover frame devices = first (filter_map (own_fit recover frame) (filter (is_addressed frame) devices))
 
 -- no two devices have one EUI
@@ -74,8 +78,8 @@ abbrev pub changed : DevEui → (DeviceRecord → DeviceRecord) → List Own →
 changed eui f devices = change_first (is_own eui) (with_state f) devices
 
 -- what a Join-Request, an answer to one, an uplink and an acknowledgement change
-abbrev pub asked : Ticket → Heard → DeviceRecord → DeviceRecord
-asked t heard r = with_join (join_take r t) t heard r
+abbrev pub after_join : Ticket → Heard → DeviceRecord → DeviceRecord
+after_join t heard r = with_join (join_decision r t) t heard r
 
-abbrev pub answered : Ticket → Outcome → DeviceRecord → DeviceRecord
-answered t outcome r = with_reply (reply_take r t outcome) t outcome r
+abbrev pub after_answer : Ticket → Outcome → DeviceRecord → DeviceRecord
+after_answer t outcome r = with_reply (answer_decision r t outcome) t outcome r

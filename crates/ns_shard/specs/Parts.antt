@@ -1,6 +1,7 @@
 -- The parts of a shard agree: what it keeps of its devices and windows is what its entries tell; for private clauses.
-use Rattle.std.specs.Prelude.{◌≡◌, ℕ, ◌<◌, List, length}
+use Rattle.std.specs.Prelude.{◌≡◌, ℕ, ◌<◌, List}
 use Rattle.std.specs.Arc.{arc_value}
+use Rattle.ns_types.specs.Identity.{shard_count}
 use Rattle.ns_roster.specs.Network.{Network}
 use Rattle.ns_roster.specs.Valid.{IsRoster}
 use Rattle.ns_calls.specs.declared.call.Entry.{Entry}
@@ -8,11 +9,11 @@ use Rattle.ns_calls.specs.Legal.{IsHistory}
 use Rattle.ns_windows.specs.declared.window.Window.{Window}
 use Rattle.ns_shard.specs.declared.devices.Own.{Own}
 use Rattle.ns_shard.specs.declared.parts.Parts.{Parts}
-use Rattle.ns_shard.specs.State.{State}
+use Rattle.ns_shard.specs.State.{State, Keeps}
 use Rattle.ns_shard.specs.Held.{windows_in}
 use Rattle.ns_shard.specs.Devices.{devices_in}
 
--- these devices and windows are those that the entries tell, and the entries are a history of the shard
+-- these devices and windows are those that the history tells, and it is one of the shard
 pub record Agrees (net : Network) (index : ℕ) (h : List Entry) (devices : List Own) (windows : List Window) : Type 0 where
   pub valid : IsRoster net
   pub history : IsHistory net index h
@@ -22,7 +23,10 @@ pub record Agrees (net : Network) (index : ℕ) (h : List Entry) (devices : List
 abbrev pub state_of : Parts → State
 state_of p = record { roster = arc_value p.roster; index = p.index; made = p.journal.made; entries = p.journal.entries }
 
+-- The history is every entry that was made. What the shard keeps of it stands in the journal, and the devices and windows are those that
+-- it tells.
 pub record AreParts (p : Parts) : Type 0 where
-  pub small : p.index < 16
-  pub made : p.journal.made ≡ length p.journal.entries
-  pub agrees : Agrees (arc_value p.roster) p.index p.journal.entries p.devices p.windows
+  pub small : p.index < shard_count
+  pub history : List Entry
+  pub keeps : Keeps history (state_of p)
+  pub agrees : Agrees (arc_value p.roster) p.index history p.devices p.windows

@@ -7,7 +7,6 @@ use Rattle.ns_types.specs.declared.identity.WindowName.{WindowName}
 use Rattle.ns_types.specs.declared.heard.Heard.{Heard}
 use Rattle.ns_types.specs.declared.ticket.Ticket.{Ticket}
 use Rattle.ns_types.specs.Cases.{first_case}
-use Rattle.ns_types.specs.Heard.{rx1}
 use Rattle.ns_types.specs.Ticket.{dev_eui, join_eui}
 use Rattle.ns_views.specs.Frame.{is_confirmed}
 use Rattle.ns_secure.specs.Counter.{above, below}
@@ -18,12 +17,11 @@ use Rattle.ns_calls.specs.declared.call.Call.TheVariants as call
 use Rattle.ns_calls.specs.declared.call.Reply.{Reply}
 use Rattle.ns_calls.specs.declared.call.Reply.TheVariants as reply
 use Rattle.ns_calls.specs.declared.answer.Downlink.{Downlink}
-use Rattle.ns_calls.specs.Accept.{accept_bytes}
-use Rattle.ns_calls.specs.Reply.{most_windows}
-use Rattle.ns_calls.specs.Out.{downlink_to, join_accept_delay}
-use Rattle.ns_sessions.specs.declared.take.ReplyTake.{ReplyTake}
-use Rattle.ns_sessions.specs.declared.take.ReplyTake.TheVariants as take
-use Rattle.ns_sessions.specs.Record.{join_take, reply_take, ack_in, with_ack, with_uplink, session_in, IsNewCounter}
+use Rattle.ns_calls.specs.Reply.{most_windows, window_of}
+use Rattle.ns_calls.specs.Out.{accept_at}
+use Rattle.ns_sessions.specs.declared.decision.AnswerDecision.{AnswerDecision}
+use Rattle.ns_sessions.specs.declared.decision.AnswerDecision.TheVariants as decision
+use Rattle.ns_sessions.specs.Record.{join_decision, answer_decision, ack_in, with_ack, with_uplink, session_in, IsNewCounter}
 use Rattle.ns_sessions.specs.Laws.{join_reply}
 use Rattle.ns_windows.specs.declared.window.Window.{Window}
 use Rattle.ns_windows.specs.declared.window.Addition.{Addition}
@@ -32,16 +30,16 @@ use Rattle.ns_windows.specs.Windows.{copied, count, framed, named, addition, wit
 use Rattle.ns_shard.specs.declared.devices.Own.{Own}
 use Rattle.ns_shard.specs.declared.event.Event.{Event}
 use Rattle.ns_shard.specs.declared.event.Event.TheVariants.{Quiet, Accepted, Closed}
-use Rattle.ns_shard.specs.Devices.{is_own, own_of, change_first, with_state, changed, asked, answered, first_own_fit}
+use Rattle.ns_shard.specs.Devices.{is_own, own_of, change_first, with_state, changed, after_join, after_answer, first_own_fit}
 
 -- ---- joins
 
 -- the reply to a Join-Request of a device's EUI, and what it leaves of the device
 abbrev pub own_join_reply : Ticket → Own → Reply
-own_join_reply t o = if o.device.join_eui.0 == (join_eui t).0 then join_reply t (join_take o.state t) else reply.NoDevice
+own_join_reply t o = if o.device.join_eui.0 == (join_eui t).0 then join_reply t (join_decision o.state t) else reply.NoDevice
 
 abbrev pub with_own_join : Ticket → Heard → Own → Own
-with_own_join t heard o = if o.device.join_eui.0 == (join_eui t).0 then with_state (asked t heard) o else o
+with_own_join t heard o = if o.device.join_eui.0 == (join_eui t).0 then with_state (after_join t heard) o else o
 
 abbrev pub shard_join_reply : List Own → Ticket → Reply
 shard_join_reply devices t = option_map_or (own_join_reply t) (own_of (dev_eui t) devices) reply.NoDevice
@@ -53,17 +51,17 @@ with_shard_join t heard devices = change_first (is_own (dev_eui t)) (with_own_jo
 
 -- the Join-Accept of an answer, at RX1 of a copy
 abbrev pub accept_downlink : Outcome → Heard → Option Downlink
-accept_downlink (outcome.Success join) heard = Some (downlink_to (accept_bytes join.accept) (rx1 heard 0 join_accept_delay))
+accept_downlink (outcome.Success join) heard = Some (accept_at join heard)
 accept_downlink outcome.Failed heard = None
 
-abbrev pub answer_event : DevAddr → Ticket → Outcome → ReplyTake → Event
-answer_event addr t o take.NoTicket = Quiet reply.NoTicket
-answer_event addr t o take.Refused = Quiet reply.JoinRefused
-answer_event addr t o (take.Stale greatest) = Quiet (reply.JoinStale greatest)
-answer_event addr t o (take.Accepted session heard) = Accepted (reply.Accepted (dev_eui t) session addr) (accept_downlink o heard)
+abbrev pub answer_event : DevAddr → Ticket → Outcome → AnswerDecision → Event
+answer_event addr t o decision.NoTicket = Quiet reply.NoTicket
+answer_event addr t o decision.Refused = Quiet reply.JoinRefused
+answer_event addr t o (decision.Stale greatest) = Quiet (reply.JoinStale greatest)
+answer_event addr t o (decision.Accepted session heard) = Accepted (reply.Accepted (dev_eui t) session addr) (accept_downlink o heard)
 
 abbrev pub own_answer_event : Ticket → Outcome → Own → Event
-own_answer_event t outcome o = answer_event o.addr t outcome (reply_take o.state t outcome)
+own_answer_event t outcome o = answer_event o.addr t outcome (answer_decision o.state t outcome)
 
 abbrev pub shard_answer_event : List Own → Ticket → Outcome → Event
 shard_answer_event devices t outcome = option_map_or (own_answer_event t outcome) (own_of (dev_eui t) devices) (Quiet reply.NoTicket)
@@ -104,8 +102,8 @@ open_reply windows name = if nat_le most_windows (count name.eui windows) then r
 abbrev pub uplink_reply : List Own → List Window → List ℕ → Reply
 uplink_reply devices windows frame = first_case (
     option_map (λ w. copy_reply (addition w)) (framed frame windows)
-    ∷ option_map (open_reply windows) (first_own_fit above frame devices)
-    ∷ option_map (λ w. reply.Old w.eui w.session w.fcnt) (first_own_fit below frame devices)
+    ∷ option_map (λ f. open_reply windows (window_of f)) (first_own_fit above frame devices)
+    ∷ option_map (λ f. reply.Old f.eui f.session f.counter) (first_own_fit below frame devices)
     ∷ []) reply.NoSession
 
 -- what an uplink of this reply leaves
@@ -157,7 +155,7 @@ window_closed_by windows (call.Close name) = named name windows
 abbrev pub devices_after : List Own → List Window → Call → List Own
 devices_after devices windows (call.Uplink frame heard) = with_shard_uplink (uplink_reply devices windows frame) devices
 devices_after devices windows (call.Join t heard) = with_shard_join t heard devices
-devices_after devices windows (call.JoinReply t outcome) = changed (dev_eui t) (answered t outcome) devices
+devices_after devices windows (call.JoinReply t outcome) = changed (dev_eui t) (after_answer t outcome) devices
 devices_after devices windows (call.Close name) = with_closing (named name windows) devices
 
 abbrev pub windows_after : List Own → List Window → Call → List Window

@@ -1,18 +1,14 @@
 -- What goes out with what came of a call; for private clauses.
-use Rattle.std.specs.Prelude.{ℕ, Option, None, Some, option_map, option_and_then, is_none, if◌then◌else◌}
-use Rattle.std.specs.Option.{option_map_or}
-use Rattle.ns_types.specs.declared.identity.Key.{Key}
-use Rattle.ns_types.specs.Heard.{best, rx1}
+use Rattle.std.specs.Prelude.{ℕ, Option, None, option_map, option_and_then}
+use Rattle.ns_types.specs.Heard.{best}
 use Rattle.ns_views.specs.Frame.{data_fields}
-use Rattle.ns_secure.specs.declared.Dir.TheVariants.{Up}
-use Rattle.ns_secure.specs.Cipher.{cipher}
-use Rattle.ns_roster.specs.Network.{Network, ack_delay}
+use Rattle.ns_roster.specs.Network.{Network}
 use Rattle.ns_calls.specs.declared.call.Reply.{Reply}
 use Rattle.ns_calls.specs.declared.call.Reply.TheVariants as reply
 use Rattle.ns_calls.specs.declared.answer.Uplink.{Uplink}
 use Rattle.ns_calls.specs.declared.answer.Downlink.{Downlink}
 use Rattle.ns_calls.specs.declared.answer.Answer.{Answer}
-use Rattle.ns_calls.specs.Out.{is_port_0, ack_frame, downlink_to}
+use Rattle.ns_calls.specs.Out.{payload_key, uplink_under, ack_at}
 use Rattle.ns_windows.specs.declared.window.Window.{Window}
 use Rattle.ns_shard.specs.declared.event.Event.{Event}
 use Rattle.ns_shard.specs.declared.event.Event.TheVariants.{Quiet, Accepted, Closed}
@@ -23,27 +19,12 @@ quiet r = record { reply = r; uplink = None; downlink = None }
 
 -- ---- of a window that was closed
 
--- the key of a payload: the NwkSKey on port 0, else the AppSKey
-abbrev pub payload_key : Option ℕ → Window → Option Key
-payload_key port w = if is_port_0 port then Some w.nwk else w.app
-
 abbrev pub uplink_from : Window → Uplink
-uplink_from w =
-    let fields = data_fields w.frame in
-    record {
-      window = w.name;
-      addr = record { 0 = fields.addr };
-      port = fields.port;
-      fopts = fields.fopts;
-      sealed = is_none (payload_key fields.port w);
-      payload = option_map_or (λ k. cipher k.0 Up fields.addr w.name.fcnt fields.payload) (payload_key fields.port w) fields.payload;
-      copies = w.copies;
-    }
+uplink_from w = uplink_under w.name w.frame w.copies.items (payload_key (data_fields w.frame).port w.nwk w.app)
 
 -- the acknowledgement with this number, at RX1 of the best copy
 abbrev pub ack_from : Network → Window → ℕ → Option Downlink
-ack_from net w n =
-    option_map (λ copy. downlink_to (ack_frame w.nwk.0 (data_fields w.frame).addr n) (rx1 copy net.rx1_offset (ack_delay net))) (best w.copies.items)
+ack_from net w n = option_map (ack_at net w.frame w.nwk n) (best w.copies.items)
 
 -- ---- of any call, with the window that it closed, if any
 

@@ -1,7 +1,11 @@
 -- The steps of a run: the calls that they make, and what comes of each.
-use Rattle.std.specs.Prelude.{◌≡◌, ℕ, ◌<◌, ◌==◌, List, [], ◌∷◌, ◌++◌, length, filter, filter_map, slice_get, Option, Some, option_map, is_some, slice_set, Result, Ok, Err}
+use Rattle.ns_roster.specs.Closing.{with_nonces}
+use Rattle.ns_types.specs.declared.identity.DevEui.{DevEui}
+use Rattle.std.specs.Prelude.{◌≡◌, ℕ, ◌<◌, ◌≤◌, ◌==◌, Bool, false, List, [], ◌∷◌, ◌++◌, length, take, filter, filter_map, count_by, slice_get, Option, Some, IfSome, option_map, is_some, slice_set, Result, Ok, Err, map, option_and_then}
 use Rattle.std.specs.Result.{result_ok}
 use Rattle.std.specs.Option.{option_map_or}
+use Rattle.ns_types.specs.declared.identity.WindowName.{WindowName}
+use Rattle.ns_types.specs.Identity.{shard_count, same_window, shard_of}
 use Rattle.ns_types.specs.Ticket.{transaction}
 use Rattle.ns_roster.specs.Network.{Network}
 use Rattle.ns_calls.specs.declared.call.JoinAns.{JoinAns}
@@ -10,9 +14,11 @@ use Rattle.ns_calls.specs.declared.call.Outcome.TheVariants.{Success, Failed}
 use Rattle.ns_calls.specs.declared.call.Call.{Call}
 use Rattle.ns_calls.specs.declared.call.Call.TheVariants as call
 use Rattle.ns_calls.specs.declared.call.Entry.{Entry}
+use Rattle.ns_calls.specs.declared.answer.Uplink.{Uplink}
 use Rattle.ns_calls.specs.Steps.{Refusal, link, view, datagram_call}
 use Rattle.ns_calls.specs.Shards.{shard_of_call}
-use Rattle.ns_calls.specs.Headline.{hands_out_uplink}
+use Rattle.ns_calls.specs.Headline.{hands_out_uplink, nonces_of}
+use Rattle.ns_calls.specs.Open.{HasJustItsCopies}
 use Rattle.ns_calls.specs.Runs.{history_of}
 use Rattle.ns_calls.specs.Out.{answer}
 use Rattle.ns_joinwire.specs.declared.fault.AnsFault.{AnsFault}
@@ -22,12 +28,19 @@ use Rattle.ns_shard.specs.declared.step.Act.TheVariants.{Datagram, Answer, Lost,
 use Rattle.ns_shard.specs.declared.step.Step.{Step}
 use Rattle.ns_shard.specs.declared.run.Taken.{Taken}
 use Rattle.ns_shard.specs.declared.run.Taken.TheVariants.{Link, View, Made}
-use Rattle.ns_shard.specs.State.{State, after_call}
+use Rattle.ns_shard.specs.State.{State, after_call, answer_in, known_greatest, greatest_in}
 
 -- how asking a join server ended, by what its body is read as
 abbrev pub outcome_of : Result JoinAns AnsFault → Outcome
 outcome_of (Ok join) = Success join
 outcome_of (Err fault) = Failed
+
+-- a join server's answer; for private clauses
+abbrev pub IsAnswer : Act → Type 0
+IsAnswer (Datagram bytes) = ⊥
+IsAnswer (Answer ticket body) = Unit {0}
+IsAnswer (Lost ticket) = ⊥
+IsAnswer (Close window) = ⊥
 
 -- the call of a step, or why it makes none
 abbrev pub call_of : Act → Result Call Refusal
@@ -75,7 +88,7 @@ AreInPlace shards = (shard : ℕ) (s : State) → slice_get shards shard ≡ Som
 -- what comes of a call or a refusal in these states, and the states after it; for private clauses
 abbrev pub taken_in : List State → Result Call Taken → Option Taken
 taken_in shards (Err refusal) = Some refusal
-taken_in shards (Ok c) = option_map (λ s. Made (shard_of_call c) s.made (answer s.roster s.entries c)) (slice_get shards (shard_of_call c))
+taken_in shards (Ok c) = option_map (λ s. Made (shard_of_call c) s.made (answer_in s c)) (slice_get shards (shard_of_call c))
 
 abbrev pub states_after : List State → Result Call Taken → List State
 states_after shards (Err refusal) = shards
@@ -87,8 +100,8 @@ state_after net shard steps = let h = shard_history net shard steps in record { 
 
 -- the sixteen shards are those after the steps
 pub record AreAfter (net : Network) (steps : List Step) (shards : List State) : Type 0 where
-  pub sixteen : length shards ≡ 16
-  pub each : (shard : ℕ) → shard < 16 → slice_get shards shard ≡ Some (state_after net shard steps)
+  pub sixteen : length shards ≡ shard_count
+  pub each : (shard : ℕ) → shard < shard_count → slice_get shards shard ≡ Some (state_after net shard steps)
 
 -- P holds of the entries of each shard, by its number
 abbrev pub OfEach : List State → (ℕ → List Entry → Type 0) → Type 0
@@ -99,3 +112,47 @@ abbrev pub HandsOut : Taken → Type 0
 HandsOut (Link fault) = Unit {0}
 HandsOut (View fault) = Unit {0}
 HandsOut (Made shard number a) = is_some a.uplink ≡ hands_out_uplink a.reply
+
+-- The entry of this number in this shard closes the uplink's window, and the uplink has just its copies: those of the first 16
+-- hearings of its frame, from the window's opening to that closing.
+pub record HasCopiesAt (shards : List State) (shard number : ℕ) (u : Uplink) : Type 0 where
+  pub state : State
+  pub of_shard : slice_get shards shard ≡ Some state
+  pub entry : Entry
+  pub at : slice_get state.entries number ≡ Some entry
+  pub closing : entry.call ≡ call.Close u.window
+  pub copies : HasJustItsCopies (take number state.entries) u
+
+-- the uplink that goes out, if any, has just its copies
+abbrev pub HasCopies : List State → Taken → Type 0
+HasCopies shards (Link fault) = Unit {0}
+HasCopies shards (View fault) = Unit {0}
+HasCopies shards (Made shard number a) = IfSome a.uplink (HasCopiesAt shards shard number)
+
+-- whether the uplink of a window of this name goes out
+abbrev pub hands_out : WindowName → Taken → Bool
+hands_out w (Link fault) = false
+hands_out w (View fault) = false
+hands_out w (Made shard number a) = option_map_or (λ u. same_window u.window w) a.uplink false
+
+-- of the uplinks that go out no two are of windows of one name
+abbrev pub AreHandedOutOnce : List Taken → Type 0
+AreHandedOutOnce taken = (w : WindowName) → count_by (hands_out w) taken ≤ 1
+
+-- the greatest DevNonce of a device, as its shard has it
+abbrev pub greatest_among : List State → DevEui → Option ℕ
+greatest_among shards eui = option_and_then (λ s. greatest_in s eui) (slice_get shards (shard_of eui))
+
+-- ---- two runs, the second from the closing roster of the first
+
+-- the nonces that are accepted of a device in a run of steps, in order
+abbrev pub accepted_by : Network → List Step → DevEui → List ℕ
+accepted_by net steps eui = nonces_of (shard_history net (shard_of eui) steps) eui
+
+-- the greatest DevNonce of a device after a run of steps
+abbrev pub greatest_after : Network → List Step → DevEui → Option ℕ
+greatest_after net steps eui = known_greatest net (shard_history net (shard_of eui) steps) eui
+
+-- the roster whose devices' last nonces are their greatest after a run of steps
+abbrev pub closing_roster : Network → List Step → Network
+closing_roster net steps = with_nonces net (map (λ d. option_map (λ n. record { 0 = n }) (greatest_after net steps d.eui)) net.devices)

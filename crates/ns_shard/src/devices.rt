@@ -4,9 +4,10 @@ ghost use Rattle.std.specs.Prelude.{◌≡◌, ◌==◌, ◌<◌, ◌≤◌, map
 ghost use Rattle.ns_types.specs.Identity.{shard_of};
 ghost use Rattle.ns_types.specs.Ticket.{dev_eui};
 ghost use Rattle.ns_roster.specs.Valid.{IsRoster};
+ghost use Rattle.ns_calls.specs.Reply.{window_of};
 ghost use Rattle.ns_sessions.specs.Recovery.{recovery_counter};
 ghost use Rattle.ns_sessions.specs.Record.{IsNewCounter, session_in, with_uplink, with_ack, ack_in};
-ghost use Rattle.ns_shard.specs.Devices.{joinless, devices_of, is_own, own_of, own_fit, first_own_fit, with_state, changed, answered, AreApart};
+ghost use Rattle.ns_shard.specs.Devices.{joinless, devices_of, is_own, own_of, own_fit, fit_at, first_own_fit, with_state, changed, after_answer, AreApart};
 ghost use Rattle.ns_shard.specs.Reaction.{own_join_reply, with_own_join, shard_join_reply, with_shard_join, own_answer_event, shard_answer_event, keys_in};
 ghost use Rattle.ns_shard.specs.Indexes.{eui_key, addr_key, Indexes, PutsFirst};
 
@@ -15,7 +16,7 @@ use crate::joining::{answer_event, join_reply};
 use ns_calls::{Outcome, Reply};
 use ns_roster::{Device, Roster};
 use ns_sessions::{DeviceState, Recovery};
-use ns_types::{DevAddr, DevEui, Heard, Key, Ticket, WindowName, shard_of};
+use ns_types::{DevAddr, DevEui, DevNonce, Heard, Key, Ticket, WindowName, shard_of};
 use ns_views::DataView;
 use std::alloc::{AllocError, Global};
 use std::collections::HashMap;
@@ -30,15 +31,18 @@ pub struct Own {
 }
 
 impl Own {
-    // The window that the frame has in the device's sessions.
-    fn fit(&self, recovery: Recovery, frame: &DataView) -> Option<WindowName>
-        ensures { result ≡ own_fit (recovery_counter recovery) frame.now self.now }
+    // Where the frame fits in the sessions of the device, which stands at this place.
+    fn fit(&self, place: usize, recovery: Recovery, frame: &DataView) -> Option<Placed>
+        ensures fit { option_map fit_at result ≡ own_fit (recovery_counter recovery) frame.now self.now }
+        ensures place { IfSome result (λ f. f.place ≡ place) }
+        ensures eui { IfSome result (λ f. f.eui ≡ self.now.device.eui) }
     {
-        let (session, fcnt) = self.state.fit(recovery, frame)?;
-        Some(WindowName {
+        let (session, counter) = self.state.fit(recovery, frame)?;
+        Some(Placed {
+            place,
             eui: self.device.eui,
             session,
-            fcnt,
+            counter,
         })
     }
 
@@ -56,7 +60,7 @@ impl Own {
 
     fn answer(&mut self, ticket: &Ticket, outcome: &Outcome) -> Event
         ensures event { result ≡ own_answer_event ticket.now outcome.now self.old }
-        ensures own { self.new ≡ with_state (answered ticket.now outcome.now) self.old }
+        ensures own { self.new ≡ with_state (after_answer ticket.now outcome.now) self.old }
     {
         answer_event(
             self.addr,
@@ -70,7 +74,7 @@ impl Own {
         requires { IsNewCounter (session_in self.old.state session) fcnt }
         ensures { self.new ≡ with_state (with_uplink session fcnt) self.old }
     {
-        self.state.take(session, fcnt);
+        self.state.open(session, fcnt);
     }
 
     fn next_ack(&mut self, session: u32) -> Option<u32>
@@ -81,11 +85,26 @@ impl Own {
     }
 }
 
-/// Where a frame fits: the place of the device, and the window that the frame has in its sessions.
+/// Where a frame fits: the place of the device, and the session and the counter.
 #[derive(Clone, Copy)]
-pub struct Fit {
+pub struct Placed {
     pub place: usize,
-    pub window: WindowName,
+    pub eui: DevEui,
+    pub session: u32,
+    pub counter: u32,
+}
+
+impl Placed {
+    /// The name of the window that is opened there.
+    pub fn window(&self) -> WindowName
+        ensures { result ≡ window_of (fit_at self.now) }
+    {
+        WindowName {
+            eui: self.eui,
+            session: self.session,
+            fcnt: self.counter,
+        }
+    }
 }
 
 /// The devices of a shard, in the roster's order. Contracts see the list of them.
@@ -118,7 +137,7 @@ fn joinless(roster: &Roster, device: &Device) -> Own
     Own {
         device: *device,
         addr: roster.device_addr(device),
-        state: DeviceState::new(),
+        state: DeviceState::new(device.last_nonce),
     }
 }
 
@@ -196,11 +215,11 @@ impl Devices {
     }
 
     // The first device from a place on with the frame's address of which a session fits.
-    fn fit_from(&self, first: usize, recovery: Recovery, frame: &DataView) -> Option<Fit>
+    fn fit_from(&self, first: usize, recovery: Recovery, frame: &DataView) -> Option<Placed>
         requires apart { AreApart self.now }
         requires within { first ≤ length self.now }
-        ensures window { option_map (λ f. f.window) result ≡ first_own_fit (recovery_counter recovery) frame.now (drop first self.now) }
-        ensures place { IfSome result (λ f. position (is_own f.window.eui) self.now ≡ Some f.place) }
+        ensures fit { option_map fit_at result ≡ first_own_fit (recovery_counter recovery) frame.now (drop first self.now) }
+        ensures place { IfSome result (λ f. position (is_own f.eui) self.now ≡ Some f.place) }
     {
         let addr = frame.dev_addr();
         let list = self.list.as_slice();
@@ -209,18 +228,18 @@ impl Devices {
             if own.addr.0 != addr.0 {
                 continue;
             }
-            if let Some(window) = own.fit(recovery, frame) {
-                return Some(Fit { place, window });
+            if let Some(fit) = own.fit(place, recovery, frame) {
+                return Some(fit);
             }
         }
         None
     }
 
-    /// The first device with the frame's address of which a session fits, and the window that the frame has there.
-    pub fn fit(&self, recovery: Recovery, frame: &DataView) -> Option<Fit>
+    /// Where the frame fits first among the devices with its address.
+    pub fn fit(&self, recovery: Recovery, frame: &DataView) -> Option<Placed>
         requires { AreApart self.now }
-        ensures window { option_map (λ f. f.window) result ≡ first_own_fit (recovery_counter recovery) frame.now self.now }
-        ensures place { IfSome result (λ f. position (is_own f.window.eui) self.now ≡ Some f.place) }
+        ensures fit { option_map fit_at result ≡ first_own_fit (recovery_counter recovery) frame.now self.now }
+        ensures place { IfSome result (λ f. position (is_own f.eui) self.now ≡ Some f.place) }
     {
         match self.first_at(frame.dev_addr()) {
             None => None,
@@ -242,7 +261,7 @@ impl Devices {
     /// Takes a join server's answer.
     pub fn answer(&mut self, ticket: &Ticket, outcome: &Outcome) -> Event
         ensures event { result ≡ shard_answer_event self.old ticket.now outcome.now }
-        ensures devices { self.new ≡ changed (dev_eui ticket.now) (answered ticket.now outcome.now) self.old }
+        ensures devices { self.new ≡ changed (dev_eui ticket.now) (after_answer ticket.now outcome.now) self.old }
     {
         match self.place(ticket.dev_eui()) {
             None => Event::Quiet(Reply::NoTicket),
@@ -250,21 +269,31 @@ impl Devices {
         }
     }
 
-    /// The keys of the live session in which a frame fits.
-    pub fn keys(&self, fit: &Fit) -> Option<(Key, Option<Key>)>
-        requires { position (is_own fit.now.window.eui) self.now ≡ Some fit.now.place }
-        ensures { result ≡ keys_in self.now fit.now.window }
+    /// The greatest nonce of one of the devices.
+    pub fn greatest(&self, eui: DevEui) -> Option<DevNonce>
+        ensures { option_map (λ n. n.0) result ≡ option_and_then (λ o. o.state.greatest_nonce) (own_of eui self.now) }
     {
-        self.list[fit.place].state.keys(fit.window.session)
+        match self.place(eui) {
+            None => None,
+            Some(place) => self.list[place].state.greatest(),
+        }
     }
 
-    /// Opens an uplink where it fits.
-    pub fn open(&mut self, fit: &Fit)
-        requires place { position (is_own fit.now.window.eui) self.old ≡ Some fit.now.place }
-        requires counter { IfSome (own_of fit.now.window.eui self.old) (λ o. IsNewCounter (session_in o.state fit.now.window.session) fit.now.window.fcnt) }
-        ensures { self.new ≡ changed fit.now.window.eui (with_uplink fit.now.window.session fit.now.window.fcnt) self.old }
+    /// The keys of a window's session, which lives, of the device at this place.
+    pub fn keys(&self, place: usize, name: &WindowName) -> Option<(Key, Option<Key>)>
+        requires { position (is_own name.now.eui) self.now ≡ Some place }
+        ensures { result ≡ keys_in self.now name.now }
     {
-        self.list[fit.place].open(fit.window.session, fit.window.fcnt);
+        self.list[place].state.keys(name.session)
+    }
+
+    /// Opens an uplink of the device at this place.
+    pub fn open(&mut self, place: usize, name: &WindowName)
+        requires place { position (is_own name.now.eui) self.old ≡ Some place }
+        requires counter { IfSome (own_of name.now.eui self.old) (λ o. IsNewCounter (session_in o.state name.now.session) name.now.fcnt) }
+        ensures { self.new ≡ changed name.now.eui (with_uplink name.now.session name.now.fcnt) self.old }
+    {
+        self.list[place].open(name.session, name.fcnt);
     }
 
     /// Uses the next acknowledgement number of a session.

@@ -6,22 +6,22 @@ ghost use Rattle.ns_shard.specs.Reaction.{accept_downlink, answer_event};
 
 use crate::event::Event;
 use ns_calls::{Bytes, Downlink, Outcome, Reply};
-use ns_sessions::{JoinTake, ReplyTake};
+use ns_sessions::{AnswerDecision, JoinDecision};
 use ns_types::{DevAddr, Heard, Ticket, rx1};
 
 // JOIN_ACCEPT_DELAY1, in microseconds.
 const JOIN_ACCEPT_DELAY: u64 = 5_000_000;
 
 /// The reply to a Join-Request of a known device.
-pub fn join_reply(ticket: &Ticket, take: JoinTake) -> Reply
-    ensures { result ≡ join_reply ticket.now take }
+pub fn join_reply(ticket: &Ticket, decision: JoinDecision) -> Reply
+    ensures { result ≡ join_reply ticket.now decision }
 {
-    match take {
-        JoinTake::Asked => Reply::Ask { ticket: *ticket },
-        JoinTake::Copied(place) => Reply::JoinCopied { place },
-        JoinTake::Crowded => Reply::JoinCrowded,
-        JoinTake::Old(greatest) => Reply::NonceOld { greatest },
-        JoinTake::Busy => Reply::JoinBusy,
+    match decision {
+        JoinDecision::Ask => Reply::Ask { ticket: *ticket },
+        JoinDecision::Copied(place) => Reply::JoinCopied { place },
+        JoinDecision::Crowded => Reply::JoinCrowded,
+        JoinDecision::Old(greatest) => Reply::NonceOld { greatest },
+        JoinDecision::Busy => Reply::JoinBusy,
     }
 }
 
@@ -39,14 +39,19 @@ fn accept_downlink(outcome: &Outcome, heard: &Heard) -> Option<Downlink>
 }
 
 /// What came of a join server's answer, for a device with this address.
-pub fn answer_event(addr: DevAddr, ticket: &Ticket, outcome: &Outcome, take: ReplyTake) -> Event
-    ensures { result ≡ answer_event addr ticket.now outcome.now take }
+pub fn answer_event(
+    addr: DevAddr,
+    ticket: &Ticket,
+    outcome: &Outcome,
+    decision: AnswerDecision,
+) -> Event
+    ensures { result ≡ answer_event addr ticket.now outcome.now decision }
 {
-    match take {
-        ReplyTake::NoTicket => Event::Quiet(Reply::NoTicket),
-        ReplyTake::Refused => Event::Quiet(Reply::JoinRefused),
-        ReplyTake::Stale(greatest) => Event::Quiet(Reply::JoinStale { greatest }),
-        ReplyTake::Accepted { session, best } => Event::Accepted {
+    match decision {
+        AnswerDecision::NoTicket => Event::Quiet(Reply::NoTicket),
+        AnswerDecision::Refused => Event::Quiet(Reply::JoinRefused),
+        AnswerDecision::Stale(greatest) => Event::Quiet(Reply::JoinStale { greatest }),
+        AnswerDecision::Accepted { session, best } => Event::Accepted {
             reply: Reply::Accepted {
                 eui: ticket.dev_eui(),
                 session,

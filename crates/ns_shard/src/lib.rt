@@ -11,6 +11,7 @@ mod calls;
 mod devices;
 mod event;
 mod joining;
+pub mod laws;
 mod packed;
 mod parts;
 mod reaction;
@@ -23,7 +24,7 @@ mod uplink;
 pub use packed::PackedAnswer;
 pub use run::{Run, Shards, Taken};
 pub use shard::Shard;
-pub use step::{Act, DatagramBytes, OwnedBytes, Step};
+pub use step::{Act, DatagramBytes, OwnedBytes, SHORT_DATAGRAM, Step};
 
 #[cfg(test)]
 mod growth_tests;

@@ -25,13 +25,14 @@ pub struct PackedUplink {
 
 impl Model for PackedUplink {
     ghost use Rattle.std.specs.Prelude.{◌≤◌, length};
+    ghost use Rattle.ns_calls.specs.Reply.{most_copies};
     ghost use Rattle.ns_calls.specs.declared.answer.Uplink.{Uplink};
 
     ghost Value = { Uplink };
 
     ghost view = { λ u. record { window = u.window; addr = u.addr; port = u.port; fopts = u.fopts; sealed = u.sealed; payload = u.payload.items; copies = record { items = u.copies.items } } };
 
-    ghost invariant = { λ u. (length u.payload.items ≤ 242) × (length u.copies.items ≤ 16) };
+    ghost invariant = { λ u. (length u.payload.items ≤ 242) × (length u.copies.items ≤ most_copies) };
 }
 
 impl PackedUplink {

@@ -2,10 +2,10 @@
 
 ghost use Rattle.std.specs.Prelude.{◌≡◌, ◌<◌, None, IfOk, OnOk, OnErr};
 ghost use Rattle.std.specs.Arc.{arc_value};
+ghost use Rattle.ns_types.specs.Identity.{shard_count};
 ghost use Rattle.ns_calls.specs.Shards.{shard_of_call};
-ghost use Rattle.ns_calls.specs.Out.{answer};
 ghost use Rattle.ns_shard.specs.Parts.{AreParts, state_of};
-ghost use Rattle.ns_shard.specs.State.{no_entries, after_call};
+ghost use Rattle.ns_shard.specs.State.{no_entries, after_call, answer_in};
 ghost use Rattle.ns_shard.specs.Sending.{answer_of};
 
 use crate::devices::Devices;
@@ -32,7 +32,7 @@ pub struct Parts {
 impl Parts {
     /// The parts of a shard with no entries.
     pub fn new(alloc: Global, roster: Arc<Roster>, index: u8) -> Result<Parts, AllocError>
-        requires { index < 16 }
+        requires { index < shard_count }
         ensures state { IfOk result (λ p. state_of p ≡ no_entries (arc_value roster) index) }
         ensures agree { IfOk result AreParts }
     {
@@ -53,7 +53,7 @@ impl Parts {
         requires agree { AreParts self.old }
         requires none { closed.old ≡ None }
         ensures roster { self.new.roster ≡ self.old.roster }
-        ensures answer { IfOk result (λ e. answer_of (arc_value self.old.roster) closed.new e ≡ answer (arc_value self.old.roster) self.old.journal.entries call.now) }
+        ensures answer { IfOk result (λ e. answer_of (arc_value self.old.roster) closed.new e ≡ answer_in (state_of self.old) call.now) }
         ensures state { OnOk result (state_of self.new ≡ after_call (state_of self.old) call.now) }
         ensures err { OnErr result (state_of self.new ≡ state_of self.old) }
         ensures agree { AreParts self.new }
@@ -68,7 +68,7 @@ impl Parts {
     pub fn apply(&mut self, call: &Call) -> Result<Answer, AllocError>
         requires own { shard_of_call call.now ≡ self.old.index }
         requires agree { AreParts self.old }
-        ensures answer { IfOk result (λ a. a ≡ answer (arc_value self.old.roster) self.old.journal.entries call.now) }
+        ensures answer { IfOk result (λ a. a ≡ answer_in (state_of self.old) call.now) }
         ensures state { OnOk result (state_of self.new ≡ after_call (state_of self.old) call.now) }
         ensures err { OnErr result (state_of self.new ≡ state_of self.old) }
         ensures agree { AreParts self.new }
@@ -82,7 +82,7 @@ impl Parts {
     pub fn apply_packed(&mut self, alloc: Global, call: &Call) -> Result<PackedAnswer, AllocError>
         requires own { shard_of_call call.now ≡ self.old.index }
         requires agree { AreParts self.old }
-        ensures answer { IfOk result (λ a. a ≡ answer (arc_value self.old.roster) self.old.journal.entries call.now) }
+        ensures answer { IfOk result (λ a. a ≡ answer_in (state_of self.old) call.now) }
         ensures state { OnOk result (state_of self.new ≡ after_call (state_of self.old) call.now) }
         ensures agree { AreParts self.new }
     {

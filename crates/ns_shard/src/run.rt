@@ -1,19 +1,22 @@
 //! A run of steps over the sixteen shards.
 
-ghost use Rattle.std.specs.Prelude.{◌≡◌, ◌<◌, [], length, map, slice_get, Some, IfOk, OnOk, IfSome};
+ghost use Rattle.ns_types.specs.declared.identity.DevEui.{DevEui};
+ghost use Rattle.std.specs.Prelude.{◌≡◌, ◌<◌, [], length, map, slice_get, Some, IfOk, OnOk, IfSome, option_map};
 ghost use Rattle.std.specs.Arc.{arc_value};
 ghost use Rattle.std.specs.List.{AllByRecursion};
+ghost use Rattle.ns_types.specs.Identity.{shard_count};
 ghost use Rattle.ns_calls.specs.Legal.{IsHistory};
-ghost use Rattle.ns_calls.specs.Headline.{NoncesRise, CountersRise, AcksRise, WindowsOpenOnce};
-ghost use Rattle.ns_shard.specs.Steps.{all_taken, taken_in, states_after, refused_as, call_of, calls_of, AreAfter, AreInPlace, OfEach, HandsOut};
+ghost use Rattle.ns_calls.specs.Headline.{NoncesRise, CountersRise, AcksRise, WindowsOpenOnce, NoncesAreWithin};
+ghost use Rattle.ns_shard.specs.Steps.{all_taken, taken_in, states_after, refused_as, call_of, calls_of, AreAfter, AreInPlace, OfEach, HandsOut, HasCopies, AreHandedOutOnce, greatest_among, greatest_after};
 
 use crate::calls::call_of;
 use crate::packed::PackedAnswer;
 use crate::shard::Shard;
 use crate::step::Step;
-use ns_calls::{Call, shard_of_call};
+use ns_calls::{Call, SHARDS, shard_of_call};
 use ns_link::LinkFault;
 use ns_roster::Roster;
+use ns_types::{DevEui, DevNonce, shard_of};
 use ns_views::ViewFault;
 use std::alloc::{AllocError, Global};
 use std::marker::Model;
@@ -56,7 +59,27 @@ pub struct Run {
     pub taken: Vec<Taken>,
 }
 
+impl Run {
+    /// The greatest DevNonce of a device after the run: of those accepted, and of the last one that the roster names. None where the
+    /// roster does not have the device. It takes no memory.
+    pub fn greatest(&self, eui: DevEui) -> Option<DevNonce>
+        ensures { option_map (λ n. n.0) result ≡ greatest_among self.now.shards eui }
+    {
+        match self.shards.as_slice().get(shard_of(eui) as usize) {
+            Some(shard) => shard.greatest(eui),
+            None => None,
+        }
+    }
+}
+
 impl Shards {
+    /// The shards, each at its number.
+    pub fn as_slice(&self) -> &[Shard]
+        ensures { result.now ≡ self.now }
+    {
+        self.list.as_slice()
+    }
+
     /// Runs steps on one thread, in order. `NoMemory` (`AllocError`) where a growth was refused, and then there is no run.
     ///
     /// What comes of a step that makes a call is the plain server's answer to it, after the entries of its shard that the steps
@@ -76,6 +99,16 @@ impl Shards {
         ensures acks_rise { IfOk result (λ run. OfEach run.shards (λ shard h. AcksRise h)) }
         ensures uplinks { IfOk result (λ run. AllByRecursion HandsOut run.taken.items) }
         ensures windows_open_once { IfOk result (λ run. OfEach run.shards (λ shard h. WindowsOpenOnce h)) }
+
+        // Each nonce that is accepted of a device is above the last one that the roster names, and at most the greatest one, which
+        // `Run::greatest` gives.
+        ensures nonces_within { IfOk result (λ run. OfEach run.shards (λ shard h. NoncesAreWithin (arc_value roster) h)) }
+        ensures greatest { IfOk result (λ run. (eui : DevEui) → greatest_among run.shards eui ≡ greatest_after (arc_value roster) steps.now eui) }
+
+        // An uplink goes out with the first 16 hearings of its frame's bytes from its window's opening to its closing, and that of a
+        // window's name goes out at most once.
+        ensures copies { IfOk result (λ run. AllByRecursion (HasCopies run.shards) run.taken.items) }
+        ensures handed_out_once { IfOk result (λ run. AreHandedOutOnce run.taken.items) }
     {
         let mut list = new_shards(alloc, roster)?;
         let mut taken = Vec::new(alloc);
@@ -94,8 +127,8 @@ impl Shards {
 fn new_shards(alloc: Global, roster: Arc<Roster>) -> Result<Vec<Shard>, AllocError>
     ensures { IfOk result (λ list. AreAfter (arc_value roster) [] list.items) }
 {
-    let mut list = Vec::with_capacity(alloc, 16)?;
-    'shards: for index in 0..16u8 {
+    let mut list = Vec::with_capacity(alloc, usize::from(SHARDS))?;
+    'shards: for index in 0..SHARDS {
         let shard = Shard::new(alloc, roster.clone()?, index)?;
         list.push(shard)?;
     }
@@ -104,7 +137,7 @@ fn new_shards(alloc: Global, roster: Arc<Roster>) -> Result<Vec<Shard>, AllocErr
 
 // Takes a call to its shard.
 fn apply(alloc: Global, shards: &mut Vec<Shard>, call: &Call) -> Result<Taken, AllocError>
-    requires sixteen { length shards.old.items ≡ 16 }
+    requires sixteen { length shards.old.items ≡ shard_count }
     requires in_place { AreInPlace shards.old.items }
     ensures taken { IfOk result (λ t. taken_in shards.old.items (Ok call.now) ≡ Some t) }
     ensures shards { OnOk result (shards.new.items ≡ states_after shards.old.items (Ok call.now)) }
@@ -122,7 +155,7 @@ fn apply(alloc: Global, shards: &mut Vec<Shard>, call: &Call) -> Result<Taken, A
 
 // Takes a step.
 fn take(alloc: Global, shards: &mut Vec<Shard>, step: &Step) -> Result<Taken, AllocError>
-    requires sixteen { length shards.old.items ≡ 16 }
+    requires sixteen { length shards.old.items ≡ shard_count }
     requires in_place { AreInPlace shards.old.items }
     ensures taken { IfOk result (λ t. taken_in shards.old.items (refused_as (call_of step.now.act)) ≡ Some t) }
     ensures shards { OnOk result (shards.new.items ≡ states_after shards.old.items (refused_as (call_of step.now.act))) }

@@ -1,17 +1,14 @@
 //! What goes out where a window is closed.
 
-ghost use Rattle.std.specs.Prelude.{◌≡◌, ◌≤◌, length};
+ghost use Rattle.std.specs.Prelude.{◌≡◌};
 ghost use Rattle.ns_types.specs.Heard.{best};
-ghost use Rattle.ns_secure.specs.declared.Dir.TheVariants.{Up};
-ghost use Rattle.ns_secure.specs.Cipher.{cipher};
 ghost use Rattle.ns_roster.specs.Network.{ack_delay};
 ghost use Rattle.ns_calls.specs.Out.{ack_frame};
-ghost use Rattle.ns_shard.specs.Sending.{payload_key, uplink_from, uplink_of, ack_from};
+ghost use Rattle.ns_shard.specs.Sending.{uplink_from, uplink_of, ack_from};
 
-use ns_calls::{Bytes, Downlink, Uplink};
+use ns_calls::{Bytes, Downlink, Uplink, payload_key};
 use ns_creator::{DataCreator, Keys, acknowledgement_law};
 use ns_roster::Roster;
-use ns_secure::{Dir, cipher_in_place};
 use ns_types::{DevAddr, Heard, Key, best, rx1};
 use ns_windows::Window;
 
@@ -33,62 +30,13 @@ fn ack_delay(roster: &Roster) -> u64
     u64::from(roster.rx_delay()).max(1) * 1_000_000
 }
 
-// The key of a payload.
-fn payload_key(port: Option<u8>, window: &Window) -> Option<Key>
-    ensures { result ≡ payload_key port window.now }
-{
-    match port {
-        Some(0) => Some(window.nwk),
-        _ => window.app,
-    }
-}
-
-// A payload under its key.
-fn deciphered(key: &Key, addr: DevAddr, fcnt: u32, payload: &[u8]) -> Bytes<242>
-    requires { length payload.now ≤ 242 }
-    ensures { result ≡ cipher key.now.0 Up addr.0 fcnt payload.now }
-{
-    let mut room = [0; 242];
-    let plain = &mut room[..payload.len()];
-    plain.copy_from_slice(payload);
-    cipher_in_place(plain, key, Dir::Up, addr, fcnt);
-    Bytes::of(plain)
-}
-
-// The payload of a window's frame, deciphered where its key is there.
-fn payload_of(window: &Window) -> (Bytes<242>, bool)
-    ensures payload { result.0 ≡ (uplink_from window.now).payload }
-    ensures sealed { result.1 ≡ (uplink_from window.now).sealed }
-{
-    let frame = window.frame.view();
-    let payload = frame.payload();
-    match payload_key(frame.fport(), window) {
-        Some(key) => (
-            deciphered(&key, frame.dev_addr(), window.name.fcnt, payload),
-            false,
-        ),
-        None => (Bytes::of(payload), true),
-    }
-}
-
 // The uplink of a window.
 fn uplink_from(window: Window) -> Uplink
     ensures { result ≡ uplink_from window }
 {
-    let (payload, sealed) = payload_of(&window);
-    let frame = window.frame.view();
-    let addr = frame.dev_addr();
-    let port = frame.fport();
-    let fopts = Bytes::of(frame.fopts());
-    Uplink {
-        window: window.name,
-        addr,
-        port,
-        fopts,
-        sealed,
-        payload,
-        copies: window.copies,
-    }
+    let key = payload_key(window.frame.view().fport(), window.nwk, window.app);
+    let copies = window.copies;
+    Uplink::under(window.name, &window.frame, copies, key)
 }
 
 /// The uplink of a window that was closed, if any.

@@ -1,20 +1,17 @@
 //! One shard.
 
-ghost use Rattle.std.specs.Prelude.{◌≡◌, ◌<◌, ◌%◌, length, IfOk, IfSome, OnOk, OnErr};
+ghost use Rattle.std.specs.Prelude.{◌≡◌, ◌<◌, ◌%◌, length, IfOk, IfSome, OnOk, OnErr, option_map};
 ghost use Rattle.std.specs.Arc.{arc_value};
-ghost use Rattle.ns_types.specs.Identity.{shard_of};
+ghost use Rattle.ns_types.specs.Identity.{shard_count, shard_of};
 ghost use Rattle.ns_calls.specs.Shards.{shard_of_call};
-ghost use Rattle.ns_calls.specs.Out.{answer};
-ghost use Rattle.ns_calls.specs.History.{oldest};
-ghost use Rattle.ns_calls.specs.Legal.{IsHistory};
-ghost use Rattle.ns_shard.specs.State.{no_entries, after_call};
+ghost use Rattle.ns_shard.specs.State.{no_entries, after_call, answer_in, oldest_in, IsState, greatest_in};
 ghost use Rattle.ns_shard.specs.Parts.{AreParts, state_of};
 
 use crate::packed::PackedAnswer;
 use crate::parts::Parts;
 use ns_calls::{Answer, Call, Entry};
 use ns_roster::Roster;
-use ns_types::WindowName;
+use ns_types::{DevEui, DevNonce, WindowName, shard_of};
 use std::alloc::{AllocError, Global};
 use std::marker::Model;
 use std::sync::Arc;
@@ -40,7 +37,7 @@ impl Model for Shard {
 impl Shard {
     /// A shard with no entries. `NoMemory` (`AllocError`) where a growth was refused.
     pub fn new(alloc: Global, roster: Arc<Roster>, index: u8) -> Result<Shard, AllocError>
-        requires { index < 16 }
+        requires { index < shard_count }
         ensures { IfOk result (λ s. s ≡ no_entries (arc_value roster) index) }
     {
         Ok(Shard {
@@ -52,9 +49,9 @@ impl Shard {
     pub fn apply(&mut self, call: Call) -> Result<Answer, AllocError>
         requires { shard_of_call call ≡ self.old.index }
         ensures entry { OnOk result (self.new ≡ after_call self.old call) }
-        ensures answer { IfOk result (λ a. a ≡ answer self.old.roster self.old.entries call) }
+        ensures answer { IfOk result (λ a. a ≡ answer_in self.old call) }
         ensures err { OnErr result (self.new ≡ self.old) }
-        ensures history { IsHistory self.new.roster self.new.index self.new.entries }
+        ensures state { IsState self.new }
     {
         self.parts.apply(&call)
     }
@@ -67,7 +64,7 @@ impl Shard {
     ) -> Result<PackedAnswer, AllocError>
         requires { shard_of_call call.now ≡ self.old.index }
         ensures entry { OnOk result (self.new ≡ after_call self.old call.now) }
-        ensures answer { IfOk result (λ a. a ≡ answer self.old.roster self.old.entries call.now) }
+        ensures answer { IfOk result (λ a. a ≡ answer_in self.old call.now) }
     {
         self.parts.apply_packed(alloc, call)
     }
@@ -75,15 +72,15 @@ impl Shard {
     /// The shard's number, 0 to 15. Its calls are those of which `shard_of_call` is this number.
     pub fn index(&self) -> u8
         ensures is { result ≡ self.now.index }
-        ensures below { result < 16 }
+        ensures below { result < shard_count }
     {
         self.parts.index
     }
 
-    /// The entries, the earliest first, which are a history of the shard.
+    /// The entries that are kept, the earliest first: all of a history of the shard.
     pub fn entries(&self) -> &[Entry]
         ensures entries { result.now ≡ self.now.entries }
-        ensures history { IsHistory self.now.roster self.now.index self.now.entries }
+        ensures state { IsState self.now }
     {
         self.parts.journal.entries()
     }
@@ -91,14 +88,24 @@ impl Shard {
     /// How many entries were made. It is the number of the next one.
     pub fn made(&self) -> u64
         ensures made { result ≡ self.now.made }
-        ensures entries { result ≡ length self.now.entries }
+        ensures state { IsState self.now }
     {
         self.parts.journal.made()
     }
 
+    /// The greatest DevNonce of one of the shard's devices: of those accepted, and of the last one that the roster names.
+    pub fn greatest(&self, eui: DevEui) -> Option<DevNonce>
+        ensures { option_map (λ n. n.0) result ≡ greatest_in self.now eui }
+    {
+        if shard_of(eui) != self.parts.index {
+            return None;
+        }
+        self.parts.devices.greatest(eui)
+    }
+
     /// The name of the open window that was opened first. Its device is of this shard, and so is a call that closes it.
     pub fn oldest(&self) -> Option<WindowName>
-        ensures oldest { result ≡ oldest self.now.entries }
+        ensures oldest { result ≡ oldest_in self.now }
         ensures own { IfSome result (λ w. shard_of w.eui ≡ self.now.index) }
     {
         self.parts.windows.oldest()

@@ -1,13 +1,15 @@
 //! What happens at a server, step by step.
 
-ghost use Rattle.std.specs.Prelude.{◌≡◌};
+ghost use Rattle.std.specs.Prelude.{◌≡◌, ◌≤◌, length, IfOk, IsOk};
 
 use ns_calls::Bytes;
 use ns_types::{Ticket, WindowName};
+use std::alloc::{AllocError, Global};
 use std::marker::Model;
 
-// How many bytes of a datagram lie in the value itself.
-const SHORT: usize = 63;
+/// How many bytes of a datagram lie in its step itself: those of a datagram with the longest frame at DR0 to DR2 (28 bytes before
+/// the frame, and 64 of it: RP002 EU868, 59 bytes of MACPayload), and three more, up to which the room is of 96 bytes.
+pub const SHORT_DATAGRAM: usize = 95;
 
 /// Bytes that came from outside. Contracts see the list of them.
 #[derive(Drop)]
@@ -42,7 +44,7 @@ impl OwnedBytes {
 // The bytes of a datagram: few lie in the value itself, more in memory of their own.
 #[derive(Drop)]
 enum Stored {
-    Short(Bytes<SHORT>),
+    Short(Bytes<SHORT_DATAGRAM>),
     Long(Vec<u8>),
 }
 
@@ -62,11 +64,24 @@ impl Model for DatagramBytes {
 }
 
 impl DatagramBytes {
-    /// The bytes of a vector. At most 63 need none of its memory, which is then free.
+    /// These bytes. Up to 95 take no memory.
+    pub fn of(alloc: Global, bytes: &[u8]) -> Result<DatagramBytes, AllocError>
+        ensures bytes { IfOk result (λ d. d ≡ bytes.now) }
+        ensures short { length bytes.now ≤ 95 → IsOk result }
+    {
+        let stored = if bytes.len() <= SHORT_DATAGRAM {
+            Stored::Short(Bytes::of(bytes))
+        } else {
+            Stored::Long(Vec::from_slice(alloc, bytes)?)
+        };
+        Ok(DatagramBytes { stored })
+    }
+
+    /// The bytes of a vector. Up to 95 need none of its memory, which is then free.
     pub fn new(bytes: Vec<u8>) -> DatagramBytes
         ensures { result ≡ bytes.items }
     {
-        let stored = if bytes.len() <= SHORT {
+        let stored = if bytes.len() <= SHORT_DATAGRAM {
             Stored::Short(Bytes::of(bytes.as_slice()))
         } else {
             Stored::Long(bytes)

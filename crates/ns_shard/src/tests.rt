@@ -225,7 +225,8 @@ fn the_same_by_single_calls(rt: HostRuntime) -> Result<(), Fail> {
     let mut known = Shard::new(rt.alloc(), roster.clone()?, 13)?;
     let mut unknown = Shard::new(rt.alloc(), roster.clone()?, 14)?;
     let mut text = String::new(rt.alloc());
-    for step in &worked_steps(&rt)? {
+    let steps = worked_steps(&rt)?;
+    for step in &steps {
         let call = call(&rt, step)?;
         let answered = if shard_of_call(&call) == 14 {
             applied(&rt, &roster, &mut unknown, call)?
@@ -237,6 +238,13 @@ fn the_same_by_single_calls(rt: HostRuntime) -> Result<(), Fail> {
     assert_eq!(rt; text.as_str(), WORKED_LINES);
     assert_eq!(rt; known.entries().len(), 9);
     assert_eq!(rt; unknown.entries().len(), 1);
+    let run = Shards::run(rt.alloc(), roster, steps.as_slice())?;
+    let shards = run.shards.as_slice();
+    let at_13 = shards.get(13).ok_or("no shard 13")?;
+    let at_14 = shards.get(14).ok_or("no shard 14")?;
+    assert_eq!(rt; shards.len(), 16);
+    assert!(rt; at_13.entries() == known.entries());
+    assert!(rt; at_14.entries() == unknown.entries());
     Ok(())
 }
 
@@ -276,34 +284,53 @@ fn limits_of_joins(rt: HostRuntime) -> Result<(), Fail> {
     Ok(())
 }
 
+// The device's join, and its answer.
+fn join(rt: &HostRuntime, roster: &Roster, shard: &mut Shard) -> Result<(), Fail> {
+    let request = call(rt, &heard_hex(rt, H1, J)?)?;
+    applied(rt, roster, shard, request)?;
+    let answered = call(rt, &answer(rt, J, JA)?)?;
+    applied(rt, roster, shard, answered)?;
+    Ok(())
+}
+
+// Whether an uplink of session 1 with this counter is opened, and its window closed.
+fn opens_and_closes(
+    rt: &HostRuntime,
+    roster: &Roster,
+    shard: &mut Shard,
+    counter: u32,
+) -> Result<bool, Fail> {
+    let frame = call(rt, &uplink(rt, NWK_1, APP_1, counter, false)?)?;
+    let opened = applied(rt, roster, shard, frame)?;
+    let closing = call(rt, &close(1, counter))?;
+    let closed = applied(rt, roster, shard, closing)?;
+    Ok(opened.as_str().starts_with("opened ") && closed.as_str().starts_with("closed "))
+}
+
+// What an uplink of session 1 with this counter is answered.
+fn answer_to(
+    rt: &HostRuntime,
+    roster: &Roster,
+    shard: &mut Shard,
+    counter: u32,
+) -> Result<String, Fail> {
+    let frame = call(rt, &uplink(rt, NWK_1, APP_1, counter, false)?)?;
+    applied(rt, roster, shard, frame)
+}
+
 // The least counter of a session of which the low 16 bits are ffff, and each next one, to the greatest of all. Each window is closed.
 #[test]
 fn the_last_counter(rt: HostRuntime) -> Result<(), Fail> {
     let roster = Arc::new(rt.alloc(), Roster::read(rt.alloc(), ROSTER_A.as_bytes())?)?;
     let mut shard = Shard::new(rt.alloc(), roster.clone()?, 13)?;
-    applied(
-        &rt,
-        &roster,
-        &mut shard,
-        call(&rt, &heard_hex(&rt, H1, J)?)?,
-    )?;
-    applied(&rt, &roster, &mut shard, call(&rt, &answer(&rt, J, JA)?)?)?;
+    join(&rt, &roster, &mut shard)?;
     for high in 0..65_536u32 {
-        let counter = high << 16 | 0xffff;
-        let frame = call(&rt, &uplink(&rt, NWK_1, APP_1, counter, false)?)?;
-        let opened = applied(&rt, &roster, &mut shard, frame)?;
-        let closed = applied(&rt, &roster, &mut shard, call(&rt, &close(1, counter))?)?;
-        assert!(rt; opened.as_str().starts_with("opened "));
-        assert!(rt; closed.as_str().starts_with("closed "));
+        assert!(rt; opens_and_closes(&rt, &roster, &mut shard, high << 16 | 0xffff)?);
     }
-    let again = call(&rt, &uplink(&rt, NWK_1, APP_1, u32::MAX, false)?)?;
-    let old = applied(&rt, &roster, &mut shard, again)?;
+    let old = answer_to(&rt, &roster, &mut shard, u32::MAX)?;
     assert_eq!(rt; old.as_str(), "old 000000000000000d 1 4294967295\n");
-    let first = call(&rt, &uplink(&rt, NWK_1, APP_1, 0, false)?)?;
-    assert_eq!(rt;
-        applied(&rt, &roster, &mut shard, first)?.as_str(),
-        "nosession\n"
-    );
+    let first = answer_to(&rt, &roster, &mut shard, 0)?;
+    assert_eq!(rt; first.as_str(), "nosession\n");
     Ok(())
 }
 

@@ -6,16 +6,13 @@ ghost use Rattle.ns_windows.specs.Windows.{named, framed};
 ghost use Rattle.ns_shard.specs.Devices.{is_own, own_of, changed, AreApart};
 ghost use Rattle.ns_shard.specs.Reaction.{copy_reply, first_window, keys_in, with_window, open_reply, uplink_reply, with_shard_uplink, with_copy_or_window, CanOpen};
 
-use crate::devices::{Devices, Fit};
+use crate::devices::Devices;
 use arrayvec::ArrayVec;
-use ns_calls::{DataFrame, Reply};
+use ns_calls::{DataFrame, MOST_WINDOWS, Reply};
 use ns_sessions::Recovery;
 use ns_types::{Heard, Key, WindowName};
 use ns_windows::{Addition, Window, Windows};
 use std::alloc::AllocError;
-
-// How many windows of a device are open at most.
-const MOST_WINDOWS: usize = 8;
 
 // The reply to one more copy of an open window.
 fn copy_reply(addition: Addition) -> Reply
@@ -52,29 +49,30 @@ fn first_window(
 fn open(
     devices: &mut Devices,
     windows: &mut Windows,
-    fit: &Fit,
+    place: usize,
+    name: &WindowName,
     frame: &DataFrame,
     heard: &Heard,
 ) -> Result<(), AllocError>
-    requires place { position (is_own fit.now.window.eui) devices.old ≡ Some fit.now.place }
-    requires counter { IfSome (own_of fit.now.window.eui devices.old) (λ o. IsNewCounter (session_in o.state fit.now.window.session) fit.now.window.fcnt) }
-    requires keys { IsSome (keys_in devices.old fit.now.window) }
-    requires name { named fit.now.window windows.old ≡ None }
+    requires place { position (is_own name.now.eui) devices.old ≡ Some place }
+    requires counter { IfSome (own_of name.now.eui devices.old) (λ o. IsNewCounter (session_in o.state name.now.session) name.now.fcnt) }
+    requires keys { IsSome (keys_in devices.old name.now) }
+    requires name { named name.now windows.old ≡ None }
     requires frame { framed frame.now windows.old ≡ None }
-    ensures devices { OnOk result (devices.new ≡ changed fit.now.window.eui (with_uplink fit.now.window.session fit.now.window.fcnt) devices.old) }
-    ensures windows { OnOk result (windows.new ≡ with_window frame.now heard.now fit.now.window (keys_in devices.old fit.now.window) windows.old) }
+    ensures devices { OnOk result (devices.new ≡ changed name.now.eui (with_uplink name.now.session name.now.fcnt) devices.old) }
+    ensures windows { OnOk result (windows.new ≡ with_window frame.now heard.now name.now (keys_in devices.old name.now) windows.old) }
     ensures err_devices { OnErr result (devices.new ≡ devices.old) }
     ensures err_windows { OnErr result (windows.new ≡ windows.old) }
 {
-    let Some((nwk, app)) = devices.keys(fit) else {
+    let Some((nwk, app)) = devices.keys(place, name) else {
         unreachable!()
     };
-    windows.put(first_window(frame, heard, &fit.window, nwk, app))?;
-    devices.open(fit);
+    windows.put(first_window(frame, heard, name, nwk, app))?;
+    devices.open(place, name);
     Ok(())
 }
 
-// The reply to a frame that fits in this window.
+// The reply to a frame for which this window is to be opened.
 fn open_reply(windows: &Windows, name: &WindowName) -> Reply
     ensures { result ≡ open_reply windows.now name.now }
 {
@@ -105,17 +103,18 @@ pub fn uplink(
     }
     let view = frame.view();
     if let Some(fit) = devices.fit(Recovery::Above, &view) {
-        let reply = open_reply(windows, &fit.window);
+        let name = fit.window();
+        let reply = open_reply(windows, &name);
         if let Reply::Opened { .. } = &reply {
-            open(devices, windows, &fit, frame, heard)?;
+            open(devices, windows, fit.place, &name, frame, heard)?;
         }
         return Ok(reply);
     }
     match devices.fit(Recovery::Below, &view) {
         Some(old) => Ok(Reply::Old {
-            eui: old.window.eui,
-            session: old.window.session,
-            fcnt: old.window.fcnt,
+            eui: old.eui,
+            session: old.session,
+            fcnt: old.counter,
         }),
         None => Ok(Reply::NoSession),
     }

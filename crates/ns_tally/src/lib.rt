@@ -119,6 +119,18 @@ impl<B: Ledgers> Drop for Shares<B> {
     }
 }
 
+// Counts one more in a book and in a share of it.
+fn add_to<L: Ledger>(book: &mut Book<L>, share: &mut Share<L>)
+    requires { 0 < share.old.parts }
+    ensures total { book.new.total ≡ book.old.total + 1 }
+    ensures amount { share.new.amount ≡ share.old.amount + 1 }
+    ensures parts { share.new.parts ≡ share.old.parts }
+    ensures bound { share.old.amount ≤ book.old.total }
+{
+    book.audit(share);
+    book.add(share, 1);
+}
+
 impl<B: Ledgers> ShardBook<B> {
     /// Counts one more, in the shard's book and in the share of that shard.
     pub fn add_one(&mut self, shares: &mut Shares<B>)
@@ -130,70 +142,22 @@ impl<B: Ledgers> ShardBook<B> {
         ensures bound { slice_index shares.old.amounts (shard_of_book self.old) ≤ total_of_book self.old }
     {
         match self {
-            ShardBook::K0(book) => {
-                book.audit(&mut shares.s0);
-                book.add(&mut shares.s0, 1);
-            }
-            ShardBook::K1(book) => {
-                book.audit(&mut shares.s1);
-                book.add(&mut shares.s1, 1);
-            }
-            ShardBook::K2(book) => {
-                book.audit(&mut shares.s2);
-                book.add(&mut shares.s2, 1);
-            }
-            ShardBook::K3(book) => {
-                book.audit(&mut shares.s3);
-                book.add(&mut shares.s3, 1);
-            }
-            ShardBook::K4(book) => {
-                book.audit(&mut shares.s4);
-                book.add(&mut shares.s4, 1);
-            }
-            ShardBook::K5(book) => {
-                book.audit(&mut shares.s5);
-                book.add(&mut shares.s5, 1);
-            }
-            ShardBook::K6(book) => {
-                book.audit(&mut shares.s6);
-                book.add(&mut shares.s6, 1);
-            }
-            ShardBook::K7(book) => {
-                book.audit(&mut shares.s7);
-                book.add(&mut shares.s7, 1);
-            }
-            ShardBook::K8(book) => {
-                book.audit(&mut shares.s8);
-                book.add(&mut shares.s8, 1);
-            }
-            ShardBook::K9(book) => {
-                book.audit(&mut shares.s9);
-                book.add(&mut shares.s9, 1);
-            }
-            ShardBook::K10(book) => {
-                book.audit(&mut shares.s10);
-                book.add(&mut shares.s10, 1);
-            }
-            ShardBook::K11(book) => {
-                book.audit(&mut shares.s11);
-                book.add(&mut shares.s11, 1);
-            }
-            ShardBook::K12(book) => {
-                book.audit(&mut shares.s12);
-                book.add(&mut shares.s12, 1);
-            }
-            ShardBook::K13(book) => {
-                book.audit(&mut shares.s13);
-                book.add(&mut shares.s13, 1);
-            }
-            ShardBook::K14(book) => {
-                book.audit(&mut shares.s14);
-                book.add(&mut shares.s14, 1);
-            }
-            ShardBook::K15(book) => {
-                book.audit(&mut shares.s15);
-                book.add(&mut shares.s15, 1);
-            }
+            ShardBook::K0(book) => add_to(book, &mut shares.s0),
+            ShardBook::K1(book) => add_to(book, &mut shares.s1),
+            ShardBook::K2(book) => add_to(book, &mut shares.s2),
+            ShardBook::K3(book) => add_to(book, &mut shares.s3),
+            ShardBook::K4(book) => add_to(book, &mut shares.s4),
+            ShardBook::K5(book) => add_to(book, &mut shares.s5),
+            ShardBook::K6(book) => add_to(book, &mut shares.s6),
+            ShardBook::K7(book) => add_to(book, &mut shares.s7),
+            ShardBook::K8(book) => add_to(book, &mut shares.s8),
+            ShardBook::K9(book) => add_to(book, &mut shares.s9),
+            ShardBook::K10(book) => add_to(book, &mut shares.s10),
+            ShardBook::K11(book) => add_to(book, &mut shares.s11),
+            ShardBook::K12(book) => add_to(book, &mut shares.s12),
+            ShardBook::K13(book) => add_to(book, &mut shares.s13),
+            ShardBook::K14(book) => add_to(book, &mut shares.s14),
+            ShardBook::K15(book) => add_to(book, &mut shares.s15),
         }
     }
 
@@ -298,6 +262,18 @@ impl Model for Blanks {
         × (s.b13.parts ≡ s.b0.parts) × (s.b14.parts ≡ s.b0.parts) × (s.b15.parts ≡ s.b0.parts) };
 }
 
+// Opens each blank as the ledger of its shard, and puts the books and the shares together.
+macro_rules! open_each {
+    ($blanks:expr; $($blank:ident $book:ident $share:ident $variant:ident $shard:literal),*) => {{
+        let Blanks { $($blank),* } = $blanks;
+        $(let ($book, $share) = $blank.open::<At<B, $shard>>();)*
+        (
+            Books { $($book: ShardBook::$variant($book)),* },
+            Shares { $($share),* },
+        )
+    }};
+}
+
 impl Blanks {
     /// A ledger for each shard, each cut into these parts.
     pub fn new(parts: u64) -> Blanks
@@ -330,78 +306,10 @@ impl Blanks {
         ensures parts { result.1.parts ≡ B.workers }
         ensures amounts { result.1.amounts ≡ none_made }
     {
-        let Blanks {
-            b0,
-            b1,
-            b2,
-            b3,
-            b4,
-            b5,
-            b6,
-            b7,
-            b8,
-            b9,
-            b10,
-            b11,
-            b12,
-            b13,
-            b14,
-            b15,
-        } = self;
-        let (k0, s0) = b0.open::<At<B, 0>>();
-        let (k1, s1) = b1.open::<At<B, 1>>();
-        let (k2, s2) = b2.open::<At<B, 2>>();
-        let (k3, s3) = b3.open::<At<B, 3>>();
-        let (k4, s4) = b4.open::<At<B, 4>>();
-        let (k5, s5) = b5.open::<At<B, 5>>();
-        let (k6, s6) = b6.open::<At<B, 6>>();
-        let (k7, s7) = b7.open::<At<B, 7>>();
-        let (k8, s8) = b8.open::<At<B, 8>>();
-        let (k9, s9) = b9.open::<At<B, 9>>();
-        let (k10, s10) = b10.open::<At<B, 10>>();
-        let (k11, s11) = b11.open::<At<B, 11>>();
-        let (k12, s12) = b12.open::<At<B, 12>>();
-        let (k13, s13) = b13.open::<At<B, 13>>();
-        let (k14, s14) = b14.open::<At<B, 14>>();
-        let (k15, s15) = b15.open::<At<B, 15>>();
-        (
-            Books {
-                k0: ShardBook::K0(k0),
-                k1: ShardBook::K1(k1),
-                k2: ShardBook::K2(k2),
-                k3: ShardBook::K3(k3),
-                k4: ShardBook::K4(k4),
-                k5: ShardBook::K5(k5),
-                k6: ShardBook::K6(k6),
-                k7: ShardBook::K7(k7),
-                k8: ShardBook::K8(k8),
-                k9: ShardBook::K9(k9),
-                k10: ShardBook::K10(k10),
-                k11: ShardBook::K11(k11),
-                k12: ShardBook::K12(k12),
-                k13: ShardBook::K13(k13),
-                k14: ShardBook::K14(k14),
-                k15: ShardBook::K15(k15),
-            },
-            Shares {
-                s0,
-                s1,
-                s2,
-                s3,
-                s4,
-                s5,
-                s6,
-                s7,
-                s8,
-                s9,
-                s10,
-                s11,
-                s12,
-                s13,
-                s14,
-                s15,
-            },
-        )
+        open_each!(self;
+            b0 k0 s0 K0 0, b1 k1 s1 K1 1, b2 k2 s2 K2 2, b3 k3 s3 K3 3, b4 k4 s4 K4 4, b5 k5 s5 K5 5,
+            b6 k6 s6 K6 6, b7 k7 s7 K7 7, b8 k8 s8 K8 8, b9 k9 s9 K9 9, b10 k10 s10 K10 10, b11 k11 s11 K11 11,
+            b12 k12 s12 K12 12, b13 k13 s13 K13 13, b14 k14 s14 K14 14, b15 k15 s15 K15 15)
     }
 }
 

@@ -4,10 +4,10 @@ ghost use Rattle.std.specs.Prelude.{◌≡◌};
 ghost use Rattle.std.specs.Arc.{arc_value};
 ghost use Rattle.ns_tally.specs.Tally.{AreNamed};
 
-use crate::parts::{Open, shared_roster};
+use crate::served::shared_roster;
 use crate::traffic;
 use ns_roster::Roster;
-use ns_server::{Gate, Naming, Pass, Server};
+use ns_server::{Gate, Naming, Open, Pass, Server};
 use ns_tally::Blanks;
 use std::alloc::Global;
 use std::marker::Brand;
@@ -84,15 +84,26 @@ impl<R: Clock> Gate<R> for Turns {
 fn one_call<B: Naming, R: Wait, G: Gate<R>>(
     rt: &R,
     server: &Server<B>,
+    pass: &mut Pass<B>,
+    device: u32,
+    gate: &G,
+) -> u64 {
+    match server.call(rt, pass, traffic::join(device, 1), gate) {
+        Ok(receipt) => receipt.entry.number,
+        Err(_) => 1000,
+    }
+}
+
+// The same with a pass that is given up.
+fn last_call<B: Naming, R: Wait, G: Gate<R>>(
+    rt: &R,
+    server: &Server<B>,
     pass: Pass<B>,
     device: u32,
     gate: &G,
 ) -> u64 {
     let mut pass = pass;
-    match server.call(rt, &mut pass, traffic::join(device, 1), gate) {
-        Ok(receipt) => receipt.entry.number,
-        Err(_) => 1000,
-    }
+    one_call(rt, server, &mut pass, device, gate)
 }
 
 fn both_answered<B: Naming + Send + Sync, R: Threads + Wait + Abort + Clock + Sync>(
@@ -106,8 +117,8 @@ fn both_answered<B: Naming + Send + Sync, R: Threads + Wait + Abort + Clock + Sy
     requires roster { arc_value roster ≡ B.roster }
 {
     let (server, mut passes) = Server::<B>::new(alloc, roster, 2, blanks)?;
-    let one = passes.pop().ok_or("no pass")?;
-    let two = passes.pop().ok_or("no pass")?;
+    let one = passes.pop().unwrap();
+    let two = passes.pop().unwrap();
     let gate = Until {
         flag: AtomicU64::new(0),
         late: AtomicU64::new(0),
@@ -130,9 +141,9 @@ fn held<B: Naming + Send + Sync, R: Threads + Wait + Clock + Sync>(
 ) -> (u64, u64) {
     thread::join(
         rt,
-        || one_call(rt, server, one, 0, gate),
+        || last_call(rt, server, one, 0, gate),
         || {
-            let number = one_call(rt, server, two, 13, &Open);
+            let number = last_call(rt, server, two, 13, &Open);
             gate.flag.store(1, Ordering::SeqCst);
             number
         },
@@ -150,10 +161,9 @@ fn one_after_the_other<B: Naming + Send + Sync, R: Threads + Wait + Abort + Cloc
     requires roster { arc_value roster ≡ B.roster }
 {
     let (server, mut passes) = Server::<B>::new(alloc, roster, 2, blanks)?;
-    let mut one = passes.pop().ok_or("no pass")?;
-    let two = passes.pop().ok_or("no pass")?;
-    let before = server.call(rt, &mut one, traffic::join(0, 1), &Open)?;
-    assert_eq!(rt; before.entry.number, 0);
+    let mut one = passes.pop().unwrap();
+    let two = passes.pop().unwrap();
+    assert_eq!(rt; one_call(rt, &server, &mut one, 0, &Open), 0);
     let gate = Turns {
         visits: AtomicU64::new(0),
         early: AtomicU64::new(0),
@@ -179,10 +189,10 @@ fn in_turn<B: Naming + Send + Sync, R: Threads + Wait + Clock + Sync>(
 ) -> (u64, u64) {
     thread::join(
         rt,
-        || one_call(rt, server, one, 0, gate),
+        || last_call(rt, server, one, 0, gate),
         || {
             wait_for_first(rt, gate);
-            one_call(rt, server, two, 0, gate)
+            last_call(rt, server, two, 0, gate)
         },
     )
 }

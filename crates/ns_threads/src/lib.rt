@@ -1,16 +1,18 @@
 //! Traffic of many devices as calls, and the tests that make them on one server from several threads.
 //!
-//! The calls are those of whole runs: each device asks to join, its join is answered, its uplinks are heard and closed. Benchmarks make
-//! the same calls. Stands on `ns_server` and the crates below it.
+//! The calls are those of whole runs: each device asks to join, its join is answered, its uplinks are heard and closed. Benchmarks and
+//! examples make the same calls. Stands on `ns_server` and the crates below it.
 #![tactic(auto)]
 
 mod traffic;
+mod work;
 
 pub use traffic::{closing, join, join_reply, roster, uplink};
+pub use work::{make, parted};
 
 #[cfg(test)]
 mod gate_tests;
 #[cfg(test)]
-mod parts;
+mod served;
 #[cfg(test)]
 mod tests;

@@ -1,7 +1,9 @@
 -- Open windows as a list, in the order of their opening.
-use Rattle.std.specs.Prelude.{◌≡◌, ℕ, ◌+◌, Bool, false, not, ◌==◌, nat_lt, List, [], ◌∷◌, ◌++◌, length, map, filter, find, count_by, Option, None, Some, bytes_eq, if◌then◌else◌}
+use Rattle.std.specs.Prelude.{◌≡◌, ℕ, ◌+◌, Bool, false, not, ◌==◌, nat_lt, List, [], ◌∷◌, ◌++◌, length, map, filter, find, count_by, Option, option_map, unwrap_or, bytes_eq, if◌then◌else◌}
 use Rattle.std.specs.List.{AllByRecursion}
 use Rattle.std.specs.Option.{option_map_or}
+use Rattle.std.specs.Map.{lookup, set_value}
+use Rattle.lru.specs.LruCache.{LruCache}
 use Rattle.ns_types.specs.declared.identity.DevEui.{DevEui}
 use Rattle.ns_types.specs.declared.identity.WindowName.{WindowName}
 use Rattle.ns_types.specs.declared.heard.Heard.{Heard}
@@ -55,3 +57,34 @@ without name windows = filter (λ w. not (is_named name w)) windows
 abbrev pub AreApart : List Window → Type 0
 AreApart [] = Unit {0}
 AreApart (w ∷ windows) = AllByRecursion (λ v. is_named w.name v ≡ false) windows × AreApart windows
+
+-- the entries of a map that need not be there
+abbrev pub entries_of : Option (LruCache WindowName Window) → List (WindowName × Window)
+entries_of linked = option_map_or (λ l. l.entries) linked []
+
+-- entries, where the window of the name that passes the test has one copy more
+abbrev pub copied_entries : (WindowName → Bool) → Heard → List (WindowName × Window) → List (WindowName × Window)
+copied_entries test heard entries = option_map_or (λ w. set_value test entries (with_copy heard w)) (lookup test entries) entries
+
+-- each window stands at its own name
+abbrev pub AreNamed : List (WindowName × Window) → Type 0
+AreNamed = AllByRecursion (λ e. e.0 ≡ e.1.name)
+
+-- no two windows have one frame
+abbrev pub AreOfFrames : List Window → Type 0
+AreOfFrames [] = Unit {0}
+AreOfFrames (w ∷ windows) = AllByRecursion (λ v. is_of w.frame v ≡ false) windows × AreOfFrames windows
+
+-- what a device's count says
+abbrev pub count_in : List (DevEui × ℕ) → DevEui → ℕ
+count_in counts eui = unwrap_or (lookup (λ d. eui.0 == d.0) counts) 0
+
+-- each device's count is how many windows it has
+abbrev pub AreCounted : List (DevEui × ℕ) → List Window → Type 0
+AreCounted counts windows = (eui : DevEui) → count_in counts eui ≡ count eui windows
+
+-- the windows and the names by frame say the same: at each frame stands the name of its window
+abbrev pub Agree : {F : Type 0} → (F → List ℕ) → List Window → List (F × WindowName) → Type 0
+Agree bytes windows frames =
+    AreApart windows × AreOfFrames windows
+    × ((frame : List ℕ) → lookup (λ k. bytes_eq frame (bytes k)) frames ≡ option_map (λ w. w.name) (framed frame windows))

@@ -5,8 +5,13 @@
 //! windows: what is found, counted, added and taken is what a list says. It stands on `ns_types` and `ns_calls`.
 #![tactic(auto)]
 
+mod by_name;
+mod counts;
 mod window;
 mod windows;
 
 pub use window::{Addition, Window};
 pub use windows::Windows;
+
+#[cfg(test)]
+mod tests;

@@ -7,7 +7,7 @@ ghost use Rattle.ns_workers.specs.Closing.{Closes, closing};
 ghost use Rattle.ns_workers.specs.Counts.{RisesByReceipts};
 ghost use Rattle.ns_workers.specs.Lines.{uplink_line, up_lines};
 
-use crate::counted::send_down;
+use crate::counted::{counted, send_down};
 use crate::line::write_uplink;
 use crate::outside::{CloseJob, Downlinks, JobSource, Monitor, Next, Shared, Timer, WorkerFault};
 use ns_calls::Call;
@@ -24,7 +24,7 @@ pub struct Ended {
 }
 
 // Waits until the job is due, and closes its window.
-fn close_due<B: Naming, R: Wait, G: Gate<R>, D, M, T: Timer<R>>(
+fn close_due<B: Naming, R: Wait, G: Gate<R>, D, M: Monitor<R>, T: Timer<R>>(
     shared: &Shared<'_, B, R, G, D, M>,
     pass: &mut Pass<B>,
     timer: &T,
@@ -36,7 +36,7 @@ fn close_due<B: Naming, R: Wait, G: Gate<R>, D, M, T: Timer<R>>(
 {
     timer.until(shared.rt, job.due);
     let call = Call::Close { window: job.name };
-    shared.server.call(shared.rt, pass, call, shared.gate)
+    counted(shared, pass, call)
 }
 
 // Sends what goes down, and writes the line of what goes up.

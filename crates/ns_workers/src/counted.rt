@@ -1,5 +1,6 @@
 //! Calls, and what goes down with them.
-ghost use Rattle.std.specs.Prelude.{◌≡◌, ◌+◌, OnOk, OnErr};
+ghost use Rattle.std.specs.Prelude.{◌≡◌, ◌+◌, IfOk, OnOk, OnErr};
+ghost use Rattle.ns_server.specs.Receipts.{RisesAt};
 ghost use Rattle.ns_workers.specs.Counts.{made_in_all};
 
 use crate::outside::{Downlinks, Monitor, Shared};
@@ -8,17 +9,23 @@ use ns_server::{Gate, Naming, Pass, Receipt};
 use std::alloc::AllocError;
 use std::sync::Wait;
 
-// Makes a call, which is one more in the counts of all shards together.
+// Makes a call and tells its reply. It is one more in the counts of all shards together.
 #[tactic(auto, using(crate::proofs::Counting::counted_one))]
-pub(crate) fn counted<B: Naming, R: Wait, G: Gate<R>, D, M>(
+pub(crate) fn counted<B: Naming, R: Wait, G: Gate<R>, D, M: Monitor<R>>(
     shared: &Shared<'_, B, R, G, D, M>,
     pass: &mut Pass<B>,
     call: Call,
 ) -> Result<Receipt, AllocError>
+    ensures call { IfOk result (λ r. r.entry.call ≡ call) }
+    ensures counted { IfOk result (λ r. RisesAt r.shard pass.old pass.new) }
     ensures sum { OnOk result (made_in_all pass.new ≡ made_in_all pass.old + 1) }
     ensures err { OnErr result (pass.new ≡ pass.old) }
 {
-    shared.server.call(shared.rt, pass, call, shared.gate)
+    let answered = shared.server.call(shared.rt, pass, call, shared.gate);
+    if let Ok(receipt) = &answered {
+        shared.monitor.replied(shared.rt, &receipt.entry.reply);
+    }
+    answered
 }
 
 // Sends what goes down with a receipt. What cannot be sent is lost.

@@ -1,6 +1,7 @@
 //! Reads the datagrams of gateways, makes their calls and puts the jobs that follow.
-ghost use Rattle.std.specs.Prelude.{◌≡◌, ◌≢◌, ◌+◌, ◌^◌, ◌<◌, ◌≤◌, if◌then◌else◌, false, true, Some, Err, OnOk};
-ghost use Rattle.ns_workers.specs.Serving.{Reads, is_refused};
+ghost use Rattle.std.specs.Prelude.{◌≡◌, ◌≢◌, ◌+◌, ◌^◌, ◌<◌, ◌≤◌, if◌then◌else◌, false, true, Some, Ok, Err, IfSome, OnOk};
+ghost use Rattle.ns_calls.specs.Steps.{datagram_call};
+ghost use Rattle.ns_workers.specs.Serving.{Reads, is_refused, refused_as};
 ghost use Rattle.ns_workers.specs.Counts.{made_in_all};
 
 use crate::closer::hand_out;
@@ -10,7 +11,7 @@ use crate::outside::{
     AskJob, CloseJob, Datagrams, Downlinks, Jobs, Monitor, Received, Shared, Timer, WorkerFault,
 };
 use ns_calls::{Call, Outcome, Reply};
-use ns_server::{Gate, Naming, Pass};
+use ns_server::{Gate, Naming, Pass, Receipt};
 use ns_types::{Sink, Ticket, WindowName};
 use std::sync::Wait;
 
@@ -111,39 +112,21 @@ fn put_job<
     }
 }
 
-// Makes the call of a datagram, and puts the job that follows.
-fn serve_one<
-    B: Naming,
-    R: Wait,
-    G: Gate<R>,
-    D: Downlinks<R>,
-    M: Monitor<R>,
-    T: Timer<R>,
-    C: Jobs<R, CloseJob>,
-    A: Jobs<R, AskJob>,
-    W: Sink,
->(
+// Makes the call of a datagram that is not refused.
+fn serve_one<B: Naming, R: Wait, G: Gate<R>, D, M: Monitor<R>>(
     shared: &Shared<'_, B, R, G, D, M>,
     pass: &mut Pass<B>,
-    timer: &T,
-    close_jobs: &C,
-    ask_jobs: &A,
-    sink: &mut W,
-    window_ms: u32,
     served: &mut Served,
     bytes: &[u8],
-) -> Result<(), WorkerFault>
-    requires room { (served.old.read < 2 ^ 63) × (served.old.refused < 2 ^ 63) × (served.old.dropped < 2 ^ 63) }
-    requires sound { W.has_failed sink.old ≡ false }
+) -> Option<Receipt>
+    requires { (served.old.read < 2 ^ 63) × (served.old.refused < 2 ^ 63) × (served.old.dropped < 2 ^ 63) }
+    ensures call { IfSome result (λ r. refused_as (datagram_call bytes.now) ≡ Ok r.entry.call) }
     ensures read { served.new.read ≡ served.old.read + 1 }
     ensures refused { served.new.refused ≡ served.old.refused + (if is_refused bytes.now then 1 else 0) }
     ensures dropped { served.new.dropped ≤ served.old.dropped + 1 }
     ensures same { served.new.fault ≡ served.old.fault }
     ensures sum { made_in_all pass.old + 1 + (served.old.refused + served.old.dropped)
         ≤ made_in_all pass.new + (served.new.refused + served.new.dropped) }
-    ensures sound { OnOk result (W.has_failed sink.new ≡ false) }
-    ensures failed { result ≡ Err WorkerFault.SinkFailed → W.has_failed sink.new ≡ true }
-    ensures fault { result ≢ Err WorkerFault.SourceFailed }
 {
     served.read += 1;
     let call = match call_of(bytes) {
@@ -151,19 +134,15 @@ fn serve_one<
         Err(why) => {
             shared.monitor.refused(shared.rt, why);
             served.refused += 1;
-            return Ok(());
+            return None;
         }
     };
     let Ok(receipt) = counted(shared, pass, call) else {
         shared.monitor.dropped(shared.rt);
         served.dropped += 1;
-        return Ok(());
+        return None;
     };
-    let reply = &receipt.entry.reply;
-    shared.monitor.replied(shared.rt, reply);
-    put_job(
-        shared, pass, timer, close_jobs, ask_jobs, sink, window_ms, reply,
-    )
+    Some(receipt)
 }
 
 /// Reads datagrams, makes the call of each that is not refused, and puts the job that follows: a window that was opened is due
@@ -217,21 +196,15 @@ pub fn run_gateway<
                 return served;
             }
         };
-        let bytes = &buf[..n];
-        let done = serve_one(
-            shared,
-            pass,
-            timer,
-            close_jobs,
-            ask_jobs,
-            sink,
-            window_ms,
-            &mut served,
-            bytes,
-        );
-        if let Err(fault) = done {
-            served.fault = Some(fault);
-            return served;
+        if let Some(receipt) = serve_one(shared, pass, &mut served, &buf[..n]) {
+            let reply = &receipt.entry.reply;
+            let put = put_job(
+                shared, pass, timer, close_jobs, ask_jobs, sink, window_ms, reply,
+            );
+            if let Err(fault) = put {
+                served.fault = Some(fault);
+                return served;
+            }
         }
         if served.read >= MOST {
             return served;

@@ -1,17 +1,53 @@
 //! Sources over memory, which tell what they gave.
-ghost use Rattle.std.specs.Prelude.{◌≡◌, ◌≤◌, vec_len, take};
+ghost use Rattle.std.specs.Prelude.{◌≡◌, ◌≤◌, Bool, true, false, vec_len, take};
 
 use crate::outside::{Datagrams, JobSource, Next, Received};
+
+// Where a source over memory stands, and how it has ended.
+#[derive(Drop)]
+struct Place {
+    at: usize,
+    fails: bool,
+    ended: bool,
+    broken: bool,
+}
+
+impl Place {
+    // At the beginning.
+    fn first(fails: bool) -> Place
+        ensures begins { (result.at ≡ 0) × (result.fails ≡ fails) }
+        ensures goes_on { (result.ended ≡ false) × (result.broken ≡ false) }
+    {
+        Place {
+            at: 0,
+            fails,
+            ended: false,
+            broken: false,
+        }
+    }
+
+    // Ends, or fails where that is asked, and says whether it fails.
+    fn end(&mut self) -> bool
+        ensures fails { result ≡ self.old.fails }
+        ensures stays { (self.new.at ≡ self.old.at) × (self.new.fails ≡ self.old.fails) }
+        ensures ends { result ≡ false → (self.new.ended ≡ true) × (self.new.broken ≡ self.old.broken) }
+        ensures breaks { result ≡ true → (self.new.ended ≡ self.old.ended) × (self.new.broken ≡ true) }
+    {
+        if self.fails {
+            self.broken = true;
+        } else {
+            self.ended = true;
+        }
+        self.fails
+    }
+}
 
 /// Jobs of a list, in order, and then the end, or a failure.
 #[derive(Drop)]
 pub struct ListedJobs<J> {
     jobs: Vec<J>,
-    at: usize,
-    fails: bool,
-    ended: bool,
-    broken: bool,
-    ghost within: { at ≤ vec_len jobs },
+    place: Place,
+    ghost within: { place.at ≤ vec_len jobs },
 }
 
 impl<J: Copy> ListedJobs<J> {
@@ -24,10 +60,7 @@ impl<J: Copy> ListedJobs<J> {
     {
         ListedJobs {
             jobs,
-            at: 0,
-            fails,
-            ended: false,
-            broken: false,
+            place: Place::first(fails),
         }
     }
 }
@@ -38,16 +71,14 @@ impl<R, J: Copy> JobSource<R, J> for ListedJobs<J> {
     ghost given = { λ s. jobs_given s };
 
     fn take(&mut self, _rt: &R) -> Next<J> {
-        if self.at < self.jobs.len() {
-            let job = self.jobs[self.at];
-            self.at += 1;
+        if self.place.at < self.jobs.len() {
+            let job = self.jobs[self.place.at];
+            self.place.at += 1;
             return Next::Job(job);
         }
-        if self.fails {
-            self.broken = true;
+        if self.place.end() {
             Next::Failed
         } else {
-            self.ended = true;
             Next::End
         }
     }
@@ -58,12 +89,9 @@ impl<R, J: Copy> JobSource<R, J> for ListedJobs<J> {
 #[derive(Drop)]
 pub struct ListedDatagrams {
     datagrams: Vec<Vec<u8>>,
-    at: usize,
+    place: Place,
     idles: bool,
-    fails: bool,
-    ended: bool,
-    broken: bool,
-    ghost within: { at ≤ vec_len datagrams },
+    ghost within: { place.at ≤ vec_len datagrams },
 }
 
 impl ListedDatagrams {
@@ -76,11 +104,8 @@ impl ListedDatagrams {
     {
         ListedDatagrams {
             datagrams,
-            at: 0,
+            place: Place::first(fails),
             idles: false,
-            fails,
-            ended: false,
-            broken: false,
         }
     }
 }
@@ -95,16 +120,14 @@ impl<R> Datagrams<R> for ListedDatagrams {
         if self.idles {
             return Received::Idle;
         }
-        if self.at < self.datagrams.len() {
-            let n = put_front(buf, self.datagrams[self.at].as_slice());
-            self.at += 1;
+        if self.place.at < self.datagrams.len() {
+            let n = put_front(buf, self.datagrams[self.place.at].as_slice());
+            self.place.at += 1;
             return Received::Got(n);
         }
-        if self.fails {
-            self.broken = true;
+        if self.place.end() {
             Received::Failed
         } else {
-            self.ended = true;
             Received::End
         }
     }

@@ -114,7 +114,7 @@ pub trait Monitor<R> {
     /// A datagram was refused, and made no call.
     fn refused(&self, rt: &R, why: Refused);
 
-    /// A datagram's call got this reply.
+    /// A call of the worker got this reply.
     fn replied(&self, rt: &R, reply: &Reply);
 
     /// A datagram's call was refused for want of memory, and made no entry.

@@ -60,6 +60,7 @@ const LINE_2: &[u8] = b"up 000000000000000d 1 2 1 plain - 74657374 1 00000000000
 const LINE_3: &[u8] = b"up 000000000000000d 1 3 1 plain - 55 1 00000000000000a1\n";
 
 // A gate that lets every call pass.
+#[derive(Clone, Copy)]
 struct Open;
 
 impl<R> Gate<R> for Open {
@@ -271,6 +272,50 @@ fn closings(alloc: Global, counters: &[u32], fails: bool) -> Result<ListedJobs<C
     Ok(ListedJobs::new(jobs, fails))
 }
 
+// What the workers of these tests share.
+fn shared<'a, B: Naming, R>(
+    rt: &'a R,
+    server: &'a Server<B>,
+    gate: &'a Open,
+    told: &'a Told,
+) -> Shared<'a, B, R, Open, Told, Told> {
+    Shared {
+        rt,
+        server,
+        gate,
+        down: told,
+        monitor: told,
+    }
+}
+
+// Runs a closer over a sink of its own. What it did, and what the sink has.
+fn closed<B: Naming, R: Wait>(
+    alloc: Global,
+    shared: &Shared<'_, B, R, Open, Told, Told>,
+    pass: &mut Pass<B>,
+    jobs: &mut ListedJobs<CloseJob>,
+    limit: u32,
+) -> Result<(Ended, Vec<u8>), Fail> {
+    let mut sink = Fuse::new(alloc, Vec::new(alloc), 7, None, None);
+    let ended = run_closer(alloc, shared, pass, &Still, jobs, &mut sink, limit);
+    Ok((ended, Vec::from_slice(alloc, sink.written())?))
+}
+
+// Runs a gateway worker that can put no job, over a sink whose write after so many fails. What it did, and what the sink has.
+fn served_alone<B: Naming, R: Wait>(
+    alloc: Global,
+    shared: &Shared<'_, B, R, Open, Told, Told>,
+    pass: &mut Pass<B>,
+    datagrams: &mut ListedDatagrams,
+    writes: u64,
+) -> Result<(Served, Vec<u8>), Fail> {
+    let mut sink = Fuse::new(alloc, Vec::new(alloc), 2000, None, Some(writes));
+    let served = run_gateway(
+        shared, pass, datagrams, &Still, &Full, &Full, &mut sink, 200,
+    );
+    Ok((served, Vec::from_slice(alloc, sink.written())?))
+}
+
 /// Windows are closed in the order of the jobs, each with its line, and a closed name has none; the limit, a source that fails, a sink
 /// that fails and room that is refused.
 #[test]
@@ -294,57 +339,32 @@ fn closed_in_order<B: Naming, R: Wait + Abort>(
         return Err(Fail::from("no pass"));
     };
     open_two(rt, alloc, &server, &mut pass)?;
-    let told = Told::new(true);
-    let shared = Shared {
-        rt,
-        server: &server,
-        gate: &Open,
-        down: &told,
-        monitor: &told,
-    };
+    let (told, gate) = (Told::new(true), Open);
+    let shared = shared(rt, &server, &gate, &told);
     let mut jobs = closings(alloc, &[2, 3, 3], false)?;
-    let mut sink = Fuse::new(alloc, Vec::new(alloc), 7, None, None);
-    let ended = run_closer(alloc, &shared, &mut pass, &Still, &mut jobs, &mut sink, 1);
+    let (ended, lines) = closed(alloc, &shared, &mut pass, &mut jobs, 1)?;
     assert_eq!(rt; (ended.fault, ended.receipts.len()), (None, 1));
-    assert_eq!(rt; sink.written(), LINE_2);
-    let ended = run_closer(alloc, &shared, &mut pass, &Still, &mut jobs, &mut sink, 9);
+    assert_eq!(rt; lines.as_slice(), LINE_2);
+    let (ended, lines) = closed(alloc, &shared, &mut pass, &mut jobs, 9)?;
     assert_eq!(rt; (ended.fault, ended.receipts.len()), (None, 2));
-    assert_eq!(rt; sink.written().len(), LINE_2.len() + LINE_3.len());
+    assert_eq!(rt; lines.as_slice(), LINE_3);
     assert!(rt; matches!(jobs.take(rt), Next::End));
     let Some(last) = ended.receipts.last() else {
         return Err(Fail::from("no receipt"));
     };
     assert!(rt; last.entry.reply == Reply::NoWindow);
-    assert_eq!(rt; told.all(), [0, 0, 0, 0, 0, 1]);
+    assert_eq!(rt; told.all(), [0, 3, 0, 0, 0, 1]);
     let mut broken = closings(alloc, &[], true)?;
-    let mut second = Fuse::new(alloc, Vec::new(alloc), 7, None, None);
-    let mut third = Fuse::new(alloc, Vec::new(alloc), 7, None, None);
-    let ended = run_closer(
-        alloc,
-        &shared,
-        &mut pass,
-        &Still,
-        &mut broken,
-        &mut second,
-        9,
-    );
-    assert_eq!(rt;
-        (ended.fault, ended.receipts.len()),
-        (Some(WorkerFault::SourceFailed), 0)
-    );
-    let ended = run_closer(
-        alloc,
-        &shared,
-        &mut pass,
-        &Still,
-        &mut broken,
-        &mut third,
-        u32::MAX,
-    );
-    assert_eq!(rt;
-        (ended.fault, ended.receipts.len()),
-        (Some(WorkerFault::NoMemory), 0)
-    );
+    for (limit, fault) in [
+        (9, WorkerFault::SourceFailed),
+        (u32::MAX, WorkerFault::NoMemory),
+    ] {
+        let (ended, lines) = closed(alloc, &shared, &mut pass, &mut broken, limit)?;
+        assert_eq!(rt;
+            (ended.fault, ended.receipts.len(), lines.len()),
+            (Some(fault), 0, 0)
+        );
+    }
     Ok(())
 }
 
@@ -379,14 +399,8 @@ fn done_by_itself<B: Naming, R: Wait + Abort>(
         return Err(Fail::from("no pass"));
     };
     join(rt, alloc, &server, &mut pass)?;
-    let told = Told::new(false);
-    let shared = Shared {
-        rt,
-        server: &server,
-        gate: &Open,
-        down: &told,
-        monitor: &told,
-    };
+    let (told, gate) = (Told::new(false), Open);
+    let shared = shared(rt, &server, &gate, &told);
     let mut heard_all = Vec::new(alloc);
     for length in [0usize, 1, 512, 65507] {
         heard_all.push(vec![in alloc; 1u8; length]?)?;
@@ -394,40 +408,20 @@ fn done_by_itself<B: Naming, R: Wait + Abort>(
     heard_all.push(heard(alloc, &join_request(2))?)?;
     heard_all.push(heard(alloc, &F)?)?;
     let mut datagrams = ListedDatagrams::new(heard_all, true);
-    let mut sink = Fuse::new(alloc, Vec::new(alloc), 2000, None, Some(1));
-    let served = run_gateway(
-        &shared,
-        &mut pass,
-        &mut datagrams,
-        &Still,
-        &Full,
-        &Full,
-        &mut sink,
-        200,
-    );
+    let (served, lines) = served_alone(alloc, &shared, &mut pass, &mut datagrams, 1)?;
     assert_eq!(rt; (served.read, served.refused, served.dropped), (6, 4, 0));
     assert_eq!(rt; served.fault, Some(WorkerFault::SourceFailed));
-    assert_eq!(rt; sink.written(), LINE_2);
-    assert_eq!(rt; told.all(), [4, 2, 0, 0, 0, 0]);
+    assert_eq!(rt; lines.as_slice(), LINE_2);
+    assert_eq!(rt; told.all(), [4, 4, 0, 0, 0, 0]);
     let mut one = Vec::new(alloc);
     one.push(uplink_3(alloc, true)?)?;
     let mut datagrams = ListedDatagrams::new(one, false);
-    let mut broken = Fuse::new(alloc, Vec::new(alloc), 2000, None, Some(0));
-    let served = run_gateway(
-        &shared,
-        &mut pass,
-        &mut datagrams,
-        &Still,
-        &Full,
-        &Full,
-        &mut broken,
-        200,
-    );
+    let (served, _) = served_alone(alloc, &shared, &mut pass, &mut datagrams, 0)?;
     assert_eq!(rt;
         (served.read, served.fault),
         (1, Some(WorkerFault::SinkFailed))
     );
-    assert_eq!(rt; told.all(), [4, 3, 0, 0, 1, 1]);
+    assert_eq!(rt; told.all(), [4, 6, 0, 0, 1, 1]);
     passes.push(pass)?;
     let Ok(settled) = server.settle(passes) else {
         return Err(Fail::from("a pass is missing"));
@@ -477,13 +471,8 @@ fn answer_one<B: Naming, R: Wait>(
         ticket: Ticket(frame),
     })?;
     let mut jobs = ListedJobs::new(jobs, false);
-    let shared = Shared {
-        rt,
-        server,
-        gate: &Open,
-        down: told,
-        monitor: told,
-    };
+    let gate = Open;
+    let shared = shared(rt, server, &gate, told);
     Ok(run_join(alloc, &shared, pass, &connections, &mut jobs, known, host))
 }
 
@@ -514,56 +503,23 @@ fn answered<B: Naming, R: Wait + Abort>(
     let mut unknown = J;
     unknown[9] = 14;
     let known = &*known;
-    let one = answer_one(
-        rt,
-        alloc,
-        &server,
-        &mut pass,
-        &told,
-        known,
-        join_request(1),
-        None,
-    )?;
-    let two = answer_one(
-        rt,
-        alloc,
-        &server,
-        &mut pass,
-        &told,
-        known,
-        join_request(2),
-        Some("{}"),
-    )?;
-    let three = answer_one(
-        rt,
-        alloc,
-        &server,
-        &mut pass,
-        &told,
-        known,
-        unknown,
-        Some(JA),
-    )?;
-    let four = answer_one(
-        rt,
-        alloc,
-        &server,
-        &mut pass,
-        &told,
-        known,
-        join_request(1),
-        Some(JA),
-    )?;
-    for joined in [one, two, three, four] {
+    for (frame, body) in [
+        (join_request(1), None),
+        (join_request(2), Some("{}")),
+        (unknown, Some(JA)),
+        (join_request(1), Some(JA)),
+    ] {
+        let joined = answer_one(rt, alloc, &server, &mut pass, &told, known, frame, body)?;
+        let answered = 1;
         assert_eq!(rt;
             joined,
             Joined {
-                answered: 1,
+                answered,
                 fault: None
             }
         );
     }
-    assert_eq!(rt; told.all(), [0, 0, 0, 3, 1, 1]);
+    assert_eq!(rt; told.all(), [0, 4, 0, 3, 1, 1]);
     passes.push(pass)?;
     let Ok(settled) = server.settle(passes) else {
         return Err(Fail::from("a pass is missing"));

@@ -1,4 +1,4 @@
-use Rattle.ns_creator.proofs.Parts.{AreBytes-slice}
+use Rattle.ns_views.proofs.Made.{AreBytes-slice}
 use Rattle.ns_device.proofs.join_server.key_bytes.Goals as goal
 
 pub returns-clause-block : goal.returns-clause-block

@@ -1,4 +1,4 @@
-use Rattle.ns_joinwire.proofs.TextLemmas.{hex_bytes-encode_lower}
+use Rattle.ns_roster.proofs.HexLemmas.{hex_bytes-encode_lower}
 use Rattle.ns_joinwire.proofs.request.frame_text.Goals as goal
 
 pub returns-clause-reads_back : goal.returns-clause-reads_back

@@ -40,7 +40,7 @@ invariant_of-self-2 g c =
     let shards = c.self.inside.shards in
     let found = slice_get-get_or shards c.in-Some.i c.index-self-i.result c.in-Some.ensures.some.0 in
     let done = c.in_ok-receipt.ensures in
-    let is = state_after _ c.in-Some.i c.in-Some.window _ _ (c.self.invariant.2 c.in-Some.i _ found) done.done done.history in
+    let is = state_after _ c.in-Some.i c.in-Some.window _ _ (c.self.invariant.2 c.in-Some.i _ found) done.done done.state in
     (c.self.invariant.0, length-set shards c.in-Some.i _ ∙ c.self.invariant.1, states_set _ shards c.in-Some.i _ c.self.invariant.2 is)
 
 pub returns-clause-states : goal.returns-clause-states
@@ -48,7 +48,7 @@ returns-clause-states g c =
     let shards = c.self.inside.shards in
     let found = slice_get-get_or shards c.in-Some.i c.index-self-i.result c.in-Some.ensures.some.0 in
     let done = c.in_ok-receipt.ensures in
-    states_set _ shards c.in-Some.i _ c.self.invariant.2 (state_after _ c.in-Some.i c.in-Some.window _ _ (c.self.invariant.2 c.in-Some.i _ found) done.done done.history)
+    states_set _ shards c.in-Some.i _ c.self.invariant.2 (state_after _ c.in-Some.i c.in-Some.window _ _ (c.self.invariant.2 c.in-Some.i _ found) done.done done.state)
 
 pub returns-clause-some : goal.returns-clause-some
 returns-clause-some g c =

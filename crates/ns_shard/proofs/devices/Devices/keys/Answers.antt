@@ -9,6 +9,6 @@ use Rattle.ns_shard.proofs.devices.Devices.keys.Goals as goal
 
 pub returns : goal.returns
 returns c =
-    let name = c.args.fit.now.window in
-    let at = place-first (is_own name.eui) c.self.inside.list.items c.args.fit.now.place c.index.result.now (rw (← c.self.view_is) at c.requires) c.index.ensures in
+    let name = c.args.name.now in
+    let at = place-first (is_own name.eui) c.self.inside.list.items c.args.place c.index.result.now (rw (← c.self.view_is) at c.requires) c.index.ensures in
     rw (← c.self.view_is) (c.keys.ensures ∙ ap (option_and_then (λ (o : Own). option_map (λ (s : Session). (s.nwk, s.app)) (session_in o.state name.session))) (sym (first-find _ _ _ _ at)))

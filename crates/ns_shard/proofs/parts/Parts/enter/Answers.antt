@@ -2,10 +2,11 @@ use Rattle.std.proofs.Common.{◌≡◌, length, refl, ap, sym, ◌∙◌}
 use Rattle.std.specs.Arc.{arc_value}
 use Rattle.ns_roster.specs.Network.{Network}
 use Rattle.ns_calls.specs.declared.answer.Answer.{Answer}
-use Rattle.ns_calls.specs.Out.{answer}
 use Rattle.ns_calls.specs.Legal.{with_call}
+use Rattle.ns_shard.specs.Parts.{state_of}
 use Rattle.ns_shard.specs.Sending.{answer_of}
-use Rattle.ns_shard.proofs.Entries.{pushed-is, pushed-length}
+use Rattle.ns_shard.specs.State.{answer_in}
+use Rattle.ns_shard.proofs.Entries.{pushed-is, answer-is, keeps-more}
 use Rattle.ns_shard.proofs.Reactions.{can_react, devices-apart, call-answered, agrees-call}
 use Rattle.ns_shard.proofs.parts.Parts.enter.Goals as goal
 use Rattle.ns_shard.proofs.parts.Parts.enter.Goals.{After-push}
@@ -13,17 +14,19 @@ use Rattle.ns_shard.proofs.parts.Parts.enter.Goals.{After-push}
 pub react-requires-clause-apart : goal.react-requires-clause-apart
 react-requires-clause-apart c =
     let p = c.args.self.now in
-    devices-apart (arc_value p.roster) p.index p.journal.entries p.devices p.windows c.requires.agree.agrees
+    devices-apart (arc_value p.roster) p.index c.requires.agree.history p.devices p.windows c.requires.agree.agrees
 
 pub react-requires-clause-open : goal.react-requires-clause-open
 react-requires-clause-open c =
     let p = c.args.self.now in
-    can_react (arc_value p.roster) p.index p.journal.entries p.devices p.windows c.args.call.now c.requires.agree.agrees c.requires.own
+    can_react (arc_value p.roster) p.index c.requires.agree.history p.devices p.windows c.args.call.now c.requires.agree.agrees c.requires.own
 
-told : (c : After-push) → answer_of (arc_value c.args.self.now.roster) c.react.new.closed c.in_ok-event.event ≡ answer (arc_value c.args.self.now.roster) c.args.self.now.journal.entries c.args.call.now
+told : (c : After-push) → answer_of (arc_value c.args.self.now.roster) c.react.new.closed c.in_ok-event.event ≡ answer_in (state_of c.args.self.now) c.args.call.now
 told c =
     let p = c.args.self.now in
-    rw (c.in_ok-event.ensures.event, c.in_ok-event.ensures.closed) (call-answered (arc_value p.roster) p.index p.journal.entries p.devices p.windows c.args.call.now c.requires.agree.agrees c.requires.own)
+    let are = c.requires.agree in
+    (rw (c.in_ok-event.ensures.event, c.in_ok-event.ensures.closed) (call-answered (arc_value p.roster) p.index are.history p.devices p.windows c.args.call.now are.agrees c.requires.own))
+    ∙ sym (answer-is are.history (state_of p) c.args.call.now are.keeps)
 
 pushed : (c : After-push) → c.push.new.self.entries ≡ with_call (arc_value c.args.self.now.roster) c.args.self.now.journal.entries c.args.self.now.journal.made c.args.call.now
 pushed c =
@@ -43,10 +46,11 @@ returns-clause-agree c =
     let net : Network = arc_value p.roster in
     let call = c.args.call.now in
     let are = c.requires.agree in
-    let after = agrees-call net p.index p.journal.entries p.devices p.windows call are.agrees c.requires.own in
-    let entries : c.push.new.self.entries ≡ with_call net p.journal.entries (length p.journal.entries) call = pushed c ∙ ap (λ n. with_call net p.journal.entries n call) are.made in
+    let after = agrees-call net p.index are.history p.devices p.windows call are.agrees c.requires.own in
+    let more = keeps-more are.history (state_of p) call are.keeps in
     record {
       small = are.small;
-      made = (rw c.in_ok-room.ensures.made at c.push.ensures.made) ∙ (pushed-length net p.journal.entries p.journal.made (length p.journal.entries) call are.made ∙ ap length (sym entries));
-      agrees = rw (entries, c.in_ok-event.ensures.devices, c.in_ok-event.ensures.windows) after;
+      history = with_call net are.history (length are.history) call;
+      keeps = record { made = (rw c.in_ok-room.ensures.made at c.push.ensures.made) ∙ more.made; entries = pushed c ∙ more.entries };
+      agrees = rw (c.in_ok-event.ensures.devices, c.in_ok-event.ensures.windows) after;
     }

@@ -1,4 +1,4 @@
-use Rattle.std.proofs.Common.{◌≡◌, map, refl}
+use Rattle.std.proofs.Common.{◌≡◌, [], map, refl}
 use Rattle.std.specs.Arc.{arc_value}
 use Rattle.ns_roster.specs.Network.{Network}
 use Rattle.ns_roster.specs.Valid.{IsRoster}
@@ -14,6 +14,7 @@ returns-clause-agree c =
     let valid : IsRoster net = rw c.deref.ensures at c.in_ok-devices.ensures.valid in
     record {
       small = c.requires;
-      made = rw (c.new-3.ensures.entries, c.new-3.ensures.made) refl;
-      agrees = rw (c.new-3.ensures.entries, c.new-2.ensures, are) (agrees-new net c.args.index others_stay valid);
+      history = [];
+      keeps = record { made = rw c.new-3.ensures.made refl; entries = rw c.new-3.ensures.entries refl };
+      agrees = rw (c.new-2.ensures, are) (agrees-new net c.args.index others_stay valid);
     }

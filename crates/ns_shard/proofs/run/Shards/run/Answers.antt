@@ -2,9 +2,10 @@ use Rattle.std.proofs.Common.{sym, ap, ◌∙◌, ◌++◌, ◌+◌, take, drop,
 use Rattle.std.specs.List.{AllByRecursion}
 use Rattle.std.proofs.lemmas.List.{take_all}
 use Rattle.std.specs.Arc.{arc_value}
-use Rattle.ns_shard.specs.Steps.{all_taken, AreAfter, HandsOut}
+use Rattle.ns_shard.specs.Steps.{all_taken, AreAfter, HandsOut, HasCopies, AreHandedOutOnce}
 use Rattle.ns_shard.proofs.RunSteps.{step-after, step-taken, told-more}
-use Rattle.ns_shard.proofs.RunHistories.{histories-legal, histories-calls, histories-nonces, histories-counters, histories-acks, histories-windows, all-hand_out, told-all}
+use Rattle.ns_shard.proofs.RunHistories.{histories-legal, histories-calls, histories-nonces, histories-counters, histories-acks, histories-windows, all-hand_out, told-all, histories-within, greatest-after}
+use Rattle.ns_shard.proofs.RunTaken.{taken-copies, taken-once}
 use Rattle.ns_shard.proofs.run.Shards.run.Goals as goal
 
 pub steps-preserved : goal.steps-preserved
@@ -38,6 +39,18 @@ returns-clause-nonces_rise c =
     let all = take_all c.steps.step-index c.args.steps.now c.steps-test.false in
     histories-nonces net c.args.steps.now c.steps.list.items (subst (λ ss. AreAfter net ss c.steps.list.items) all c.steps.invariant.after)
 
+pub returns-clause-nonces_within : goal.returns-clause-nonces_within
+returns-clause-nonces_within c =
+    let net = arc_value c.args.roster in
+    let all = take_all c.steps.step-index c.args.steps.now c.steps-test.false in
+    histories-within net c.args.steps.now c.steps.list.items (subst (λ ss. AreAfter net ss c.steps.list.items) all c.steps.invariant.after)
+
+pub returns-clause-greatest : goal.returns-clause-greatest
+returns-clause-greatest c =
+    let net = arc_value c.args.roster in
+    let all = take_all c.steps.step-index c.args.steps.now c.steps-test.false in
+    greatest-after net c.args.steps.now c.steps.list.items (subst (λ ss. AreAfter net ss c.steps.list.items) all c.steps.invariant.after)
+
 pub returns-clause-counters_rise : goal.returns-clause-counters_rise
 returns-clause-counters_rise c =
     let net = arc_value c.args.roster in
@@ -60,3 +73,15 @@ pub returns-clause-uplinks : goal.returns-clause-uplinks
 returns-clause-uplinks c =
     let net = arc_value c.args.roster in
     subst (AllByRecursion HandsOut) (sym (told-all net c.args.steps.now c.steps.step-index c.steps.taken.items c.steps-test.false c.steps.invariant.told)) (all-hand_out net [] c.args.steps.now)
+
+pub returns-clause-copies : goal.returns-clause-copies
+returns-clause-copies c =
+    let net = arc_value c.args.roster in
+    let all = take_all c.steps.step-index c.args.steps.now c.steps-test.false in
+    let after = subst (λ ss. AreAfter net ss c.steps.list.items) all c.steps.invariant.after in
+    subst (AllByRecursion (HasCopies c.steps.list.items)) (sym (told-all net c.args.steps.now c.steps.step-index c.steps.taken.items c.steps-test.false c.steps.invariant.told)) (taken-copies net c.args.steps.now c.steps.list.items after)
+
+pub returns-clause-handed_out_once : goal.returns-clause-handed_out_once
+returns-clause-handed_out_once c =
+    let net = arc_value c.args.roster in
+    subst AreHandedOutOnce (sym (told-all net c.args.steps.now c.steps.step-index c.steps.taken.items c.steps-test.false c.steps.invariant.told)) (taken-once net c.args.steps.now)

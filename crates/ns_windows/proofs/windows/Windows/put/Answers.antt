@@ -1,12 +1,54 @@
-use Rattle.std.proofs.Common.{◌≡◌, None}
-use Rattle.ns_windows.specs.Windows.{named, is_named}
+use Rattle.std.proofs.Common.{◌≡◌, ℕ, ◌+◌, ◌≤◌, ◌==◌, length, arith, List, [], ◌∷◌, ◌++◌, None, bytes_eq, option_map, ap, ◌∙◌}
+use Rattle.std.proofs.lemmas.List.Sums.{count_by-le-length}
+use Rattle.std.specs.Box.{boxed_slice_items}
+use Rattle.std.specs.Map.{lookup}
+use Rattle.indexmap.proofs.CallerLemmas.{insert_entry-new}
+use Rattle.ns_types.specs.declared.identity.DevEui.{DevEui}
+use Rattle.ns_windows.specs.declared.window.Window.{Window}
+use Rattle.ns_windows.specs.Windows.{is_named, is_of, named, framed, count, count_in, AreCounted}
 use Rattle.ns_windows.proofs.Names.{apart-push}
+use Rattle.ns_windows.proofs.Framed.{frames-push, of_frames-push}
+use Rattle.ns_windows.proofs.Counted.{one_of, count-push}
 use Rattle.ns_windows.proofs.Places.{none_found}
 use Rattle.ns_windows.proofs.windows.Windows.put.Goals as goal
+use Rattle.ns_windows.proofs.windows.Windows.put.Goals.{After-raise}
+
+key : (c : After-raise) → boxed_slice_items c.in_ok-frame.frame ≡ c.args.window.frame
+key c = c.in_ok-frame.ensures.ok ∙ c.bytes.ensures.bytes
+
+new_frames : (c : After-raise) → c.insert.new.self.entries ≡ c.self.inside.frames.entries ++ (c.in_ok-frame.frame, c.args.window.name) ∷ []
+new_frames c =
+    let w = c.args.window in
+    let frames = c.self.inside.frames.entries in
+    let stays : c.reserve.new.self.entries ≡ frames = c.reserve.ensures.entries in
+    let new : framed w.frame c.self.inside.names ≡ None = rw c.self.view_is c.requires.frame in
+    let absent = ap (λ xs. lookup (λ k. bytes_eq (boxed_slice_items c.in_ok-frame.frame) (boxed_slice_items k)) xs) stays
+    ∙ ap (λ f. lookup (λ k. bytes_eq f (boxed_slice_items k)) frames) (key c) ∙ c.self.invariant.0.2 w.frame ∙ ap (λ r. option_map (λ v. v.name) r) new in
+    let inserted = rw c.unwrap.ensures at c.insert.ensures.entries in
+    inserted ∙ insert_entry-new _ c.reserve.new.self c.in_ok-frame.frame w.name absent ∙ ap (λ xs. xs ++ (c.in_ok-frame.frame, w.name) ∷ []) stays
+
+pub raise-requires-clause-fits : goal.raise-requires-clause-fits
+raise-requires-clause-fits c =
+    let ws = c.self.inside.names in
+    let eui = c.args.window.name.eui in
+    let counts : count_in c.reserve-2.new.self.entries eui ≡ count eui ws = ap (λ (xs : List (DevEui × ℕ)). count_in xs eui) c.reserve-2.ensures.entries ∙ c.self.invariant.1 eui in
+    let most : count eui ws ≤ length ws = count_by-le-length (λ (v : Window). v.name.eui.0 == eui.0) ws in
+    omega (arith, counts, most, c.push.ensures.fits)
+
+counted : (c : After-raise) → AreCounted c.raise.new.counts.entries (c.self.inside.names ++ c.args.window ∷ [])
+counted c eui =
+    let ws = c.self.inside.names in
+    let w = c.args.window in
+    let raised : count_in c.raise.new.counts.entries eui ≡ count_in c.self.inside.counts.entries eui + one_of eui w = c.raise.ensures eui ∙ ap (λ (xs : List (DevEui × ℕ)). count_in xs eui + one_of eui w) c.reserve-2.ensures.entries in
+    let was : count_in c.self.inside.counts.entries eui ≡ count eui ws = c.self.invariant.1 eui in
+    let pushed : count eui (ws ++ w ∷ []) ≡ count eui ws + one_of eui w = count-push eui ws w in
+    omega (arith, raised, was, pushed)
 
 pub invariant_of-self-2 : goal.invariant_of-self-2
 invariant_of-self-2 c =
-    let ws = c.self.inside.list.items in
+    let ws = c.self.inside.names in
     let w = c.args.window in
-    let new : named w.name ws ≡ None = rw c.self.view_is c.requires.name in
-    rw c.in_ok-push.ensures.items (apart-push ws w c.self.invariant (none_found (is_named w.name) ws new))
+    let i = c.self.invariant.0 in
+    let name : named w.name ws ≡ None = rw c.self.view_is c.requires.name in
+    let frame : framed w.frame ws ≡ None = rw c.self.view_is c.requires.frame in
+    rw (c.in_ok-push.ensures.ok, new_frames c) ((apart-push ws w i.0 (none_found (is_named w.name) ws name), of_frames-push ws w i.1 (none_found (is_of w.frame) ws frame), (λ f. frames-push boxed_slice_items c.self.inside.frames.entries ws c.in_ok-frame.frame w f (key c) (i.2 f))), counted c)

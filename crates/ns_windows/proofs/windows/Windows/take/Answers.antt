@@ -1,34 +1,51 @@
-use Rattle.std.proofs.Common.{◌≡◌, None, not, sym, subst, ◌∙◌, rules}
-use Rattle.ns_windows.specs.Windows.{is_named, without, AreApart}
-use Rattle.ns_windows.proofs.Names.{apart-filter, place_found}
-use Rattle.ns_windows.proofs.Places.{NonePasses, PassesAt, find-none, find-at, filter-none, filter-at, position-none}
+use Rattle.std.proofs.Common.{◌≡◌, ◌+◌, ◌-◌, arith, None, Some, bytes_eq, not, sym, ◌∙◌}
+use Rattle.std.specs.Box.{boxed_slice_items}
+use Rattle.std.specs.Map.{lookup, KeepsOthers}
+use Rattle.ns_windows.specs.Windows.{is_named, named, without, count, count_in, AreCounted}
+use Rattle.ns_windows.proofs.Names.{apart-filter}
+use Rattle.ns_windows.proofs.Framed.{frames-taken, of_frames-filter}
+use Rattle.ns_windows.proofs.Counted.{one_of, count-taken}
+use Rattle.ns_windows.proofs.Places.{none_found, filter-none}
 use Rattle.ns_windows.proofs.windows.Windows.take.Goals as goal
-use Rattle.ns_windows.proofs.windows.Windows.take.Goals.{After-from_residual, After-remove}
+use Rattle.ns_windows.proofs.windows.Windows.take.Goals.{After-from_residual, After-lower}
 
-none : (c : After-from_residual) → NonePasses (is_named c.args.name.now) c.self.inside.list.items
-none c = position-none (is_named c.args.name.now) c.self.inside.list.items (rw c.as_slice.ensures.value at (sym c.in_err-place.ensures.place))
-
-there : (c : After-remove) → PassesAt (is_named c.args.name.now) c.self.inside.list.items c.in_ok-place.place c.remove.result
-there c =
-    place_found c.args.name.now c.self.inside.list.items c.in_ok-place.place c.remove.result c.self.invariant
-    (rw c.as_slice.ensures.value at (sym c.in_ok-place.ensures.place)) c.remove.ensures.value
-
-pub returns-in_err-place-clause-result : goal.returns-in_err-place-clause-result
-returns-in_err-place-clause-result c =
-    let gives : c.from_residual.result ≡ None = search rules in
-    rw (← c.self.view_is, gives) (sym (find-none _ _ (none c)))
-
-pub returns-in_err-place-clause-windows : goal.returns-in_err-place-clause-windows
-returns-in_err-place-clause-windows c = rw (← c.self.view_is) (sym (filter-none _ _ (none c)))
-
-pub returns-clause-result : goal.returns-clause-result
-returns-clause-result c = rw (← c.self.view_is) (sym (find-at _ _ _ _ (there c)))
-
-pub returns-clause-windows : goal.returns-clause-windows
-returns-clause-windows c = rw (← c.self.view_is, c.remove.ensures.items) (sym (filter-at _ _ _ _ (there c)))
+stays : (c : After-from_residual) → c.remove.new.self ≡ c.self.inside.names
+stays c =
+    let name = c.args.name.now in
+    let ws = c.self.inside.names in
+    c.remove.ensures.windows ∙ filter-none (is_named name) ws (none_found (is_named name) ws (sym c.in_err-window.ensures.result))
 
 pub invariant_of-self : goal.invariant_of-self
-invariant_of-self c =
-    let ws = c.self.inside.list.items in
-    let is : c.remove.new.self.items ≡ without c.args.name.now ws = c.remove.ensures.items ∙ sym (filter-at _ _ _ _ (there c)) in
-    subst AreApart (sym is) (apart-filter (λ w. not (is_named c.args.name.now w)) ws c.self.invariant)
+invariant_of-self c = rw (stays c) c.self.invariant
+
+there : (c : After-lower) → Some c.in_ok-window.window ≡ named c.args.name.now c.self.inside.names
+there c = c.in_ok-window.ensures.result
+
+keeps : (c : After-lower) → KeepsOthers (λ x y. bytes_eq (boxed_slice_items x) (boxed_slice_items y)) (λ k. bytes_eq c.in_ok-window.window.frame (boxed_slice_items k)) c.self.inside.frames.entries c.swap_remove.new.self.entries
+keeps c = rw (← c.bytes.ensures.bytes) c.swap_remove.ensures.updates.3
+
+gone : (c : After-lower) → lookup (λ k. bytes_eq c.in_ok-window.window.frame (boxed_slice_items k)) c.swap_remove.new.self.entries ≡ None
+gone c = rw (← c.bytes.ensures.bytes) c.swap_remove.ensures.updates.1
+
+counted : (c : After-lower) → AreCounted c.lower.new.counts.entries (without c.args.name.now c.self.inside.names)
+counted c eui =
+    let ws = c.self.inside.names in
+    let w = c.in_ok-window.window in
+    let lowered : count_in c.lower.new.counts.entries eui ≡ count_in c.self.inside.counts.entries eui - one_of eui w = c.lower.ensures eui in
+    let was : count_in c.self.inside.counts.entries eui ≡ count eui ws = c.self.invariant.1 eui in
+    let taken : count eui ws ≡ count eui (without c.args.name.now ws) + one_of eui w = count-taken eui c.args.name.now ws w c.self.invariant.0.0 (sym (there c)) in
+    omega (arith, lowered, was, taken)
+
+pub invariant_of-self-2 : goal.invariant_of-self-2
+invariant_of-self-2 c =
+    let name = c.args.name.now in
+    let ws = c.self.inside.names in
+    let i = c.self.invariant.0 in
+    rw c.remove.ensures.windows (
+      (
+        apart-filter (λ w. not (is_named name w)) ws i.0,
+        of_frames-filter (λ w. not (is_named name w)) ws i.1,
+        (λ f. frames-taken boxed_slice_items c.self.inside.frames.entries c.swap_remove.new.self.entries name ws c.in_ok-window.window i.0 i.1 (sym (there c)) (keeps c) (gone c) f (i.2 f)),
+      ),
+      counted c,
+    )

@@ -1,0 +1,287 @@
+//! `serve` and `receive`: gateways over UDP and a join server over TCP, by std's threads, channels and sockets.
+//!
+//! As `lorawan_ns serve` it has workers that hear gateways, workers that ask the join server, and a closer; sixteen shards behind a lock
+//! each; one `recv_from` a datagram, with a limit of 100 ms; the address of each gateway in a map; lines gathered and written before the
+//! closer waits.
+
+use crate::*;
+use std::io::Read;
+use std::net::{SocketAddr, TcpStream, UdpSocket};
+use std::sync::atomic::{AtomicU64, Ordering};
+use std::sync::mpsc::{Receiver, Sender, TryRecvError, channel};
+use std::sync::{Arc, Mutex};
+use std::thread;
+use std::time::{Duration, Instant};
+
+const EXCHANGE: Duration = Duration::from_secs(4);
+const LISTEN: Duration = Duration::from_millis(100);
+
+struct Options { join: SocketAddr, listen: SocketAddr, workers: u64, join_workers: u64, window: Duration, stop_after: u64 }
+
+impl Options {
+    fn read(words: &[&str]) -> Result<Options, String> {
+        let addr = SocketAddr::from(([127, 0, 0, 1], 0));
+        let window = Duration::from_millis(200);
+        let mut found = Options { join: addr, listen: addr, workers: 4, join_workers: 1, window, stop_after: u64::MAX };
+        for pair in words.chunks(2) {
+            let value = *pair.get(1).ok_or("an option without its value")?;
+            let bad = |_| format!("bad value: {value}");
+            let whole = || value.parse::<u64>().map_err(|_| format!("bad value: {value}"));
+            match pair[0] {
+                "--join" => found.join = value.parse().map_err(bad)?,
+                "--listen" => found.listen = value.parse().map_err(bad)?,
+                "--workers" => found.workers = whole()?,
+                "--join-workers" => found.join_workers = whole()?,
+                "--window" => found.window = Duration::from_millis(whole()?),
+                "--stop-after" => found.stop_after = whole()?,
+                other => return Err(format!("no option {other}")),
+            }
+        }
+        Ok(found)
+    }
+}
+
+/// What all threads share.
+struct Live<'a> {
+    roster: &'a Roster,
+    options: Options,
+    socket: UdpSocket,
+    shards: Vec<Mutex<Shard>>,
+    peers: Mutex<Map<SocketAddr>>,
+    read: AtomicU64,
+    listening: AtomicU64, // how many workers hear gateways
+    output: Mutex<Text>,
+}
+
+struct CloseJob { window: WindowName, due: Instant }
+
+fn listen(options: &Options) -> Result<UdpSocket, String> {
+    let socket = UdpSocket::bind(options.listen).map_err(|_| "io")?;
+    socket.set_read_timeout(Some(LISTEN)).map_err(|_| "io")?;
+    println!("listening {}", socket.local_addr().map_err(|_| "io")?);
+    Ok(socket)
+}
+
+/// Receives datagrams until it is killed.
+pub fn receive(words: &[&str]) -> Result<(), String> {
+    let options = Options::read(words)?;
+    let socket = listen(&options)?;
+    let read = AtomicU64::new(0);
+    thread::scope(|scope| {
+        for _ in 0..options.workers {
+            scope.spawn(|| {
+                let mut buffer = [0; 512];
+                loop {
+                    if socket.recv_from(&mut buffer).is_ok() {
+                        read.fetch_add(1, Ordering::SeqCst);
+                    }
+                }
+            });
+        }
+    });
+    Ok(())
+}
+
+/// Serves until so many datagrams came.
+pub fn serve(roster: &Roster, words: &[&str]) -> Result<(), String> {
+    let options = Options::read(words)?;
+    let socket = listen(&options)?;
+    let (workers, join_workers) = (options.workers, options.join_workers);
+    let shards = shards_of(roster).into_iter().map(Mutex::new).collect();
+    let (peers, read, listening, output) = Default::default();
+    let output: Mutex<Vec<u8>> = output;
+    let output = Mutex::new(Text(output.into_inner().unwrap()));
+    let live = Live { roster, options, socket, shards, peers, read, listening, output };
+    live.listening.store(workers, Ordering::SeqCst);
+    let (closes, close_jobs) = channel();
+    let (asks, ask_jobs) = channel();
+    let ask_jobs = Arc::new(Mutex::new(ask_jobs));
+    thread::scope(|scope| {
+        for _ in 0..workers {
+            let (live, closes, asks) = (&live, closes.clone(), asks.clone());
+            scope.spawn(move || live.hear(&closes, &asks));
+        }
+        for _ in 0..join_workers {
+            let (live, jobs) = (&live, ask_jobs.clone());
+            scope.spawn(move || live.ask_all(&jobs));
+        }
+        drop((closes, asks));
+        live.close_all(&close_jobs);
+    });
+    let total: usize = live.shards.iter().map(|shard| shard.lock().unwrap().entries.len()).sum();
+    live.output.lock().unwrap().line("settled").number(total as u64).end();
+    live.flush();
+    std::mem::forget(live);
+    Ok(())
+}
+
+impl Live<'_> {
+    /// Answers datagrams.
+    fn hear(&self, closes: &Sender<CloseJob>, asks: &Sender<Ticket>) {
+        let mut buffer = [0; 512];
+        while self.read.load(Ordering::SeqCst) < self.options.stop_after {
+            let Ok((len, peer)) = self.socket.recv_from(&mut buffer) else { continue };
+            if self.read.fetch_add(1, Ordering::SeqCst) >= self.options.stop_after {
+                break;
+            }
+            self.take(&buffer[..len], peer, closes, asks);
+        }
+        self.listening.fetch_sub(1, Ordering::SeqCst);
+    }
+
+    fn take(&self, datagram: &[u8], peer: SocketAddr, closes: &Sender<CloseJob>, asks: &Sender<Ticket>) {
+        let Ok(heard) = read_datagram(datagram) else { return };
+        self.peers.lock().unwrap().insert(heard.gateway, peer);
+        match view(&datagram[28..]) {
+            Ok(View::Join(ticket)) => {
+                let mut shard = self.shards[shard_of(dev_eui(&ticket))].lock().unwrap();
+                let reply = shard.join(&ticket);
+                shard.log(Call::Join { ticket, heard }, reply);
+                drop(shard);
+                if let Reply::Ask { ticket } = reply {
+                    let _ = asks.send(ticket);
+                }
+            }
+            Ok(View::Data(data)) => {
+                let mut frame = Frame { len: data.bytes.len() as u8, bytes: [0; 255] };
+                frame.bytes[..data.bytes.len()].copy_from_slice(data.bytes);
+                let mut shard = self.shards[(data.addr >> 21) as usize % SHARDS].lock().unwrap();
+                let reply = shard.uplink(&data);
+                shard.log(Call::Uplink { frame, heard }, reply);
+                drop(shard);
+                if let Reply::Opened { window } = reply {
+                    let _ = closes.send(CloseJob { window, due: Instant::now() + self.options.window });
+                }
+            }
+            Err(_) => {}
+        }
+    }
+
+    /// Closes windows as they are due, and writes lines before it waits.
+    fn close_all(&self, jobs: &Receiver<CloseJob>) {
+        loop {
+            let job = match jobs.try_recv() {
+                Ok(job) => job,
+                Err(TryRecvError::Disconnected) => break,
+                Err(TryRecvError::Empty) => {
+                    self.flush();
+                    let Ok(job) = jobs.recv() else { break };
+                    job
+                }
+            };
+            self.wait_until(job.due);
+            self.close(job.window);
+            if self.output.lock().unwrap().0.len() >= 8192 {
+                self.flush();
+            }
+        }
+        self.flush();
+    }
+
+    fn wait_until(&self, due: Instant) {
+        loop {
+            let left = due.saturating_duration_since(Instant::now());
+            if left.is_zero() || self.listening.load(Ordering::SeqCst) == 0 {
+                return;
+            }
+            self.flush();
+            thread::sleep(left.min(LISTEN));
+        }
+    }
+
+    fn flush(&self) {
+        let mut output = self.output.lock().unwrap();
+        if io::stdout().write_all(&output.0).is_err() || io::stdout().flush().is_err() {
+            std::process::exit(1);
+        }
+        output.0.clear();
+    }
+
+    fn close(&self, window: WindowName) {
+        let mut shard = self.shards[shard_of(window.eui)].lock().unwrap();
+        let closed = shard.close(&window);
+        let reply = closed.as_ref().map_or(Reply::NoWindow, |(_, ack)| Reply::Closed { window, ack: *ack });
+        let mut down = None;
+        if let Some((Window { session, copies, .. }, ack)) = closed {
+            let session = &shard.sessions[session as usize];
+            self.output.lock().unwrap().up(&shard.entries, &window, session, &copies);
+            if let Some(number) = ack {
+                let addr = Data::of(copies.frame(&shard.entries)).addr;
+                let best = *copies.best(&shard.entries);
+                down = Some((best, session.ack_frame(addr, number)));
+            }
+        }
+        shard.log(Call::Close { window }, reply);
+        drop(shard);
+        if let Some((best, frame)) = down {
+            self.send(&best, self.roster.rx1_offset, self.roster.ack_delay, &frame);
+        }
+    }
+
+    /// Sends a downlink to where its gateway was heard last.
+    fn send(&self, best: &Heard, offset: u8, delay: u64, frame: &[u8]) {
+        let Some(peer) = self.peers.lock().unwrap().get(&best.gateway).copied() else { return };
+        let mut datagram = vec![1, 0x81];
+        datagram.extend_from_slice(&best.gateway.to_be_bytes());
+        datagram.extend_from_slice(&best.moment.wrapping_add(delay).to_be_bytes());
+        datagram.extend_from_slice(&best.freq.to_be_bytes());
+        datagram.extend_from_slice(&[best.dr.saturating_sub(offset), 0, 0, 0, 0, frame.len() as u8]);
+        datagram.extend_from_slice(frame);
+        let _ = self.socket.send_to(&datagram, peer);
+    }
+
+    /// Asks the join server for each ticket.
+    fn ask_all(&self, jobs: &Mutex<Receiver<Ticket>>) {
+        loop {
+            let job = jobs.lock().unwrap().recv();
+            let Ok(ticket) = job else { return };
+            let outcome = self.ask(&ticket).and_then(|body| join_ans(&ticket, &body));
+            let mut shard = self.shards[shard_of(dev_eui(&ticket))].lock().unwrap();
+            let (reply, copies) = shard.join_reply(&ticket, outcome.as_ref());
+            let best = copies.map(|copies| *copies.best(&shard.entries));
+            shard.log(Call::JoinReply { ticket, outcome }, reply);
+            drop(shard);
+            if let (Reply::Accepted { .. }, Some(best), Some(answer)) = (reply, best, outcome) {
+                self.send(&best, 0, 5_000_000, &answer.accept[..answer.len as usize]);
+            }
+        }
+    }
+
+    /// The body of the join server's answer.
+    fn ask(&self, ticket: &Ticket) -> Option<Vec<u8>> {
+        let eui = dev_eui(ticket);
+        let device = self.roster.devices.iter().find(|d| d.eui == eui)?;
+        let mut phy = Text(Vec::new());
+        phy.hex_digits(ticket);
+        let [a, b, c] = self.roster.net;
+        let body = format!(
+            concat!(
+                "{{\"DLSettings\":\"{:02x}\",\"DevAddr\":\"{:08x}\",\"DevEUI\":\"{:016x}\",\"MACVersion\":\"1.0.4\",\"MessageType\":\"JoinReq\",",
+                "\"PHYPayload\":\"{}\",\"ProtocolVersion\":\"1.0\",\"ReceiverID\":\"{:016x}\",\"RxDelay\":{},\"SenderID\":\"{:02x}{:02x}{:02x}\",",
+                "\"TransactionID\":{}}}"
+            ),
+            16 * self.roster.rx1_offset, device.addr, eui, String::from_utf8(phy.0).ok()?, device.join_eui, self.roster.rx_delay, a, b, c,
+            u32::from_le_bytes(array(&ticket[19..])),
+        );
+        let mut stream = TcpStream::connect_timeout(&self.options.join, EXCHANGE).ok()?;
+        stream.set_read_timeout(Some(EXCHANGE)).ok()?;
+        let head = "POST / HTTP/1.1\r\nHost: localhost\r\nContent-Type: application/json\r\nConnection: close\r\n";
+        stream.write_all(format!("{head}Content-Length: {}\r\n\r\n{body}", body.len()).as_bytes()).ok()?;
+        response_body(&mut stream)
+    }
+}
+
+/// The body of a response with a Content-Length.
+fn response_body(stream: &mut TcpStream) -> Option<Vec<u8>> {
+    let (mut bytes, mut buffer) = (Vec::new(), [0; 4096]);
+    loop {
+        let read = stream.read(&mut buffer).ok().filter(|n| *n > 0)?;
+        bytes.extend_from_slice(&buffer[..read]);
+        let Some(start) = bytes.windows(4).position(|part| part == b"\r\n\r\n") else { continue };
+        let head = String::from_utf8(bytes[..start].to_ascii_lowercase()).ok()?;
+        let length = head.lines().find_map(|line| line.strip_prefix("content-length:"))?.trim().parse::<usize>().ok()?;
+        if bytes.len() >= start + 4 + length {
+            return head.starts_with("http/1.1 200").then(|| bytes[start + 4..start + 4 + length].to_vec());
+        }
+    }
+}

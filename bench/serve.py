@@ -1,0 +1,133 @@
+#!/usr/bin/env python3
+"""Measures `lorawan_ns serve` over loopback, beside the same server in plain Rust and a program that only receives (both
+bench/plain_server), with 1, 2 and 4 workers that hear gateways.
+
+    rustc -O --edition 2021 -o PLAIN bench/plain_server/main.rs
+    python3 bench/serve.py PROGRAM PLAIN [--workers N,..] [--devices N] [--copies N] [--frames N] [--confirmed SHARE] [--window MS]
+                           [--seconds S] [--senders N] [--runs N] [--folder FOLDER]
+
+Devices join (no part of what is measured), and send frames of 16 bytes, each heard by some gateways. All datagrams are made before
+the clock starts. First the senders send as fast as they can for some seconds: what the server takes a second of it, the rest being
+dropped by the system before its socket, is its top rate. Then they send at half of that: how many datagrams the system dropped, and
+the time from the first datagram of a confirmed frame to its acknowledgement, less the window. Processor time is that of the server's
+process, user and system, from /proc. Of several runs the one with the least processor time a datagram is told. Lines go to a file
+in a temporary folder below FOLDER. Behind the table stands what the program holds of rosters of three sizes. It ends with status 1 where an acknowledgement was not what it must be, or is missing at half of
+the top rate though no datagram was dropped.
+"""
+import argparse
+import json
+import os
+import sys
+import tempfile
+
+sys.path.insert(0, os.path.join(os.path.dirname(os.path.dirname(os.path.abspath(__file__))), 'tools'))
+from network import load, nodes  # noqa: E402
+from network.servers import Joins, Serve  # noqa: E402
+
+HEAD = ('Program', 'Workers', 'Top, datagrams a second', 'Dropped', 'us each', 'of it user', 'Half: sent a second', 'Dropped', 'us each',
+        'Delay ms, median', '99 in 100', 'Most', 'Bytes a datagram')
+
+
+def row(cells):
+    print('| %s |' % ' | '.join(str(cell) for cell in cells), flush=True)
+
+
+class Measured:
+    """One program with a number of workers."""
+
+    def __init__(self, name, words, answers, options, folder):
+        self.name, self.words, self.answers, self.options, self.folder = name, words, answers, options, folder
+
+    def run(self, rate, seconds):
+        options = self.options
+        with open(os.path.join(self.folder, 'lines'), 'wb') as lines:
+            server = Serve(self.words, lines)
+            try:
+                frames = options.frames or int((rate or 400_000) * seconds / options.devices / options.copies) + 2
+                plan = load.Plan([server.where], options.devices, options.copies, frames, rate, seconds, options.confirmed,
+                                 options.window / 1000, options.senders, 1, self.answers)
+                return load.measured(plan, [server])
+            finally:
+                server.close()
+
+    def best(self, rate):
+        return min((self.run(rate, self.options.seconds) for _ in range(self.options.runs)), key=load.Took.cost)
+
+    def rows(self, workers):
+        """Measures and prints the row; the top run, and whether what came back was right."""
+        top = self.best(0)
+        half = self.best(top.taken() / top.seconds / 2)
+        delays = ['%.2f' % half.delay(share) for share in (0.5, 0.99, 1)] if self.answers else ['-'] * 3
+        row((self.name, workers, format(round(top.taken() / top.seconds, -2), ',.0f'), '%.0f%%' % (100 * top.dropped / top.sent), '%.2f' % top.cost(),
+             '%.2f' % (1e6 * top.user / top.taken()), format(round(half.sent / half.seconds, -2), ',.0f'),
+             '%d of %s' % (half.dropped, format(half.sent, ',')), '%.2f' % half.cost(), *delays,
+             format(round(half.grown / half.taken()), ',') if self.answers else '-'))
+        missing = 0 if half.dropped or not self.answers else half.confirmed - half.acknowledged
+        if top.wrong or half.wrong or missing:
+            print('%d and %d wrong acknowledgements, %d missing' % (top.wrong, half.wrong, missing), file=sys.stderr)
+        return top, not (top.wrong or half.wrong or missing)
+
+
+def at_rest(program, folder):
+    """Memory in MB with rosters of three sizes, before any datagram."""
+    found, roster = [], os.path.join(folder, 'resting.json')
+    for devices in (1, 16_384, 65_536):
+        with open(roster, 'w', encoding='utf-8') as file:
+            json.dump(nodes.roster(devices, 0, 1), file)
+        server = Serve([program, 'serve', roster, '--join', '127.0.0.1:9', '--listen', '127.0.0.1:0'])
+        found.append('%s devices %.1f MB' % (format(devices, ','), server.memory() / 1e6))
+        server.close()
+    return ', '.join(found)
+
+
+def buffer_size():
+    with open('/proc/sys/net/core/rmem_default') as file:
+        return int(file.read())
+
+
+def options_of():
+    parser = argparse.ArgumentParser(description=__doc__, formatter_class=argparse.RawDescriptionHelpFormatter)
+    parser.add_argument('program', metavar='PROGRAM')
+    parser.add_argument('plain', metavar='PLAIN')
+    parser.add_argument('--workers', default='1,2,4', metavar='N,..')
+    for name, kind, default in (('devices', int, 4096), ('copies', int, 3), ('frames', int, 0), ('confirmed', float, 0.1),
+                                ('window', int, 200), ('seconds', float, 2), ('senders', int, 2), ('runs', int, 1)):
+        parser.add_argument('--' + name, type=kind, default=default)
+    parser.add_argument('--folder', metavar='FOLDER')
+    return parser.parse_args()
+
+
+def main():
+    options, is_right = options_of(), True
+    keys = {eui.to_bytes(8, 'big'): nodes.app_key(1, eui) for eui in range(options.devices)}
+    joins = Joins(('127.0.0.1', 0), keys)
+    with tempfile.TemporaryDirectory(dir=options.folder) as folder:
+        roster = os.path.join(folder, 'roster.json')
+        with open(roster, 'w', encoding='utf-8') as file:
+            json.dump(nodes.roster(options.devices, 0, 1), file)
+        print('%d processors, load average %.1f; %d devices, %d copies, %.0f%% confirmed, window %d ms, %d senders, %.1f s, '
+              'socket buffer %d bytes\n' % (os.cpu_count(), os.getloadavg()[0], options.devices, options.copies,
+                                            100 * options.confirmed, options.window, options.senders, options.seconds, buffer_size()))
+        row(HEAD)
+        row(('---',) * len(HEAD))
+        for workers in options.workers.split(','):
+            more = ['--listen', '127.0.0.1:0', '--workers', workers]
+            serves = more + ['--window', str(options.window), '--join-workers', '4', '--join', '%s:%d' % joins.where]
+            found = []
+            for name, words, answers in (
+                    ('proved', [options.program, 'serve', roster] + serves, True),
+                    ('plain', [options.plain, 'serve', roster] + serves, True),
+                    ('receives only', [options.plain, 'receive'] + more, False)):
+                top, right = Measured(name, words, answers, options, folder).rows(workers)
+                is_right = is_right and right
+                found.append(top.cost())
+            print('\n%s workers: proved to plain %.2f, proved to a bare receiver %.2f, plain to it %.2f (processor time a datagram '
+                  'at the top rate)\n' % (workers, found[0] / found[1], found[0] / found[2], found[1] / found[2]), flush=True)
+        print('at rest: %s' % at_rest(options.program, folder))
+    joins.close()
+    print('load average at the end %.1f' % os.getloadavg()[0])
+    return 0 if is_right else 1
+
+
+if __name__ == '__main__':
+    sys.exit(main())

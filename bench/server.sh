@@ -1,0 +1,26 @@
+#!/usr/bin/env bash
+# Times calls by Shard::apply on one thread, and by one Server with 1, 2 and 4 threads on shards of their own: the crate bench_server.
+#   server.sh [DEVICES FRAMES ROUNDS]    each device joins, and each of its frames is heard by three gateways and its window closed; of
+#                                        each way the fastest round counts
+#   server.sh --instructions             instructions of a call on one thread, by callgrind
+# The receipt of each call is looked at and dropped.
+set -euo pipefail
+here=$(cd "$(dirname "$0")" && pwd)
+work=$(mktemp -d)
+trap 'rm -rf "$work"' EXIT
+program="$here/../crates/bench_server/out/bench_server"
+(cd "$here/../crates/bench_server" && rt run --jobs 2 > "$work/build" 2>&1) || { cat "$work/build"; exit 1; }
+if [ "${1:-}" = --instructions ]; then
+    count() { valgrind --tool=callgrind --callgrind-out-file="$work/$1" "$program" 256 8 1 "$1" 2>&1 > "$work/lines" | awk '/Collected/ {print $NF}'; }
+    calls=$("$program" 256 8 1 none 2> "$work/times" | head -1 | cut -d' ' -f1)
+    none=$(count none) apply=$(count apply) server=$(count server)
+    awk -v n="$calls" -v none="$none" -v apply="$apply" -v server="$server" 'BEGIN {
+        printf "%d calls: %.0f instructions each by apply, %.0f by the server, ratio %.2f\n", n, (apply - none) / n, (server - none) / n, (server - none) / (apply - none) }'
+    exit
+fi
+"$program" "${1:-64}" "${2:-64}" "${3:-25}" > "$work/lines" 2> "$work/times"
+echo "load average: $(cut -d' ' -f1-3 /proc/loadavg)"
+sort -k1,1 -k3,3n "$work/times" | awk '!seen[$1]++' | awk '
+    BEGIN { printf "%-10s %12s %10s %8s\n", "", "calls/s", "ns a call", "ratio" }
+    $1 == "apply" { one = $3 }
+    { printf "%-10s %12.0f %10.0f %8.2f\n", $1, $2 * 1e9 / $3, $3 / $2, one / $3 }'

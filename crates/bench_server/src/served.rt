@@ -1,0 +1,165 @@
+//! The calls on shards of one thread, and on a server of several.
+
+ghost use Rattle.std.specs.Prelude.{◌≡◌, ◌<◌, ◌≤◌, vec_len};
+ghost use Rattle.std.specs.Arc.{arc_value};
+ghost use Rattle.ns_tally.specs.Tally.{AreNamed};
+
+use anyhow::anyhow;
+use ns_calls::{Answer, Call, shard_of_call};
+use ns_roster::Roster;
+use ns_server::{Naming, Open, Pass, Receipt, Server};
+use ns_shard::Shard;
+use ns_tally::Blanks;
+use std::alloc::{AllocError, Global};
+use std::marker::Brand;
+use std::sync::{Arc, Wait};
+use std::thread;
+use std::thread::Threads;
+use std::time::{Clock, Instant};
+
+// What goes out is looked at, so that it is made.
+#[inline(never)]
+fn sees_answer(answer: &Answer) -> bool {
+    answer.uplink.is_some() || answer.downlink.is_some()
+}
+
+#[inline(never)]
+fn sees_receipt(receipt: &Receipt) -> bool {
+    receipt.uplink.is_some() || receipt.downlink.is_some()
+}
+
+// Sixteen shards with no entries.
+fn shards(alloc: Global, roster: &Arc<Roster>) -> Result<Vec<Shard>, AllocError> {
+    let mut shards = Vec::new(alloc);
+    for index in 0..16u8 {
+        shards.push(Shard::new(alloc, roster.clone()?, index)?)?;
+    }
+    Ok(shards)
+}
+
+// Makes each call on its shard.
+fn apply_each(shards: &mut [Shard], calls: &[Call]) -> Result<u64, AllocError> {
+    let mut seen = 0u64;
+    for call in calls {
+        let place = shard_of_call(call);
+        if let Some(shard) = shards.get_mut(usize::from(place)) {
+            if shard.index() == place {
+                let answer = shard.apply(*call)?;
+                seen = seen.wrapping_add(u64::from(sees_answer(&answer)));
+            }
+        }
+    }
+    Ok(seen)
+}
+
+/// Makes the calls by `Shard::apply`: how many entries there are then, and the nanoseconds of all calls.
+pub fn apply_all<R: Clock>(
+    rt: &R,
+    alloc: Global,
+    roster: Arc<Roster>,
+    calls: &[Call],
+) -> anyhow::Result<(u128, u128)> {
+    let mut shards = shards(alloc, &roster)?;
+    let start = Instant::now(rt)?;
+    let _seen = apply_each(shards.as_mut_slice(), calls)?;
+    let took = start.elapsed(rt)?.as_nanos();
+    let mut entries = 0u128;
+    for shard in &shards {
+        entries = entries.wrapping_add(u128::from(shard.made()));
+    }
+    Ok((entries, took))
+}
+
+// What one thread does.
+#[derive(Drop)]
+struct Job<B: Naming> {
+    pass: Pass<B>,
+    calls: Vec<Call>,
+}
+
+// Makes a thread's calls.
+fn call_each<B: Naming, R: Wait>(rt: &R, server: &Server<B>, job: Job<B>) -> Job<B> {
+    let Job { mut pass, calls } = job;
+    let mut seen = 0u64;
+    for call in &calls {
+        if let Ok(receipt) = server.call(rt, &mut pass, *call, &Open) {
+            seen = seen.wrapping_add(u64::from(sees_receipt(&receipt)));
+        }
+    }
+    Job { pass, calls }
+}
+
+// A pass for each thread's calls.
+fn jobs<B: Naming>(
+    alloc: Global,
+    mut passes: Vec<Pass<B>>,
+    mut parts: Vec<Vec<Call>>,
+) -> Result<Vec<Job<B>>, AllocError> {
+    let mut jobs = Vec::new(alloc);
+    while let Some(pass) = passes.pop() {
+        let calls = match parts.pop() {
+            Some(calls) => calls,
+            None => Vec::new(alloc),
+        };
+        jobs.push(Job { pass, calls })?;
+    }
+    Ok(jobs)
+}
+
+// The passes of jobs that are done.
+fn passes_of<B: Naming>(alloc: Global, mut done: Vec<Job<B>>) -> Result<Vec<Pass<B>>, AllocError> {
+    let mut passes = Vec::new(alloc);
+    while let Some(job) = done.pop() {
+        let Job { pass, calls: _ } = job;
+        passes.push(pass)?;
+    }
+    Ok(passes)
+}
+
+// Lends the server to a thread for each part of the calls. The passes, and the nanoseconds of all calls.
+fn all_call<B: Naming + Send + Sync, R: Threads + Wait + Clock + Sync>(
+    rt: &R,
+    alloc: Global,
+    server: &Server<B>,
+    passes: Vec<Pass<B>>,
+    parts: Vec<Vec<Call>>,
+) -> anyhow::Result<(Vec<Pass<B>>, u128)> {
+    let jobs = jobs(alloc, passes, parts)?;
+    let start = Instant::now(rt)?;
+    let done = thread::map_vec(rt, jobs, &|job| call_each(rt, server, job))?;
+    let took = start.elapsed(rt)?.as_nanos();
+    Ok((passes_of(alloc, done)?, took))
+}
+
+fn serve<B: Naming + Send + Sync, R: Threads + Wait + Clock + Sync>(
+    rt: &R,
+    alloc: Global,
+    roster: Arc<Roster>,
+    blanks: Blanks,
+    parts: Vec<Vec<Call>>,
+) -> anyhow::Result<(u128, u128)>
+    requires workers { (0 < vec_len parts) × (vec_len parts ≤ 64) }
+    requires names { AreNamed B.ledger blanks.names }
+    requires parts { (blanks.parts ≡ vec_len parts) × (B.workers ≡ vec_len parts) }
+    requires roster { arc_value roster ≡ B.roster }
+{
+    let (server, passes) = Server::<B>::new(alloc, roster, parts.len(), blanks)?;
+    let (passes, took) = all_call(rt, alloc, &server, passes, parts)?;
+    match server.settle(passes) {
+        Ok(settled) => Ok((settled.total(), took)),
+        Err(_) => Err(anyhow!("a pass is missing")),
+    }
+}
+
+/// Makes each part of the calls by a thread of its own, on one server: how many entries there are then, and the nanoseconds of all calls.
+pub fn serve_all<R: Threads + Wait + Clock + Sync>(
+    rt: &R,
+    alloc: Global,
+    roster: Arc<Roster>,
+    parts: Vec<Vec<Call>>,
+) -> anyhow::Result<(u128, u128)>
+    requires { (0 < vec_len parts) × (vec_len parts ≤ 64) }
+{
+    let blanks = Blanks::new(parts.len() as u64);
+    serve::<Brand, R>(rt, alloc, roster, blanks, parts)
+}

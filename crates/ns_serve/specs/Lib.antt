@@ -1,0 +1,5 @@
+pub mod Counts
+pub mod Output
+pub mod Peers
+pub mod Ends
+pub mod Closing

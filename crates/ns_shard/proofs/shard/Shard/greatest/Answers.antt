@@ -1,0 +1,24 @@
+use Rattle.std.proofs.Common.{◌≡◌, ◌==◌, ℕ, List, Bool, cond, None, sym, ap, ◌∙◌, eq-eqb}
+use Rattle.std.specs.Option.{option_and_then}
+use Rattle.std.specs.Arc.{arc_value}
+use Rattle.ns_types.specs.Identity.{shard_of}
+use Rattle.ns_roster.specs.Network.{Network}
+use Rattle.ns_calls.specs.declared.call.Entry.{Entry}
+use Rattle.ns_shard.specs.declared.devices.Own.{Own}
+use Rattle.ns_shard.specs.Devices.{own_of}
+use Rattle.ns_shard.specs.State.{known_greatest}
+use Rattle.ns_shard.proofs.Roster.{greatest-found}
+use Rattle.ns_shard.proofs.shard.Shard.greatest.Goals as goal
+
+pub returns : goal.returns
+returns c =
+    let parts = c.self.inside.parts in
+    let are = c.self.invariant in
+    let net : Network = arc_value parts.roster in
+    let eui = c.args.eui in
+    let mine : shard_of eui ≡ parts.index = sym c.shard_of.ensures.is ∙ c.if-shard_of-self.false in
+    rw (← c.self.view_is)
+    (c.greatest.ensures
+    ∙ (ap (λ (ds : List Own). option_and_then (λ (o : Own). o.state.greatest_nonce) (own_of eui ds)) are.agrees.by_device
+    ∙ (greatest-found net parts.index are.history eui mine
+    ∙ sym (ap (λ (h : List Entry). cond (shard_of eui == parts.index) (known_greatest net h eui) None) are.keeps.entries ∙ ap (λ (b : Bool). cond b (known_greatest net are.history eui) None) (eq-eqb _ _ mine)))))

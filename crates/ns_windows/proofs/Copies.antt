@@ -1,0 +1,50 @@
+-- Entries in which the window of a name has one copy more.
+use Rattle.std.proofs.Common.{◌≡◌, Bool, true, false, cond, nat_lt, List, [], ◌∷◌, ◌++◌, length, Option, None, Some, refl, sym, ◌∙◌}
+use Rattle.std.specs.Option.{option_map_or}
+use Rattle.std.specs.Map.{lookup, values_of, set_value}
+use Rattle.ns_types.specs.declared.identity.WindowName.{WindowName}
+use Rattle.ns_types.specs.declared.heard.Heard.{Heard}
+use Rattle.ns_types.specs.Identity.{same_window}
+use Rattle.ns_windows.specs.declared.window.Window.{Window}
+use Rattle.ns_windows.specs.Windows.{is_named, copied, copied_entries, with_copy, most_copies, AreApart, AreNamed}
+use Rattle.ns_windows.proofs.Names.{copied_none, copy-name}
+use Rattle.ns_windows.proofs.Named.{lookup-named, values-set, named-set}
+use Rattle.ns_windows.proofs.Places.{none_found}
+
+module _ (test : WindowName → Bool) (name : WindowName) (is : (m : WindowName) → test m ≡ same_window m name) (heard : Heard) (es : List (WindowName × Window)) (named : AreNamed es) where
+  pub values-copied : AreApart (values_of es) → values_of (copied_entries test heard es) ≡ copied name heard (values_of es)
+  values-copied apart = step (lookup test es) refl
+    where
+      step : (o : Option Window) → lookup test es ≡ o → values_of (option_map_or (λ w. set_value test es (with_copy heard w)) o es) ≡ copied name heard (values_of es)
+      step None at = copied_none name heard (values_of es) (none_found (is_named name) (values_of es) (sym (lookup-named test name is es named) ∙ at))
+      step (Some w) at = values-set test name is (with_copy heard) es w (with_copy heard w) named apart at refl
+
+  pub named-copied : AreNamed (copied_entries test heard es)
+  named-copied = step (lookup test es) refl
+    where
+      step : (o : Option Window) → lookup test es ≡ o → AreNamed (option_map_or (λ w. set_value test es (with_copy heard w)) o es)
+      step None at = named
+      step (Some w) at = named-set test name is es w (with_copy heard w) named at (copy-name heard w)
+
+-- ---- what a copy more leaves
+
+copy-frame : (heard : Heard) (w : Window) → (with_copy heard w).frame ≡ w.frame
+copy-frame heard w = step (nat_lt (length w.copies.items) most_copies)
+  where
+    step : (b : Bool) → (cond b (record w { copies = record { items = w.copies.items ++ heard ∷ [] } }) w).frame ≡ w.frame
+    step true = refl
+    step false = refl
+
+pub keep_name : (name : WindowName) (heard : Heard) (w : Window) → (cond (is_named name w) (with_copy heard w) w).name ≡ w.name
+keep_name name heard w = step (is_named name w)
+  where
+    step : (b : Bool) → (cond b (with_copy heard w) w).name ≡ w.name
+    step true = copy-name heard w
+    step false = refl
+
+pub keep_frame : (name : WindowName) (heard : Heard) (w : Window) → (cond (is_named name w) (with_copy heard w) w).frame ≡ w.frame
+keep_frame name heard w = step (is_named name w)
+  where
+    step : (b : Bool) → (cond b (with_copy heard w) w).frame ≡ w.frame
+    step true = copy-frame heard w
+    step false = refl
