@@ -1,7 +1,7 @@
 //! A recorded run, and windows and sessions of one device.
 
 use crate::calls::call_of;
-use crate::{Act, DatagramBytes, OwnedBytes, Shard, Shards, Step, Taken};
+use crate::{Act, DatagramBytes, OwnedBytes, Run, Shard, Shards, Step, Taken};
 use ns_calls::{Call, lines, reply_to_join, shard_of_call};
 use ns_creator::{DataCreator, Keys};
 use ns_roster::Roster;
@@ -218,33 +218,50 @@ fn a_join_and_an_uplink(rt: HostRuntime) -> Result<(), Fail> {
     Ok(())
 }
 
+// What two shards answer to the steps, by single calls of the one that each reaches.
+fn answered(
+    rt: &HostRuntime,
+    roster: &Roster,
+    known: &mut Shard,
+    unknown: &mut Shard,
+    steps: &[Step],
+) -> Result<String, Fail> {
+    let mut text = String::new(rt.alloc());
+    for step in steps {
+        let call = call(rt, step)?;
+        let shard = if shard_of_call(&call) == 14 {
+            &mut *unknown
+        } else {
+            &mut *known
+        };
+        text.push_str(applied(rt, roster, shard, call)?.as_str())?;
+    }
+    Ok(text)
+}
+
+// Whether the run's shard at this place has the entries of this one.
+fn has_entries(run: &Run, place: usize, shard: &Shard) -> bool {
+    match run.shards.as_slice().get(place) {
+        None => false,
+        Some(shown) => shown.entries() == shard.entries(),
+    }
+}
+
 // The same by single calls of the two shards that they reach.
 #[test]
 fn the_same_by_single_calls(rt: HostRuntime) -> Result<(), Fail> {
     let roster = Arc::new(rt.alloc(), Roster::read(rt.alloc(), ROSTER_A.as_bytes())?)?;
+    let steps = worked_steps(&rt)?;
+    let run = Shards::run(rt.alloc(), roster.clone()?, steps.as_slice())?;
     let mut known = Shard::new(rt.alloc(), roster.clone()?, 13)?;
     let mut unknown = Shard::new(rt.alloc(), roster.clone()?, 14)?;
-    let mut text = String::new(rt.alloc());
-    let steps = worked_steps(&rt)?;
-    for step in &steps {
-        let call = call(&rt, step)?;
-        let answered = if shard_of_call(&call) == 14 {
-            applied(&rt, &roster, &mut unknown, call)?
-        } else {
-            applied(&rt, &roster, &mut known, call)?
-        };
-        text.push_str(answered.as_str())?;
-    }
+    let text = answered(&rt, &roster, &mut known, &mut unknown, steps.as_slice())?;
     assert_eq!(rt; text.as_str(), WORKED_LINES);
     assert_eq!(rt; known.entries().len(), 9);
     assert_eq!(rt; unknown.entries().len(), 1);
-    let run = Shards::run(rt.alloc(), roster, steps.as_slice())?;
-    let shards = run.shards.as_slice();
-    let at_13 = shards.get(13).ok_or("no shard 13")?;
-    let at_14 = shards.get(14).ok_or("no shard 14")?;
-    assert_eq!(rt; shards.len(), 16);
-    assert!(rt; at_13.entries() == known.entries());
-    assert!(rt; at_14.entries() == unknown.entries());
+    assert_eq!(rt; run.shards.as_slice().len(), 16);
+    assert!(rt; has_entries(&run, 13, &known));
+    assert!(rt; has_entries(&run, 14, &unknown));
     Ok(())
 }
 
