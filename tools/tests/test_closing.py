@@ -1,11 +1,13 @@
 """`--closing` of both commands: the last line is a roster from which the next run begins, and a nonce of the run before is old there."""
 import json
+import os
 import subprocess
 import unittest
 
 from live import PROGRAM
 from serving import NOWHERE, Served
 
+LORAWAN_NS = os.path.join(os.path.dirname(os.path.abspath(__file__)), '../../crates/lorawan_ns')
 DEVICE = {'dev_eui': '000000000000000d', 'join_eui': '0102030401020304', 'slot': 1998321}
 HEARD = '010100000000000000a100000000000f424033be27a005fc4a004b17'
 
@@ -50,6 +52,13 @@ class Closing(Served):
     def test_replay(self):
         roster = self.written('first.json', closing_roster(dict(DEVICE, last_nonce=6)))
         *_, line = self.replayed(roster, self.heard(6), '--closing')
+        self.assertEqual(line, closing_roster(dict(DEVICE, last_nonce=6)))
+        self.goes_on(line, 6)
+
+    def test_recorded_run(self):
+        """The recorded run accepts nonce 6 last."""
+        with open(os.path.join(LORAWAN_NS, 'stdin'), encoding='utf-8') as file:
+            *_, line = self.replayed(os.path.join(LORAWAN_NS, 'data/roster.json'), file.read(), '--closing')
         self.assertEqual(line, closing_roster(dict(DEVICE, last_nonce=6)))
         self.goes_on(line, 6)
 
