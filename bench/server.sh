@@ -3,6 +3,9 @@
 #   server.sh [DEVICES FRAMES ROUNDS]    each device joins, and each of its frames is heard by three gateways and its window closed; of
 #                                        each way the fastest round counts
 #   server.sh --instructions             instructions of a call on one thread, by callgrind
+#   server.sh --trim [DEVICES FRAMES ROUNDS]
+#                                        how long a trim of one shard takes, for which calls on the shard wait: all devices are of that
+#                                        shard, and the calls are made before
 # The receipt of each call is looked at and dropped.
 set -euo pipefail
 here=$(cd "$(dirname "$0")" && pwd)
@@ -18,9 +21,18 @@ if [ "${1:-}" = --instructions ]; then
         printf "%d calls: %.0f instructions each by apply, %.0f by the server, ratio %.2f\n", n, (apply - none) / n, (server - none) / n, (server - none) / (apply - none) }'
     exit
 fi
+if [ "${1:-}" = --trim ]; then
+    "$program" "${2:-1000}" "${3:-250}" "${4:-5}" trim 2> "$work/times" | uniq
+    echo "load average: $(cut -d' ' -f1-3 /proc/loadavg)"
+    sort -k3,3n "$work/times" | awk '
+        NR == 1 { made = $2; least = $3; again = $4 }
+        { most = $3; if ($4 < again) again = $4 }
+        END { printf "%d entries: %.1f to %.1f ms, a second trim %.2f ms\n", made, least / 1e6, most / 1e6, again / 1e6 }'
+    exit
+fi
 "$program" "${1:-64}" "${2:-64}" "${3:-25}" > "$work/lines" 2> "$work/times"
 echo "load average: $(cut -d' ' -f1-3 /proc/loadavg)"
-sort -k1,1 -k3,3n "$work/times" | awk '!seen[$1]++' | awk '
+grep -v '^trim' "$work/times" | sort -k1,1 -k3,3n | awk '!seen[$1]++' | awk '
     BEGIN { printf "%-10s %12s %10s %8s\n", "", "calls/s", "ns a call", "ratio" }
     $1 == "apply" { one = $3 }
     { printf "%-10s %12.0f %10.0f %8.2f\n", $1, $2 * 1e9 / $3, $3 / $2, one / $3 }'

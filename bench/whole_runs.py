@@ -15,16 +15,16 @@ from cryptography.hazmat.primitives.ciphers import algorithms
 from cryptography.hazmat.primitives.cmac import CMAC
 
 JOIN_EUI = 0x0102030401020304
-NWK_S_KEY = algorithms.AES(bytes.fromhex("44024241ed4ce9a68c6a8bc055233fd3"))
+NWK_S_KEY = bytes.fromhex("44024241ed4ce9a68c6a8bc055233fd3")
 APP_S_KEY = "ec925802ae430ca77fd3dd73cb2cc588"
 
 
-def answer(transaction):
-    """A join server's answer."""
+def answer(transaction, key=None):
+    """A join server's answer, with this NwkSKey or the one of all."""
     return json.dumps({
         "AppSKey": {"AESKey": APP_S_KEY, "KEKLabel": ""},
         "MessageType": "JoinAns",
-        "NwkSKey": {"AESKey": NWK_S_KEY.key.hex(), "KEKLabel": ""},
+        "NwkSKey": {"AESKey": (key or NWK_S_KEY).hex(), "KEKLabel": ""},
         "PHYPayload": "20000102030405060708090a0b0c0d0e0f",
         "Result": {"ResultCode": "Success"},
         "TransactionID": transaction,
@@ -42,10 +42,10 @@ def join_request(eui, transaction):
     return b"\0" + struct.pack("<QQHI", JOIN_EUI, eui, 1, transaction)
 
 
-def uplink(addr, counter):
-    """An unconfirmed uplink of 16 enciphered bytes on port 1, with its MIC."""
+def uplink(addr, counter, key=None):
+    """An unconfirmed uplink of 16 enciphered bytes on port 1, with its MIC under this NwkSKey or the one of all."""
     front = b"\x40" + struct.pack("<IBHB", addr, 0, counter % 65_536, 1) + bytes(16)
-    mic = CMAC(NWK_S_KEY)
+    mic = CMAC(algorithms.AES(key or NWK_S_KEY))
     mic.update(b"\x49" + bytes(5) + struct.pack("<II", addr, counter) + bytes([0, len(front)]) + front)
     return front + mic.finalize()[:4]
 
@@ -70,4 +70,5 @@ def main():
                 steps.write(f"close {eui:016x} 1 {counter}\n")
 
 
-main()
+if __name__ == "__main__":
+    main()

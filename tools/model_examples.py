@@ -53,7 +53,7 @@ class Check:
     failures = 0
     count = 0
 
-    def __init__(self, title, roster=ROSTER, served=('joins', 'answers', 'uplinks'), **more):
+    def __init__(self, title, roster=ROSTER, served=model.SERVED, **more):
         self.title = title
         self.server = model.Server(model.Roster(roster, 'versions' in served), served, **more)
 
@@ -314,9 +314,8 @@ def check_rosters():
 
 
 def check_rounds():
-    rounds = ('joins', 'answers', 'uplinks', 'rounds')
     for later in (False, True):
-        run = joined('a confirmed uplink that is sent again', served=rounds)
+        run = joined('a confirmed uplink that is sent again')
         x = uplink(2, True)
         run(heard(x), 'opened 000000000000000d 1 2')
         same('its closing', run.server.line(b'close 000000000000000d 1 2')[0],

@@ -53,7 +53,16 @@ impl Text {
         }
     }
 
-    pub fn window(&mut self, w: &WindowName) -> &mut Self { self.eui(w.eui).number(w.session).number(w.fcnt) }
+    /// A window's name; its round where that is above the first.
+    pub fn window(&mut self, w: &WindowName) -> &mut Self {
+        self.eui(w.eui).number(w.session).number(w.fcnt);
+        if w.round > 1 {
+            let space = self.0.len();
+            self.number(w.round).0[space] = b':';
+        }
+        self
+    }
+
     pub fn end(&mut self) { self.0.push(b'\n'); }
 
     pub fn reply(&mut self, reply: &Reply) {
@@ -61,7 +70,8 @@ impl Text {
             Reply::Opened { window } => self.line("opened").window(window),
             Reply::Copied { window, place } => self.line("copied").window(window).number(*place),
             Reply::Crowded { window } => self.line("crowded").window(window),
-            Reply::Old { window } => self.line("old").window(window),
+            Reply::Old { eui, session, fcnt } => self.line("old").eui(*eui).number(*session).number(*fcnt),
+            Reply::Again { window } => self.line("again").window(window),
             Reply::NoSession => self.line("nosession"),
             Reply::Busy { eui } => self.line("busy").eui(*eui),
             Reply::Ask { ticket } => self.line("ask").hex(ticket),

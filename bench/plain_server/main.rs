@@ -54,7 +54,7 @@ struct Frame { len: u8, bytes: [u8; 255] }
 struct Heard { gateway: u64, moment: u64, freq: u32, rssi: i16, snr: i16, dr: u8 }
 
 #[derive(Clone, Copy)]
-struct WindowName { eui: u64, session: u32, fcnt: u32 }
+struct WindowName { eui: u64, session: u32, fcnt: u32, round: u32 }
 
 /// What a join server answered: the Join-Accept in the first `len` bytes, and the keys.
 #[derive(Clone, Copy)]
@@ -73,7 +73,8 @@ enum Reply {
     Opened { window: WindowName },
     Copied { window: WindowName, place: u8 },
     Crowded { window: WindowName },
-    Old { window: WindowName },
+    Old { eui: u64, session: u32, fcnt: u32 },
+    Again { window: WindowName },
     NoSession,
     Busy { eui: u64 },
     Ask { ticket: Ticket },
@@ -307,10 +308,12 @@ struct OpenTicket { ticket: Ticket, copies: Copies }
 struct Window {
     session: u32, // by its place in the shard
     fcnt: u32,
+    round: u32,
     copies: Copies,
 }
 
-struct Session { number: u32, greatest: Option<u32>, next_ack: u64, nwk: MacKey, app: Option<Key> }
+/// `round` is that of the last window of the greatest counter.
+struct Session { number: u32, greatest: Option<u32>, round: u32, next_ack: u64, nwk: MacKey, app: Option<Key> }
 
 impl Session {
     /// The acknowledgement of a number.
@@ -412,7 +415,7 @@ impl Shard {
         device.sessions += 1;
         device.pending = Some(session);
         let (eui, number, addr) = (device.eui, device.sessions, device.addr);
-        self.sessions.push(Session { number, greatest: None, next_ack: 0, nwk: MacKey::new(&answer.nwk), app: answer.app });
+        self.sessions.push(Session { number, greatest: None, round: 0, next_ack: 0, nwk: MacKey::new(&answer.nwk), app: answer.app });
         (Reply::Accepted { eui, session: number, addr }, copies)
     }
 
@@ -420,9 +423,9 @@ impl Shard {
     fn copy(&mut self, at_addr: Range<usize>, data: &Data) -> Option<Reply> {
         let entry = self.entries.len() as u32;
         for device in &mut self.devices[at_addr] {
-            for Window { session, fcnt, copies } in &mut device.windows {
+            for Window { session, fcnt, round, copies } in &mut device.windows {
                 if *fcnt as u16 == data.low && copies.frame(&self.entries) == data.bytes {
-                    let window = WindowName { eui: device.eui, session: self.sessions[*session as usize].number, fcnt: *fcnt };
+                    let window = WindowName { eui: device.eui, session: self.sessions[*session as usize].number, fcnt: *fcnt, round: *round };
                     return Some(copies.add(entry).map_or(Reply::Crowded { window }, |place| Reply::Copied { window, place }));
                 }
             }
@@ -445,8 +448,8 @@ impl Shard {
         None
     }
 
-    fn window_of(&self, fit: &Fit) -> WindowName {
-        WindowName { eui: self.devices[fit.device].eui, session: self.sessions[fit.session as usize].number, fcnt: fit.fcnt }
+    fn window_of(&self, fit: &Fit, round: u32) -> WindowName {
+        WindowName { eui: self.devices[fit.device].eui, session: self.sessions[fit.session as usize].number, fcnt: fit.fcnt, round }
     }
 
     fn uplink(&mut self, data: &Data) -> Reply {
@@ -456,16 +459,21 @@ impl Shard {
             return reply;
         }
         if let Some(fit) = self.first_fit(at_addr.clone(), data, above) {
-            return self.open(&fit);
+            return self.open(&fit, 1);
         }
-        match self.first_fit(at_addr, data, below) {
-            Some(fit) => Reply::Old { window: self.window_of(&fit) },
-            None => Reply::NoSession,
+        let Some(fit) = self.first_fit(at_addr, data, below) else { return Reply::NoSession };
+        let Session { greatest, round, .. } = self.sessions[fit.session as usize];
+        let same = |w: &Window| w.session == fit.session && w.fcnt == fit.fcnt;
+        if !data.confirmed || greatest != Some(fit.fcnt) || round == u32::MAX || self.devices[fit.device].windows.iter().any(same) {
+            let WindowName { eui, session, fcnt, .. } = self.window_of(&fit, 1);
+            return Reply::Old { eui, session, fcnt };
         }
+        self.open(&fit, round + 1)
     }
 
-    fn open(&mut self, fit: &Fit) -> Reply {
-        let (window, entry) = (self.window_of(fit), self.entries.len() as u32);
+    /// Opens a window of a round, where the device has room for one.
+    fn open(&mut self, fit: &Fit, round: u32) -> Reply {
+        let (window, entry) = (self.window_of(fit, round), self.entries.len() as u32);
         let device = &mut self.devices[fit.device];
         if device.windows.len() == MOST_WINDOWS {
             return Reply::Busy { eui: device.eui };
@@ -473,17 +481,18 @@ impl Shard {
         if device.pending == Some(fit.session) {
             device.active = device.pending.take();
         }
-        self.sessions[fit.session as usize].greatest = Some(fit.fcnt);
+        let session = &mut self.sessions[fit.session as usize];
+        (session.greatest, session.round) = (Some(fit.fcnt), round);
         device.windows.reserve_exact(1);
-        device.windows.push(Window { session: fit.session, fcnt: fit.fcnt, copies: Copies::of(entry) });
-        Reply::Opened { window }
+        device.windows.push(Window { session: fit.session, fcnt: fit.fcnt, round, copies: Copies::of(entry) });
+        if round == 1 { Reply::Opened { window } } else { Reply::Again { window } }
     }
 
     /// Takes out a window, with the number of its acknowledgement.
     fn close(&mut self, name: &WindowName) -> Option<(Window, Option<u32>)> {
         let device = &mut self.devices[*self.by_eui.get(&name.eui)? as usize];
         let number = |w: &Window| self.sessions[w.session as usize].number;
-        let place = device.windows.iter().position(|w| w.fcnt == name.fcnt && number(w) == name.session)?;
+        let place = device.windows.iter().position(|w| w.fcnt == name.fcnt && w.round == name.round && number(w) == name.session)?;
         let window = device.windows.swap_remove(place);
         let session = &mut self.sessions[window.session as usize];
         let mut ack = None;
@@ -568,7 +577,9 @@ impl Server {
         self.out.reply(&reply);
         if let Some((Window { session, copies, .. }, ack)) = closed {
             let session = &shard.sessions[session as usize];
-            self.out.up(&shard.entries, &window, session, &copies);
+            if window.round == 1 {
+                self.out.up(&shard.entries, &window, session, &copies);
+            }
             if let Some(n) = ack {
                 let addr = Data::of(copies.frame(&shard.entries)).addr;
                 self.out.down(&shard.entries, &copies, self.rx1_offset, self.ack_delay, &session.ack_frame(addr, n));
@@ -588,7 +599,15 @@ fn window_name(words: &[u8]) -> Result<WindowName, &'static str> {
     let (eui, rest) = split_word(words)?;
     let (session, fcnt) = split_word(rest)?;
     let eui = u64::from_be_bytes(hex_array(eui).ok_or("line")?);
-    Ok(WindowName { eui, session: decimal(session)?, fcnt: decimal(fcnt)? })
+    let session = decimal(session)?;
+    let Some(colon) = fcnt.iter().position(|b| *b == b':') else {
+        return Ok(WindowName { eui, session, fcnt: decimal(fcnt)?, round: 1 });
+    };
+    let round = decimal(&fcnt[colon + 1..])?;
+    if round < 2 {
+        return Err("line");
+    }
+    Ok(WindowName { eui, session, fcnt: decimal(&fcnt[..colon])?, round })
 }
 
 /// The number below 2^32 of one or more decimal digits.

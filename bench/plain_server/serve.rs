@@ -149,7 +149,7 @@ impl Live<'_> {
                 let reply = shard.uplink(&data);
                 shard.log(Call::Uplink { frame, heard }, reply);
                 drop(shard);
-                if let Reply::Opened { window } = reply {
+                if let Reply::Opened { window } | Reply::Again { window } = reply {
                     let _ = closes.send(CloseJob { window, due: Instant::now() + self.options.window });
                 }
             }
@@ -204,7 +204,9 @@ impl Live<'_> {
         let mut down = None;
         if let Some((Window { session, copies, .. }, ack)) = closed {
             let session = &shard.sessions[session as usize];
-            self.output.lock().unwrap().up(&shard.entries, &window, session, &copies);
+            if window.round == 1 {
+                self.output.lock().unwrap().up(&shard.entries, &window, session, &copies);
+            }
             if let Some(number) = ack {
                 let addr = Data::of(copies.frame(&shard.entries)).addr;
                 let best = *copies.best(&shard.entries);

@@ -28,6 +28,17 @@ class NotServing(Exception):
     """Why a program does not serve."""
 
 
+def dropped_at(where):
+    """Datagrams that the system dropped before the socket at an address, and bytes that wait there."""
+    want = '%08X:%04X' % (struct.unpack('=I', socket.inet_aton(where[0]))[0], where[1])
+    with open('/proc/net/udp') as file:
+        for line in file:
+            words = line.split()
+            if words[1] == want:
+                return int(words[-1]), int(words[4].split(':')[1], 16)
+    raise NotServing('no socket at %s:%d' % where)
+
+
 class Serve:
     """A program that listens to gateways; `listening ADDR` is its first line, and what follows goes on in `output`."""
 
@@ -73,13 +84,7 @@ class Serve:
 
     def dropped(self):
         """Datagrams that the system dropped before its socket, and bytes that wait there."""
-        want = '%08X:%04X' % (struct.unpack('=I', socket.inet_aton(self.where[0]))[0], self.where[1])
-        with open('/proc/net/udp') as file:
-            for line in file:
-                words = line.split()
-                if words[1] == want:
-                    return int(words[-1]), int(words[4].split(':')[1], 16)
-        raise NotServing('no socket at %s:%d' % self.where)
+        return dropped_at(self.where)
 
     def stop(self, datagrams):
         """Sends datagrams of one byte until it ends, and says how many."""

@@ -168,7 +168,7 @@ class StandIn(threading.Thread):
         for line in self.server.line(step.encode()):
             self.lines.append(line)
             word, _, rest = line.partition(' ')
-            if word == 'opened' or word == 'ask' and self.join_at:
+            if word in ('opened', 'again') or word == 'ask' and self.join_at:
                 self.due.append((time.monotonic() + self.window, line))
             elif word == 'down':
                 self.send(*rest.split(' '))

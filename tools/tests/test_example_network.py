@@ -85,6 +85,14 @@ class Shown(unittest.TestCase):
         self.assertIn('printed 48', printed)
 
     @unittest.skipUnless(HAS_SERVE, PROGRAM + ' has no command serve')
+    def test_the_program_that_trims(self):
+        """Each shard is trimmed a few times: no answer and no line is another, and all entries are counted."""
+        status, printed = self.shown('--program', PROGRAM, '--devices', '32', '--frames', '30', '--rate', '250', '--trim', '1',
+                                     '--quiet')
+        self.assertEqual(status, 0, printed)
+        self.assertIn('printed 960', printed)
+
+    @unittest.skipUnless(HAS_SERVE, PROGRAM + ' has no command serve')
     def test_the_program_where_much_goes_wrong(self):
         """A join server that fails by turns, gateways that go and come back under another address, hostile datagrams."""
         status, printed = self.shown('--program', PROGRAM, '--devices', '40', '--soak', '8', '--rate', '100', '--rejoin', '10', '--flap',

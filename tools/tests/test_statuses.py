@@ -4,9 +4,9 @@ import subprocess
 import tempfile
 import unittest
 
-from live import HAS_PROGRAM, PROGRAM
+from live import HAS_PROGRAM, PROGRAM, TOOLS
 
-ROSTER = os.path.join(os.path.dirname(PROGRAM), os.pardir, 'data', 'roster.json')
+ROSTER = os.path.join(os.path.dirname(TOOLS), 'crates', 'lorawan_ns', 'data', 'roster.json')
 
 
 @unittest.skipUnless(HAS_PROGRAM, PROGRAM + ' is not built')

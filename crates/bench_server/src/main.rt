@@ -2,16 +2,22 @@
 //! traffic: each device joins, and each of its frames is heard by three gateways and its window closed. How many entries were made goes
 //! to standard output, the nanoseconds of each round of calls to standard error.
 //!
-//! Arguments: how many devices, how many frames of each, how many rounds, and one way alone: `none` makes no call, `apply`, `server`.
+//! The last way is a trim: all devices are of one shard, and after the calls the shard is trimmed twice. How many entries were made and how
+//! many each trim handed out goes to standard output, the nanoseconds of the two trims to standard error.
+//!
+//! Arguments: how many devices, how many frames of each, how many rounds, and one way alone: `none` makes no call, `apply`, `server`,
+//! `trim`.
 #![tactic(auto)]
 
 ghost use Rattle.std.specs.Prelude.{◌<◌, ◌≤◌};
 
 mod load;
 mod served;
+mod trim;
 
 use crate::load::Load;
 use crate::served::{apply_all, serve_all};
+use crate::trim::time_trims;
 use ns_threads::roster;
 use std::alloc::Global;
 use std::env;
@@ -88,6 +94,22 @@ fn time_server<R: Threads + Wait + Clock + Print + Eprint + Sync>(
     Ok(())
 }
 
+// The same of devices of one shard, which is then trimmed.
+fn time_trim<R: Wait + Clock + Print + Eprint>(
+    rt: &R,
+    alloc: Global,
+    load: Load,
+) -> anyhow::Result<()> {
+    let roster = Arc::new(alloc, roster(alloc, load.devices.wrapping_mul(16))?)?;
+    let trims = time_trims(rt, alloc, roster, load)?;
+    println!(rt;
+        "trim: {} entries, {} handed out, then {}",
+        trims.made, trims.first.0, trims.second.0
+    )?;
+    eprintln!(rt; "trim {} {} {}", trims.made, trims.first.1, trims.second.1)?;
+    Ok(())
+}
+
 fn main(rt: HostRuntime) -> anyhow::Result<()> {
     let alloc: Global = rt.alloc();
     let plan = asked(&rt)?;
@@ -96,11 +118,13 @@ fn main(rt: HostRuntime) -> anyhow::Result<()> {
             "none" => time_apply(&rt, alloc, plan.load, true)?,
             "apply" => time_apply(&rt, alloc, plan.load, false)?,
             "server" => time_server(&rt, alloc, plan.load, 1)?,
+            "trim" => time_trim(&rt, alloc, plan.load)?,
             _ => {
                 time_apply(&rt, alloc, plan.load, false)?;
                 time_server(&rt, alloc, plan.load, 1)?;
                 time_server(&rt, alloc, plan.load, 2)?;
                 time_server(&rt, alloc, plan.load, 4)?;
+                time_trim(&rt, alloc, plan.load)?;
             }
         }
     }

@@ -11,6 +11,7 @@ ghost use Rattle.ns_calls.specs.Out.{answer};
 mod steps;
 
 use ns_calls::{Answer, Call, lines, shard_of_call};
+use ns_kept::untrimmed_histories_read_as_they_are;
 use ns_roster::Roster;
 use ns_shard::{Shard, Shards, Taken};
 use ns_types::{GatewayId, Heard};
@@ -38,7 +39,7 @@ fn print_taken(rt: &impl Print, taken: &Taken) -> io::Result<()> {
             shard,
             number,
             answer,
-        } => print_answer(rt, *shard, *number, &answer.unpacked()),
+        } => print_answer(rt, *shard, *number, &answer.to_answer()),
     }
 }
 
@@ -50,7 +51,9 @@ pub fn first_answer(alloc: Global, roster: Arc<Roster>, call: Call) -> Result<An
     let mut shard = Shard::new(alloc, roster, shard_of_call(&call))?;
 
     // The call has to be one of this shard. The answer is the plain server's, after the entries of the shard, and exactly the entry
-    // of the call is added. Where memory is refused nothing has changed, and the same call can be made again.
+    // of the call is added. Where memory is refused nothing has changed, and the same call can be made again. A law of ns_kept says
+    // that entries of which none was dropped read as they are.
+    untrimmed_histories_read_as_they_are();
     shard.apply(call)
 }
 

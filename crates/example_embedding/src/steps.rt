@@ -31,6 +31,7 @@ const WINDOW: WindowName = WindowName {
     eui: DevEui(0x0d),
     session: 1,
     fcnt: 2,
+    round: 1,
 };
 
 // A step of the one worker.

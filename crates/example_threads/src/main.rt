@@ -1,4 +1,5 @@
-//! A program whose threads share one server: two workers hear the same uplinks, and then the server is settled, checked and drained.
+//! A program whose threads share one server: two workers hear the same uplinks, the server is trimmed, they hear the next
+//! ones, and then it is settled, checked and drained.
 //!
 //! It is the second example of docs/EMBEDDING.md. Its comments say what an embedder may rely on at each call, as the contract of that
 //! call states it.
@@ -11,7 +12,7 @@ ghost use Rattle.ns_server.specs.Settled.{AreStates, MergesToLegal};
 
 mod workers;
 
-use crate::workers::all_work;
+use crate::workers::{all_work, trim_all};
 use anyhow::anyhow;
 use ns_calls::{Answer, lines};
 use ns_roster::Roster;
@@ -23,13 +24,13 @@ use std::marker::Brand;
 use std::sync::{Arc, Wait};
 use std::thread::Threads;
 
-// How many devices there are. Each worker hears one uplink of each.
+// How many devices there are. Each worker hears two uplinks of each.
 const DEVICES: u32 = 3;
 
 /// What a server of two workers has done when its threads have ended: its histories, and the receipts of all calls.
 ///
 /// `B` names the server. Whoever makes one is generic over the name, and is called with `Brand`.
-pub fn served<B: Naming + Send + Sync, R: Threads + Wait + Sync>(
+pub fn served<B: Naming + Send + Sync, R: Threads + Wait + Print + Sync>(
     rt: &R,
     alloc: Global,
     roster: Arc<Roster>,
@@ -46,8 +47,17 @@ pub fn served<B: Naming + Send + Sync, R: Threads + Wait + Sync>(
 
     // Each thread has a pass and shares the server. A call takes the lock of its shard alone; its receipt has the entry that it made,
     // whose reply is the plain server's after the entries of the shard before it, and what goes out with it.
-    let done = all_work(rt, alloc, &server, passes)?;
+    let done = all_work(rt, alloc, &server, passes, 0)?;
     let mut receipts = Vec::new(alloc);
+    let passes = parted(alloc, done, &mut receipts)?;
+
+    // A trim takes the lock of one shard and hands out the entries on which no later answer rests. At most 208 entries of each device
+    // stay, with their numbers. Where it is refused memory nothing has changed.
+    let dropped = trim_all(rt, alloc, &server)?;
+    println!(rt; "{dropped} entries dropped")?;
+
+    // Calls are answered as without the trim.
+    let done = all_work(rt, alloc, &server, passes, 1)?;
     let passes = parted(alloc, done, &mut receipts)?;
 
     // With every pass given back the histories are as long as the passes have counted, each is legal, and so is every merge of them.
@@ -66,8 +76,18 @@ fn report<B: Naming, R: Print>(
 ) -> anyhow::Result<()> {
     println!(rt; "{} entries, {} receipts", settled.total(), receipts.len())?;
 
-    // Ok exactly where each receipt stands in its shard's history with what goes out there, and no two have one place. As many right
-    // receipts of a shard as it has entries are all of it.
+    // What is left of a shard: the entries that its trim kept, and those made since, which are numbered from the mark on.
+    for shard in 0..3u8 {
+        println!(rt;
+            "shard {shard}: {} entries left, {} dropped, mark {}",
+            settled.history(shard).len(),
+            settled.dropped(shard),
+            settled.mark(shard)
+        )?;
+    }
+
+    // Ok exactly where each receipt numbered from its shard's mark on stands in its shard's history with what goes out there, and no
+    // two of these have one place. As many of them as the shard has entries from its mark on are all of these.
     match settled.check(receipts) {
         Ok(()) => println!(rt; "all receipts are right")?,
         Err(place) => println!(rt; "receipt {place} is wrong")?,
@@ -75,8 +95,8 @@ fn report<B: Naming, R: Print>(
 
     // The oldest window of the first shard that has one is closed by one entry. None comes exactly where none is open, and then each
     // window that was opened was closed exactly once.
-    for _ in 0..DEVICES + 1 {
-        let Some(receipt) = settled.drain_next()? else {
+    for _ in 0..2 * DEVICES + 1 {
+        let Some(receipt) = settled.drain_next() else {
             println!(rt; "no window is open")?;
             break;
         };

@@ -1,7 +1,8 @@
-//! What each worker does: its devices join, and then it hears an uplink of each device.
+//! What each worker does: its devices join, and then it hears an uplink of each device. And what is done between two rounds of them: trims.
 
 use crate::DEVICES;
 use ns_server::{Naming, Pass, Receipt, Server};
+use ns_shard::TrimFault;
 use ns_threads::{join, join_reply, make, uplink};
 use std::alloc::{AllocError, Global};
 use std::sync::Wait;
@@ -14,23 +15,44 @@ pub fn all_work<B: Naming + Send + Sync, R: Threads + Wait + Sync>(
     alloc: Global,
     server: &Server<B>,
     passes: Vec<Pass<B>>,
+    counter: u32,
 ) -> Result<Vec<(Pass<B>, Vec<Receipt>)>, AllocError> {
-    thread::map_vec(rt, passes, &|pass| work(rt, alloc, server, pass))
+    thread::map_vec(
+        rt,
+        passes,
+        &|pass| { work(rt, alloc, server, pass, counter) },
+    )
 }
 
-// All devices join, and an uplink of each is heard. Calls that another worker made first are answered as copies, or as too late.
+/// Trims one shard after the other: how many entries came out. Each is dropped here; a caller that wants to keep them writes them down.
+/// It may be done while workers call: calls on the shard that is trimmed wait for it.
+pub fn trim_all<B: Naming, R: Wait>(
+    rt: &R,
+    alloc: Global,
+    server: &Server<B>,
+) -> Result<usize, TrimFault> {
+    let mut count = 0usize;
+    for shard in 0..16u8 {
+        let dropped = server.trim(rt, alloc, shard)?;
+        count = count.wrapping_add(dropped.entries.len());
+    }
+    Ok(count)
+}
+
+// All devices join, and the uplink with this counter of each is heard. Calls that another worker made first are answered as copies, or as too late.
 fn work<B: Naming, R: Wait>(
     rt: &R,
     alloc: Global,
     server: &Server<B>,
     pass: Pass<B>,
+    counter: u32,
 ) -> (Pass<B>, Vec<Receipt>) {
     let mut pass = pass;
     let mut receipts = Vec::new(alloc);
     for device in 0..DEVICES {
         let _ = make(rt, server, &mut pass, join(device, 1), &mut receipts);
         let _ = make(rt, server, &mut pass, join_reply(device, 1), &mut receipts);
-        if let Some(call) = uplink(device, 0, false, 1) {
+        if let Some(call) = uplink(device, counter, false, 1) {
             let _ = make(rt, server, &mut pass, call, &mut receipts);
         }
     }

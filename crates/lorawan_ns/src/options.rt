@@ -1,6 +1,6 @@
 //! The command line.
 
-ghost use Rattle.std.specs.Prelude.{◌≡◌, ◌<◌, ◌≤◌, IfErr, IfOk};
+ghost use Rattle.std.specs.Prelude.{◌≡◌, ◌<◌, ◌≤◌, IfErr, IfOk, IfSome};
 ghost use Rattle.lorawan_ns.specs.Status.{IsTold, IsServed, IsDoable};
 
 use clap::builder::ValueParser;
@@ -152,6 +152,13 @@ fn serve_command<'a>(alloc: Global) -> Result<Command<'a>, AllocError> {
             4_294_967_295,
             "After how many datagrams to stop; without it, never",
         ))?
+        .arg(number(
+            alloc,
+            "trim",
+            "N",
+            4_294_967_295,
+            "After how many entries a shard is trimmed; without it, never",
+        ))?
         .arg(closing(alloc))
 }
 
@@ -196,6 +203,18 @@ fn count(found: &ArgMatches<'_>, name: &'static str, most: u32) -> Result<u32, B
     }
 }
 
+// The number that an option has, from 1 up, where it is given.
+fn given(found: &ArgMatches<'_>, name: &'static str) -> Result<Option<u32>, BadWords>
+    ensures told { IfErr result IsTold }
+    ensures count { IfOk result (λ n. IfSome n (λ n. 0 < n)) }
+{
+    if found.contains_id(name) {
+        Ok(Some(count(found, name, u32::MAX)?))
+    } else {
+        Ok(None)
+    }
+}
+
 // What the words after `serve` ask for.
 fn serve_options<'a>(found: &ArgMatches<'a>) -> Result<ServeOptions<'a>, BadWords>
     ensures told { IfErr result IsTold }
@@ -204,11 +223,6 @@ fn serve_options<'a>(found: &ArgMatches<'a>) -> Result<ServeOptions<'a>, BadWord
     let Some(host) = found.get_str("host").and_then(HostName::new) else {
         return Err(BadWords::BadValue("host"));
     };
-    let stop_after = if found.contains_id("stop-after") {
-        Some(count(found, "stop-after", u32::MAX)?)
-    } else {
-        None
-    };
     Ok(ServeOptions {
         join: addr(found, "join")?,
         host,
@@ -216,7 +230,8 @@ fn serve_options<'a>(found: &ArgMatches<'a>) -> Result<ServeOptions<'a>, BadWord
         workers: count(found, "workers", 16)? as usize,
         join_workers: count(found, "join-workers", 16)? as usize,
         window_ms: count(found, "window", 60_000)?,
-        stop_after,
+        stop_after: given(found, "stop-after")?,
+        trim: given(found, "trim")?,
         closing: found.get_flag("closing"),
     })
 }

@@ -41,6 +41,7 @@ fn are_usual(options: &ServeOptions<'_>) -> bool {
         && options.join_workers == 1
         && options.window_ms == 200
         && options.stop_after.is_none()
+        && options.trim.is_none()
         && !options.closing
 }
 
@@ -131,6 +132,10 @@ fn words_of_serving(rt: HostRuntime) -> Result<(), Fail> {
         ("--window", "60001", ('E', bad)),
         ("--stop-after", "4294967295", ('S', done)),
         ("--stop-after", "4294967296", ('E', bad)),
+        ("--trim", "1", ('S', done)),
+        ("--trim", "4294967295", ('S', done)),
+        ("--trim", "0", ('E', bad)),
+        ("--trim", "4294967296", ('E', bad)),
     ] {
         let words = [
             "lorawan_ns",

@@ -1,15 +1,14 @@
 -- Deciphering undoes enciphering, and the other way round.
-use Rattle.std.proofs.Common.{◌≡◌, ℕ, zero, suc, ◌*◌, ◌/◌, ◌%◌, ◌<◌, eqb, Bool, true, false, List, [], ◌∷◌, map, length, bit_xor, refl, sym, ap, subst, ◌∙◌, arith, eqb-true, if◌then◌else◌, ◌==◌}
+use Rattle.std.proofs.Common.{◌≡◌, ℕ, zero, suc, ◌*◌, ◌/◌, ◌%◌, ◌<◌, eqb, Bool, true, false, List, [], ◌∷◌, map, length, drop, bit_xor, refl, sym, ap, subst, ◌∙◌, arith, eqb-true, if◌then◌else◌, ◌==◌}
 use Rattle.std.proofs.lemmas.Nat.{xor_comm, xor_lt}
 use Rattle.std.proofs.lemmas.List.{length-map}
 use Rattle.std.proofs.lemmas.Simd.{Each1-from_get_or}
 use lib.Bits.{xor_assoc, xor_self, xor_zero_r}
-use lib.Lanes.{Each1, zip2}
-use Rattle.ns_aes_cmac.specs.Aes.{xtime, product_of_bits, multiply, multiplicative_inverse, s_box, inverse_s_box, sub_bytes, inverse_sub_bytes, shift_rows, inverse_shift_rows, sum_of_products, mix_columns_by, mix_columns, inverse_mix_columns, xor_bytes, next_round_key, round_keys_by, round_keys, round_constants, aes, unaes, IsBlock}
+use lib.Lanes.{Each1}
+use mathlib.Core.List.{reverse, reverse_aux}
+use Rattle.ns_aes_cmac.specs.Aes.{xtime, product_of_bits, multiply, multiplicative_inverse, s_box, inverse_s_box, sub_bytes, inverse_sub_bytes, shift_rows, inverse_shift_rows, sum_of_products, mix_columns_by, mix_columns, inverse_mix_columns, xor_bytes, next_round_key, round_keys_by, round_keys, round_constants, first_key, rounds, inverse_rounds, aes, unaes, IsBlock}
 use Rattle.ns_aes_cmac.proofs.Bytes.{all_below, all_below-at, agree_at}
 use Rattle.ns_aes_cmac.proofs.Mix.{sixteen, joined, zip2_xor}
-use Rattle.ns_aes_cmac.proofs.Rounds.{aes_is, key_at}
-use Rattle.ns_aes_cmac.proofs.Back.{unaes_is}
 
 -- n bytes
 abbrev Bytes : ℕ → List ℕ → Type 0
@@ -359,84 +358,60 @@ round_back k s bk bs =
 bytes_of : (b : List ℕ) → IsBlock b → Bytes 16 b
 bytes_of b is = (is.0, Each1-from_get_or (λ x. x < 256) b 0 (λ i h. is.1 i 0 h))
 
+-- rounds, and rounds that undo them under the same keys from the last on: each has its full round; mid is what a round has before its key
+module _ (run back : List (List ℕ) → List ℕ → List ℕ) (full undo : List ℕ → List ℕ → List ℕ) (mid : List ℕ → List ℕ)
+    (run-end : (k s : List ℕ) → run (k ∷ []) s ≡ xor_bytes k (mid s))
+    (run-next : (k l : List ℕ) (ks : List (List ℕ)) (s : List ℕ) → run (k ∷ l ∷ ks) s ≡ run (l ∷ ks) (full k s))
+    (back-next : (k l : List ℕ) (ks : List (List ℕ)) (s : List ℕ) → back (k ∷ l ∷ ks) s ≡ back (l ∷ ks) (undo k s))
+    (mid-bytes : (s : List ℕ) → Bytes 16 s → Bytes 16 (mid s))
+    (full-bytes : (k s : List ℕ) → Bytes 16 k → Bytes 16 s → Bytes 16 (full k s))
+    (undo-full : (k s : List ℕ) → Bytes 16 k → Bytes 16 s → mid s ≡ undo k (mid (full k s))) where
+  rounds_undone : (k : List ℕ) (ks : List (List ℕ)) (a : List ℕ) (after : List (List ℕ)) (s : List ℕ)
+      → Bytes 16 k → Each1 (Bytes 16) ks → Bytes 16 s
+      → back (drop 1 (reverse_aux (k ∷ ks) (a ∷ after))) (xor_bytes (first_key (reverse_aux (k ∷ ks) (a ∷ after))) (run (k ∷ ks) s)) ≡ back (a ∷ after) (mid s)
+  rounds_undone k [] a after s bk bks bs = ap (back (a ∷ after)) (ap (xor_bytes k) (run-end k s) ∙ undone k (mid s) bk (mid-bytes s bs))
+  rounds_undone k (l ∷ ks) a after s bk bks bs =
+      ap (λ r. back (drop 1 (reverse_aux (l ∷ ks) (k ∷ a ∷ after))) (xor_bytes (first_key (reverse_aux (l ∷ ks) (k ∷ a ∷ after))) r)) (run-next k l ks s)
+      ∙ rounds_undone l ks k (a ∷ after) (full k s) bks.0 bks.1 (full-bytes k s bk bs)
+      ∙ back-next k a after (mid (full k s)) ∙ ap (back (a ∷ after)) (sym (undo-full k s bk bs))
+
+rounds-end : (k s : List ℕ) → rounds (k ∷ []) s ≡ xor_bytes k (mid s)
+unfolding rounds
+rounds-end k s = refl
+
+rounds-next : (k l : List ℕ) (ks : List (List ℕ)) (s : List ℕ) → rounds (k ∷ l ∷ ks) s ≡ rounds (l ∷ ks) (full k s)
+unfolding rounds
+rounds-next k l ks s = refl
+
+inverse_rounds-end : (k s : List ℕ) → inverse_rounds (k ∷ []) s ≡ xor_bytes k (inverse_mid s)
+unfolding inverse_rounds
+inverse_rounds-end k s = refl
+
+inverse_rounds-next : (k l : List ℕ) (ks : List (List ℕ)) (s : List ℕ) → inverse_rounds (k ∷ l ∷ ks) s ≡ inverse_rounds (l ∷ ks) (inverse_full k s)
+unfolding inverse_rounds
+inverse_rounds-next k l ks s = refl
+
 pub deciphered : (key b : List ℕ) → IsBlock key → IsBlock b → unaes key (aes key b) ≡ b
-unfolding round_keys_by
+unfolding aes unaes round_keys_by
 deciphered key b is_key is_block =
-    let ks : List (List ℕ) = key ∷ round_keys key in
-    let g : Each1 (Bytes 16) (key ∷ round_keys key) = keys-bytes key (bytes_of key is_key) in
-    let s0 = xor_bytes (key_at ks 0) b in
-    let b0 : Bytes 16 s0 = xor_bytes-bytes 16 (key_at ks 0) b (g.0) (bytes_of b is_block) in
-    let s1 = full (key_at ks 1) s0 in
-    let b1 : Bytes 16 s1 = full-bytes (key_at ks 1) s0 (g.1.0) b0 in
-    let s2 = full (key_at ks 2) s1 in
-    let b2 : Bytes 16 s2 = full-bytes (key_at ks 2) s1 (g.1.1.0) b1 in
-    let s3 = full (key_at ks 3) s2 in
-    let b3 : Bytes 16 s3 = full-bytes (key_at ks 3) s2 (g.1.1.1.0) b2 in
-    let s4 = full (key_at ks 4) s3 in
-    let b4 : Bytes 16 s4 = full-bytes (key_at ks 4) s3 (g.1.1.1.1.0) b3 in
-    let s5 = full (key_at ks 5) s4 in
-    let b5 : Bytes 16 s5 = full-bytes (key_at ks 5) s4 (g.1.1.1.1.1.0) b4 in
-    let s6 = full (key_at ks 6) s5 in
-    let b6 : Bytes 16 s6 = full-bytes (key_at ks 6) s5 (g.1.1.1.1.1.1.0) b5 in
-    let s7 = full (key_at ks 7) s6 in
-    let b7 : Bytes 16 s7 = full-bytes (key_at ks 7) s6 (g.1.1.1.1.1.1.1.0) b6 in
-    let s8 = full (key_at ks 8) s7 in
-    let b8 : Bytes 16 s8 = full-bytes (key_at ks 8) s7 (g.1.1.1.1.1.1.1.1.0) b7 in
-    let s9 = full (key_at ks 9) s8 in
-    let b9 : Bytes 16 s9 = full-bytes (key_at ks 9) s8 (g.1.1.1.1.1.1.1.1.1.0) b8 in
-    let end = xor_bytes (key_at ks 10) (mid s9) in
-    let start : s0 ≡ zip2 bit_xor (key_at ks 0) b = sym (zip2_xor (key_at ks 0) b) in
-    let is : end ≡ aes key b = aes_is ks key b s1 s2 s3 s4 s5 s6 s7 s8 s9 end refl (ap (full (key_at ks 1)) start) refl refl refl refl refl refl refl refl refl in
-    let first : zip2 bit_xor (key_at ks 10) (aes key b) ≡ mid s9 = zip2_xor (key_at ks 10) (aes key b) ∙ ap (xor_bytes (key_at ks 10)) (sym is) ∙ undone (key_at ks 10) (mid s9) (g.1.1.1.1.1.1.1.1.1.1.0) (mid-bytes s9 b9) in
-    sym (unaes_is ks key (aes key b) (mid s8) (mid s7) (mid s6) (mid s5) (mid s4) (mid s3) (mid s2) (mid s1) (mid s0) b refl
-    (round_forth (key_at ks 9) s8 (g.1.1.1.1.1.1.1.1.1.0) b8 ∙ ap (inverse_full (key_at ks 9)) (sym first))
-    (round_forth (key_at ks 8) s7 (g.1.1.1.1.1.1.1.1.0) b7)
-    (round_forth (key_at ks 7) s6 (g.1.1.1.1.1.1.1.0) b6)
-    (round_forth (key_at ks 6) s5 (g.1.1.1.1.1.1.0) b5)
-    (round_forth (key_at ks 5) s4 (g.1.1.1.1.1.0) b4)
-    (round_forth (key_at ks 4) s3 (g.1.1.1.1.0) b3)
-    (round_forth (key_at ks 3) s2 (g.1.1.1.0) b2)
-    (round_forth (key_at ks 2) s1 (g.1.1.0) b1)
-    (round_forth (key_at ks 1) s0 (g.1.0) b0)
-    (sym (ap (xor_bytes (key_at ks 0)) (mid_forth s0 b0) ∙ undone (key_at ks 0) b (g.0) (bytes_of b is_block))))
+    let keys = keys-bytes key (bytes_of key is_key) in
+    let bytes = bytes_of b is_block in
+    let start = xor_bytes-bytes 16 key b (keys.0) bytes in
+    rounds_undone rounds inverse_rounds full inverse_full mid rounds-end rounds-next inverse_rounds-next mid-bytes full-bytes round_forth
+    (first_key (round_keys key)) (drop 1 (round_keys key)) key [] (xor_bytes key b) (keys.1.0) (keys.1.1) start
+    ∙ inverse_rounds-end key (mid (xor_bytes key b)) ∙ ap (xor_bytes key) (mid_forth (xor_bytes key b) start) ∙ undone key b (keys.0) bytes
 
 pub enciphered : (key b : List ℕ) → IsBlock key → IsBlock b → aes key (unaes key b) ≡ b
-unfolding round_keys_by
+unfolding aes unaes round_keys_by
 enciphered key b is_key is_block =
-    let ks : List (List ℕ) = key ∷ round_keys key in
-    let g : Each1 (Bytes 16) (key ∷ round_keys key) = keys-bytes key (bytes_of key is_key) in
-    let s0 = xor_bytes (key_at ks 10) b in
-    let b0 : Bytes 16 s0 = xor_bytes-bytes 16 (key_at ks 10) b (g.1.1.1.1.1.1.1.1.1.1.0) (bytes_of b is_block) in
-    let s1 = inverse_full (key_at ks 9) s0 in
-    let b1 : Bytes 16 s1 = inverse_full-bytes (key_at ks 9) s0 (g.1.1.1.1.1.1.1.1.1.0) b0 in
-    let s2 = inverse_full (key_at ks 8) s1 in
-    let b2 : Bytes 16 s2 = inverse_full-bytes (key_at ks 8) s1 (g.1.1.1.1.1.1.1.1.0) b1 in
-    let s3 = inverse_full (key_at ks 7) s2 in
-    let b3 : Bytes 16 s3 = inverse_full-bytes (key_at ks 7) s2 (g.1.1.1.1.1.1.1.0) b2 in
-    let s4 = inverse_full (key_at ks 6) s3 in
-    let b4 : Bytes 16 s4 = inverse_full-bytes (key_at ks 6) s3 (g.1.1.1.1.1.1.0) b3 in
-    let s5 = inverse_full (key_at ks 5) s4 in
-    let b5 : Bytes 16 s5 = inverse_full-bytes (key_at ks 5) s4 (g.1.1.1.1.1.0) b4 in
-    let s6 = inverse_full (key_at ks 4) s5 in
-    let b6 : Bytes 16 s6 = inverse_full-bytes (key_at ks 4) s5 (g.1.1.1.1.0) b5 in
-    let s7 = inverse_full (key_at ks 3) s6 in
-    let b7 : Bytes 16 s7 = inverse_full-bytes (key_at ks 3) s6 (g.1.1.1.0) b6 in
-    let s8 = inverse_full (key_at ks 2) s7 in
-    let b8 : Bytes 16 s8 = inverse_full-bytes (key_at ks 2) s7 (g.1.1.0) b7 in
-    let s9 = inverse_full (key_at ks 1) s8 in
-    let b9 : Bytes 16 s9 = inverse_full-bytes (key_at ks 1) s8 (g.1.0) b8 in
-    let end = xor_bytes (key_at ks 0) (inverse_mid s9) in
-    let start : s0 ≡ zip2 bit_xor (key_at ks 10) b = sym (zip2_xor (key_at ks 10) b) in
-    let is : end ≡ unaes key b = unaes_is ks key b s1 s2 s3 s4 s5 s6 s7 s8 s9 end refl (ap (inverse_full (key_at ks 9)) start) refl refl refl refl refl refl refl refl refl in
-    let first : zip2 bit_xor (key_at ks 0) (unaes key b) ≡ inverse_mid s9 = zip2_xor (key_at ks 0) (unaes key b) ∙ ap (xor_bytes (key_at ks 0)) (sym is) ∙ undone (key_at ks 0) (inverse_mid s9) (g.0) (inverse_mid-bytes s9 b9) in
-    sym (aes_is ks key (unaes key b) (inverse_mid s8) (inverse_mid s7) (inverse_mid s6) (inverse_mid s5) (inverse_mid s4) (inverse_mid s3) (inverse_mid s2) (inverse_mid s1) (inverse_mid s0) b refl
-    (round_back (key_at ks 1) s8 (g.1.0) b8 ∙ ap (full (key_at ks 1)) (sym first))
-    (round_back (key_at ks 2) s7 (g.1.1.0) b7)
-    (round_back (key_at ks 3) s6 (g.1.1.1.0) b6)
-    (round_back (key_at ks 4) s5 (g.1.1.1.1.0) b5)
-    (round_back (key_at ks 5) s4 (g.1.1.1.1.1.0) b4)
-    (round_back (key_at ks 6) s3 (g.1.1.1.1.1.1.0) b3)
-    (round_back (key_at ks 7) s2 (g.1.1.1.1.1.1.1.0) b2)
-    (round_back (key_at ks 8) s1 (g.1.1.1.1.1.1.1.1.0) b1)
-    (round_back (key_at ks 9) s0 (g.1.1.1.1.1.1.1.1.1.0) b0)
-    (sym (ap (xor_bytes (key_at ks 10)) (mid_back s0 b0) ∙ undone (key_at ks 10) b (g.1.1.1.1.1.1.1.1.1.1.0) (bytes_of b is_block))))
+    let keys = keys-bytes key (bytes_of key is_key) in
+    let bytes = bytes_of b is_block in
+    let back = reverse (key ∷ round_keys key) in
+    let last = first_key back in
+    let front = drop 1 back in
+    let g = keys.1 in
+    let start = xor_bytes-bytes 16 last b (g.1.1.1.1.1.1.1.1.1.0) bytes in
+    rounds_undone inverse_rounds rounds inverse_full full inverse_mid inverse_rounds-end inverse_rounds-next rounds-next inverse_mid-bytes inverse_full-bytes round_back
+    (first_key front) (drop 1 front) last [] (xor_bytes last b) (g.1.1.1.1.1.1.1.1.0)
+    (g.1.1.1.1.1.1.1.0, (g.1.1.1.1.1.1.0, (g.1.1.1.1.1.0, (g.1.1.1.1.0, (g.1.1.1.0, (g.1.1.0, (g.1.0, (g.0, (keys.0, tt))))))))) start
+    ∙ rounds-end last (inverse_mid (xor_bytes last b)) ∙ ap (xor_bytes last) (mid_back (xor_bytes last b) start) ∙ undone last b (g.1.1.1.1.1.1.1.1.1.0) bytes

@@ -2,9 +2,7 @@
 use Rattle.std.proofs.Common.{◌≡◌, ℕ, ◌+◌, ◌^◌, Bool, true, false, ◌==◌, ◌&&◌, cond, List, [], ◌∷◌, ◌++◌, filter, filter_map, nat_lt, Option, None, Some, IfSome, option_map, option_to_list, unwrap_or, refl, sym, ap, subst, ◌∙◌, arith, inl, inr}
 use Rattle.std.proofs.lemmas.List.{append-nil}
 use Rattle.std.proofs.lemmas.List.Elements.{filter-append, filter_map-append}
-use Rattle.std.proofs.lemmas.Bool.{and_parts, eqb-true}
-use Rattle.std.proofs.lemmas.Option.{same_Some}
-use Rattle.std.proofs.lemmas.Bool.Decides.{nat_tests}
+use Rattle.std.proofs.lemmas.Bool.{eqb-true}
 use Rattle.std.specs.List.{AllByRecursion, cons_option}
 use Rattle.ns_types.specs.declared.identity.DevEui.{DevEui}
 use Rattle.ns_types.specs.declared.identity.WindowName.{WindowName}
@@ -22,9 +20,10 @@ use Rattle.ns_calls.specs.History.{Opening, Closing, closing_in, closings, same_
 use Rattle.ns_calls.specs.Reply.{ack_number, reply_to}
 use Rattle.ns_calls.specs.Legal.{IsLegal, entry_for, with_call}
 use Rattle.ns_calls.specs.Headline.{Rises, AcksRise}
-use Rattle.ns_calls.proofs.Lists.{said-push, said-cases, find-has, Exceeds-each, Rises-push, at_some}
+use Rattle.ns_calls.proofs.Lists.{said-adds, find-has, Exceeds-each, Rises-push, at_some}
 use Rattle.ns_calls.proofs.Induction.{legal_induction}
 use Rattle.ns_calls.proofs.JoinLemmas.{same_device-eq}
+use Rattle.ns_calls.proofs.NameLemmas.{same_window-eq}
 
 -- ---- the number of a closing
 
@@ -42,10 +41,9 @@ numbered h eui session = step (nat_lt (next_ack h eui session) (2 ^ 32))
 ack-next : (h : List Entry) (w : WindowName) (o : Opening) → same_window o.window w ≡ true → IsNextAck h w (ack_number h o)
 unfolding IsNextAck
 ack-next h w o same =
-    let parts = and_parts _ _ same in
-    let first = and_parts _ _ parts.0 in
-    let eui : o.window.eui ≡ w.eui = same_device-eq o.window.eui w.eui first.0 in
-    let session : o.window.session ≡ w.session = grind (arith, nat_tests) in
+    let is : o.window ≡ w = same_window-eq o.window w same in
+    let eui : o.window.eui ≡ w.eui = ap (λ (v : WindowName). v.eui) is in
+    let session : o.window.session ≡ w.session = ap (λ (v : WindowName). v.session) is in
     step (λ n. n ≡ next_ack h w.eui w.session) (next_ack_number h o.window.eui o.window.session) (is_confirmed o.frame && is_live h o.window.eui o.window.session)
     (subst (λ (d : DevEui). IfSome (next_ack_number h o.window.eui o.window.session) (λ n. n ≡ next_ack h d w.session)) eui
     (subst (λ s. IfSome (next_ack_number h o.window.eui o.window.session) (λ n. n ≡ next_ack h o.window.eui s)) session (numbered h o.window.eui o.window.session)))
@@ -109,18 +107,16 @@ acks_step net h number c rises eui session =
     let says : Entry → Option Closing = λ x. closing_in x.call x.reply in
     let here : Closing → Bool = λ x. x.window.session == session in
     let acks : List Closing → List ℕ = λ xs. filter_map (λ (x : Closing). x.ack) (filter here xs) in
-    let pushed = said-push says asked h e in
-    elim (said-cases says asked e) [
-      | inl nothing ↦ subst (λ xs. Rises (acks xs)) (sym (pushed ∙ (ap (λ ys. closings h eui ++ ys) nothing ∙ append-nil (closings h eui)))) (rises eui session)
+    elim (said-adds says asked h e) [
+      | inl same ↦ subst (λ xs. Rises (acks xs)) (sym same) (rises eui session)
       | inr one ↦
-          (let x : Closing = one.0 in
-          let new : IsNextAck h x.window x.ack = at_some (λ y. IsNextAck h y.window y.ack) (closing_in c (reply_to net h c)) x one.1 (closing-new net h c) in
-          let joined : closings (with_call net h number c) eui ≡ closings h eui ++ x ∷ [] = pushed ∙ ap (λ ys. closings h eui ++ ys) one.3 in
+          (let x : Closing = one.thing in
+          let new : IsNextAck h x.window x.ack = at_some (λ y. IsNextAck h y.window y.ack) (closing_in c (reply_to net h c)) x one.says (closing-new net h c) in
           let split : acks (closings h eui ++ x ∷ []) ≡ session_acks h eui session ++ option_to_list (cond (here x) x.ack None) =
           ap (filter_map (λ (y : Closing). y.ack)) (filter-append here (closings h eui) (x ∷ [])) ∙ (filter_map-append (λ (y : Closing). y.ack) (filter here (closings h eui)) (cond (here x) (x ∷ []) []) ∙ ap (λ ys. session_acks h eui session ++ ys) (one_ack (here x) x)) in
           let next : IfSome (cond (here x) x.ack None) (λ n. n ≡ next_ack h eui session) =
-          next_if (λ n. n ≡ next_ack h eui session) (here x) x.ack (λ is_here. of_session h x eui session one.2 new is_here) in
-          subst Rises (sym (ap acks joined ∙ split)) (more_acks (session_acks h eui session) (next_ack h eui session) _ (rises eui session) (next-exceeds h eui session) next))
+          next_if (λ n. n ≡ next_ack h eui session) (here x) x.ack (λ is_here. of_session h x eui session one.asked new is_here) in
+          subst Rises (sym (ap acks one.joined ∙ split)) (more_acks (session_acks h eui session) (next_ack h eui session) _ (rises eui session) (next-exceeds h eui session) next))
     ]
 
 pub acks_rise : (net : Network) (h : List Entry) → IsLegal net h → AcksRise h

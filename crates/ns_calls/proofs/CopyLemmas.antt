@@ -1,7 +1,7 @@
 -- The copies of an open window are the first 16 hearings of its frame since it was opened.
 use Rattle.std.proofs.Common.{◌≡◌, ◌⊎◌, ℕ, zero, suc, ◌+◌, ◌<◌, ◌≤◌, Bool, true, false, not, cond, nat_le, List, [], ◌∷◌, ◌++◌, filter, filter_map, find, map, length, take, min, length-append, Option, None, Some, IfSome, option_map, option_to_list, bytes_eq, refl, sym, ap, subst, ◌∙◌, arith, inl, inr}
 use Rattle.std.specs.List.{AllByRecursion}
-use Rattle.std.specs.Option.{option_or}
+use Rattle.std.specs.Option.{option_or, option_and_then}
 use Rattle.std.proofs.lemmas.List.{append_assoc, append-nil, take-append-le, length-take}
 use Rattle.std.proofs.lemmas.List.Elements.{filter_map-append}
 use Rattle.std.proofs.lemmas.List.Folds.{find-append}
@@ -12,7 +12,7 @@ use Rattle.std.proofs.lemmas.Slice.Eq.{bytes_eq-Decides}
 use Rattle.ns_types.specs.declared.identity.WindowName.{WindowName}
 use Rattle.ns_types.specs.declared.heard.Heard.{Heard}
 use Rattle.ns_types.specs.Cases.{first_case, when}
-use Rattle.ns_types.specs.Identity.{same_window}
+use Rattle.ns_types.specs.Identity.{same_window, is_first}
 use Rattle.ns_secure.specs.Counter.{above, below}
 use Rattle.ns_roster.specs.Network.{Network}
 use Rattle.ns_calls.specs.declared.answer.Uplink as answer_uplink
@@ -21,9 +21,9 @@ use Rattle.ns_calls.specs.declared.call.Call.TheVariants as call
 use Rattle.ns_calls.specs.declared.call.Reply.{Reply}
 use Rattle.ns_calls.specs.declared.call.Reply.TheVariants as reply
 use Rattle.ns_calls.specs.declared.call.Entry.{Entry}
-use Rattle.ns_calls.specs.History.{Opening, opening_in, window_copy_in, closes, open_windows, open_window, window_copies, window_count}
-use Rattle.ns_calls.specs.Reply.{most_copies, most_windows, window_with, Fit, window_of, first_fit, copy_reply, open_reply, reply_to, ack_number}
-use Rattle.ns_calls.specs.Out.{uplink_of, uplink_out, answer}
+use Rattle.ns_calls.specs.History.{Opening, window_in, window_copy_in, closes, open_windows, open_window, window_copies, window_count}
+use Rattle.ns_calls.specs.Reply.{most_copies, most_windows, window_with, Fit, window_of, in_round, first_fit, copy_reply, open_reply, old_reply, reply_to, ack_number}
+use Rattle.ns_calls.specs.Out.{uplink_of, first_uplink_of, uplink_out, answer}
 use Rattle.ns_calls.specs.Legal.{IsLegal}
 use Rattle.ns_calls.specs.Open.{IsOpenWindow, hearing_in, hearings, HasJustItsCopies}
 use Rattle.ns_calls.proofs.LocalLemmas.{bool_tells}
@@ -31,9 +31,9 @@ use Rattle.ns_calls.proofs.Lists.{one_more, All-append, All-filter, All-weaker, 
 use Rattle.ns_calls.proofs.PushLemmas.{open_windows-push, window_copies-push}
 use Rattle.ns_calls.proofs.PartLemmas.{case-has, map-has}
 use Rattle.ns_calls.proofs.Induction.{legal-front, legal-next}
-use Rattle.ns_calls.proofs.UplinkLemmas.{uplink_reply_by}
-use Rattle.ns_calls.proofs.WindowLemmas.{same_window-refl, same_window-eq}
-use Rattle.ns_calls.proofs.FreshLemmas.{opened-new}
+use Rattle.ns_calls.proofs.UplinkLemmas.{uplink_reply_by, old-has, opening_of}
+use Rattle.ns_calls.proofs.NameLemmas.{same_window-refl, same_window-eq}
+use Rattle.ns_calls.proofs.FreshLemmas.{windows-apart}
 use Rattle.ns_calls.proofs.OpenLemmas.{find-contained, open_window-is}
 
 -- ---- the first so many
@@ -98,13 +98,15 @@ found-otherwise {X} test other (y ∷ ys) x is passes none = step (λ found noth
 
 -- ---- an opening
 
-pub opening_is : (c : Call) (r : Reply) (o : Opening) → opening_in c r ≡ Some o → (c ≡ call.Uplink o.frame o.heard) × (r ≡ reply.Opened o.window)
-opening_is (call.Uplink frame heard) (reply.Opened w) o is =
-    let same = same_Some (the w frame heard) o is in
-    ((λ i. call.Uplink (same i).frame (same i).heard), ap (λ (p : Opening). reply.Opened p.window) same)
-  where
-    the : WindowName → List ℕ → Heard → Opening
-    the window bytes copy = record { window = window; frame = bytes; heard = copy }
+uplink_opening : (w : WindowName) (frame : List ℕ) (heard : Heard) (o : Opening) → Some (opening_of w frame heard) ≡ Some o →
+    (call.Uplink frame heard ≡ call.Uplink o.frame o.heard) × ◌≡◌ {A = Option (WindowName × Heard)} (Some (w, heard)) (Some (o.window, o.heard))
+uplink_opening w frame heard o is =
+    let same = same_Some (opening_of w frame heard) o is in
+    ((λ i. call.Uplink (same i).frame (same i).heard), ap (λ (p : Opening). Some (p.window, p.heard)) same)
+
+pub opening_is : (c : Call) (r : Reply) (o : Opening) → window_in c r ≡ Some o → (c ≡ call.Uplink o.frame o.heard) × (window_copy_in c r ≡ Some (o.window, o.heard))
+opening_is (call.Uplink frame heard) (reply.Opened w) o is = uplink_opening w frame heard o is
+opening_is (call.Uplink frame heard) (reply.Again w) o is = uplink_opening w frame heard o is
 opening_is (call.Uplink frame heard) _ o is = absurd (cc is)
 opening_is (call.Join t heard) r o is = absurd (cc is)
 opening_is (call.JoinReply t x) r o is = absurd (cc is)
@@ -126,7 +128,7 @@ hearings-push frame es e =
 
 -- the reply opens a window, or adds no copy to w
 abbrev Elsewhere : WindowName → List ℕ → Heard → Reply → Type 0
-Elsewhere w frame heard r = ((v : WindowName) × (r ≡ reply.Opened v)) ⊎ IfSome (window_copy_in (call.Uplink frame heard) r) (λ x. same_window x.0 w ≡ false)
+Elsewhere w frame heard r = ((v : WindowName) × (window_in (call.Uplink frame heard) r ≡ Some (opening_of v frame heard)) × (window_copy_in (call.Uplink frame heard) r ≡ Some (v, heard))) ⊎ IfSome (window_copy_in (call.Uplink frame heard) r) (λ x. same_window x.0 w ≡ false)
 
 copied-elsewhere : (w : WindowName) (frame : List ℕ) (heard : Heard) (h : List Entry) (v : WindowName) → same_window v w ≡ false → Elsewhere w frame heard (copy_reply h v)
 copied-elsewhere w frame heard h v apart = step (nat_le (length (window_copies h v) + 1) most_copies)
@@ -140,7 +142,7 @@ opened-elsewhere w frame heard h v = step (nat_le most_windows (window_count h v
   where
     step : (b : Bool) → Elsewhere w frame heard (cond b (reply.Busy v.eui) (reply.Opened v))
     step true = inr tt
-    step false = inl (v, refl)
+    step false = inl (v, refl, refl)
 
 -- a frame that no open window of the name has adds no copy to it
 other_frame : (net : Network) (h : List Entry) (frame : List ℕ) (heard : Heard) (w : WindowName) → AllByRecursion (λ o. same_window o.window w ≡ true → bytes_eq o.frame frame ≡ false) (open_windows h)
@@ -151,14 +153,14 @@ other_frame net h frame heard w apart =
     case-has P (
     option_map (λ (o : Opening). copy_reply h o.window) (window_with h frame)
     ∷ option_map (λ (f : Fit). open_reply h (window_of f)) (first_fit above net h frame)
-    ∷ option_map (λ (f : Fit). reply.Old f.eui f.session f.counter) (first_fit below net h frame) ∷ []
+    ∷ option_map (old_reply h frame) (first_fit below net h frame) ∷ []
     ) reply.NoSession (
       map-has P (λ (o : Opening). Apart o × (bytes_eq o.frame frame ≡ true)) (λ (o : Opening). copy_reply h o.window) (window_with h frame)
           (find-has Apart (λ (o : Opening). bytes_eq o.frame frame) (open_windows h) apart)
           (λ o both. copied-elsewhere w frame heard h o.window (differs o both)),
       (
         map-has P (λ _. Unit {0}) (λ (f : Fit). open_reply h (window_of f)) (first_fit above net h frame) (some-any (first_fit above net h frame)) (λ f _. opened-elsewhere w frame heard h (window_of f)),
-        (map-has P (λ _. Unit {0}) (λ (f : Fit). reply.Old f.eui f.session f.counter) (first_fit below net h frame) (some-any (first_fit below net h frame)) (λ f _. inr tt), tt),
+        (map-has P (λ _. Unit {0}) (old_reply h frame) (first_fit below net h frame) (some-any (first_fit below net h frame)) (λ f _. old-has P h frame f (inr tt) (inr tt) (λ round is room. inl (in_round f round, refl, refl))), tt),
       ),
     ) (inr tt)
   where
@@ -192,9 +194,9 @@ record Inv (o : Opening) (g since : List Entry) : Type 0 where
   copies : window_copies g o.window ≡ take most_copies (hearings o.frame since)
 
 -- no second window opens under the name of an open one
-name_taken : (net : Network) (g : List Entry) → IsLegal net g → (o : Opening) → window_with g o.frame ≡ Some o → (frame : List ℕ) (heard : Heard) (v : WindowName) → reply_to net g (call.Uplink frame heard) ≡ reply.Opened v → same_window v o.window ≡ false
+name_taken : (net : Network) (g : List Entry) → IsLegal net g → (o : Opening) → window_with g o.frame ≡ Some o → (frame : List ℕ) (heard : Heard) (v : WindowName) → window_in (call.Uplink frame heard) (reply_to net g (call.Uplink frame heard)) ≡ Some (opening_of v frame heard) → same_window v o.window ≡ false
 name_taken net g legal o found frame heard v is =
-    let none : open_window g v ≡ None = (opened-new net g legal frame heard v is).name in
+    let none : open_window g v ≡ None = (windows-apart net g legal frame heard v is).name in
     elim (bool_tells (same_window v o.window)) [
       | inl same ↦
           (let same_name : v ≡ o.window = same_window-eq v o.window same in
@@ -218,7 +220,7 @@ same_frame net o g since inv frame heard same =
     let c : Call = call.Uplink frame heard in
     let is : o.frame ≡ frame = (bytes_eq-Decides o.frame frame).0 same in
     let found : window_with g frame ≡ Some o = subst (λ bytes. window_with g bytes ≡ Some o) is inv.found in
-    let copied : reply_to net g c ≡ copy_reply g o.window = ap (λ (p : Option Opening). uplink_reply_by g p (first_fit above net g frame) (first_fit below net g frame)) found in
+    let copied : reply_to net g c ≡ copy_reply g o.window = ap (λ (p : Option Opening). uplink_reply_by g frame p (first_fit above net g frame) (first_fit below net g frame)) found in
     let heard_it : hearing_in o.frame c ≡ Some heard = ap (λ b. when b heard) same in
     ap (λ r. window_copies g o.window ++ added o.window c r) copied
     ∙ (step (nat_le (length (window_copies g o.window) + 1) most_copies) refl
@@ -242,7 +244,7 @@ another_frame net o g since legal inv frame heard differs =
     (λ x only same. ap (λ (y : Opening). bytes_eq y.frame frame) (only same) ∙ differs) (open_windows g) inv.only)) [
       | inl opens ↦
           (let apart : same_window opens.0 o.window ≡ false = name_taken net g legal o inv.found frame heard opens.0 opens.1 in
-          ap (added o.window (call.Uplink frame heard)) opens.1
+          ap (λ p. map (λ (x : WindowName × Heard). x.1) (filter (λ (x : WindowName × Heard). same_window x.0 o.window) (option_to_list p))) opens.2
           ∙ ap (λ b. map (λ (x : WindowName × Heard). x.1) (cond {A = List (WindowName × Heard)} b ((opens.0, heard) ∷ []) [])) apart)
       | inr elsewhere ↦ none_here (window_copy_in (call.Uplink frame heard) (reply_to net g (call.Uplink frame heard))) elsewhere
     ]
@@ -264,11 +266,16 @@ copies_now net o g since legal inv (call.Uplink frame heard) =
           (ap (λ b. when b heard) differs)
     ]
 
+-- an entry that opens a window is the answer to the uplink that opens it
+opens_so : (net : Network) (g : List Entry) (e : Entry) (o : Opening) → e.reply ≡ reply_to net g e.call → window_in e.call e.reply ≡ Some o → e.call ≡ call.Uplink o.frame o.heard
+    → window_in (call.Uplink o.frame o.heard) (reply_to net g (call.Uplink o.frame o.heard)) ≡ Some o
+opens_so net g e o is says uplink = ap (λ (c : Call). window_in c (reply_to net g c)) (sym uplink) ∙ (ap (window_in e.call) (sym is) ∙ says)
+
 -- the window stays open
 stays : (net : Network) (o : Opening) (g since : List Entry) (e : Entry) → IsLegal net g → e.reply ≡ reply_to net g e.call → closes o.window e ≡ false → Inv o g since → Inv o (g ++ e ∷ []) (since ++ e ∷ [])
 stays net o g since e legal is not_closed inv = record {
-  found = ap (find (has_frame o)) (open_windows-push g e) ∙ find-first (has_frame o) (filter (outlives e) (open_windows g)) (option_to_list (opening_in e.call e.reply)) o (find-kept (has_frame o) (outlives e) (open_windows g) o inv.found (ap not not_closed));
-  only = subst (AllByRecursion (Only o)) (sym (open_windows-push g e)) (All-append (Only o) (filter (outlives e) (open_windows g)) (option_to_list (opening_in e.call e.reply)) (All-filter (Only o) (outlives e) (open_windows g) inv.only) (new (opening_in e.call e.reply) refl));
+  found = ap (find (has_frame o)) (open_windows-push g e) ∙ find-first (has_frame o) (filter (outlives e) (open_windows g)) (option_to_list (window_in e.call e.reply)) o (find-kept (has_frame o) (outlives e) (open_windows g) o inv.found (ap not not_closed));
+  only = subst (AllByRecursion (Only o)) (sym (open_windows-push g e)) (All-append (Only o) (filter (outlives e) (open_windows g)) (option_to_list (window_in e.call e.reply)) (All-filter (Only o) (outlives e) (open_windows g) inv.only) (new (window_in e.call e.reply) refl));
   copies =
       window_copies-push g e o.window
       ∙ (ap (λ r. window_copies g o.window ++ added o.window e.call r) is
@@ -276,18 +283,18 @@ stays net o g since e legal is not_closed inv = record {
       ∙ ap (take most_copies) (sym (hearings-push o.frame since e))));
 }
   where
-    new : (p : Option Opening) → opening_in e.call e.reply ≡ p → AllByRecursion (λ x. same_window x.window o.window ≡ true → x ≡ o) (option_to_list p)
+    new : (p : Option Opening) → window_in e.call e.reply ≡ p → AllByRecursion (λ x. same_window x.window o.window ≡ true → x ≡ o) (option_to_list p)
     new None says = tt
     new (Some x) says =
         let opening = opening_is e.call e.reply x says in
-        let replied : reply_to net g (call.Uplink x.frame x.heard) ≡ reply.Opened x.window = ap (reply_to net g) (sym opening.0) ∙ (sym is ∙ opening.1) in
+        let replied = opens_so net g e x is says opening.0 in
         (λ same. absurd (false≢true (sym (name_taken net g legal o inv.found x.frame x.heard x.window replied) ∙ same)), tt)
 
 -- the window is opened
-begins : (net : Network) (o : Opening) (g : List Entry) (e : Entry) → IsLegal net g → e.reply ≡ reply_to net g e.call → opening_in e.call e.reply ≡ Some o → Inv o (g ++ e ∷ []) (e ∷ [])
+begins : (net : Network) (o : Opening) (g : List Entry) (e : Entry) → IsLegal net g → e.reply ≡ reply_to net g e.call → window_in e.call e.reply ≡ Some o → Inv o (g ++ e ∷ []) (e ∷ [])
 begins net o g e legal is says =
     let opening = opening_is e.call e.reply o says in
-    let new = opened-new net g legal o.frame o.heard o.window (ap (reply_to net g) (sym opening.0) ∙ (sym is ∙ opening.1)) in
+    let new = windows-apart net g legal o.frame o.heard o.window (opens_so net g e o is says opening.0) in
     let now : open_windows (g ++ e ∷ []) ≡ filter (outlives e) (open_windows g) ++ o ∷ [] = open_windows-push g e ∙ ap (λ (p : Option Opening). filter (outlives e) (open_windows g) ++ option_to_list p) says in
     let apart : find (has_frame o) (filter (outlives e) (open_windows g)) ≡ None = find-none (has_frame o) (filter (outlives e) (open_windows g)) (All-filter (λ x. has_frame o x ≡ false) (outlives e) (open_windows g) (none-passes (has_frame o) (open_windows g) new.frame_apart)) in
     let no_name : AllByRecursion (Only o) (open_windows g) =
@@ -302,10 +309,9 @@ begins net o g e legal is says =
       copies =
           window_copies-push g e o.window
           ∙ (ap (λ cs. cs ++ added o.window e.call e.reply) new.copies
-          ∙ (ap (λ (c : Call). added o.window c e.reply) opening.0
-          ∙ (ap (added o.window (call.Uplink o.frame o.heard)) opening.1
+          ∙ (ap (λ p. map (λ (x : WindowName × Heard). x.1) (filter (λ (x : WindowName × Heard). same_window x.0 o.window) (option_to_list p))) opening.1
           ∙ (ap (λ b. map (λ (x : WindowName × Heard). x.1) (cond {A = List (WindowName × Heard)} b ((o.window, o.heard) ∷ []) [])) (same_window-refl o.window)
-          ∙ ap (take most_copies) (sym (one_more (λ (x : Entry). hearing_in o.frame x.call) e ∙ (ap (λ (c : Call). option_to_list (hearing_in o.frame c)) opening.0 ∙ ap (λ b. option_to_list (when b o.heard)) (same_bytes o.frame))))))));
+          ∙ ap (take most_copies) (sym (one_more (λ (x : Entry). hearing_in o.frame x.call) e ∙ (ap (λ (c : Call). option_to_list (hearing_in o.frame c)) opening.0 ∙ ap (λ b. option_to_list (when b o.heard)) (same_bytes o.frame)))))));
     }
 
 copies_on : (net : Network) (o : Opening) (g since ys : List Entry) → IsLegal net (g ++ ys) → Inv o g since → AllByRecursion (λ e. closes o.window e ≡ false) ys → window_copies (g ++ ys) o.window ≡ take most_copies (hearings o.frame (since ++ ys))
@@ -330,7 +336,7 @@ closed_copies : (net : Network) (h : List Entry) → IsLegal net h → (w : Wind
     → uplink_out h (call.Close w) (first_case (option_map (λ (o : Opening). reply.Closed w (ack_number h o)) p ∷ []) reply.NoWindow) ≡ Some u → HasJustItsCopies h u
 closed_copies net h legal w u None found is = absurd (cc is)
 closed_copies net h legal w u (Some o) found is =
-    let same : uplink_of h o ≡ u = same_Some (uplink_of h o) u (sym (ap (option_map (uplink_of h)) found) ∙ is) in
+    let same : uplink_of h o ≡ u = handed_out (is_first o.window) (sym (ap (option_and_then (first_uplink_of h)) found) ∙ is) in
     let is_open : IsOpenWindow h o = open_window-is h o (find-contained (λ (x : Opening). same_window x.window w) (open_windows h) o found) in
     record {
       opening = o;
@@ -338,6 +344,10 @@ closed_copies net h legal w u (Some o) found is =
       is_open = is_open;
       copies = ap (λ (x : answer_uplink.Uplink). x.copies.items) (sym same) ∙ open_copies net h legal o is_open;
     }
+  where
+    handed_out : (b : Bool) → when b (uplink_of h o) ≡ Some u → uplink_of h o ≡ u
+    handed_out true now = same_Some (uplink_of h o) u now
+    handed_out false now = absurd (cc now)
 
 pub just_its_copies : (net : Network) (h : List Entry) → IsLegal net h → (c : Call) (u : answer_uplink.Uplink) → (answer net h c).uplink ≡ Some u → HasJustItsCopies h u
 just_its_copies net h legal (call.Close w) u is = closed_copies net h legal w u (open_window h w) refl is

@@ -5,7 +5,7 @@ use Rattle.std.proofs.lemmas.Slice.Eq.{bytes_eq-Decides}
 use Rattle.ns_types.specs.Identity.{same_window}
 use Rattle.ns_roster.specs.Network.{Network}
 use Rattle.ns_calls.specs.declared.call.Reply.{Reply}
-use Rattle.ns_calls.specs.declared.call.Reply.TheVariants.{Opened, Copied, Crowded, Old, NoSession, Busy, Ask, JoinCopied, JoinCrowded, NonceOld, NoDevice, JoinBusy, Accepted, JoinRefused, JoinStale, NoTicket, Closed, NoWindow}
+use Rattle.ns_calls.specs.declared.call.Reply.TheVariants.{Opened, Copied, Crowded, Old, NoSession, Busy, Ask, JoinCopied, JoinCrowded, NonceOld, NoDevice, JoinBusy, Accepted, JoinRefused, JoinStale, NoTicket, Closed, NoWindow, Again}
 use Rattle.ns_calls.specs.declared.call.Entry.{Entry}
 use Rattle.ns_calls.specs.Reply.{reply_to}
 use Rattle.ns_calls.specs.Legal.{IsLegal, IsLegalAfter}
@@ -13,7 +13,7 @@ use Rattle.ns_calls.specs.Decided.{same_number, same_reply, is_legal_after, is_l
 use Rattle.ns_calls.proofs.LegalLemmas.{after-by_place, by_place-after}
 use Rattle.ns_calls.proofs.JoinLemmas.{same_device-eq}
 use Rattle.ns_calls.proofs.TicketLemmas.{same_ticket-eq}
-use Rattle.ns_calls.proofs.WindowLemmas.{same_window-eq, same_window-refl}
+use Rattle.ns_calls.proofs.NameLemmas.{same_window-eq, same_window-refl}
 
 number-eq : (m n : ℕ) → (m == n) ≡ true → m ≡ n
 number-eq m n is = grind (arith, nat_tests)
@@ -77,6 +77,7 @@ same_reply-eq (Closed v m) (Closed w n) is =
     let ack : m ≡ n = same_number-eq m n parts.1 in
     λ i. Closed (window i) (ack i)
 same_reply-eq NoWindow NoWindow is = refl
+same_reply-eq (Again v) (Again w) is = ap Again (same_window-eq v w is)
 same_reply-eq _ _ is = absurd (cc is)
 
 pub same_reply-refl : (r : Reply) → same_reply r r ≡ true
@@ -98,6 +99,7 @@ same_reply-refl (JoinStale n) = number-refl n.0
 same_reply-refl NoTicket = refl
 same_reply-refl (Closed w n) = both_hold (same_window w w) (same_number n n) (same_window-refl w) (same_number-refl n)
 same_reply-refl NoWindow = refl
+same_reply-refl (Again w) = same_window-refl w
 
 tested-legal : (net : Network) (before es : List Entry) → is_legal_after net before es ≡ true → IsLegalAfter net before es
 tested-legal net before [] is = tt

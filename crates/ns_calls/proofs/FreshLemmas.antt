@@ -2,17 +2,15 @@
 use Rattle.std.proofs.Common.{◌≡◌, ◌⊎◌, ℕ, ◌+◌, ◌≤◌, ◌==◌, Bool, true, false, ◌||◌, cond, List, [], ◌∷◌, ◌++◌, filter, map, find, count_by, length, nat_le, Option, None, Some, IfSome, option_map, option_to_list, refl, sym, ap, subst, ◌∙◌, arith, inl, inr}
 use Rattle.std.specs.Prelude.{is_some}
 use Rattle.std.specs.List.{AllByRecursion, list_any}
-use Rattle.std.specs.Option.{option_and_then, option_map_or}
+use Rattle.std.specs.Option.{option_and_then}
 use Rattle.std.proofs.lemmas.Option.{same_Some}
 use Rattle.std.proofs.lemmas.Bool.Decides.{nat_tests}
 use Rattle.ns_types.specs.declared.identity.DevEui.{DevEui}
 use Rattle.ns_types.specs.declared.identity.WindowName.{WindowName}
 use Rattle.ns_types.specs.declared.heard.Heard.{Heard}
-use Rattle.ns_types.specs.Cases.{when}
 use Rattle.ns_types.specs.Identity.{same_window}
 use Rattle.ns_views.specs.Frame.{data_fields}
 use Rattle.ns_secure.specs.Counter.{above, below}
-use Rattle.ns_secure.specs.Integrity.{mic_fits}
 use Rattle.ns_roster.specs.declared.Device.{Device}
 use Rattle.ns_roster.specs.Network.{Network}
 use Rattle.ns_calls.specs.declared.call.JoinAns.{JoinAns}
@@ -21,17 +19,18 @@ use Rattle.ns_calls.specs.declared.call.Call.TheVariants as call
 use Rattle.ns_calls.specs.declared.call.Reply.{Reply}
 use Rattle.ns_calls.specs.declared.call.Reply.TheVariants as reply
 use Rattle.ns_calls.specs.declared.call.Entry.{Entry}
-use Rattle.ns_calls.specs.History.{Opening, opening_in, window_copy_in, live, is_live, session_join, greatest_counter, open_windows, open_window, window_copies, window_count}
-use Rattle.ns_calls.specs.Reply.{Fit, fit_of, window_of, fitting_counter, session_fit, device_fit, devices_at, first_fit, window_with, most_copies, most_windows, reply_to}
+use Rattle.ns_calls.specs.History.{Opening, opening_in, window_in, window_copy_in, last_round, live, is_live, session_join, greatest_counter, open_windows, open_window, window_copies, window_count}
+use Rattle.ns_calls.specs.Reply.{Fit, fit_of, window_of, fitting_counter, session_fit, device_fit, devices_at, first_fit, window_with, in_round, most_copies, most_windows, reply_to}
 use Rattle.ns_calls.specs.Legal.{IsLegal, entry_for, with_call}
-use Rattle.ns_calls.specs.Headline.{opening_count, open_count, WindowsOpenOnce, IsNewWindow}
+use Rattle.ns_calls.specs.Headline.{opening_count, open_count, WindowsOpenOnce, IsNewWindow, IsNextRound}
 use Rattle.ns_calls.proofs.LocalLemmas.{bool_tells}
 use Rattle.ns_calls.proofs.Lists.{All-weaker, first-gives, first-gives_of, count-cons, count-found, IfSome-weaker, at_some}
 use Rattle.ns_calls.proofs.PushLemmas.{window_copies-push}
 use Rattle.ns_calls.proofs.Induction.{legal_induction}
-use Rattle.ns_calls.proofs.UplinkLemmas.{IsNewOpening, uplink_reply_by, opening_of, opening-new, opened-cases}
+use Rattle.ns_calls.proofs.UplinkLemmas.{IsNewOpening, IsNextOpening, IsOpened, uplink_reply_by, old-has, opening_of, opening-new, window-new, opened-cases}
+use Rattle.ns_calls.proofs.RoundLemmas.{windows-fresh, session-has_round}
 use Rattle.ns_calls.proofs.ShardLemmas.{device_fit-names}
-use Rattle.ns_calls.proofs.WindowLemmas.{fresh_is_new, openings-added, windows_open_once}
+use Rattle.ns_calls.proofs.WindowLemmas.{openings-added, windows_open_once}
 
 -- ---- a window that was never opened has no copies
 
@@ -51,29 +50,24 @@ count-member {X} counts test (y ∷ ys) x is here =
     ]
 
 -- what an uplink adds a copy to: nothing, the open window of an equal frame, or the window that it opens
-copied-cases : (h : List Entry) (frame : List ℕ) (heard : Heard) (copied : Option Opening) (fresh stale : Option Fit) →
-    let r : Reply = uplink_reply_by h copied fresh stale in
+abbrev AddsTo : List ℕ → Heard → Option Opening → Reply → Type 0
+AddsTo frame heard copied r =
     (window_copy_in (call.Uplink frame heard) r ≡ None)
     ⊎ (((o : Opening) × (copied ≡ Some o) × (window_copy_in (call.Uplink frame heard) r ≡ Some (o.window, heard)))
-    ⊎ ((w : WindowName) × (opening_in (call.Uplink frame heard) r ≡ Some (opening_of w frame heard)) × (window_copy_in (call.Uplink frame heard) r ≡ Some (w, heard))))
-copied-cases h frame heard (Some o) fresh stale =
-    let place : ℕ = length (window_copies h o.window) + 1 in
-    elim (bool_tells (nat_le place most_copies)) [
-      | inl room ↦ inr (inl (o, refl, ap (λ b. window_copy_in (call.Uplink frame heard) (cond b (reply.Copied o.window place) (reply.Crowded o.window))) room))
-      | inr full ↦ inl (ap (λ b. window_copy_in (call.Uplink frame heard) (cond b (reply.Copied o.window place) (reply.Crowded o.window))) full)
-    ]
-copied-cases h frame heard None (Some f) stale =
-    let w : WindowName = window_of f in
-    elim (bool_tells (nat_le most_windows (window_count h w.eui))) [
-      | inl busy ↦ inl (ap (λ b. window_copy_in (call.Uplink frame heard) (cond b (reply.Busy w.eui) (reply.Opened w))) busy)
-      | inr room ↦
-          inr (inr (
-            w,
-            ap (λ b. opening_in (call.Uplink frame heard) (cond b (reply.Busy w.eui) (reply.Opened w))) room,
-            ap (λ b. window_copy_in (call.Uplink frame heard) (cond b (reply.Busy w.eui) (reply.Opened w))) room,
-          ))
-    ]
-copied-cases h frame heard None None (Some f) = inl refl
+    ⊎ ((w : WindowName) × (window_in (call.Uplink frame heard) r ≡ Some (opening_of w frame heard)) × (window_copy_in (call.Uplink frame heard) r ≡ Some (w, heard))))
+
+copied-cases : (h : List Entry) (frame : List ℕ) (heard : Heard) (copied : Option Opening) (fresh stale : Option Fit) → AddsTo frame heard copied (uplink_reply_by h frame copied fresh stale)
+copied-cases h frame heard (Some o) fresh stale = step (nat_le (length (window_copies h o.window) + 1) most_copies)
+  where
+    step : (b : Bool) → AddsTo frame heard (Some o) (cond b (reply.Copied o.window (length (window_copies h o.window) + 1)) (reply.Crowded o.window))
+    step true = inr (inl (o, refl, refl))
+    step false = inl refl
+copied-cases h frame heard None (Some f) stale = step (nat_le most_windows (window_count h f.eui))
+  where
+    step : (b : Bool) → AddsTo frame heard None (cond b (reply.Busy f.eui) (reply.Opened (window_of f)))
+    step true = inl refl
+    step false = inr (inr (window_of f, refl, refl))
+copied-cases h frame heard None None (Some f) = old-has (AddsTo frame heard None) h frame f (inl refl) (inl refl) (λ round is room. inr (inr (in_round f round, refl, refl)))
 copied-cases h frame heard None None None = inl refl
 
 NoCopiesBefore : List Entry → Type 0
@@ -92,7 +86,7 @@ added-none : (c : Call) (r : Reply) (w : WindowName) → window_copy_in c r ≡ 
 added-none c r w is = ap (λ o. map (λ (x : WindowName × Heard). x.1) (filter (λ (x : WindowName × Heard). same_window x.0 w) (option_to_list o))) is
 
 -- no copy is added to a window that was never opened and isn't opened by the call
-nothing_added : (net : Network) (h : List Entry) → WindowsOpenOnce h → (c : Call) (w : WindowName) → opening_count h w ≡ 0 → count_by (λ o. same_window o.window w) (option_to_list (opening_in c (reply_to net h c))) ≡ 0 → copies_added c (reply_to net h c) w ≡ []
+nothing_added : (net : Network) (h : List Entry) → WindowsOpenOnce h → (c : Call) (w : WindowName) → opening_count h w ≡ 0 → count_by (λ o. same_window o.window w) (option_to_list (window_in c (reply_to net h c))) ≡ 0 → copies_added c (reply_to net h c) w ≡ []
 nothing_added net h once (call.Join t heard) w none new = refl
 nothing_added net h once (call.JoinReply t o) w none new = refl
 nothing_added net h once (call.Close v) w none new = refl
@@ -130,7 +124,7 @@ no_copies_step : (net : Network) (h : List Entry) (number : ℕ) (c : Call) → 
 unfolding NoCopiesBefore
 no_copies_step net h number c legal before w none =
     let e : Entry = entry_for net h number c in
-    let parts = parts_zero (opening_count h w) (count_by (λ (o : Opening). same_window o.window w) (option_to_list (opening_in c (reply_to net h c)))) (opening_count (h ++ e ∷ []) w) (openings-added h e w) none in
+    let parts = parts_zero (opening_count h w) (count_by (λ (o : Opening). same_window o.window w) (option_to_list (window_in c (reply_to net h c)))) (opening_count (h ++ e ∷ []) w) (openings-added h e w) none in
     window_copies-push h e w
     ∙ (ap (λ hs. hs ++ copies_added c (reply_to net h c) w) (before w parts.0)
     ∙ nothing_added net h (windows_open_once net h legal) c w parts.0 parts.1)
@@ -152,7 +146,7 @@ some-equal (s ∷ ss) =
     or_later false b later = later
 
 -- the fit's session lives
-abbrev Lives : List Entry → Fit → Type 0
+abbrev pub Lives : List Entry → Fit → Type 0
 Lives h f = is_live h f.eui f.session ≡ true
 
 session_fit-live : (recover : Option ℕ → ℕ → Option ℕ) (h : List Entry) (frame : List ℕ) (eui : DevEui) (session : ℕ) → is_live h eui session ≡ true → IfSome (session_fit recover h frame eui session) (Lives h)
@@ -167,7 +161,7 @@ device_fit-live recover h frame eui =
     first-gives_of (Lives h) (session_fit recover h frame eui) (live h eui)
     (All-weaker (λ s. is_live h eui s ≡ true) (λ s. IfSome (session_fit recover h frame eui s) (Lives h)) (λ s lives. session_fit-live recover h frame eui s lives) (live h eui) (some-equal (live h eui)))
 
-first_fit-live : (recover : Option ℕ → ℕ → Option ℕ) (net : Network) (h : List Entry) (frame : List ℕ) → IfSome (first_fit recover net h frame) (Lives h)
+pub first_fit-live : (recover : Option ℕ → ℕ → Option ℕ) (net : Network) (h : List Entry) (frame : List ℕ) → IfSome (first_fit recover net h frame) (Lives h)
 first_fit-live recover net h frame =
     first-gives (Lives h) (λ (d : Device). device_fit recover h frame d.eui) (λ d. device_fit-live recover h frame d.eui) (devices_at net (data_fields frame).addr)
 
@@ -206,28 +200,114 @@ none_found h w once none = step (open_window h w) refl
         let sum = once.closes w in
         absurd (omega (arith, least, sum, none))
 
-pub opened-new : (net : Network) (h : List Entry) → IsLegal net h → (frame : List ℕ) (heard : Heard) (w : WindowName) → reply_to net h (call.Uplink frame heard) ≡ reply.Opened w → IsNewWindow net h frame w
+-- the device and the session of a window that is opened where a frame fits
+known_at : (net : Network) (h : List Entry) (frame : List ℕ) (fit : Option Fit) (f : Fit) → fit ≡ Some f → (w : WindowName) → f.eui ≡ w.eui
+    → IfSome fit (λ f. list_any (λ d. d.eui.0 == f.eui.0) (devices_at net (data_fields frame).addr) ≡ true) → list_any (λ d. d.eui.0 == w.eui.0) (devices_at net (data_fields frame).addr) ≡ true
+known_at net h frame fit f is w eui known =
+    subst (λ (x : DevEui). list_any (λ d. d.eui.0 == x.0) (devices_at net (data_fields frame).addr) ≡ true) eui
+    (at_some (λ (x : Fit). list_any (λ d. d.eui.0 == x.eui.0) (devices_at net (data_fields frame).addr) ≡ true) fit f is known)
+
+lives_at : (h : List Entry) (fit : Option Fit) (f : Fit) → fit ≡ Some f → (w : WindowName) → f.eui ≡ w.eui → f.session ≡ w.session → IfSome fit (Lives h) → is_live h w.eui w.session ≡ true
+lives_at h fit f is w eui session lives =
+    subst (λ s. is_live h w.eui s ≡ true) session (subst (λ (x : DevEui). is_live h x f.session ≡ true) eui (at_some (Lives h) fit f is lives))
+
+-- what is opened was never opened
+never : (net : Network) (h : List Entry) → IsLegal net h → (frame : List ℕ) (heard : Heard) (w : WindowName) → window_in (call.Uplink frame heard) (reply_to net h (call.Uplink frame heard)) ≡ Some (opening_of w frame heard) → opening_count h w ≡ 0
+never net h legal frame heard w says =
+    let c : Call = call.Uplink frame heard in
+    at_some (λ (o : Opening). opening_count h o.window ≡ 0) (window_in c (reply_to net h c)) (opening_of w frame heard) says (windows-fresh net h legal c)
+
+-- where a window is opened, in any round, none of its name is open, or has copies, and no open window has its frame
+pub record IsApart (h : List Entry) (frame : List ℕ) (w : WindowName) : Type 0 where
+  pub name : open_window h w ≡ None
+  pub copies : window_copies h w ≡ []
+  pub frame_apart : window_with h frame ≡ None
+
+frame-apart : (h : List Entry) (c : Call) (r : Reply) (o : Opening) → IsOpened h c r o → window_with h o.frame ≡ None
+frame-apart h c r o (inl first) = first.1.apart
+frame-apart h c r o (inr next) = next.1.apart
+
+pub windows-apart : (net : Network) (h : List Entry) → IsLegal net h → (frame : List ℕ) (heard : Heard) (w : WindowName) → window_in (call.Uplink frame heard) (reply_to net h (call.Uplink frame heard)) ≡ Some (opening_of w frame heard) → IsApart h frame w
 unfolding NoCopiesBefore
+windows-apart net h legal frame heard w says =
+    let c : Call = call.Uplink frame heard in
+    let none = never net h legal frame heard w says in
+    let is_opened = at_some (IsOpened h c (reply_to net h c)) (window_in c (reply_to net h c)) (opening_of w frame heard) says (window-new net h c) in
+    record { name = none_found h w (windows_open_once net h legal) none; copies = no_copies net h legal w none; frame_apart = frame-apart h c (reply_to net h c) (opening_of w frame heard) is_opened }
+
+pub opened-new : (net : Network) (h : List Entry) → IsLegal net h → (frame : List ℕ) (heard : Heard) (w : WindowName) → reply_to net h (call.Uplink frame heard) ≡ reply.Opened w → IsNewWindow net h frame w
 opened-new net h legal frame heard w is =
+    let c : Call = call.Uplink frame heard in
     let o : Opening = opening_of w frame heard in
-    let says : opening_in (call.Uplink frame heard) (reply_to net h (call.Uplink frame heard)) ≡ Some o = ap (opening_in (call.Uplink frame heard)) is in
-    let new : IsNewOpening h o = at_some (IsNewOpening h) (opening_in (call.Uplink frame heard) (reply_to net h (call.Uplink frame heard))) o says (opening-new net h (call.Uplink frame heard)) in
-    let never : opening_count h w ≡ 0 = fresh_is_new h o new in
-    let once : WindowsOpenOnce h = windows_open_once net h legal in
+    let says : opening_in c (reply_to net h c) ≡ Some o = ap (opening_in c) is in
+    let new : IsNewOpening h o = at_some (IsNewOpening h) (opening_in c (reply_to net h c)) o says (opening-new net h c) in
+    let apart = windows-apart net h legal frame heard w (ap (window_in c) is) in
     elim (opened-cases h frame heard (window_with h frame) (first_fit above net h frame) (first_fit below net h frame)) [
       | inl nothing ↦ absurd (cc (nothing, says))
       | inr found ↦
           (let same : opening_of (window_of found.0) frame heard ≡ o = same_Some _ o (sym found.3 ∙ says) in
           let window : window_of found.0 ≡ w = ap (λ (x : Opening). x.window) same in
-          let lives = at_some (Lives h) (first_fit above net h frame) found.0 found.2 (first_fit-live above net h frame) in
-          let known = at_some (λ (f : Fit). list_any (λ d. d.eui.0 == f.eui.0) (devices_at net (data_fields frame).addr) ≡ true) (first_fit above net h frame) found.0 found.2 (first_fit-device above net h frame) in
+          let eui : found.0.eui ≡ w.eui = ap (λ (v : WindowName). v.eui) window in
+          let session : found.0.session ≡ w.session = ap (λ (v : WindowName). v.session) window in
           record {
-            device = subst (λ (v : WindowName). list_any (λ d. d.eui.0 == v.eui.0) (devices_at net (data_fields frame).addr) ≡ true) window known;
+            device = known_at net h frame (first_fit above net h frame) found.0 found.2 w eui (first_fit-device above net h frame);
             mic = new.fresh.mic;
-            session = subst (λ (v : WindowName). is_live h v.eui v.session ≡ true) window lives;
+            session = lives_at h (first_fit above net h frame) found.0 found.2 w eui session (first_fit-live above net h frame);
             counter = new.fresh.counter;
-            name = none_found h w once never;
-            copies = no_copies net h legal w never;
-            frame_apart = new.apart;
+            round = new.first;
+            name = apart.name;
+            copies = apart.copies;
+            frame_apart = apart.frame_apart;
           })
     ]
+
+-- where a window is opened again, the frame fits at or below the greatest counter
+pub again-fits : (h : List Entry) (frame : List ℕ) (heard : Heard) (copied : Option Opening) (fresh stale : Option Fit) (w : WindowName) → uplink_reply_by h frame copied fresh stale ≡ reply.Again w →
+    (f : Fit) × (stale ≡ Some f) × (round : ℕ) × (in_round f round ≡ w)
+again-fits h frame heard (Some o) fresh stale w is = step (nat_le (length (window_copies h o.window) + 1) most_copies) is
+  where
+    step : (b : Bool) → cond b (reply.Copied o.window (length (window_copies h o.window) + 1)) (reply.Crowded o.window) ≡ reply.Again w → (f : Fit) × (stale ≡ Some f) × (round : ℕ) × (in_round f round ≡ w)
+    step true same = absurd (cc same)
+    step false same = absurd (cc same)
+again-fits h frame heard None (Some g) stale w is = step (nat_le most_windows (window_count h g.eui)) is
+  where
+    step : (b : Bool) → cond b (reply.Busy g.eui) (reply.Opened (window_of g)) ≡ reply.Again w → (f : Fit) × (stale ≡ Some f) × (round : ℕ) × (in_round f round ≡ w)
+    step true same = absurd (cc same)
+    step false same = absurd (cc same)
+again-fits h frame heard None None (Some g) w is =
+    old-has (λ r. r ≡ reply.Again w → (f : Fit) × (Some g ≡ Some f) × (round : ℕ) × (in_round f round ≡ w)) h frame g (λ same. absurd (cc same)) (λ same. absurd (cc same))
+    (λ round found room same. (g, refl, round, named round same)) is
+  where
+    named : (round : ℕ) → reply.Again (in_round g round) ≡ reply.Again w → in_round g round ≡ w
+    named round same = ap (λ (o : Opening). o.window) (same_Some (opening_of (in_round g round) frame heard) (opening_of w frame heard) (ap (window_in (call.Uplink frame heard)) same))
+again-fits h frame heard None None None w is = absurd (cc is)
+
+next-opening : (h : List Entry) (c : Call) (r : Reply) (o : Opening) → opening_in c r ≡ None → IsOpened h c r o → IsNextOpening h o
+next-opening h c r o none (inl first) = absurd (cc (none, first.0))
+next-opening h c r o none (inr next) = next.1
+
+pub again-next : (net : Network) (h : List Entry) → IsLegal net h → (frame : List ℕ) (heard : Heard) (w : WindowName) → reply_to net h (call.Uplink frame heard) ≡ reply.Again w → IsNextRound net h frame w
+again-next net h legal frame heard w is =
+    let c : Call = call.Uplink frame heard in
+    let o : Opening = opening_of w frame heard in
+    let says : window_in c (reply_to net h c) ≡ Some o = ap (window_in c) is in
+    let opens = at_some (IsOpened h c (reply_to net h c)) (window_in c (reply_to net h c)) o says (window-new net h c) in
+    let next = next-opening h c (reply_to net h c) o (ap (opening_in c) is) opens in
+    let found = again-fits h frame heard (window_with h frame) (first_fit above net h frame) (first_fit below net h frame) w is in
+    let window : in_round found.0 found.2 ≡ w = found.3 in
+    let eui : found.0.eui ≡ w.eui = ap (λ (v : WindowName). v.eui) window in
+    let session : found.0.session ≡ w.session = ap (λ (v : WindowName). v.session) window in
+    let least : 1 ≤ last_round h w = session-has_round net h legal w next.counter in
+    let round : w.round ≡ last_round h w + 1 = next.next in
+    record {
+      device = known_at net h frame (first_fit below net h frame) found.0 found.1 w eui (first_fit-device below net h frame);
+      confirmed = next.confirmed;
+      mic = next.mic;
+      session = lives_at h (first_fit below net h frame) found.0 found.1 w eui session (first_fit-live below net h frame);
+      counter = next.counter;
+      closed = next.closed;
+      round = round;
+      repeated = omega (arith, least, round);
+      copies = (windows-apart net h legal frame heard w says).copies;
+      frame_apart = next.apart;
+    }

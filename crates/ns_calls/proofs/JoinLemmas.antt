@@ -1,8 +1,7 @@
 -- The joins that a legal history accepts.
 use Rattle.std.proofs.Common.{◌≡◌, ◌⊎◌, ℕ, ◌+◌, ◌<◌, ◌≤◌, Bool, true, false, not, List, [], ◌∷◌, ◌++◌, map, nat_le, unwrap_or, Option, None, Some, option_map, refl, sym, ap, subst, ◌∙◌, arith, inl, inr}
 use Rattle.std.specs.List.{AllByRecursion}
-use Rattle.std.specs.Option.{option_and_then}
-use Rattle.std.proofs.lemmas.List.{append-nil, map-append}
+use Rattle.std.proofs.lemmas.List.{map-append}
 use Rattle.std.proofs.lemmas.Option.{none-some, same_Some}
 use Rattle.std.proofs.lemmas.Bool.Decides.{nat_tests}
 use Rattle.ns_types.specs.declared.identity.DevEui.{DevEui}
@@ -21,11 +20,11 @@ use Rattle.ns_calls.specs.declared.call.Reply.{Reply}
 use Rattle.ns_calls.specs.declared.call.Reply.TheVariants as reply
 use Rattle.ns_calls.specs.declared.call.Entry.{Entry}
 use Rattle.ns_calls.specs.Queries.{maximum, greater}
-use Rattle.ns_calls.specs.History.{Acceptance, acceptance_in, acceptances, same_device, last_nonce, greatest_accepted, greatest_nonce, next_session, is_ticket_open}
-use Rattle.ns_calls.specs.Reply.{spent_by, is_failed, address}
+use Rattle.ns_calls.specs.History.{Acceptance, acceptance_in, acceptances, same_device, last_nonce, greatest_nonce, next_session, is_ticket_open}
+use Rattle.ns_calls.specs.Reply.{at_or_above, nonce_at_or_above, is_failed, address}
 use Rattle.ns_calls.specs.Legal.{IsLegal, entry_for, with_call}
 use Rattle.ns_calls.specs.Headline.{Rises, NoncesRise, nonces_up_to, SessionsAreBounded, Reaches, nonces_of, NoncesAreWithin, AreBelow}
-use Rattle.ns_calls.proofs.Lists.{said, said-push, said-cases, All-push, Exceeds-greater, Exceeds-each, Rises-push, All-weaker}
+use Rattle.ns_calls.proofs.Lists.{AddsOne, said-adds, All-push, Exceeds-greater, Exceeds-each, Rises-push, All-weaker}
 use Rattle.ns_calls.proofs.QueryLemmas.{greater-assoc, maximum-push}
 use Rattle.ns_calls.proofs.Induction.{legal_induction}
 
@@ -40,7 +39,7 @@ join_reply_by is_open failed stale accepted = first_case (
 abbrev acceptance_of : Ticket → ℕ → JoinAns → Acceptance
 acceptance_of t session join = record { eui = dev_eui t; session = session; ticket = t; join_ans = join }
 
--- what is accepted is the answer to an open ticket whose nonce isn't spent
+-- what is accepted is the answer to an open ticket whose nonce isn't stale
 pub accepted-cases : (t : Ticket) (o : Outcome) (is_open : Bool) (stale : Option ℕ) (eui : DevEui) (session : ℕ) (addr : DevAddr) →
     let said_by : Option Acceptance = acceptance_in (call.JoinReply t o) (join_reply_by is_open (is_failed o) stale (reply.Accepted eui session addr)) in
     (said_by ≡ None) ⊎ ((join : JoinAns) × (o ≡ outcome.Success join) × (is_open ≡ true) × (stale ≡ None) × (said_by ≡ Some (acceptance_of t session join)))
@@ -50,9 +49,10 @@ accepted-cases t (outcome.Success join) true None eui session addr = inr (join, 
 accepted-cases t (outcome.Success join) true (Some g) eui session addr = inl refl
 accepted-cases t (outcome.Success join) false stale eui session addr = inl refl
 
-unspent : (greatest : Option ℕ) (n : ℕ) → option_and_then (λ g. when (nat_le n g) g) greatest ≡ None → Exceeds greatest n
-unspent None n is = tt
-unspent (Some g) n is = step (nat_le n g) refl is
+-- a number that the greatest is not at or above is above the greatest
+pub exceeds_all : (greatest : Option ℕ) (n : ℕ) → at_or_above greatest n ≡ None → Exceeds greatest n
+exceeds_all None n is = tt
+exceeds_all (Some g) n is = step (nat_le n g) refl is
   where
     step : (b : Bool) → nat_le n g ≡ b → when b g ≡ None → g < n
     step true tells none = absurd (cc none)
@@ -78,9 +78,8 @@ acceptances-cases net h number c eui =
     let e : Entry = entry_for net h number c in
     let asked : Acceptance → Bool = λ a. same_device a.eui eui in
     let says : Entry → Option Acceptance = λ x. acceptance_in x.call x.reply in
-    let pushed = said-push says asked h e in
-    elim (said-cases says asked e) [
-      | inl nothing ↦ inl (pushed ∙ (ap (λ ys. acceptances h eui ++ ys) nothing ∙ append-nil (acceptances h eui)))
+    elim (said-adds says asked h e) [
+      | inl same ↦ inl same
       | inr one ↦ inr (new c one)
     ]
   where
@@ -88,28 +87,27 @@ acceptances-cases net h number c eui =
         let x : Entry = entry_for net h number d in
         let test : Acceptance → Bool = λ a. same_device a.eui eui in
         let tells : Entry → Option Acceptance = λ y. acceptance_in y.call y.reply in
-        ((a : Acceptance) × (tells x ≡ Some a) × (test a ≡ true) × (said tells test x ≡ a ∷ [])) → NewAcceptance net h eui (acceptances (with_call net h number d) eui)
-    new (call.Uplink frame heard) one = absurd (cc one.1)
-    new (call.Join t heard) one = absurd (cc one.1)
-    new (call.Close w) one = absurd (cc one.1)
+        AddsOne tells test h x → NewAcceptance net h eui (acceptances (with_call net h number d) eui)
+    new (call.Uplink frame heard) one = absurd (cc one.says)
+    new (call.Join t heard) one = absurd (cc one.says)
+    new (call.Close w) one = absurd (cc one.says)
     new (call.JoinReply t o) one =
-        let x : Entry = entry_for net h number (call.JoinReply t o) in
-        elim (accepted-cases t o (is_ticket_open h t) (spent_by net h t) (dev_eui t) (next_session h (dev_eui t)) (address net (dev_eui t))) [
-          | inl none ↦ absurd (none-some one.0 (sym none ∙ one.1))
+        elim (accepted-cases t o (is_ticket_open h t) (nonce_at_or_above net h t) (dev_eui t) (next_session h (dev_eui t)) (address net (dev_eui t))) [
+          | inl none ↦ absurd (none-some one.thing (sym none ∙ one.says))
           | inr found ↦
-              (let here : acceptance_of t (next_session h (dev_eui t)) found.0 ≡ one.0 = same_Some _ one.0 (sym found.4 ∙ one.1) in
-              let mine : dev_eui t ≡ one.0.eui = ap (λ (a : Acceptance). a.eui) here in
-              let is : one.0.eui ≡ eui = same_device-eq one.0.eui eui one.2 in
-              let session_is : next_session h (dev_eui t) ≡ one.0.session = ap (λ (a : Acceptance). a.session) here in
-              let ticket_is : t ≡ one.0.ticket = ap (λ (a : Acceptance). a.ticket) here in
+              (let here : acceptance_of t (next_session h (dev_eui t)) found.0 ≡ one.thing = same_Some _ one.thing (sym found.4 ∙ one.says) in
+              let mine : dev_eui t ≡ one.thing.eui = ap (λ (a : Acceptance). a.eui) here in
+              let is : one.thing.eui ≡ eui = same_device-eq one.thing.eui eui one.asked in
+              let session_is : next_session h (dev_eui t) ≡ one.thing.session = ap (λ (a : Acceptance). a.session) here in
+              let ticket_is : t ≡ one.thing.ticket = ap (λ (a : Acceptance). a.ticket) here in
               let device_is : dev_eui t ≡ eui = mine ∙ is in
-              let above : Exceeds (greatest_nonce net h (dev_eui t)) (nonce t).0 = unspent (greatest_nonce net h (dev_eui t)) (nonce t).0 found.3 in
+              let above : Exceeds (greatest_nonce net h (dev_eui t)) (nonce t).0 = exceeds_all (greatest_nonce net h (dev_eui t)) (nonce t).0 found.3 in
               record {
-                a = one.0;
-                joined = said-push (λ (y : Entry). acceptance_in y.call y.reply) (λ (a : Acceptance). same_device a.eui eui) h x ∙ ap (λ ys. acceptances h eui ++ ys) one.3;
-                device = one.2;
+                a = one.thing;
+                joined = one.joined;
+                device = one.asked;
                 session = sym session_is ∙ ap (next_session h) device_is;
-                nonce_above = subst (λ (d : DevEui). Exceeds (greatest_nonce net h d) (nonce one.0.ticket).0) device_is (subst (λ (u : Ticket). Exceeds (greatest_nonce net h (dev_eui t)) (nonce u).0) ticket_is above);
+                nonce_above = subst (λ (d : DevEui). Exceeds (greatest_nonce net h d) (nonce one.thing.ticket).0) device_is (subst (λ (u : Ticket). Exceeds (greatest_nonce net h (dev_eui t)) (nonce u).0) ticket_is above);
               })
         ]
 

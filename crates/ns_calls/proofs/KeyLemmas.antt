@@ -1,5 +1,5 @@
 -- The join server's answer that made a session.
-use Rattle.std.proofs.Common.{◌≡◌, ℕ, ◌+◌, ◌<◌, ◌==◌, Bool, true, false, not, cond, List, [], ◌∷◌, ◌++◌, filter, map, find, unwrap_or, Option, None, Some, IfSome, option_map, option_to_list, refl, sym, ap, subst, ◌∙◌, arith, inl, inr}
+use Rattle.std.proofs.Common.{◌≡◌, ℕ, ◌+◌, ◌<◌, ◌==◌, Bool, true, false, not, cond, List, [], ◌∷◌, ◌++◌, map, find, unwrap_or, Option, None, Some, IfSome, option_map, refl, sym, ap, subst, ◌∙◌, arith, inl, inr}
 use Rattle.std.specs.Prelude.{IsSome, is_some}
 use Rattle.std.specs.List.{AllByRecursion}
 use Rattle.std.specs.Option.{option_or, option_map_or}
@@ -14,15 +14,15 @@ use Rattle.ns_calls.specs.declared.call.JoinAns.{JoinAns}
 use Rattle.ns_calls.specs.declared.call.Call.{Call}
 use Rattle.ns_calls.specs.declared.call.Entry.{Entry}
 use Rattle.ns_calls.specs.Queries.{last, maximum}
-use Rattle.ns_calls.specs.History.{Acceptance, Opening, acceptance_in, opening_in, acceptances, openings, same_device, session_join, next_session, active_session, newest_session, first_and_other, open_windows, closes}
+use Rattle.ns_calls.specs.History.{Acceptance, Opening, acceptance_in, window_in, acceptances, openings, same_device, session_join, next_session, active_session, newest_session, first_and_other, open_windows, closes}
 use Rattle.ns_calls.specs.Reply.{fits, reply_to}
 use Rattle.ns_calls.specs.Legal.{IsLegal, entry_for, with_call}
 use Rattle.ns_calls.specs.Headline.{SessionsHaveJoins}
 use Rattle.ns_calls.proofs.QueryLemmas.{still_open-push}
-use Rattle.ns_calls.proofs.Lists.{said, said-push, All-append, All-push, All-weaker, All-filter, All-map, last-has, find-none, Exceeds-each}
+use Rattle.ns_calls.proofs.Lists.{said, said-push, All-push, All-after, All-weaker, All-map, IfSome-weaker, last-has, find-none, Exceeds-each}
 use Rattle.ns_calls.proofs.Induction.{legal_induction}
 use Rattle.ns_calls.proofs.JoinLemmas.{NewAcceptance}
-use Rattle.ns_calls.proofs.UplinkLemmas.{IsNewOpening, opening-new, openings-cases}
+use Rattle.ns_calls.proofs.UplinkLemmas.{IsOpened, window-new, openings-cases}
 
 -- the answer of a session stays once it is there
 kept : (o p : Option Acceptance) (join : JoinAns) → option_map (λ (a : Acceptance). a.join_ans) o ≡ Some join → option_map (λ (a : Acceptance). a.join_ans) (option_or o p) ≡ Some join
@@ -120,10 +120,9 @@ keyed_step net h number c keyed = record {
       (let Keyed : Opening → Type 0 = λ o. IsSome (session_join now o.window.eui o.window.session) in
       let old : AllByRecursion Keyed (open_windows h) =
       All-weaker (λ (o : Opening). IsSome (session_join h o.window.eui o.window.session)) Keyed (λ o has. has_join-stays h e o.window.eui o.window.session has) (open_windows h) keyed.of_windows in
-      let stay : Opening → Bool = λ o. not (closes o.window e) in
-      subst (AllByRecursion Keyed) (sym (still_open-push (λ (x : Entry). opening_in x.call x.reply) (λ (o : Opening) x. closes o.window x) h e))
-      (All-append Keyed (filter stay (open_windows h)) (option_to_list (opening_in c (reply_to net h c))) (All-filter Keyed stay (open_windows h) old)
-      (opened (opening_in c (reply_to net h c)) (opening-new net h c))));
+      subst (AllByRecursion Keyed) (sym (still_open-push (λ (x : Entry). window_in x.call x.reply) (λ (o : Opening) x. closes o.window x) h e))
+      (All-after Keyed (λ (o : Opening). not (closes o.window e)) (open_windows h) (window_in c (reply_to net h c)) old
+      (IfSome-weaker (IsOpened h c (reply_to net h c)) Keyed (window_in c (reply_to net h c)) opened (window-new net h c))));
 }
   where
     e : Entry
@@ -132,9 +131,9 @@ keyed_step net h number c keyed = record {
     now : List Entry
     now = with_call net h number c
 
-    opened : (o : Option Opening) → IfSome o (IsNewOpening h) → AllByRecursion (λ (x : Opening). IsSome (session_join (with_call net h number c) x.window.eui x.window.session)) (option_to_list o)
-    opened None new = tt
-    opened (Some o) new = (has_join-stays h (entry_for net h number c) o.window.eui o.window.session (fits-keyed h o.frame o.window new.fresh.mic), tt)
+    opened : (o : Opening) → IsOpened h c (reply_to net h c) o → IsSome (session_join (with_call net h number c) o.window.eui o.window.session)
+    opened o (inl new) = has_join-stays h (entry_for net h number c) o.window.eui o.window.session (fits-keyed h o.frame o.window new.1.fresh.mic)
+    opened o (inr next) = has_join-stays h (entry_for net h number c) o.window.eui o.window.session (fits-keyed h o.frame o.window next.1.mic)
 
 live-All : (P : ℕ → Type 0) (a b : Option ℕ) → IfSome a P → IfSome b P → AllByRecursion P (first_and_other a b)
 live-All P None None one other = tt

@@ -1,5 +1,5 @@
 -- The devices of open tickets.
-use Rattle.std.proofs.Common.{◌≡◌, ℕ, Bool, true, not, List, [], ◌∷◌, filter, nat_le, Option, None, Some, IfSome, option_map, option_to_list, refl, sym, ap, subst, inl, inr}
+use Rattle.std.proofs.Common.{◌≡◌, ℕ, Bool, true, not, List, [], ◌∷◌, nat_le, Option, None, Some, IfSome, option_map, refl, sym, ap, subst, inl, inr}
 use Rattle.std.specs.List.{AllByRecursion}
 use Rattle.ns_types.specs.declared.heard.Heard.{Heard}
 use Rattle.ns_types.specs.declared.ticket.Ticket.{Ticket}
@@ -12,11 +12,11 @@ use Rattle.ns_calls.specs.declared.call.Reply.{Reply}
 use Rattle.ns_calls.specs.declared.call.Reply.TheVariants as reply
 use Rattle.ns_calls.specs.declared.call.Entry.{Entry}
 use Rattle.ns_calls.specs.History.{asking_in, ends_ticket, open_tickets, is_ticket_open, ticket_count}
-use Rattle.ns_calls.specs.Reply.{most_tickets, spent_by, join_copy_reply, reply_to}
+use Rattle.ns_calls.specs.Reply.{most_tickets, nonce_at_or_above, join_copy_reply, reply_to}
 use Rattle.ns_calls.specs.Legal.{IsLegal, entry_for, with_call}
 use Rattle.ns_calls.specs.Headline.{TicketsAreKnown}
 use Rattle.ns_calls.proofs.LocalLemmas.{bool_tells}
-use Rattle.ns_calls.proofs.Lists.{All-append, All-filter}
+use Rattle.ns_calls.proofs.Lists.{All-after}
 use Rattle.ns_calls.proofs.PushLemmas.{open_tickets-push}
 use Rattle.ns_calls.proofs.Induction.{legal_induction}
 
@@ -37,7 +37,7 @@ asking-known net h (call.Join t heard) =
     let Known : Ticket → Type 0 = λ u. is_known net (dev_eui u) (join_eui u) ≡ true in
     let by : Bool → Option Ticket = λ known. asking_in (call.Join t heard) (first_case (
     when (not known) reply.NoDevice
-    ∷ option_map (λ g. reply.NonceOld (record { 0 = g })) (spent_by net h t)
+    ∷ option_map (λ g. reply.NonceOld (record { 0 = g })) (nonce_at_or_above net h t)
     ∷ when (is_ticket_open h t) (join_copy_reply h t)
     ∷ when (nat_le most_tickets (ticket_count h (dev_eui t))) reply.JoinBusy
     ∷ []) (reply.Ask t)) in
@@ -49,20 +49,13 @@ asking-known net h (call.Join t heard) =
 known_step : (net : Network) (h : List Entry) (number : ℕ) (c : Call) → TicketsAreKnown net h → TicketsAreKnown net (with_call net h number c)
 known_step net h number c known =
     subst (AllByRecursion Known) (sym (open_tickets-push h e))
-    (All-append Known (filter stay (open_tickets h)) (option_to_list (asking_in c (reply_to net h c))) (All-filter Known stay (open_tickets h) known) (new (asking_in c (reply_to net h c)) (asking-known net h c)))
+    (All-after Known (λ t. not (ends_ticket t e)) (open_tickets h) (asking_in c (reply_to net h c)) known (asking-known net h c))
   where
     e : Entry
     e = entry_for net h number c
 
     Known : Ticket → Type 0
     Known t = is_known net (dev_eui t) (join_eui t) ≡ true
-
-    stay : Ticket → Bool
-    stay t = not (ends_ticket t e)
-
-    new : (o : Option Ticket) → IfSome o (λ t. is_known net (dev_eui t) (join_eui t) ≡ true) → AllByRecursion (λ t. is_known net (dev_eui t) (join_eui t) ≡ true) (option_to_list o)
-    new None is = tt
-    new (Some t) is = (is, tt)
 
 pub tickets_known : (net : Network) (h : List Entry) → IsLegal net h → TicketsAreKnown net h
 tickets_known net h legal = legal_induction net (TicketsAreKnown net) tt (λ g number c ok known. known_step net g number c known) h legal

@@ -17,8 +17,8 @@ use Rattle.ns_calls.specs.declared.call.Call.TheVariants as call
 use Rattle.ns_calls.specs.declared.call.Reply.{Reply}
 use Rattle.ns_calls.specs.declared.call.Reply.TheVariants as reply
 use Rattle.ns_calls.specs.declared.call.Entry.{Entry}
-use Rattle.ns_calls.specs.History.{Opening, opening_in, asking_in, window_copy_in, ticket_copy_in, same_device, same_ticket, is_ticket, closes, ends_ticket, asks_for, open_windows, open_tickets, window_count, window_copies, is_ticket_open, ticket_count, copies_of_ticket, ticket_copies}
-use Rattle.ns_calls.specs.Reply.{most_copies, most_windows, most_tickets, window_with, Fit, window_of, first_fit, copy_reply, open_reply, spent_by, join_copy_reply, reply_to}
+use Rattle.ns_calls.specs.History.{Opening, window_in, asking_in, window_copy_in, ticket_copy_in, same_device, same_ticket, is_ticket, closes, ends_ticket, asks_for, open_windows, open_tickets, window_count, window_copies, is_ticket_open, ticket_count, copies_of_ticket, ticket_copies}
+use Rattle.ns_calls.specs.Reply.{most_copies, most_windows, most_tickets, window_with, Fit, window_of, first_fit, copy_reply, open_reply, old_reply, nonce_at_or_above, join_copy_reply, reply_to}
 use Rattle.ns_calls.specs.Legal.{IsLegal, entry_for, with_call}
 use Rattle.ns_calls.specs.Headline.{LimitsHold}
 use Rattle.ns_calls.proofs.LocalLemmas.{bool_tells}
@@ -28,12 +28,14 @@ use Rattle.ns_calls.proofs.Induction.{legal_induction}
 use Rattle.ns_calls.proofs.JoinLemmas.{same_device-eq}
 use Rattle.ns_calls.proofs.TicketLemmas.{same_ticket-eq}
 use Rattle.ns_calls.proofs.PartLemmas.{case-has}
-use Rattle.ns_calls.proofs.WindowLemmas.{same_window-eq}
-use Rattle.ns_calls.proofs.FreshLemmas.{opened-new}
+use Rattle.ns_calls.proofs.NameLemmas.{same_window-eq}
+use Rattle.ns_calls.proofs.UplinkLemmas.{old-has}
+use Rattle.ns_calls.proofs.FreshLemmas.{opened-new, again-next}
 
 -- what holds of a reply to an uplink: where it opens a window there is room, and where it adds a copy there is room for that
 abbrev HasRoom : Network → List Entry → Reply → Type 0
 HasRoom net h (reply.Opened w) = window_count h w.eui < most_windows
+HasRoom net h (reply.Again w) = window_count h w.eui < most_windows
 HasRoom net h (reply.Copied w place) = length (window_copies h w) < most_copies
 HasRoom net h (reply.Ask t) = ticket_count h (dev_eui t) < most_tickets
 HasRoom net h _ = Unit {0}
@@ -62,12 +64,12 @@ uplink-room net h frame heard =
     let cases : List (Option Reply) =
     option_map (λ (o : Opening). copy_reply h o.window) (window_with h frame)
     ∷ option_map (λ (f : Fit). open_reply h (window_of f)) (first_fit above net h frame)
-    ∷ option_map (λ (f : Fit). reply.Old f.eui f.session f.counter) (first_fit below net h frame) ∷ [] in
+    ∷ option_map (old_reply h frame) (first_fit below net h frame) ∷ [] in
     case-has P cases reply.NoSession (
       map-all P (λ (o : Opening). copy_reply h o.window) (window_with h frame) (λ o. copy-room net h o.window),
       (
         map-all P (λ (f : Fit). open_reply h (window_of f)) (first_fit above net h frame) (λ f. open-room net h (window_of f)),
-        (map-all P (λ (f : Fit). reply.Old f.eui f.session f.counter) (first_fit below net h frame) (λ f. tt), tt),
+        (map-all P (old_reply h frame) (first_fit below net h frame) (λ f. old-has P h frame f tt tt (λ round is room. grind (arith, nat_tests, room))), tt),
       ),
     ) tt
 
@@ -97,11 +99,12 @@ one_more_fits {X} test before most (Some x) within room kept fewer =
       | inr other ↦ (let is : count_by test (x ∷ []) ≡ 0 + 0 = one ∙ ap (λ b. cond {A = ℕ} b 1 0 + 0) other in omega (arith, within, fewer, is))
     ]
 
-opening-room : (net : Network) (h : List Entry) (c : Call) (r : Reply) → HasRoom net h r → IfSome (opening_in c r) (λ o. window_count h o.window.eui < most_windows)
+opening-room : (net : Network) (h : List Entry) (c : Call) (r : Reply) → HasRoom net h r → IfSome (window_in c r) (λ o. window_count h o.window.eui < most_windows)
 opening-room net h (call.Uplink frame heard) (reply.Opened w) room = room
+opening-room net h (call.Uplink frame heard) (reply.Again w) room = room
 opening-room net h _ _ room = tt
 
-reply-room : (net : Network) (h : List Entry) (c : Call) → IfSome (opening_in c (reply_to net h c)) (λ o. window_count h o.window.eui < most_windows)
+reply-room : (net : Network) (h : List Entry) (c : Call) → IfSome (window_in c (reply_to net h c)) (λ o. window_count h o.window.eui < most_windows)
 reply-room net h (call.Uplink frame heard) = opening-room net h (call.Uplink frame heard) (reply_to net h (call.Uplink frame heard)) (uplink-room net h frame heard)
 reply-room net h (call.Join t heard) = tt
 reply-room net h (call.JoinReply t o) = tt
@@ -112,18 +115,18 @@ windows_step net h number c eui within =
     let e : Entry = entry_for net h number c in
     let test : Opening → Bool = λ o. same_device o.window.eui eui in
     let keep : Opening → Bool = λ o. not (closes o.window e) in
-    let room : IfSome (opening_in c (reply_to net h c)) (λ o. test o ≡ true → window_count h eui < most_windows) =
-    IfSome-weaker (λ (o : Opening). window_count h o.window.eui < most_windows) (λ (o : Opening). test o ≡ true → window_count h eui < most_windows) (opening_in c (reply_to net h c))
+    let room : IfSome (window_in c (reply_to net h c)) (λ o. test o ≡ true → window_count h eui < most_windows) =
+    IfSome-weaker (λ (o : Opening). window_count h o.window.eui < most_windows) (λ (o : Opening). test o ≡ true → window_count h eui < most_windows) (window_in c (reply_to net h c))
     (λ o fits same. subst (λ (d : DevEui). window_count h d < most_windows) (same_device-eq o.window.eui eui same) fits) (reply-room net h c) in
-    let sum : window_count (h ++ e ∷ []) eui ≡ count_by test (filter keep (open_windows h)) + count_by test (option_to_list (opening_in c (reply_to net h c))) =
-    ap (count_by test) (open_windows-push h e) ∙ count-append test (filter keep (open_windows h)) (option_to_list (opening_in c (reply_to net h c))) in
-    let most = one_more_fits test (window_count h eui) most_windows (opening_in c (reply_to net h c)) within room (count_by test (filter keep (open_windows h))) (count-filter test keep (open_windows h)) in
+    let sum : window_count (h ++ e ∷ []) eui ≡ count_by test (filter keep (open_windows h)) + count_by test (option_to_list (window_in c (reply_to net h c))) =
+    ap (count_by test) (open_windows-push h e) ∙ count-append test (filter keep (open_windows h)) (option_to_list (window_in c (reply_to net h c))) in
+    let most = one_more_fits test (window_count h eui) most_windows (window_in c (reply_to net h c)) within room (count_by test (filter keep (open_windows h))) (count-filter test keep (open_windows h)) in
     subst (λ n. n ≤ most_windows) (sym sum) most
 
 -- ---- tickets
 
 join-room : (net : Network) (h : List Entry) (t : Ticket) (heard : Heard) → IfSome (asking_in (call.Join t heard) (reply_to net h (call.Join t heard))) (λ u. ticket_count h (dev_eui u) < most_tickets)
-join-room net h t heard = step (is_known net (dev_eui t) (join_eui t)) (spent_by net h t) (is_ticket_open h t) (nat_le most_tickets (ticket_count h (dev_eui t))) refl
+join-room net h t heard = step (is_known net (dev_eui t) (join_eui t)) (nonce_at_or_above net h t) (is_ticket_open h t) (nat_le most_tickets (ticket_count h (dev_eui t))) refl
   where
     copies : Bool → Reply
     copies b = cond b (reply.JoinCopied (length (ticket_copies h t) + 1)) reply.JoinCrowded
@@ -132,14 +135,14 @@ join-room net h t heard = step (is_known net (dev_eui t) (join_eui t)) (spent_by
     never true = tt
     never false = tt
 
-    step : (known : Bool) (spent : Option ℕ) (is_open busy : Bool) → nat_le most_tickets (ticket_count h (dev_eui t)) ≡ busy →
+    step : (known : Bool) (stale : Option ℕ) (is_open busy : Bool) → nat_le most_tickets (ticket_count h (dev_eui t)) ≡ busy →
         IfSome (asking_in (call.Join t heard) (first_case (
         when (not known) reply.NoDevice
-        ∷ option_map (λ g. reply.NonceOld (record { 0 = g })) spent
+        ∷ option_map (λ g. reply.NonceOld (record { 0 = g })) stale
         ∷ when is_open (join_copy_reply h t)
         ∷ when busy reply.JoinBusy
         ∷ []) (reply.Ask t))) (λ u. ticket_count h (dev_eui u) < most_tickets)
-    step false spent is_open busy is = tt
+    step false stale is_open busy is = tt
     step true (Some g) is_open busy is = tt
     step true None true busy is = never (nat_le (length (ticket_copies h t) + 1) most_copies)
     step true None false true is = tt
@@ -181,6 +184,10 @@ copy-fits net h legal frame heard (reply.Opened w) is room =
     let none : window_copies h w ≡ [] = (opened-new net h legal frame heard w is).copies in
     let zero_is : length (window_copies h w) ≡ 0 = ap length none in
     omega (arith, zero_is)
+copy-fits net h legal frame heard (reply.Again w) is room =
+    let none : window_copies h w ≡ [] = (again-next net h legal frame heard w is).copies in
+    let zero_is : length (window_copies h w) ≡ 0 = ap length none in
+    omega (arith, zero_is)
 copy-fits net h legal frame heard (reply.Copied w place) is room = room
 copy-fits net h legal frame heard _ is room = tt
 
@@ -206,7 +213,7 @@ copies_step net h number c legal w within =
 -- where a Join-Request adds a copy to a ticket that it doesn't ask for, there is room for it
 join_copy-room : (net : Network) (h : List Entry) (u : Ticket) (heard : Heard) (t : Ticket) → is_ticket t (asking_in (call.Join u heard) (reply_to net h (call.Join u heard))) ≡ false
     → IfSome (ticket_copy_in (call.Join u heard) (reply_to net h (call.Join u heard))) (λ x. same_ticket t x.0 ≡ true → length (ticket_copies h t) < most_copies)
-join_copy-room net h u heard t = step (is_known net (dev_eui u) (join_eui u)) (spent_by net h u) (is_ticket_open h u) (nat_le most_tickets (ticket_count h (dev_eui u)))
+join_copy-room net h u heard t = step (is_known net (dev_eui u) (join_eui u)) (nonce_at_or_above net h u) (is_ticket_open h u) (nat_le most_tickets (ticket_count h (dev_eui u)))
   where
     copied : (b : Bool) → nat_le (length (ticket_copies h u) + 1) most_copies ≡ b →
         IfSome (ticket_copy_in (call.Join u heard) (cond b (reply.JoinCopied (length (ticket_copies h u) + 1)) reply.JoinCrowded)) (λ x. same_ticket t x.0 ≡ true → length (ticket_copies h t) < most_copies)
@@ -216,15 +223,15 @@ join_copy-room net h u heard t = step (is_known net (dev_eui u) (join_eui u)) (s
         subst (λ (v : Ticket). length (ticket_copies h v) < most_copies) (sym (same_ticket-eq t u same)) less
     copied false is = tt
 
-    step : (known : Bool) (spent : Option ℕ) (is_open busy : Bool) →
+    step : (known : Bool) (stale : Option ℕ) (is_open busy : Bool) →
         let r : Reply = first_case (
         when (not known) reply.NoDevice
-        ∷ option_map (λ g. reply.NonceOld (record { 0 = g })) spent
+        ∷ option_map (λ g. reply.NonceOld (record { 0 = g })) stale
         ∷ when is_open (join_copy_reply h u)
         ∷ when busy reply.JoinBusy
         ∷ []) (reply.Ask u) in
         is_ticket t (asking_in (call.Join u heard) r) ≡ false → IfSome (ticket_copy_in (call.Join u heard) r) (λ x. same_ticket t x.0 ≡ true → length (ticket_copies h t) < most_copies)
-    step false spent is_open busy other = tt
+    step false stale is_open busy other = tt
     step true (Some g) is_open busy other = tt
     step true None true busy other = copied (nat_le (length (ticket_copies h u) + 1) most_copies) refl
     step true None false true other = tt

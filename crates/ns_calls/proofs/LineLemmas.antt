@@ -14,9 +14,9 @@ use Rattle.ns_calls.specs.declared.answer.Uplink.{Uplink}
 use Rattle.ns_calls.specs.declared.answer.Downlink.{Downlink}
 use Rattle.ns_calls.specs.declared.answer.Answer.{Answer}
 use Rattle.ns_calls.specs.declared.call.Reply.{Reply}
-use Rattle.ns_calls.specs.declared.call.Reply.TheVariants.{Opened, Copied, Crowded, Old, NoSession, Busy, Ask, JoinCopied, JoinCrowded, NonceOld, NoDevice, JoinBusy, Accepted, JoinRefused, JoinStale, NoTicket, Closed, NoWindow}
+use Rattle.ns_calls.specs.declared.call.Reply.TheVariants.{Opened, Copied, Crowded, Old, NoSession, Busy, Ask, JoinCopied, JoinCrowded, NonceOld, NoDevice, JoinBusy, Accepted, JoinRefused, JoinStale, NoTicket, Closed, NoWindow, Again}
 use Rattle.ns_calls.proofs.Lists.{All-append}
-use Rattle.ns_calls.specs.Text.{wide, address_text, number_text, id_text, window_text, optional_text, reply_text, bytes_text, gateways_text, kind_text, up_text, down_text, text, has_line_feed}
+use Rattle.ns_calls.specs.Text.{wide, address_text, number_text, id_text, round_text, window_text, optional_text, reply_text, bytes_text, gateways_text, kind_text, up_text, down_text, text, has_line_feed}
 
 -- two texts one after the other
 joined : (xs ys : List ℕ) → has_line_feed xs ≡ false → has_line_feed ys ≡ false → has_line_feed (xs ++ ys) ≡ false
@@ -78,9 +78,18 @@ address-line n = hex-line (to_be_bytes w32 n)
 id-line : (n : ℕ) → has_line_feed (id_text n) ≡ false
 id-line n = joined (codes " ") (wide n) refl (wide-line n)
 
+round-line : (round : ℕ) → has_line_feed (round_text round) ≡ false
+round-line round = step (nat_lt 1 round)
+  where
+    step : (b : Bool) → has_line_feed (cond b (codes ":" ++ decimal round) []) ≡ false
+    step true = joined (codes ":") (decimal round) refl (decimal-line round)
+    step false = refl
+
 window-line : (w : WindowName) → has_line_feed (window_text w) ≡ false
 unfolding window_text
-window-line w = joined (id_text w.eui.0 ++ number_text w.session) (number_text w.fcnt) (joined (id_text w.eui.0) (number_text w.session) (id-line w.eui.0) (number-line w.session)) (number-line w.fcnt)
+window-line w =
+    joined (id_text w.eui.0 ++ number_text w.session ++ number_text w.fcnt) (round_text w.round)
+    (joined (id_text w.eui.0 ++ number_text w.session) (number_text w.fcnt) (joined (id_text w.eui.0) (number_text w.session) (id-line w.eui.0) (number-line w.session)) (number-line w.fcnt)) (round-line w.round)
 
 optional-line : (o : Option ℕ) → has_line_feed (optional_text o) ≡ false
 optional-line None = refl
@@ -120,6 +129,7 @@ reply-line (JoinStale greatest) = joined (codes "joinstale") (number_text greate
 reply-line NoTicket = refl
 reply-line (Closed w ack) = joined (codes "closed" ++ window_text w) (optional_text ack) (named-line (codes "closed") refl w) (optional-line ack)
 reply-line NoWindow = refl
+reply-line (Again w) = named-line (codes "again") refl w
 
 more_gateways-line : (hs : List Heard) → has_line_feed (flat_map (λ (c : Heard). codes "," ++ wide c.gateway.0) hs) ≡ false
 more_gateways-line [] = refl

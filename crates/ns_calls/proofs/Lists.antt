@@ -2,13 +2,14 @@
 use Rattle.std.proofs.Common.{◌≡◌, ◌⊎◌, ℕ, ◌+◌, ◌<◌, ◌≤◌, Bool, true, false, cond, List, [], ◌∷◌, ◌++◌, filter, filter_map, map, find, count_by, zero-add, Option, None, Some, option_to_list, IfSome, refl, sym, ap, subst, ◌∙◌, arith, inl, inr}
 use Rattle.std.specs.List.{AllByRecursion, cons_option}
 use Rattle.std.specs.Option.{option_or, is_some}
+use Rattle.std.proofs.lemmas.List.{append-nil}
 use Rattle.std.proofs.lemmas.List.Elements.{filter-append, filter_map-append}
 use Rattle.std.proofs.lemmas.List.Sums.{sum_by-append, sum_by-cons}
 use Rattle.std.proofs.lemmas.Bool.{false≢true}
 use Rattle.ns_secure.specs.Counter.{Exceeds}
 use Rattle.ns_calls.specs.Queries.{first, last, greater, maximum}
 use Rattle.ns_calls.specs.Headline.{Rises}
-use Rattle.ns_calls.proofs.LocalLemmas.{bool_tells}
+use Rattle.ns_calls.proofs.LocalLemmas.{bool_tells, All-each}
 
 pub All-append : {X : Type 0} (P : X → Type 0) (xs ys : List X) → AllByRecursion P xs → AllByRecursion P ys → AllByRecursion P (xs ++ ys)
 All-append P [] ys all more = more
@@ -29,14 +30,26 @@ All-filter {X} P test (x ∷ xs) all = step (All-filter P test xs all.1) (test x
     step later true = (all.0, later)
     step later false = later
 
--- what a function may give, where each thing that it gives has the property
-pub first-gives : {X Y : Type 0} (P : Y → Type 0) (f : X → Option Y) → ((x : X) → IfSome (f x) P) → (xs : List X) → IfSome (first (filter_map f xs)) P
-first-gives P f gives [] = tt
-first-gives {X} {Y} P f gives (x ∷ xs) = step (f x) (gives x) (first-gives P f gives xs)
+-- what stays of a list, and what is added to it, have the property where the list and what is added have it
+pub All-after : {X : Type 0} (P : X → Type 0) (keep : X → Bool) (xs : List X) (o : Option X) → AllByRecursion P xs → IfSome o P → AllByRecursion P (filter keep xs ++ option_to_list o)
+All-after {X} P keep xs o all new = All-append P (filter keep xs) (option_to_list o) (All-filter P keep xs all) (added o new)
+  where
+    added : (p : Option X) → IfSome p P → AllByRecursion P (option_to_list p)
+    added None is = tt
+    added (Some x) is = (is, tt)
+
+-- the first thing that is given has the property, where each thing given of these elements has it
+pub first-gives_of : {X Y : Type 0} (P : Y → Type 0) (f : X → Option Y) (xs : List X) → AllByRecursion (λ x. IfSome (f x) P) xs → IfSome (first (filter_map f xs)) P
+first-gives_of P f [] gives = tt
+first-gives_of {X} {Y} P f (x ∷ xs) gives = step (f x) gives.0 (first-gives_of P f xs gives.1)
   where
     step : (o : Option Y) → IfSome o P → IfSome (first (filter_map f xs)) P → IfSome (first (cons_option o (filter_map f xs))) P
     step None here later = later
     step (Some y) here later = here
+
+-- the same, where each thing that is given at all has it
+pub first-gives : {X Y : Type 0} (P : Y → Type 0) (f : X → Option Y) → ((x : X) → IfSome (f x) P) → (xs : List X) → IfSome (first (filter_map f xs)) P
+first-gives {X} P f gives xs = first-gives_of P f xs (All-each (λ (x : X). IfSome (f x) P) gives xs)
 
 pub last-has : {X : Type 0} (P : X → Type 0) (xs : List X) → AllByRecursion P xs → IfSome (last xs) P
 last-has P [] all = tt
@@ -85,7 +98,7 @@ said-push {X} {Y} says asked xs x =
     ∙ filter-append asked (filter_map says xs) (option_to_list (says x))
 
 -- what is said is nothing, or one thing that is asked for
-pub said-cases : {X Y : Type 0} (says : X → Option Y) (asked : Y → Bool) (x : X) →
+said-cases : {X Y : Type 0} (says : X → Option Y) (asked : Y → Bool) (x : X) →
     (said says asked x ≡ []) ⊎ ((y : Y) × (says x ≡ Some y) × (asked y ≡ true) × (said says asked x ≡ y ∷ []))
 said-cases {X} {Y} says asked x = step (says x) refl
   where
@@ -97,6 +110,24 @@ said-cases {X} {Y} says asked x = step (says x) refl
           | inl yes_asked ↦ inr (y, is, yes_asked, here ∙ ap (λ b. cond {A = List Y} b (y ∷ []) []) yes_asked)
           | inr not_asked ↦ inl (here ∙ ap (λ b. cond {A = List Y} b (y ∷ []) []) not_asked)
         ]
+
+-- an element adds one thing that is asked for
+pub record AddsOne {X Y : Type 0} (tells : X → Option Y) (asks : Y → Bool) (xs : List X) (x : X) : Type 0 where
+  pub thing : Y
+  pub says : tells x ≡ Some thing
+  pub asked : asks thing ≡ true
+  pub joined : filter asks (filter_map tells (xs ++ x ∷ [])) ≡ filter asks (filter_map tells xs) ++ thing ∷ []
+
+-- one more element adds nothing, or one thing that is asked for
+pub said-adds : {X Y : Type 0} (tells : X → Option Y) (asks : Y → Bool) (xs : List X) (x : X) →
+    (filter asks (filter_map tells (xs ++ x ∷ [])) ≡ filter asks (filter_map tells xs)) ⊎ AddsOne tells asks xs x
+said-adds {X} {Y} tells asks xs x =
+    let before : List Y = filter asks (filter_map tells xs) in
+    let pushed = said-push tells asks xs x in
+    elim (said-cases tells asks x) [
+      | inl nothing ↦ inl (pushed ∙ (ap (λ ys. before ++ ys) nothing ∙ append-nil before))
+      | inr one ↦ inr (record { thing = one.0; says = one.1; asked = one.2; joined = pushed ∙ ap (λ ys. before ++ ys) one.3 })
+    ]
 
 pub All-map : {X Y : Type 0} (P : Y → Type 0) (f : X → Y) (xs : List X) → AllByRecursion P (map f xs) → AllByRecursion (λ x. P (f x)) xs
 All-map P f [] all = tt
@@ -185,15 +216,6 @@ All-passed {X} P test (x ∷ xs) all = step (All-passed P test xs all.1) (test x
 pub filter_map-same : {X Y : Type 0} (f g : X → Option Y) (xs : List X) → AllByRecursion (λ x. f x ≡ g x) xs → filter_map f xs ≡ filter_map g xs
 filter_map-same f g [] same = refl
 filter_map-same {X} {Y} f g (x ∷ xs) same = ap (λ o. cons_option o (filter_map f xs)) same.0 ∙ ap (cons_option (g x)) (filter_map-same f g xs same.1)
-
--- the first thing that is given has the property, where each thing given of these elements has it
-pub first-gives_of : {X Y : Type 0} (P : Y → Type 0) (f : X → Option Y) (xs : List X) → AllByRecursion (λ x. IfSome (f x) P) xs → IfSome (first (filter_map f xs)) P
-first-gives_of P f [] gives = tt
-first-gives_of {X} {Y} P f (x ∷ xs) gives = step (f x) gives.0 (first-gives_of P f xs gives.1)
-  where
-    step : (o : Option Y) → IfSome o P → IfSome (first (filter_map f xs)) P → IfSome (first (cons_option o (filter_map f xs))) P
-    step None here later = later
-    step (Some y) here later = here
 
 -- what is found is one's own, so it is found among one's own
 pub find-own : {X : Type 0} (own test : X → Bool) (xs : List X) → AllByRecursion (λ x. test x ≡ true → own x ≡ true) xs → find test (filter own xs) ≡ find test xs

@@ -6,7 +6,7 @@ use Rattle.std.proofs.lemmas.Option.{same_Some}
 use Rattle.ns_types.specs.declared.ticket.Ticket.{Ticket}
 use Rattle.ns_calls.specs.declared.call.Entry.{Entry}
 use Rattle.ns_calls.specs.Queries.{is_ended, still_open}
-use Rattle.ns_calls.specs.History.{Opening, opening_in, asking_in, closes, ends_ticket, open_windows, open_tickets}
+use Rattle.ns_calls.specs.History.{Opening, window_in, asking_in, closes, ends_ticket, open_windows, open_tickets}
 use Rattle.ns_calls.specs.Open.{IsOpenWindow, IsOpenTicket}
 
 -- an element opens x, and none after it ends it
@@ -79,12 +79,12 @@ stands-from {E} {X} opens ends (b ∷ before) e after x is stays =
 
 pub open_window-is : (h : List Entry) (o : Opening) → Contains (open_windows h) o → IsOpenWindow h o
 open_window-is h o has =
-    let s = opened-stands (λ (e : Entry). opening_in e.call e.reply) (λ (p : Opening) e. closes p.window e) h o has in
+    let s = opened-stands (λ (e : Entry). window_in e.call e.reply) (λ (p : Opening) e. closes p.window e) h o has in
     record { before = s.before; entry = s.entry; after = s.after; is = s.is; opens = s.opened; not_closed = s.stays }
 
 pub is-open_window : (h : List Entry) (o : Opening) → IsOpenWindow h o → Contains (open_windows h) o
 is-open_window h o s =
-    subst (λ es. Contains (open_windows es) o) (sym s.is) (stands-from (λ (e : Entry). opening_in e.call e.reply) (λ (p : Opening) e. closes p.window e) s.before s.entry s.after o s.opens s.not_closed)
+    subst (λ es. Contains (open_windows es) o) (sym s.is) (stands-from (λ (e : Entry). window_in e.call e.reply) (λ (p : Opening) e. closes p.window e) s.before s.entry s.after o s.opens s.not_closed)
 
 pub open_ticket-is : (h : List Entry) (t : Ticket) → Contains (open_tickets h) t → IsOpenTicket h t
 open_ticket-is h t has =

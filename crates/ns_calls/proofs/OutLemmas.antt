@@ -9,7 +9,7 @@ use Rattle.ns_types.specs.declared.identity.WindowName.{WindowName}
 use Rattle.ns_types.specs.declared.heard.Heard.{Heard}
 use Rattle.ns_types.specs.declared.ticket.Ticket.{Ticket}
 use Rattle.ns_types.specs.Cases.{first_case, when}
-use Rattle.ns_types.specs.Identity.{same_window}
+use Rattle.ns_types.specs.Identity.{same_window, is_first}
 use Rattle.ns_types.specs.Ticket.{dev_eui, join_eui}
 use Rattle.ns_types.specs.Heard.{best, rx1}
 use Rattle.ns_views.specs.Frame.{data_fields}
@@ -25,25 +25,26 @@ use Rattle.ns_calls.specs.declared.call.Reply.TheVariants as reply
 use Rattle.ns_calls.specs.declared.call.Entry.{Entry}
 use Rattle.ns_calls.specs.Accept.{accept_bytes}
 use Rattle.ns_calls.specs.Queries.{from_last}
-use Rattle.ns_calls.specs.History.{Opening, opening_in, asking_in, window_copy_in, ticket_copy_in, closes, is_ticket, asks_for, ends_ticket, same_ticket, open_windows, open_window, window_copies, is_ticket_open, ticket_count, ticket_copies, copies_of_ticket, session_join, next_session, window_count}
-use Rattle.ns_calls.specs.Reply.{reply_to, window_with, Fit, window_of, first_fit, copy_reply, open_reply, most_copies, most_windows, most_tickets, spent_by, join_copy_reply, is_failed, address, ack_number}
-use Rattle.ns_calls.specs.Out.{uplink_of, uplink_out, downlink_out, downlink_to, ack_frame, ack_downlink, join_accept_delay}
+use Rattle.ns_calls.specs.History.{Opening, window_in, asking_in, window_copy_in, ticket_copy_in, closes, is_ticket, asks_for, ends_ticket, same_ticket, open_windows, open_window, window_copies, is_ticket_open, ticket_count, ticket_copies, copies_of_ticket, session_join, next_session, window_count}
+use Rattle.ns_calls.specs.Reply.{reply_to, window_with, Fit, window_of, first_fit, copy_reply, open_reply, old_reply, most_copies, most_windows, most_tickets, nonce_at_or_above, join_copy_reply, is_failed, address, ack_number}
+use Rattle.ns_calls.specs.Out.{uplink_of, first_uplink_of, uplink_out, downlink_out, downlink_to, ack_frame, ack_downlink, join_accept_delay}
 use Rattle.ns_calls.specs.Legal.{IsLegal, entry_for, with_call}
 use Rattle.ns_calls.specs.Headline.{WindowsHaveCopies, hands_out_uplink, hands_out_downlink, GoesOut}
 use Rattle.ns_calls.proofs.LocalLemmas.{bool_tells}
-use Rattle.ns_calls.proofs.Lists.{All-append, All-filter, All-weaker, find-has, IfSome-weaker}
+use Rattle.ns_calls.proofs.Lists.{All-after, All-weaker, IfSome-weaker, find-has}
 use Rattle.ns_calls.proofs.PushLemmas.{open_windows-push, window_copies-push}
 use Rattle.ns_calls.proofs.TicketLemmas.{is_ticket_open-cons}
 use Rattle.ns_calls.proofs.Induction.{legal_induction}
 use Rattle.ns_calls.proofs.JoinLemmas.{join_reply_by}
-use Rattle.ns_calls.proofs.UplinkLemmas.{uplink_reply_by}
-use Rattle.ns_calls.proofs.WindowLemmas.{same_window-refl}
+use Rattle.ns_calls.proofs.UplinkLemmas.{uplink_reply_by, old-has}
+use Rattle.ns_calls.proofs.NameLemmas.{same_window-refl, same_window-eq}
 use Rattle.ns_calls.proofs.KeyLemmas.{sessions_have_joins}
 
 -- ---- an open window has a copy
 
-opening-copy : (c : Call) (r : Reply) → IfSome (opening_in c r) (λ o. window_copy_in c r ≡ Some (o.window, o.heard))
+opening-copy : (c : Call) (r : Reply) → IfSome (window_in c r) (λ o. window_copy_in c r ≡ Some (o.window, o.heard))
 opening-copy (call.Uplink frame heard) (reply.Opened w) = refl
+opening-copy (call.Uplink frame heard) (reply.Again w) = refl
 opening-copy _ _ = tt
 
 copies-stay : (h : List Entry) (e : Entry) (w : WindowName) → 0 < length (window_copies h w) → 0 < length (window_copies (h ++ e ∷ []) w)
@@ -65,22 +66,15 @@ copies-new h e o copied =
 copies_step : (net : Network) (h : List Entry) (number : ℕ) (c : Call) → WindowsHaveCopies h → WindowsHaveCopies (with_call net h number c)
 copies_step net h number c copied =
     subst (AllByRecursion Copied) (sym (open_windows-push h e))
-    (All-append Copied (filter stay (open_windows h)) (option_to_list (opening_in e.call e.reply))
-    (All-filter Copied stay (open_windows h) (All-weaker (λ (o : Opening). 0 < length (window_copies h o.window)) Copied (λ o some. copies-stay h e o.window some) (open_windows h) copied))
-    (new (opening_in e.call e.reply) (opening-copy e.call e.reply)))
+    (All-after Copied (λ o. not (closes o.window e)) (open_windows h) (window_in e.call e.reply)
+    (All-weaker (λ (o : Opening). 0 < length (window_copies h o.window)) Copied (λ o some. copies-stay h e o.window some) (open_windows h) copied)
+    (IfSome-weaker (λ (o : Opening). window_copy_in e.call e.reply ≡ Some (o.window, o.heard)) Copied (window_in e.call e.reply) (λ o is. copies-new h e o is) (opening-copy e.call e.reply)))
   where
     e : Entry
     e = entry_for net h number c
 
     Copied : Opening → Type 0
     Copied o = 0 < length (window_copies (h ++ e ∷ []) o.window)
-
-    stay : Opening → Bool
-    stay o = not (closes o.window e)
-
-    new : (o : Option Opening) → IfSome o (λ x. window_copy_in e.call e.reply ≡ Some (x.window, x.heard)) → AllByRecursion Copied (option_to_list o)
-    new None is = tt
-    new (Some o) is = (copies-new h e o is, tt)
 
 pub windows_have_copies : (net : Network) (h : List Entry) → IsLegal net h → WindowsHaveCopies h
 windows_have_copies net h legal = legal_induction net WindowsHaveCopies tt (λ g number c ok copied. copies_step net g number c copied) h legal
@@ -173,15 +167,15 @@ quiet_when : (b : Bool) (r : Reply) → IsQuiet r → IfSome (when b r) IsQuiet
 quiet_when true r quiet = quiet
 quiet_when false r quiet = tt
 
-uplink-quiet : (h : List Entry) (copied : Option Opening) (fresh stale : Option Fit) → IsQuiet (uplink_reply_by h copied fresh stale)
+uplink-quiet : (h : List Entry) (frame : List ℕ) (copied : Option Opening) (fresh stale : Option Fit) → IsQuiet (uplink_reply_by h frame copied fresh stale)
 unfolding IsQuiet
-uplink-quiet h copied fresh stale =
-    let cases : List (Option Reply) = option_map (λ (o : Opening). copy_reply h o.window) copied ∷ option_map (λ (f : Fit). open_reply h (window_of f)) fresh ∷ option_map (λ (f : Fit). reply.Old f.eui f.session f.counter) stale ∷ [] in
+uplink-quiet h frame copied fresh stale =
+    let cases : List (Option Reply) = option_map (λ (o : Opening). copy_reply h o.window) copied ∷ option_map (λ (f : Fit). open_reply h (window_of f)) fresh ∷ option_map (old_reply h frame) stale ∷ [] in
     quiet_first cases reply.NoSession (
       quiet_map (λ (o : Opening). copy_reply h o.window) copied (λ o. quiet_cond (nat_le (length (window_copies h o.window) + 1) most_copies) (reply.Copied o.window (length (window_copies h o.window) + 1)) (reply.Crowded o.window) (refl, refl) (refl, refl)),
       (
         quiet_map (λ (f : Fit). open_reply h (window_of f)) fresh (λ f. quiet_cond (nat_le most_windows (window_count h f.eui)) (reply.Busy f.eui) (reply.Opened (window_of f)) (refl, refl) (refl, refl)),
-        (quiet_map (λ (f : Fit). reply.Old f.eui f.session f.counter) stale (λ f. (refl, refl)), tt),
+        (quiet_map (old_reply h frame) stale (λ f. old-has IsQuiet h frame f (refl, refl) (refl, refl) (λ round is room. (refl, refl))), tt),
       ),
     ) (refl, refl)
 
@@ -190,14 +184,14 @@ unfolding IsQuiet
 join-quiet net h t heard =
     let cases : List (Option Reply) =
     when (not (is_known net (dev_eui t) (join_eui t))) reply.NoDevice
-    ∷ option_map (λ g. reply.NonceOld (record { 0 = g })) (spent_by net h t)
+    ∷ option_map (λ g. reply.NonceOld (record { 0 = g })) (nonce_at_or_above net h t)
     ∷ when (is_ticket_open h t) (join_copy_reply h t)
     ∷ when (nat_le most_tickets (ticket_count h (dev_eui t))) reply.JoinBusy
     ∷ [] in
     quiet_first cases (reply.Ask t) (
       quiet_when (not (is_known net (dev_eui t) (join_eui t))) reply.NoDevice (refl, refl),
       (
-        quiet_map (λ g. reply.NonceOld (record { 0 = g })) (spent_by net h t) (λ g. (refl, refl)),
+        quiet_map (λ g. reply.NonceOld (record { 0 = g })) (nonce_at_or_above net h t) (λ g. (refl, refl)),
         (
           quiet_when (is_ticket_open h t) (join_copy_reply h t)
               (quiet_cond (nat_le (length (ticket_copies h t) + 1) most_copies) (reply.JoinCopied (length (ticket_copies h t) + 1)) reply.JoinCrowded (refl, refl) (refl, refl)),
@@ -231,16 +225,20 @@ ack-goes_out net h o n keyed heard = step (session_join h o.window.eui o.window.
     step (Some join) (Some copy) some heard = refl
 
 out_of_close : (net : Network) (h : List Entry) (w : WindowName) (found : Option Opening) → open_window h w ≡ found
-    → IfSome found (λ o. IsSome (session_join h o.window.eui o.window.session) × (0 < length (window_copies h o.window))) →
+    → IfSome found (λ o. (IsSome (session_join h o.window.eui o.window.session) × (0 < length (window_copies h o.window))) × (same_window o.window w ≡ true)) →
     let r : Reply = first_case (option_map (λ o. reply.Closed w (ack_number h o)) found ∷ []) reply.NoWindow in
     (is_some (uplink_out h (call.Close w) r) ≡ hands_out_uplink r) × (is_some (downlink_out net h (call.Close w) r) ≡ hands_out_downlink r)
 out_of_close net h w None is whole = (refl, refl)
 out_of_close net h w (Some o) is whole =
-    (ap (λ found. is_some (option_map (uplink_of h) found)) is, step (ack_number h o))
+    (ap (λ found. is_some (option_and_then (first_uplink_of h) found)) is ∙ (first (is_first o.window) ∙ ap is_first (same_window-eq o.window w whole.1)), step (ack_number h o))
   where
+    first : (b : Bool) → is_some (when b (uplink_of h o)) ≡ b
+    first true = refl
+    first false = refl
+
     step : (ack : Option ℕ) → is_some (downlink_out net h (call.Close w) (reply.Closed w ack)) ≡ is_some ack
     step None = refl
-    step (Some n) = ap (λ found. is_some (option_and_then (λ x. ack_downlink net h x n) found)) is ∙ ack-goes_out net h o n whole.0 (best-some (window_copies h o.window) whole.1)
+    step (Some n) = ap (λ found. is_some (option_and_then (λ x. ack_downlink net h x n) found)) is ∙ ack-goes_out net h o n whole.0.0 (best-some (window_copies h o.window) whole.0.1)
 
 All-both : {X : Type 0} (P Q : X → Type 0) (xs : List X) → AllByRecursion P xs → AllByRecursion Q xs → AllByRecursion (λ x. P x × Q x) xs
 All-both P Q [] all other = tt
@@ -249,19 +247,18 @@ All-both P Q (x ∷ xs) all other = ((all.0, other.0), All-both P Q xs all.1 oth
 pub goes_out : (net : Network) (h : List Entry) (c : Call) → IsLegal net h → GoesOut net h c
 unfolding IsQuiet
 goes_out net h (call.Uplink frame heard) legal =
-    let quiet = uplink-quiet h (window_with h frame) (first_fit above net h frame) (first_fit below net h frame) in
+    let quiet = uplink-quiet h frame (window_with h frame) (first_fit above net h frame) (first_fit below net h frame) in
     record { uplink = sym quiet.0; downlink = sym quiet.1 }
 goes_out net h (call.Join t heard) legal =
     let quiet = join-quiet net h t heard in
     record { uplink = sym quiet.0; downlink = sym quiet.1 }
 goes_out net h (call.JoinReply t o) legal =
-    let is = out_of_join_reply net h t o (is_ticket_open h t) (open-heard h t) (spent_by net h t) (dev_eui t) (next_session h (dev_eui t)) (address net (dev_eui t)) in
+    let is = out_of_join_reply net h t o (is_ticket_open h t) (open-heard h t) (nonce_at_or_above net h t) (dev_eui t) (next_session h (dev_eui t)) (address net (dev_eui t)) in
     record { uplink = is.0; downlink = is.1 }
 goes_out net h (call.Close w) legal =
     let Whole : Opening → Type 0 = λ o. IsSome (session_join h o.window.eui o.window.session) × (0 < length (window_copies h o.window)) in
     let each : AllByRecursion Whole (open_windows h) =
     All-both (λ (o : Opening). IsSome (session_join h o.window.eui o.window.session)) (λ (o : Opening). 0 < length (window_copies h o.window)) (open_windows h) (sessions_have_joins net h legal).of_windows (windows_have_copies net h legal) in
-    let found : IfSome (open_window h w) Whole =
-    IfSome-weaker (λ o. Whole o × (same_window o.window w ≡ true)) Whole (open_window h w) (λ o both. both.0) (find-has Whole (λ (o : Opening). same_window o.window w) (open_windows h) each) in
+    let found : IfSome (open_window h w) (λ o. Whole o × (same_window o.window w ≡ true)) = find-has Whole (λ (o : Opening). same_window o.window w) (open_windows h) each in
     let is = out_of_close net h w (open_window h w) refl found in
     record { uplink = is.0; downlink = is.1 }

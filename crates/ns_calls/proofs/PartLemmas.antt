@@ -1,24 +1,20 @@
 -- The reply to a call, and what goes out, rest on the entries of the call's shard alone.
-use Rattle.std.proofs.Common.{◌≡◌, ℕ, ◌+◌, ◌==◌, Bool, true, false, not, ◌&&◌, cond, eqb, List, [], ◌∷◌, filter, filter_map, find, length, nat_le, nat_lt, ◌^◌, bytes_eq, unwrap_or, Option, None, Some, IfSome, option_map, refl, ap, ◌∙◌}
+use Rattle.std.proofs.Common.{◌≡◌, ℕ, ◌+◌, ◌==◌, Bool, true, false, not, ◌&&◌, cond, eqb, List, [], ◌∷◌, filter, filter_map, map, find, length, nat_le, nat_lt, ◌^◌, bytes_eq, unwrap_or, Option, None, Some, IfSome, option_map, refl, ap, ◌∙◌}
 use Rattle.std.specs.List.{AllByRecursion, list_any}
-use Rattle.std.specs.Option.{option_and_then, option_map_or}
+use Rattle.std.specs.Option.{option_and_then}
 use Rattle.std.proofs.lemmas.Bool.{eq-eqb}
 use Rattle.std.proofs.lemmas.Slice.Eq.{bytes_eq-Decides}
-use Rattle.std.specs.Prelude.{is_none}
-use Rattle.ns_types.specs.declared.identity.Key.{Key}
 use Rattle.ns_types.specs.declared.identity.DevEui.{DevEui}
 use Rattle.ns_types.specs.declared.identity.WindowName.{WindowName}
 use Rattle.ns_types.specs.declared.heard.Heard.{Heard}
 use Rattle.ns_types.specs.declared.ticket.Ticket.{Ticket}
 use Rattle.ns_types.specs.Cases.{first_case, when}
-use Rattle.ns_types.specs.Identity.{shard_of, same_window}
+use Rattle.ns_types.specs.Identity.{shard_of, same_window, is_first}
 use Rattle.ns_types.specs.Ticket.{dev_eui, join_eui}
-use Rattle.ns_types.specs.Heard.{best, rx1}
+use Rattle.ns_types.specs.Heard.{best}
 use Rattle.ns_views.specs.Frame.{data_fields, is_confirmed}
-use Rattle.ns_secure.specs.declared.Dir.TheVariants.{Up}
-use Rattle.ns_secure.specs.Cipher.{cipher}
 use Rattle.ns_secure.specs.Counter.{above, below}
-use Rattle.ns_roster.specs.Network.{Network, is_known, ack_delay}
+use Rattle.ns_roster.specs.Network.{Network, is_known}
 use Rattle.ns_calls.specs.declared.call.JoinAns.{JoinAns}
 use Rattle.ns_calls.specs.declared.call.Outcome.{Outcome}
 use Rattle.ns_calls.specs.declared.call.Outcome.TheVariants as outcome
@@ -29,20 +25,19 @@ use Rattle.ns_calls.specs.declared.call.Reply.TheVariants as reply
 use Rattle.ns_calls.specs.declared.call.Entry.{Entry}
 use Rattle.ns_calls.specs.declared.answer.Uplink.{Uplink}
 use Rattle.ns_calls.specs.declared.answer.Downlink.{Downlink}
-use Rattle.ns_calls.specs.Accept.{accept_bytes}
 use Rattle.ns_calls.specs.Queries.{last, maximum}
-use Rattle.ns_calls.specs.History.{Acceptance, Opening, Closing, acceptances, openings, closings, first_and_other, session_join, next_session, open_windows, open_window, window_count, window_copies, ticket_copies, is_ticket_open, ticket_count}
-use Rattle.ns_calls.specs.Reply.{Fit, window_of, first_fit, window_with, copy_reply, open_reply, most_copies, most_windows, most_tickets, reply_to, reply_to_uplink, spent_by, join_copy_reply, is_failed, address, ack_number}
-use Rattle.ns_calls.specs.Out.{payload_key, uplink_under, uplink_of, uplink_out, downlink_out, ack_at, ack_downlink, accept_at, out}
+use Rattle.ns_calls.specs.History.{Acceptance, Opening, Closing, acceptances, openings, closings, first_and_other, session_join, next_session, greatest_counter, last_round, is_uplink_open, open_windows, open_window, window_count, window_copies, ticket_copies, is_ticket_open, ticket_count}
+use Rattle.ns_calls.specs.Reply.{Fit, window_of, first_fit, window_with, copy_reply, open_reply, is_greatest, in_round, old_reply, most_copies, most_windows, most_tickets, reply_to, reply_to_uplink, nonce_at_or_above, join_copy_reply, is_failed, address, ack_number}
+use Rattle.ns_calls.specs.Out.{payload_key, uplink_under, uplink_of, first_uplink_of, uplink_out, downlink_out, ack_at, ack_downlink, accept_at, out}
 use Rattle.ns_calls.specs.Legal.{IsLegal, entry_for}
 use Rattle.ns_calls.specs.Shards.{shard_of_call, of_shard, NamesOwnDevice}
 use Rattle.ns_calls.proofs.Lists.{All-push, find-has, IfSome-weaker}
 use Rattle.ns_calls.proofs.Induction.{legal_induction}
 use Rattle.ns_calls.proofs.LocalJoin.{acceptances-own, ticket_copies-own, reply_to_join-own, reply_to_join_reply-own}
-use Rattle.ns_calls.proofs.UplinkLemmas.{uplink_reply_by}
+use Rattle.ns_calls.proofs.UplinkLemmas.{uplink_reply_by, old-has}
 use Rattle.ns_calls.proofs.JoinLemmas.{join_reply_by}
-use Rattle.ns_calls.proofs.WindowLemmas.{same_window-eq}
-use Rattle.ns_calls.proofs.ShardLemmas.{Housed, AllHoused, IsOfItsFrame, InShard, shard_of_frame, openings-own, closings-own, window_copies-own, window_count-own, open_window-own, open_windows-framed, window_with-own, first_fit-own, first_fit-names}
+use Rattle.ns_calls.proofs.NameLemmas.{same_window-eq}
+use Rattle.ns_calls.proofs.ShardLemmas.{Housed, AllHoused, IsOfItsFrame, InShard, shard_of_frame, openings-own, closings-own, window_copies-own, window_count-own, last_round-own, is_uplink_open-own, open_window-own, open_windows-framed, window_with-own, first_fit-own, first_fit-names}
 
 -- ---- what holds of the reply by its cases
 
@@ -90,14 +85,14 @@ names-uplink net own h housed frame heard =
     let cases : List (Option Reply) =
     option_map (λ (o : Opening). copy_reply h o.window) (window_with h frame)
     ∷ option_map (λ (f : Fit). open_reply h (window_of f)) (first_fit above net h frame)
-    ∷ option_map (λ (f : Fit). reply.Old f.eui f.session f.counter) (first_fit below net h frame) ∷ [] in
+    ∷ option_map (old_reply h frame) (first_fit below net h frame) ∷ [] in
     case-has P cases reply.NoSession (
       map-has P (λ (o : Opening). Mine o.window) (λ (o : Opening). copy_reply h o.window) (window_with h frame) (window_with-names h housed frame)
           (λ o mine. either-has P (nat_le (length (window_copies h o.window) + 1) most_copies) (reply.Copied o.window (length (window_copies h o.window) + 1)) (reply.Crowded o.window) mine mine),
       (
         map-has P Fits (λ (f : Fit). open_reply h (window_of f)) (first_fit above net h frame) (first_fit-names above net own h frame)
             (λ f mine. either-has P (nat_le most_windows (window_count h f.eui)) (reply.Busy f.eui) (reply.Opened (window_of f)) mine mine),
-        (map-has P Fits (λ (f : Fit). reply.Old f.eui f.session f.counter) (first_fit below net h frame) (first_fit-names below net own h frame) (λ f mine. mine), tt),
+        (map-has P Fits (old_reply h frame) (first_fit below net h frame) (first_fit-names below net own h frame) (λ f mine. old-has P h frame f mine mine (λ round is room. mine)), tt),
       ),
     ) tt
 
@@ -106,13 +101,13 @@ names-join net h t heard =
     let P : Reply → Type 0 = NamesOwnDevice (call.Join t heard) in
     let cases : List (Option Reply) =
     when (not (is_known net (dev_eui t) (join_eui t))) reply.NoDevice
-    ∷ option_map (λ g. reply.NonceOld (record { 0 = g })) (spent_by net h t)
+    ∷ option_map (λ g. reply.NonceOld (record { 0 = g })) (nonce_at_or_above net h t)
     ∷ when (is_ticket_open h t) (join_copy_reply h t)
     ∷ when (nat_le most_tickets (ticket_count h (dev_eui t))) reply.JoinBusy ∷ [] in
     case-has P cases (reply.Ask t) (
       when-has P (not (is_known net (dev_eui t) (join_eui t))) reply.NoDevice tt,
       (
-        map-has P (λ _. Unit {0}) (λ g. reply.NonceOld (record { 0 = g })) (spent_by net h t) (always (spent_by net h t)) (λ g _. tt),
+        map-has P (λ _. Unit {0}) (λ g. reply.NonceOld (record { 0 = g })) (nonce_at_or_above net h t) (always (nonce_at_or_above net h t)) (λ g _. tt),
         (
           when-has P (is_ticket_open h t) (join_copy_reply h t)
               (either-has P (nat_le (length (ticket_copies h t) + 1) most_copies) (reply.JoinCopied (length (ticket_copies h t) + 1)) reply.JoinCrowded tt tt),
@@ -122,7 +117,7 @@ names-join net h t heard =
     ) refl
 
 names-join_reply : (net : Network) (h : List Entry) (t : Ticket) (o : Outcome) → NamesOwnDevice (call.JoinReply t o) (reply_to net h (call.JoinReply t o))
-names-join_reply net h t o = step (is_ticket_open h t) (is_failed o) (spent_by net h t)
+names-join_reply net h t o = step (is_ticket_open h t) (is_failed o) (nonce_at_or_above net h t)
   where
     step : (is_open failed : Bool) (stale : Option ℕ) → NamesOwnDevice (call.JoinReply t o) (join_reply_by is_open failed stale (reply.Accepted (dev_eui t) (next_session h (dev_eui t)) (address net (dev_eui t))))
     step false failed stale = tt
@@ -148,13 +143,32 @@ legal-housed net own h legal = legal_induction net AllHoused tt (λ g number c o
 
 -- ---- the reply
 
-uplink_by-own : (g h : List Entry) (copied : Option Opening) (fresh stale : Option Fit) → IfSome copied (λ o. window_copies g o.window ≡ window_copies h o.window) → IfSome fresh (λ f. window_count g f.eui ≡ window_count h f.eui) →
-    uplink_reply_by g copied fresh stale ≡ uplink_reply_by h copied fresh stale
-uplink_by-own g h (Some o) fresh stale copies counts =
+pub uplink_by-own : (g h : List Entry) (frame : List ℕ) (copied : Option Opening) (fresh stale : Option Fit) → IfSome copied (λ o. window_copies g o.window ≡ window_copies h o.window) → IfSome fresh (λ f. window_count g f.eui ≡ window_count h f.eui)
+    → IfSome stale (λ f. old_reply g frame f ≡ old_reply h frame f) → uplink_reply_by g frame copied fresh stale ≡ uplink_reply_by h frame copied fresh stale
+uplink_by-own g h frame (Some o) fresh stale copies counts olds =
     ap (λ (hs : List Heard). cond (nat_le (length hs + 1) most_copies) (reply.Copied o.window (length hs + 1)) (reply.Crowded o.window)) copies
-uplink_by-own g h None (Some f) stale copies counts = ap (λ n. cond (nat_le most_windows n) (reply.Busy f.eui) (reply.Opened (window_of f))) counts
-uplink_by-own g h None None (Some f) copies counts = refl
-uplink_by-own g h None None None copies counts = refl
+uplink_by-own g h frame None (Some f) stale copies counts olds = ap (λ n. cond (nat_le most_windows n) (reply.Busy f.eui) (reply.Opened (window_of f))) counts
+uplink_by-own g h frame None None (Some f) copies counts olds = olds
+uplink_by-own g h frame None None None copies counts olds = refl
+
+-- the reply to a frame at or below the greatest counter, by what is asked of the history
+abbrev pub old_by : List ℕ → Fit → Option ℕ → Bool → ℕ → ℕ → Reply
+old_by frame f greatest is_open last windows =
+    first_case (
+    option_map (λ round. cond (nat_le most_windows windows) (reply.Busy f.eui) (reply.Again (in_round f round)))
+    (cond (is_confirmed frame && not is_open) (when (is_greatest greatest f.counter && nat_lt (last + 1) (2 ^ 32)) (last + 1)) None)
+    ∷ []) (reply.Old f.eui f.session f.counter)
+
+pub old-same : (g h : List Entry) (frame : List ℕ) (f : Fit) → greatest_counter g f.eui f.session ≡ greatest_counter h f.eui f.session → is_uplink_open g (window_of f) ≡ is_uplink_open h (window_of f)
+    → last_round g (window_of f) ≡ last_round h (window_of f) → window_count g f.eui ≡ window_count h f.eui → old_reply g frame f ≡ old_reply h frame f
+old-same g h frame f greatest is_open last windows =
+    λ i. old_by frame f (greatest i) (is_open i) (last i) (windows i)
+
+old-own : (k : ℕ) (h : List Entry) → AllHoused h → (frame : List ℕ) (f : Fit) → shard_of f.eui ≡ k → old_reply (of_shard k h) frame f ≡ old_reply h frame f
+old-own k h housed frame f mine =
+    old-same (of_shard k h) h frame f
+    (ap (λ opened. maximum (map (λ (o : Opening). o.window.fcnt) (filter (λ (o : Opening). o.window.session == f.session) opened))) (openings-own k f.eui mine h housed))
+    (is_uplink_open-own k (window_of f) mine h housed) (last_round-own k (window_of f) mine h housed) (window_count-own k f.eui mine h housed)
 
 uplink-own : (net : Network) → AllByRecursion (InShard net) net.devices → (h : List Entry) → AllHoused h → (frame : List ℕ) → reply_to_uplink net (of_shard (shard_of_frame frame) h) frame ≡ reply_to_uplink net h frame
 uplink-own net own h housed frame =
@@ -163,12 +177,13 @@ uplink-own net own h housed frame =
     let copied = window_with-own k frame refl h housed in
     let fresh = first_fit-own above net own h housed frame in
     let stale = first_fit-own below net own h housed frame in
-    ap (λ o. uplink_reply_by part o (first_fit above net part frame) (first_fit below net part frame)) copied
-    ∙ (ap (λ o. uplink_reply_by part (window_with h frame) o (first_fit below net part frame)) fresh
-    ∙ (ap (λ o. uplink_reply_by part (window_with h frame) (first_fit above net h frame) o) stale
-    ∙ uplink_by-own part h (window_with h frame) (first_fit above net h frame) (first_fit below net h frame)
+    ap (λ o. uplink_reply_by part frame o (first_fit above net part frame) (first_fit below net part frame)) copied
+    ∙ (ap (λ o. uplink_reply_by part frame (window_with h frame) o (first_fit below net part frame)) fresh
+    ∙ (ap (λ o. uplink_reply_by part frame (window_with h frame) (first_fit above net h frame) o) stale
+    ∙ uplink_by-own part h frame (window_with h frame) (first_fit above net h frame) (first_fit below net h frame)
     (IfSome-weaker (λ (o : Opening). shard_of o.window.eui ≡ k) (λ (o : Opening). window_copies part o.window ≡ window_copies h o.window) (window_with h frame) (λ o mine. window_copies-own k o.window mine h housed) (window_with-names h housed frame))
-    (IfSome-weaker (λ (f : Fit). shard_of f.eui ≡ k) (λ (f : Fit). window_count part f.eui ≡ window_count h f.eui) (first_fit above net h frame) (λ f mine. window_count-own k f.eui mine h housed) (first_fit-names above net own h frame))))
+    (IfSome-weaker (λ (f : Fit). shard_of f.eui ≡ k) (λ (f : Fit). window_count part f.eui ≡ window_count h f.eui) (first_fit above net h frame) (λ f mine. window_count-own k f.eui mine h housed) (first_fit-names above net own h frame))
+    (IfSome-weaker (λ (f : Fit). shard_of f.eui ≡ k) (λ (f : Fit). old_reply part frame f ≡ old_reply h frame f) (first_fit below net h frame) (λ f mine. old-own k h housed frame f mine) (first_fit-names below net own h frame))))
 
 -- whether a session is live, and its next acknowledgement number, by what is told of the device
 abbrev live_by : ℕ → List Acceptance → List Opening → Bool
@@ -240,17 +255,17 @@ ack_downlink-same net g h o n joins copies =
     option_and_then (λ (j : JoinAns). option_map (ack_at net o.frame j.nwk n) (best hs)) join in
     ap (λ join. by join (window_copies g o.window)) joins ∙ ap (λ hs. by (session_join h o.window.eui o.window.session) hs) copies
 
-uplink_out-own : (k : ℕ) (h : List Entry) → AllHoused h → (c : Call) (r : Reply) → shard_of_call c ≡ k → uplink_out (of_shard k h) c r ≡ uplink_out h c r
-uplink_out-own k h housed (call.Close w) (reply.Closed closed ack) mine =
-    ap (option_map (uplink_of (of_shard k h))) (open_window-own k w mine h housed)
-    ∙ map-same (uplink_of (of_shard k h)) (uplink_of h) (open_window h w)
-    (IfSome-weaker (λ (o : Opening). shard_of o.window.eui ≡ shard_of w.eui) (λ (o : Opening). uplink_of (of_shard k h) o ≡ uplink_of h o) (open_window h w)
-    (λ o named_so. uplink_of-same (of_shard k h) h o (session_join-own k o.window.eui (named_so ∙ mine) h o.window.session) (window_copies-own k o.window (named_so ∙ mine) h housed)) (named h w))
-uplink_out-own k h housed _ _ mine = refl
-
 pub and_then-same : {X Y : Type 0} (f g : X → Option Y) (o : Option X) → IfSome o (λ x. f x ≡ g x) → option_and_then f o ≡ option_and_then g o
 and_then-same f g None same = refl
 and_then-same f g (Some x) same = same
+
+uplink_out-own : (k : ℕ) (h : List Entry) → AllHoused h → (c : Call) (r : Reply) → shard_of_call c ≡ k → uplink_out (of_shard k h) c r ≡ uplink_out h c r
+uplink_out-own k h housed (call.Close w) (reply.Closed closed ack) mine =
+    ap (option_and_then (first_uplink_of (of_shard k h))) (open_window-own k w mine h housed)
+    ∙ and_then-same (first_uplink_of (of_shard k h)) (first_uplink_of h) (open_window h w)
+    (IfSome-weaker (λ (o : Opening). shard_of o.window.eui ≡ shard_of w.eui) (λ (o : Opening). first_uplink_of (of_shard k h) o ≡ first_uplink_of h o) (open_window h w)
+    (λ o named_so. ap (when (is_first o.window)) (uplink_of-same (of_shard k h) h o (session_join-own k o.window.eui (named_so ∙ mine) h o.window.session) (window_copies-own k o.window (named_so ∙ mine) h housed))) (named h w))
+uplink_out-own k h housed _ _ mine = refl
 
 own-ticket : (k : ℕ) (t : Ticket) → shard_of (dev_eui t) ≡ k → eqb (shard_of (dev_eui t)) k ≡ true
 own-ticket k t mine = eq-eqb (shard_of (dev_eui t)) k mine

@@ -9,7 +9,7 @@ use Rattle.ns_types.specs.declared.ticket.Ticket.{Ticket}
 use Rattle.ns_types.specs.Identity.{same_window}
 use Rattle.ns_calls.specs.declared.call.Entry.{Entry}
 use Rattle.ns_calls.specs.Queries.{from_last}
-use Rattle.ns_calls.specs.History.{Acceptance, Opening, Closing, acceptance_in, opening_in, closing_in, asking_in, window_copy_in, ticket_copy_in, acceptances, openings, closings, same_device, same_ticket, closes, ends_ticket, asks_for, open_windows, window_copies, open_tickets, ticket_copies, copies_of_ticket}
+use Rattle.ns_calls.specs.History.{Acceptance, Opening, Closing, acceptance_in, opening_in, window_in, closing_in, asking_in, window_copy_in, ticket_copy_in, acceptances, openings, closings, same_device, same_ticket, closes, ends_ticket, asks_for, open_windows, window_copies, open_tickets, ticket_copies, copies_of_ticket}
 use Rattle.ns_calls.proofs.QueryLemmas.{still_open-push, from_last-push}
 use Rattle.ns_calls.proofs.Lists.{said, said-push}
 
@@ -22,8 +22,8 @@ openings-push h e eui = said-push (λ (x : Entry). opening_in x.call x.reply) (�
 pub closings-push : (h : List Entry) (e : Entry) (eui : DevEui) → closings (h ++ e ∷ []) eui ≡ closings h eui ++ filter (λ c. same_device c.window.eui eui) (option_to_list (closing_in e.call e.reply))
 closings-push h e eui = said-push (λ (x : Entry). closing_in x.call x.reply) (λ (c : Closing). same_device c.window.eui eui) h e
 
-pub open_windows-push : (h : List Entry) (e : Entry) → open_windows (h ++ e ∷ []) ≡ filter (λ o. not (closes o.window e)) (open_windows h) ++ option_to_list (opening_in e.call e.reply)
-open_windows-push h e = still_open-push (λ (x : Entry). opening_in x.call x.reply) (λ (o : Opening) x. closes o.window x) h e
+pub open_windows-push : (h : List Entry) (e : Entry) → open_windows (h ++ e ∷ []) ≡ filter (λ o. not (closes o.window e)) (open_windows h) ++ option_to_list (window_in e.call e.reply)
+open_windows-push h e = still_open-push (λ (x : Entry). window_in x.call x.reply) (λ (o : Opening) x. closes o.window x) h e
 
 pub window_copies-push : (h : List Entry) (e : Entry) (w : WindowName) →
     window_copies (h ++ e ∷ []) w ≡ window_copies h w ++ map (λ c. c.1) (filter (λ c. same_window c.0 w) (option_to_list (window_copy_in e.call e.reply)))

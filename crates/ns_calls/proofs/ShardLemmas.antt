@@ -1,5 +1,5 @@
 -- What the entries of one shard say of it is what all entries say of it, where each reply names a device of its call's shard.
-use Rattle.std.proofs.Common.{◌≡◌, ℕ, ◌==◌, Bool, true, false, not, ◌&&◌, eqb, List, [], ◌∷◌, filter, filter_map, map, find, count_by, bytes_eq, Option, None, Some, IfSome, option_map, option_to_list, refl, sym, ap, ◌∙◌, arith}
+use Rattle.std.proofs.Common.{◌≡◌, ℕ, ◌==◌, Bool, true, false, not, ◌&&◌, eqb, List, [], ◌∷◌, filter, filter_map, map, find, count_by, bytes_eq, unwrap_or, Option, None, Some, IfSome, option_map, option_to_list, refl, sym, ap, ◌∙◌, arith}
 use Rattle.std.specs.List.{AllByRecursion, list_any}
 use Rattle.std.specs.Option.{option_and_then, option_map_or}
 use Rattle.std.proofs.lemmas.Bool.{eq-eqb}
@@ -8,10 +8,8 @@ use Rattle.std.proofs.lemmas.Slice.Eq.{bytes_eq-Decides}
 use Rattle.ns_types.specs.declared.identity.DevEui.{DevEui}
 use Rattle.ns_types.specs.declared.identity.WindowName.{WindowName}
 use Rattle.ns_types.specs.declared.heard.Heard.{Heard}
-use Rattle.ns_types.specs.Cases.{when}
-use Rattle.ns_types.specs.Identity.{shard_of, shard_of_addr, same_window}
+use Rattle.ns_types.specs.Identity.{shard_of, shard_of_addr, same_uplink, same_window}
 use Rattle.ns_views.specs.Frame.{data_fields}
-use Rattle.ns_secure.specs.Integrity.{mic_fits}
 use Rattle.ns_roster.specs.declared.Device.{Device}
 use Rattle.ns_roster.specs.Network.{Network, device_addr}
 use Rattle.ns_calls.specs.declared.call.JoinAns.{JoinAns}
@@ -21,13 +19,13 @@ use Rattle.ns_calls.specs.declared.call.Reply.{Reply}
 use Rattle.ns_calls.specs.declared.call.Reply.TheVariants as reply
 use Rattle.ns_calls.specs.declared.call.Entry.{Entry}
 use Rattle.ns_calls.specs.Queries.{first, last, maximum}
-use Rattle.ns_calls.specs.History.{Acceptance, Opening, Closing, opening_in, closing_in, window_copy_in, closes, same_device, acceptances, openings, closings, first_and_other, live, session_join, greatest_counter, open_windows, open_window, window_count, window_copies}
+use Rattle.ns_calls.specs.History.{Acceptance, Opening, Closing, opening_in, window_in, closing_in, window_copy_in, closes, same_device, acceptances, openings, closings, first_and_other, live, session_join, greatest_counter, last_round, open_windows, open_window, is_uplink_open, window_count, window_copies}
 use Rattle.ns_calls.specs.Reply.{Fit, fit_of, fitting_counter, session_fit, device_fit, devices_at, first_fit, window_with}
 use Rattle.ns_calls.specs.Shards.{shard_of_call, of_shard, NamesOwnDevice}
-use Rattle.ns_calls.proofs.LocalLemmas.{All-each, filter_map-own, filter_map-own_of, still_open-own_of, count_by-own}
+use Rattle.ns_calls.proofs.LocalLemmas.{list_any-own, All-each, filter_map-own, filter_map-own_of, still_open-own_of, count_by-own}
 use Rattle.ns_calls.proofs.LocalJoin.{here, other_device, none_single, acceptances-own}
 use Rattle.ns_calls.proofs.Lists.{All-append, All-filter, All-weaker, All-passed, filter_map-same, first-gives, first-gives_of, find-own, IfSome-weaker}
-use Rattle.ns_calls.proofs.WindowLemmas.{same_window-eq}
+use Rattle.ns_calls.proofs.NameLemmas.{same_window-eq}
 
 -- the reply of an entry names a device of its call's shard
 abbrev pub Housed : Entry → Type 0
@@ -43,8 +41,11 @@ own_window k w = eqb (shard_of w.eui) k
 elsewhere : (k : ℕ) (eui : DevEui) (c : Call) → shard_of eui ≡ shard_of_call c → eqb (shard_of_call c) k ≡ false → eqb (shard_of eui) k ≡ false
 elsewhere k eui c housed n = ap (λ s. eqb s k) housed ∙ n
 
+other_uplink : (k : ℕ) (v w : WindowName) → shard_of w.eui ≡ k → own_window k v ≡ false → same_uplink v w ≡ false
+other_uplink k v w mine other = ap (λ b. b && (v.session == w.session) && (v.fcnt == w.fcnt)) (other_device k v.eui.0 w.eui.0 mine other)
+
 other_window : (k : ℕ) (v w : WindowName) → shard_of w.eui ≡ k → own_window k v ≡ false → same_window v w ≡ false
-other_window k v w mine other = ap (λ b. b && (v.session == w.session) && (v.fcnt == w.fcnt)) (other_device k v.eui.0 w.eui.0 mine other)
+other_window k v w mine other = ap (λ b. b && (v.round == w.round)) (other_uplink k v w mine other)
 
 -- ---- what entries of other shards don't say
 
@@ -63,11 +64,16 @@ closing-other k eui mine _ _ n = refl
 copy-other : (k : ℕ) (w : WindowName) → shard_of w.eui ≡ k → (c : Call) (r : Reply) → NamesOwnDevice c r → eqb (shard_of_call c) k ≡ false → filter (λ x. same_window x.0 w) (option_to_list (window_copy_in c r)) ≡ []
 copy-other k w mine (call.Uplink frame heard) (reply.Opened v) housed n =
     none_single (λ (x : WindowName × Heard). same_window x.0 w) (v, heard) (other_window k v w mine (elsewhere k v.eui (call.Uplink frame heard) housed n))
+copy-other k w mine (call.Uplink frame heard) (reply.Again v) housed n =
+    none_single (λ (x : WindowName × Heard). same_window x.0 w) (v, heard) (other_window k v w mine (elsewhere k v.eui (call.Uplink frame heard) housed n))
 copy-other k w mine (call.Uplink frame heard) (reply.Copied v place) housed n =
     none_single (λ (x : WindowName × Heard). same_window x.0 w) (v, heard) (other_window k v w mine (elsewhere k v.eui (call.Uplink frame heard) housed n))
 copy-other k w mine _ _ housed n = refl
 
-opens-other : (k : ℕ) (c : Call) (r : Reply) → NamesOwnDevice c r → eqb (shard_of_call c) k ≡ false → filter (λ o. own_window k o.window) (option_to_list (opening_in c r)) ≡ []
+opens-other : (k : ℕ) (c : Call) (r : Reply) → NamesOwnDevice c r → eqb (shard_of_call c) k ≡ false → filter (λ o. own_window k o.window) (option_to_list (window_in c r)) ≡ []
+opens-other k (call.Uplink frame heard) (reply.Again w) housed n =
+    let o : Opening = record { window = w; frame = frame; heard = heard } in
+    none_single (λ (x : Opening). own_window k x.window) o (elsewhere k w.eui (call.Uplink frame heard) housed n)
 opens-other k (call.Uplink frame heard) (reply.Opened w) housed n =
     let o : Opening = record { window = w; frame = frame; heard = heard } in
     none_single (λ (x : Opening). own_window k x.window) o (elsewhere k w.eui (call.Uplink frame heard) housed n)
@@ -98,8 +104,8 @@ window_copies-own k w mine h housed =
 
 pub open_windows-own : (k : ℕ) (h : List Entry) → AllHoused h → filter (λ o. own_window k o.window) (open_windows (of_shard k h)) ≡ filter (λ o. own_window k o.window) (open_windows h)
 open_windows-own k h housed =
-    still_open-own_of (λ e. opening_in e.call e.reply) (λ o e. closes o.window e) (here k) (λ o. own_window k o.window) (λ o e mine n. closes-other k o.window mine e.call e.reply n) h
-    (housed_each (λ e. filter (λ (o : Opening). own_window k o.window) (option_to_list (opening_in e.call e.reply)) ≡ []) k (λ e is n. opens-other k e.call e.reply is n) h housed)
+    still_open-own_of (λ e. window_in e.call e.reply) (λ o e. closes o.window e) (here k) (λ o. own_window k o.window) (λ o e mine n. closes-other k o.window mine e.call e.reply n) h
+    (housed_each (λ e. filter (λ (o : Opening). own_window k o.window) (option_to_list (window_in e.call e.reply)) ≡ []) k (λ e is n. opens-other k e.call e.reply is n) h housed)
 
 pub window_count-own : (k : ℕ) (eui : DevEui) → shard_of eui ≡ k → (h : List Entry) → AllHoused h → window_count (of_shard k h) eui ≡ window_count h eui
 window_count-own k eui mine h housed =
@@ -125,15 +131,39 @@ open_window-own k w mine h housed =
     let Own = λ (o : Opening). test o ≡ true → own_window k o.window ≡ true in
     found-own k h housed test (All-each Own (named-own k w mine) (open_windows (of_shard k h))) (All-each Own (named-own k w mine) (open_windows h))
 
+-- the rounds of an uplink, and whether a window of it is open
+rounds-other : (k : ℕ) (w : WindowName) → shard_of w.eui ≡ k → (c : Call) (r : Reply) → NamesOwnDevice c r → eqb (shard_of_call c) k ≡ false → filter (λ o. same_uplink o.window w) (option_to_list (window_in c r)) ≡ []
+rounds-other k w mine (call.Uplink frame heard) (reply.Opened v) housed n =
+    let o : Opening = record { window = v; frame = frame; heard = heard } in
+    none_single (λ (x : Opening). same_uplink x.window w) o (other_uplink k v w mine (elsewhere k v.eui (call.Uplink frame heard) housed n))
+rounds-other k w mine (call.Uplink frame heard) (reply.Again v) housed n =
+    let o : Opening = record { window = v; frame = frame; heard = heard } in
+    none_single (λ (x : Opening). same_uplink x.window w) o (other_uplink k v w mine (elsewhere k v.eui (call.Uplink frame heard) housed n))
+rounds-other k w mine _ _ housed n = refl
+
+pub last_round-own : (k : ℕ) (w : WindowName) → shard_of w.eui ≡ k → (h : List Entry) → AllHoused h → last_round (of_shard k h) w ≡ last_round h w
+last_round-own k w mine h housed =
+    ap (λ os. unwrap_or (maximum (map (λ (o : Opening). o.window.round) os)) 0)
+    (filter_map-own_of (here k) (λ e. window_in e.call e.reply) (λ o. same_uplink o.window w) h
+    (housed_each (λ e. filter (λ (o : Opening). same_uplink o.window w) (option_to_list (window_in e.call e.reply)) ≡ []) k (λ e is n. rounds-other k w mine e.call e.reply is n) h housed))
+
+pub is_uplink_open-own : (k : ℕ) (w : WindowName) → shard_of w.eui ≡ k → (h : List Entry) → AllHoused h → is_uplink_open (of_shard k h) w ≡ is_uplink_open h w
+is_uplink_open-own k w mine h housed =
+    let of_uplink = λ (o : Opening). same_uplink o.window w in
+    let own = λ (o : Opening). own_window k o.window in
+    let outside = λ (o : Opening) (n : own o ≡ false). other_uplink k o.window w mine n in
+    sym (list_any-own own of_uplink outside (open_windows (of_shard k h)))
+    ∙ (ap (list_any of_uplink) (open_windows-own k h housed) ∙ list_any-own own of_uplink outside (open_windows h))
+
 -- the window that an entry opens, where it opens one
 abbrev pub Opens : (Opening → Type 0) → Entry → Type 0
-Opens P e = AllByRecursion P (option_to_list (opening_in e.call e.reply))
+Opens P e = AllByRecursion P (option_to_list (window_in e.call e.reply))
 
 -- what holds of each window that is opened holds of each open one
 pub open_windows-all : (P : Opening → Type 0) (h : List Entry) → AllByRecursion (Opens P) h → AllByRecursion P (open_windows h)
 open_windows-all P [] all = tt
 open_windows-all P (e ∷ es) all =
-    let opened : List Opening = option_to_list (opening_in e.call e.reply) in
+    let opened : List Opening = option_to_list (window_in e.call e.reply) in
     let stays : Opening → Bool = λ o. not (list_any (λ x. closes o.window x) es) in
     All-append P (filter stays opened) (open_windows es) (All-filter P stays opened all.0) (open_windows-all P es all.1)
 
@@ -141,7 +171,8 @@ open_windows-all P (e ∷ es) all =
 abbrev pub IsOfItsFrame : Opening → Type 0
 IsOfItsFrame o = shard_of o.window.eui ≡ shard_of_addr (record { 0 = (data_fields o.frame).addr })
 
-opening-framed : (c : Call) (r : Reply) → NamesOwnDevice c r → AllByRecursion IsOfItsFrame (option_to_list (opening_in c r))
+opening-framed : (c : Call) (r : Reply) → NamesOwnDevice c r → AllByRecursion IsOfItsFrame (option_to_list (window_in c r))
+opening-framed (call.Uplink frame heard) (reply.Again w) housed = (housed, tt)
 opening-framed (call.Uplink frame heard) (reply.Opened w) housed = (housed, tt)
 opening-framed _ _ housed = tt
 
@@ -152,7 +183,8 @@ open_windows-framed h housed = open_windows-all IsOfItsFrame h (All-weaker House
 abbrev pub IsOwn : ℕ → Opening → Type 0
 IsOwn k o = shard_of o.window.eui ≡ k
 
-opening-mine : (k : ℕ) (c : Call) (r : Reply) → NamesOwnDevice c r → shard_of_call c ≡ k → AllByRecursion (IsOwn k) (option_to_list (opening_in c r))
+opening-mine : (k : ℕ) (c : Call) (r : Reply) → NamesOwnDevice c r → shard_of_call c ≡ k → AllByRecursion (IsOwn k) (option_to_list (window_in c r))
+opening-mine k (call.Uplink frame heard) (reply.Again w) housed mine = (housed ∙ mine, tt)
 opening-mine k (call.Uplink frame heard) (reply.Opened w) housed mine = (housed ∙ mine, tt)
 opening-mine k _ _ housed mine = tt
 

@@ -1,5 +1,5 @@
 -- The uplinks that a legal history opens.
-use Rattle.std.proofs.Common.{◌≡◌, ◌⊎◌, ℕ, ◌+◌, ◌^◌, ◌<◌, Bool, true, false, ◌==◌, cond, List, [], ◌∷◌, ◌++◌, filter, map, nat_le, nat_lt, length, Option, None, Some, IfSome, option_map, refl, sym, ap, subst, ◌∙◌, arith, inl, inr}
+use Rattle.std.proofs.Common.{◌≡◌, ◌⊎◌, ℕ, ◌+◌, ◌^◌, ◌<◌, Bool, true, false, not, ◌&&◌, ◌==◌, cond, List, [], ◌∷◌, ◌++◌, filter, map, nat_le, nat_lt, length, Option, None, Some, IfSome, option_map, refl, sym, ap, subst, ◌∙◌, arith, inl, inr}
 use Rattle.std.specs.Option.{option_and_then, option_map_or}
 use Rattle.std.proofs.lemmas.List.{append-nil, map-append}
 use Rattle.std.proofs.lemmas.List.Elements.{filter-append}
@@ -9,8 +9,8 @@ use Rattle.ns_types.specs.declared.identity.DevEui.{DevEui}
 use Rattle.ns_types.specs.declared.identity.WindowName.{WindowName}
 use Rattle.ns_types.specs.declared.heard.Heard.{Heard}
 use Rattle.ns_types.specs.Cases.{first_case, when}
-use Rattle.ns_views.specs.Frame.{data_fields}
-use Rattle.ns_secure.specs.Counter.{Exceeds, above, with_low}
+use Rattle.ns_views.specs.Frame.{data_fields, is_confirmed}
+use Rattle.ns_secure.specs.Counter.{Exceeds, above, below, with_low}
 use Rattle.ns_secure.specs.Integrity.{mic_fits}
 use Rattle.ns_roster.specs.declared.Device.{Device}
 use Rattle.ns_roster.specs.Network.{Network}
@@ -20,12 +20,12 @@ use Rattle.ns_calls.specs.declared.call.Call.TheVariants as call
 use Rattle.ns_calls.specs.declared.call.Reply.{Reply}
 use Rattle.ns_calls.specs.declared.call.Reply.TheVariants as reply
 use Rattle.ns_calls.specs.declared.call.Entry.{Entry}
-use Rattle.ns_calls.specs.History.{Opening, opening_in, openings, same_device, session_counters, greatest_counter, session_join, live, window_count, window_copies}
-use Rattle.ns_calls.specs.Reply.{fits, Fit, fit_of, window_of, fitting_counter, session_fit, device_fit, devices_at, first_fit, window_with, copy_reply, open_reply, most_copies, most_windows, reply_to}
+use Rattle.ns_calls.specs.History.{Opening, opening_in, window_in, openings, same_device, session_counters, greatest_counter, last_round, is_uplink_open, session_join, live, window_count, window_copies}
+use Rattle.ns_calls.specs.Reply.{fits, Fit, fit_of, window_of, fitting_counter, session_fit, device_fit, devices_at, first_fit, window_with, copy_reply, open_reply, is_greatest, next_round, round_of, in_round, again_reply, old_reply, most_copies, most_windows, reply_to}
 use Rattle.ns_calls.specs.Legal.{IsLegal, entry_for, with_call}
 use Rattle.ns_calls.specs.Headline.{Rises, CountersRise}
 use Rattle.ns_calls.proofs.LocalLemmas.{bool_tells}
-use Rattle.ns_calls.proofs.Lists.{said-push, said-cases, first-gives, Exceeds-each, Rises-push, at_some}
+use Rattle.ns_calls.proofs.Lists.{said-adds, first-gives, Exceeds-each, Rises-push, at_some}
 use Rattle.ns_calls.proofs.Induction.{legal_induction}
 use Rattle.ns_calls.proofs.JoinLemmas.{same_device-eq}
 
@@ -85,19 +85,64 @@ first_fit-fresh net h frame =
 -- ---- what is opened
 
 -- the reply to an uplink, by what is asked of the history
-abbrev pub uplink_reply_by : List Entry → Option Opening → Option Fit → Option Fit → Reply
-uplink_reply_by h copied fresh stale = first_case (
+abbrev pub uplink_reply_by : List Entry → List ℕ → Option Opening → Option Fit → Option Fit → Reply
+uplink_reply_by h frame copied fresh stale = first_case (
     option_map (λ o. copy_reply h o.window) copied
     ∷ option_map (λ f. open_reply h (window_of f)) fresh
-    ∷ option_map (λ f. reply.Old f.eui f.session f.counter) stale
+    ∷ option_map (old_reply h frame) stale
     ∷ []) reply.NoSession
+
+-- what holds of the reply to a frame at or below the greatest counter, which is old, or its device is busy, or a window is opened again
+pub old-has : (P : Reply → Type 0) (h : List Entry) (frame : List ℕ) (f : Fit) → P (reply.Old f.eui f.session f.counter) → P (reply.Busy f.eui)
+    → ((round : ℕ) → round_of h frame f ≡ Some round → nat_le most_windows (window_count h f.eui) ≡ false → P (reply.Again (in_round f round))) → P (old_reply h frame f)
+old-has P h frame f old busy again = step (round_of h frame f) refl
+  where
+    room : (round : ℕ) → round_of h frame f ≡ Some round → (b : Bool) → nat_le most_windows (window_count h f.eui) ≡ b → P (cond b (reply.Busy f.eui) (reply.Again (in_round f round)))
+    room round is true full = busy
+    room round is false fits = again round is fits
+
+    step : (o : Option ℕ) → round_of h frame f ≡ o → P (first_case (option_map (λ (round : ℕ). again_reply h (in_round f round)) o ∷ []) (reply.Old f.eui f.session f.counter))
+    step None is = old
+    step (Some round) is = room round is (nat_le most_windows (window_count h f.eui)) refl
+
+-- what the next round of an uplink is
+pub record IsRoundOf (h : List Entry) (frame : List ℕ) (f : Fit) (round : ℕ) : Type 0 where
+  pub confirmed : is_confirmed frame ≡ true
+  pub counter : greatest_counter h f.eui f.session ≡ Some f.counter
+  pub closed : is_uplink_open h (window_of f) ≡ false
+  pub next : round ≡ last_round h (window_of f) + 1
+  pub small : round < 2 ^ 32
+
+pub round_of-is : (h : List Entry) (frame : List ℕ) (f : Fit) (round : ℕ) → round_of h frame f ≡ Some round → IsRoundOf h frame f round
+round_of-is h frame f round is = by_type (is_confirmed frame) (is_uplink_open h (window_of f)) refl refl is
+  where
+    next : ℕ
+    next = last_round h (window_of f) + 1
+
+    greatest-is : (o : Option ℕ) → is_greatest o f.counter ≡ true → o ≡ Some f.counter
+    greatest-is None same = absurd (cc same)
+    greatest-is (Some n) same = (let equal : n ≡ f.counter = grind (arith, nat_tests, same) in ap Some equal)
+
+    by_test : (a c : Bool) → is_confirmed frame ≡ true → is_uplink_open h (window_of f) ≡ false → is_greatest (greatest_counter h f.eui f.session) f.counter ≡ a → nat_lt next (2 ^ 32) ≡ c
+        → when (a && c) next ≡ Some round → IsRoundOf h frame f round
+    by_test true true confirmed closed counter small now =
+        let same : next ≡ round = same_Some next round now in
+        let below : next < 2 ^ 32 = grind (arith, nat_tests, small) in
+        record { confirmed = confirmed; counter = greatest-is (greatest_counter h f.eui f.session) counter; closed = closed; next = sym same; small = subst (λ n. n < 2 ^ 32) same below }
+    by_test true false confirmed closed counter small now = absurd (cc now)
+    by_test false c confirmed closed counter small now = absurd (cc now)
+
+    by_type : (a b : Bool) → is_confirmed frame ≡ a → is_uplink_open h (window_of f) ≡ b → cond (a && not b) (next_round h f) None ≡ Some round → IsRoundOf h frame f round
+    by_type true false confirmed closed now = by_test (is_greatest (greatest_counter h f.eui f.session) f.counter) (nat_lt next (2 ^ 32)) confirmed closed refl refl now
+    by_type true true confirmed closed now = absurd (cc now)
+    by_type false b confirmed closed now = absurd (cc now)
 
 abbrev pub opening_of : WindowName → List ℕ → Heard → Opening
 opening_of w frame heard = record { window = w; frame = frame; heard = heard }
 
 -- what is opened is the window that fits, of a frame that no open window has
 pub opened-cases : (h : List Entry) (frame : List ℕ) (heard : Heard) (copied : Option Opening) (fresh stale : Option Fit) →
-    let said_by : Option Opening = opening_in (call.Uplink frame heard) (uplink_reply_by h copied fresh stale) in
+    let said_by : Option Opening = opening_in (call.Uplink frame heard) (uplink_reply_by h frame copied fresh stale) in
     (said_by ≡ None) ⊎ ((f : Fit) × (copied ≡ None) × (fresh ≡ Some f) × (said_by ≡ Some (opening_of (window_of f) frame heard)))
 opened-cases h frame heard (Some o) fresh stale = inl (step (nat_le (length (window_copies h o.window) + 1) most_copies))
   where
@@ -110,12 +155,13 @@ opened-cases h frame heard None (Some f) stale =
       | inl busy ↦ inl (ap (λ b. opening_in (call.Uplink frame heard) (cond b (reply.Busy w.eui) (reply.Opened w))) busy)
       | inr room ↦ inr (f, refl, refl, ap (λ b. opening_in (call.Uplink frame heard) (cond b (reply.Busy w.eui) (reply.Opened w))) room)
     ]
-opened-cases h frame heard None None (Some f) = inl refl
+opened-cases h frame heard None None (Some f) = inl (old-has (λ r. opening_in (call.Uplink frame heard) r ≡ None) h frame f refl refl (λ round is room. refl))
 opened-cases h frame heard None None None = inl refl
 
--- what a call opens: nothing, or a fresh window of a frame that no open window has
+-- an uplink with a new counter: its first window is fresh, and no open window has its frame
 pub record IsNewOpening (h : List Entry) (o : Opening) : Type 0 where
   pub fresh : IsFresh h o.frame o.window
+  pub first : o.window.round ≡ 1
   pub apart : window_with h o.frame ≡ None
 
 pub opening-new : (net : Network) (h : List Entry) (c : Call) → IfSome (opening_in c (reply_to net h c)) (IsNewOpening h)
@@ -127,8 +173,75 @@ opening-new net h (call.Uplink frame heard) =
       | inl none ↦ subst (λ o. IfSome o (IsNewOpening h)) (sym none) tt
       | inr found ↦
           subst (λ o. IfSome o (IsNewOpening h)) (sym found.3)
-          (record { fresh = at_some (IsFreshFit h frame) (first_fit above net h frame) found.0 found.2 (first_fit-fresh net h frame); apart = found.1 })
+          (record { fresh = at_some (IsFreshFit h frame) (first_fit above net h frame) found.0 found.2 (first_fit-fresh net h frame); first = refl; apart = found.1 })
     ]
+
+-- ---- windows of any round
+
+-- an uplink with the greatest counter of its session, whose window is opened again in the next round
+pub record IsNextOpening (h : List Entry) (o : Opening) : Type 0 where
+  pub confirmed : is_confirmed o.frame ≡ true
+  pub mic : fits h o.frame o.window ≡ true
+  pub counter : greatest_counter h o.window.eui o.window.session ≡ Some o.window.fcnt
+  pub closed : is_uplink_open h o.window ≡ false
+  pub next : o.window.round ≡ last_round h o.window + 1
+  pub apart : window_with h o.frame ≡ None
+
+-- what a call with this reply opens: a first window, or one of a next round
+abbrev pub IsOpened : List Entry → Call → Reply → Opening → Type 0
+IsOpened h c r o = ((opening_in c r ≡ Some o) × IsNewOpening h o) ⊎ ((opening_in c r ≡ None) × IsNextOpening h o)
+
+-- the frame's MIC is that of the session where it fits
+session_fit-mic : (recover : Option ℕ → ℕ → Option ℕ) (h : List Entry) (frame : List ℕ) (eui : DevEui) (session : ℕ) → IfSome (session_fit recover h frame eui session) (λ f. fits h frame (window_of f) ≡ true)
+session_fit-mic recover h frame eui session = joined (session_join h eui session) refl
+  where
+    Fits : Fit → Type 0
+    Fits f = fits h frame (window_of f) ≡ true
+
+    test : (join : JoinAns) → session_join h eui session ≡ Some join → (n : ℕ) (b : Bool) → mic_fits frame join.nwk.0 n ≡ b → IfSome (option_map (fit_of eui session) (when b n)) Fits
+    test join is n true mic = ap (λ (j : Option JoinAns). option_map_or (λ (x : JoinAns). mic_fits frame x.nwk.0 n) j false) is ∙ mic
+    test join is n false mic = tt
+
+    step : (join : JoinAns) → session_join h eui session ≡ Some join → (o : Option ℕ) → IfSome (option_map (fit_of eui session) (option_and_then (λ counter. when (mic_fits frame join.nwk.0 counter) counter) o)) Fits
+    step join is None = tt
+    step join is (Some n) = test join is n (mic_fits frame join.nwk.0 n) refl
+
+    joined : (j : Option JoinAns) → session_join h eui session ≡ j → IfSome (option_map (fit_of eui session) (option_and_then (λ (join : JoinAns). fitting_counter recover frame join.nwk (greatest_counter h eui session)) j)) Fits
+    joined None is = tt
+    joined (Some join) is = step join is (recover (greatest_counter h eui session) (data_fields frame).fcnt16)
+
+first_fit-mic : (recover : Option ℕ → ℕ → Option ℕ) (net : Network) (h : List Entry) (frame : List ℕ) → IfSome (first_fit recover net h frame) (λ f. fits h frame (window_of f) ≡ true)
+first_fit-mic recover net h frame =
+    let Fits : Fit → Type 0 = λ f. fits h frame (window_of f) ≡ true in
+    first-gives Fits (λ (d : Device). device_fit recover h frame d.eui) (λ d. first-gives Fits (session_fit recover h frame d.eui) (session_fit-mic recover h frame d.eui) (live h d.eui)) (devices_at net (data_fields frame).addr)
+
+uplink-window : (net : Network) (h : List Entry) (frame : List ℕ) (heard : Heard) (copied : Option Opening) (fresh stale : Option Fit)
+    → window_with h frame ≡ copied → IfSome fresh (IsFreshFit h frame) → IfSome stale (λ f. fits h frame (window_of f) ≡ true) →
+    let c : Call = call.Uplink frame heard in
+    let r : Reply = uplink_reply_by h frame copied fresh stale in
+    IfSome (window_in c r) (IsOpened h c r)
+uplink-window net h frame heard (Some o) fresh stale is new old = step (nat_le (length (window_copies h o.window) + 1) most_copies)
+  where
+    step : (b : Bool) → let r : Reply = cond b (reply.Copied o.window (length (window_copies h o.window) + 1)) (reply.Crowded o.window) in IfSome (window_in (call.Uplink frame heard) r) (IsOpened h (call.Uplink frame heard) r)
+    step true = tt
+    step false = tt
+uplink-window net h frame heard None (Some f) stale is new old = step (nat_le most_windows (window_count h f.eui))
+  where
+    step : (b : Bool) → let r : Reply = cond b (reply.Busy f.eui) (reply.Opened (window_of f)) in IfSome (window_in (call.Uplink frame heard) r) (IsOpened h (call.Uplink frame heard) r)
+    step true = tt
+    step false = inl (refl, record { fresh = new; first = refl; apart = is })
+uplink-window net h frame heard None None (Some f) is new old =
+    old-has (λ r. IfSome (window_in (call.Uplink frame heard) r) (IsOpened h (call.Uplink frame heard) r)) h frame f tt tt
+    (λ round found room. (let at = round_of-is h frame f round found in inr (refl, record { confirmed = at.confirmed; mic = old; counter = at.counter; closed = at.closed; next = at.next; apart = is })))
+uplink-window net h frame heard None None None is new old = tt
+
+-- each window that a call opens is the first of a fresh counter, or the next of the greatest one
+pub window-new : (net : Network) (h : List Entry) (c : Call) → IfSome (window_in c (reply_to net h c)) (IsOpened h c (reply_to net h c))
+window-new net h (call.Join t heard) = tt
+window-new net h (call.JoinReply t o) = tt
+window-new net h (call.Close w) = tt
+window-new net h (call.Uplink frame heard) =
+    uplink-window net h frame heard (window_with h frame) (first_fit above net h frame) (first_fit below net h frame) refl (first_fit-fresh net h frame) (first_fit-mic below net h frame)
 
 -- what a call adds to the openings of a device
 pub record NewOpening (h : List Entry) (eui : DevEui) (now : List Opening) : Type 0 where
@@ -144,25 +257,28 @@ openings-cases net h number c eui =
     let e : Entry = entry_for net h number c in
     let asked : Opening → Bool = λ o. same_device o.window.eui eui in
     let says : Entry → Option Opening = λ x. opening_in x.call x.reply in
-    let pushed = said-push says asked h e in
-    elim (said-cases says asked e) [
-      | inl nothing ↦ inl (pushed ∙ (ap (λ ys. openings h eui ++ ys) nothing ∙ append-nil (openings h eui)))
+    elim (said-adds says asked h e) [
+      | inl same ↦ inl same
       | inr one ↦ inr (record {
-        o = one.0;
-        joined = pushed ∙ ap (λ ys. openings h eui ++ ys) one.3;
-        device = same_device-eq one.0.window.eui eui one.2;
-        new = at_some (IsNewOpening h) (opening_in c (reply_to net h c)) one.0 one.1 (opening-new net h c);
+        o = one.thing;
+        joined = one.joined;
+        device = same_device-eq one.thing.window.eui eui one.asked;
+        new = at_some (IsNewOpening h) (opening_in c (reply_to net h c)) one.thing one.says (opening-new net h c);
       })
     ]
 
 -- ---- counters rise
 
-counters_step : (net : Network) (h : List Entry) (number : ℕ) (c : Call) → CountersRise h → CountersRise (with_call net h number c)
-counters_step net h number c rises eui session =
+-- a call adds no counter to a session, or one above its greatest
+pub counters-cases : (net : Network) (h : List Entry) (number : ℕ) (c : Call) (eui : DevEui) (session : ℕ) →
+    let now : List ℕ = session_counters (with_call net h number c) eui session in
+    (now ≡ session_counters h eui session) ⊎ ((n : ℕ) × (now ≡ session_counters h eui session ++ n ∷ []) × Exceeds (greatest_counter h eui session) n)
+counters-cases net h number c eui session =
     let in_session : Opening → Bool = λ o. o.window.session == session in
-    let counters : List Opening → List ℕ = λ os. map (λ (o : Opening). o.window.fcnt) (filter in_session os) in
+    let fcnt : Opening → ℕ = λ o. o.window.fcnt in
+    let counters : List Opening → List ℕ = λ os. map fcnt (filter in_session os) in
     elim (openings-cases net h number c eui) [
-      | inl same ↦ subst (λ os. Rises (counters os)) (sym same) (rises eui session)
+      | inl same ↦ inl (ap counters same)
       | inr new ↦
           (let now : filter in_session (openings (with_call net h number c) eui) ≡ filter in_session (openings h eui) ++ cond (in_session new.o) (new.o ∷ []) [] =
           ap (filter in_session) new.joined ∙ filter-append in_session (openings h eui) (new.o ∷ []) in
@@ -171,16 +287,19 @@ counters_step net h number c rises eui session =
                 (let is : new.o.window.session ≡ session = grind (arith, nat_tests) in
                 let exceeds : Exceeds (greatest_counter h eui session) new.o.window.fcnt =
                 subst (λ s. Exceeds (greatest_counter h eui s) new.o.window.fcnt) is (subst (λ (d : DevEui). Exceeds (greatest_counter h d new.o.window.session) new.o.window.fcnt) new.device new.new.fresh.counter) in
-                let one_more : filter in_session (openings (with_call net h number c) eui) ≡ filter in_session (openings h eui) ++ new.o ∷ [] =
-                now ∙ ap (λ b. filter in_session (openings h eui) ++ cond {A = List Opening} b (new.o ∷ []) []) here in
-                let more : Rises (session_counters h eui session ++ new.o.window.fcnt ∷ []) =
-                Rises-push (session_counters h eui session) _ (rises eui session) (Exceeds-each (session_counters h eui session) _ exceeds) in
-                subst (λ os. Rises (map (λ (o : Opening). o.window.fcnt) os)) (sym one_more) (rw map-append more))
+                let one_more : counters (openings (with_call net h number c) eui) ≡ session_counters h eui session ++ new.o.window.fcnt ∷ [] =
+                ap (map fcnt) (now ∙ ap (λ b. filter in_session (openings h eui) ++ cond {A = List Opening} b (new.o ∷ []) []) here) ∙ map-append fcnt (filter in_session (openings h eui)) (new.o ∷ []) in
+                inr (new.o.window.fcnt, one_more, exceeds))
             | inr elsewhere ↦
-                (let still : filter in_session (openings (with_call net h number c) eui) ≡ filter in_session (openings h eui) =
-                now ∙ (ap (λ b. filter in_session (openings h eui) ++ cond {A = List Opening} b (new.o ∷ []) []) elsewhere ∙ append-nil (filter in_session (openings h eui))) in
-                subst (λ os. Rises (map (λ (o : Opening). o.window.fcnt) os)) (sym still) (rises eui session))
+                inl (ap (map fcnt) (now ∙ (ap (λ b. filter in_session (openings h eui) ++ cond {A = List Opening} b (new.o ∷ []) []) elsewhere ∙ append-nil (filter in_session (openings h eui)))))
           ])
+    ]
+
+counters_step : (net : Network) (h : List Entry) (number : ℕ) (c : Call) → CountersRise h → CountersRise (with_call net h number c)
+counters_step net h number c rises eui session =
+    elim (counters-cases net h number c eui session) [
+      | inl same ↦ subst Rises (sym same) (rises eui session)
+      | inr more ↦ subst Rises (sym more.1) (Rises-push (session_counters h eui session) more.0 (rises eui session) (Exceeds-each (session_counters h eui session) more.0 more.2))
     ]
 
 pub counters_rise : (net : Network) (h : List Entry) → IsLegal net h → CountersRise h

@@ -3,7 +3,7 @@ use Rattle.std.specs.Prelude.{ℕ, Bool, true, false, ◌&&◌, ◌==◌, List, 
 use Rattle.ns_types.specs.Identity.{same_window}
 use Rattle.ns_roster.specs.Network.{Network}
 use Rattle.ns_calls.specs.declared.call.Reply.{Reply}
-use Rattle.ns_calls.specs.declared.call.Reply.TheVariants.{Opened, Copied, Crowded, Old, NoSession, Busy, Ask, JoinCopied, JoinCrowded, NonceOld, NoDevice, JoinBusy, Accepted, JoinRefused, JoinStale, NoTicket, Closed, NoWindow}
+use Rattle.ns_calls.specs.declared.call.Reply.TheVariants.{Opened, Copied, Crowded, Old, NoSession, Busy, Ask, JoinCopied, JoinCrowded, NonceOld, NoDevice, JoinBusy, Accepted, JoinRefused, JoinStale, NoTicket, Closed, NoWindow, Again}
 use Rattle.ns_calls.specs.declared.call.Entry.{Entry}
 use Rattle.ns_calls.specs.Reply.{reply_to}
 
@@ -32,6 +32,7 @@ same_reply (JoinStale m) (JoinStale n) = m.0 == n.0
 same_reply NoTicket NoTicket = true
 same_reply (Closed v m) (Closed w n) = same_window v w && same_number m n
 same_reply NoWindow NoWindow = true
+same_reply (Again v) (Again w) = same_window v w
 same_reply _ _ = false
 
 -- whether these entries are legal, where before are the entries before them

@@ -1,21 +1,22 @@
 -- What is promised of the history of a run, in its own words.
-use Rattle.std.specs.Prelude.{◌≡◌, ◌==◌, ℕ, ◌+◌, ◌<◌, ◌≤◌, Bool, true, false, List, [], ◌∷◌, length, map, filter_map, count_by, Option, None, Some, IsSome, is_some}
+use Rattle.std.specs.Prelude.{◌≡◌, ◌==◌, ℕ, ◌+◌, ◌<◌, ◌≤◌, Bool, true, false, List, [], ◌∷◌, ◌++◌, length, map, filter_map, count_by, option_to_list, Option, None, Some, IsSome, is_some}
 use Rattle.std.specs.List.{AllByRecursion, list_any}
 use Rattle.ns_types.specs.declared.identity.DevEui.{DevEui}
 use Rattle.ns_types.specs.declared.identity.WindowName.{WindowName}
 use Rattle.ns_types.specs.declared.ticket.Ticket.{Ticket}
-use Rattle.ns_types.specs.Identity.{same_window}
+use Rattle.ns_types.specs.Identity.{same_uplink, same_window, is_first}
 use Rattle.ns_types.specs.Ticket.{dev_eui, join_eui, nonce}
-use Rattle.ns_views.specs.Frame.{data_fields}
+use Rattle.ns_views.specs.Frame.{data_fields, is_confirmed}
 use Rattle.ns_secure.specs.Counter.{Exceeds}
 use Rattle.ns_roster.specs.Network.{Network, is_known}
 use Rattle.ns_calls.specs.declared.call.Call.{Call}
 use Rattle.ns_calls.specs.declared.call.Reply.{Reply}
-use Rattle.ns_calls.specs.declared.call.Reply.TheVariants.{Opened, Copied, Crowded, Old, NoSession, Busy, Ask, JoinCopied, JoinCrowded, NonceOld, NoDevice, JoinBusy, Accepted, JoinRefused, JoinStale, NoTicket, Closed, NoWindow}
+use Rattle.ns_calls.specs.declared.call.Reply.TheVariants.{Opened, Copied, Crowded, Old, NoSession, Busy, Ask, JoinCopied, JoinCrowded, NonceOld, NoDevice, JoinBusy, Accepted, JoinRefused, JoinStale, NoTicket, Closed, NoWindow, Again}
 use Rattle.ns_calls.specs.declared.call.Entry.{Entry}
-use Rattle.ns_calls.specs.History.{acceptances, next_session, greatest_nonce, session_counters, session_acks, window_in, closing_in, open_windows, open_window, open_tickets, session_join, live, is_live, greatest_counter, window_count, ticket_count, window_copies, ticket_copies, last_nonce}
+use Rattle.ns_calls.specs.History.{acceptances, next_session, greatest_nonce, session_counters, session_acks, window_in, closing_in, open_windows, open_window, open_tickets, session_join, live, is_live, greatest_counter, last_round, is_uplink_open, window_count, ticket_count, window_copies, ticket_copies, last_nonce}
 use Rattle.ns_calls.specs.Reply.{devices_at, fits, window_with, most_windows, most_tickets, most_copies}
-use Rattle.ns_calls.specs.Out.{answer}
+use Rattle.ns_calls.specs.Out.{uplink_out, answer}
+use Rattle.ns_calls.specs.declared.answer.Uplink.{Uplink}
 
 -- each number is greater than all before it
 abbrev pub Rises : List ℕ → Type 0
@@ -85,9 +86,41 @@ pub record IsNewWindow (net : Network) (h : List Entry) (frame : List ℕ) (w : 
   pub mic : fits h frame w ≡ true
   pub session : is_live h w.eui w.session ≡ true
   pub counter : Exceeds (greatest_counter h w.eui w.session) w.fcnt
+  pub round : w.round ≡ 1
   pub name : open_window h w ≡ None
   pub copies : window_copies h w ≡ []
   pub frame_apart : window_with h frame ≡ None
+
+-- What holds of a window that is opened again by a frame: the frame is a Confirmed Data Up of its device, at the greatest counter of a
+-- session that lives; no window of that uplink is open; the round is one more than its last one, which there is; and no open window
+-- has this frame.
+pub record IsNextRound (net : Network) (h : List Entry) (frame : List ℕ) (w : WindowName) : Type 0 where
+  pub device : list_any (λ d. d.eui.0 == w.eui.0) (devices_at net (data_fields frame).addr) ≡ true
+  pub confirmed : is_confirmed frame ≡ true
+  pub mic : fits h frame w ≡ true
+  pub session : is_live h w.eui w.session ≡ true
+  pub counter : greatest_counter h w.eui w.session ≡ Some w.fcnt
+  pub closed : is_uplink_open h w ≡ false
+  pub round : w.round ≡ last_round h w + 1
+  pub repeated : 1 < w.round
+  pub copies : window_copies h w ≡ []
+  pub frame_apart : window_with h frame ≡ None
+
+-- An uplink with a new counter has no round yet, one with the greatest counter has a first one, and a window that is open is of the last
+-- round of its uplink.
+pub record RoundsAreCounted (h : List Entry) : Type 0 where
+  pub new : (w : WindowName) → Exceeds (greatest_counter h w.eui w.session) w.fcnt → last_round h w ≡ 0
+  pub greatest : (w : WindowName) → greatest_counter h w.eui w.session ≡ Some w.fcnt → 1 ≤ last_round h w
+  pub of_open : AllByRecursion (λ o. o.window.round ≡ last_round h o.window) (open_windows h)
+
+-- the uplinks that go out with these entries, in order, where before are the entries before them
+abbrev pub uplinks_after : List Entry → List Entry → List Uplink
+uplinks_after before [] = []
+uplinks_after before (e ∷ es) = option_to_list (uplink_out before e.call e.reply) ++ uplinks_after (before ++ e ∷ []) es
+
+-- Of one uplink of a device, that is of one counter of a session, at most one goes out, whatever is heard again and however often.
+abbrev pub UplinksGoOutOnce : List Entry → Type 0
+UplinksGoOutOnce h = (w : WindowName) → count_by (λ u. same_uplink u.window w) (uplinks_after [] h) ≤ 1
 
 -- each live session has the join server's answer that made it, and so has the session of each open window
 pub record SessionsHaveJoins (h : List Entry) : Type 0 where
@@ -127,8 +160,9 @@ hands_out_uplink (Accepted eui session addr) = false
 hands_out_uplink JoinRefused = false
 hands_out_uplink (JoinStale greatest) = false
 hands_out_uplink NoTicket = false
-hands_out_uplink (Closed window ack) = true
+hands_out_uplink (Closed window ack) = is_first window
 hands_out_uplink NoWindow = false
+hands_out_uplink (Again window) = false
 
 -- with which replies a downlink goes out
 abbrev pub hands_out_downlink : Reply → Bool
@@ -150,6 +184,7 @@ hands_out_downlink (JoinStale greatest) = false
 hands_out_downlink NoTicket = false
 hands_out_downlink (Closed window ack) = is_some ack
 hands_out_downlink NoWindow = false
+hands_out_downlink (Again window) = false
 
 -- the answer to a call has an uplink and a downlink exactly where its reply says so
 pub record GoesOut (net : Network) (h : List Entry) (call : Call) : Type 0 where

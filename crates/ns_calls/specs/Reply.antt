@@ -1,5 +1,5 @@
 -- The plain server: the reply to a call, from the roster and the entries before it.
-use Rattle.std.specs.Prelude.{ℕ, ◌+◌, Bool, true, false, not, ◌&&◌, ◌==◌, nat_le, List, [], ◌∷◌, length, filter, filter_map, find, Option, None, option_map, option_and_then, unwrap_or, bytes_eq, if◌then◌else◌}
+use Rattle.std.specs.Prelude.{ℕ, ◌+◌, ◌^◌, Bool, true, false, not, ◌&&◌, ◌==◌, nat_le, nat_lt, List, [], ◌∷◌, length, filter, filter_map, find, Option, None, Some, option_map, option_and_then, unwrap_or, bytes_eq, if◌then◌else◌}
 use Rattle.std.specs.Option.{option_map_or}
 use Rattle.ns_types.specs.declared.identity.DevEui.{DevEui}
 use Rattle.ns_types.specs.declared.identity.DevAddr.{DevAddr}
@@ -18,10 +18,10 @@ use Rattle.ns_calls.specs.declared.call.Outcome.TheVariants.{Failed, Success}
 use Rattle.ns_calls.specs.declared.call.Call.{Call}
 use Rattle.ns_calls.specs.declared.call.Call.TheVariants as call
 use Rattle.ns_calls.specs.declared.call.Reply.{Reply}
-use Rattle.ns_calls.specs.declared.call.Reply.TheVariants.{Opened, Copied, Crowded, Old, NoSession, Busy, Ask, JoinCopied, JoinCrowded, NonceOld, NoDevice, JoinBusy, Accepted, JoinRefused, JoinStale, NoTicket, Closed, NoWindow}
+use Rattle.ns_calls.specs.declared.call.Reply.TheVariants.{Opened, Copied, Crowded, Old, NoSession, Busy, Ask, JoinCopied, JoinCrowded, NonceOld, NoDevice, JoinBusy, Accepted, JoinRefused, JoinStale, NoTicket, Closed, NoWindow, Again}
 use Rattle.ns_calls.specs.declared.call.Entry.{Entry}
 use Rattle.ns_calls.specs.Queries.{first}
-use Rattle.ns_calls.specs.History.{Opening, greatest_nonce, next_session, session_join, live, is_live, greatest_counter, next_ack_number, open_windows, open_window, window_count, window_copies, is_ticket_open, ticket_count, ticket_copies}
+use Rattle.ns_calls.specs.History.{Opening, greatest_nonce, next_session, session_join, live, is_live, greatest_counter, first_window, last_round, next_ack_number, open_windows, open_window, is_uplink_open, window_count, window_copies, is_ticket_open, ticket_count, ticket_copies}
 
 -- how many copies a window or a ticket has at most
 abbrev pub most_copies : ℕ
@@ -79,26 +79,59 @@ window_with h frame = find (λ o. bytes_eq o.frame frame) (open_windows h)
 abbrev pub copy_reply : List Entry → WindowName → Reply
 copy_reply h w = let place = length (window_copies h w) + 1 in if nat_le place most_copies then Copied w place else Crowded w
 
--- the name of the window that is opened where a frame fits
+-- the name of the first window that is opened where a frame fits, and that of a later round
 abbrev pub window_of : Fit → WindowName
-window_of f = record { eui = f.eui; session = f.session; fcnt = f.counter }
+window_of f = first_window f.eui f.session f.counter
+
+abbrev pub in_round : Fit → ℕ → WindowName
+in_round f round = record { eui = f.eui; session = f.session; fcnt = f.counter; round = round }
+
+-- the reply with which a window is opened, where its device has room for it
+abbrev pub unless_busy : List Entry → WindowName → Reply → Reply
+unless_busy h w reply = if nat_le most_windows (window_count h w.eui) then Busy w.eui else reply
 
 -- a window that is to be opened
 abbrev pub open_reply : List Entry → WindowName → Reply
-open_reply h w = if nat_le most_windows (window_count h w.eui) then Busy w.eui else Opened w
+open_reply h w = unless_busy h w (Opened w)
+
+-- a window that is to be opened for an uplink that was handed out
+abbrev pub again_reply : List Entry → WindowName → Reply
+again_reply h w = unless_busy h w (Again w)
+
+-- whether a counter is the greatest one
+abbrev pub is_greatest : Option ℕ → ℕ → Bool
+is_greatest None counter = false
+is_greatest (Some greatest) counter = greatest == counter
+
+-- the next round of an uplink with the greatest counter of its session, where there is one of 32 bits
+abbrev pub next_round : List Entry → Fit → Option ℕ
+next_round h f =
+    let round = last_round h (window_of f) + 1 in when (is_greatest (greatest_counter h f.eui f.session) f.counter && nat_lt round (2 ^ 32)) round
+
+-- the round in which a frame is acknowledged again: it is a Confirmed Data Up, and no window of its uplink is open (4.3.1.2)
+abbrev pub round_of : List Entry → List ℕ → Fit → Option ℕ
+round_of h frame f = if is_confirmed frame && not (is_uplink_open h (window_of f)) then next_round h f else None
+
+-- a frame that fits at or below the greatest counter
+abbrev pub old_reply : List Entry → List ℕ → Fit → Reply
+old_reply h frame f = first_case (option_map (λ round. again_reply h (in_round f round)) (round_of h frame f) ∷ []) (Old f.eui f.session f.counter)
 
 abbrev pub reply_to_uplink : Network → List Entry → List ℕ → Reply
 reply_to_uplink net h frame = first_case (
     option_map (λ o. copy_reply h o.window) (window_with h frame)
     ∷ option_map (λ f. open_reply h (window_of f)) (first_fit above net h frame)
-    ∷ option_map (λ f. Old f.eui f.session f.counter) (first_fit below net h frame)
+    ∷ option_map (old_reply h frame) (first_fit below net h frame)
     ∷ []) NoSession
 
 -- ---- a join
 
+-- the greatest number, where this one is at most that
+abbrev pub at_or_above : Option ℕ → ℕ → Option ℕ
+at_or_above greatest n = option_and_then (λ g. when (nat_le n g) g) greatest
+
 -- the greatest nonce of the device, where the ticket's is at most that
-abbrev pub spent_by : Network → List Entry → Ticket → Option ℕ
-spent_by net h t = option_and_then (λ g. when (nat_le (nonce t).0 g) g) (greatest_nonce net h (dev_eui t))
+abbrev pub nonce_at_or_above : Network → List Entry → Ticket → Option ℕ
+nonce_at_or_above net h t = at_or_above (greatest_nonce net h (dev_eui t)) (nonce t).0
 
 -- one more copy of an open ticket
 abbrev pub join_copy_reply : List Entry → Ticket → Reply
@@ -107,7 +140,7 @@ join_copy_reply h t = let place = length (ticket_copies h t) + 1 in if nat_le pl
 abbrev pub reply_to_join : Network → List Entry → Ticket → Reply
 reply_to_join net h t = first_case (
     when (not (is_known net (dev_eui t) (join_eui t))) NoDevice
-    ∷ option_map (λ g. NonceOld (record { 0 = g })) (spent_by net h t)
+    ∷ option_map (λ g. NonceOld (record { 0 = g })) (nonce_at_or_above net h t)
     ∷ when (is_ticket_open h t) (join_copy_reply h t)
     ∷ when (nat_le most_tickets (ticket_count h (dev_eui t))) JoinBusy
     ∷ []) (Ask t)
@@ -126,7 +159,7 @@ abbrev pub reply_to_join_reply : Network → List Entry → Ticket → Outcome �
 reply_to_join_reply net h t outcome = first_case (
     when (not (is_ticket_open h t)) NoTicket
     ∷ when (is_failed outcome) JoinRefused
-    ∷ option_map (λ g. JoinStale (record { 0 = g })) (spent_by net h t)
+    ∷ option_map (λ g. JoinStale (record { 0 = g })) (nonce_at_or_above net h t)
     ∷ []) (Accepted (dev_eui t) (next_session h (dev_eui t)) (address net (dev_eui t)))
 
 -- ---- a closing

@@ -42,6 +42,7 @@ device_in (reply.JoinStale greatest) = None
 device_in reply.NoTicket = None
 device_in (reply.Closed window ack) = Some window.eui
 device_in reply.NoWindow = None
+device_in (reply.Again window) = Some window.eui
 
 -- the reply to a call names a device of the call's shard, or none
 abbrev pub NamesOwnDevice : Call → Reply → Type 0

@@ -10,7 +10,7 @@ use Rattle.ns_calls.specs.declared.answer.Uplink.{Uplink}
 use Rattle.ns_calls.specs.declared.answer.Downlink.{Downlink}
 use Rattle.ns_calls.specs.declared.answer.Answer.{Answer}
 use Rattle.ns_calls.specs.declared.call.Reply.{Reply}
-use Rattle.ns_calls.specs.declared.call.Reply.TheVariants.{Opened, Copied, Crowded, Old, NoSession, Busy, Ask, JoinCopied, JoinCrowded, NonceOld, NoDevice, JoinBusy, Accepted, JoinRefused, JoinStale, NoTicket, Closed, NoWindow}
+use Rattle.ns_calls.specs.declared.call.Reply.TheVariants.{Opened, Copied, Crowded, Old, NoSession, Busy, Ask, JoinCopied, JoinCrowded, NonceOld, NoDevice, JoinBusy, Accepted, JoinRefused, JoinStale, NoTicket, Closed, NoWindow, Again}
 
 -- an identity in lower-case hex of full width, the highest byte first
 unfoldable pub wide : ℕ → List ℕ
@@ -28,9 +28,13 @@ number_text n = codes " " ++ decimal n
 abbrev pub id_text : ℕ → List ℕ
 id_text n = codes " " ++ wide n
 
--- the name of a window
+-- a colon and a round above 1
+abbrev pub round_text : ℕ → List ℕ
+round_text round = if nat_lt 1 round then codes ":" ++ decimal round else []
+
+-- the name of a window: device, session, and counter with its round
 unfoldable pub window_text : WindowName → List ℕ
-window_text w = id_text w.eui.0 ++ number_text w.session ++ number_text w.fcnt
+window_text w = id_text w.eui.0 ++ number_text w.session ++ number_text w.fcnt ++ round_text w.round
 
 -- a space and a number, or a dash where there is none
 abbrev pub optional_text : Option ℕ → List ℕ
@@ -57,6 +61,7 @@ reply_text (JoinStale greatest) = codes "joinstale" ++ number_text greatest.0
 reply_text NoTicket = codes "noticket"
 reply_text (Closed w ack) = codes "closed" ++ window_text w ++ optional_text ack
 reply_text NoWindow = codes "nowindow"
+reply_text (Again w) = codes "again" ++ window_text w
 
 -- a space and bytes in hex, or a dash where there are none
 unfoldable pub bytes_text : List ℕ → List ℕ

@@ -1,6 +1,6 @@
 //! Byte strings of bounded length that lie in the value itself, so that calls and entries are of fixed size and can be copied.
 
-ghost use Rattle.std.specs.Prelude.{◌≡◌, ◌≤◌, length};
+ghost use Rattle.std.specs.Prelude.{◌≡◌, ◌≤◌, ◌-◌, length, take, drop, replicate};
 
 use std::marker::Model;
 
@@ -39,6 +39,19 @@ impl<const N: usize> Bytes<N> {
         room[..bytes.len()].copy_from_slice(bytes);
         Bytes {
             len: bytes.len() as u8,
+            room,
+        }
+    }
+
+    /// The bytes at the front of a room that has 0 behind them.
+    pub(crate) fn in_room(room: [u8; N], len: usize) -> Self
+        requires fits { len ≤ N }
+        requires short { len ≤ 255 }
+        requires rest { drop len room ≡ replicate (N - len) 0 }
+        ensures { result ≡ take len room.entry }
+    {
+        Bytes {
+            len: len as u8,
             room,
         }
     }

@@ -1,5 +1,4 @@
-//! The limits of windows and tickets, and the number of shards. Their definitions are `most_copies`, `most_windows`, `most_tickets` and
-//! `shard_count`.
+//! The limits of windows and tickets. Their definitions are `most_copies`, `most_windows` and `most_tickets`.
 
 /// How many copies a window or a ticket has at most.
 pub const MOST_COPIES: usize = 16;
@@ -9,6 +8,3 @@ pub const MOST_WINDOWS: usize = 8;
 
 /// How many tickets of a device are open at most.
 pub const MOST_TICKETS: usize = 4;
-
-/// How many shards there are.
-pub const SHARDS: u8 = 16;

@@ -31,6 +31,7 @@ const WINDOW: WindowName = WindowName {
     eui: EUI,
     session: 1,
     fcnt: 2,
+    round: 1,
 };
 
 fn heard_by(gateway: u64) -> Heard {
@@ -130,6 +131,38 @@ fn lines_of_replies(rt: HostRuntime) -> Result<(), Fail> {
         assert!(rt; has_line(*reply, wanted), "{wanted}");
     }
     Ok(())
+}
+
+#[test]
+fn lines_of_rounds(rt: HostRuntime) {
+    let window = WindowName { round: 2, ..WINDOW };
+    let last = WindowName {
+        round: 0xffff_ffff,
+        ..WINDOW
+    };
+    assert!(rt; has_line(Reply::Again { window }, "again 000000000000000d 1 2:2"));
+    assert!(rt;
+        has_line(
+            Reply::Again { window: last },
+            "again 000000000000000d 1 2:4294967295"
+        )
+    );
+    assert!(rt;
+        has_line(
+            Reply::Copied { window, place: 2 },
+            "copied 000000000000000d 1 2:2 2"
+        )
+    );
+    assert!(rt; has_line(Reply::Crowded { window }, "crowded 000000000000000d 1 2:2"));
+    assert!(rt;
+        has_line(
+            Reply::Closed {
+                window,
+                ack: Some(1)
+            },
+            "closed 000000000000000d 1 2:2 1"
+        )
+    );
 }
 
 #[test]

@@ -2,7 +2,7 @@
 ghost use Rattle.std.specs.Prelude.{◌≡◌, ◌+◌, ◌*◌, ◌≤◌, ◌++◌, ◌∷◌, [], length, map, decimal, codes, flat_map};
 ghost use Rattle.arrayvec.specs.ArrayString.{array_string_len};
 ghost use Rattle.hex.specs.Hex.{encode_lower};
-ghost use Rattle.ns_calls.specs.Text.{text, reply_text, up_text, down_text, window_text, optional_text, bytes_text, kind_text, gateways_text, number_text, id_text, address_text, wide};
+ghost use Rattle.ns_calls.specs.Text.{text, reply_text, up_text, down_text, window_text, round_text, optional_text, bytes_text, kind_text, gateways_text, number_text, id_text, address_text, wide};
 
 use crate::answer::{Answer, Downlink, Uplink};
 use crate::call::Reply;
@@ -32,16 +32,29 @@ fn put_id(line: &mut Line, n: u64)
     put_identity(line, n);
 }
 
+// A colon and a round above 1.
+fn put_round(line: &mut Line, round: u32)
+    requires { array_string_len line.old + 21 ≤ 1024 }
+    ensures bytes { line.new.bytes ≡ line.old.bytes ++ round_text round }
+    ensures len { array_string_len line.new ≤ array_string_len line.old + 21 }
+{
+    if round > 1 {
+        line.push_str(":");
+        put_decimal(line, u64::from(round));
+    }
+}
+
 // A window's name.
 #[tactic(auto, unfolding(crate::specs::Text::window_text))]
 fn put_window(line: &mut Line, name: &WindowName)
-    requires { array_string_len line.old + 59 ≤ 1024 }
+    requires { array_string_len line.old + 80 ≤ 1024 }
     ensures bytes { line.new.bytes ≡ line.old.bytes ++ window_text name.now }
-    ensures len { array_string_len line.new ≤ array_string_len line.old + 59 }
+    ensures len { array_string_len line.new ≤ array_string_len line.old + 80 }
 {
     put_id(line, name.eui.0);
     put_number(line, u64::from(name.session));
     put_number(line, u64::from(name.fcnt));
+    put_round(line, name.round);
 }
 
 // A space and a number, or a dash.
@@ -73,9 +86,9 @@ fn put_bytes(line: &mut Line, bytes: &[u8])
 
 // A word and a window's name.
 fn put_named(line: &mut Line, word: &str, name: &WindowName)
-    requires { array_string_len line.old + length word.now + 59 ≤ 1024 }
+    requires { array_string_len line.old + length word.now + 80 ≤ 1024 }
     ensures bytes { line.new.bytes ≡ line.old.bytes ++ (word.now ++ window_text name.now) }
-    ensures len { array_string_len line.new ≤ array_string_len line.old + length word.now + 59 }
+    ensures len { array_string_len line.new ≤ array_string_len line.old + length word.now + 80 }
 {
     line.push_str(word);
     put_window(line, name);
@@ -112,10 +125,10 @@ fn put_accepted(line: &mut Line, eui: DevEui, session: u32, addr: DevAddr)
     put_address(line, addr.0);
 }
 
-/// Puts the line of a reply, at most 92 bytes, at the end of a line.
+/// Puts the line of a reply, at most 107 bytes, at the end of a line.
 #[tactic(auto, unfolding(crate::specs::Text::reply_text))]
 pub fn put_reply(line: &mut Line, reply: &Reply)
-    requires { array_string_len line.old + 92 ≤ 1024 }
+    requires { array_string_len line.old + 107 ≤ 1024 }
     ensures { line.new.bytes ≡ line.old.bytes ++ reply_text reply.now }
 {
     match reply {
@@ -151,6 +164,7 @@ pub fn put_reply(line: &mut Line, reply: &Reply)
             put_optional(line, *ack);
         }
         Reply::NoWindow => line.push_str("nowindow"),
+        Reply::Again { window } => put_named(line, "again", window),
     }
 }
 
@@ -202,11 +216,11 @@ fn put_kind(line: &mut Line, uplink: &Uplink)
     }
 }
 
-/// Puts the `up` line of an uplink, at most 843 bytes, at the end of a line: `up E S N PORT KIND OPTS BYTES COUNT GATEWAYS`. `KIND`
+/// Puts the `up` line of an uplink, at most 854 bytes, at the end of a line: `up E S N PORT KIND OPTS BYTES COUNT GATEWAYS`. `KIND`
 /// is `sealed` where there is a payload and it is as received, else `plain`; a port, options or payload that is missing is `-`.
 #[tactic(auto, unfolding(crate::specs::Text::up_text))]
 pub fn put_uplink(line: &mut Line, uplink: &Uplink)
-    requires { array_string_len line.old + 901 ≤ 1024 }
+    requires { array_string_len line.old + 922 ≤ 1024 }
     ensures { line.new.bytes ≡ line.old.bytes ++ up_text uplink.now }
 {
     put_named(line, "up", &uplink.window);

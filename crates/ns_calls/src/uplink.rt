@@ -23,8 +23,8 @@ pub fn payload_key(port: Option<u8>, nwk: Key, app: Option<Key>) -> Option<Key>
     }
 }
 
-// A payload under its key.
-fn deciphered(key: &Key, addr: DevAddr, fcnt: u32, payload: &[u8]) -> Bytes<242>
+// A payload as it is deciphered under its key.
+fn plain_payload(key: &Key, addr: DevAddr, fcnt: u32, payload: &[u8]) -> Bytes<242>
     requires { length payload.now ≤ 242 }
     ensures { result ≡ cipher key.now.0 Up addr.0 fcnt payload.now }
 {
@@ -32,7 +32,7 @@ fn deciphered(key: &Key, addr: DevAddr, fcnt: u32, payload: &[u8]) -> Bytes<242>
     let plain = &mut room[..payload.len()];
     plain.copy_from_slice(payload);
     cipher_in_place(plain, key, Dir::Up, addr, fcnt);
-    Bytes::of(plain)
+    Bytes::in_room(room, payload.len())
 }
 
 // A payload deciphered, or as received where its key is not known.
@@ -41,7 +41,7 @@ fn payload_under(key: &Option<Key>, addr: DevAddr, fcnt: u32, payload: &[u8]) ->
     ensures { result ≡ payload_under key.now addr.0 fcnt payload.now }
 {
     match key {
-        Some(key) => deciphered(key, addr, fcnt, payload),
+        Some(key) => plain_payload(key, addr, fcnt, payload),
         None => Bytes::of(payload),
     }
 }

@@ -10,7 +10,7 @@ use Rattle.ns_secure.specs.Keys.{nwk_s_key, app_s_key}
 use Rattle.ns_creator.specs.declared.join.JoinAcceptCreator.{JoinAcceptCreator}
 use Rattle.ns_creator.specs.JoinFrame.{IsJoinAccept, accept_fields, accept_mic, plain_accept, join_accept_frame, cflist_bytes}
 use Rattle.ns_device.specs.declared.session.Session.{Session}
-use Rattle.ns_device.specs.Accept.{deciphered, accept_fault, has_mic, session_in}
+use Rattle.ns_device.specs.Accept.{deciphered, accept_fault, has_mic, session_of_accept}
 use Rattle.ns_device.specs.Laws.{CreatedAcceptsAreTaken}
 use Rattle.ns_device.proofs.Undo.{Undoes, undone, length-accept_cipher}
 
@@ -26,8 +26,8 @@ back : (s m : List ℕ) → length m ≡ 4 → drop (length (s ++ m) - 4) (s ++ 
 back s m h = let e : length (s ++ m) - 4 ≡ length s = omega (arith, length-append s m) in rw e (drop-append_seam s m)
 
 -- the MIC of what a creator made fits
-mic_fits : (app_key signed : List ℕ) → length (join_mic app_key signed) ≡ 4 → has_mic app_key (signed ++ join_mic app_key signed) ≡ true
-mic_fits app_key signed h = rw (front signed (join_mic app_key signed) h, back signed (join_mic app_key signed) h) (bytes_same (join_mic app_key signed))
+join_mic_fits : (app_key signed : List ℕ) → length (join_mic app_key signed) ≡ 4 → has_mic app_key (signed ++ join_mic app_key signed) ≡ true
+join_mic_fits app_key signed h = rw (front signed (join_mic app_key signed) h, back signed (join_mic app_key signed) h) (bytes_same (join_mic app_key signed))
 
 -- ---- the sizes
 
@@ -75,7 +75,7 @@ first_is app_key frame a h = rw h.is refl
 
 no_fault : Undoes → (app_key frame : List ℕ) (a : JoinAcceptCreator) → IsBlock app_key → IsJoinAccept app_key frame a → accept_fault app_key frame ≡ None
 no_fault undoes app_key frame a k h =
-    passes app_key frame (plain_accept app_key a) (frame_size app_key frame a k h) (first_is app_key frame a h) (deciphered_is undoes app_key frame a k h) (mic_fits app_key (0x20 ∷ accept_fields a) h.mic)
+    passes app_key frame (plain_accept app_key a) (frame_size app_key frame a k h) (first_is app_key frame a h) (deciphered_is undoes app_key frame a k h) (join_mic_fits app_key (0x20 ∷ accept_fields a) h.mic)
 
 -- ---- the session
 
@@ -92,14 +92,14 @@ session app_key nonce addr join_nonce net_id = record {
 
 -- the session in the plain frame of these fields, with a JoinNonce of three bytes
 in_plain : (app_key : List ℕ) (nonce : DevNonce) (n o p net addr : ℕ) (rest : List ℕ) → net < 2 ^ 24 → addr < 2 ^ 32 →
-    session_in app_key nonce (0x20 ∷ n ∷ o ∷ p ∷ take 3 (to_le_bytes w32 net) ++ to_le_bytes w32 addr ++ rest) ≡ session app_key nonce addr (n ∷ o ∷ p ∷ []) net
+    session_of_accept app_key nonce (0x20 ∷ n ∷ o ∷ p ∷ take 3 (to_le_bytes w32 net) ++ to_le_bytes w32 addr ++ rest) ≡ session app_key nonce addr (n ∷ o ∷ p ∷ []) net
 unfolding session
 in_plain app_key nonce n o p net addr rest small fits =
     ap (λ m. session app_key nonce (from_le_bytes w32 (to_le_bytes w32 addr)) (n ∷ o ∷ p ∷ []) m) (net_is net small)
     ∙ ap (λ b. session app_key nonce b (n ∷ o ∷ p ∷ []) net) (from_le_bytes-to_le_bytes_4 addr fits)
 
 in_made : (app_key : List ℕ) (nonce : DevNonce) (join_nonce : List ℕ) (net addr settings delay : ℕ) (list mic_bytes : List ℕ) → length join_nonce ≡ 3 → net < 2 ^ 24 → addr < 2 ^ 32 →
-    session_in app_key nonce (0x20 ∷ (join_nonce ++ take 3 (to_le_bytes w32 net) ++ to_le_bytes w32 addr ++ settings ∷ delay ∷ list) ++ mic_bytes) ≡ session app_key nonce addr join_nonce net
+    session_of_accept app_key nonce (0x20 ∷ (join_nonce ++ take 3 (to_le_bytes w32 net) ++ to_le_bytes w32 addr ++ settings ∷ delay ∷ list) ++ mic_bytes) ≡ session app_key nonce addr join_nonce net
 in_made app_key nonce (n ∷ o ∷ p ∷ []) net addr settings delay list mic_bytes e small fits = in_plain app_key nonce n o p net addr (settings ∷ delay ∷ list ++ mic_bytes) small fits
 in_made app_key nonce [] net addr settings delay list mic_bytes e small fits = absurd (omega (arith, e))
 in_made app_key nonce (n ∷ []) net addr settings delay list mic_bytes e small fits = absurd (omega (arith, e))
@@ -110,6 +110,6 @@ pub taken : Undoes → CreatedAcceptsAreTaken
 unfolding session
 taken undoes app_key frame a nonce k h = (
   no_fault undoes app_key frame a k h,
-  ap (session_in app_key nonce) (deciphered_is undoes app_key frame a k h)
+  ap (session_of_accept app_key nonce) (deciphered_is undoes app_key frame a k h)
       ∙ in_made app_key nonce a.join_nonce a.net_id.0 a.addr.0 a.dl_settings a.rx_delay (cflist_bytes a.cflist) (accept_mic app_key a) h.join_nonce h.net_id h.addr,
 )

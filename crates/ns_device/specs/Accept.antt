@@ -26,8 +26,8 @@ accept_fault app_key frame =
     else None
 
 -- the session that a deciphered frame begins: JoinNonce, NetID and DevAddr are three, three and four bytes behind MHDR
-abbrev pub session_in : List ℕ → DevNonce → List ℕ → Session
-session_in app_key nonce plain =
+abbrev pub session_of_accept : List ℕ → DevNonce → List ℕ → Session
+session_of_accept app_key nonce plain =
     let join_nonce = take 3 (drop 1 plain) in
     let net_id = from_le_bytes w32 (take 3 (drop 4 plain) ++ 0 ∷ []) in
     record {

@@ -14,7 +14,7 @@ use Rattle.ns_device.specs.declared.request.JoinReq.{JoinReq}
 use Rattle.ns_device.specs.declared.answer.Grant.{Grant}
 use Rattle.ns_device.specs.declared.answer.Answer.{Answer}
 use Rattle.ns_device.specs.declared.answer.Answer.TheVariants.{Success, MicFailed, Other}
-use Rattle.ns_device.specs.Accept.{deciphered, accept_fault, session_in}
+use Rattle.ns_device.specs.Accept.{deciphered, accept_fault, session_of_accept}
 use Rattle.ns_device.specs.Server.{JoinServer, app_key, answer_to}
 
 -- what `join_ans` of ns_joinwire reads of an answer
@@ -27,7 +27,7 @@ read_of Other = Err (Refused (code_of (codes "Other")))
 -- and the session keys that are handed over.
 pub record IsTaken (key : Key) (r : JoinReq) (grant : Grant) : Type 0 where
   pub no_fault : accept_fault key.0 grant.accept ≡ None
-  pub session : session_in key.0 (nonce r.ticket) (deciphered key.0 grant.accept) ≡ record { addr = r.addr; nwk = grant.nwk; app = grant.app }
+  pub session : session_of_accept key.0 (nonce r.ticket) (deciphered key.0 grant.accept) ≡ record { addr = r.addr; nwk = grant.nwk; app = grant.app }
 
 abbrev pub IsTakenIfGranted : Option Key → JoinReq → Answer → Type 0
 IsTakenIfGranted (Some key) r (Success grant) = IsTaken key r grant

@@ -6,7 +6,7 @@ use Rattle.ns_secure.specs.Keys.{nwk_s_key, app_s_key}
 use Rattle.ns_creator.specs.declared.join.JoinAcceptCreator.{JoinAcceptCreator}
 use Rattle.ns_creator.specs.JoinFrame.{IsJoinAccept}
 use Rattle.ns_device.specs.declared.session.Session.{Session}
-use Rattle.ns_device.specs.Accept.{deciphered, accept_fault, session_in}
+use Rattle.ns_device.specs.Accept.{deciphered, accept_fault, session_of_accept}
 
 -- the session that a Join-Accept with these fields begins, in answer to the Join-Request with this nonce (6.2.6)
 abbrev pub session_of : List ℕ → DevNonce → JoinAcceptCreator → Session
@@ -19,4 +19,4 @@ session_of app_key nonce a = record {
 -- a device takes each Join-Accept that is made under its AppKey, and has the session of its fields
 abbrev pub CreatedAcceptsAreTaken : Type 0
 CreatedAcceptsAreTaken = (app_key frame : List ℕ) (a : JoinAcceptCreator) (nonce : DevNonce) → IsBlock app_key → IsJoinAccept app_key frame a →
-    (accept_fault app_key frame ≡ None) × (session_in app_key nonce (deciphered app_key frame) ≡ session_of app_key nonce a)
+    (accept_fault app_key frame ≡ None) × (session_of_accept app_key nonce (deciphered app_key frame) ≡ session_of app_key nonce a)

@@ -24,7 +24,7 @@ impl TestDevice {
     ghost use Rattle.ns_creator.specs.DataFrame.{data_frame};
     ghost use Rattle.ns_creator.specs.Built.{with_front};
     ghost use Rattle.ns_device.specs.Device.{Device, device_of, request, session_keys_of, uplink_of, uplink_fault, IsSent};
-    ghost use Rattle.ns_device.specs.Accept.{deciphered, has_mic, accept_fault, session_in};
+    ghost use Rattle.ns_device.specs.Accept.{deciphered, has_mic, accept_fault, session_of_accept};
 
     /// A device that has not joined. `root` is its AppKey.
     pub fn new(dev_eui: DevEui, join_eui: JoinEui, root: Key) -> Self
@@ -74,7 +74,7 @@ impl TestDevice {
     /// order, E1 other than 17 or 33 bytes, E2 an FType other than 1 or a Major other than 0, E3 a MIC that doesn't fit.
     pub fn accept(&mut self, nonce: DevNonce, frame: &[u8]) -> Result<(), DeviceFault>
         ensures fault { result_err result ≡ accept_fault (device_of self.old).app_key.0 frame.now }
-        ensures joined { OnOk result (device_of self.new ≡ record (device_of self.old) { session = Some (session_in (device_of self.old).app_key.0 nonce (deciphered (device_of self.old).app_key.0 frame.now)) }) }
+        ensures joined { OnOk result (device_of self.new ≡ record (device_of self.old) { session = Some (session_of_accept (device_of self.old).app_key.0 nonce (deciphered (device_of self.old).app_key.0 frame.now)) }) }
         ensures refused { OnErr result (self.new ≡ self.old) }
     {
         if frame.len() != 17 && frame.len() != 33 {
@@ -90,7 +90,7 @@ impl TestDevice {
         if !self.has_mic(plain) {
             return Err(DeviceFault::Mic);
         }
-        self.session = Some(self.session_in(nonce, plain));
+        self.session = Some(self.session_of_accept(nonce, plain));
         Ok(())
     }
 
@@ -114,9 +114,9 @@ impl TestDevice {
     }
 
     /// The session that a deciphered Join-Accept begins.
-    fn session_in(&self, nonce: DevNonce, plain: &[u8]) -> Session
+    fn session_of_accept(&self, nonce: DevNonce, plain: &[u8]) -> Session
         requires { 17 ≤ length plain.now }
-        ensures { result ≡ session_in self.now.app_key.0 nonce plain.now }
+        ensures { result ≡ session_of_accept self.now.app_key.0 nonce plain.now }
     {
         let join_nonce = bytes_at(plain, 1);
         let net_id = net_id_in(plain);

@@ -6,7 +6,7 @@ ghost use Rattle.ns_device.specs.Request.{request_in};
 ghost use Rattle.ns_types.specs.Ticket.{dev_eui};
 ghost use Rattle.ns_aes_cmac.specs.Aes.{IsBlock};
 ghost use Rattle.ns_device.specs.Joins.{BeginsAccept, IsAnswered, IsTaken, IsTakenIfGranted};
-ghost use Rattle.ns_device.specs.Server.{app_key, HasAdded, IsNonce, nonce_after, answer_to, granted, mic_fits, after, reply_to};
+ghost use Rattle.ns_device.specs.Server.{app_key, HasAdded, IsJoinNonce, join_nonce_after, answer_to, granted, join_mic_fits, after, answer_text};
 
 use crate::answer::{Answer, Grant};
 use crate::join_fault::ReplyFault;
@@ -28,34 +28,34 @@ pub struct TestJoinServer {
     // Each device's AppKey at its DevEUI.
     app_keys: HashMap<u64, Key>,
     // The next Join-Accept's JoinNonce, 1 to 16,777,215.
-    next_nonce: u32,
+    next_join_nonce: u32,
 }
 
 impl Model for TestJoinServer {
-    ghost use Rattle.ns_device.specs.Server.{JoinServer, IsNonce};
+    ghost use Rattle.ns_device.specs.Server.{JoinServer, IsJoinNonce};
 
     ghost Value = { JoinServer };
 
-    ghost view = { λ s. record { app_keys = s.app_keys.entries; next_nonce = s.next_nonce } };
+    ghost view = { λ s. record { app_keys = s.app_keys.entries; next_join_nonce = s.next_join_nonce } };
 
-    ghost invariant = { λ s. IsNonce s.next_nonce };
+    ghost invariant = { λ s. IsJoinNonce s.next_join_nonce };
 }
 
 // The JoinNonce behind this one.
-fn nonce_after(nonce: u32) -> u32
-    requires { nonce ≤ 16777215 }
-    ensures is { result ≡ nonce_after nonce }
+fn join_nonce_after(join_nonce: u32) -> u32
+    requires { join_nonce ≤ 16777215 }
+    ensures is { result ≡ join_nonce_after join_nonce }
 {
-    if nonce == MAX_JOIN_NONCE {
+    if join_nonce == MAX_JOIN_NONCE {
         1
     } else {
-        nonce + 1
+        join_nonce + 1
     }
 }
 
 // Whether the Join-Request's MIC is that of the AppKey.
-fn mic_fits(ticket: &Ticket, app_key: &Key) -> bool
-    ensures { result ≡ mic_fits ticket.now app_key.now.0 }
+fn join_mic_fits(ticket: &Ticket, app_key: &Key) -> bool
+    ensures { result ≡ join_mic_fits ticket.now app_key.now.0 }
 {
     let (signed, mic) = ticket.0.split_at(19);
     join_mic_of(app_key, signed).0.as_slice() == mic
@@ -102,19 +102,19 @@ fn granted(request: &JoinReq, app_key: &Key, nonce: u32) -> Grant
 impl TestJoinServer {
     /// A join server that knows no device. Its first JoinNonce is 1.
     pub fn new(alloc: Global) -> Self
-        ensures { result ≡ record { app_keys = []; next_nonce = 1 } }
+        ensures { result ≡ record { app_keys = []; next_join_nonce = 1 } }
     {
-        TestJoinServer::with_nonce(alloc, 1)
+        TestJoinServer::with_join_nonce(alloc, 1)
     }
 
     /// One whose first JoinNonce is this.
-    pub(crate) fn with_nonce(alloc: Global, next_nonce: u32) -> Self
-        requires { IsNonce next_nonce }
-        ensures { result ≡ record { app_keys = []; next_nonce = next_nonce } }
+    pub(crate) fn with_join_nonce(alloc: Global, next_join_nonce: u32) -> Self
+        requires { IsJoinNonce next_join_nonce }
+        ensures { result ≡ record { app_keys = []; next_join_nonce = next_join_nonce } }
     {
         TestJoinServer {
             app_keys: HashMap::new(alloc),
-            next_nonce,
+            next_join_nonce,
         }
     }
 
@@ -137,8 +137,8 @@ impl TestJoinServer {
         match self.app_keys.get(&request.ticket.dev_eui().0) {
             None => Answer::Other,
             Some(app_key) => {
-                if mic_fits(&request.ticket, app_key) {
-                    Answer::Success(granted(request, app_key, self.next_nonce))
+                if join_mic_fits(&request.ticket, app_key) {
+                    Answer::Success(granted(request, app_key, self.next_join_nonce))
                 } else {
                     Answer::MicFailed
                 }
@@ -151,7 +151,7 @@ impl TestJoinServer {
     /// next JoinNonce is used. Refuses B1 a text that is no JoinReq; NoMemory where memory ran out before that was known or
     /// the text was written.
     pub fn reply(&mut self, alloc: Global, text: &[u8]) -> Result<String, ReplyFault>
-        ensures reply { IfOk result (λ s. option_map (reply_to self.old) (request_in text.now) ≡ Some (string_bytes s)) }
+        ensures reply { IfOk result (λ s. option_map (answer_text self.old) (request_in text.now) ≡ Some (string_bytes s)) }
         ensures answered { IfOk result (λ s. IfSome (request_in text.now) (IsAnswered self.old (string_bytes s))) }
         ensures after { OnOk result (option_map (after self.old) (request_in text.now) ≡ Some self.new) }
         ensures fault { IfErr result (λ e. e ≢ NoMemory → request_in text.now ≡ None) }
@@ -162,7 +162,7 @@ impl TestJoinServer {
         let answer = self.answer(&request);
         let reply = answer.text(alloc, request.transaction)?;
         if answer.is_success() {
-            self.next_nonce = nonce_after(self.next_nonce);
+            self.next_join_nonce = join_nonce_after(self.next_join_nonce);
         }
         Ok(reply)
     }

@@ -159,7 +159,7 @@ fn takes_no_other_text(rt: HostRuntime) -> Result<(), Fail> {
 
 #[test]
 fn begins_again_after_the_last_nonce(rt: HostRuntime) -> Result<(), Fail> {
-    let mut server = TestJoinServer::with_nonce(rt.alloc(), 16_777_215);
+    let mut server = TestJoinServer::with_join_nonce(rt.alloc(), 16_777_215);
     server.add(DEV_EUI, APP_KEY)?;
     let reply = server.reply(rt.alloc(), ASKED_1.as_bytes())?;
     assert_eq!(rt; reply.as_str(), ANSWER_LAST);

@@ -1,5 +1,6 @@
 pub mod FirstJoin
 pub mod SecondJoin
+pub mod SentAgain
 pub mod NonceZero
 pub mod SharedSlot
 pub mod LastCounter

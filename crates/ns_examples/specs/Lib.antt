@@ -2,6 +2,7 @@ pub mod OneDevice
 pub mod ThreeDevices
 pub mod FirstJoin
 pub mod SecondJoin
+pub mod SentAgain
 pub mod NonceZero
 pub mod SharedSlot
 pub mod LastCounter

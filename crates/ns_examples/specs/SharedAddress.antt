@@ -1,11 +1,11 @@
 -- Two devices at one address, the second of the roster heard first. The acknowledgement's moment passes 2^64 microseconds. A window of
--- a device that never joined isn't there.
+-- a device that never joined isn't there. A confirmed uplink that is sent again is acknowledged again.
 use Rattle.std.specs.Prelude.{◌≡◌, ℕ, List, [], ◌∷◌, None, Some, true, false}
 use Rattle.ns_calls.specs.declared.call.Call.{Call}
 use Rattle.ns_calls.specs.declared.answer.Answer.{Answer}
 use Rattle.ns_calls.specs.declared.call.Call.TheVariants as call
 use Rattle.ns_calls.specs.declared.call.Outcome.TheVariants.{Success}
-use Rattle.ns_calls.specs.declared.call.Reply.TheVariants.{Opened, Copied, Old, Ask, Closed, NoWindow}
+use Rattle.ns_calls.specs.declared.call.Reply.TheVariants.{Opened, Copied, Again, Ask, Closed, NoWindow}
 use Rattle.ns_calls.specs.Runs.{answers_of}
 use Rattle.ns_examples.specs.ThreeDevices.{eui_0d, eui_1d, network, address, copy_a, copy_b, copy_c, copy_d, copy_f, join_3, join_1d, answer_0d, answer_1d, name, quiet, accepted}
 
@@ -44,7 +44,7 @@ answers =
     quiet (Ask join_3) ∷ accepted eui_0d copy_a 5000000
     ∷ quiet (Ask join_1d) ∷ accepted eui_1d copy_b 5001000
     ∷ quiet (Opened (name eui_0d 65535)) ∷ quiet (Copied (name eui_0d 65535) 2) ∷ quiet (Opened (name eui_1d 0))
-    ∷ closed_0d ∷ quiet (Old eui_0d 1 65535)
+    ∷ closed_0d ∷ quiet (Again (record (name eui_0d 65535) { round = 2 }))
     ∷ closed_1d ∷ quiet NoWindow ∷ []
 
 abbrev pub SharedAddress : Type 0

@@ -44,7 +44,7 @@ abbrev pub answers : List Answer
 answers =
     quiet (Ask join_1) ∷ accepted 1 heard_1.gateway 6000000
     ∷ quiet (Ask second_join) ∷ second_accepted
-    ∷ quiet (Opened (record { eui = second_eui; session = 1; fcnt = 2 })) ∷ quiet NoSession ∷ quiet (Opened (name 1 2)) ∷ []
+    ∷ quiet (Opened (record { eui = second_eui; session = 1; fcnt = 2; round = 1 })) ∷ quiet NoSession ∷ quiet (Opened (name 1 2)) ∷ []
 
 abbrev pub SharedSlot : Type 0
 SharedSlot = answers_of network_of_two calls ≡ answers

@@ -79,7 +79,7 @@ answer_1d = record { accept = Plain join_accept; nwk = record { 0 = (0x00 ∷ 0x
 
 -- a window in the first session of a device
 abbrev pub name : DevEui → ℕ → WindowName
-name eui fcnt = record { eui = eui; session = 1; fcnt = fcnt }
+name eui fcnt = record { eui = eui; session = 1; fcnt = fcnt; round = 1 }
 
 -- an answer with which nothing goes out
 abbrev pub quiet : Reply → Answer

@@ -5,7 +5,7 @@
 //! it, and the frames were made by OpenSSL or in Python: none of it comes from this program. So whoever doubts a definition reads
 //! a run. `json_texts` does the same for the texts of rosters and join servers, `written_frames` for the frames that creators
 //! build. `runs_are_legal` says of each run from the roster on that it is a legal history, so what is promised of those holds of
-//! it; `last_counter` begins from entries that are given, and `first_window` is values of RX1.
+//! it; `last_counter` and the last round of `sent_again` begin from entries that are given, and `first_window` is values of RX1.
 //!
 //! The crate has no code that an edit could spoil, and so no must-fail edits: each would compute all runs again.
 //!
@@ -16,5 +16,6 @@ mod runs;
 
 pub use runs::{
     copy_limit, first_join, first_window, join_limits, json_texts, last_counter, nonce_zero,
-    runs_are_legal, second_join, shared_address, shared_slot, window_limit, written_frames,
+    runs_are_legal, second_join, sent_again, shared_address, shared_slot, window_limit,
+    written_frames,
 };

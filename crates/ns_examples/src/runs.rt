@@ -8,6 +8,7 @@ ghost use Rattle.ns_examples.specs.JsonTexts.{Rosters, RosterFaults, Request, An
 ghost use Rattle.ns_examples.specs.Frames.{DataFrames, Acknowledgements, JoinRequests, JoinAccepts};
 ghost use Rattle.ns_examples.specs.FirstJoin.{FirstJoin, FirstJoinLines, FirstJoinDatagrams};
 ghost use Rattle.ns_examples.specs.SecondJoin.{SecondJoin};
+ghost use Rattle.ns_examples.specs.SentAgain.{SentAgain, SentAgainLines, LastRound};
 ghost use Rattle.ns_examples.specs.NonceZero.{NonceZero, SealedLines};
 ghost use Rattle.ns_examples.specs.SharedSlot.{SharedSlot};
 ghost use Rattle.ns_examples.specs.LastCounter.{LastCounter};
@@ -28,6 +29,13 @@ pub fn first_join()
 /// Acknowledgements, a join beside a session that lives, a payload that stays sealed, a counter beyond 65535.
 pub fn second_join()
     ensures { SecondJoin }
+{}
+
+/// A confirmed uplink that is sent again, in rounds: the answers, their lines, and the last round that there is.
+pub fn sent_again()
+    ensures answers { SentAgain }
+    ensures lines { SentAgainLines }
+    ensures last { LastRound }
 {}
 
 /// DevNonce 0, a join that is refused and asked for again, an AppSKey that is kept back.

@@ -15,7 +15,7 @@ use Rattle.ns_joinwire.specs.declared.fault.AnsFault.TheVariants.{NotJson, Field
 use Rattle.ns_joinwire.specs.Front.{code_of}
 use Rattle.ns_joinwire.specs.JoinAns as spec
 use Rattle.ns_joinwire.specs.JoinAns.{unless, joinans}
-use Rattle.ns_joinwire.specs.Parts.{Head, Body, KeyEnvelope, field, transaction_of, result_code_of, head_of, label_of, envelope_of, app_envelope, body_of, is_plain, key_of, nwk_key, app_key, join_accept}
+use Rattle.ns_joinwire.specs.Parts.{Head, Body, KeyEnvelope, field, transaction_of, result_code_of, head_of, label_of, envelope_of, app_envelope, body_of, is_plain, key_of, nwk_key, app_key, join_accept_of}
 use Rattle.ns_joinwire.specs.Spelled.{SpellsKey, SpellsAppSKey, SpellsAnswer, Spells}
 
 -- both steps gave a value
@@ -143,7 +143,7 @@ answer-spelled bytes transaction answer is =
     let r = bind-ok (unless (Refused (code_of head.result_code)) (bytes_eq head.result_code (codes "Success"))) _ answer t.2 in
     let b = bind-ok (ok_or (body_of message) Field) _ answer r.2 in
     let body : Body = b.0 in
-    let a = bind-ok (ok_or (join_accept body.phy_payload) NoJoinAccept) _ answer b.2 in
+    let a = bind-ok (ok_or (join_accept_of body.phy_payload) NoJoinAccept) _ answer b.2 in
     let n = bind-ok (ok_or (nwk_key body.nwk) NwkSKey) _ answer a.2 in
     let p = bind-ok (ok_or (app_key body.app) Field) _ answer n.2 in
     let made : JoinAns = record { accept = a.0; nwk = n.0; app = p.0 } in
@@ -160,7 +160,7 @@ answer-spelled bytes transaction answer is =
         result_code = says.2 ∙ ap Some ((bytes_eq-Decides head.result_code (codes "Success")).0 (unless-ok (Refused (code_of head.result_code)) _ r.0 r.1));
         frame = body.phy_payload;
         phy_payload = parts.0;
-        accept = ok_or-ok (join_accept body.phy_payload) NoJoinAccept a.0 a.1 ∙ ap (λ (x : JoinAns). Some x.accept) same;
+        accept = ok_or-ok (join_accept_of body.phy_payload) NoJoinAccept a.0 a.1 ∙ ap (λ (x : JoinAns). Some x.accept) same;
         nwk_envelope = nwk.0;
         nwk_s_key = nwk.1;
         nwk = nwk-spelled nwk.0 body.nwk answer.nwk nwk.2 (ok_or-ok (nwk_key body.nwk) NwkSKey n.0 n.1 ∙ ap (λ (x : JoinAns). Some x.nwk) same);

@@ -7,7 +7,7 @@ use Rattle.ns_joinwire.specs.declared.fault.AnsFault.{AnsFault}
 use Rattle.ns_joinwire.specs.declared.fault.AnsFault.TheVariants.{NotJson, Field, AnotherMessage, Refused, NoJoinAccept, NwkSKey, NoMemory}
 use Rattle.ns_roster.specs.Field.{value_of}
 use Rattle.ns_joinwire.specs.Front.{code_of}
-use Rattle.ns_joinwire.specs.Parts.{head_of, body_of, nwk_key, app_key, join_accept}
+use Rattle.ns_joinwire.specs.Parts.{head_of, body_of, nwk_key, app_key, join_accept_of}
 
 -- What a call returned is what the definition gives, unless memory ran out.
 abbrev pub Gives : {X : Type 0} → Result X AnsFault → Result X AnsFault → Type 0
@@ -32,7 +32,7 @@ answer_of message transaction = do
   _ ← unless AnotherMessage (bytes_eq head.message_type (codes "JoinAns") && head.transaction == transaction)  -- A3
   _ ← unless (Refused (code_of head.result_code)) (bytes_eq head.result_code (codes "Success"))  -- A4
   body ← ok_or (body_of message) Field  -- A2
-  accept ← ok_or (join_accept body.phy_payload) NoJoinAccept  -- A5
+  accept ← ok_or (join_accept_of body.phy_payload) NoJoinAccept  -- A5
   nwk ← ok_or (nwk_key body.nwk) NwkSKey  -- A6
   app ← ok_or (app_key body.app) Field  -- A2
   Ok (record { accept = accept; nwk = nwk; app = app })

@@ -105,7 +105,7 @@ abbrev pub frame_of : List ℕ → Option JoinAccept
 frame_of text = option_or (hex_bytes 17 text) (hex_bytes 33 text) >>= accept_of
 
 -- the Join-Accept of a text
-abbrev pub join_accept : List ℕ → Option JoinAccept
-join_accept text = do
+abbrev pub join_accept_of : List ℕ → Option JoinAccept
+join_accept_of text = do
   frame ← frame_of text
   if is_join_accept (accept_bytes frame) then Some frame else None

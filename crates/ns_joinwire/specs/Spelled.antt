@@ -5,7 +5,7 @@ use Rattle.serde_json.specs.Find.{get}
 use Rattle.ns_types.specs.declared.identity.Key.{Key}
 use Rattle.ns_calls.specs.declared.call.JoinAns.{JoinAns}
 use Rattle.ns_roster.specs.Field.{value_of, text_at, hex_bytes}
-use Rattle.ns_joinwire.specs.Parts.{field, transaction_of, result_code_of, label_of, join_accept}
+use Rattle.ns_joinwire.specs.Parts.{field, transaction_of, result_code_of, label_of, join_accept_of}
 
 -- the value spells a key: 16 bytes in hex, which no key wraps
 pub record SpellsKey (envelope : Data) (key : Key) : Type 0 where
@@ -34,7 +34,7 @@ pub record SpellsAnswer (message : Data) (transaction : ℕ) (answer : JoinAns) 
   pub result_code : result_code_of message ≡ Some (codes "Success")
   pub frame : List ℕ
   pub phy_payload : text_at (codes "PHYPayload") message ≡ Some frame
-  pub accept : join_accept frame ≡ Some answer.accept
+  pub accept : join_accept_of frame ≡ Some answer.accept
   pub nwk_envelope : Data
   pub nwk_s_key : get (codes "NwkSKey") message ≡ Some nwk_envelope
   pub nwk : SpellsKey nwk_envelope answer.nwk

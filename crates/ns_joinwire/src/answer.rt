@@ -6,7 +6,7 @@ ghost use Rattle.ns_joinwire.specs.JoinAns.{Gives, answer_of, joinans};
 ghost use Rattle.ns_joinwire.specs.Parts.{head_of, body_of, transaction_of, result_code_of, app_envelope};
 ghost use Rattle.ns_joinwire.specs.Private.Held.{head_view, body_view, envelope_view};
 
-use crate::envelope::{KeyEnvelope, app_key, field, join_accept};
+use crate::envelope::{KeyEnvelope, app_key, field, join_accept_of};
 use crate::fault::{AnsFault, ResultCode};
 use ns_calls::JoinAns;
 use ns_roster::field::{text_at, value_of, whole_at};
@@ -98,7 +98,7 @@ fn answer_of(message: &Value, transaction: u32) -> Result<JoinAns, AnsFault>
         return Err(AnsFault::Refused(ResultCode::of(head.result_code)));
     }
     let body = body_of(message).ok_or(AnsFault::Field)?;
-    let accept = join_accept(body.phy_payload).ok_or(AnsFault::NoJoinAccept)?;
+    let accept = join_accept_of(body.phy_payload).ok_or(AnsFault::NoJoinAccept)?;
     let nwk = body.nwk.nwk_key().ok_or(AnsFault::NwkSKey)?;
     let app = app_key(body.app).ok_or(AnsFault::Field)?;
     Ok(JoinAns { accept, nwk, app })

@@ -2,7 +2,7 @@
 
 ghost use Rattle.std.specs.Prelude.{◌≡◌, option_map};
 ghost use Rattle.serde_json.specs.View.{view};
-ghost use Rattle.ns_joinwire.specs.Parts.{field, label_of, envelope_of, is_plain, key_of, nwk_key, app_key, is_join_accept, frame_of, join_accept};
+ghost use Rattle.ns_joinwire.specs.Parts.{field, label_of, envelope_of, is_plain, key_of, nwk_key, app_key, is_join_accept, frame_of, join_accept_of};
 ghost use Rattle.ns_joinwire.specs.Private.Held.{envelope_view};
 
 use ns_calls::JoinAccept;
@@ -115,8 +115,8 @@ fn frame_of(text: &str) -> Option<JoinAccept>
 }
 
 /// The Join-Accept of a text.
-pub(crate) fn join_accept(text: &str) -> Option<JoinAccept>
-    ensures { result ≡ join_accept text.now }
+pub(crate) fn join_accept_of(text: &str) -> Option<JoinAccept>
+    ensures { result ≡ join_accept_of text.now }
 {
     let frame = frame_of(text)?;
     if is_join_accept(frame.as_slice()) {

@@ -1,25 +1,33 @@
 //! Numbered entries, with room that is made before it is needed.
 
-ghost use Rattle.std.specs.Prelude.{◌≡◌, ◌<◌, ◌≤◌, ◌+◌, [], ◌∷◌, ◌++◌, length, IsOk, OnOk, vec_len, vec_capacity};
-ghost use Rattle.ns_journal.specs.State.{entry_of, next_entry};
+ghost use Rattle.std.specs.Prelude.{◌≡◌, ◌<◌, ◌≤◌, ◌+◌, [], ◌∷◌, ◌++◌, length, slice_get, ◌↔◌, IsTrue, ◌^◌, IsOk, IfOk, OnOk, OnErr, vec_len, vec_capacity};
+ghost use Rattle.ns_calls.specs.Legal.{entry_of};
+ghost use Rattle.ns_journal.specs.State.{next_entry, AreNumbersOf, with_numbers, without_numbers};
 
 use ns_calls::{Call, Entry, Reply};
 use std::alloc::{AllocError, Global};
 use std::marker::Model;
+use std::mem;
 
 /// Entries, numbered from 0 in the order in which they were made.
 #[derive(Drop)]
 pub struct Journal {
     entries: Vec<Entry>,
+    /// How many entries were cut out.
+    cut: u64,
+    /// How many entries are to come that may not be refused.
+    reserved: usize,
 }
 
 impl Model for Journal {
-    ghost use Rattle.std.specs.Prelude.{length, vec_len, vec_capacity, ◌-◌, ◌≤◌};
+    ghost use Rattle.std.specs.Prelude.{length, vec_len, vec_capacity, ◌+◌, ◌-◌, ◌≤◌, ◌^◌};
     ghost use Rattle.ns_journal.specs.State.{JournalState};
 
     ghost Value = { JournalState };
 
-    ghost view = { λ j. record { made = vec_len j.entries; entries = j.entries.items; room = vec_capacity j.entries - vec_len j.entries } };
+    ghost view = { λ j. record { made = j.cut + vec_len j.entries; entries = j.entries.items; room = vec_capacity j.entries - vec_len j.entries; reserved = j.reserved } };
+
+    ghost invariant = { λ j. (vec_len j.entries + j.reserved ≤ vec_capacity j.entries) × (j.cut ≤ 2 ^ 63) };
 }
 
 impl Journal {
@@ -27,13 +35,16 @@ impl Journal {
     pub fn new(alloc: Global) -> Journal
         ensures entries { result.entries ≡ [] }
         ensures made { result.made ≡ 0 }
+        ensures reserved { result.reserved ≡ 0 }
     {
         Journal {
             entries: Vec::new(alloc),
+            cut: 0,
+            reserved: 0,
         }
     }
 
-    /// Lends the entries, the earliest first.
+    /// Lends the entries that were not cut out, the earliest first.
     pub fn entries(&self) -> &[Entry]
         ensures { result.now ≡ self.now.entries }
     {
@@ -44,37 +55,87 @@ impl Journal {
     pub fn made(&self) -> u64
         ensures { result ≡ self.now.made }
     {
-        self.entries.len() as u64
+        self.cut + self.entries.len() as u64
     }
 
-    /// Makes room for `n` more entries. Where it has to grow, there is then room for as many entries as there are, so that entries
-    /// are moved seldom. Where the growth is refused, nothing has changed.
+    /// Makes room for `n` more entries beside the reserved ones. Where it has to grow, there is then room for as many entries as there
+    /// are, so that entries are moved seldom. Where the growth is refused, nothing has changed.
     pub fn room(&mut self, n: usize) -> Result<(), AllocError>
         ensures made { self.new.made ≡ self.old.made }
         ensures entries { self.new.entries ≡ self.old.entries }
-        ensures ok { OnOk result (n ≤ self.new.room) }
-        ensures doubled { self.old.room < n → OnOk result (length self.old.entries ≤ self.new.room) }
+        ensures reserved { self.new.reserved ≡ self.old.reserved }
+        ensures ok { OnOk result (self.new.reserved + n ≤ self.new.room) }
+        ensures doubled { self.old.room < self.old.reserved + n → OnOk result (length self.old.entries ≤ self.new.room) }
         ensures kept { self.old.room ≤ self.new.room }
-        ensures there_already { n ≤ self.old.room → IsOk result }
+        ensures there_already { self.old.reserved + n ≤ self.old.room → IsOk result }
     {
         let len = self.entries.len();
-        if n <= self.entries.capacity() - len {
+        let Some(wanted) = self.reserved.checked_add(n) else {
+            return Err(AllocError);
+        };
+        if wanted <= self.entries.capacity() - len {
             return Ok(());
         }
-        self.entries.reserve(n.max(len))
+        self.entries.reserve(wanted.max(len))
     }
 
     /// Adds the entry of a call and its reply, and answers its number. It takes no memory.
     pub fn push(&mut self, call: Call, reply: Reply) -> u64
-        requires { 0 < self.old.room }
+        requires { self.old.reserved < self.old.room }
         ensures number { result ≡ self.old.made }
         ensures made { self.new.made ≡ self.old.made + 1 }
         ensures entries { self.new.entries ≡ self.old.entries ++ next_entry self.old call reply ∷ [] }
+        ensures reserved { self.new.reserved ≡ self.old.reserved }
         ensures room { self.old.room ≤ self.new.room + 1 }
     {
         let number = self.made();
         add(&mut self.entries, number, call, reply);
         number
+    }
+
+    /// Adds an entry, and reserves room for one more. It takes no memory.
+    pub fn push_reserving(&mut self, call: Call, reply: Reply) -> u64
+        requires { self.old.reserved + 2 ≤ self.old.room }
+        ensures number { result ≡ self.old.made }
+        ensures made { self.new.made ≡ self.old.made + 1 }
+        ensures entries { self.new.entries ≡ self.old.entries ++ next_entry self.old call reply ∷ [] }
+        ensures reserved { self.new.reserved ≡ self.old.reserved + 1 }
+        ensures room { self.old.room ≤ self.new.room + 1 }
+    {
+        let number = self.push(call, reply);
+        self.reserved += 1;
+        number
+    }
+
+    /// Adds an entry in the room of a reserved one. It takes no memory, and no other room is made before.
+    pub fn push_reserved(&mut self, call: Call, reply: Reply) -> u64
+        requires { 0 < self.old.reserved }
+        ensures number { result ≡ self.old.made }
+        ensures made { self.new.made ≡ self.old.made + 1 }
+        ensures entries { self.new.entries ≡ self.old.entries ++ next_entry self.old call reply ∷ [] }
+        ensures reserved { self.new.reserved + 1 ≡ self.old.reserved }
+        ensures room { self.old.room ≤ self.new.room + 1 }
+    {
+        self.reserved -= 1;
+        self.push(call, reply)
+    }
+
+    /// Cuts entries out: those of these numbers stay, and the others are handed out, in order. The reserved room stays. Where the growth
+    /// is refused, nothing has changed.
+    pub fn cut(&mut self, alloc: Global, stay: &[u64]) -> Result<Vec<Entry>, AllocError>
+        requires numbers { AreNumbersOf self.old.entries stay.now }
+        requires fits { self.old.made ≤ 2 ^ 63 + length stay.now }
+        ensures made { self.new.made ≡ self.old.made }
+        ensures reserved { self.new.reserved ≡ self.old.reserved }
+        ensures entries { OnOk result (self.new.entries ≡ with_numbers stay.now self.old.entries) }
+        ensures others { IfOk result (λ out. out.items ≡ without_numbers stay.now self.old.entries) }
+        ensures err { OnErr result (self.new ≡ self.old) }
+    {
+        let mut kept = Vec::with_capacity(alloc, stay.len() + self.reserved)?;
+        part(&mut self.entries, &mut kept, stay);
+        self.cut += self.entries.len() as u64;
+        mem::swap(&mut self.entries, &mut kept);
+        Ok(kept)
     }
 }
 
@@ -90,4 +151,37 @@ fn add(entries: &mut Vec<Entry>, number: u64, call: Call, reply: Reply)
         call,
         reply,
     });
+}
+
+// Whether the entry has the number that is next among these.
+fn is_next(entry: &Entry, stay: &[u64], next: usize) -> bool
+    ensures { IsTrue result ↔ (slice_get stay.now next ≡ Some entry.now.number) }
+{
+    next < stay.len() && stay[next] == entry.number
+}
+
+// Moves the entries of these numbers to the end of others, where there is room for them.
+fn part(entries: &mut Vec<Entry>, kept: &mut Vec<Entry>, stay: &[u64])
+    requires numbers { AreNumbersOf entries.old.items stay.now }
+    requires none { kept.old.items ≡ [] }
+    requires room { length stay.now ≤ vec_capacity kept.old }
+    ensures kept { kept.new.items ≡ with_numbers stay.now entries.old.items }
+    ensures others { entries.new.items ≡ without_numbers stay.now entries.old.items }
+    ensures count { vec_len kept.new ≡ length stay.now }
+    ensures all { vec_len entries.new + vec_len kept.new ≡ vec_len entries.old }
+    ensures capacity { vec_capacity kept.old ≤ vec_capacity kept.new }
+{
+    let mut next = 0;
+    let mut out = 0;
+    'entries: for place in 0..entries.len() {
+        let entry = entries[place];
+        if is_next(&entry, stay, next) {
+            add(kept, entry.number, entry.call, entry.reply);
+            next += 1;
+        } else {
+            entries[out] = entry;
+            out += 1;
+        }
+    }
+    entries.truncate(out);
 }

@@ -1,4 +1,4 @@
--- A trim of a legal history keeps 206 entries of a device at most.
+-- A trim of a legal history keeps 208 entries of a device at most.
 use Rattle.std.proofs.Common.{◌≡◌, ◌⊎◌, ℕ, ◌+◌, ◌*◌, ◌≤◌, ◌==◌, Bool, true, false, not, ◌||◌, ◌&&◌, cond, List, [], ◌∷◌, length, length-append, filter, filter_map, map, count_by, Option, None, Some, option_map, refl, sym, ap, subst, ◌∙◌, arith, inl, inr}
 use Rattle.std.specs.Prelude.{is_some}
 use Rattle.std.specs.List.{AllByRecursion, list_any, cons_option}
@@ -25,20 +25,20 @@ use Rattle.ns_calls.specs.Legal.{IsLegal}
 use Rattle.ns_calls.proofs.LocalLemmas.{bool_tells, All-each}
 use Rattle.ns_calls.proofs.Lists.{All-weaker, All-filter}
 use Rattle.ns_calls.proofs.JoinLemmas.{same_device-eq}
-use Rattle.ns_calls.proofs.WindowLemmas.{same_window-refl, same_window-eq}
+use Rattle.ns_calls.proofs.NameLemmas.{same_window-refl, same_window-eq}
 use Rattle.ns_calls.proofs.TicketLemmas.{same_ticket-eq}
 use Rattle.ns_calls.proofs.LimitLemmas.{limits}
 use Rattle.ns_calls.proofs.OutLemmas.{open-asked}
-use Rattle.ns_kept.specs.Kept.{whole, same_session, none_says, keeps_acceptance, keeps_opening, keeps_closing, keeps_window_copy, keeps_ticket_copy, is_kept, filter_before, keep}
+use Rattle.ns_kept.specs.Kept.{whole, same_session, repetition_in, none_says, keeps_acceptance, keeps_opening, keeps_repetition, keeps_closing, keeps_window_copy, keeps_ticket_copy, is_kept, filter_before, keep}
 use Rattle.ns_kept.specs.Bound.{device_of, is_of, most_kept}
-use Rattle.ns_kept.proofs.Within.{Adds, Adds-filter, last-append}
+use Rattle.ns_kept.proofs.Within.{Adds, Adds-filter, AllEnds, last-append}
 use Rattle.ns_kept.proofs.Asked.{acceptances-adds, openings-adds, window_copies-adds, copies_of_ticket-adds, ticket_copies-cons}
 use Rattle.ns_kept.proofs.ReadLemmas.{reading-whole}
 use Rattle.ns_kept.proofs.Dropped.{or_false, has_window}
 use Rattle.ns_kept.proofs.KeptQueries.{sessions_rise}
 use Rattle.ns_kept.proofs.Later.{first_one, first_other, find-any}
 use Rattle.ns_kept.proofs.NamesLemmas.{or_true, or_right}
-use Rattle.ns_kept.proofs.Tally.{tally, count-tally, tally-either, AllEnds, tally-either-at, tally-at, times, times-one, times-sixteen, tally-keys, tally-last, tally-adds, any-weaker, any-filter, length-filter, rises-once}
+use Rattle.ns_kept.proofs.Tally.{tally, count-tally, tally-either, tally-either-at, tally-at, times, times-one, times-sixteen, tally-keys, tally-last, tally-adds, any-weaker, any-filter, length-filter, rises-once}
 
 -- ---- booleans
 
@@ -271,17 +271,38 @@ most-acceptances net h legal eui =
 abbrev o_test : DevEui → List Entry → Entry → List Entry → Bool
 o_test eui h x xs = in_class opening_in (λ o. same_device o.window.eui eui && keeps_opening h xs o) x
 
-abbrev o_live : DevEui → List Entry → Entry → List Entry → Bool
-o_live eui h x xs = in_class opening_in (λ o. same_device o.window.eui eui && (is_live h o.window.eui o.window.session && none_says opening_in (λ p. same_session p.window o.window) xs)) x
+-- the last window that entries open so, of each live session
+abbrev last_live : (Call → Reply → Option Opening) → DevEui → List Entry → Entry → List Entry → Bool
+last_live says eui h x xs = in_class says (λ o. same_device o.window.eui eui && (is_live h o.window.eui o.window.session && none_says says (λ p. same_session p.window o.window) xs)) x
 
-abbrev o_session : DevEui → ℕ → Entry → List Entry → Bool
-o_session eui s x xs = last_of opening_in (λ o. same_device o.window.eui eui && (o.window.session == s)) (λ o p. same_session p.window o.window) x xs
+abbrev o_live : DevEui → List Entry → Entry → List Entry → Bool
+o_live eui h x xs = last_live opening_in eui h x xs
+
+abbrev last_in : (Call → Reply → Option Opening) → DevEui → ℕ → Entry → List Entry → Bool
+last_in says eui s x xs = last_of says (λ o. same_device o.window.eui eui && (o.window.session == s)) (λ o p. same_session p.window o.window) x xs
 
 session-of-both : (v w : WindowName) (eui : DevEui) (s : ℕ) → (same_device v.eui eui && (v.session == s)) ≡ true → (same_device w.eui eui && (w.session == s)) ≡ true → same_session w v ≡ true
 session-of-both v w eui s mine yours =
     let one = and_parts (same_device v.eui eui) (v.session == s) mine in
     let two = and_parts (same_device w.eui eui) (w.session == s) yours in
     and_both _ _ (subst (λ (d : DevEui). same_device w.eui d ≡ true) (sym (same_device-eq v.eui eui one.0)) two.0) (subst (λ n. (w.session == n) ≡ true) (sym (eqb-true v.session s one.1)) two.1)
+
+most-last : (says : Call → Reply → Option Opening) (h : List Entry) (eui : DevEui) → tally (last_live says eui h) h ≤ 2
+most-last says h eui =
+    let of_live : tally (last_live says eui h) h ≤ times 1 (live h eui) =
+    tally-keys (last_in says eui) 1 h (live h eui) (last_live says eui h)
+    (λ x xs is.
+    let one = said_one (λ (o : Opening). same_device o.window.eui eui && (is_live h o.window.eui o.window.session && none_says says (λ (p : Opening). same_session p.window o.window) xs)) (says x.call x.reply) is in
+    let o : Opening = one.0 in
+    let parts = and_parts (same_device o.window.eui eui) (is_live h o.window.eui o.window.session && none_says says (λ (p : Opening). same_session p.window o.window) xs) one.2 in
+    let two = and_parts (is_live h o.window.eui o.window.session) (none_says says (λ (p : Opening). same_session p.window o.window) xs) parts.1 in
+    any-weaker (λ s. same_device o.window.eui eui && (o.window.session == s)) (λ s. last_in says eui s x xs)
+    (λ s passes. says_so (λ (b : Opening). (same_device b.window.eui eui && (b.window.session == s)) && none_says says (λ (p : Opening). same_session p.window b.window) xs) (says x.call x.reply) o one.1 (and_both _ _ passes two.1))
+    (live h eui) (live-key h eui o.window.eui o.window.session parts.0 two.0))
+    (All-each (λ s. tally (last_in says eui s) h ≤ 1)
+    (λ s. tally-last_of says (λ (o : Opening). same_device o.window.eui eui && (o.window.session == s)) (λ (o : Opening) (p : Opening). same_session p.window o.window) (λ o p mine yours. session-of-both o.window p.window eui s mine yours) h) (live h eui)) in
+    let two : times 1 (live h eui) ≤ 2 = times-two h eui in
+    omega (arith, of_live, two)
 
 -- the last opening of a device is the last of a live session
 openings-at : (h : List Entry) (eui : DevEui) (es : List Entry) → Lasts (λ xs. openings xs eui) h es → AllEnds (λ x xs. o_test eui h x xs ≡ true → o_live eui h x xs ≡ true) es
@@ -313,20 +334,16 @@ openings-at h eui (x ∷ xs) lasts = (
 most-openings : (h : List Entry) (eui : DevEui) → tally (o_test eui h) h ≤ 2
 most-openings h eui =
     let split : tally (o_test eui h) h ≤ tally (o_live eui h) h = tally-at (o_test eui h) (o_live eui h) h (openings-at h eui h (λ y is. is)) in
-    let of_live : tally (o_live eui h) h ≤ times 1 (live h eui) =
-    tally-keys (o_session eui) 1 h (live h eui) (o_live eui h)
-    (λ x xs is.
-    let one = said_one (λ (o : Opening). same_device o.window.eui eui && (is_live h o.window.eui o.window.session && none_says opening_in (λ (p : Opening). same_session p.window o.window) xs)) (opening_in x.call x.reply) is in
-    let o : Opening = one.0 in
-    let parts = and_parts (same_device o.window.eui eui) (is_live h o.window.eui o.window.session && none_says opening_in (λ (p : Opening). same_session p.window o.window) xs) one.2 in
-    let two = and_parts (is_live h o.window.eui o.window.session) (none_says opening_in (λ (p : Opening). same_session p.window o.window) xs) parts.1 in
-    any-weaker (λ s. same_device o.window.eui eui && (o.window.session == s)) (λ s. o_session eui s x xs)
-    (λ s passes. says_so (λ (b : Opening). (same_device b.window.eui eui && (b.window.session == s)) && none_says opening_in (λ (p : Opening). same_session p.window b.window) xs) (opening_in x.call x.reply) o one.1 (and_both _ _ passes two.1))
-    (live h eui) (live-key h eui o.window.eui o.window.session parts.0 two.0))
-    (All-each (λ s. tally (o_session eui s) h ≤ 1)
-    (λ s. tally-last_of opening_in (λ (o : Opening). same_device o.window.eui eui && (o.window.session == s)) (λ (o : Opening) (p : Opening). same_session p.window o.window) (λ o p mine yours. session-of-both o.window p.window eui s mine yours) h) (live h eui)) in
-    let two : times 1 (live h eui) ≤ 2 = times-two h eui in
-    omega (arith, split, of_live, two)
+    let of_live = most-last opening_in h eui in
+    omega (arith, split, of_live)
+
+-- ---- windows that were opened again
+
+abbrev r_test : DevEui → List Entry → Entry → List Entry → Bool
+r_test eui h x xs = in_class repetition_in (λ o. same_device o.window.eui eui && keeps_repetition h xs o) x
+
+most-repetitions : (h : List Entry) (eui : DevEui) → tally (r_test eui h) h ≤ 2
+most-repetitions h eui = most-last repetition_in h eui
 
 -- ---- acknowledging closings
 
@@ -519,6 +536,13 @@ opening-device (call.JoinReply t x) r o is = absurd (cc is)
 opening-device (call.Join t heard) r o is = absurd (cc is)
 opening-device (call.Close w) r o is = absurd (cc is)
 
+pub repetition-device : (c : Call) (r : Reply) (o : Opening) → repetition_in c r ≡ Some o → device_of c r ≡ Some o.window.eui
+repetition-device (call.Uplink frame heard) (reply.Again w) o is = ap (option_map (λ (x : Opening). x.window.eui)) is
+repetition-device (call.Uplink frame heard) _ o is = absurd (cc is)
+repetition-device (call.JoinReply t x) r o is = absurd (cc is)
+repetition-device (call.Join t heard) r o is = absurd (cc is)
+repetition-device (call.Close w) r o is = absurd (cc is)
+
 pub closing-device : (c : Call) (r : Reply) (x : Closing) → closing_in c r ≡ Some x → device_of c r ≡ Some x.window.eui
 closing-device (call.Close w) (reply.Closed v ack) x is = ap (option_map (λ (y : Closing). y.window.eui)) is
 closing-device (call.Close w) _ x is = absurd (cc is)
@@ -528,6 +552,7 @@ closing-device (call.Join t heard) r x is = absurd (cc is)
 
 pub window-device : (c : Call) (r : Reply) (x : WindowName × Heard) → window_copy_in c r ≡ Some x → device_of c r ≡ Some x.0.eui
 window-device (call.Uplink frame heard) (reply.Opened w) x is = ap (option_map (λ (y : WindowName × Heard). y.0.eui)) is
+window-device (call.Uplink frame heard) (reply.Again w) x is = ap (option_map (λ (y : WindowName × Heard). y.0.eui)) is
 window-device (call.Uplink frame heard) (reply.Copied w place) x is = ap (option_map (λ (y : WindowName × Heard). y.0.eui)) is
 window-device (call.Uplink frame heard) _ x is = absurd (cc is)
 window-device (call.JoinReply t o) r x is = absurd (cc is)
@@ -553,29 +578,36 @@ with-device {Y} says device keeps x eui names mine is =
 abbrev after_c : DevEui → List Entry → Entry → List Entry → Bool
 after_c eui h x xs = w_test eui h x xs || t_test eui h x xs
 
+abbrev after_r : DevEui → List Entry → Entry → List Entry → Bool
+after_r eui h x xs = c_test eui h x xs || after_c eui h x xs
+
 abbrev after_o : DevEui → List Entry → Entry → List Entry → Bool
-after_o eui h x xs = c_test eui h x xs || after_c eui h x xs
+after_o eui h x xs = r_test eui h x xs || after_r eui h x xs
 
 abbrev after_a : DevEui → List Entry → Entry → List Entry → Bool
 after_a eui h x xs = o_test eui h x xs || after_o eui h x xs
 
-five_ways : (a b c d e A O C W T : Bool) → (a ≡ true → A ≡ true) → (b ≡ true → O ≡ true) → (c ≡ true → C ≡ true) → (d ≡ true → W ≡ true) → (e ≡ true → T ≡ true) → (a || b || c || d || e) ≡ true → (A || (O || (C || (W || T)))) ≡ true
-five_ways true b c d e A O C W T p q r s t is = ap (λ x. x || (O || (C || (W || T)))) (p refl)
-five_ways false true c d e A O C W T p q r s t is = or_right A _ (ap (λ x. x || (C || (W || T))) (q refl))
-five_ways false false true d e A O C W T p q r s t is = or_right A _ (or_right O _ (ap (λ x. x || (W || T)) (r refl)))
-five_ways false false false true e A O C W T p q r s t is = or_right A _ (or_right O _ (or_right C _ (ap (λ x. x || T) (s refl))))
-five_ways false false false false true A O C W T p q r s t is = or_right A _ (or_right O _ (or_right C _ (or_right W _ (t refl))))
-five_ways false false false false false A O C W T p q r s t is = absurd (cc is)
+six_ways : (a b c d e f A O R C W T : Bool) → (a ≡ true → A ≡ true) → (b ≡ true → O ≡ true) → (c ≡ true → R ≡ true) → (d ≡ true → C ≡ true) → (e ≡ true → W ≡ true) → (f ≡ true → T ≡ true) →
+    (a || b || c || d || e || f) ≡ true → (A || (O || (R || (C || (W || T))))) ≡ true
+six_ways true b c d e f A O R C W T p q r s t u is = ap (λ x. x || (O || (R || (C || (W || T))))) (p refl)
+six_ways false true c d e f A O R C W T p q r s t u is = or_right A _ (ap (λ x. x || (R || (C || (W || T)))) (q refl))
+six_ways false false true d e f A O R C W T p q r s t u is = or_right A _ (or_right O _ (ap (λ x. x || (C || (W || T))) (r refl)))
+six_ways false false false true e f A O R C W T p q r s t u is = or_right A _ (or_right O _ (or_right R _ (ap (λ x. x || (W || T)) (s refl))))
+six_ways false false false false true f A O R C W T p q r s t u is = or_right A _ (or_right O _ (or_right R _ (or_right C _ (ap (λ x. x || T) (t refl)))))
+six_ways false false false false false true A O R C W T p q r s t u is = or_right A _ (or_right O _ (or_right R _ (or_right C _ (or_right W _ (u refl)))))
+six_ways false false false false false false A O R C W T p q r s t u is = absurd (cc is)
 
 kept-ways : (h : List Entry) (eui : DevEui) (x : Entry) (xs : List Entry) → (is_kept h x xs && is_of eui x) ≡ true → (a_test eui h x xs || after_a eui h x xs) ≡ true
 kept-ways h eui x xs is =
     let parts = and_parts (is_kept h x xs) (is_of eui x) is in
-    five_ways
-    (option_map_or (keeps_acceptance h xs) (acceptance_in x.call x.reply) false) (option_map_or (keeps_opening h xs) (opening_in x.call x.reply) false) (option_map_or (keeps_closing h xs) (closing_in x.call x.reply) false)
+    six_ways
+    (option_map_or (keeps_acceptance h xs) (acceptance_in x.call x.reply) false) (option_map_or (keeps_opening h xs) (opening_in x.call x.reply) false)
+    (option_map_or (keeps_repetition h xs) (repetition_in x.call x.reply) false) (option_map_or (keeps_closing h xs) (closing_in x.call x.reply) false)
     (option_map_or (keeps_window_copy h) (window_copy_in x.call x.reply) false) (option_map_or (keeps_ticket_copy h xs) (ticket_copy_in x.call x.reply) false)
-    (a_test eui h x xs) (o_test eui h x xs) (c_test eui h x xs) (w_test eui h x xs) (t_test eui h x xs)
+    (a_test eui h x xs) (o_test eui h x xs) (r_test eui h x xs) (c_test eui h x xs) (w_test eui h x xs) (t_test eui h x xs)
     (with-device acceptance_in (λ (a : Acceptance). a.eui) (keeps_acceptance h xs) x eui (acceptance-device x.call x.reply) parts.1)
     (with-device opening_in (λ (o : Opening). o.window.eui) (keeps_opening h xs) x eui (opening-device x.call x.reply) parts.1)
+    (with-device repetition_in (λ (o : Opening). o.window.eui) (keeps_repetition h xs) x eui (repetition-device x.call x.reply) parts.1)
     (with-device closing_in (λ (c : Closing). c.window.eui) (keeps_closing h xs) x eui (closing-device x.call x.reply) parts.1)
     (with-device window_copy_in (λ (c : WindowName × Heard). c.0.eui) (keeps_window_copy h) x eui (window-device x.call x.reply) parts.1)
     (with-device ticket_copy_in (λ (c : Ticket × Heard). dev_eui c.0) (keeps_ticket_copy h xs) x eui (ticket-device x.call x.reply) parts.1)
@@ -587,14 +619,16 @@ kept-at-most net h legal eui =
     let one : tally (λ x xs. is_kept h x xs && is_of eui x) h ≤ tally (a_test eui h) h + tally (after_a eui h) h =
     tally-either (λ x xs. is_kept h x xs && is_of eui x) (a_test eui h) (after_a eui h) (λ x xs passes. or_true (a_test eui h x xs) (after_a eui h x xs) (kept-ways h eui x xs passes)) h in
     let two : tally (after_a eui h) h ≤ tally (o_test eui h) h + tally (after_o eui h) h = tally-either (after_a eui h) (o_test eui h) (after_o eui h) (λ x xs passes. or_true (o_test eui h x xs) (after_o eui h x xs) passes) h in
-    let three : tally (after_o eui h) h ≤ tally (c_test eui h) h + tally (after_c eui h) h = tally-either (after_o eui h) (c_test eui h) (after_c eui h) (λ x xs passes. or_true (c_test eui h x xs) (after_c eui h x xs) passes) h in
-    let four : tally (after_c eui h) h ≤ tally (w_test eui h) h + tally (t_test eui h) h = tally-either (after_c eui h) (w_test eui h) (t_test eui h) (λ x xs passes. or_true (w_test eui h x xs) (t_test eui h x xs) passes) h in
+    let three : tally (after_o eui h) h ≤ tally (r_test eui h) h + tally (after_r eui h) h = tally-either (after_o eui h) (r_test eui h) (after_r eui h) (λ x xs passes. or_true (r_test eui h x xs) (after_r eui h x xs) passes) h in
+    let four : tally (after_r eui h) h ≤ tally (c_test eui h) h + tally (after_c eui h) h = tally-either (after_r eui h) (c_test eui h) (after_c eui h) (λ x xs passes. or_true (c_test eui h x xs) (after_c eui h x xs) passes) h in
+    let five : tally (after_c eui h) h ≤ tally (w_test eui h) h + tally (t_test eui h) h = tally-either (after_c eui h) (w_test eui h) (t_test eui h) (λ x xs passes. or_true (w_test eui h x xs) (t_test eui h x xs) passes) h in
     let a = most-acceptances net h legal eui in
     let o = most-openings h eui in
+    let r = most-repetitions h eui in
     let c = most-closings h eui in
     let w = most-window_copies net h legal eui in
     let t = most-ticket_copies net h legal eui in
-    omega (arith, is, one, two, three, four, a, o, c, w, t)
+    omega (arith, is, one, two, three, four, five, a, o, r, c, w, t)
 
 pub keep-at-most : (net : Network) (h : List Entry) → IsLegal net h → (made : ℕ) (eui : DevEui) → count_by (is_of eui) (keep made (whole h)).entries ≤ most_kept
 keep-at-most net h legal made eui = subst (λ (g : List Entry). count_by (is_of eui) (filter_before (is_kept g) h) ≤ most_kept) (sym (reading-whole h)) (kept-at-most net h legal eui)

@@ -12,21 +12,21 @@ use Rattle.ns_roster.specs.Network.{Network}
 use Rattle.ns_calls.specs.declared.call.Call.{Call}
 use Rattle.ns_calls.specs.declared.call.Entry.{Entry}
 use Rattle.ns_calls.specs.Queries.{last, greater, maximum}
-use Rattle.ns_calls.specs.History.{Acceptance, Opening, same_device, acceptances, openings, first_and_other, session_join, session_counters, session_acks, open_windows, open_window, window_copies, open_tickets, last_nonce}
+use Rattle.ns_calls.specs.History.{Acceptance, Opening, same_device, acceptances, openings, first_and_other, first_window, session_join, session_acks, open_windows, open_window, window_copies, open_tickets, last_nonce}
 use Rattle.ns_calls.specs.Legal.{IsLegal, with_call}
 use Rattle.ns_calls.specs.Headline.{Rises}
 use Rattle.ns_calls.proofs.Lists.{All-weaker, Exceeds-each, Rises-push}
 use Rattle.ns_calls.proofs.Induction.{legal_induction}
 use Rattle.ns_calls.proofs.JoinLemmas.{acceptances-cases, nonces_rise}
-use Rattle.ns_calls.proofs.UplinkLemmas.{counters_rise}
 use Rattle.ns_calls.proofs.AckLemmas.{acks_rise}
-use Rattle.ns_calls.proofs.WindowLemmas.{same_window-refl}
+use Rattle.ns_calls.proofs.NameLemmas.{same_window-refl}
 use Rattle.ns_secure.specs.Counter.{Exceeds}
 use Rattle.ns_kept.specs.Kept.{is_kept, with_closings}
 use Rattle.ns_kept.proofs.Within.{Within, Adds-map, last-within, maximum-within}
-use Rattle.ns_kept.proofs.Asked.{acceptances-adds, openings-adds, counters-adds, acks-adds}
-use Rattle.ns_kept.proofs.Dropped.{has_window, idle-map, acceptances-idle, openings-idle, counters-idle, acks-idle, session_join-within, window_copies-within, ticket_copies-within, same_device-refl}
-use Rattle.ns_kept.proofs.ReadLemmas.{acceptances-with_closings, openings-with_closings, counters-with_closings, acks-with_closings, window_copies-with_closings, open_tickets-with_closings, ticket_copies-with_closings}
+use Rattle.ns_kept.proofs.Asked.{acceptances-adds, openings-adds, acks-adds}
+use Rattle.ns_kept.proofs.Dropped.{has_window, idle-map, acceptances-idle, openings-idle, acks-idle, session_join-within, window_copies-within, ticket_copies-within, same_device-refl}
+use Rattle.ns_kept.proofs.RoundsKept.{counters-within, rounds-within, session_round-same}
+use Rattle.ns_kept.proofs.ReadLemmas.{acceptances-with_closings, openings-with_closings, counters-with_closings, rounds-with_closings, acks-with_closings, window_copies-with_closings, open_tickets-with_closings, ticket_copies-with_closings}
 use Rattle.ns_kept.proofs.Alike.{Alike}
 
 -- ---- the sessions of a device rise
@@ -122,7 +122,11 @@ alike-within net h legal mark names ks within windows tickets =
       joins = λ eui session lives. ap (λ joins. join_of joins session) (joined eui) ∙ session_join-within h eui session (inl lives) ks h within;
       counters = λ eui session lives.
           ap maximum (counters-with_closings mark names ks eui session)
-          ∙ maximum-within (is_kept h) (λ es. session_counters es eui session) (counters-adds eui session) (counters-idle h eui session lives) ks h within (counters_rise net h legal eui session);
+          ∙ counters-within net h legal eui session lives ks within;
+      rounds = λ eui session lives.
+          session_round-same (with_closings mark names ks) h eui session
+          (ap maximum (counters-with_closings mark names ks eui session) ∙ counters-within net h legal eui session lives ks within)
+          (λ n greatest. ap maximum (rounds-with_closings mark names ks (first_window eui session n)) ∙ rounds-within net h legal eui session n lives greatest ks within);
       acks = λ eui session lives.
           ap maximum (acks-with_closings mark names ks eui session)
           ∙ maximum-within (is_kept h) (λ es. session_acks es eui session) (acks-adds eui session) (acks-idle h eui session lives) ks h within (acks_rise net h legal eui session);

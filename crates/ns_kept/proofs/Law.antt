@@ -14,7 +14,7 @@ use Rattle.ns_calls.specs.declared.call.Reply.{Reply}
 use Rattle.ns_calls.specs.declared.call.Entry.{Entry}
 use Rattle.ns_calls.specs.declared.answer.Answer.{Answer}
 use Rattle.ns_calls.specs.Queries.{is_ended}
-use Rattle.ns_calls.specs.History.{Opening, opening_in, closes, asking_in, ends_ticket, open_windows, open_tickets}
+use Rattle.ns_calls.specs.History.{Opening, window_in, closes, asking_in, ends_ticket, open_windows, open_tickets}
 use Rattle.ns_calls.specs.Reply.{reply_to}
 use Rattle.ns_calls.specs.Legal.{IsLegal, IsNumbered, IsOfShard, entry_for}
 use Rattle.ns_calls.specs.Legal as calls
@@ -81,8 +81,8 @@ rest-above m h numbered =
 with_closings-append : (mark : ℕ) (names : List WindowName) (xs ys : List Entry) → with_closings mark names (xs ++ ys) ≡ with_closings mark names xs ++ with_closings mark names ys
 with_closings-append mark names [] ys = refl
 with_closings-append mark names (x ∷ xs) ys =
-    ap (λ (es : List Entry). x ∷ closing_of mark names x.number (opening_in x.call x.reply) ++ es) (with_closings-append mark names xs ys)
-    ∙ ap (λ (es : List Entry). x ∷ es) (sym (append_assoc (closing_of mark names x.number (opening_in x.call x.reply)) (with_closings mark names xs) (with_closings mark names ys)))
+    ap (λ (es : List Entry). x ∷ closing_of mark names x.number (window_in x.call x.reply) ++ es) (with_closings-append mark names xs ys)
+    ∙ ap (λ (es : List Entry). x ∷ es) (sym (append_assoc (closing_of mark names x.number (window_in x.call x.reply)) (with_closings mark names xs) (with_closings mark names ys)))
 
 closing_of-above : (mark : ℕ) (names : List WindowName) (number : ℕ) (o : Option Opening) → nat_le mark number ≡ true → closing_of mark names number o ≡ []
 closing_of-above mark names number None above = refl
@@ -91,7 +91,7 @@ closing_of-above mark names number (Some o) above = ap (λ b. cond {A = List Ent
 with_closings-above : (mark : ℕ) (names : List WindowName) (ys : List Entry) → AllByRecursion (λ e. nat_le mark e.number ≡ true) ys → with_closings mark names ys ≡ ys
 with_closings-above mark names [] above = refl
 with_closings-above mark names (y ∷ ys) above =
-    ap (λ (cs : List Entry). y ∷ cs ++ with_closings mark names ys) (closing_of-above mark names y.number (opening_in y.call y.reply) above.0)
+    ap (λ (cs : List Entry). y ∷ cs ++ with_closings mark names ys) (closing_of-above mark names y.number (window_in y.call y.reply) above.0)
     ∙ ap (λ (es : List Entry). y ∷ es) (with_closings-above mark names ys above.1)
 
 -- ---- a trim, and what came since
@@ -107,9 +107,9 @@ left-alike net f ys mark legal below above =
     let reads : with_closings mark names (kept_of f ++ ys) ≡ with_closings mark names (kept_of f) ++ ys = with_closings-append mark names (kept_of f) ys ∙ ap (λ es. with_closings mark names (kept_of f) ++ es) (with_closings-above mark names ys above) in
     let windows : open_windows (with_closings mark names (kept_of f ++ ys)) ≡ open_windows (f ++ ys) =
     ap open_windows reads
-    ∙ (still_open-append (λ (e : Entry). opening_in e.call e.reply) (λ (o : Opening) e. closes o.window e) (with_closings mark names (kept_of f)) ys
+    ∙ (still_open-append (λ (e : Entry). window_in e.call e.reply) (λ (o : Opening) e. closes o.window e) (with_closings mark names (kept_of f)) ys
     ∙ (ap (λ os. filter (λ (o : Opening). not (is_ended (λ (p : Opening) e. closes p.window e) ys o)) os ++ open_windows ys) (windows-kept net f front mark below)
-    ∙ sym (still_open-append (λ (e : Entry). opening_in e.call e.reply) (λ (o : Opening) e. closes o.window e) f ys))) in
+    ∙ sym (still_open-append (λ (e : Entry). window_in e.call e.reply) (λ (o : Opening) e. closes o.window e) f ys))) in
     let tickets : open_tickets (kept_of f ++ ys) ≡ open_tickets (f ++ ys) =
     still_open-append (λ (e : Entry). asking_in e.call e.reply) ends_ticket (kept_of f) ys
     ∙ (ap (λ ts. filter (λ (t : Ticket). not (is_ended ends_ticket ys t)) ts ++ open_tickets ys) (tickets-kept net f front)

@@ -8,11 +8,11 @@ use Rattle.ns_types.specs.declared.identity.WindowName.{WindowName}
 use Rattle.ns_types.specs.Identity.{same_window}
 use Rattle.ns_calls.specs.declared.call.Entry.{Entry}
 use Rattle.ns_calls.specs.Queries.{still_open}
-use Rattle.ns_calls.specs.History.{Opening, opening_in, closes, open_windows}
+use Rattle.ns_calls.specs.History.{Opening, window_in, closes, open_windows}
 use Rattle.ns_calls.specs.Headline.{Rises}
 use Rattle.ns_calls.proofs.LocalLemmas.{bool_tells}
 use Rattle.ns_calls.proofs.Lists.{All-weaker, All-map}
-use Rattle.ns_calls.proofs.WindowLemmas.{same_window-refl, same_window-eq}
+use Rattle.ns_calls.proofs.NameLemmas.{same_window-refl, same_window-eq}
 use Rattle.ns_kept.specs.Kept.{Remains, closing_entry, counts, closing_of, with_closings, reading, counted_windows}
 use Rattle.ns_kept.proofs.WindowsKept.{named}
 
@@ -40,7 +40,7 @@ closers-with_closings : (mark : ℕ) (names : List WindowName) (w : WindowName) 
 closers-with_closings mark names w [] none = refl
 closers-with_closings mark names w (e ∷ es) none =
     ap (λ b. closes w e || b)
-    (step (opening_in e.call e.reply) none ∙ closers-with_closings mark names w es (unadded-rest mark names w e es none))
+    (step (window_in e.call e.reply) none ∙ closers-with_closings mark names w es (unadded-rest mark names w e es none))
   where
     step : (o : Option Opening) → Unadded mark names w (e ∷ es) → list_any (closes w) (closing_of mark names e.number o ++ with_closings mark names es) ≡ list_any (closes w) (with_closings mark names es)
     step None un = refl
@@ -83,11 +83,11 @@ first_part mark names x xs rises (Some o) = by (counts mark names x.number o.win
         ap (λ b. cond {A = List Opening} (not b) (o ∷ []) [] ++ open_windows (with_closings mark names xs)) (closers-with_closings mark names o.window xs unadded)
 
 counted-with_closings : (mark : ℕ) (names : List WindowName) (es : List Entry) → Rises (map (λ e. e.number) es) →
-    open_windows (with_closings mark names es) ≡ still_open (λ e. counting mark names e.number (opening_in e.call e.reply)) (λ (o : Opening) e. closes o.window e) es
+    open_windows (with_closings mark names es) ≡ still_open (λ e. counting mark names e.number (window_in e.call e.reply)) (λ (o : Opening) e. closes o.window e) es
 counted-with_closings mark names [] rises = refl
 counted-with_closings mark names (x ∷ xs) rises =
-    first_part mark names x xs (All-map (λ n. x.number < n) (λ (e : Entry). e.number) xs rises.0) (opening_in x.call x.reply)
-    ∙ ap (λ os. opened_by (counting mark names x.number (opening_in x.call x.reply)) xs ++ os) (counted-with_closings mark names xs rises.1)
+    first_part mark names x xs (All-map (λ n. x.number < n) (λ (e : Entry). e.number) xs rises.0) (window_in x.call x.reply)
+    ∙ ap (λ os. opened_by (counting mark names x.number (window_in x.call x.reply)) xs ++ os) (counted-with_closings mark names xs rises.1)
 
 pub counted-open : (k : Remains) → Rises (map (λ e. e.number) k.entries) → open_windows (reading k) ≡ counted_windows k
 counted-open k rises = counted-with_closings k.mark k.windows k.entries rises

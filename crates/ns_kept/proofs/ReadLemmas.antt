@@ -6,10 +6,10 @@ use Rattle.ns_types.specs.declared.identity.DevEui.{DevEui}
 use Rattle.ns_types.specs.declared.identity.WindowName.{WindowName}
 use Rattle.ns_types.specs.declared.ticket.Ticket.{Ticket}
 use Rattle.ns_calls.specs.declared.call.Entry.{Entry}
-use Rattle.ns_calls.specs.History.{Opening, Closing, opening_in, asking_in, asks_for, ends_ticket, acceptances, openings, session_counters, session_acks, window_copies, open_tickets, copies_of_ticket, ticket_copies}
+use Rattle.ns_calls.specs.History.{Opening, Closing, window_in, asking_in, asks_for, ends_ticket, acceptances, openings, session_counters, session_acks, rounds, window_copies, open_tickets, copies_of_ticket, ticket_copies}
 use Rattle.ns_kept.specs.Kept.{whole, closing_entry, counts, closing_of, with_closings, reading}
 use Rattle.ns_kept.proofs.Within.{Adds}
-use Rattle.ns_kept.proofs.Asked.{acceptances-adds, openings-adds, counters-adds, acks-adds, window_copies-adds, copies_of_ticket-adds, ticket_copies-cons}
+use Rattle.ns_kept.proofs.Asked.{acceptances-adds, openings-adds, counters-adds, rounds-adds, acks-adds, window_copies-adds, copies_of_ticket-adds, ticket_copies-cons}
 
 -- ---- a history that was never trimmed
 
@@ -22,7 +22,7 @@ closing_of-none number (Some o) =
 pub with_closings-untrimmed : (h : List Entry) → with_closings 0 [] h ≡ h
 with_closings-untrimmed [] = refl
 with_closings-untrimmed (e ∷ es) =
-    ap (λ (cs : List Entry). e ∷ cs ++ with_closings 0 [] es) (closing_of-none e.number (opening_in e.call e.reply))
+    ap (λ (cs : List Entry). e ∷ cs ++ with_closings 0 [] es) (closing_of-none e.number (window_in e.call e.reply))
     ∙ ap (λ (xs : List Entry). e ∷ xs) (with_closings-untrimmed es)
 
 pub reading-whole : (h : List Entry) → reading (whole h) ≡ h
@@ -43,9 +43,9 @@ pub with_closings-adds : {Y : Type 0} (L : List Entry → List Y) → Adds L →
 with_closings-adds L adds idle mark names [] = refl
 with_closings-adds {Y} L adds idle mark names (e ∷ es) =
     let rest : List Entry = with_closings mark names es in
-    adds.more e (closing_of mark names e.number (opening_in e.call e.reply) ++ rest)
+    adds.more e (closing_of mark names e.number (window_in e.call e.reply) ++ rest)
     ∙ (ap (λ ys. L (e ∷ []) ++ ys)
-    (by_closing (λ cs. L (cs ++ rest) ≡ L rest) mark names e.number (opening_in e.call e.reply) refl (λ w. adds.more (closing_entry e.number w) rest ∙ ap (λ ys. ys ++ L rest) (idle e.number w))
+    (by_closing (λ cs. L (cs ++ rest) ≡ L rest) mark names e.number (window_in e.call e.reply) refl (λ w. adds.more (closing_entry e.number w) rest ∙ ap (λ ys. ys ++ L rest) (idle e.number w))
     ∙ with_closings-adds L adds idle mark names es)
     ∙ sym (adds.more e es))
 
@@ -57,6 +57,9 @@ openings-with_closings mark names es eui = with_closings-adds (λ h. openings h 
 
 pub counters-with_closings : (mark : ℕ) (names : List WindowName) (es : List Entry) (eui : DevEui) (session : ℕ) → session_counters (with_closings mark names es) eui session ≡ session_counters es eui session
 counters-with_closings mark names es eui session = with_closings-adds (λ h. session_counters h eui session) (counters-adds eui session) (λ number w. refl) mark names es
+
+pub rounds-with_closings : (mark : ℕ) (names : List WindowName) (es : List Entry) (w : WindowName) → rounds (with_closings mark names es) w ≡ rounds es w
+rounds-with_closings mark names es w = with_closings-adds (λ h. rounds h w) (rounds-adds w) (λ number v. refl) mark names es
 
 no_ack : (x : Closing) (here : Bool) → x.ack ≡ None → (session : ℕ) →
     filter_map (λ (c : Closing). c.ack) (filter (λ (c : Closing). c.window.session == session) (cond here (x ∷ []) [])) ≡ []
@@ -84,7 +87,7 @@ any-with_closings test idle mark names [] = refl
 any-with_closings test idle mark names (e ∷ es) =
     let rest : List Entry = with_closings mark names es in
     ap (λ b. test e || b)
-    (by_closing (λ cs. list_any test (cs ++ rest) ≡ list_any test rest) mark names e.number (opening_in e.call e.reply) refl (λ w. ap (λ b. b || list_any test rest) (idle e.number w))
+    (by_closing (λ cs. list_any test (cs ++ rest) ≡ list_any test rest) mark names e.number (window_in e.call e.reply) refl (λ w. ap (λ b. b || list_any test rest) (idle e.number w))
     ∙ any-with_closings test idle mark names es)
 
 asked-same : (o : Option Ticket) (after rest : List Entry) → ((t : Ticket) → list_any (ends_ticket t) after ≡ list_any (ends_ticket t) rest) →
@@ -96,7 +99,7 @@ pub open_tickets-with_closings : (mark : ℕ) (names : List WindowName) (es : Li
 open_tickets-with_closings mark names [] = refl
 open_tickets-with_closings mark names (e ∷ es) =
     let rest : List Entry = with_closings mark names es in
-    by_closing (λ cs. open_tickets (e ∷ cs ++ rest) ≡ open_tickets (e ∷ rest)) mark names e.number (opening_in e.call e.reply) refl (λ w. refl)
+    by_closing (λ cs. open_tickets (e ∷ cs ++ rest) ≡ open_tickets (e ∷ rest)) mark names e.number (window_in e.call e.reply) refl (λ w. refl)
     ∙ (ap (λ ts. ts ++ open_tickets rest) (asked-same (asking_in e.call e.reply) rest es (λ t. any-with_closings (ends_ticket t) (λ number w. refl) mark names es))
     ∙ ap (λ ts. filter (λ t. not (list_any (ends_ticket t) es)) (option_to_list (asking_in e.call e.reply)) ++ ts) (open_tickets-with_closings mark names es))
 
@@ -105,7 +108,7 @@ ticket_copies-with_closings mark names [] t = refl
 ticket_copies-with_closings mark names (e ∷ es) t =
     let rest : List Entry = with_closings mark names es in
     let any : list_any (asks_for t) rest ≡ list_any (asks_for t) es = any-with_closings (asks_for t) (λ number w. refl) mark names es in
-    by_closing (λ cs. ticket_copies (e ∷ cs ++ rest) t ≡ ticket_copies (e ∷ rest) t) mark names e.number (opening_in e.call e.reply) refl (λ w. inserted e.number w rest)
+    by_closing (λ cs. ticket_copies (e ∷ cs ++ rest) t ≡ ticket_copies (e ∷ rest) t) mark names e.number (window_in e.call e.reply) refl (λ w. inserted e.number w rest)
     ∙ (ticket_copies-cons e rest t
     ∙ (ap (λ b. cond b (ticket_copies rest t) (cond (asks_for t e) (copies_of_ticket (e ∷ rest) t) [])) any
     ∙ (ap (λ hs. cond (list_any (asks_for t) es) hs (cond (asks_for t e) (copies_of_ticket (e ∷ rest) t) [])) (ticket_copies-with_closings mark names es t)

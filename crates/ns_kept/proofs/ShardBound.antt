@@ -1,4 +1,4 @@
--- A trim of a shard's history keeps 206 entries for each of its devices at most.
+-- A trim of a shard's history keeps 208 entries for each of its devices at most.
 use Rattle.std.proofs.Common.{◌≡◌, ℕ, suc, ◌*◌, ◌≤◌, ◌==◌, Bool, true, false, not, ◌||◌, ◌&&◌, cond, List, [], ◌∷◌, length, filter, filter_map, count_by, nat_le, Option, None, Some, IfSome, option_map, slice_get, refl, sym, ap, subst, ◌∙◌, arith, inl, inr}
 use Rattle.std.specs.List.{AllByRecursion, list_any}
 use Rattle.std.specs.Option.{option_map_or}
@@ -20,8 +20,8 @@ use Rattle.ns_calls.specs.declared.call.Call.TheVariants as call
 use Rattle.ns_calls.specs.declared.call.Reply.{Reply}
 use Rattle.ns_calls.specs.declared.call.Reply.TheVariants as reply
 use Rattle.ns_calls.specs.declared.call.Entry.{Entry}
-use Rattle.ns_calls.specs.History.{Acceptance, Opening, Closing, acceptance_in, opening_in, closing_in, window_copy_in, ticket_copy_in, same_device, same_ticket, next_session, open_tickets, is_ticket_open, ticket_count}
-use Rattle.ns_calls.specs.Reply.{reply_to, spent_by, address, join_copy_reply, most_tickets}
+use Rattle.ns_calls.specs.History.{Acceptance, Opening, Closing, acceptance_in, opening_in, window_in, closing_in, window_copy_in, ticket_copy_in, same_device, same_ticket, next_session, open_tickets, is_ticket_open, ticket_count}
+use Rattle.ns_calls.specs.Reply.{reply_to, nonce_at_or_above, address, join_copy_reply, most_tickets}
 use Rattle.ns_calls.specs.Legal.{IsLegal, IsHistory, entry_for}
 use Rattle.ns_calls.specs.Shards.{shard_of_call, NamesOwnDevice, device_in}
 use Rattle.ns_calls.specs.Headline.{opening_count, closing_count, WindowsOpenOnce}
@@ -31,16 +31,19 @@ use Rattle.ns_calls.proofs.Induction.{legal_induction}
 use Rattle.ns_calls.proofs.JoinLemmas.{same_device-eq, accepted-cases}
 use Rattle.ns_calls.proofs.KnownLemmas.{tickets_known}
 use Rattle.ns_calls.proofs.TicketLemmas.{same_ticket-eq}
-use Rattle.ns_calls.proofs.FreshLemmas.{opened-new}
-use Rattle.ns_calls.proofs.WindowLemmas.{same_window-eq, windows_open_once}
+use Rattle.ns_calls.proofs.RoundLemmas.{opened}
+use Rattle.ns_calls.proofs.NameLemmas.{same_window-eq}
+use Rattle.ns_calls.proofs.WindowLemmas.{windows_open_once}
 use Rattle.ns_calls.proofs.Merges.{replies_name_own_devices}
-use Rattle.ns_kept.specs.Kept.{whole, keeps_acceptance, keeps_opening, keeps_closing, keeps_window_copy, keeps_ticket_copy, is_kept, filter_before, keep}
+use Rattle.ns_kept.specs.Kept.{whole, repetition_in, keeps_acceptance, keeps_opening, keeps_repetition, keeps_closing, keeps_window_copy, keeps_ticket_copy, is_kept, filter_before, keep}
 use Rattle.ns_kept.specs.Bound.{device_of, is_of}
+use Rattle.ns_kept.proofs.Within.{AllEnds}
 use Rattle.ns_kept.proofs.ReadLemmas.{reading-whole}
 use Rattle.ns_kept.proofs.Dropped.{same_device-refl}
-use Rattle.ns_kept.proofs.Later.{said-more, each-some, counted, each-said, closing-counted, copied-opened, opening-is}
-use Rattle.ns_kept.proofs.Tally.{tally, times, AllEnds, AllEnds-of, tally-keys-at, length-tally, count-tally, times-206, any-weaker, any-filter, length-filter}
-use Rattle.ns_kept.proofs.BoundLemmas.{said_one, says_so, acceptance-device, opening-device, closing-device, window-device, ticket-device, kept-at-most}
+use Rattle.ns_kept.proofs.RoundsKept.{opening-window, repetition-window}
+use Rattle.ns_kept.proofs.Later.{said-more, each-some, counted, each-said, closing-counted, copied-opened, opens-own}
+use Rattle.ns_kept.proofs.Tally.{tally, times, AllEnds-of, tally-keys-at, length-tally, count-tally, times-208, any-weaker, any-filter, length-filter}
+use Rattle.ns_kept.proofs.BoundLemmas.{said_one, says_so, acceptance-device, opening-device, repetition-device, closing-device, window-device, ticket-device, kept-at-most}
 
 -- the roster has the device
 abbrev has_device : Network → DevEui → Bool
@@ -63,7 +66,7 @@ same_ticket-found net (u ∷ ts) t all is =
 
 accepted-known : (net : Network) (g : List Entry) → IsLegal net g → (c : Call) (a : Acceptance) → acceptance_in c (reply_to net g c) ≡ Some a → has_device net a.eui ≡ true
 accepted-known net g legal (call.JoinReply t o) a is =
-    elim (accepted-cases t o (is_ticket_open g t) (spent_by net g t) (dev_eui t) (next_session g (dev_eui t)) (address net (dev_eui t))) [
+    elim (accepted-cases t o (is_ticket_open g t) (nonce_at_or_above net g t) (dev_eui t) (next_session g (dev_eui t)) (address net (dev_eui t))) [
       | inl none ↦ absurd (cc (none, is))
       | inr found ↦
           (let same : Some (dev_eui t) ≡ Some a.eui = ap (option_map (λ (x : Acceptance). x.eui)) (sym found.4 ∙ is) in
@@ -74,11 +77,10 @@ accepted-known net g legal (call.Uplink frame heard) a is = absurd (cc is)
 accepted-known net g legal (call.Join t heard) a is = absurd (cc is)
 accepted-known net g legal (call.Close w) a is = absurd (cc is)
 
-opened-known : (net : Network) (g : List Entry) → IsLegal net g → (c : Call) (o : Opening) → opening_in c (reply_to net g c) ≡ Some o → has_device net o.window.eui ≡ true
+opened-known : (net : Network) (g : List Entry) → IsLegal net g → (c : Call) (o : Opening) → window_in c (reply_to net g c) ≡ Some o → has_device net o.window.eui ≡ true
 opened-known net g legal c o says =
-    let is = opening-is c (reply_to net g c) o says in
-    let there = (opened-new net g legal is.0 is.1 o.window (ap (λ (d : Call). reply_to net g d) (sym is.2) ∙ is.3)).device in
-    unfiltered (λ (d : Device). (device_addr net d).0 == (data_fields is.0).addr) net.devices there
+    let own = opens-own net g legal c o says in
+    unfiltered (λ (d : Device). (device_addr net d).0 == (data_fields own.frame).addr) net.devices own.device
   where
     or_right : (a b : Bool) → b ≡ true → (a || b) ≡ true
     or_right true b is = refl
@@ -108,7 +110,7 @@ asked-known net g (call.Join t heard) x is =
     by : Bool → Option (Ticket × Heard)
     by known = ticket_copy_in (call.Join t heard) (first_case (
         when (not known) reply.NoDevice
-        ∷ option_map (λ g'. reply.NonceOld (record { 0 = g' })) (spent_by net g t)
+        ∷ option_map (λ g'. reply.NonceOld (record { 0 = g' })) (nonce_at_or_above net g t)
         ∷ when (is_ticket_open g t) (join_copy_reply g t)
         ∷ when (nat_le most_tickets (ticket_count g (dev_eui t))) reply.JoinBusy
         ∷ []) (reply.Ask t))
@@ -130,7 +132,7 @@ all-said {Y} net says P each h legal =
 -- each kept entry is of a device of the roster
 record Placed (net : Network) (e : Entry) : Type 0 where
   acceptance : (a : Acceptance) → acceptance_in e.call e.reply ≡ Some a → has_device net a.eui ≡ true
-  opening : (o : Opening) → opening_in e.call e.reply ≡ Some o → has_device net o.window.eui ≡ true
+  window : (o : Opening) → window_in e.call e.reply ≡ Some o → has_device net o.window.eui ≡ true
   closing : (c : Closing) → closing_in e.call e.reply ≡ Some c → has_device net c.window.eui ≡ true
   window_copy : (c : WindowName × Heard) → window_copy_in e.call e.reply ≡ Some c → has_device net c.0.eui ≡ true
   ticket_copy : (c : Ticket × Heard) → ticket_copy_in e.call e.reply ≡ Some c → has_device net (dev_eui c.0) ≡ true
@@ -142,20 +144,20 @@ All-five P Q R S T V gives (x ∷ xs) p q r s t = (gives x p.0 q.0 r.0 s.0 t.0, 
 placed : (net : Network) (h : List Entry) → IsLegal net h → AllByRecursion (Placed net) h
 placed net h legal =
     let once : WindowsOpenOnce h = windows_open_once net h legal in
-    let opened : AllByRecursion (λ (o : Opening). has_device net o.window.eui ≡ true) (filter_map (λ (e : Entry). opening_in e.call e.reply) h) =
-    all-said net opening_in (λ (o : Opening). has_device net o.window.eui ≡ true) (λ g ok c o says. opened-known net g ok c o says) h legal in
+    let known : AllByRecursion (λ (o : Opening). has_device net o.window.eui ≡ true) (opened h) =
+    all-said net window_in (λ (o : Opening). has_device net o.window.eui ≡ true) (λ g ok c o says. opened-known net g ok c o says) h legal in
     let of_window : (w : WindowName) → 1 ≤ opening_count h w → has_device net w.eui ≡ true = λ w some.
-    (let found = counted (λ (o : Opening). has_device net o.window.eui ≡ true) (λ (o : Opening). same_window o.window w) (filter_map (λ (e : Entry). opening_in e.call e.reply) h) opened some in
+    (let found = counted (λ (o : Opening). has_device net o.window.eui ≡ true) (λ (o : Opening). same_window o.window w) (opened h) known some in
     subst (λ (v : WindowName). has_device net v.eui ≡ true) (same_window-eq found.0.window w found.2) found.1) in
     All-five
     (λ (e : Entry). (a : Acceptance) → acceptance_in e.call e.reply ≡ Some a → has_device net a.eui ≡ true)
-    (λ (e : Entry). (o : Opening) → opening_in e.call e.reply ≡ Some o → has_device net o.window.eui ≡ true)
+    (λ (e : Entry). (o : Opening) → window_in e.call e.reply ≡ Some o → has_device net o.window.eui ≡ true)
     (λ (e : Entry). (c : Closing) → closing_in e.call e.reply ≡ Some c → has_device net c.window.eui ≡ true)
     (λ (e : Entry). (c : WindowName × Heard) → window_copy_in e.call e.reply ≡ Some c → has_device net c.0.eui ≡ true)
     (λ (e : Entry). (c : Ticket × Heard) → ticket_copy_in e.call e.reply ≡ Some c → has_device net (dev_eui c.0) ≡ true)
-    (Placed net) (λ e p q r s t. record { acceptance = p; opening = q; closing = r; window_copy = s; ticket_copy = t }) h
+    (Placed net) (λ e p q r s t. record { acceptance = p; window = q; closing = r; window_copy = s; ticket_copy = t }) h
     (each-said (λ (a : Acceptance). has_device net a.eui ≡ true) (λ (e : Entry). acceptance_in e.call e.reply) h (all-said net acceptance_in (λ (a : Acceptance). has_device net a.eui ≡ true) (λ g ok c a says. accepted-known net g ok c a says) h legal))
-    (each-said (λ (o : Opening). has_device net o.window.eui ≡ true) (λ (e : Entry). opening_in e.call e.reply) h opened)
+    (each-said (λ (o : Opening). has_device net o.window.eui ≡ true) (λ (e : Entry). window_in e.call e.reply) h known)
     (each-said (λ (c : Closing). has_device net c.window.eui ≡ true) (λ (e : Entry). closing_in e.call e.reply) h
     (All-weaker (λ (c : Closing). 1 ≤ closing_count h c.window) (λ (c : Closing). has_device net c.window.eui ≡ true)
     (λ c some. (let sums = once.closes c.window in let opens : 1 ≤ opening_count h c.window = omega (arith, some, sums) in of_window c.window opens)) _ (closing-counted h)))
@@ -172,21 +174,24 @@ one-place : {Y : Type 0} (net : Network) (x : Entry) (says : Call → Reply → 
 unfolding HasPlace
 one-place net x says device keeps names has is = (let one = said_one keeps (says x.call x.reply) is in (device one.0, names one.0 one.1, has one.0 one.1))
 
-of_five : {T : Type 0} (a b c d e : Bool) → (a ≡ true → T) → (b ≡ true → T) → (c ≡ true → T) → (d ≡ true → T) → (e ≡ true → T) → (a || b || c || d || e) ≡ true → T
-of_five true b c d e p q r s t is = p refl
-of_five false true c d e p q r s t is = q refl
-of_five false false true d e p q r s t is = r refl
-of_five false false false true e p q r s t is = s refl
-of_five false false false false true p q r s t is = t refl
-of_five false false false false false p q r s t is = absurd (cc is)
+of_six : {T : Type 0} (a b c d e f : Bool) → (a ≡ true → T) → (b ≡ true → T) → (c ≡ true → T) → (d ≡ true → T) → (e ≡ true → T) → (f ≡ true → T) → (a || b || c || d || e || f) ≡ true → T
+of_six true b c d e f p q r s t u is = p refl
+of_six false true c d e f p q r s t u is = q refl
+of_six false false true d e f p q r s t u is = r refl
+of_six false false false true e f p q r s t u is = s refl
+of_six false false false false true f p q r s t u is = t refl
+of_six false false false false false true p q r s t u is = u refl
+of_six false false false false false false p q r s t u is = absurd (cc is)
 
 kept-place : (net : Network) (h : List Entry) (x : Entry) (xs : List Entry) → Placed net x → is_kept h x xs ≡ true → HasPlace net x
 kept-place net h x xs at is =
-    of_five
-    (option_map_or (keeps_acceptance h xs) (acceptance_in x.call x.reply) false) (option_map_or (keeps_opening h xs) (opening_in x.call x.reply) false) (option_map_or (keeps_closing h xs) (closing_in x.call x.reply) false)
+    of_six
+    (option_map_or (keeps_acceptance h xs) (acceptance_in x.call x.reply) false) (option_map_or (keeps_opening h xs) (opening_in x.call x.reply) false)
+    (option_map_or (keeps_repetition h xs) (repetition_in x.call x.reply) false) (option_map_or (keeps_closing h xs) (closing_in x.call x.reply) false)
     (option_map_or (keeps_window_copy h) (window_copy_in x.call x.reply) false) (option_map_or (keeps_ticket_copy h xs) (ticket_copy_in x.call x.reply) false)
     (one-place net x acceptance_in (λ (a : Acceptance). a.eui) (keeps_acceptance h xs) (acceptance-device x.call x.reply) at.acceptance)
-    (one-place net x opening_in (λ (o : Opening). o.window.eui) (keeps_opening h xs) (opening-device x.call x.reply) at.opening)
+    (one-place net x opening_in (λ (o : Opening). o.window.eui) (keeps_opening h xs) (opening-device x.call x.reply) (λ o says. at.window o (opening-window x.call x.reply o says)))
+    (one-place net x repetition_in (λ (o : Opening). o.window.eui) (keeps_repetition h xs) (repetition-device x.call x.reply) (λ o says. at.window o (repetition-window x.call x.reply o says)))
     (one-place net x closing_in (λ (c : Closing). c.window.eui) (keeps_closing h xs) (closing-device x.call x.reply) at.closing)
     (one-place net x window_copy_in (λ (c : WindowName × Heard). c.0.eui) (keeps_window_copy h) (window-device x.call x.reply) at.window_copy)
     (one-place net x ticket_copy_in (λ (c : Ticket × Heard). dev_eui c.0) (keeps_ticket_copy h xs) (ticket-device x.call x.reply) at.ticket_copy)
@@ -211,7 +216,7 @@ by_place P (x ∷ xs) each = (each 0 x refl, by_place P xs (λ n e at. each (suc
 abbrev devices_of : Network → ℕ → List Device
 devices_of net k = filter (λ d. shard_of d.eui == k) net.devices
 
-pub shard-keeps-at-most : (net : Network) → IsRoster net → (k : ℕ) (h : List Entry) → IsHistory net k h → (made : ℕ) → length (keep made (whole h)).entries ≤ 206 * count_by (λ d. shard_of d.eui == k) net.devices
+pub shard-keeps-at-most : (net : Network) → IsRoster net → (k : ℕ) (h : List Entry) → IsHistory net k h → (made : ℕ) → length (keep made (whole h)).entries ≤ 208 * count_by (λ d. shard_of d.eui == k) net.devices
 unfolding HasPlace
 shard-keeps-at-most net valid k h history made =
     let keys : List Device = devices_of net k in
@@ -230,14 +235,14 @@ shard-keeps-at-most net valid k h history made =
     keys
     (any-filter (λ (d : Device). same_device d.eui eui) (λ (d : Device). shard_of d.eui == k) (λ d same. eq-eqb (shard_of d.eui) k (ap shard_of (same_device-eq d.eui eui same) ∙ both.1 eui place.1)) net.devices place.2))
     h (pair h (placed net h history.legal) own) in
-    let each : AllByRecursion (λ (d : Device). tally (λ x xs. is_kept h x xs && is_of d.eui x) h ≤ 206) keys =
-    All-each (λ (d : Device). tally (λ x xs. is_kept h x xs && is_of d.eui x) h ≤ 206)
+    let each : AllByRecursion (λ (d : Device). tally (λ x xs. is_kept h x xs && is_of d.eui x) h ≤ 208) keys =
+    All-each (λ (d : Device). tally (λ x xs. is_kept h x xs && is_of d.eui x) h ≤ 208)
     (λ d. (let is = count-tally (is_kept h) (is_of d.eui) h in let most = kept-at-most net h history.legal d.eui in omega (arith, is, most))) keys in
-    let most : tally (is_kept h) h ≤ times 206 keys = tally-keys-at (λ (d : Device) x xs. is_kept h x xs && is_of d.eui x) 206 h keys (is_kept h) ends each in
-    let as_many : times 206 keys ≡ 206 * length keys = times-206 keys in
+    let most : tally (is_kept h) h ≤ times 208 keys = tally-keys-at (λ (d : Device) x xs. is_kept h x xs && is_of d.eui x) 208 h keys (is_kept h) ends each in
+    let as_many : times 208 keys ≡ 208 * length keys = times-208 keys in
     let counted_so : length keys ≡ count_by (λ (d : Device). shard_of d.eui == k) net.devices = length-filter (λ (d : Device). shard_of d.eui == k) net.devices in
     let is : length (filter_before (is_kept h) h) ≡ tally (is_kept h) h = length-tally (is_kept h) h in
-    subst (λ (g : List Entry). length (filter_before (is_kept g) h) ≤ 206 * count_by (λ (d : Device). shard_of d.eui == k) net.devices) (sym (reading-whole h)) (omega (arith, most, as_many, counted_so, is))
+    subst (λ (g : List Entry). length (filter_before (is_kept g) h) ≤ 208 * count_by (λ (d : Device). shard_of d.eui == k) net.devices) (sym (reading-whole h)) (omega (arith, most, as_many, counted_so, is))
   where
     pair : (es : List Entry) → AllByRecursion (Placed net) es → AllByRecursion (λ (e : Entry). (eui : DevEui) → device_of e.call e.reply ≡ Some eui → shard_of eui ≡ k) es → AllByRecursion (λ (e : Entry). Placed net e × ((eui : DevEui) → device_of e.call e.reply ≡ Some eui → shard_of eui ≡ k)) es
     pair [] p q = tt

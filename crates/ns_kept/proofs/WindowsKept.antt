@@ -12,12 +12,13 @@ use Rattle.ns_calls.specs.declared.call.Call.TheVariants as call
 use Rattle.ns_calls.specs.declared.call.Reply.{Reply}
 use Rattle.ns_calls.specs.declared.call.Reply.TheVariants as reply
 use Rattle.ns_calls.specs.declared.call.Entry.{Entry}
-use Rattle.ns_calls.specs.History.{Opening, Closing, opening_in, closing_in, window_copy_in, closes, open_windows, open_window}
+use Rattle.ns_calls.specs.History.{Opening, Closing, window_in, closing_in, window_copy_in, closes, open_windows, open_window}
 use Rattle.ns_calls.specs.Legal.{IsLegal}
 use Rattle.ns_calls.specs.Headline.{opening_count, closing_count, open_count, WindowsOpenOnce}
 use Rattle.ns_calls.proofs.LocalLemmas.{bool_tells}
 use Rattle.ns_calls.proofs.Lists.{All-weaker, count-cons, count-found}
-use Rattle.ns_calls.proofs.WindowLemmas.{same_window-refl, same_window-eq, windows_open_once}
+use Rattle.ns_calls.proofs.NameLemmas.{same_window-refl, same_window-eq}
+use Rattle.ns_calls.proofs.WindowLemmas.{windows_open_once}
 use Rattle.ns_kept.specs.Kept.{closing_entry, counts, closing_of, with_closings, filter_before, is_kept}
 use Rattle.ns_kept.proofs.Within.{Within, filter_before-Within, All-end}
 use Rattle.ns_kept.proofs.Dropped.{or_false, dropped}
@@ -110,8 +111,8 @@ closers-with_closings : (mark : ℕ) (names : List WindowName) (w : WindowName) 
 closers-with_closings mark names w name [] none = refl
 closers-with_closings mark names w name (e ∷ es) none =
     let both = or_false (closes w e) (list_any (closes w) es) none in
-    ap (λ b. b || list_any (closes w) (closing_of mark names e.number (opening_in e.call e.reply) ++ with_closings mark names es)) both.0
-    ∙ step (opening_in e.call e.reply) (closers-with_closings mark names w name es both.1)
+    ap (λ b. b || list_any (closes w) (closing_of mark names e.number (window_in e.call e.reply) ++ with_closings mark names es)) both.0
+    ∙ step (window_in e.call e.reply) (closers-with_closings mark names w name es both.1)
   where
     step : (o : Option Opening) → list_any (closes w) (with_closings mark names es) ≡ false → list_any (closes w) (closing_of mark names e.number o ++ with_closings mark names es) ≡ false
     step None later = later
@@ -129,8 +130,9 @@ closers-with_closings mark names w name (e ∷ es) none =
             ]
 
 -- an opening is a copy of its window
-opening-copy : (c : Call) (r : Reply) (o : Opening) → opening_in c r ≡ Some o → (heard : Heard) × (window_copy_in c r ≡ Some (o.window, heard))
+opening-copy : (c : Call) (r : Reply) (o : Opening) → window_in c r ≡ Some o → (heard : Heard) × (window_copy_in c r ≡ Some (o.window, heard))
 opening-copy (call.Uplink frame heard) (reply.Opened w) o is = (let same : w ≡ o.window = cc is in (heard, ap (λ (v : WindowName). Some (v, heard)) same))
+opening-copy (call.Uplink frame heard) (reply.Again w) o is = (let same : w ≡ o.window = cc is in (heard, ap (λ (v : WindowName). Some (v, heard)) same))
 opening-copy (call.Uplink frame heard) (reply.Copied _ _) o is = absurd (cc is)
 opening-copy (call.Uplink frame heard) (reply.Crowded _) o is = absurd (cc is)
 opening-copy (call.Uplink frame heard) (reply.Old _ _ _) o is = absurd (cc is)
@@ -165,7 +167,7 @@ opened_by o after = filter (λ (p : Opening). not (list_any (closes p.window) af
 named-here : (names : List WindowName) (o : Opening) (xs : List Entry) → list_any (closes o.window) xs ≡ false → AllByRecursion (λ (p : Opening). named names p.window ≡ true) (opened_by (Some o) xs ++ open_windows xs) → named names o.window ≡ true
 named-here names o xs lasts all = (subst (λ b. AllByRecursion (λ (p : Opening). named names p.window ≡ true) (cond {A = List Opening} (not b) (o ∷ []) [] ++ open_windows xs)) lasts all).0
 
-kept_part : (h : List Entry) (mark : ℕ) (names : List WindowName) (x : Entry) (xs ks : List Entry) → Reads h mark names x xs → Within (is_kept h) ks xs → open_windows (with_closings mark names ks) ≡ open_windows xs → (o : Option Opening) → opening_in x.call x.reply ≡ o →
+kept_part : (h : List Entry) (mark : ℕ) (names : List WindowName) (x : Entry) (xs ks : List Entry) → Reads h mark names x xs → Within (is_kept h) ks xs → open_windows (with_closings mark names ks) ≡ open_windows xs → (o : Option Opening) → window_in x.call x.reply ≡ o →
     opened_by o (closing_of mark names x.number o ++ with_closings mark names ks) ++ open_windows (closing_of mark names x.number o ++ with_closings mark names ks) ≡ opened_by o xs ++ open_windows xs
 kept_part h mark names x xs ks reads within later None says = later
 kept_part h mark names x xs ks reads within later (Some o) says =
@@ -193,7 +195,7 @@ kept_part h mark names x xs ks reads within later (Some o) says =
     by : Bool → List Opening
     by b = opened_by (Some o) (cond b [] (closing_entry x.number o.window ∷ []) ++ with_closings mark names ks) ++ open_windows (cond b [] (closing_entry x.number o.window ∷ []) ++ with_closings mark names ks)
 
-gone_part : (h : List Entry) (mark : ℕ) (names : List WindowName) (x : Entry) (xs : List Entry) → Reads h mark names x xs → is_kept h x xs ≡ false → (o : Option Opening) → opening_in x.call x.reply ≡ o → opened_by o xs ≡ []
+gone_part : (h : List Entry) (mark : ℕ) (names : List WindowName) (x : Entry) (xs : List Entry) → Reads h mark names x xs → is_kept h x xs ≡ false → (o : Option Opening) → window_in x.call x.reply ≡ o → opened_by o xs ≡ []
 gone_part h mark names x xs reads is None says = refl
 gone_part h mark names x xs reads is (Some o) says =
     elim (bool_tells (list_any (closes o.window) xs)) [
@@ -210,14 +212,14 @@ windows-of : (h : List Entry) (mark : ℕ) (names : List WindowName) → ((w : W
     (xs : List Entry) → AllByRecursion (λ e. nat_le mark e.number ≡ false) xs → IsClosed names xs → AreNamed names xs → open_windows (with_closings mark names (filter_before (is_kept h) xs)) ≡ open_windows xs
 windows-of h mark names found [] below closed_there open_there = refl
 windows-of h mark names found (x ∷ xs) below closed_there open_there =
-    step (windows-of h mark names found xs below.1 (λ w any. closed_there w (longer (closes w x) _ any)) (All-end _ (opened_by (opening_in x.call x.reply) xs) (open_windows xs) open_there)) (is_kept h x xs) refl
+    step (windows-of h mark names found xs below.1 (λ w any. closed_there w (longer (closes w x) _ any)) (All-end _ (opened_by (window_in x.call x.reply) xs) (open_windows xs) open_there)) (is_kept h x xs) refl
   where
     reads : Reads h mark names x xs
     reads = record { below = below.0; closed_there = closed_there; open_there = open_there; found = found }
 
     step : open_windows (with_closings mark names (filter_before (is_kept h) xs)) ≡ open_windows xs → (b : Bool) → is_kept h x xs ≡ b → open_windows (with_closings mark names (cond b (x ∷ filter_before (is_kept h) xs) (filter_before (is_kept h) xs))) ≡ open_windows (x ∷ xs)
-    step later true is = kept_part h mark names x xs (filter_before (is_kept h) xs) reads (filter_before-Within (is_kept h) xs) later (opening_in x.call x.reply) refl
-    step later false is = later ∙ sym (ap (λ os. os ++ open_windows xs) (gone_part h mark names x xs reads is (opening_in x.call x.reply) refl))
+    step later true is = kept_part h mark names x xs (filter_before (is_kept h) xs) reads (filter_before-Within (is_kept h) xs) later (window_in x.call x.reply) refl
+    step later false is = later ∙ sym (ap (λ os. os ++ open_windows xs) (gone_part h mark names x xs reads is (window_in x.call x.reply) refl))
 
 pub windows-kept : (net : Network) (h : List Entry) → IsLegal net h → (mark : ℕ) → AllByRecursion (λ e. nat_le mark e.number ≡ false) h → open_windows (with_closings mark (names_of (open_windows h)) (filter_before (is_kept h) h)) ≡ open_windows h
 windows-kept net h legal mark below =

@@ -60,6 +60,11 @@ counted_windows k = still_open (counted_opening k) (λ o e. closes o.window e) k
 
 -- ---- what a trim keeps. In each test h is the history as it reads, and after are the entries after this one
 
+-- an uplink that is acknowledged again, and the window that is opened for it
+abbrev pub repetition_in : Call → Reply → Option Opening
+repetition_in (call.Uplink frame heard) (reply.Again window) = Some (record { window = window; frame = frame; heard = heard })
+repetition_in _ _ = None
+
 -- whether no entry says such a thing
 abbrev pub none_says : {Y : Type 0} → (Call → Reply → Option Y) → (Y → Bool) → List Entry → Bool
 none_says says test es = not (list_any test (filter_map (λ e. says e.call e.reply) es))
@@ -80,12 +85,16 @@ keeps_opening h after o =
     none_says opening_in (λ p. same_device p.window.eui o.window.eui) after
     || (is_live h o.window.eui o.window.session && none_says opening_in (λ p. same_session p.window o.window) after)
 
+-- the last window that was opened again of each live session
+abbrev pub keeps_repetition : List Entry → List Entry → Opening → Bool
+keeps_repetition h after o = is_live h o.window.eui o.window.session && none_says repetition_in (λ p. same_session p.window o.window) after
+
 -- the last acknowledging closing of each live session
 abbrev pub keeps_closing : List Entry → List Entry → Closing → Bool
 keeps_closing h after c =
     is_some c.ack && is_live h c.window.eui c.window.session && none_says closing_in (λ d. is_some d.ack && same_session d.window c.window) after
 
--- the opening and the copies of each open window
+-- the opening and the copies of each open window, of any round
 abbrev pub keeps_window_copy : List Entry → WindowName × Heard → Bool
 keeps_window_copy h c = is_some (open_window h c.0)
 
@@ -98,6 +107,7 @@ abbrev pub is_kept : List Entry → Entry → List Entry → Bool
 is_kept h e after =
     option_map_or (keeps_acceptance h after) (acceptance_in e.call e.reply) false
     || option_map_or (keeps_opening h after) (opening_in e.call e.reply) false
+    || option_map_or (keeps_repetition h after) (repetition_in e.call e.reply) false
     || option_map_or (keeps_closing h after) (closing_in e.call e.reply) false
     || option_map_or (keeps_window_copy h) (window_copy_in e.call e.reply) false
     || option_map_or (keeps_ticket_copy h after) (ticket_copy_in e.call e.reply) false

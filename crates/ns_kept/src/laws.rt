@@ -75,13 +75,13 @@ pub fn merges_of_what_leaves_are_legal()
         → MergesAreLegal net lists }
 {}
 
-/// A trim of a legal history keeps 206 entries of a device at most, and a shard's trim 206 for each device of the shard.
+/// A trim of a legal history keeps 208 entries of a device at most, and a shard's trim 208 for each device of the shard.
 pub fn few_entries_are_kept()
     ensures device { (net : Network) (h : List Entry) → calls.IsLegal net h → (made : ℕ) (eui : DevEui)
-        → count_by (is_of eui) (keep made (whole h)).entries ≤ 206 }
+        → count_by (is_of eui) (keep made (whole h)).entries ≤ 208 }
     ensures shard { (net : Network) → IsRoster net → (shard : ℕ) (h : List Entry) → calls.IsHistory net shard h
         → (made : ℕ)
-        → length (keep made (whole h)).entries ≤ 206 * count_by (λ d. shard_of d.eui == shard) net.devices }
+        → length (keep made (whole h)).entries ≤ 208 * count_by (λ d. shard_of d.eui == shard) net.devices }
 {}
 
 /// Where no window is open in what is left, each opening in a history that leaves it has exactly one closing.

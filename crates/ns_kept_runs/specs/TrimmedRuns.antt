@@ -1,19 +1,20 @@
 -- Trims in worked runs of one device. Frames and what goes out with them are those of the runs that are not trimmed.
-use Rattle.std.specs.Prelude.{◌≡◌, ℕ, ◌+◌, List, [], ◌∷◌, map, length, None, Some, false}
+use Rattle.std.specs.Prelude.{◌≡◌, ℕ, ◌+◌, List, [], ◌∷◌, map, length, Some}
 use Rattle.ns_roster.specs.Network.{Network}
 use Rattle.ns_calls.specs.declared.call.Call.{Call}
 use Rattle.ns_calls.specs.declared.call.Entry.{Entry}
 use Rattle.ns_calls.specs.declared.answer.Answer.{Answer}
 use Rattle.ns_calls.specs.declared.call.Call.TheVariants as call
 use Rattle.ns_calls.specs.declared.call.Outcome.TheVariants.{Success}
-use Rattle.ns_calls.specs.declared.call.Reply.TheVariants.{Opened, Old, NonceOld, Closed, NoWindow}
+use Rattle.ns_calls.specs.declared.call.Reply.TheVariants.{Opened, Again, Old, NonceOld, Closed, NoWindow}
 use Rattle.ns_calls.specs.Out.{answer}
 use Rattle.ns_calls.specs.Runs.{history_of}
 use Rattle.ns_kept.specs.Kept.{Remains, whole, reading, keep}
 use Rattle.ns_kept.specs.Left.{with_call}
 use Rattle.ns_examples.specs.FirstJoin.{frame, closed}
 use Rattle.ns_examples.specs.SecondJoin.{confirmed_4, confirmed_5, confirmed_6}
-use Rattle.ns_examples.specs.OneDevice.{eui, network, address, heard_1, heard_2, join_1, join_5, join_6, nwk_1, nwk_2, app_1, join_ans, name, quiet}
+use Rattle.ns_examples.specs.SentAgain.{confirmed_2, in_round}
+use Rattle.ns_examples.specs.OneDevice.{eui, network, heard_1, heard_2, join_1, join_5, join_6, nwk_1, nwk_2, app_1, join_ans, name, quiet}
 
 -- the answers to calls over what is kept, so many entries being made
 abbrev pub answers_over : Network → ℕ → Remains → List Call → List Answer
@@ -70,3 +71,16 @@ pub record AcknowledgedRun : Type 0 where
   pub numbers : numbers (trimmed acknowledged_run) ≡ 1 ∷ 3 ∷ 5 ∷ []
   pub replies : map (λ (a : Answer). a.reply) (answers_over network 6 (trimmed acknowledged_run) (call.Uplink confirmed_4 heard_1 ∷ call.Uplink confirmed_6 heard_1 ∷ call.Close (name 1 6) ∷ []))
       ≡ Old eui 1 4 ∷ Opened (name 1 6) ∷ Closed (name 1 6) (Some 2) ∷ []
+
+-- a confirmed uplink that is sent again, and both its windows are closed
+abbrev pub run_sent_again : List Call
+run_sent_again =
+    call.Join join_1 heard_1 ∷ call.JoinReply join_1 (Success (join_ans nwk_1 (Some app_1)))
+    ∷ call.Uplink confirmed_2 heard_1 ∷ call.Close (in_round 1)
+    ∷ call.Uplink confirmed_2 heard_1 ∷ call.Uplink confirmed_2 heard_2 ∷ call.Close (in_round 2) ∷ []
+
+-- the opening, the last window that was opened again and the last acknowledging closing stay, so the next round is 3 and the next number 2
+pub record RunSentAgain : Type 0 where
+  pub numbers : numbers (trimmed run_sent_again) ≡ 1 ∷ 2 ∷ 4 ∷ 6 ∷ []
+  pub replies : map (λ (a : Answer). a.reply) (answers_over network 7 (trimmed run_sent_again) (call.Uplink confirmed_2 heard_1 ∷ call.Close (in_round 3) ∷ []))
+      ≡ Again (in_round 3) ∷ Closed (in_round 3) (Some 2) ∷ []

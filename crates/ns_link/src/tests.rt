@@ -92,6 +92,49 @@ fn fronts(rt: HostRuntime) {
     assert_eq!(rt; fault(&longer), 4);
 }
 
+/// A byte replaced by 00 and by ff, and each of its bits flipped.
+fn changes(byte: u8) -> [u8; 10] {
+    [
+        0x00,
+        0xff,
+        byte ^ 0x01,
+        byte ^ 0x02,
+        byte ^ 0x04,
+        byte ^ 0x08,
+        byte ^ 0x10,
+        byte ^ 0x20,
+        byte ^ 0x40,
+        byte ^ 0x80,
+    ]
+}
+
+/// Whether what is read, one after the other, is the bytes.
+fn is_covered(bytes: &[u8; 45], datagram: &Datagram<'_>) -> bool {
+    let heard = datagram.heard();
+    bytes.starts_with(&[0x01, 0x01])
+        && bytes[2..].starts_with(&heard.gateway.0.to_be_bytes())
+        && bytes[10..].starts_with(&heard.moment.to_be_bytes())
+        && bytes[18..].starts_with(&heard.freq.to_be_bytes())
+        && bytes[22] == heard.dr
+        && bytes[23..].starts_with(&heard.rssi.to_be_bytes())
+        && bytes[25..].starts_with(&heard.snr.to_be_bytes())
+        && bytes[27] as usize == datagram.frame().len()
+        && &bytes[28..] == datagram.frame()
+}
+
+#[test]
+fn covers_changed_datagrams(rt: HostRuntime) {
+    for at in 0..45 {
+        for byte in changes(DATAGRAM[at]) {
+            let changed = with(at, &[byte]);
+            match read_datagram(&changed) {
+                Ok(datagram) => assert!(rt; is_covered(&changed, &datagram), "{at} {byte}"),
+                Err(fault) => assert!(rt; (2..=6).contains(&fault.number()), "{at} {byte}"),
+            }
+        }
+    }
+}
+
 /// A Join-Accept as it goes to the second gateway, and two bytes behind it.
 const DOWNLINK: [u8; 47] = [
     0x01, 0x81, 0, 0, 0, 0, 0, 0, 0, 0xa2, 0, 0, 0, 0, 0, 0x5b, 0x91, 0x68, 0x33, 0xbe, 0x27, 0xa0,

@@ -1,43 +1,24 @@
 -- The closing line, and what is written before it.
-use Rattle.std.proofs.Common.{◌≡◌, ℕ, ◌+◌, ◌<◌, List, [], ◌∷◌, ◌++◌, map, take, length, get_or, Option, None, Some, option_map, refl, sym, ap, ap₂, ◌∙◌, append_assoc, IfSome, subst}
-use Rattle.std.proofs.lemmas.List.{append-nil, map-append, take_more}
+use Rattle.std.proofs.Common.{◌≡◌, ℕ, List, [], ◌∷◌, ◌++◌, map, Option, None, Some, option_map, refl, ap, ap₂, ◌∙◌, append_assoc, IfSome, subst}
+use Rattle.std.proofs.lemmas.List.{append-nil}
 use Rattle.std.specs.Io.KnownBytes.{Appends}
 use Rattle.ns_types.specs.declared.identity.DevNonce.{DevNonce}
 use Rattle.ns_types.specs.declared.identity.DevEui.{DevEui}
 use Rattle.ns_types.specs.Streams.{AppendsFront}
 use Rattle.ns_roster.specs.declared.Device.{Device}
 use Rattle.ns_roster.specs.Network.{Network}
-use Rattle.ns_roster.specs.Closing.{with_nonces}
+use Rattle.ns_roster.specs.Closing.{with_nonces, nonce_by, with_greatest}
 use Rattle.ns_shard.specs.State.{State}
 use Rattle.ns_shard.specs.declared.step.Step.{Step}
 use Rattle.ns_shard.specs.Steps.{greatest_among, greatest_after, closing_roster}
-use Rattle.ns_replay.specs.Private.Nonces.{nonce_among}
 use Rattle.ns_replay.proofs.FrontLemmas.{front_behind}
-
-nonce_of : ℕ → DevNonce
-nonce_of n = record { 0 = n }
-
-same_nonce : (o : Option DevNonce) → o ≡ option_map (λ (n : ℕ). let x : DevNonce = record { 0 = n } in x) (option_map (λ (n : DevNonce). n.0) o)
-same_nonce None = refl
-same_nonce (Some n) = refl
-
--- a nonce that is told is the device's
-pub nonce-told : (shards : List State) (d : Device) (o : Option DevNonce) → option_map (λ (n : DevNonce). n.0) o ≡ greatest_among shards d.eui → o ≡ nonce_among shards d
-nonce-told shards d o told = same_nonce o ∙ ap (option_map (λ (n : ℕ). let x : DevNonce = record { 0 = n } in x)) told
-
--- one nonce more
-pub nonces-next : (shards : List State) (ds : List Device) (i : ℕ) (d : Device) (ns : List (Option DevNonce)) (o : Option DevNonce) → i < length ds → ns ≡ map (nonce_among shards) (take i ds)
-    → option_map (λ (n : DevNonce). n.0) o ≡ greatest_among shards (get_or ds i d).eui → ns ++ o ∷ [] ≡ map (nonce_among shards) (take (i + 1) ds)
-nonces-next shards ds i d ns o within are told =
-    ap₂ (λ ms m. ms ++ m ∷ []) are (nonce-told shards (get_or ds i d) o told)
-    ∙ (sym (map-append (nonce_among shards) (take i ds) (get_or ds i d ∷ [])) ∙ ap (map (nonce_among shards)) (sym (take_more ds i d within)))
 
 -- the nonces that the shards have are those after the steps
 pub nonces-after : (net : Network) (steps : List Step) (shards : List State) → ((eui : DevEui) → greatest_among shards eui ≡ greatest_after net steps eui)
-    → with_nonces net (map (nonce_among shards) net.devices) ≡ closing_roster net steps
+    → with_greatest net (greatest_among shards) ≡ closing_roster net steps
 nonces-after net steps shards same = ap (with_nonces net) (each net.devices)
   where
-    each : (ds : List Device) → map (nonce_among shards) ds ≡ map (λ (d : Device). option_map (λ (n : ℕ). let x : DevNonce = record { 0 = n } in x) (greatest_after net steps d.eui)) ds
+    each : (ds : List Device) → map (nonce_by (greatest_among shards)) ds ≡ map (nonce_by (greatest_after net steps)) ds
     each [] = refl
     each (d ∷ ds) = ap₂ (λ (o : Option DevNonce) os. o ∷ os) (ap (option_map (λ (n : ℕ). let x : DevNonce = record { 0 = n } in x)) (same d.eui)) (each ds)
 

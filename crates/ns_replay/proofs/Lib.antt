@@ -6,5 +6,5 @@ pub mod FoundLemmas
 pub mod FrontLemmas
 pub mod Digits
 pub mod Woven
-pub mod Blocks
+pub mod FirstByte
 pub mod ClosingLemmas

@@ -1,5 +1,5 @@
 -- A line is a step line exactly where it spells a step.
-use Rattle.std.proofs.Common.{◌≡◌, ℕ, suc, ◌+◌, ◌-◌, ◌<◌, ◌==◌, Bool, true, false, not, ◌||◌, ◌&&◌, cond, List, [], ◌∷◌, ◌++◌, length, take, drop, Option, Some, None, option_map, refl, sym, ap, ◌∙◌, subst, arith, inl, inr, length-append, bytes_eq}
+use Rattle.std.proofs.Common.{◌≡◌, ◌⊎◌, ℕ, suc, ◌+◌, ◌-◌, ◌<◌, ◌==◌, Bool, true, false, not, ◌||◌, ◌&&◌, cond, List, [], ◌∷◌, ◌++◌, length, take, drop, Option, Some, None, option_map, refl, sym, ap, ◌∙◌, subst, arith, inl, inr, length-append, bytes_eq}
 use Rattle.std.specs.Prelude.{Result, Ok, Err, if◌then◌else◌, codes, option_and_then, slice_index, position, nat_lt, nat_le, ◌^◌, ◌%◌, ◌/◌}
 use Rattle.std.specs.List.{list_any, list_all, position_or_len}
 use Rattle.std.specs.Result.{result_ok}
@@ -18,13 +18,16 @@ use Rattle.ns_types.specs.declared.identity.WindowName.{WindowName}
 use Rattle.ns_types.specs.declared.ticket.Ticket.{Ticket}
 use Rattle.ns_shard.specs.declared.step.Act.{Act}
 use Rattle.ns_shard.specs.declared.step.Act.TheVariants.{Datagram, Answer, Lost, Close}
-use Rattle.ns_replay.specs.StepLines.{without_return, parted, is_digit, decimal_value, number, eui, ticket, heard, answered, lost, counters, closed, act, step}
-use Rattle.ns_replay.specs.Spelled.{Says, SpellsTicket, SpellsWindow, SpellsStep, Spells}
+use Rattle.ns_replay.specs.StepLines.{without_return, parted_by, parted, is_digit, decimal_value, number, eui, ticket, heard, answered, lost, later_round, counter_by, counter, window, closed, act, step}
+use Rattle.ns_replay.specs.Spelled.{Says, SpellsTicket, SpellsCounter, SpellsWindow, SpellsStep, Spells}
 use Rattle.ns_replay.proofs.LineLemmas.{byte_at}
 
--- whether a space stands in a text
+-- whether a byte stands in a text, and whether a space does
+abbrev has : ℕ → List ℕ → Bool
+has byte text = list_any (λ b. b == byte) text
+
 abbrev has_space : List ℕ → Bool
-has_space text = list_any (λ b. b == 32) text
+has_space text = has 32 text
 
 -- ---- words
 
@@ -32,42 +35,60 @@ drop_seam : (xs ys : List ℕ) (y : ℕ) → drop (length xs + 1) (xs ++ y ∷ y
 drop_seam [] ys y = refl
 drop_seam (x ∷ xs) ys y = (let more : length (x ∷ xs) + 1 ≡ suc (length xs + 1) = omega arith in ap (λ n. drop n (x ∷ xs ++ y ∷ ys)) more ∙ drop_seam xs ys y)
 
-first_space : (word rest : List ℕ) → has_space word ≡ false → position_or_len (λ b. b == 32) (word ++ 32 ∷ rest) ≡ length word
-first_space [] rest none = refl
-first_space (b ∷ word) rest none =
-    let parts = or_none (b == 32) (has_space word) none in
-    let ih = first_space word rest parts.1 in
-    ap (λ t. cond (not t) (1 + position_or_len (λ c. c == 32) (word ++ 32 ∷ rest)) 0) parts.0 ∙ omega (arith, ih)
-  where
-    or_none : (x y : Bool) → (x || y) ≡ false → (x ≡ false) × (y ≡ false)
-    or_none true y is = absurd (cc is)
-    or_none false y is = (refl, is)
+or_none : (x y : Bool) → (x || y) ≡ false → (x ≡ false) × (y ≡ false)
+or_none true y is = absurd (cc is)
+or_none false y is = (refl, is)
 
--- the words before and behind the first space
-parted-from : (word rest : List ℕ) → has_space word ≡ false → parted (word ++ 32 ∷ rest) ≡ Some (word, rest)
-unfolding parted
-parted-from word rest none =
-    let whole : List ℕ = word ++ 32 ∷ rest in
-    let first = first_space word rest none in
-    let long : length whole ≡ length word + length (32 ∷ rest) = length-append word (32 ∷ rest) in
-    let some : 0 < length (32 ∷ rest) = omega arith in
+first_place : (byte : ℕ) (word rest : List ℕ) → has byte word ≡ false → position_or_len (λ b. b == byte) (word ++ byte ∷ rest) ≡ length word
+first_place byte [] rest none =
+    let same : (byte == byte) ≡ true = grind (arith, nat_tests) in
+    ap (λ t. cond (not t) (1 + position_or_len (λ b. b == byte) rest) 0) same
+first_place byte (b ∷ word) rest none =
+    let parts = or_none (b == byte) (has byte word) none in
+    let ih = first_place byte word rest parts.1 in
+    ap (λ t. cond (not t) (1 + position_or_len (λ c. c == byte) (word ++ byte ∷ rest)) 0) parts.0 ∙ omega (arith, ih)
+
+-- the texts before and behind the first such byte
+parted-from : (byte : ℕ) (word rest : List ℕ) → has byte word ≡ false → parted_by byte (word ++ byte ∷ rest) ≡ Some (word, rest)
+unfolding parted_by
+parted-from byte word rest none =
+    let whole : List ℕ = word ++ byte ∷ rest in
+    let first = first_place byte word rest none in
+    let long : length whole ≡ length word + length (byte ∷ rest) = length-append word (byte ∷ rest) in
+    let some : 0 < length (byte ∷ rest) = omega arith in
     let inside : nat_lt (length word) (length whole) ≡ true = grind (arith, nat_tests, long, some) in
     ap (λ n. option_map (λ i. (take i whole, drop (i + 1) whole)) (cond (nat_lt n (length whole)) (Some n) None)) first
     ∙ (ap (λ t. option_map (λ i. (take i whole, drop (i + 1) whole)) (cond t (Some (length word)) None)) inside
-    ∙ ap Some (both (take-append_seam word (32 ∷ rest)) (drop_seam word rest 32)))
+    ∙ ap Some (both (take-append_seam word (byte ∷ rest)) (drop_seam word rest byte)))
   where
     both : {a c b d : List ℕ} → a ≡ c → b ≡ d → ◌≡◌ {A = List ℕ × List ℕ} (a, b) (c, d)
     both first second = λ i. (first i, second i)
 
-parted-is : (text : List ℕ) (p : List ℕ × List ℕ) → parted text ≡ Some p → text ≡ p.0 ++ 32 ∷ p.1
-unfolding parted
-parted-is text p is = found (position (λ b. b == 32) text) refl is
+parted-is : (byte : ℕ) (text : List ℕ) (p : List ℕ × List ℕ) → parted_by byte text ≡ Some p → text ≡ p.0 ++ byte ∷ p.1
+unfolding parted_by
+parted-is byte text p is = found (position (λ b. b == byte) text) refl is
   where
-    found : (o : Option ℕ) → position (λ b. b == 32) text ≡ o → option_map (λ i. (take i text, drop (i + 1) text)) o ≡ Some p → text ≡ p.0 ++ 32 ∷ p.1
+    found : (o : Option ℕ) → position (λ b. b == byte) text ≡ o → option_map (λ i. (take i text, drop (i + 1) text)) o ≡ Some p → text ≡ p.0 ++ byte ∷ p.1
     found None at h = cc
     found (Some i) at h =
         let same : (take i text, drop (i + 1) text) ≡ p = same_Some _ p h in
-        byte_at 32 text i at ∙ ap (λ (q : List ℕ × List ℕ). q.0 ++ 32 ∷ q.1) same
+        byte_at byte text i at ∙ ap (λ (q : List ℕ × List ℕ). q.0 ++ byte ∷ q.1) same
+
+-- a text in which the byte does not stand is not parted
+unparted : (byte : ℕ) (text : List ℕ) → has byte text ≡ false → parted_by byte text ≡ None
+unfolding parted_by
+unparted byte text none =
+    let first = nowhere text none in
+    let outside : nat_lt (length text) (length text) ≡ false = grind (arith, nat_tests) in
+    ap (λ n. option_map (λ i. (take i text, drop (i + 1) text)) (cond (nat_lt n (length text)) (Some n) None)) first
+    ∙ ap (λ t. option_map (λ i. (take i text, drop (i + 1) text)) (cond t (Some (length text)) None)) outside
+  where
+    nowhere : (bytes : List ℕ) → has byte bytes ≡ false → position_or_len (λ b. b == byte) bytes ≡ length bytes
+    nowhere [] is = refl
+    nowhere (b ∷ bytes) is =
+        let parts = or_none (b == byte) (has byte bytes) is in
+        let ih = nowhere bytes parts.1 in
+        ap (λ t. cond (not t) (1 + position_or_len (λ c. c == byte) bytes) 0) parts.0 ∙ omega (arith, ih)
 
 -- ---- the end of a line
 
@@ -149,24 +170,27 @@ and_parts : (a b : Bool) → (a && b) ≡ true → (a ≡ true) × (b ≡ true)
 and_parts true b h = (refl, h)
 and_parts false b h = absurd (cc h)
 
-digits-no_space : (text : List ℕ) → list_all is_digit text ≡ true → has_space text ≡ false
-digits-no_space [] is = refl
-digits-no_space (b ∷ text) is =
+-- a byte that is no digit doesn't stand in digits
+digits-without : (byte : ℕ) → is_digit byte ≡ false → (text : List ℕ) → list_all is_digit text ≡ true → has byte text ≡ false
+digits-without byte none [] is = refl
+digits-without byte none (b ∷ text) is =
     let parts = and_parts (is_digit b) (list_all is_digit text) is in
-    let range = and_parts (nat_le 48 b) (nat_le b 57) parts.0 in
-    let other : (b == 32) ≡ false = grind (arith, nat_tests, range.0) in
-    ap (λ t. t || has_space text) other ∙ digits-no_space text parts.1
+    ap (λ t. t || has byte text) (other (cases_Bool (b == byte)) parts.0) ∙ digits-without byte none text parts.1
+  where
+    other : ((b == byte) ≡ true) ⊎ ((b == byte) ≡ false) → is_digit b ≡ true → (b == byte) ≡ false
+    other (inl same) digit = absurd (cc (none, digit, eqb-true b byte same))
+    other (inr apart) digit = apart
 
 when-is : {X : Type 0} (b : Bool) (x y : X) → when b x ≡ Some y → (b ≡ true) × (x ≡ y)
 when-is true x y h = (refl, same_Some x y h)
 when-is false x y h = absurd (cc h)
 
-number-no_space : (text : List ℕ) (n : ℕ) → number text ≡ Some n → has_space text ≡ false
+number-without : (byte : ℕ) → is_digit byte ≡ false → (text : List ℕ) (n : ℕ) → number text ≡ Some n → has byte text ≡ false
 unfolding number
-number-no_space text n is =
+number-without byte none text n is =
     let w = when-is (nat_lt 0 (length text) && list_all is_digit text && nat_lt (decimal_value text) (2 ^ 32)) (decimal_value text) n is in
     let p = and_parts (nat_lt 0 (length text) && list_all is_digit text) (nat_lt (decimal_value text) (2 ^ 32)) w.0 in
-    digits-no_space text (and_parts (nat_lt 0 (length text)) (list_all is_digit text) p.0).1
+    digits-without byte none text (and_parts (nat_lt 0 (length text)) (list_all is_digit text) p.0).1
 
 -- ---- what is read is spelled
 
@@ -200,7 +224,7 @@ unfolding answered
 answered-spelled rest a is =
     let p = bind-some (parted rest) _ a is in
     let m = map-some (ticket p.0.0) _ a p.2 in
-    subst (SpellsStep (codes "answer " ++ rest)) m.2 (p.0.0, ap (λ r. codes "answer " ++ r) (parted-is rest p.0 p.1), ticket-spelled p.0.0 m.0 m.1)
+    subst (SpellsStep (codes "answer " ++ rest)) m.2 (p.0.0, ap (λ r. codes "answer " ++ r) (parted-is 32 rest p.0 p.1), ticket-spelled p.0.0 m.0 m.1)
 
 lost-spelled : (rest : List ℕ) (a : Act) → lost rest ≡ Some a → SpellsStep (codes "lost " ++ rest) a
 unfolding lost
@@ -208,15 +232,33 @@ lost-spelled rest a is =
     let m = map-some (ticket rest) Lost a is in
     subst (SpellsStep (codes "lost " ++ rest)) m.2 (rest, refl, ticket-spelled rest m.0 m.1)
 
+counter-spelled : (text : List ℕ) (c : ℕ × ℕ) → counter text ≡ Some c → SpellsCounter text c.0 c.1
+unfolding counter later_round
+counter-spelled text c is = by (parted_by 58 text) refl is
+  where
+    by : (o : Option (List ℕ × List ℕ)) → parted_by 58 text ≡ o → counter_by text o ≡ Some c → SpellsCounter text c.0 c.1
+    by None at h =
+        let n = map-some (number text) _ c h in
+        inl (n.1 ∙ ap (λ (x : ℕ × ℕ). Some x.0) n.2, sym (ap (λ (x : ℕ × ℕ). x.1) n.2))
+    by (Some p) at h =
+        let f = bind-some (number p.0) _ c h in
+        let r = bind-some (later_round p.1) _ c f.2 in
+        let n = bind-some (number p.1) _ r.0 r.1 in
+        let w = when-is (nat_lt 1 n.0) n.0 r.0 n.2 in
+        let same : (f.0, r.0) ≡ c = same_Some _ c r.2 in
+        let above : 1 < n.0 = grind (arith, nat_tests, w.0) in
+        let round : n.0 ≡ c.1 = w.1 ∙ ap (λ (x : ℕ × ℕ). x.1) same in
+        inr (p.0, p.1, parted-is 58 text p at, f.1 ∙ ap (λ (x : ℕ × ℕ). Some x.0) same, n.1 ∙ ap Some round, subst (λ m. 1 < m) round above)
+
 closed-spelled : (rest : List ℕ) (a : Act) → closed rest ≡ Some a → SpellsStep (codes "close " ++ rest) a
-unfolding closed counters
+unfolding closed window
 closed-spelled rest a is =
     let p = bind-some (parted rest) _ a is in
     let e = bind-some (eui p.0.0) _ a p.2 in
-    let c = map-some (counters p.0.1) _ a e.2 in
+    let c = map-some (window e.0 p.0.1) _ a e.2 in
     let q = bind-some (parted p.0.1) _ c.0 c.1 in
     let s = bind-some (number q.0.0) _ c.0 q.2 in
-    let f = map-some (number q.0.1) _ c.0 s.2 in
+    let f = map-some (counter q.0.1) _ c.0 s.2 in
     let b = map-some (result_ok (decode_sized p.0.0 8)) _ e.0 e.1 in
     subst (SpellsStep (codes "close " ++ rest)) c.2 (
       rest,
@@ -225,12 +267,12 @@ closed-spelled rest a is =
         eui = p.0.0;
         session = q.0.0;
         fcnt = q.0.1;
-        are = parted-is rest p.0 p.1 ∙ ap (λ r. p.0.0 ++ 32 ∷ r) (parted-is p.0.1 q.0 q.1);
+        are = parted-is 32 rest p.0 p.1 ∙ ap (λ r. p.0.0 ++ 32 ∷ r) (parted-is 32 p.0.1 q.0 q.1);
         bytes = b.0;
         hex = ok-is (decode_sized p.0.0 8) b.0 b.1;
-        is_eui = ap (λ (d : DevEui). d.0) b.2;
-        is_session = s.1 ∙ ap (λ (n : ℕ × ℕ). Some n.0) f.2;
-        is_fcnt = f.1 ∙ ap (λ (n : ℕ × ℕ). Some n.1) f.2;
+        is_eui = ap (λ (d : DevEui). d.0) b.2 ∙ ap (λ (w : WindowName). w.eui.0) f.2;
+        is_session = s.1 ∙ ap (λ (w : WindowName). Some w.session) f.2;
+        is_fcnt = subst (λ (w : WindowName). SpellsCounter q.0.1 w.fcnt w.round) f.2 (counter-spelled q.0.1 f.0 f.1);
       },
     )
 
@@ -253,7 +295,7 @@ pub step-spelled : (line : List ℕ) (a : Act) → step line ≡ Some a → Spel
 unfolding step
 step-spelled line a is =
     let p = bind-some (parted (without_return line)) _ a is in
-    (without_return line, says-without line, subst (λ words. SpellsStep words a) (sym (parted-is (without_return line) p.0 p.1)) (act-spelled p.0.0 p.0.1 a p.2))
+    (without_return line, says-without line, subst (λ words. SpellsStep words a) (sym (parted-is 32 (without_return line) p.0 p.1)) (act-spelled p.0.0 p.0.1 a p.2))
 
 -- ---- what is spelled is read
 
@@ -263,27 +305,35 @@ reads words = option_and_then (λ (p : List ℕ × List ℕ). act p.0 p.1) (part
 ticket-from : (hex : List ℕ) (t : Ticket) → SpellsTicket hex t → ticket hex ≡ Some t
 ticket-from hex t is = ap (λ (r : Result (List ℕ) FromHexError). option_map (λ (bytes : List ℕ). let x : Ticket = record { 0 = bytes } in x) (result_ok r)) is
 
+counter-from : (text : List ℕ) (fcnt round : ℕ) → SpellsCounter text fcnt round → counter text ≡ Some (fcnt, round)
+unfolding counter later_round
+counter-from text fcnt round (inl (is, first)) = rw (unparted 58 text (number-without 58 refl text fcnt is), is, first) refl
+counter-from text fcnt round (inr (before, behind, is, is_fcnt, is_round, above)) =
+    let whole : parted_by 58 text ≡ Some (before, behind) = ap (parted_by 58) is ∙ parted-from 58 before behind (number-without 58 refl before fcnt is_fcnt) in
+    let later : nat_lt 1 round ≡ true = grind (arith, nat_tests, above) in
+    rw (whole, is_fcnt, is_round, later) refl
+
 closed-from : (rest : List ℕ) (w : WindowName) → SpellsWindow rest w → closed rest ≡ Some (Close w)
-unfolding closed counters
+unfolding closed window
 closed-from rest w spelled =
     let tail : List ℕ = spelled.session ++ (32 ∷ spelled.fcnt) in
-    let whole : parted rest ≡ Some (spelled.eui, tail) = ap parted spelled.are ∙ parted-from spelled.eui tail (sized-no_space spelled.eui 8 spelled.bytes spelled.hex) in
-    let inner : parted tail ≡ Some (spelled.session, spelled.fcnt) = parted-from spelled.session spelled.fcnt (number-no_space spelled.session w.session spelled.is_session) in
-    rw (whole, spelled.hex, inner, spelled.is_session, spelled.is_fcnt, spelled.is_eui) refl
+    let whole : parted rest ≡ Some (spelled.eui, tail) = ap parted spelled.are ∙ parted-from 32 spelled.eui tail (sized-no_space spelled.eui 8 spelled.bytes spelled.hex) in
+    let inner : parted tail ≡ Some (spelled.session, spelled.fcnt) = parted-from 32 spelled.session spelled.fcnt (number-without 32 refl spelled.session w.session spelled.is_session) in
+    rw (whole, spelled.hex, inner, spelled.is_session, counter-from spelled.fcnt w.fcnt w.round spelled.is_fcnt, spelled.is_eui) refl
 
 reads-from : (words : List ℕ) (a : Act) → SpellsStep words a → reads words ≡ Some a
 unfolding act heard answered lost
 reads-from words (Datagram bytes) (hex, is, decoded, some) =
     let is_some : nat_lt 0 (length bytes) ≡ true = grind (arith, nat_tests, some) in
-    ap reads is ∙ (ap (option_and_then (λ (p : List ℕ × List ℕ). act p.0 p.1)) (parted-from (codes "heard") hex refl) ∙ rw (decoded, is_some) refl)
+    ap reads is ∙ (ap (option_and_then (λ (p : List ℕ × List ℕ). act p.0 p.1)) (parted-from 32 (codes "heard") hex refl) ∙ rw (decoded, is_some) refl)
 reads-from words (Answer t text) (hex, is, spelled) =
     ap reads is
-    ∙ (ap (option_and_then (λ (p : List ℕ × List ℕ). act p.0 p.1)) (parted-from (codes "answer") (hex ++ (32 ∷ text)) refl)
-    ∙ rw (parted-from hex text (sized-no_space hex 23 t.0 spelled), ticket-from hex t spelled) refl)
+    ∙ (ap (option_and_then (λ (p : List ℕ × List ℕ). act p.0 p.1)) (parted-from 32 (codes "answer") (hex ++ (32 ∷ text)) refl)
+    ∙ rw (parted-from 32 hex text (sized-no_space hex 23 t.0 spelled), ticket-from hex t spelled) refl)
 reads-from words (Lost t) (hex, is, spelled) =
-    ap reads is ∙ (ap (option_and_then (λ (p : List ℕ × List ℕ). act p.0 p.1)) (parted-from (codes "lost") hex refl) ∙ rw (ticket-from hex t spelled) refl)
+    ap reads is ∙ (ap (option_and_then (λ (p : List ℕ × List ℕ). act p.0 p.1)) (parted-from 32 (codes "lost") hex refl) ∙ rw (ticket-from hex t spelled) refl)
 reads-from words (Close w) (rest, is, spelled) =
-    ap reads is ∙ (ap (option_and_then (λ (p : List ℕ × List ℕ). act p.0 p.1)) (parted-from (codes "close") rest refl) ∙ closed-from rest w spelled)
+    ap reads is ∙ (ap (option_and_then (λ (p : List ℕ × List ℕ). act p.0 p.1)) (parted-from 32 (codes "close") rest refl) ∙ closed-from rest w spelled)
 
 pub spelled-step : (line : List ℕ) (a : Act) → Spells line a → step line ≡ Some a
 unfolding step

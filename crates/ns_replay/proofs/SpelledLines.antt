@@ -1,5 +1,5 @@
 -- The lines of a text are those that it spells.
-use Rattle.std.proofs.Common.{◌≡◌, ◌⊎◌, ℕ, zero, suc, ◌+◌, ◌<◌, ◌≤◌, List, [], ◌∷◌, ◌++◌, length, take, drop, Option, Some, None, refl, sym, ap, ◌∙◌, subst, arith, eqb, inl, inr, length-append}
+use Rattle.std.proofs.Common.{◌≡◌, ℕ, zero, suc, ◌+◌, ◌<◌, ◌≤◌, List, [], ◌∷◌, ◌++◌, length, take, drop, Option, Some, None, refl, sym, ap, ◌∙◌, subst, arith, eqb, inl, inr, length-append}
 use Rattle.std.specs.List.{position}
 use Rattle.ns_replay.specs.StepLines.{raw_lines}
 use Rattle.ns_replay.specs.Spelled.{AreLines}

@@ -24,7 +24,13 @@ Says line words = (line ≡ words ++ 13 ∷ []) ⊎ ((line ≡ words) × ((slice
 abbrev pub SpellsTicket : List ℕ → Ticket → Type 0
 SpellsTicket hex ticket = decode_sized hex 23 ≡ Ok ticket.0
 
--- `SESSION FCNT` behind the hex digits of a DevEUI
+-- a counter in round 1, or a counter, a colon and a round above 1
+abbrev pub SpellsCounter : List ℕ → ℕ → ℕ → Type 0
+SpellsCounter text fcnt round =
+    ((number text ≡ Some fcnt) × (round ≡ 1))
+    ⊎ ((first : List ℕ) × (second : List ℕ) × (text ≡ first ++ (58 ∷ second)) × (number first ≡ Some fcnt) × (number second ≡ Some round) × (1 < round))
+
+-- `SESSION FCNT` or `SESSION FCNT:ROUND` behind the hex digits of a DevEUI
 pub record SpellsWindow (words : List ℕ) (window : WindowName) : Type 0 where
   pub eui : List ℕ
   pub session : List ℕ
@@ -34,9 +40,9 @@ pub record SpellsWindow (words : List ℕ) (window : WindowName) : Type 0 where
   pub hex : decode_sized eui 8 ≡ Ok bytes
   pub is_eui : from_be_bytes w64 bytes ≡ window.eui.0
   pub is_session : number session ≡ Some window.session
-  pub is_fcnt : number fcnt ≡ Some window.fcnt
+  pub is_fcnt : SpellsCounter fcnt window.fcnt window.round
 
--- the words spell a step: `heard HEX`, `answer TICKET TEXT`, `lost TICKET` or `close EUI SESSION FCNT`
+-- the words spell a step: `heard HEX`, `answer TICKET TEXT`, `lost TICKET`, `close EUI SESSION FCNT` or `close EUI SESSION FCNT:ROUND`
 abbrev pub SpellsStep : List ℕ → Act → Type 0
 SpellsStep words (Datagram bytes) = (hex : List ℕ) × (words ≡ codes "heard " ++ hex) × (decode_of hex ≡ Ok bytes) × (0 < length bytes)
 SpellsStep words (Answer ticket text) = (hex : List ℕ) × (words ≡ codes "answer " ++ (hex ++ (32 ∷ text))) × SpellsTicket hex ticket

@@ -27,11 +27,15 @@ raw_lines text = without_empty_last (slice_split (λ b. b == 10) text)
 unfoldable pub without_return : List ℕ → List ℕ
 without_return line = if slice_index line (length line - 1) == 13 then take (length line - 1) line else line
 
--- ---- words, parted by one space
+-- ---- words
 
--- the text before the first space and the text behind it, where there is a space
-unfoldable pub parted : List ℕ → Option (List ℕ × List ℕ)
-parted text = option_map (λ i. (take i text, drop (i + 1) text)) (position (λ b. b == 32) text)
+-- the text before the first such byte and the text behind it, where there is one
+unfoldable pub parted_by : ℕ → List ℕ → Option (List ℕ × List ℕ)
+parted_by byte text = option_map (λ i. (take i text, drop (i + 1) text)) (position (λ b. b == byte) text)
+
+-- words, parted by one space
+abbrev pub parted : List ℕ → Option (List ℕ × List ℕ)
+parted text = parted_by 32 text
 
 abbrev pub is_digit : ℕ → Bool
 is_digit b = nat_le 48 b && nat_le b 57
@@ -75,24 +79,39 @@ answered text = do
 unfoldable pub lost : List ℕ → Option Act
 lost text = option_map Lost (ticket text)
 
--- `SESSION FCNT`
-unfoldable pub counters : List ℕ → Option (ℕ × ℕ)
-counters text = do
+-- a round above 1
+unfoldable pub later_round : List ℕ → Option ℕ
+later_round text = do
+  round ← number text
+  when (nat_lt 1 round) round
+
+-- a counter in round 1, or a counter and a round, by the texts before and behind a colon
+abbrev pub counter_by : List ℕ → Option (List ℕ × List ℕ) → Option (ℕ × ℕ)
+counter_by text None = option_map (λ fcnt. (fcnt, 1)) (number text)
+counter_by text (Some parts) = do
+  fcnt ← number parts.0
+  round ← later_round parts.1
+  Some (fcnt, round)
+
+-- `FCNT` or `FCNT:ROUND`
+unfoldable pub counter : List ℕ → Option (ℕ × ℕ)
+counter text = counter_by text (parted_by 58 text)
+
+-- a device's window, by `SESSION FCNT` or `SESSION FCNT:ROUND`
+unfoldable pub window : DevEui → List ℕ → Option WindowName
+window device text = do
   words ← parted text
   session ← number words.0
-  fcnt ← number words.1
-  Some (session, fcnt)
+  counter ← counter words.1
+  Some (record { eui = device; session = session; fcnt = counter.0; round = counter.1 })
 
-abbrev pub window : DevEui → ℕ × ℕ → WindowName
-window device numbers = record { eui = device; session = numbers.0; fcnt = numbers.1 }
-
--- `close EUI SESSION FCNT`
+-- `close EUI SESSION FCNT` or `close EUI SESSION FCNT:ROUND`
 unfoldable pub closed : List ℕ → Option Act
 closed text = do
   words ← parted text
   device ← eui words.0
-  numbers ← counters words.1
-  Some (Close (window device numbers))
+  name ← window device words.1
+  Some (Close name)
 
 -- the step that a first word asks for, with the text behind it
 unfoldable pub act : List ℕ → List ℕ → Option Act

@@ -1,9 +1,9 @@
 //! The closing roster of a run, from which the next run begins.
 
 ghost use Rattle.std.specs.Prelude.{◌≡◌, map, IfOk, string_bytes};
-ghost use Rattle.ns_roster.specs.Closing.{network_text, with_nonces};
+ghost use Rattle.ns_roster.specs.Closing.{network_text, nonce_by, with_greatest};
 ghost use Rattle.ns_replay.specs.Output.{ended};
-ghost use Rattle.ns_replay.specs.Private.Nonces.{nonce_among};
+ghost use Rattle.ns_shard.specs.Steps.{greatest_among};
 
 use ns_roster::{Device, Roster};
 use ns_shard::Run;
@@ -16,7 +16,7 @@ fn nonces_of(
     devices: &[Device],
     run: &Run,
 ) -> Result<Vec<Option<DevNonce>>, AllocError>
-    ensures { IfOk result (λ ns. ns.items ≡ map (nonce_among run.now.shards) devices.now) }
+    ensures { IfOk result (λ ns. ns.items ≡ map (nonce_by (greatest_among run.now.shards)) devices.now) }
 {
     let mut nonces = Vec::with_capacity(alloc, devices.len())?;
     for device in devices {
@@ -27,8 +27,7 @@ fn nonces_of(
 
 /// The text of the roster with its devices' greatest nonces after a run, and a line feed.
 pub fn closing_line(alloc: Global, roster: &Roster, run: &Run) -> Result<String, AllocError>
-    ensures { IfOk result
-        (λ s. string_bytes s ≡ ended (network_text (with_nonces roster.now (map (nonce_among run.now.shards) roster.now.devices)))) }
+    ensures { IfOk result (λ s. string_bytes s ≡ ended (network_text (with_greatest roster.now (greatest_among run.now.shards)))) }
 {
     let nonces = nonces_of(alloc, roster.devices(), run)?;
     let mut line = roster.closing(alloc, nonces.as_slice())?;

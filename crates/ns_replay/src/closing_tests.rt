@@ -1,14 +1,8 @@
 //! Runs that end with their closing roster, from which the next run begins.
 
-use crate::run::replay;
-use ns_roster::Roster;
-use ns_types::Fuse;
-use std::process::Abort;
-use std::sync::Arc;
+use crate::recorded::ONE_DEVICE;
+use crate::tests::same_lines;
 use std::test::Fail;
-
-const ONE_DEVICE: &str =
-    r#"{"version":1,"net_id":"000024","rx1_offset":0,"rx_delay":1,"devices":[{"dev_eui":"000000000000000d","join_eui":"0102030401020304","slot":1998321}]}"#;
 
 const ANSWER: &str =
     r#"{"AppSKey":{"AESKey":"ec925802ae430ca77fd3dd73cb2cc588","KEKLabel":""},"MessageType":"JoinAns","NwkSKey":{"AESKey":"44024241ed4ce9a68c6a8bc055233fd3","KEKLabel":""},"PHYPayload":"20000102030405060708090a0b0c0d0e0f","Result":{"ResultCode":"Success"},"TransactionID":1}"#;
@@ -18,24 +12,6 @@ fn closing_roster<R: AllocGlobal>(rt: &R, last_nonce: u16) -> Result<String, Fai
     Ok(format!(in rt.alloc();
         "{{\"devices\":[{{\"dev_eui\":\"000000000000000d\",\"join_eui\":\"0102030401020304\",\"last_nonce\":{last_nonce},\"slot\":1998321}}],\"net_id\":\"000024\",\"rx1_offset\":0,\"rx_delay\":1,\"version\":2}}"
     )?)
-}
-
-// That a run over a roster, with its closing roster, writes these lines.
-fn closes_with<R: Abort + AllocGlobal>(
-    rt: &R,
-    roster: &str,
-    steps: &str,
-    lines: &str,
-) -> Result<(), Fail> {
-    let alloc = rt.alloc();
-    let roster = Arc::new(alloc, Roster::read(alloc, roster.as_bytes())?)?;
-    let input = Vec::from_slice(alloc, steps.as_bytes())?;
-    let mut reader = Fuse::new(alloc, input, 8192, None, None);
-    let mut writer = Fuse::new(alloc, Vec::new(alloc), 8192, None, None);
-    let outcome = replay(alloc, roster, true, &mut reader, &mut writer);
-    assert_eq!(rt; outcome, Ok(()));
-    assert_eq!(rt; writer.written(), lines.as_bytes());
-    Ok(())
 }
 
 // Of ten runs, each begins from the roster that the one before wrote. Each hears every old Join-Request again and asks for none of
@@ -63,7 +39,7 @@ fn a_chain_of_ten_runs(rt: HostRuntime) -> Result<(), Fail> {
             "ask 0004030201040302010d00000000000000{last:02x}0001000000\naccepted 000000000000000d 1 49be7df1\ndown 00000000000000a1 6000000 868100000 5 20000102030405060708090a0b0c0d0e0f\n{closing}\n"
         )?;
         lines.push_str(joined.as_str())?;
-        closes_with(&rt, roster.as_str(), steps.as_str(), lines.as_str())?;
+        same_lines(&rt, roster.as_str(), true, steps.as_str(), lines.as_str())?;
         roster = closing;
     }
     Ok(())
@@ -76,5 +52,5 @@ fn the_greatest_nonce_of_all(rt: HostRuntime) -> Result<(), Fail> {
     let steps =
         "heard 010100000000000000a100000000000f424033be27a005fc4a004b170004030201040302010d00000000000000ffff01000000\n";
     let lines = format!(in rt.alloc(); "nonceold 65535\n{roster}\n")?;
-    closes_with(&rt, roster.as_str(), steps, lines.as_str())
+    same_lines(&rt, roster.as_str(), true, steps, lines.as_str())
 }

@@ -25,4 +25,6 @@ mod long_tests;
 #[cfg(test)]
 mod recorded;
 #[cfg(test)]
+mod round_tests;
+#[cfg(test)]
 mod tests;

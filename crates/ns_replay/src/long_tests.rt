@@ -9,29 +9,31 @@ use ns_shard::{Act, DatagramBytes, OwnedBytes, Shards, Step, Taken};
 use ns_types::{DevAddr, DevEui, Key, Ticket, WindowName};
 use std::test::Fail;
 
-const ROSTER: &str =
+/// A roster of one device.
+pub const ROSTER: &str =
     r#"{"version":1,"net_id":"000024","rx1_offset":0,"rx_delay":1,"devices":[{"dev_eui":"000000000000000d","join_eui":"0102030401020304","slot":1998321}]}"#;
 
-// A Join-Request, as a gateway's datagram.
-const JOIN: &str =
+/// A Join-Request, as a gateway's datagram.
+pub const JOIN: &str =
     "010100000000000000a100000000000f424033be27a005fc4a004b170004030201040302010d00000000000000010001000000";
 
 const TICKET: Ticket = Ticket([
     0, 4, 3, 2, 1, 4, 3, 2, 1, 13, 0, 0, 0, 0, 0, 0, 0, 1, 0, 1, 0, 0, 0,
 ]);
 
-// The join server's answer behind its first brace.
-const ANSWER: &str =
+/// The join server's answer behind its first brace.
+pub const ANSWER: &str =
     r#""AppSKey":{"AESKey":"ec925802ae430ca77fd3dd73cb2cc588","KEKLabel":""},"MessageType":"JoinAns","NwkSKey":{"AESKey":"44024241ed4ce9a68c6a8bc055233fd3","KEKLabel":""},"PHYPayload":"20000102030405060708090a0b0c0d0e0f","Result":{"ResultCode":"Success"},"TransactionID":1}"#;
 
-// The lines of the join.
-const JOINED: &str = "\
+/// The lines of the join.
+pub const JOINED: &str = "\
 ask 0004030201040302010d00000000000000010001000000
 accepted 000000000000000d 1 49be7df1
 down 00000000000000a1 6000000 868100000 5 20000102030405060708090a0b0c0d0e0f
 ";
 
-const KEYS: Keys = Keys {
+/// The session keys of the answer.
+pub const KEYS: Keys = Keys {
     nwk: Key([
         0x44, 0x02, 0x42, 0x41, 0xed, 0x4c, 0xe9, 0xa6, 0x8c, 0x6a, 0x8b, 0xc0, 0x55, 0x23, 0x3f,
         0xd3,
@@ -87,7 +89,7 @@ fn a_hundred_thousand_lines(rt: HostRuntime) -> Result<(), Fail> {
         )?;
         lines.push_str(answers.as_str())?;
     }
-    same_lines(&rt, ROSTER, steps.as_str(), lines.as_str())
+    same_lines(&rt, ROSTER, false, steps.as_str(), lines.as_str())
 }
 
 // The step of a datagram.
@@ -162,6 +164,7 @@ fn window(fcnt: u32) -> WindowName {
         eui: DevEui(0x0d),
         session: 1,
         fcnt,
+        round: 1,
     }
 }
 

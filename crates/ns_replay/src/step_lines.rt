@@ -3,51 +3,26 @@
 ghost use Rattle.std.specs.Prelude.{◌≡◌, ◌<◌, ◌≤◌, ◌∷◌, ◌++◌, [], ℕ, List, false, true, slice_index_or, vec_len, length, option_map, IfOk, IfErr, OnOk, IfSome, position, ◌==◌, ◌↔◌};
 ghost use Rattle.ns_types.specs.declared.transfer.ReadFault.TheVariants.{Io};
 ghost use Rattle.ns_replay.specs.Private.Lines.{steps_in, are_steps};
-ghost use Rattle.ns_replay.specs.StepLines.{without_return, parted, number, eui, ticket, heard, answered, lost, counters, closed, act, step};
+ghost use Rattle.ns_replay.specs.StepLines.{without_return, parted_by, parted, number, eui, ticket, heard, answered, lost, later_round, counter, window, closed, act, step};
 ghost use Rattle.ns_replay.specs.Private.Found.{FoundIn, StepsOf, Longer};
 
 use crate::hex_text::datagram;
 use hex::FromHex;
+use memchr::memchr;
 use ns_shard::{Act, OwnedBytes, Step};
 use ns_types::{DevEui, ReadFault, Source, Ticket, WindowName};
 use std::alloc::{AllocError, Global};
 
-// How many bytes are looked at together.
-const BLOCK: usize = 32;
-
 // How many bytes are read at once, into memory that is taken before anything is read.
 const READ_ROOM: usize = 65_536;
 
-// How many bytes of blocks in which a byte does not stand come first. A block is passed as a whole, which is faster than byte by byte.
-fn passed(byte: u8, text: &[u8]) -> usize
-    ensures within { result ≤ length text.now }
-    ensures none { (k d : ℕ) → k < result → (slice_index_or text.now k d == byte) ≡ false }
-{
-    let mut from = 0;
-    'passing: while text.len() - from > BLOCK && !text[from..from + BLOCK].contains(&byte) {
-        from += BLOCK;
-    }
-    from
-}
-
-// Where a byte first stands, looked for byte by byte.
-fn first_of(byte: u8, text: &[u8]) -> Option<usize>
-    ensures value { result ≡ position (λ b. b == byte) text.now }
-    ensures within { IfSome result (λ i. i < length text.now) }
-{
-    text.iter().position(|b| *b == byte)
-}
-
 // Where a byte first stands.
+#[inline(always)]
 fn place_of(byte: u8, text: &[u8]) -> Option<usize>
     ensures value { result ≡ position (λ b. b == byte) text.now }
     ensures within { IfSome result (λ i. i < length text.now) }
 {
-    let from = passed(byte, text);
-    match first_of(byte, &text[from..]) {
-        Some(at) => Some(from + at),
-        None => None,
-    }
+    memchr(byte, text)
 }
 
 // The line without one carriage return at its end.
@@ -62,15 +37,22 @@ fn without_return(line: &[u8]) -> &[u8]
     }
 }
 
-// The text before the first space and the text behind it.
-#[tactic(auto, unfolding(crate::specs::StepLines::parted))]
-fn parted(text: &[u8]) -> Option<(&[u8], &[u8])>
-    ensures { option_map (λ p. (p.0.now, p.1.now)) result ≡ parted text.now }
+// The text before the first such byte and the text behind it.
+#[tactic(auto, unfolding(crate::specs::StepLines::parted_by))]
+fn parted_by(byte: u8, text: &[u8]) -> Option<(&[u8], &[u8])>
+    ensures { option_map (λ p. (p.0.now, p.1.now)) result ≡ parted_by byte text.now }
 {
-    match place_of(b' ', text) {
+    match place_of(byte, text) {
         Some(at) => Some((&text[..at], &text[at + 1..])),
         None => None,
     }
+}
+
+// The text before the first space and the text behind it.
+fn parted(text: &[u8]) -> Option<(&[u8], &[u8])>
+    ensures { option_map (λ p. (p.0.now, p.1.now)) result ≡ parted text.now }
+{
+    parted_by(b' ', text)
 }
 
 // The value of decimal digits.
@@ -146,13 +128,40 @@ fn lost(text: &[u8]) -> Option<Act>
     })
 }
 
-// The session and the counter of the text behind a device.
-#[tactic(auto, unfolding(crate::specs::StepLines::counters))]
-fn counters(text: &[u8]) -> Option<(u32, u32)>
-    ensures { result ≡ counters text.now }
+// A round above 1.
+#[tactic(auto, unfolding(crate::specs::StepLines::later_round))]
+fn later_round(text: &[u8]) -> Option<u32>
+    ensures { result ≡ later_round text.now }
 {
-    let (session, fcnt) = parted(text)?;
-    Some((number(session)?, number(fcnt)?))
+    let round = number(text)?;
+    if round > 1 { Some(round) } else { None }
+}
+
+// A counter with its round, which is 1 where no colon follows.
+#[tactic(auto, unfolding(crate::specs::StepLines::counter))]
+fn counter(text: &[u8]) -> Option<(u32, u32)>
+    ensures { result ≡ counter text.now }
+{
+    match parted_by(b':', text) {
+        Some((fcnt, round)) => Some((number(fcnt)?, later_round(round)?)),
+        None => Some((number(text)?, 1)),
+    }
+}
+
+// The window of a device, by its session and counter.
+#[tactic(auto, unfolding(crate::specs::StepLines::window))]
+fn window(eui: DevEui, text: &[u8]) -> Option<WindowName>
+    ensures { result ≡ window eui text.now }
+{
+    let (session, text) = parted(text)?;
+    let session = number(session)?;
+    let (fcnt, round) = counter(text)?;
+    Some(WindowName {
+        eui,
+        session,
+        fcnt,
+        round,
+    })
 }
 
 // The step of the text behind `close`.
@@ -161,9 +170,7 @@ fn closed(text: &[u8]) -> Option<Act>
     ensures { result ≡ closed text.now }
 {
     let (device, text) = parted(text)?;
-    let eui = eui(device)?;
-    let (session, fcnt) = counters(text)?;
-    Some(Act::Close(WindowName { eui, session, fcnt }))
+    Some(Act::Close(window(eui(device)?, text)?))
 }
 
 // The step that a first word asks for, with the text behind it.
@@ -218,6 +225,26 @@ fn add(found: &mut StepLines, act: Option<Act>) -> Result<(), AllocError>
     Ok(())
 }
 
+// Adds a line, of which `line` has what stands before its end, and empties that. A line that stands in `end` whole is not copied.
+fn add_line(
+    alloc: Global,
+    found: &mut StepLines,
+    line: &mut Vec<u8>,
+    end: &[u8],
+) -> Result<(), AllocError>
+    ensures steps { OnOk result (found.new.steps.items ≡ found.old.steps.items ++ steps_in (step (line.old.items ++ end.now) ∷ [])) }
+    ensures are_steps { OnOk result (found.new.are_steps.items ≡ found.old.are_steps.items ++ are_steps (step (line.old.items ++ end.now) ∷ [])) }
+    ensures line { OnOk result (line.new.items ≡ []) }
+{
+    if !line.is_empty() {
+        line.extend_from_slice(end)?;
+        add(found, step(alloc, line.as_slice())?)?;
+        line.clear();
+        return Ok(());
+    }
+    add(found, step(alloc, end)?)
+}
+
 // Adds the lines that end in a block of a text. `line` has what stands in the text behind its last line feed, so each line is
 // looked at once, however the blocks fall.
 fn add_block(
@@ -231,9 +258,7 @@ fn add_block(
 {
     let mut rest = block;
     'lines: while let Some(end) = place_of(b'\n', rest) {
-        line.extend_from_slice(&rest[..end])?;
-        add(found, step(alloc, line.as_slice())?)?;
-        line.clear();
+        add_line(alloc, found, line, &rest[..end])?;
         rest = &rest[end + 1..];
     }
     line.extend_from_slice(rest)?;

@@ -91,10 +91,11 @@ fn answers_each_line(rt: HostRuntime) -> Result<(), Fail> {
     Ok(())
 }
 
-/// That a run over a roster writes these lines.
+/// That a run over a roster, with its closing roster where that is asked for, writes these lines.
 pub fn same_lines<R: Abort + AllocGlobal>(
     rt: &R,
     roster: &str,
+    closing: bool,
     steps: &str,
     lines: &str,
 ) -> Result<(), Fail> {
@@ -103,7 +104,7 @@ pub fn same_lines<R: Abort + AllocGlobal>(
     let input = Vec::from_slice(alloc, steps.as_bytes())?;
     let mut reader = Fuse::new(alloc, input, 8192, None, None);
     let mut writer = Fuse::new(alloc, Vec::new(alloc), 8192, None, None);
-    let outcome = replay(alloc, roster, false, &mut reader, &mut writer);
+    let outcome = replay(alloc, roster, closing, &mut reader, &mut writer);
     assert_eq!(rt; outcome, Ok(()));
     assert_eq!(rt; writer.written(), lines.as_bytes());
     Ok(())
@@ -127,7 +128,7 @@ fn seventeen_copies(rt: HostRuntime) -> Result<(), Fail> {
         }
     }
     lines.push_str("joincrowded\n")?;
-    same_lines(&rt, ROSTER, steps.as_str(), lines.as_str())
+    same_lines(&rt, ROSTER, false, steps.as_str(), lines.as_str())
 }
 
 // Lines of more bytes than are read or written together, and each write of them failing.

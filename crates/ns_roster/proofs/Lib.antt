@@ -4,3 +4,4 @@ pub mod ValidLemmas
 pub mod SpelledLemmas
 pub mod HexLemmas
 pub mod ClosingLemmas
+pub mod NonceLemmas

@@ -1,9 +1,10 @@
 -- The text of a roster in version 2, in which each device names its last nonce where it has one. A closing roster is that of a run's
 -- end: it has the last nonces from which the next run begins.
-use Rattle.std.specs.Prelude.{ℕ, List, [], ◌∷◌, map, codes, Option, None, Some}
+use Rattle.std.specs.Prelude.{ℕ, List, [], ◌∷◌, map, codes, Option, None, Some, option_map}
 use Rattle.serde_json.specs.Data.{Data, number, unsigned, string, array, object, Items, Members, member, no_members}
 use Rattle.serde_json.specs.View.{items_of}
 use Rattle.serde_json.specs.Written.{compact_text}
+use Rattle.ns_types.specs.declared.identity.DevEui.{DevEui}
 use Rattle.ns_types.specs.declared.identity.DevNonce.{DevNonce}
 use Rattle.ns_roster.specs.declared.Device.{Device}
 use Rattle.ns_roster.specs.Field.{hex_number}
@@ -47,3 +48,11 @@ devices_with (d ∷ ds) (n ∷ ns) = (record d { last_nonce = n }) ∷ devices_w
 -- the network whose devices have these last nonces
 abbrev pub with_nonces : Network → List (Option DevNonce) → Network
 with_nonces net nonces = record net { devices = devices_with net.devices nonces }
+
+-- the greatest nonce that is told of a device
+abbrev pub nonce_by : (DevEui → Option ℕ) → Device → Option DevNonce
+nonce_by greatest d = option_map (λ n. record { 0 = n }) (greatest d.eui)
+
+-- the network whose devices' last nonces are the greatest that are told of them
+abbrev pub with_greatest : Network → (DevEui → Option ℕ) → Network
+with_greatest net greatest = with_nonces net (map (nonce_by greatest) net.devices)

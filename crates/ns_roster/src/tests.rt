@@ -187,25 +187,22 @@ fn device_faults(rt: HostRuntime) -> Result<(), Fail> {
     Ok(())
 }
 
+// Lists within lists, alone and as a further field of a roster: to the limit of 127, which the roster's object counts in, and beyond.
 #[test]
 fn nesting(rt: HostRuntime) -> Result<(), Fail> {
-    for (lists, wanted) in [(126, None), (127, Some(RosterFault::NotJson))] {
-        let mut text = String::new(rt.alloc());
-        text.push_str(
-            r#"{"version":1,"net_id":"000024","rx1_offset":0,"rx_delay":1,"devices":[],"more":"#,
+    for (lists, alone, inside) in [
+        (126, RosterFault::Field, None),
+        (127, RosterFault::Field, Some(RosterFault::NotJson)),
+        (128, RosterFault::NotJson, Some(RosterFault::NotJson)),
+    ] {
+        let open = "[".repeat(rt.alloc(), lists)?;
+        let close = "]".repeat(rt.alloc(), lists)?;
+        let text = format!(in rt.alloc(); "{open}{close}")?;
+        assert_eq!(rt; fault(&rt, text.as_str()), Some(alone), "{lists}");
+        let text = format!(in rt.alloc();
+            "{{\"version\":1,\"net_id\":\"000024\",\"rx1_offset\":0,\"rx_delay\":1,\"devices\":[],\"more\":{text}}}"
         )?;
-        for _ in 0..lists {
-            text.push_str("[")?;
-        }
-        for _ in 0..lists {
-            text.push_str("]")?;
-        }
-        text.push_str("}")?;
-        assert_eq!(rt;
-            fault(&rt, text.as_str()),
-            wanted,
-            "{lists} lists in the object"
-        );
+        assert_eq!(rt; fault(&rt, text.as_str()), inside, "{lists}");
     }
     Ok(())
 }

@@ -1,5 +1,5 @@
 -- What a search of a history finds in single entries, in the words of the history.
-use Rattle.std.specs.Prelude.{ℕ, ◌&&◌, ◌==◌, List, Option, option_map, option_and_then}
+use Rattle.std.specs.Prelude.{ℕ, ◌≤◌, ◌&&◌, ◌==◌, length, List, Option, option_map, option_and_then}
 use Rattle.ns_types.specs.declared.identity.DevEui.{DevEui}
 use Rattle.ns_types.specs.declared.identity.WindowName.{WindowName}
 use Rattle.ns_types.specs.declared.heard.Heard.{Heard}
@@ -8,9 +8,15 @@ use Rattle.ns_types.specs.Cases.{when}
 use Rattle.ns_types.specs.Heard.{best}
 use Rattle.ns_types.specs.Identity.{same_window}
 use Rattle.ns_calls.specs.declared.call.JoinAns.{JoinAns}
+use Rattle.ns_calls.specs.declared.call.Outcome.TheVariants.{Success}
+use Rattle.ns_calls.specs.declared.call.Call.{Call}
+use Rattle.ns_calls.specs.declared.call.Call.TheVariants as call
+use Rattle.ns_calls.specs.declared.call.Reply.{Reply}
+use Rattle.ns_calls.specs.declared.call.Reply.TheVariants.{Accepted}
 use Rattle.ns_calls.specs.declared.call.Entry.{Entry}
 use Rattle.ns_calls.specs.declared.answer.Downlink.{Downlink}
-use Rattle.ns_calls.specs.History.{Opening, same_device, same_ticket, acceptance_in, window_copy_in, ticket_copy_in, ticket_copies}
+use Rattle.ns_calls.specs.History.{Opening, same_device, same_ticket, acceptance_in, window_copy_in, ticket_copy_in, window_copies, ticket_copies}
+use Rattle.ns_calls.specs.Reply.{most_copies}
 use Rattle.ns_calls.specs.Out.{accept_at}
 use Rattle.ns_sent.specs.declared.search.Opened.{Opened}
 
@@ -28,6 +34,16 @@ window_copy w e = option_and_then (λ c. when (same_window c.0 w) c.1) (window_c
 
 abbrev pub ticket_copy : Ticket → Entry → Option Heard
 ticket_copy t e = option_and_then (λ c. when (same_ticket t c.0) c.1) (ticket_copy_in e.call e.reply)
+
+-- where a join is accepted, its ticket has at most 16 copies
+abbrev pub AcceptFits : List Entry → Call → Reply → Type 0
+AcceptFits h (call.JoinReply ticket (Success join)) (Accepted eui session addr) = length (ticket_copies h ticket) ≤ most_copies
+AcceptFits h _ _ = Unit {0}
+
+-- no window has more than 16 copies in these entries, nor has the ticket of a join that an entry after them accepts
+pub record CopiesFit (h : List Entry) (e : Entry) : Type 0 where
+  pub windows : (w : WindowName) → length (window_copies h w) ≤ most_copies
+  pub ticket : AcceptFits h e.call e.reply
 
 -- the Join-Accept that goes out for a ticket
 abbrev pub accept_downlink : List Entry → Ticket → JoinAns → Option Downlink

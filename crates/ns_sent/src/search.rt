@@ -24,7 +24,7 @@ pub struct Opened {
 fn is_same(a: &WindowName, b: &WindowName) -> bool
     ensures { result ≡ same_window a.now b.now }
 {
-    a.eui.0 == b.eui.0 && a.session == b.session && a.fcnt == b.fcnt
+    a.eui.0 == b.eui.0 && a.session == b.session && a.fcnt == b.fcnt && a.round == b.round
 }
 
 // The window that an entry opened.
@@ -35,7 +35,7 @@ fn window_opened(entry: &Entry) -> Option<Opened>
         return None;
     };
     match entry.reply {
-        Reply::Opened { window } => Some(Opened {
+        Reply::Opened { window } | Reply::Again { window } => Some(Opened {
             window,
             frame: *frame,
             heard: *heard,
@@ -120,7 +120,7 @@ fn window_copy(entry: &Entry, name: &WindowName) -> Option<Heard>
         return None;
     };
     let window = match entry.reply {
-        Reply::Opened { window } => window,
+        Reply::Opened { window } | Reply::Again { window } => window,
         Reply::Copied { window, .. } => window,
         _ => return None,
     };

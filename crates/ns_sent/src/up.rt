@@ -1,11 +1,10 @@
 //! The uplink that goes out with an entry.
 
 ghost use Rattle.std.specs.Prelude.{◌≡◌, ◌≤◌, length};
-ghost use Rattle.ns_calls.specs.Headline.{LimitsHold};
 ghost use Rattle.ns_calls.specs.History.{window_copies};
-ghost use Rattle.ns_calls.specs.Out.{key_of, uplink_of, uplink_out};
+ghost use Rattle.ns_calls.specs.Out.{key_of, uplink_of, first_uplink_of, uplink_out};
 ghost use Rattle.ns_calls.specs.Reply.{most_copies};
-ghost use Rattle.ns_sent.specs.Found.{opening};
+ghost use Rattle.ns_sent.specs.Found.{CopiesFit, opening};
 
 use crate::search::{Opened, open_window, session_join, window_copies};
 use ns_calls::{Call, Entry, Reply, Uplink, payload_key};
@@ -33,9 +32,21 @@ fn uplink_from(entries: &[Entry], opened: &Opened) -> Uplink
     )
 }
 
-/// The uplink that goes out with an entry after these, in which the limits of copies hold.
+// The same, where this is the first window of its uplink.
+fn first_uplink(entries: &[Entry], opened: &Opened) -> Option<Uplink>
+    requires { length (window_copies entries.now opened.now.window) ≤ most_copies }
+    ensures { result ≡ first_uplink_of entries.now (opening opened.now) }
+{
+    if opened.window.is_first() {
+        Some(uplink_from(entries, opened))
+    } else {
+        None
+    }
+}
+
+/// The uplink that goes out with an entry after these, where their copies fit.
 pub fn uplink_of(entries: &[Entry], entry: &Entry) -> Option<Uplink>
-    requires { LimitsHold entries.now }
+    requires { CopiesFit entries.now entry.now }
     ensures { result ≡ uplink_out entries.now entry.now.call entry.now.reply }
 {
     let Call::Close { window } = &entry.call else {
@@ -44,7 +55,7 @@ pub fn uplink_of(entries: &[Entry], entry: &Entry) -> Option<Uplink>
     match entry.reply {
         Reply::Closed { .. } => {
             let opened = open_window(entries, window)?;
-            Some(uplink_from(entries, &opened))
+            first_uplink(entries, &opened)
         }
         _ => None,
     }

@@ -1,1 +1,1 @@
-pub mod ClosingLemmas
+mod OutputLemmas

@@ -1,7 +1,7 @@
 -- Which counter each reply and each refusal has.
 use Rattle.std.specs.Prelude.{ℕ, ◌+◌}
 use Rattle.ns_calls.specs.declared.call.Reply.{Reply}
-use Rattle.ns_calls.specs.declared.call.Reply.TheVariants.{Opened, Copied, Crowded, Old, NoSession, Busy, Ask, JoinCopied, JoinCrowded, NonceOld, NoDevice, JoinBusy, Accepted, JoinRefused, JoinStale, NoTicket, Closed, NoWindow}
+use Rattle.ns_calls.specs.declared.call.Reply.TheVariants.{Opened, Copied, Crowded, Old, NoSession, Busy, Ask, JoinCopied, JoinCrowded, NonceOld, NoDevice, JoinBusy, Accepted, JoinRefused, JoinStale, NoTicket, Closed, NoWindow, Again}
 use Rattle.ns_link.specs.declared.LinkFault.TheVariants.{Short, Version, Kind, Length, Frequency, DataRate, Buffer}
 use Rattle.ns_views.specs.Faults.{number}
 use Rattle.ns_workers.specs.declared.datagram.Refused.{Refused}
@@ -27,6 +27,7 @@ reply_place (JoinStale greatest) = 14
 reply_place NoTicket = 15
 reply_place (Closed window ack) = 16
 reply_place NoWindow = 17
+reply_place (Again window) = 18
 
 -- the place of a refusal's counter, G1 to G6 and then V1 to V6. No datagram that comes is refused for its buffer (G7): it has the
 -- place behind the last

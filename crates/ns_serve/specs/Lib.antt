@@ -3,3 +3,4 @@ pub mod Output
 pub mod Peers
 pub mod Ends
 pub mod Closing
+pub mod Trims

@@ -1,5 +1,6 @@
 -- What an output has been told.
-use Rattle.std.specs.Prelude.{ℕ, List, [], ◌∷◌, ◌++◌, codes, decimal}
+use Rattle.std.specs.Prelude.{ℕ, List, [], ◌∷◌, ◌++◌, Option, codes, decimal}
+use Rattle.std.specs.Io.KnownBytes.{Appends}
 
 -- a line with its line feed
 abbrev pub line : List ℕ → List ℕ
@@ -12,3 +13,10 @@ settled_line total = line (codes "settled " ++ decimal total)
 -- the first line, for the text of an address
 abbrev pub listening_line : List ℕ → List ℕ
 listening_line addr = line (codes "listening " ++ addr)
+
+-- known bytes have grown by some text, or by some text and then this one
+abbrev pub Grows : Option (List ℕ) → Option (List ℕ) → Type 0
+Grows old new = (text : List ℕ) × Appends old new text
+
+abbrev pub EndsIn : Option (List ℕ) → Option (List ℕ) → List ℕ → Type 0
+EndsIn old new text = (before : List ℕ) × Appends old new (before ++ text)

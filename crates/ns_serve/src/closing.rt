@@ -1,8 +1,9 @@
 //! The closing roster of a server that has ended, from which the next run begins.
 
 ghost use Rattle.std.specs.Prelude.{◌≡◌, map, IfOk, string_bytes};
-ghost use Rattle.ns_roster.specs.Closing.{network_text, with_nonces};
-ghost use Rattle.ns_serve.specs.Closing.{nonce_in};
+ghost use Rattle.ns_roster.specs.Closing.{nonce_by};
+ghost use Rattle.ns_server.specs.Settled.{greatest_of};
+ghost use Rattle.ns_serve.specs.Closing.{roster_text};
 
 use ns_roster::{Device, Roster};
 use ns_server::{Naming, Settled};
@@ -15,7 +16,7 @@ fn nonces_of<B: Naming>(
     devices: &[Device],
     settled: &Settled<B>,
 ) -> Result<Vec<Option<DevNonce>>, AllocError>
-    ensures { IfOk result (λ ns. ns.items ≡ map (nonce_in B.roster settled.now) devices.now) }
+    ensures { IfOk result (λ ns. ns.items ≡ map (nonce_by (greatest_of B.roster settled.now)) devices.now) }
 {
     let mut nonces = Vec::with_capacity(alloc, devices.len())?;
     for device in devices {
@@ -30,8 +31,8 @@ pub(crate) fn closing_text<B: Naming>(
     roster: &Roster,
     settled: &Settled<B>,
 ) -> Result<String, AllocError>
-    ensures { IfOk result
-        (λ s. string_bytes s ≡ network_text (with_nonces roster.now (map (nonce_in B.roster settled.now) roster.now.devices))) }
+    requires { roster.now ≡ B.roster }
+    ensures { IfOk result (λ s. string_bytes s ≡ roster_text B.roster settled.now) }
 {
     let nonces = nonces_of(alloc, roster.devices(), settled)?;
     roster.closing(alloc, nonces.as_slice())

@@ -22,7 +22,7 @@ const REFUSALS: [&str; 12] = [
 ];
 
 // The replies by the words of their answer lines, in the order of their places.
-const REPLIES: [&str; 18] = [
+const REPLIES: [&str; 19] = [
     "opened",
     "copied",
     "crowded",
@@ -41,6 +41,7 @@ const REPLIES: [&str; 18] = [
     "noticket",
     "closed",
     "nowindow",
+    "again",
 ];
 
 /// How often each thing happened.
@@ -49,7 +50,7 @@ pub(crate) struct Counts {
     // When they were logged last, in milliseconds since the server began.
     logged_ms: AtomicU64,
     refusals: [AtomicU64; 12],
-    replies: [AtomicU64; 18],
+    replies: [AtomicU64; 19],
     dropped: AtomicU64,
     unanswered: AtomicU64,
     unsent: AtomicU64,
@@ -89,7 +90,7 @@ fn value(counter: &AtomicU64) -> u64 {
 // The place of a reply's counter.
 fn place_of_reply(reply: &Reply) -> usize
     ensures place { result ≡ reply_place reply.now }
-    ensures bound { result < 18 }
+    ensures bound { result < 19 }
 {
     match reply {
         Reply::Opened { .. } => 0,
@@ -110,6 +111,7 @@ fn place_of_reply(reply: &Reply) -> usize
         Reply::NoTicket => 15,
         Reply::Closed { .. } => 16,
         Reply::NoWindow => 17,
+        Reply::Again { .. } => 18,
     }
 }
 

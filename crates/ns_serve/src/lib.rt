@@ -18,9 +18,12 @@ mod run;
 mod service;
 mod sockets;
 mod state;
+mod trims;
 
 pub use options::{ServeFault, ServeOptions};
 pub use service::serve;
 
 #[cfg(test)]
 mod tests;
+#[cfg(test)]
+mod trim_tests;

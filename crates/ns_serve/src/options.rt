@@ -25,6 +25,8 @@ pub struct ServeOptions<'a> {
     pub window_ms: u32,
     /// After how many datagrams the server stops, if it does.
     pub stop_after: Option<u32>,
+    /// After how many further entries a shard is trimmed, if at all.
+    pub trim: Option<u32>,
     /// Whether the roster from which the next run begins is written at the end.
     pub closing: bool,
 }

@@ -88,7 +88,8 @@ impl<W: Sink> Output<W> {
 
     /// Writes how many entries there are.
     pub fn put_settled(&mut self, total: u128) -> Result<(), ServeFault>
-        ensures { OnOk result (Appends (append_known (W.taken self.old.writer) self.old.lines.items)
+        ensures empty { OnOk result (self.new.lines.items ≡ []) }
+        ensures ok { OnOk result (Appends (append_known (W.taken self.old.writer) self.old.lines.items)
             (W.taken self.new.writer) (settled_line total)) }
     {
         let mut text = Line::new();
@@ -109,7 +110,8 @@ impl<W: Sink> Output<W> {
 
     // Writes the lines that are not written yet.
     fn flush_all(&mut self) -> Result<(), ServeFault>
-        ensures { OnOk result (Appends (W.taken self.old.writer) (W.taken self.new.writer) self.old.lines.items) }
+        ensures empty { self.new.lines.items ≡ [] }
+        ensures ok { OnOk result (Appends (W.taken self.old.writer) (W.taken self.new.writer) self.old.lines.items) }
     {
         if self.flush().is_err() {
             return Err(ServeFault::Io);

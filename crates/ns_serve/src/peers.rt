@@ -13,9 +13,10 @@ struct Peer {
     turn: u64,
 }
 
-/// The addresses of at most so many gateways. When it is full, the gateway not heard for longest goes. A turn is written anew once it
-/// is old by a 64th of the room, so that a gateway which is heard again and again costs one look. Gateway numbers are not
-/// authenticated, so both maps are ordered: no choice of numbers makes them slow. Each gateway has one entry in each.
+/// The addresses of at most so many gateways. When it is full, the gateway not heard for longest goes. Turns are written anew only
+/// while more than half of the room is taken, and then once they are old by a 64th of it: a gateway whose address stays costs one
+/// look. Gateway numbers are not authenticated, so both maps are ordered: no choice of numbers makes them slow. Each gateway has one
+/// entry in each.
 #[derive(Drop)]
 pub(crate) struct Peers {
     most: usize,
@@ -60,6 +61,8 @@ impl Peers {
         ensures here { IfSome (addr_of self.new gateway) (λ a. a ≡ addr) }
         ensures others { (other : ℕ) → other ≢ gateway
             → IfSome (addr_of self.new other) (λ a. addr_of self.old other ≡ Some a) }
+        ensures stay { btree_map_len self.old.by_turn < self.old.most
+            → (other : ℕ) → other ≢ gateway → addr_of self.new other ≡ addr_of self.old other }
         ensures bound { btree_map_len self.new.by_gateway ≤ self.old.most }
         ensures most { self.new.most ≡ self.old.most }
     {
@@ -68,8 +71,7 @@ impl Peers {
             None => None,
         };
         if let Some(peer) = before {
-            let age = self.turn.wrapping_sub(peer.turn);
-            if peer.addr == addr && age <= (self.most / 64) as u64 {
+            if peer.addr == addr && self.is_young(peer.turn) {
                 return;
             }
             let _ = self.by_gateway.remove(&gateway);
@@ -93,11 +95,19 @@ impl Peers {
         }
     }
 
+    // Whether a turn need not be written anew.
+    fn is_young(&self, turn: u64) -> bool {
+        let is_crowded = self.by_turn.len() > self.most / 2;
+        let age = self.turn.wrapping_sub(turn);
+        !is_crowded || age <= (self.most / 64) as u64
+    }
+
     // Forgets the gateway not heard for longest, where there is no room for one more.
     fn make_room(&mut self)
         ensures room { btree_map_len self.new.by_turn < self.new.most }
         ensures fewer { btree_map_len self.new.by_gateway ≤ btree_map_len self.old.by_gateway }
         ensures kept { (other : ℕ) → IfSome (addr_of self.new other) (λ a. addr_of self.old other ≡ Some a) }
+        ensures stay { btree_map_len self.old.by_turn < self.old.most → self.new ≡ self.old }
         ensures most { self.new.most ≡ self.old.most }
     {
         if self.by_turn.len() < self.most {

@@ -10,6 +10,7 @@ use crate::options::{ServeFault, ServeOptions};
 use crate::output::{Lines, Output};
 use crate::sockets::{FromSocket, ToSocket};
 use crate::state::State;
+use crate::trims::{Trims, trim_due};
 use crossbeam_channel::{Receiver, Sender, unbounded};
 use log::Log;
 use ns_joinclient::HostName;
@@ -25,8 +26,8 @@ use std::thread;
 use std::thread::{JoinHandle, Scope, Threads};
 use std::time::{Clock, Duration};
 
-// How many receipts the closer makes room for at a time.
-const AT_A_TIME: u32 = 1024;
+// After how many closings the closer looks whether shards are to be trimmed. It makes room for so many receipts at a time.
+const AT_A_TIME: u32 = 256;
 
 // How long connecting to the join server and the whole exchange take at most. A Join-Accept is of use within the 5 s of its receive
 // window.
@@ -54,6 +55,7 @@ struct Around<'a, B: Naming, R, W> {
     state: &'a State,
     output: &'a Mutex<Output<W>>,
     window_ms: u32,
+    trim: Option<u32>,
 }
 
 impl<'a, B: Naming, R, W> Around<'a, B, R, W> {
@@ -209,7 +211,7 @@ fn join_thread<
     (pass, joined.fault)
 }
 
-// The closer, from its start to its end.
+// The closer, from its start to its end. After each return of `run_closer` it trims the shards that are due.
 fn closer_thread<B: Naming, R: Wait + Clock + Log, W: Sink>(
     around: &Around<'_, B, R, W>,
     pass: Pass<B>,
@@ -224,6 +226,7 @@ fn closer_thread<B: Naming, R: Wait + Clock + Log, W: Sink>(
     };
     let timer = SinceStart { state, output };
     let shared = around.shared();
+    let mut trims = around.trim.map(Trims::new);
     for _turn in rt.forever() {
         let mut sink = Lines::new(rt, output, false);
         let ended = run_closer(
@@ -236,6 +239,15 @@ fn closer_thread<B: Naming, R: Wait + Clock + Log, W: Sink>(
             AT_A_TIME,
         );
         break_at(state, ended.fault);
+        if let Some(trims) = &mut trims {
+            trim_due(
+                rt,
+                around.alloc,
+                around.server,
+                trims,
+                ended.receipts.as_slice(),
+            );
+        }
         if ended.fault.is_some() || ended.receipts.len() < AT_A_TIME as usize {
             return (pass, ended.fault);
         }
@@ -362,6 +374,7 @@ pub(crate) fn run_all<
         state,
         output,
         window_ms: options.window_ms,
+        trim: options.trim,
     };
     let around = &around;
     state

@@ -1,10 +1,12 @@
 //! A server from its start to what it settled.
-ghost use Rattle.std.specs.Prelude.{◌≡◌, ◌+◌, ◌≤◌, ◌<◌, false, true, OnOk, OnErr};
+ghost use Rattle.std.specs.Prelude.{◌≡◌, ◌+◌, ◌≤◌, ◌<◌, false, true, sum_by, IfOk, OnOk, OnErr};
 ghost use Rattle.std.specs.Io.KnownBytes.{Appends, append_known};
 ghost use Rattle.std.specs.Arc.{arc_value};
 ghost use Rattle.ns_tally.specs.Tally.{AreNamed};
 ghost use Rattle.ns_server.specs.Drain.{NoneOpen, EachIsClosed};
 ghost use Rattle.ns_workers.specs.Lines.{uplink_line};
+ghost use Rattle.ns_serve.specs.Closing.{last_lines};
+ghost use Rattle.ns_serve.specs.Output.{Grows, EndsIn};
 
 use crate::closing::closing_text;
 use crate::counts::Counts;
@@ -59,6 +61,9 @@ fn log_start<R: Log>(rt: &R, roster: &Roster, addr: SocketAddr, options: &ServeO
     if let Some(count) = options.stop_after {
         info!(rt; "stops after {count} datagrams");
     }
+    if let Some(count) = options.trim {
+        info!(rt; "trims a shard after {count} entries");
+    }
 }
 
 // Writes what goes up with the closing of a window, and sends what goes down.
@@ -85,6 +90,7 @@ fn hand_out<R: Wait + Log, W: Sink>(
 }
 
 // Closes all windows that are still open, the oldest of each shard first.
+#[tactic(auto, using(crate::proofs::OutputLemmas::grows_none, crate::proofs::OutputLemmas::grows_more,))]
 fn drain<B: Naming, R: Wait + Log, W: Sink>(
     rt: &R,
     state: &State,
@@ -92,12 +98,13 @@ fn drain<B: Naming, R: Wait + Log, W: Sink>(
     output: &mut Output<W>,
 ) -> Result<(), ServeFault>
     ensures closed { OnOk result (NoneOpen settled.new × EachIsClosed settled.new) }
+    ensures grows { OnOk result (Grows (append_known (W.taken output.old.writer) output.old.lines.items)
+        (append_known (W.taken output.new.writer) output.new.lines.items)) }
 {
     for _turn in rt.forever() {
         match settled.drain_next() {
-            Ok(None) => return Ok(()),
-            Ok(Some(receipt)) => hand_out(rt, state, output, &receipt)?,
-            Err(_) => return Err(ServeFault::NoMemory),
+            Some(receipt) => hand_out(rt, state, output, &receipt)?,
+            None => return Ok(()),
         }
     }
     unreachable!()
@@ -113,7 +120,13 @@ fn finish<B: Naming, R: Wait + Log, W: Sink>(
     settled: &mut Settled<B>,
     output: &mut Output<W>,
     closing: bool,
-) -> Result<u128, ServeFault> {
+) -> Result<u128, ServeFault>
+    requires { roster.now ≡ B.roster }
+    ensures total { IfOk result (λ t. t ≡ sum_by (λ s. s.made) settled.new) }
+    ensures closed { OnOk result (NoneOpen settled.new × EachIsClosed settled.new) }
+    ensures text { IfOk result (λ t. EndsIn (append_known (W.taken output.old.writer) output.old.lines.items)
+        (W.taken output.new.writer) (last_lines B.roster settled.new t closing)) }
+{
     drain(rt, state, settled, output)?;
     let total = settled.total();
     if !closing {

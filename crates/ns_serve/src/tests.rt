@@ -1,8 +1,11 @@
-//! A server over loopback, with a join server and a gateway in threads of their own.
+//! A server over loopback, with a join server and a gateway in threads of their own; the table of addresses, and the log line of counts.
 
+use crate::counts::Counts;
 use crate::peers::Peers;
 use crate::{ServeFault, ServeOptions, serve};
 use log::Log;
+use log::sink::Writer;
+use ns_calls::Reply;
 use ns_device::{TestDevice, TestJoinServer};
 use ns_joinclient::HostName;
 use ns_roster::Roster;
@@ -16,7 +19,7 @@ use std::thread;
 use std::thread::Threads;
 use std::time::{Clock, Duration};
 
-const ROSTER_A: &str =
+pub const ROSTER_A: &str =
     r#"{"version":1,"net_id":"000024","rx1_offset":0,"rx_delay":1,"devices":[{"dev_eui":"000000000000000d","join_eui":"0102030401020304","slot":1998321}]}"#;
 
 const APP_KEY: Key = Key([7; 16]);
@@ -31,6 +34,10 @@ const H2: [u8; 27] = [
     1, 1, 0, 0, 0, 0, 0, 0, 0, 0xa2, 0, 0, 0, 0, 0, 0x0f, 0x46, 0x28, 0x33, 0xbe, 0x27, 0xa0, 5,
     0xfc, 0x18, 0, 0x50,
 ];
+
+// The log lines of two minutes, in which three calls were answered.
+const LOGGED: &[u8] =
+    b"[INFO  ns_serve::counts] datagrams: read 4 dropped 0 G1 0 G2 0 G3 0 G4 0 G5 0 G6 0 V1 0 V2 0 V3 0 V4 0 V5 0 V6 0\n[INFO  ns_serve::counts] replies: opened 0 copied 0 crowded 0 old 0 nosession 2 busy 0 ask 0 joincopied 0 joincrowded 0 nonceold 0 nodevice 0 joinbusy 1 accepted 0 joinrefused 0 joinstale 0 noticket 0 closed 0 nowindow 0 again 0 unanswered 0 unsent 0\n[INFO  ns_serve::counts] datagrams: read 6 dropped 0 G1 0 G2 0 G3 0 G4 0 G5 0 G6 0 V1 0 V2 0 V3 0 V4 0 V5 0 V6 0\n[INFO  ns_serve::counts] replies: opened 0 copied 0 crowded 0 old 0 nosession 2 busy 0 ask 0 joincopied 0 joincrowded 0 nonceold 0 nodevice 0 joinbusy 1 accepted 0 joinrefused 0 joinstale 0 noticket 0 closed 0 nowindow 0 again 0 unanswered 0 unsent 0\n";
 
 // How often a peer tries again, with a sleep of 10 ms before each time.
 const TRIES: u32 = 500;
@@ -164,6 +171,7 @@ fn serve_four<
         join_workers: 1,
         window_ms: 2000,
         stop_after: Some(4),
+        trim: Some(1),
         closing: true,
     };
     serve(rt, alloc, roster, &options, OverStd::new(output))
@@ -231,4 +239,20 @@ fn addresses_are_kept(rt: HostRuntime) {
     assert_eq!(rt; peers.addr(1), Some(second));
     assert_eq!(rt; peers.addr(2), None);
     assert_eq!(rt; peers.addr(3), Some(second));
+}
+
+/// The counts are logged once a minute has passed, and then not before another has, with their names.
+#[test]
+fn counts_are_logged_each_minute(rt: HostRuntime) -> Result<(), Fail> {
+    let log = Writer::new(Vec::new(rt.alloc()));
+    let counts = Counts::new();
+    for reply in [Reply::NoSession, Reply::JoinBusy, Reply::NoSession] {
+        counts.replied(&reply);
+    }
+    for (now_ms, read) in [(59_999, 3), (60_000, 4), (119_999, 5), (120_000, 6)] {
+        counts.log_each_minute(&log, now_ms, read);
+    }
+    let lines = log.into_inner();
+    assert_eq!(rt; lines.as_slice(), LOGGED);
+    Ok(())
 }

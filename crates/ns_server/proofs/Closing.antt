@@ -1,8 +1,7 @@
 -- Where no window is open each opening has exactly one closing.
-use Rattle.std.proofs.lemmas.Bool.Decides.{nat_tests}
 use Rattle.std.proofs.lemmas.List.Sums.{sum_by-cons}
 use Rattle.std.specs.List.{cons_option}
-use Rattle.std.proofs.Common.{◌==◌, cond, ◌&&◌, ◌≡◌, ℕ, zero, suc, ◌<◌, ◌≤◌, Bool, true, List, [], ◌∷◌, Some, None, refl, ap, sym, ◌∙◌, subst, arith}
+use Rattle.std.proofs.Common.{cond, ◌≡◌, ℕ, zero, suc, ◌<◌, ◌≤◌, Bool, true, List, [], ◌∷◌, Some, None, refl, ap, sym, ◌∙◌, subst, arith}
 use Rattle.std.specs.Prelude.{slice_get, count_by, filter_map, Option, option_map}
 use Rattle.ns_types.specs.declared.identity.WindowName.{WindowName}
 use Rattle.ns_types.specs.Identity.{same_window}
@@ -11,19 +10,13 @@ use Rattle.ns_calls.specs.Queries.{first}
 use Rattle.ns_calls.specs.History.{Opening, window_in, open_windows, oldest}
 use Rattle.ns_calls.specs.Legal.{IsLegal}
 use Rattle.ns_roster.specs.Network.{Network}
-use Rattle.ns_shard.specs.State.{State}
-use Rattle.ns_server.proofs.Shards.{entries_history}
+use Rattle.ns_kept.specs.Kept.{Remains, reading}
+use Rattle.ns_kept.specs.Left.{Leaves}
+use Rattle.ns_shard.specs.State.{State, remains, seen}
 use Rattle.ns_server.specs.Settled.{AreStates}
 use Rattle.ns_server.specs.Drain.{NoneOpen, EachIsClosed}
+use Rattle.ns_calls.proofs.NameLemmas.{same_window-refl}
 use Rattle.ns_calls.specs.Headline.{opening_count, closing_count, open_count, WindowsOpenOnce}
-
--- a name is the same as itself
-same_itself : (w : WindowName) → same_window w w ≡ true
-same_itself w =
-    let eui : (w.eui.0 == w.eui.0) ≡ true = grind (arith, nat_tests) in
-    let session : (w.session == w.session) ≡ true = grind (arith, nat_tests) in
-    let fcnt : (w.fcnt == w.fcnt) ≡ true = grind (arith, nat_tests) in
-    ap (λ b. b && (w.session == w.session) && (w.fcnt == w.fcnt)) eui ∙ (ap (λ b. true && b && (w.fcnt == w.fcnt)) session ∙ ap (λ b. true && true && b) fcnt)
 
 -- what an element counts
 abbrev the_count : Bool → ℕ
@@ -48,7 +41,7 @@ opened_counts (x ∷ h) zero e o at opens =
     let test = λ (q : Opening). same_window q.window o.window in
     let rest = filter_map (λ (y : Entry). window_in y.call y.reply) h in
     let is : window_in x.call x.reply ≡ Some o = ap (λ (y : Entry). window_in y.call y.reply) same ∙ opens in
-    subst (λ q. 0 < count_by test (cons_option q rest)) (sym is) (front_passes test o rest (same_itself o.window))
+    subst (λ q. 0 < count_by test (cons_option q rest)) (sym is) (front_passes test o rest (same_window-refl o.window))
 opened_counts (x ∷ h) (suc n) e o at opens =
     let test = λ (q : Opening). same_window q.window o.window in
     omega (arith, opened_counts h n e o at opens, more_pass test (window_in x.call x.reply) (filter_map (λ (y : Entry). window_in y.call y.reply) h))
@@ -61,13 +54,13 @@ none_first (o ∷ os) none = absurd (cc none)
 none_open : (h : List Entry) → oldest h ≡ None → open_windows h ≡ []
 none_open h none = none_first (open_windows h) none
 
--- an entry that opened a window has one that closed it
-closed_once : (h : List Entry) → WindowsOpenOnce h → oldest h ≡ None → (n : ℕ) (e : Entry) (o : Opening) → slice_get h n ≡ Some e → window_in e.call e.reply ≡ Some o → closing_count h o.window ≡ 1
-closed_once h once none n e o at opens =
-    let some = opened_counts h n e o at opens in
-    let shut : open_count h o.window ≡ 0 = ap (λ (os : List Opening). count_by (λ q. same_window q.window o.window) os) (none_open h none) in
-    omega (arith, some, shut, once.opens o.window, once.closes o.window)
+-- where nothing is left open, in a history each name is closed as often as it is opened
+abbrev pub Drained : Network → Type 0
+Drained net = (h : List Entry) (k : Remains) → Leaves net h k → open_windows (reading k) ≡ [] → (w : WindowName) → closing_count h w ≡ opening_count h w
 
 -- where no shard has an open window, each opening has one closing
-pub each_closed : (net : Network) (states : List State) → ((h : List Entry) → IsLegal net h → WindowsOpenOnce h) → AreStates net states → NoneOpen states → EachIsClosed states
-each_closed net states law are none k s at n e o stands opens = closed_once s.entries (law s.entries (entries_history net k s (are k s at)).legal) (none k s at) n e o stands opens
+pub each_closed : (net : Network) (states : List State) → ((h : List Entry) → IsLegal net h → WindowsOpenOnce h) → Drained net → AreStates net states → NoneOpen states → EachIsClosed states
+each_closed net states once drained are none k s at h leaves n e o stands opens =
+    let there : Leaves net h (remains s) = subst (λ m. Leaves m h (remains s)) (are k s at).set_up leaves in
+    let all = drained h (remains s) there (none_open (seen s) (none k s at)) o.window in
+    omega (arith, opened_counts h n e o stands opens, all, (once h there.legal).opens o.window)

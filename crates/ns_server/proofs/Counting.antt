@@ -1,13 +1,9 @@
--- Receipts of one shard with numbers of their own, as many as the shard has entries, are all of it.
+-- Receipts with numbers of their own between two bounds, as many as there are numbers, have them all.
 use Rattle.std.proofs.lemmas.Bool.Decides.{nat_tests}
 use Rattle.std.proofs.lemmas.List.Sums.{sum_by-cons}
-use Rattle.std.proofs.lemmas.Option.{slice_get_within}
-use Rattle.std.proofs.Common.{◌≡◌, ◌==◌, ℕ, zero, suc, ◌+◌, ◌<◌, ◌≤◌, Bool, true, false, cond, List, [], ◌∷◌, length, Some, refl, ap, sym, ◌∙◌, subst, arith}
+use Rattle.std.proofs.Common.{◌≡◌, ◌==◌, ℕ, zero, suc, ◌+◌, ◌<◌, ◌≤◌, Bool, true, false, cond, List, [], ◌∷◌, Some, refl, ap, sym, ◌∙◌, count_by, arith}
 use Rattle.std.specs.Prelude.{slice_get}
-use Rattle.ns_calls.specs.declared.call.Entry.{Entry}
-use Rattle.ns_shard.specs.State.{State}
 use Rattle.ns_server.specs.declared.kept.Receipt.{Receipt}
-use Rattle.ns_server.specs.Check.{AreRight, receipts_of, HasReceipt}
 
 -- ---- sums over the numbers below a bound
 
@@ -56,114 +52,119 @@ below_first : (b : Bool) (v m : ℕ) → (b ≡ true → v < m) → below (λ n.
 below_first true v m lt = below_hit v m (lt refl)
 below_first false v m lt = below_zero m
 
-below_each : (f : ℕ → ℕ) → ((n : ℕ) → f n ≤ 1) → (m : ℕ) → below f m ≤ m
-below_each f one zero = omega arith
-below_each f one (suc m) = omega (arith, below_each f one m, one m)
+below_none : (f : ℕ → ℕ) (m : ℕ) → ((n : ℕ) → n < m → f n ≡ 0) → below f m ≡ 0
+below_none f zero none = refl
+below_none f (suc m) none =
+    let rest = below_none f m (λ n lt. none n (omega (arith, lt))) in
+    omega (arith, rest, none m (omega arith))
 
-below_miss : (f : ℕ → ℕ) → ((n : ℕ) → f n ≤ 1) → (m n : ℕ) → n < m → f n ≡ 0 → below f m + 1 ≤ m
-below_miss f one zero n lt none = absurd (omega arith)
-below_miss f one (suc m) n lt none = pick (n == m) refl (below_miss f one m n)
+below_next : (f : ℕ → ℕ) (low j : ℕ) → below f (suc j + low) ≡ below f (j + low) + f (j + low)
+below_next f low j =
+    let next : suc j + low ≡ suc (j + low) = omega arith in
+    ap (below f) next
+
+-- as many numbers behind a low one
+below_each : (f : ℕ → ℕ) → ((n : ℕ) → f n ≤ 1) → (low j : ℕ) → below f (j + low) ≤ below f low + j
+below_each f one low zero =
+    let same : zero + low ≡ low = omega arith in
+    omega (arith, ap (below f) same)
+below_each f one low (suc j) = omega (arith, below_next f low j, below_each f one low j, one (j + low))
+
+below_miss : (f : ℕ → ℕ) → ((n : ℕ) → f n ≤ 1) → (low j n : ℕ) → low ≤ n → n < j + low → f n ≡ 0 → below f (j + low) + 1 ≤ below f low + j
+below_miss f one low zero n since lt none = absurd (omega (arith, since, lt))
+below_miss f one low (suc j) n since lt none =
+    let missed = pick (n == j + low) refl (below_miss f one low j n since) in
+    omega (arith, below_next f low j, missed)
   where
-    pick : (b : Bool) → (n == m) ≡ b → (n < m → f n ≡ 0 → below f m + 1 ≤ m) → below f m + f m + 1 ≤ suc m
+    pick : (b : Bool) → (n == j + low) ≡ b → (n < j + low → f n ≡ 0 → below f (j + low) + 1 ≤ below f low + j) → below f (j + low) + f (j + low) + 1 ≤ below f low + suc j
     pick true is miss =
-        let same : n ≡ m = grind (arith, nat_tests) in
-        let here : f m ≡ 0 = ap f (sym same) ∙ none in
-        omega (arith, here, below_each f one m)
+        let same : n ≡ j + low = grind (arith, nat_tests) in
+        let here : f (j + low) ≡ 0 = ap f (sym same) ∙ none in
+        omega (arith, here, below_each f one low j)
     pick false is miss =
-        let less : n < m = grind (arith, nat_tests) in
-        omega (arith, miss less none, one m)
+        let less : n < j + low = grind (arith, nat_tests) in
+        omega (arith, miss less none, one (j + low))
 
--- ---- receipts of a shard, by number
+-- ---- receipts that pass a test, by number
 
-abbrev hits : ℕ → ℕ → List Receipt → ℕ
-hits k n [] = 0
-hits k n (r ∷ rs) = both (r.shard == k) (r.entry.number == n) + hits k n rs
+abbrev hits : (Receipt → Bool) → ℕ → List Receipt → ℕ
+hits mine n [] = 0
+hits mine n (r ∷ rs) = both (mine r) (r.entry.number == n) + hits mine n rs
 
--- each number of the shard's receipts is below the bound
-abbrev AreBelow : ℕ → ℕ → List Receipt → Type 0
-AreBelow k m rs = (i : ℕ) (r : Receipt) → slice_get rs i ≡ Some r → r.shard ≡ k → r.entry.number < m
+-- the number of each is between the bounds
+abbrev pub AreBetween : (Receipt → Bool) → ℕ → ℕ → List Receipt → Type 0
+AreBetween mine low high rs = (i : ℕ) (r : Receipt) → slice_get rs i ≡ Some r → mine r ≡ true → (low ≤ r.entry.number) × (r.entry.number < high)
 
--- no two of the shard's receipts have one number
-abbrev AreApart : ℕ → List Receipt → Type 0
-AreApart k rs =
-    (j i : ℕ) (q r : Receipt) → j < i → slice_get rs j ≡ Some q → slice_get rs i ≡ Some r → q.shard ≡ k → r.shard ≡ k → q.entry.number ≡ r.entry.number → ⊥
+-- no two of them have one number
+abbrev pub AreApart : (Receipt → Bool) → List Receipt → Type 0
+AreApart mine rs =
+    (j i : ℕ) (q r : Receipt) → j < i → slice_get rs j ≡ Some q → slice_get rs i ≡ Some r → mine q ≡ true → mine r ≡ true → q.entry.number ≡ r.entry.number → ⊥
 
-shard_is : (a k : ℕ) → (a == k) ≡ true → a ≡ k
-shard_is a k is = grind (arith, nat_tests)
+number_is : (a k : ℕ) → (a == k) ≡ true → a ≡ k
+number_is a k is = grind (arith, nat_tests)
 
-count_mine : (k : ℕ) (r : Receipt) (rs : List Receipt) → receipts_of k (r ∷ rs) ≡ bit (r.shard == k) + receipts_of k rs
-count_mine k r rs = sum_by-cons (λ (q : Receipt). cond (q.shard == k) 1 0) r rs
-
--- the receipts of a shard, counted by number
-all_hits : (k m : ℕ) (rs : List Receipt) → AreBelow k m rs → receipts_of k rs ≡ below (λ n. hits k n rs) m
-all_hits k m [] are = sym (below_zero m)
-all_hits k m (r ∷ rs) are =
-    let rest = all_hits k m rs (λ i q at. are (suc i) q at) in
-    let first = below_first (r.shard == k) r.entry.number m (λ is. are 0 r refl (shard_is r.shard k is)) in
-    let parts = below_add (λ n. both (r.shard == k) (r.entry.number == n)) (λ n. hits k n rs) (λ n. hits k n (r ∷ rs)) (λ n. refl) m in
-    omega (arith, rest, first, parts, count_mine k r rs)
+-- they are counted by number
+all_hits : (mine : Receipt → Bool) (low high : ℕ) (rs : List Receipt) → AreBetween mine low high rs → count_by mine rs ≡ below (λ n. hits mine n rs) high
+all_hits mine low high [] are = sym (below_zero high)
+all_hits mine low high (r ∷ rs) are =
+    let rest = all_hits mine low high rs (λ i q at. are (suc i) q at) in
+    let first = below_first (mine r) r.entry.number high (λ is. (are 0 r refl is).1) in
+    let parts = below_add (λ n. both (mine r) (r.entry.number == n)) (λ n. hits mine n rs) (λ n. hits mine n (r ∷ rs)) (λ n. refl) high in
+    omega (arith, rest, first, parts, sum_by-cons (λ (q : Receipt). cond (mine q) 1 0) r rs)
 
 -- a receipt that is counted at a number
-record Found (k n : ℕ) (rs : List Receipt) : Type 0 where
-  place : ℕ
-  receipt : Receipt
-  at : slice_get rs place ≡ Some receipt
-  shard : receipt.shard ≡ k
-  number : receipt.entry.number ≡ n
+pub record Found (mine : Receipt → Bool) (n : ℕ) (rs : List Receipt) : Type 0 where
+  pub place : ℕ
+  pub receipt : Receipt
+  pub at : slice_get rs place ≡ Some receipt
+  pub own : mine receipt ≡ true
+  pub number : receipt.entry.number ≡ n
 
-hit_found : (k n : ℕ) (rs : List Receipt) → 0 < hits k n rs → Found k n rs
-hit_found k n [] some = absurd (omega arith)
-hit_found k n (r ∷ rs) some = pick (r.shard == k) (r.entry.number == n) refl refl some (hit_found k n rs)
+hit_found : (mine : Receipt → Bool) (n : ℕ) (rs : List Receipt) → 0 < hits mine n rs → Found mine n rs
+hit_found mine n [] some = absurd (omega arith)
+hit_found mine n (r ∷ rs) some = pick (mine r) (r.entry.number == n) refl refl some (hit_found mine n rs)
   where
-    later : Found k n rs → Found k n (r ∷ rs)
-    later f = record { place = suc f.place; receipt = f.receipt; at = f.at; shard = f.shard; number = f.number }
+    later : Found mine n rs → Found mine n (r ∷ rs)
+    later f = record { place = suc f.place; receipt = f.receipt; at = f.at; own = f.own; number = f.number }
 
-    pick : (a b : Bool) → (r.shard == k) ≡ a → (r.entry.number == n) ≡ b → 0 < both a b + hits k n rs → (0 < hits k n rs → Found k n rs) → Found k n (r ∷ rs)
-    pick true true is_k is_n more rest = record { place = 0; receipt = r; at = refl; shard = shard_is r.shard k is_k; number = shard_is r.entry.number n is_n }
-    pick true false is_k is_n more rest = later (rest (omega arith))
-    pick false b is_k is_n more rest = later (rest (omega arith))
+    pick : (a b : Bool) → mine r ≡ a → (r.entry.number == n) ≡ b → 0 < both a b + hits mine n rs → (0 < hits mine n rs → Found mine n rs) → Found mine n (r ∷ rs)
+    pick true true own is_n more rest = record { place = 0; receipt = r; at = refl; own = own; number = number_is r.entry.number n is_n }
+    pick true false own is_n more rest = later (rest (omega arith))
+    pick false b own is_n more rest = later (rest (omega arith))
 
 -- no number is counted twice
-hits_once : (k n : ℕ) (rs : List Receipt) → AreApart k rs → hits k n rs ≤ 1
-hits_once k n [] apart = omega arith
-hits_once k n (r ∷ rs) apart = pick (r.shard == k) (r.entry.number == n) refl refl (hits k n rs) refl (hits_once k n rs (λ j i q p lt at there. apart (suc j) (suc i) q p (omega arith) at there))
+hits_once : (mine : Receipt → Bool) (n : ℕ) (rs : List Receipt) → AreApart mine rs → hits mine n rs ≤ 1
+hits_once mine n [] apart = omega arith
+hits_once mine n (r ∷ rs) apart = pick (mine r) (r.entry.number == n) refl refl (hits mine n rs) refl (hits_once mine n rs (λ j i q p lt at there. apart (suc j) (suc i) q p (omega arith) at there))
   where
-    pick : (a b : Bool) → (r.shard == k) ≡ a → (r.entry.number == n) ≡ b → (h : ℕ) → hits k n rs ≡ h → hits k n rs ≤ 1 → both a b + hits k n rs ≤ 1
-    pick true true is_k is_n zero none once = omega (arith, none)
-    pick true true is_k is_n (suc h) some once =
-        let f = hit_found k n rs (omega (arith, some)) in
-        absurd (apart 0 (suc f.place) r f.receipt (omega arith) refl f.at (shard_is r.shard k is_k) f.shard (shard_is r.entry.number n is_n ∙ sym f.number))
-    pick true false is_k is_n h is once = omega (arith, once)
-    pick false b is_k is_n h is once = omega (arith, once)
+    pick : (a b : Bool) → mine r ≡ a → (r.entry.number == n) ≡ b → (h : ℕ) → hits mine n rs ≡ h → hits mine n rs ≤ 1 → both a b + hits mine n rs ≤ 1
+    pick true true own is_n zero none once = omega (arith, none)
+    pick true true own is_n (suc h) some once =
+        let f = hit_found mine n rs (omega (arith, some)) in
+        absurd (apart 0 (suc f.place) r f.receipt (omega arith) refl f.at own f.own (number_is r.entry.number n is_n ∙ sym f.number))
+    pick true false own is_n h is once = omega (arith, once)
+    pick false b own is_n h is once = omega (arith, once)
 
--- as many receipts as numbers: each number is one of a receipt
-each_hit : (k m : ℕ) (rs : List Receipt) → AreBelow k m rs → AreApart k rs → receipts_of k rs ≡ m → (n : ℕ) → n < m → Found k n rs
-each_hit k m rs are apart all n lt = pick (hits k n rs) refl
+-- no number below the lower bound is counted
+hits_low : (mine : Receipt → Bool) (low high n : ℕ) (rs : List Receipt) → AreBetween mine low high rs → n < low → hits mine n rs ≡ 0
+hits_low mine low high n [] are lt = refl
+hits_low mine low high n (r ∷ rs) are lt = pick (mine r) refl (hits_low mine low high n rs (λ i q at. are (suc i) q at) lt)
   where
-    pick : (h : ℕ) → hits k n rs ≡ h → Found k n rs
-    pick zero none = absurd (omega (arith, below_miss (λ x. hits k x rs) (λ x. hits_once k x rs apart) m n lt none, all_hits k m rs are, all))
-    pick (suc h) some = hit_found k n rs (omega (arith, some))
+    pick : (b : Bool) → mine r ≡ b → hits mine n rs ≡ 0 → both b (r.entry.number == n) + hits mine n rs ≡ 0
+    pick true own none =
+        let since = (are 0 r refl own).0 in
+        let other : (r.entry.number == n) ≡ false = grind (arith, nat_tests, since, lt) in
+        let here : bit (r.entry.number == n) ≡ 0 = ap bit other in
+        omega (arith, here, none)
+    pick false own none = omega (arith, none)
 
--- ---- receipts that are right
-
--- the entry of a right receipt of the shard stands in its history
-right_entry : (states : List State) (receipts : List Receipt) → AreRight states receipts → (k : ℕ) (s : State) → slice_get states k ≡ Some s
-    → (i : ℕ) (r : Receipt) → slice_get receipts i ≡ Some r → r.shard ≡ k → slice_get s.entries r.entry.number ≡ Some r.entry
-right_entry states receipts right k s at i r here own =
-    let stands = (right i (slice_get_within receipts i r here)).0 r here in
-    let there : slice_get states k ≡ Some stands.0 = subst (λ n. slice_get states n ≡ Some stands.0) own stands.1 in
-    let same : stands.0 ≡ s = cc (there, at) in
-    subst (λ (q : State). slice_get q.entries r.entry.number ≡ Some r.entry) same stands.2.entry
-
-pub all_receipts : (states : List State) (receipts : List Receipt) → AreRight states receipts
-    → (k : ℕ) (s : State) → slice_get states k ≡ Some s → receipts_of k receipts ≡ length s.entries
-    → (n : ℕ) (e : Entry) → slice_get s.entries n ≡ Some e → HasReceipt k e receipts
-all_receipts states receipts right k s at all n e stands =
-    let entry = right_entry states receipts right k s at in
-    let are : AreBelow k (length s.entries) receipts = λ i r here own. slice_get_within s.entries r.entry.number r.entry (entry i r here own) in
-    let apart : AreApart k receipts =
-    λ j i q r lt there here own_q own_r same. (right i (slice_get_within receipts i r here)).1 (r, j, q, here, lt, there, own_q ∙ sym own_r, same) in
-    let found = each_hit k (length s.entries) receipts are apart all n (slice_get_within s.entries n e stands) in
-    let is : slice_get s.entries n ≡ Some found.receipt.entry =
-    subst (λ m. slice_get s.entries m ≡ Some found.receipt.entry) found.number (entry found.place found.receipt found.at found.shard) in
-    (found.place, found.receipt, found.at, found.shard, cc (is, stands))
+-- as many receipts as numbers from the lower bound on: each of these is the number of a receipt
+pub each_hit : (mine : Receipt → Bool) (low j : ℕ) (rs : List Receipt) → AreBetween mine low (j + low) rs → AreApart mine rs → count_by mine rs ≡ j → (n : ℕ) → low ≤ n → n < j + low → Found mine n rs
+each_hit mine low j rs are apart all n since lt = pick (hits mine n rs) refl
+  where
+    pick : (h : ℕ) → hits mine n rs ≡ h → Found mine n rs
+    pick zero none =
+        let missed = below_miss (λ x. hits mine x rs) (λ x. hits_once mine x rs apart) low j n since lt none in
+        let low_none = below_none (λ x. hits mine x rs) low (λ x less. hits_low mine low (j + low) x rs are less) in
+        absurd (omega (arith, missed, low_none, all_hits mine low (j + low) rs are, all))
+    pick (suc h) some = hit_found mine n rs (omega (arith, some))

@@ -4,3 +4,6 @@ pub mod Closing
 pub mod Draining
 pub mod Checking
 pub mod Counting
+pub mod Unread
+pub mod Standing
+pub mod Since

@@ -1,5 +1,5 @@
 -- The sixteen shards, one after the other.
-use Rattle.std.proofs.Common.{◌≡◌, ℕ, zero, suc, ◌+◌, List, [], ◌∷◌, Bool, cond, Some, None, refl, ap, sym, ◌∙◌, subst, arith, eq-eqb}
+use Rattle.std.proofs.Common.{◌≡◌, ℕ, zero, suc, ◌+◌, ◌≤◌, List, [], ◌∷◌, length, take, drop, length-append, take-append-drop, option_map, Bool, true, false, cond, Some, None, refl, ap, sym, ◌∙◌, subst, arith, eq-eqb}
 use Rattle.std.specs.Option.{option_and_then}
 use Rattle.std.specs.Prelude.{slice_get, slice_index}
 use Rattle.ns_types.specs.Identity.{shard_of}
@@ -7,8 +7,10 @@ use Rattle.ns_types.specs.declared.identity.DevEui.{DevEui}
 use Rattle.ns_roster.specs.Network.{Network}
 use Rattle.ns_calls.specs.declared.call.Entry.{Entry}
 use Rattle.ns_calls.specs.Legal.{IsHistory}
-use Rattle.ns_calls.specs.Merges.{AreHistories}
-use Rattle.ns_shard.specs.State.{State, no_entries, known_greatest, greatest_in}
+use Rattle.ns_kept.specs.Kept.{Remains, whole, reading, is_kept, filter_before, keep}
+use Rattle.ns_kept.specs.Left.{Leaves, left_of}
+use Rattle.ns_kept.proofs.Law.{whole-leaves}
+use Rattle.ns_shard.specs.State.{State, IsState, no_entries, remains, seen, known_greatest, greatest_in}
 use Rattle.ns_tally.specs.declared.ShardBook.{ShardBook}
 use Rattle.ns_tally.specs.Tally.{added, shard_of_book, total_of_book}
 use Rattle.ns_server.specs.Kept.{IsStateOf, IsKept}
@@ -52,12 +54,6 @@ slice_index-added (x ∷ xs) [] k = omega arith
 slice_index-added (x ∷ xs) (y ∷ ys) zero = refl
 slice_index-added (x ∷ xs) (y ∷ ys) (suc k) = slice_index-added xs ys k
 
--- where a history of the list comes from
-pub get_history : (ss : List State) (k : ℕ) (h : List Entry) → slice_get (histories ss) k ≡ Some h → (s : State) × (slice_get ss k ≡ Some s) × (s.entries ≡ h)
-get_history [] k h at = absurd cc
-get_history (s ∷ ss) zero h at = (s, refl, cc)
-get_history (s ∷ ss) (suc k) h at = get_history ss k h at
-
 pub history_at : (ss : List State) (k : ℕ) (s : State) → slice_get ss k ≡ Some s → slice_get (histories ss) k ≡ Some s.entries
 history_at [] k s at = absurd cc
 history_at (x ∷ ss) zero s at = let same : x ≡ s = cc in ap (λ (w : State). Some w.entries) same
@@ -68,21 +64,44 @@ pub greatest_there : (net : Network) (ss : List State) (eui : DevEui) (s : State
 greatest_there net ss eui s are at =
     let is = are (shard_of eui) s at in
     let mine : shard_of eui ≡ s.index = sym is.index in
-    ap (λ (b : Bool). cond b (known_greatest s.roster s.entries eui) None) (eq-eqb _ _ mine)
-    ∙ (ap (λ (n : Network). known_greatest n s.entries eui) is.set_up
-    ∙ sym (ap (option_and_then (λ (h : List Entry). known_greatest net h eui)) (history_at ss (shard_of eui) s at)))
+    ap (λ (b : Bool). cond b (known_greatest s.roster (seen s) eui) None) (eq-eqb _ _ mine)
+    ∙ (ap (λ (n : Network). known_greatest n (seen s) eui) is.set_up ∙ sym (ap (option_and_then (λ (q : State). known_greatest net (seen q) eui)) at))
 
--- the entries of a state are a history of its shard
-pub entries_history : (net : Network) (k : ℕ) (s : State) → IsStateOf net k s → IsHistory net k s.entries
-entries_history net k s is =
+-- where a shard was never trimmed, its entries are its whole history
+pub whole_entries : (s : State) (h : List Entry) → Leaves s.roster h (remains s) → s.mark ≡ 0 → s.entries ≡ h
+whole_entries s h leaves untrimmed = subst (λ m. s.entries ≡ (left_of m h).entries) untrimmed (ap (λ (k : Remains). k.entries) leaves.left)
+
+-- the entries of such a state are a history of its shard
+pub entries_history : (net : Network) (k : ℕ) (s : State) → IsStateOf net k s → s.mark ≡ 0 → IsHistory net k s.entries
+entries_history net k s is untrimmed =
     let history = is.state.history in
-    subst (IsHistory net k) (sym is.state.keeps.entries) (subst (λ n. IsHistory n k history) is.set_up (subst (λ i. IsHistory s.roster i history) is.index is.state.is_history))
+    subst (IsHistory net k) (sym (whole_entries s history is.state.keeps.left untrimmed))
+    (subst (λ n. IsHistory n k history) is.set_up (subst (λ i. IsHistory s.roster i history) is.index is.state.is_history))
 
--- the histories of the shards, each in its place, are histories of the shards of their places
-pub states_histories : (net : Network) (ss : List State) → AreStates net ss → AreHistories net (histories ss)
-states_histories net ss are k h at =
-    let found = get_history ss k h at in
-    subst (IsHistory net k) found.2 (entries_history net k found.0 (are k found.0 found.1))
+-- no more entries are left than were made
+fewer_kept : (test : Entry → List Entry → Bool) (xs : List Entry) → length (filter_before test xs) ≤ length xs
+fewer_kept test [] = omega arith
+fewer_kept test (x ∷ xs) = step (test x xs) (fewer_kept test xs)
+  where
+    step : (b : Bool) → length (filter_before test xs) ≤ length xs → length (cond {A = List Entry} b (x ∷ filter_before test xs) (filter_before test xs)) ≤ length (x ∷ xs)
+    step true fewer = omega (arith, fewer)
+    step false fewer = omega (arith, fewer)
+
+pub entries_fit : (s : State) → IsState s → length s.entries ≤ s.made
+entries_fit s is =
+    let h : List Entry = is.history in
+    let f : List Entry = take s.mark h in
+    let kept : List Entry = (keep s.mark (whole f)).entries in
+    let all : length s.entries ≡ length kept + length (drop s.mark h) = ap (λ (k : Remains). length k.entries) is.keeps.left.left ∙ length-append kept (drop s.mark h) in
+    let whole_is : length f + length (drop s.mark h) ≡ length h = sym (length-append f (drop s.mark h)) ∙ ap length (take-append-drop s.mark h) in
+    omega (arith, all, whole_is, fewer_kept (is_kept (reading (whole f))) f, is.keeps.made)
+
+-- what a shard's trims dropped, beside what is left, is what it made
+pub dropped_at : (states ss : List State) (shard place : ℕ) (s : State) (n : ℕ) → ss ≡ states → place ≡ shard → slice_get ss place ≡ Some s → length s.entries + n ≡ s.made →
+    option_map (λ (q : State). q.made) (slice_get states shard) ≡ option_map (λ (q : State). length q.entries + n) (slice_get states shard)
+dropped_at states ss shard place s n seen_so here at sum =
+    let there : slice_get states shard ≡ Some s = subst (λ l. slice_get l shard ≡ Some s) seen_so (subst (λ k. slice_get ss k ≡ Some s) here at) in
+    ap (option_map (λ (q : State). q.made)) there ∙ (ap Some (sym sum) ∙ sym (ap (option_map (λ (q : State). length q.entries + n)) there))
 
 no_history : (net : Network) (k : ℕ) → IsHistory net k []
 no_history net k = record { legal = λ n e at. absurd (cc at); own = λ n e at. absurd (cc at); numbered = λ n e at. absurd (cc at) }
@@ -91,7 +110,7 @@ no_history net k = record { legal = λ n e at. absurd (cc at); own = λ n e at. 
 pub kept_new : {B : Type 0} (net : Network) (k : ℕ) (s : State) (book : ShardBook B) → s ≡ no_entries net k → shard_of_book book ≡ k → total_of_book book ≡ 0 → IsKept net k s book
 kept_new net k s book is own none =
     subst (λ (q : State). IsKept net k q book) (sym is) (record {
-      state = record { set_up = refl; index = refl; state = record { history = []; is_history = no_history net k; keeps = record { made = refl; entries = refl } } };
+      state = record { set_up = refl; index = refl; state = record { history = []; is_history = no_history net k; keeps = record { made = refl; left = whole-leaves net [] (no_history net k).legal (no_history net k).numbered } } };
       book_of = own;
       counted = none;
     })

@@ -1,8 +1,8 @@
 -- Receipts against the histories.
-use Rattle.std.specs.Prelude.{ℕ, ◌≡◌, ◌<◌, List, length, take, Some, slice_get, count_by, ◌==◌}
+use Rattle.std.specs.Prelude.{ℕ, nat_le, ◌≡◌, ◌<◌, ◌⊎◌, ◌&&◌, List, length, take, Some, slice_get, count_by, ◌==◌}
 use Rattle.ns_roster.specs.Network.{Network}
 use Rattle.ns_calls.specs.declared.call.Entry.{Entry}
-use Rattle.ns_shard.specs.State.{State}
+use Rattle.ns_shard.specs.State.{State, Keeps}
 use Rattle.ns_server.specs.declared.kept.Receipt.{Receipt}
 use Rattle.ns_server.specs.Receipts.{Sends}
 
@@ -11,9 +11,9 @@ pub record StandsAt (net : Network) (h : List Entry) (r : Receipt) : Type 0 wher
   pub entry : slice_get h r.entry.number ≡ Some r.entry
   pub sent : Sends net (take r.entry.number h) r
 
--- the same in the shard's history
+-- the same in each history of which the shard has what it keeps
 abbrev pub StandsIn : State → Receipt → Type 0
-StandsIn s r = StandsAt s.roster s.entries r
+StandsIn s r = (h : List Entry) → Keeps h s → StandsAt s.roster h r
 
 -- the same in the shard that the receipt names
 abbrev pub Stands : List State → Receipt → Type 0
@@ -25,9 +25,13 @@ IsRepeated receipts i =
     (r : Receipt) × (j : ℕ) × (q : Receipt) × (slice_get receipts i ≡ Some r) × (j < i) × (slice_get receipts j ≡ Some q)
     × (q.shard ≡ r.shard) × (q.entry.number ≡ r.entry.number)
 
+-- the receipt is of an entry that was made before the last trim of its shard: such receipts are passed over
+abbrev pub IsPassed : List State → Receipt → Type 0
+IsPassed states r = (s : State) × (slice_get states r.shard ≡ Some s) × (r.entry.number < s.mark)
+
 -- the receipt at this place is right
 abbrev pub IsRight : List State → List Receipt → ℕ → Type 0
-IsRight states receipts i = ((r : Receipt) → slice_get receipts i ≡ Some r → Stands states r) × (IsRepeated receipts i → ⊥)
+IsRight states receipts i = (r : Receipt) → slice_get receipts i ≡ Some r → IsPassed states r ⊎ (Stands states r × (IsRepeated receipts i → ⊥))
 
 -- all receipts are right
 abbrev pub AreRight : List State → List Receipt → Type 0
@@ -41,6 +45,14 @@ IsFirstWrong states receipts i =
 -- how many receipts are of this shard
 abbrev pub receipts_of : ℕ → List Receipt → ℕ
 receipts_of shard receipts = count_by (λ r. r.shard == shard) receipts
+
+-- how many of them are numbered from this mark on
+abbrev pub receipts_since : ℕ → ℕ → List Receipt → ℕ
+receipts_since shard mark receipts = count_by (λ r. r.shard == shard && nat_le mark r.entry.number) receipts
+
+-- how many entries are numbered from this mark on
+abbrev pub entries_since : ℕ → List Entry → ℕ
+entries_since mark entries = count_by (λ (e : Entry). nat_le mark e.number) entries
 
 -- one of the receipts tells this entry of the shard
 abbrev pub HasReceipt : ℕ → Entry → List Receipt → Type 0

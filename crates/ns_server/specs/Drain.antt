@@ -1,12 +1,13 @@
 -- Closing the windows that are still open.
-use Rattle.std.specs.Prelude.{ℕ, ◌≡◌, ◌<◌, List, set, Some, None, slice_get}
+use Rattle.std.specs.Prelude.{ℕ, ◌≡◌, ◌<◌, true, List, set, Some, None, slice_get}
 use Rattle.ns_types.specs.declared.identity.WindowName.{WindowName}
 use Rattle.ns_types.specs.Identity.{shard_of}
 use Rattle.ns_calls.specs.declared.call.Call.TheVariants.{Close}
 use Rattle.ns_calls.specs.declared.call.Entry.{Entry}
 use Rattle.ns_calls.specs.History.{Opening, window_in}
 use Rattle.ns_calls.specs.Headline.{closing_count}
-use Rattle.ns_shard.specs.State.{State, after_call, oldest_in}
+use Rattle.ns_shard.specs.State.{State, remains, after_call, oldest_in, finds_open}
+use Rattle.ns_kept.specs.Left.{Leaves}
 use Rattle.ns_server.specs.declared.kept.Receipt.{Receipt}
 use Rattle.ns_server.specs.Receipts.{receipt_for}
 
@@ -24,12 +25,12 @@ pub record Drains (old : List State) (r : Receipt) (new : List State) : Type 0 w
   pub receipt : r ≡ receipt_for state (Close window)
   pub after : new ≡ set old r.shard (after_call state (Close window))
 
--- each entry that opened a window has exactly one entry that closed it
+-- in each history that leaves what is left of a shard, each entry that opened a window has exactly one entry that closed it
 abbrev pub EachIsClosed : List State → Type 0
 EachIsClosed states =
-    (k : ℕ) (s : State) → slice_get states k ≡ Some s
-    → (n : ℕ) (e : Entry) (o : Opening) → slice_get s.entries n ≡ Some e → window_in e.call e.reply ≡ Some o
-    → closing_count s.entries o.window ≡ 1
+    (k : ℕ) (s : State) → slice_get states k ≡ Some s → (h : List Entry) → Leaves s.roster h (remains s)
+    → (n : ℕ) (e : Entry) (o : Opening) → slice_get h n ≡ Some e → window_in e.call e.reply ≡ Some o
+    → closing_count h o.window ≡ 1
 
 -- the shard at this place has the window as the one that was opened first, and those before it have no open window
 pub record OpensFirst (states : List State) (i : ℕ) (window : WindowName) : Type 0 where
@@ -37,4 +38,5 @@ pub record OpensFirst (states : List State) (i : ℕ) (window : WindowName) : Ty
   pub shard : slice_get states i ≡ Some state
   pub oldest_of : oldest_in state ≡ Some window
   pub own : shard_of window.eui ≡ state.index
+  pub is_open : finds_open state (Close window) ≡ true
   pub first : (j : ℕ) (s : State) → j < i → slice_get states j ≡ Some s → oldest_in s ≡ None

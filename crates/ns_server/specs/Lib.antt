@@ -1,5 +1,6 @@
 pub mod Receipts
 pub mod Kept
+pub mod Trims
 pub mod Settled
 pub mod Rows
 pub mod Drain

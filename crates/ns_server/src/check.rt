@@ -1,21 +1,21 @@
 //! Receipts against the histories.
 
-ghost use Rattle.std.specs.Prelude.{◌≡◌, ◌<◌, ◌↔◌, length, IsTrue, MatchResult};
-ghost use Rattle.ns_calls.specs.Legal.{IsLegal};
-ghost use Rattle.ns_calls.specs.Headline.{LimitsHold};
+ghost use Rattle.std.specs.Prelude.{◌≡◌, ◌<◌, ◌≤◌, ◌↔◌, length, IsTrue, MatchResult};
+ghost use Rattle.ns_sent.specs.Found.{CopiesFit};
 ghost use Rattle.ns_server.specs.Receipts.{Sends};
-ghost use Rattle.ns_server.specs.Check.{StandsAt, Stands, IsRepeated, IsRight, AreRight, IsFirstWrong};
+ghost use Rattle.ns_server.specs.Check.{StandsIn, Stands, IsPassed, IsRepeated, IsRight, AreRight, IsFirstWrong};
 
 use crate::kept::Receipt;
 use crate::names::Naming;
 use crate::settled::Settled;
-use ns_calls::{Entry, limits_hold};
+use ns_calls::{Entry, limits_hold, windows_open_once};
 use ns_roster::Roster;
 use ns_sent::{downlink_of, is_downlink, is_entry, is_uplink, uplink_of};
 use ns_shard::Shard;
 
 impl<B: Naming> Settled<B> {
-    /// Compares receipts with the histories. The error is the place of the first receipt whose entry is not at its number in the
+    /// Compares receipts with the histories. Those of entries that were made before the last trim of their shard are passed over. The
+    /// error is the place of the first receipt whose entry is not at its number in the
     /// history of its shard, that tells something else than what goes out there, or whose shard and number an earlier one has. No
     /// memory is taken.
     pub fn check(&self, receipts: &[Receipt]) -> Result<(), usize>
@@ -34,11 +34,25 @@ impl<B: Naming> Settled<B> {
         requires { i < length receipts.now }
         ensures { IsTrue result ↔ IsRight self.now receipts.now i }
     {
-        self.has(&receipts[i]) && !is_repeated(receipts, i)
+        let receipt = &receipts[i];
+        self.is_passed(receipt) || (self.has(receipt) && !is_repeated(receipts, i))
+    }
+
+    // Whether the receipt's entry was made before the last trim of its shard.
+    fn is_passed(&self, receipt: &Receipt) -> bool
+        ensures { IsTrue result ↔ IsPassed self.now receipt.now }
+    {
+        let place = usize::from(receipt.shard);
+        let shards: &[Shard] = &self.shards;
+        if place >= shards.len() {
+            return false;
+        }
+        receipt.entry.number < shards[place].mark()
     }
 
     // Whether the receipt stands in its shard's history, with what goes out there.
     fn has(&self, receipt: &Receipt) -> bool
+        requires { IsPassed self.now receipt.now → ⊥ }
         ensures { IsTrue result ↔ Stands self.now receipt.now }
     {
         let place = usize::from(receipt.shard);
@@ -46,29 +60,33 @@ impl<B: Naming> Settled<B> {
         if place >= shards.len() {
             return false;
         }
-        stands_at(&self.roster, shards[place].entries(), receipt)
+        stands_in(&self.roster, &shards[place], receipt)
     }
 }
 
-// Whether the receipt's entry stands in this history at its number, with what goes out there.
-fn stands_at(roster: &Roster, history: &[Entry], receipt: &Receipt) -> bool
-    requires { IsLegal roster.now history.now }
-    ensures { IsTrue result ↔ StandsAt roster.now history.now receipt.now }
+// Whether the receipt's entry, which was not made before the shard's last trim, stands in the shard's history at its number, with what
+// goes out there.
+fn stands_in(roster: &Roster, shard: &Shard, receipt: &Receipt) -> bool
+    requires set_up { shard.now.roster ≡ roster.now }
+    requires from_mark { shard.now.mark ≤ receipt.now.entry.number }
+    ensures { IsTrue result ↔ StandsIn shard.now receipt.now }
 {
-    let Ok(number) = usize::try_from(receipt.entry.number) else {
-        return false;
-    };
-    if number >= history.len() {
+    let entries = shard.entries();
+    let made = shard.made();
+    let number = receipt.entry.number;
+    if number >= made {
         return false;
     }
-    let entry = &history[number];
+    let place = entries.len() - (made - number) as usize;
+    let entry = &entries[place];
     limits_hold();
-    is_entry(entry, &receipt.entry) && sends(roster, &history[..number], receipt)
+    windows_open_once();
+    is_entry(entry, &receipt.entry) && sends(roster, &entries[..place], receipt)
 }
 
 // Whether the receipt tells what goes out at its entry, after these entries.
 fn sends(roster: &Roster, before: &[Entry], receipt: &Receipt) -> bool
-    requires { LimitsHold before.now }
+    requires { CopiesFit before.now receipt.now.entry }
     ensures { IsTrue result ↔ Sends roster.now before.now receipt.now }
 {
     is_uplink(&uplink_of(before, &receipt.entry), &receipt.uplink)

@@ -1,17 +1,21 @@
 //! What lies under a lock: a shard, and the count of its entries.
 
-ghost use Rattle.std.specs.Prelude.{◌≡◌, ◌≤◌, ◌<◌, slice_index, IfOk, OnOk, OnErr};
+ghost use Rattle.std.specs.Prelude.{◌≡◌, ◌==◌, ◌≤◌, ◌<◌, ◌+◌, ◌*◌, ◌^◌, Err, length, count_by, slice_index, true, IfOk, IsOk, OnOk, OnErr};
+ghost use Rattle.ns_types.specs.Identity.{shard_of};
 ghost use Rattle.ns_calls.specs.Shards.{shard_of_call};
-ghost use Rattle.ns_shard.specs.State.{after_call};
+ghost use Rattle.ns_kept.specs.Bound.{most_kept};
+ghost use Rattle.ns_shard.specs.State.{after_call, after_trim, dropped, finds_open};
+ghost use Rattle.ns_shard.specs.declared.trim.TrimFault.TheVariants.{Full};
 ghost use Rattle.ns_server.specs.Receipts.{receipt_of, receipt_for, HasHistory, RisesAt};
 ghost use Rattle.ns_server.specs.Kept.{IsStateOf};
+ghost use Rattle.ns_server.specs.Trims.{IsTrimOf, IsFull};
 
 use crate::names::Naming;
 use crate::pass::Pass;
 use ns_calls::{Answer, Call, Downlink, Entry, Uplink};
-use ns_shard::Shard;
+use ns_shard::{Dropped, Shard, TrimFault};
 use ns_tally::ShardBook;
-use std::alloc::AllocError;
+use std::alloc::{AllocError, Global};
 use std::marker::Model;
 
 /// What a call got: its shard, the entry that it made, and what goes out with it.
@@ -23,16 +27,16 @@ pub struct Receipt {
     pub downlink: Option<Downlink>,
 }
 
-/// The receipt of a call that made the entry of this number, with this answer.
+// The receipt of a call that made the entry of this number, with this answer.
 #[inline]
-pub(crate) fn receipt_of(shard: u8, number: u64, call: Call, answer: Answer) -> Receipt
-    ensures { result ≡ receipt_of shard number call answer }
+pub(crate) fn receipt_of(shard: u8, number: u64, call: &Call, answer: Answer) -> Receipt
+    ensures { result ≡ receipt_of shard number call.now answer }
 {
     Receipt {
         shard,
         entry: Entry {
             number,
-            call,
+            call: *call,
             reply: answer.reply,
         },
         uplink: answer.uplink,
@@ -67,22 +71,39 @@ impl<B: Naming, const K: usize> Kept<B, K> {
         self.shard.made()
     }
 
-    /// Makes a call of the shard, and counts its entry in the book and in the pass. Where a growth was refused nothing has changed.
+    /// Makes a call of the shard, and counts its entry in the book and in the pass. Where a growth was refused nothing has changed. A
+    /// closing or a join answer that finds its window or ticket open takes no memory.
     pub fn step(&mut self, pass: &mut Pass<B>, call: Call) -> Result<Receipt, AllocError>
         requires { shard_of_call call ≡ K }
         ensures entry { OnOk result (self.new ≡ after_call self.old call) }
         ensures receipt { IfOk result (λ r. r ≡ receipt_for self.old call) }
         ensures counted { OnOk result (RisesAt K pass.old pass.new) }
         ensures err { OnErr result ((self.new ≡ self.old) × (pass.new ≡ pass.old)) }
+        ensures open { finds_open self.old call ≡ true → IsOk result }
         ensures state { IsStateOf B.roster K self.new }
         ensures behind { OnOk result (slice_index pass.old K ≤ self.old.made) }
         ensures answered { IfOk result (λ r. HasHistory B.roster K r) }
     {
-        let asked = call;
-        let answer = self.shard.apply(asked)?;
+        let answer = self.shard.apply(call)?;
         let made = self.shard.made();
         self.book.add_one(&mut pass.shares);
         pass.counts[K] += 1;
-        Ok(receipt_of(self.shard.index(), made - 1, call, answer))
+        Ok(receipt_of(self.shard.index(), made - 1, &call, answer))
+    }
+
+    /// Drops the entries on which no answer rests, and hands them out. The count stays: it is of all entries that were ever made. `Full`
+    /// (Z1) where more than 2^63 entries would be dropped in all, `NoMemory` (Z2) where a growth was refused: then nothing has changed.
+    pub fn trim(&mut self, alloc: Global) -> Result<Dropped, TrimFault>
+        ensures kept { OnOk result (self.new ≡ after_trim self.old) }
+        ensures mark { IfOk result (λ d. d.mark ≡ self.old.made) }
+        ensures dropped { IfOk result (λ d. d.entries.items ≡ dropped self.old) }
+        ensures few { OnOk result (length self.new.entries ≤ most_kept * count_by (λ d. shard_of d.eui == K) B.roster.devices) }
+        ensures full { result ≡ Err Full → 2 ^ 63 + length (after_trim self.old).entries < self.old.made }
+        ensures err { OnErr result (self.new ≡ self.old) }
+        ensures state { IsStateOf B.roster K self.new }
+        ensures told { IfOk result (IsTrimOf B.roster K) }
+        ensures refused { result ≡ Err Full → IsFull B.roster K }
+    {
+        self.shard.trim(alloc)
     }
 }

@@ -20,7 +20,7 @@ mod settled;
 
 pub use gate::{Gate, Open};
 pub use kept::{Kept, Receipt};
-pub use laws::receipts_are_all;
+pub use laws::{receipts_are_all, receipts_since_the_mark_are_all};
 pub use names::Naming;
 pub use pass::Pass;
 pub use server::Server;

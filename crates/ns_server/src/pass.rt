@@ -1,15 +1,20 @@
 //! The right of one worker to call.
 
 ghost use Rattle.std.specs.Prelude.{◌≡◌, ◌<◌, slice_index};
+ghost use Rattle.ns_types.specs.Identity.{shard_count};
 
 use crate::names::Naming;
 use ns_tally::Shares;
+use ns_types::SHARDS;
 use std::marker::Model;
+
+/// How many places a list of one thing for each shard has.
+pub(crate) const PLACES: usize = SHARDS as usize;
 
 /// The right of one worker to make calls on the server `B`. Contracts see how many entries of each shard were made with it.
 #[derive(Drop)]
 pub struct Pass<B: Naming> {
-    pub(crate) counts: [u64; 16],
+    pub(crate) counts: [u64; PLACES],
     pub(crate) shares: Shares<B>,
 }
 
@@ -26,7 +31,7 @@ impl<B: Naming> Model for Pass<B> {
 impl<B: Naming> Pass<B> {
     /// How many entries of the shard were made with this pass.
     pub fn made(&self, shard: u8) -> u64
-        requires { shard < 16 }
+        requires { shard < shard_count }
         ensures { result ≡ slice_index self.now shard }
     {
         self.counts[usize::from(shard)]

@@ -1,21 +1,25 @@
 //! Sixteen shards, each behind its own lock.
 
-ghost use Rattle.std.specs.Prelude.{◌≡◌, ◌≤◌, ◌<◌, suc, length, slice_index, vec_len, All, IfOk, OnOk, OnErr};
+ghost use Rattle.std.specs.Prelude.{◌≡◌, ◌≤◌, ◌<◌, ◌+◌, [], suc, Err, length, slice_index, vec_len, vec_capacity, All, IfOk, OnOk, OnErr};
 ghost use Rattle.std.specs.Arc.{arc_value};
+ghost use Rattle.ns_types.specs.Identity.{shard_count};
 ghost use Rattle.ns_calls.specs.Shards.{shard_of_call};
+ghost use Rattle.ns_shard.specs.declared.trim.TrimFault.TheVariants.{Full};
 ghost use Rattle.ns_tally.specs.Tally.{none_made, shard_of_book, total_of_book, AreNamed};
 ghost use Rattle.ns_server.specs.Receipts.{HasHistory, RisesAt};
 ghost use Rattle.ns_server.specs.Kept.{IsStateOf};
+ghost use Rattle.ns_server.specs.Trims.{IsTrimOf, IsFull};
 ghost use Rattle.ns_server.specs.Rows.{new_states, AreRow, AreCounted};
 
 use crate::gate::Gate;
 use crate::kept::{Kept, Receipt};
 use crate::names::Naming;
-use crate::pass::Pass;
+use crate::pass::{PLACES, Pass};
 use ns_calls::{Call, shard_of_call};
 use ns_roster::Roster;
-use ns_shard::Shard;
-use ns_tally::{Blanks, ShardBook, Shares};
+use ns_shard::{Dropped, Shard, TrimFault};
+use ns_tally::{Blanks, Books, ShardBook, Shares};
+use ns_types::SHARDS;
 use std::alloc::{AllocError, Global};
 use std::marker::Model;
 use std::sync::{Arc, Mutex, Wait};
@@ -83,27 +87,40 @@ fn run<B: Naming, const K: usize, R: Wait, G: Gate<R>>(
     rt: &R,
     lock: &Mutex<Kept<B, K>>,
     pass: &mut Pass<B>,
-    call: Call,
+    call: &Call,
     gate: &G,
 ) -> Result<Receipt, AllocError>
-    requires { shard_of_call call ≡ K }
-    ensures call { IfOk result (λ r. (r.shard ≡ K) × (r.entry.call ≡ call)) }
+    requires { shard_of_call call.now ≡ K }
+    ensures call { IfOk result (λ r. (r.shard ≡ K) × (r.entry.call ≡ call.now)) }
     ensures number { IfOk result (λ r. slice_index pass.old K ≤ r.entry.number) }
     ensures answered { IfOk result (λ r. HasHistory B.roster K r) }
     ensures counted { OnOk result (RisesAt K pass.old pass.new) }
     ensures err { OnErr result (pass.new ≡ pass.old) }
 {
     let mut kept = lock.lock(rt);
-    gate.visit(rt, shard_of_call(&call), kept.made());
-    kept.step(pass, call)
+    gate.visit(rt, shard_of_call(call), kept.made());
+    kept.step(pass, *call)
+}
+
+// Takes the lock and trims.
+fn trimmed<B: Naming, const K: usize, R: Wait>(
+    rt: &R,
+    lock: &Mutex<Kept<B, K>>,
+    alloc: Global,
+) -> Result<Dropped, TrimFault>
+    ensures told { IfOk result (IsTrimOf B.roster K) }
+    ensures full { result ≡ Err Full → IsFull B.roster K }
+{
+    let mut kept = lock.lock(rt);
+    kept.trim(alloc)
 }
 
 // The sixteen shards, with no entries.
 fn new_shards(alloc: Global, roster: &Arc<Roster>) -> Result<Vec<Shard>, AllocError>
-    ensures { IfOk result (λ v. v.items ≡ new_states (arc_value roster.now) 16) }
+    ensures { IfOk result (λ v. v.items ≡ new_states (arc_value roster.now) shard_count) }
 {
     let mut shards = Vec::new(alloc);
-    for index in 0..16u8 {
+    for index in 0..SHARDS {
         shards.push(Shard::new(alloc, roster.clone()?, index)?)?;
     }
     Ok(shards)
@@ -122,24 +139,21 @@ fn new_lock<B: Naming, const K: usize>(
     Mutex::new(Kept { shard, book })
 }
 
-// Passes with which nothing was made yet.
-fn new_passes<B: Naming>(
-    alloc: Global,
-    mut shares: Shares<B>,
-    workers: usize,
-) -> Result<Vec<Pass<B>>, AllocError>
+// Puts passes with which nothing was made yet, where there is room for them.
+fn put_passes<B: Naming>(passes: &mut Vec<Pass<B>>, mut shares: Shares<B>, workers: usize)
+    requires none { passes.old.items ≡ [] }
+    requires room { vec_len passes.old + workers ≤ vec_capacity passes.old }
     requires parts { shares.parts ≡ workers }
     requires amounts { shares.amounts ≡ none_made }
-    ensures { IfOk result (λ v. (vec_len v ≡ workers) × All (λ p. p ≡ none_made) v.items) }
+    ensures count { vec_len passes.new ≡ vec_len passes.old + workers }
+    ensures made { All (λ p. p ≡ none_made) passes.new.items }
 {
-    let mut passes = Vec::new(alloc);
     for _i in 0..workers {
-        passes.push(Pass {
-            counts: [0; 16],
+        passes.push_reserved(Pass {
+            counts: [0; PLACES],
             shares: shares.split_one(),
-        })?;
+        });
     }
-    Ok(passes)
 }
 
 impl<B: Naming> Server<B> {
@@ -159,34 +173,54 @@ impl<B: Naming> Server<B> {
         ensures passes { IfOk result (λ r. (vec_len r.1 ≡ workers) × All (λ p. p ≡ none_made) r.1.items) }
     {
         let mut shards = new_shards(alloc, &roster)?;
+        let mut passes = Vec::with_capacity(alloc, workers)?;
         let (books, shares) = blanks.open::<B>();
-        let passes = new_passes(alloc, shares, workers)?;
+        let Books {
+            k0,
+            k1,
+            k2,
+            k3,
+            k4,
+            k5,
+            k6,
+            k7,
+            k8,
+            k9,
+            k10,
+            k11,
+            k12,
+            k13,
+            k14,
+            k15,
+        } = books;
+        put_passes(&mut passes, shares, workers);
         let server = Server {
             workers,
-            k15: new_lock(&mut shards, books.k15),
-            k14: new_lock(&mut shards, books.k14),
-            k13: new_lock(&mut shards, books.k13),
-            k12: new_lock(&mut shards, books.k12),
-            k11: new_lock(&mut shards, books.k11),
-            k10: new_lock(&mut shards, books.k10),
-            k9: new_lock(&mut shards, books.k9),
-            k8: new_lock(&mut shards, books.k8),
-            k7: new_lock(&mut shards, books.k7),
-            k6: new_lock(&mut shards, books.k6),
-            k5: new_lock(&mut shards, books.k5),
-            k4: new_lock(&mut shards, books.k4),
-            k3: new_lock(&mut shards, books.k3),
-            k2: new_lock(&mut shards, books.k2),
-            k1: new_lock(&mut shards, books.k1),
-            k0: new_lock(&mut shards, books.k0),
+            k15: new_lock(&mut shards, k15),
+            k14: new_lock(&mut shards, k14),
+            k13: new_lock(&mut shards, k13),
+            k12: new_lock(&mut shards, k12),
+            k11: new_lock(&mut shards, k11),
+            k10: new_lock(&mut shards, k10),
+            k9: new_lock(&mut shards, k9),
+            k8: new_lock(&mut shards, k8),
+            k7: new_lock(&mut shards, k7),
+            k6: new_lock(&mut shards, k6),
+            k5: new_lock(&mut shards, k5),
+            k4: new_lock(&mut shards, k4),
+            k3: new_lock(&mut shards, k3),
+            k2: new_lock(&mut shards, k2),
+            k1: new_lock(&mut shards, k1),
+            k0: new_lock(&mut shards, k0),
             roster,
         };
         Ok((server, passes))
     }
 
     /// Makes a call with a worker's pass, under the lock of the call's shard alone, and visits the gate once before. `NoMemory`
-    /// (`AllocError`) where a growth was refused: then no entry was made. Each reply is the plain server's after the entries of its shard
-    /// before it, and what goes out is what the receipt tells.
+    /// (`AllocError`) where a growth was refused: then no entry was made. A closing or a join answer that finds its window or ticket open
+    /// takes no memory. Each reply is the plain server's after the entries of its shard before it, and what goes out is what the receipt
+    /// tells.
     pub fn call<R: Wait, G: Gate<R>>(
         &self,
         rt: &R,
@@ -201,32 +235,61 @@ impl<B: Naming> Server<B> {
         ensures err { OnErr result (pass.new ≡ pass.old) }
     {
         match shard_of_call(&call) {
-            0 => run(rt, &self.k0, pass, call, gate),
-            1 => run(rt, &self.k1, pass, call, gate),
-            2 => run(rt, &self.k2, pass, call, gate),
-            3 => run(rt, &self.k3, pass, call, gate),
-            4 => run(rt, &self.k4, pass, call, gate),
-            5 => run(rt, &self.k5, pass, call, gate),
-            6 => run(rt, &self.k6, pass, call, gate),
-            7 => run(rt, &self.k7, pass, call, gate),
-            8 => run(rt, &self.k8, pass, call, gate),
-            9 => run(rt, &self.k9, pass, call, gate),
-            10 => run(rt, &self.k10, pass, call, gate),
-            11 => run(rt, &self.k11, pass, call, gate),
-            12 => run(rt, &self.k12, pass, call, gate),
-            13 => run(rt, &self.k13, pass, call, gate),
-            14 => run(rt, &self.k14, pass, call, gate),
-            _ => run(rt, &self.k15, pass, call, gate),
+            0 => run(rt, &self.k0, pass, &call, gate),
+            1 => run(rt, &self.k1, pass, &call, gate),
+            2 => run(rt, &self.k2, pass, &call, gate),
+            3 => run(rt, &self.k3, pass, &call, gate),
+            4 => run(rt, &self.k4, pass, &call, gate),
+            5 => run(rt, &self.k5, pass, &call, gate),
+            6 => run(rt, &self.k6, pass, &call, gate),
+            7 => run(rt, &self.k7, pass, &call, gate),
+            8 => run(rt, &self.k8, pass, &call, gate),
+            9 => run(rt, &self.k9, pass, &call, gate),
+            10 => run(rt, &self.k10, pass, &call, gate),
+            11 => run(rt, &self.k11, pass, &call, gate),
+            12 => run(rt, &self.k12, pass, &call, gate),
+            13 => run(rt, &self.k13, pass, &call, gate),
+            14 => run(rt, &self.k14, pass, &call, gate),
+            _ => run(rt, &self.k15, pass, &call, gate),
+        }
+    }
+
+    /// Drops the entries of a shard on which no answer rests, under the lock of that shard, and hands them out. No gate is visited, and
+    /// no entry is made. What it does to the shard is `Kept::trim`: the mark is how many entries were made before, and what comes out is
+    /// all that a trim drops of the shard as it was then. `Full` (Z1) where more than 2^63 entries would be dropped in all, `NoMemory`
+    /// (Z2) where a growth was refused.
+    pub fn trim<R: Wait>(&self, rt: &R, alloc: Global, shard: u8) -> Result<Dropped, TrimFault>
+        requires { shard < shard_count }
+        ensures told { IfOk result (IsTrimOf B.roster shard) }
+        ensures full { result ≡ Err Full → IsFull B.roster shard }
+    {
+        match shard {
+            0 => trimmed(rt, &self.k0, alloc),
+            1 => trimmed(rt, &self.k1, alloc),
+            2 => trimmed(rt, &self.k2, alloc),
+            3 => trimmed(rt, &self.k3, alloc),
+            4 => trimmed(rt, &self.k4, alloc),
+            5 => trimmed(rt, &self.k5, alloc),
+            6 => trimmed(rt, &self.k6, alloc),
+            7 => trimmed(rt, &self.k7, alloc),
+            8 => trimmed(rt, &self.k8, alloc),
+            9 => trimmed(rt, &self.k9, alloc),
+            10 => trimmed(rt, &self.k10, alloc),
+            11 => trimmed(rt, &self.k11, alloc),
+            12 => trimmed(rt, &self.k12, alloc),
+            13 => trimmed(rt, &self.k13, alloc),
+            14 => trimmed(rt, &self.k14, alloc),
+            _ => trimmed(rt, &self.k15, alloc),
         }
     }
 
     // Takes all shards out of their locks, with the roster.
-    pub(crate) fn all_opened(self, mut all: Shares<B>) -> (Arc<Roster>, [Shard; 16])
+    pub(crate) fn all_opened(self, mut all: Shares<B>) -> (Arc<Roster>, [Shard; PLACES])
         requires { all.parts ≡ B.workers }
         ensures roster { arc_value result.0 ≡ B.roster }
         ensures shards { AreRow B.roster 0 result.1 }
         ensures lengths { AreCounted (λ k. slice_index all.amounts k) 0 result.1 }
-        ensures sixteen { length result.1 ≡ 16 }
+        ensures sixteen { length result.1 ≡ shard_count }
     {
         let Server {
             workers: _,

@@ -1,9 +1,9 @@
 //! A server whose passes have all come back: its histories, its sum, and the closing of what is still open.
 
-ghost use Rattle.std.specs.Prelude.{◌≡◌, ℕ, ◌<◌, ◌↔◌, Some, length, slice_get, slice_index, vec_len, sum_by, option_map, IfOk, IfErr, IsOk, OnOk, OnErr, IfSome, IfNone};
-ghost use Rattle.ns_types.specs.Identity.{shard_of};
+ghost use Rattle.std.specs.Prelude.{◌≡◌, ℕ, ◌+◌, ◌<◌, ◌↔◌, true, Some, length, slice_get, slice_index, vec_len, sum_by, option_map, IfOk, IfErr, IsOk, IfSome, IfNone};
+ghost use Rattle.ns_types.specs.Identity.{shard_count, shard_of};
 ghost use Rattle.ns_calls.specs.declared.call.Call.TheVariants.{Close};
-ghost use Rattle.ns_shard.specs.State.{after_call, IsState};
+ghost use Rattle.ns_shard.specs.State.{after_call, finds_open, IsState};
 ghost use Rattle.ns_server.specs.Receipts.{receipt_for};
 ghost use Rattle.ns_server.specs.Kept.{IsStateOf};
 ghost use Rattle.ns_server.specs.Settled.{histories, AreStates, AreMadeBy, MergesToLegal, greatest_of};
@@ -11,14 +11,14 @@ ghost use Rattle.ns_server.specs.Drain.{Drains, NoneOpen, EachIsClosed, OpensFir
 
 use crate::kept::{Receipt, receipt_of};
 use crate::names::Naming;
-use crate::pass::Pass;
+use crate::pass::{PLACES, Pass};
 use crate::server::Server;
-use ns_calls::{Call, Entry, merges_are_legal, windows_open_once};
+use ns_calls::{Call, Entry, windows_open_once};
+use ns_kept::{drained_histories_closed_all, merges_of_what_leaves_are_legal};
 use ns_roster::Roster;
 use ns_shard::Shard;
 use ns_tally::Shares;
 use ns_types::{DevEui, DevNonce, WindowName, shard_of};
-use std::alloc::AllocError;
 use std::marker::{Model, PhantomData};
 use std::sync::Arc;
 
@@ -26,13 +26,14 @@ use std::sync::Arc;
 #[derive(Drop)]
 pub struct Settled<B: Naming> {
     pub(crate) roster: Arc<Roster>,
-    pub(crate) shards: [Shard; 16],
+    pub(crate) shards: [Shard; PLACES],
     of: PhantomData<B>,
 }
 
 impl<B: Naming> Model for Settled<B> {
     ghost use Rattle.std.specs.Prelude.{◌≡◌, List, length};
     ghost use Rattle.std.specs.Arc.{arc_value};
+    ghost use Rattle.ns_types.specs.Identity.{shard_count};
     ghost use Rattle.ns_shard.specs.State.{State};
     ghost use Rattle.ns_server.specs.Settled.{AreStates};
 
@@ -40,7 +41,7 @@ impl<B: Naming> Model for Settled<B> {
 
     ghost view = { λ s. s.shards };
 
-    ghost invariant = { λ s. (arc_value s.roster ≡ B.roster) × (length s.shards ≡ 16) × AreStates B.roster s.shards };
+    ghost invariant = { λ s. (arc_value s.roster ≡ B.roster) × (length s.shards ≡ shard_count) × AreStates B.roster s.shards };
 }
 
 /// S1: a pass of the server is missing. Both are handed back.
@@ -69,7 +70,7 @@ impl<B: Naming> Server<B> {
     pub fn settle(self, passes: Vec<Pass<B>>) -> Result<Settled<B>, SettleFault<B>>
         ensures missing { IsOk result ↔ (vec_len passes ≡ B.workers) }
         ensures back { IfErr result (λ e. (e.server ≡ self) × (e.passes ≡ passes)) }
-        ensures sixteen { IfOk result (λ s. length s ≡ 16) }
+        ensures sixteen { IfOk result (λ s. length s ≡ shard_count) }
         ensures states { IfOk result (λ s. AreStates B.roster s) }
         ensures made { IfOk result (λ s. AreMadeBy passes.items s) }
         ensures merges { IfOk result (λ s. MergesToLegal B.roster s) }
@@ -83,7 +84,7 @@ impl<B: Naming> Server<B> {
         let all = gathered(passes);
         let (roster, shards) = self.all_opened(all);
         let _net = roster.net_id();
-        merges_are_legal();
+        merges_of_what_leaves_are_legal();
         Ok(Settled {
             roster,
             shards,
@@ -93,16 +94,33 @@ impl<B: Naming> Server<B> {
 }
 
 impl<B: Naming> Settled<B> {
-    /// The entries of a shard, the earliest first.
+    /// The entries of a shard that its last trim kept, and those made since, the earliest first: all, where it was never trimmed.
     pub fn history(&self, shard: u8) -> &[Entry]
-        requires { shard < 16 }
+        requires { shard < shard_count }
         ensures history { slice_get (histories self.now) shard ≡ Some result.now }
         ensures states { AreStates B.roster self.now }
     {
         self.shards[usize::from(shard)].entries()
     }
 
-    /// How many entries there are in all shards.
+    /// How many entries of a shard were made before its last trim: none where it was never trimmed.
+    pub fn mark(&self, shard: u8) -> u64
+        requires { shard < shard_count }
+        ensures { option_map (λ s. s.mark) (slice_get self.now shard) ≡ Some result }
+    {
+        self.shards[usize::from(shard)].mark()
+    }
+
+    /// How many entries of a shard its trims dropped.
+    pub fn dropped(&self, shard: u8) -> u64
+        requires { shard < shard_count }
+        ensures { option_map (λ s. s.made) (slice_get self.now shard) ≡ option_map (λ s. length s.entries + result) (slice_get self.now shard) }
+    {
+        let shard = &self.shards[usize::from(shard)];
+        shard.made() - shard.entries().len() as u64
+    }
+
+    /// How many entries were made in all shards, those that were dropped among them.
     pub fn total(&self) -> u128
         ensures { result ≡ sum_by (λ s. s.made) self.now }
     {
@@ -123,21 +141,19 @@ impl<B: Naming> Settled<B> {
     }
 
     /// Closes the open window that was opened first, of the first shard that has one, and gives the receipt. None where no window is
-    /// open: then each window that was opened was closed exactly once. `NoMemory` (`AllocError`) where a growth was refused, and then
-    /// nothing has changed.
-    pub fn drain_next(&mut self) -> Result<Option<Receipt>, AllocError>
-        ensures some { IfOk result (λ o. IfSome o (λ r. Drains self.old r self.new)) }
-        ensures none { IfOk result (λ o. IfNone o (NoneOpen self.old × (self.new ≡ self.old))) }
-        ensures closed { IfOk result (λ o. IfNone o (EachIsClosed self.new)) }
-        ensures err { OnErr result (self.new ≡ self.old) }
+    /// open: then each window that was opened was closed exactly once, in every history that leaves what is left. No memory is taken.
+    pub fn drain_next(&mut self) -> Option<Receipt>
+        ensures some { IfSome result (λ r. Drains self.old r self.new) }
+        ensures none { IfNone result (NoneOpen self.old × (self.new ≡ self.old)) }
+        ensures closed { IfNone result (EachIsClosed self.new) }
         ensures states { AreStates B.roster self.new }
     {
         let Some((i, window)) = first_open(&self.shards) else {
             windows_open_once();
-            return Ok(None);
+            drained_histories_closed_all();
+            return None;
         };
-        let receipt = close(&mut self.shards[i], window)?;
-        Ok(Some(receipt))
+        Some(close(&mut self.shards[i], window))
     }
 }
 
@@ -154,15 +170,18 @@ fn first_open(shards: &[Shard]) -> Option<(usize, WindowName)>
     None
 }
 
-// Closes a window of a shard.
-fn close(shard: &mut Shard, window: WindowName) -> Result<Receipt, AllocError>
-    requires { shard_of window.eui ≡ shard.old.index }
-    ensures done { OnOk result (shard.new ≡ after_call shard.old (Close window)) }
-    ensures receipt { IfOk result (λ r. r ≡ receipt_for shard.old (Close window)) }
-    ensures err { OnErr result (shard.new ≡ shard.old) }
+// Closes an open window of a shard.
+fn close(shard: &mut Shard, window: WindowName) -> Receipt
+    requires own { shard_of window.eui ≡ shard.old.index }
+    requires open { finds_open shard.old (Close window) ≡ true }
+    ensures done { shard.new ≡ after_call shard.old (Close window) }
+    ensures receipt { result ≡ receipt_for shard.old (Close window) }
     ensures state { IsState shard.new }
 {
     let number = shard.made();
-    let answer = shard.apply(Call::Close { window })?;
-    Ok(receipt_of(shard.index(), number, Call::Close { window }, answer))
+    let Some(answer) = shard.close(&window) else {
+        unreachable!()
+    };
+    let call = Call::Close { window };
+    receipt_of(shard.index(), number, &call, answer)
 }

@@ -14,7 +14,7 @@ use Rattle.ns_calls.specs.declared.call.Reply.{Reply}
 use Rattle.ns_calls.specs.declared.call.Reply.TheVariants as reply
 use Rattle.ns_calls.specs.declared.call.Entry.{Entry}
 use Rattle.ns_calls.specs.History.{same_ticket, asking_in, ends_ticket, open_tickets, is_ticket_open, ticket_count, ticket_copies}
-use Rattle.ns_calls.specs.Reply.{spent_by, join_copy_reply, most_tickets, most_copies, reply_to}
+use Rattle.ns_calls.specs.Reply.{nonce_at_or_above, join_copy_reply, most_tickets, most_copies, reply_to}
 use Rattle.ns_calls.specs.Legal.{IsLegal, entry_for, with_call}
 use Rattle.ns_calls.proofs.LocalLemmas.{bool_tells}
 use Rattle.ns_calls.proofs.Lists.{All-append, All-filter}
@@ -48,9 +48,9 @@ apart-push t [] new apart = (tt, tt)
 apart-push t (u ∷ ts) new apart = (All-append (λ v. same_ticket u v ≡ false) ts (t ∷ []) apart.0 (new.0, tt), apart-push t ts new.1 apart.1)
 
 -- what is asked for was not open
-asked_cases : (t : Ticket) (heard : Heard) (unknown : Bool) (spent : Option Reply) (is_open : Bool) (copied : Reply) (busy : Bool) → asking_in (call.Join t heard) copied ≡ None → IfSome spent (λ r. asking_in (call.Join t heard) r ≡ None) →
-    IfSome (asking_in (call.Join t heard) (first_case (when unknown reply.NoDevice ∷ spent ∷ when is_open copied ∷ when busy reply.JoinBusy ∷ []) (reply.Ask t))) (λ u. (u ≡ t) × (is_open ≡ false))
-asked_cases t heard true spent is_open copied busy none old = tt
+asked_cases : (t : Ticket) (heard : Heard) (unknown : Bool) (stale : Option Reply) (is_open : Bool) (copied : Reply) (busy : Bool) → asking_in (call.Join t heard) copied ≡ None → IfSome stale (λ r. asking_in (call.Join t heard) r ≡ None) →
+    IfSome (asking_in (call.Join t heard) (first_case (when unknown reply.NoDevice ∷ stale ∷ when is_open copied ∷ when busy reply.JoinBusy ∷ []) (reply.Ask t))) (λ u. (u ≡ t) × (is_open ≡ false))
+asked_cases t heard true stale is_open copied busy none old = tt
 asked_cases t heard false (Some r) is_open copied busy none old = subst (λ o. IfSome o (λ u. (u ≡ t) × (is_open ≡ false))) (sym old) tt
 asked_cases t heard false None true copied busy none old = subst (λ o. IfSome o (λ u. (u ≡ t) × (true ≡ false))) (sym none) tt
 asked_cases t heard false None false copied true none old = tt
@@ -61,8 +61,8 @@ asked_new net h (call.Uplink frame heard) = tt
 asked_new net h (call.JoinReply t o) = tt
 asked_new net h (call.Close w) = tt
 asked_new net h (call.Join t heard) = step (asking_in (call.Join t heard) (reply_to net h (call.Join t heard)))
-    (asked_cases t heard (not (is_known net (dev_eui t) (join_eui t))) (option_map (λ g. reply.NonceOld (record { 0 = g })) (spent_by net h t)) (is_ticket_open h t) (join_copy_reply h t)
-    (nat_le most_tickets (ticket_count h (dev_eui t))) (copy_none (nat_le (length (ticket_copies h t) + 1) most_copies)) (old_none (spent_by net h t)))
+    (asked_cases t heard (not (is_known net (dev_eui t) (join_eui t))) (option_map (λ g. reply.NonceOld (record { 0 = g })) (nonce_at_or_above net h t)) (is_ticket_open h t) (join_copy_reply h t)
+    (nat_le most_tickets (ticket_count h (dev_eui t))) (copy_none (nat_le (length (ticket_copies h t) + 1) most_copies)) (old_none (nonce_at_or_above net h t)))
   where
     copy_none : (b : Bool) → asking_in (call.Join t heard) (cond b (reply.JoinCopied (length (ticket_copies h t) + 1)) reply.JoinCrowded) ≡ None
     copy_none true = refl

@@ -1,8 +1,8 @@
 -- What the sessions of every legal history are like.
-use Rattle.std.proofs.Common.{◌≡◌, ◌⊎◌, ℕ, ◌==◌, Bool, true, false, ◌||◌, cond, List, [], ◌∷◌, ◌++◌, filter, filter_map, map, Option, None, Some, IfSome, option_map, refl, sym, ap, subst, ◌∙◌, arith, inl, inr}
+use Rattle.std.proofs.Common.{◌≡◌, ◌⊎◌, ℕ, ◌==◌, Bool, true, false, ◌||◌, cond, List, [], ◌∷◌, ◌++◌, filter, map, Option, None, Some, IfSome, option_map, refl, sym, ap, subst, ◌∙◌, arith, inl, inr}
 use Rattle.std.specs.Prelude.{IsSome, is_some}
-use Rattle.std.specs.List.{AllByRecursion, cons_option, list_any}
-use Rattle.std.specs.Option.{option_and_then, option_map_or}
+use Rattle.std.specs.List.{AllByRecursion, list_any}
+use Rattle.std.specs.Option.{option_and_then}
 use Rattle.std.proofs.lemmas.List.{append-nil}
 use Rattle.std.proofs.lemmas.List.Elements.{filter-append}
 use Rattle.std.proofs.lemmas.Option.{same_Some}
@@ -10,11 +10,10 @@ use Rattle.std.proofs.lemmas.Bool.{false≢true}
 use Rattle.std.proofs.lemmas.Bool.Decides.{nat_tests}
 use Rattle.ns_types.specs.declared.identity.DevEui.{DevEui}
 use Rattle.ns_types.specs.declared.identity.WindowName.{WindowName}
-use Rattle.ns_types.specs.Cases.{first_case, when}
+use Rattle.ns_types.specs.Cases.{first_case}
 use Rattle.ns_types.specs.Identity.{same_window}
 use Rattle.ns_views.specs.Frame.{data_fields}
 use Rattle.ns_secure.specs.Counter.{above}
-use Rattle.ns_secure.specs.Integrity.{mic_fits}
 use Rattle.ns_roster.specs.declared.Device.{Device}
 use Rattle.ns_roster.specs.Network.{Network}
 use Rattle.ns_calls.specs.declared.call.JoinAns.{JoinAns}
@@ -22,19 +21,19 @@ use Rattle.ns_calls.specs.declared.call.Call.{Call}
 use Rattle.ns_calls.specs.declared.call.Call.TheVariants as call
 use Rattle.ns_calls.specs.declared.call.Reply.TheVariants as reply
 use Rattle.ns_calls.specs.declared.call.Entry.{Entry}
-use Rattle.ns_calls.specs.Queries.{first, last}
+use Rattle.ns_calls.specs.Queries.{last}
 use Rattle.ns_calls.specs.History.{Acceptance, Opening, Closing, first_and_other, opening_in, closing_in, acceptances, openings, closings, same_device, session_join, session_counters, active_session, newest_session, live, is_live, greatest_counter, open_windows, open_window}
 use Rattle.ns_calls.specs.Reply.{Fit, fit_of, fitting_counter, session_fit, device_fit, devices_at, first_fit, window_with, ack_number, reply_to}
 use Rattle.ns_calls.specs.Legal.{IsLegal, entry_for, with_call}
 use Rattle.ns_calls.specs.Headline.{SessionsHaveJoins}
 use Rattle.ns_calls.proofs.LocalLemmas.{bool_tells}
-use Rattle.ns_calls.proofs.Lists.{said-push, said-cases, All-push, All-weaker, find-has, at_some, first-gives_of}
+use Rattle.ns_calls.proofs.Lists.{said-adds, All-push, All-weaker, find-has, at_some, first-gives_of}
 use Rattle.ns_calls.proofs.QueryLemmas.{last-push}
 use Rattle.ns_calls.proofs.Induction.{legal_induction}
 use Rattle.ns_calls.proofs.JoinLemmas.{acceptances-cases, same_device-eq}
 use Rattle.ns_calls.proofs.UplinkLemmas.{opened-cases}
 use Rattle.ns_calls.proofs.KeyLemmas.{has_join-stays, session_join-next, sessions_have_joins}
-use Rattle.ns_calls.proofs.WindowLemmas.{same_window-eq}
+use Rattle.ns_calls.proofs.NameLemmas.{same_window-eq}
 use Rattle.ns_sessions.proofs.Basics.{or_last, or_later}
 
 -- ---- where an uplink fits
@@ -119,14 +118,13 @@ openings-live net h number c eui =
     let e : Entry = entry_for net h number c in
     let asked : Opening → Bool = λ o. same_device o.window.eui eui in
     let says : Entry → Option Opening = λ x. opening_in x.call x.reply in
-    let pushed = said-push says asked h e in
-    elim (said-cases says asked e) [
-      | inl nothing ↦ inl (pushed ∙ (ap (λ ys. openings h eui ++ ys) nothing ∙ append-nil (openings h eui)))
+    elim (said-adds says asked h e) [
+      | inl same ↦ inl same
       | inr one ↦ inr (record {
-        o = one.0;
-        joined = pushed ∙ ap (λ ys. openings h eui ++ ys) one.3;
-        device = same_device-eq one.0.window.eui eui one.2;
-        fit = at_some (λ o. IsLiveWindow h o.window) (opening_in c (reply_to net h c)) one.0 one.1 (opening-live net h c);
+        o = one.thing;
+        joined = one.joined;
+        device = same_device-eq one.thing.window.eui eui one.asked;
+        fit = at_some (λ o. IsLiveWindow h o.window) (opening_in c (reply_to net h c)) one.thing one.says (opening-live net h c);
       })
     ]
 
@@ -143,14 +141,13 @@ closings-open net h number c eui =
     let e : Entry = entry_for net h number c in
     let asked : Closing → Bool = λ x. same_device x.window.eui eui in
     let says : Entry → Option Closing = λ x. closing_in x.call x.reply in
-    let pushed = said-push says asked h e in
-    elim (said-cases says asked e) [
-      | inl nothing ↦ inl (pushed ∙ (ap (λ ys. closings h eui ++ ys) nothing ∙ append-nil (closings h eui)))
+    elim (said-adds says asked h e) [
+      | inl same ↦ inl same
       | inr one ↦ inr (record {
-        c = one.0;
-        joined = pushed ∙ ap (λ ys. closings h eui ++ ys) one.3;
-        device = same_device-eq one.0.window.eui eui one.2;
-        was_open = at_some (λ x. is_some (open_window h x.window) ≡ true) (closing_in c (reply_to net h c)) one.0 one.1 (closing-open net h c);
+        c = one.thing;
+        joined = one.joined;
+        device = same_device-eq one.thing.window.eui eui one.asked;
+        was_open = at_some (λ x. is_some (open_window h x.window) ≡ true) (closing_in c (reply_to net h c)) one.thing one.says (closing-open net h c);
       })
     ]
 

@@ -13,7 +13,7 @@ use Rattle.ns_calls.specs.declared.call.Call.TheVariants as call
 use Rattle.ns_calls.specs.declared.call.Reply.TheVariants as reply
 use Rattle.ns_calls.specs.declared.call.Entry.{Entry}
 use Rattle.ns_calls.specs.History.{same_device, same_ticket, is_ticket, asking_in, ending_in, ticket_copy_in, asks_for, open_tickets, is_ticket_open, copies_of_ticket, ticket_copies}
-use Rattle.ns_calls.specs.Legal.{IsLegal}
+use Rattle.ns_calls.specs.Legal.{IsLegal, entry_of}
 use Rattle.ns_calls.proofs.LocalLemmas.{bool_tells}
 use Rattle.ns_calls.proofs.Lists.{All-weaker, All-filter, filter-all}
 use Rattle.ns_calls.proofs.TicketLemmas.{same_ticket-eq}
@@ -21,7 +21,6 @@ use Rattle.ns_calls.proofs.PushLemmas.{open_tickets-push, ticket_copies-push}
 use Rattle.ns_sessions.specs.declared.ticket.OpenTicket.{OpenTicket}
 use Rattle.ns_sessions.specs.Copies.{CopiesRecord, copies_record, with_one_more}
 use Rattle.ns_sessions.specs.Record.{ticket_record, tickets_of, one_copy, ticket_among, tickets_after_copy, without}
-use Rattle.ns_sessions.specs.Laws.{entry_of}
 use Rattle.ns_sessions.proofs.Records.{tickets_said}
 use Rattle.ns_sessions.proofs.OpenTickets.{same_ticket-refl, same_ticket-sym, same_device-refl, copies_said, copies_in, copies_more, tickets_of-stay, same_records, IsOwnAsked, tickets_own}
 use Rattle.ns_sessions.proofs.Apart.{AreApart, none_equal, apart-filter, tickets_apart}

@@ -12,23 +12,24 @@ use Rattle.ns_calls.specs.declared.call.Call.TheVariants as call
 use Rattle.ns_calls.specs.declared.call.Reply.{Reply}
 use Rattle.ns_calls.specs.declared.call.Reply.TheVariants as reply
 use Rattle.ns_calls.specs.declared.call.Entry.{Entry}
-use Rattle.ns_calls.specs.History.{open_tickets, is_ticket_open, ticket_count, acceptances, openings, closings, same_device, last_nonce}
-use Rattle.ns_calls.specs.Reply.{spent_by, join_copy_reply, most_copies, most_tickets, reply_to_join}
-use Rattle.ns_calls.specs.Legal.{IsLegal}
+use Rattle.ns_calls.specs.History.{session_round, open_tickets, is_ticket_open, ticket_count, acceptances, openings, closings, same_device, last_nonce}
+use Rattle.ns_calls.specs.Reply.{nonce_at_or_above, join_copy_reply, most_copies, most_tickets, reply_to_join}
+use Rattle.ns_calls.specs.Legal.{IsLegal, entry_of}
 use Rattle.ns_calls.proofs.PushLemmas.{acceptances-push, openings-push, closings-push}
 use Rattle.ns_sessions.specs.declared.ticket.OpenTicket.{OpenTicket}
 use Rattle.ns_sessions.specs.declared.decision.JoinDecision.{JoinDecision}
 use Rattle.ns_sessions.specs.declared.decision.JoinDecision.TheVariants as join
 use Rattle.ns_sessions.specs.Record.{DeviceRecord, device_record, ticket_record, tickets_of, ticket_in, copy_decision, join_decision, with_join}
-use Rattle.ns_sessions.specs.Laws.{entry_of, join_reply, JoinsAgree}
+use Rattle.ns_sessions.specs.Laws.{join_decision_reply, JoinsAgree}
 use Rattle.ns_sessions.proofs.Sessions.{sessions_by}
+use Rattle.ns_sessions.proofs.Rounds.{rounds-stay}
 use Rattle.ns_sessions.proofs.Records.{tickets_said, record_by, record_said}
 use Rattle.ns_sessions.proofs.JoinSteps.{tickets_asked, tickets_copied, among_said}
 use Rattle.ns_sessions.proofs.Uplinks.{record_stays}
 
 -- the record, by what the history says
 abbrev pub said_of : Network → List Entry → DevEui → DeviceRecord
-said_of net h eui = record_by (last_nonce net eui) (acceptances h eui) (sessions_by (acceptances h eui) (openings h eui) (closings h eui)) (tickets_said h eui)
+said_of net h eui = record_by (last_nonce net eui) (acceptances h eui) (sessions_by (acceptances h eui) (openings h eui) (session_round h eui) (closings h eui)) (tickets_said h eui)
 
 pub ticket_said : (net : Network) (h : List Entry) (t : Ticket) → ticket_in (said_of net h (dev_eui t)) t ≡ cond (is_ticket_open h t) (Some (ticket_record h t)) None
 ticket_said net h t = among_said h t (open_tickets h)
@@ -37,16 +38,16 @@ ticket_said net h t = among_said h t (open_tickets h)
 
 -- the decision, by what is asked of the state
 abbrev join_decision_by : Option ℕ → Option OpenTicket → Bool → JoinDecision
-join_decision_by spent found busy = first_case (option_map (λ g. join.Old (record { 0 = g })) spent ∷ option_map copy_decision found ∷ when busy join.Busy ∷ []) join.Ask
+join_decision_by stale found busy = first_case (option_map (λ g. join.Old (record { 0 = g })) stale ∷ option_map copy_decision found ∷ when busy join.Busy ∷ []) join.Ask
 
-join_cases : (t : Ticket) (spent : Option ℕ) (is_open : Bool) (o : OpenTicket) (busy : Bool) →
-    join_reply t (join_decision_by spent (cond is_open (Some o) None) busy)
-    ≡ first_case (when (not true) reply.NoDevice ∷ option_map (λ g. reply.NonceOld (record { 0 = g })) spent ∷ when is_open (let place = o.copies.count + 1 in cond (nat_le place most_copies) (reply.JoinCopied place) reply.JoinCrowded)
+join_cases : (t : Ticket) (stale : Option ℕ) (is_open : Bool) (o : OpenTicket) (busy : Bool) →
+    join_decision_reply t (join_decision_by stale (cond is_open (Some o) None) busy)
+    ≡ first_case (when (not true) reply.NoDevice ∷ option_map (λ g. reply.NonceOld (record { 0 = g })) stale ∷ when is_open (let place = o.copies.count + 1 in cond (nat_le place most_copies) (reply.JoinCopied place) reply.JoinCrowded)
     ∷ when busy reply.JoinBusy ∷ []) (reply.Ask t)
 join_cases t (Some g) is_open o busy = refl
 join_cases t None true o busy = step (nat_le (o.copies.count + 1) most_copies)
   where
-    step : (b : Bool) → join_reply t (cond b (join.Copied (o.copies.count + 1)) join.Crowded) ≡ cond b (reply.JoinCopied (o.copies.count + 1)) reply.JoinCrowded
+    step : (b : Bool) → join_decision_reply t (cond b (join.Copied (o.copies.count + 1)) join.Crowded) ≡ cond b (reply.JoinCopied (o.copies.count + 1)) reply.JoinCrowded
     step true = refl
     step false = refl
 join_cases t None false o true = refl
@@ -56,21 +57,21 @@ count_said : (h : List Entry) (eui : DevEui) → length (tickets_said h eui) ≡
 count_said h eui = length-map (tickets_of h eui) (ticket_record h) ∙ length-filter (λ u. same_device (dev_eui u) eui) (open_tickets h)
 
 decision_said : (net : Network) (h : List Entry) (t : Ticket) →
-    join_decision (device_record net h (dev_eui t)) t ≡ join_decision_by (spent_by net h t) (cond (is_ticket_open h t) (Some (ticket_record h t)) None) (nat_le most_tickets (ticket_count h (dev_eui t)))
+    join_decision (device_record net h (dev_eui t)) t ≡ join_decision_by (nonce_at_or_above net h t) (cond (is_ticket_open h t) (Some (ticket_record h t)) None) (nat_le most_tickets (ticket_count h (dev_eui t)))
 decision_said net h t =
     ap (λ r. join_decision r t) (record_said net h (dev_eui t))
-    ∙ (ap (λ o. join_decision_by (spent_by net h t) o (nat_le most_tickets (length (tickets_said h (dev_eui t))))) (ticket_said net h t)
-    ∙ ap (λ n. join_decision_by (spent_by net h t) (cond (is_ticket_open h t) (Some (ticket_record h t)) None) (nat_le most_tickets n)) (count_said h (dev_eui t)))
+    ∙ (ap (λ o. join_decision_by (nonce_at_or_above net h t) o (nat_le most_tickets (length (tickets_said h (dev_eui t))))) (ticket_said net h t)
+    ∙ ap (λ n. join_decision_by (nonce_at_or_above net h t) (cond (is_ticket_open h t) (Some (ticket_record h t)) None) (nat_le most_tickets n)) (count_said h (dev_eui t)))
 
-join_replies : (net : Network) (h : List Entry) (t : Ticket) → is_known net (dev_eui t) (join_eui t) ≡ true → join_reply t (join_decision (device_record net h (dev_eui t)) t) ≡ reply_to_join net h t
+join_replies : (net : Network) (h : List Entry) (t : Ticket) → is_known net (dev_eui t) (join_eui t) ≡ true → join_decision_reply t (join_decision (device_record net h (dev_eui t)) t) ≡ reply_to_join net h t
 join_replies net h t known =
-    ap (join_reply t) (decision_said net h t)
-    ∙ (join_cases t (spent_by net h t) (is_ticket_open h t) (ticket_record h t) (nat_le most_tickets (ticket_count h (dev_eui t)))
-    ∙ sym (ap (λ b. first_case (when (not b) reply.NoDevice ∷ option_map (λ g. reply.NonceOld (record { 0 = g })) (spent_by net h t) ∷ when (is_ticket_open h t) (join_copy_reply h t)
+    ap (join_decision_reply t) (decision_said net h t)
+    ∙ (join_cases t (nonce_at_or_above net h t) (is_ticket_open h t) (ticket_record h t) (nat_le most_tickets (ticket_count h (dev_eui t)))
+    ∙ sym (ap (λ b. first_case (when (not b) reply.NoDevice ∷ option_map (λ g. reply.NonceOld (record { 0 = g })) (nonce_at_or_above net h t) ∷ when (is_ticket_open h t) (join_copy_reply h t)
     ∷ when (nat_le most_tickets (ticket_count h (dev_eui t))) reply.JoinBusy ∷ []) (reply.Ask t)) known))
 
 -- what is asked for was not open
-asked_closed : (spent : Option ℕ) (is_open : Bool) (o : OpenTicket) (busy : Bool) → join_decision_by spent (cond is_open (Some o) None) busy ≡ join.Ask → is_open ≡ false
+asked_closed : (stale : Option ℕ) (is_open : Bool) (o : OpenTicket) (busy : Bool) → join_decision_by stale (cond is_open (Some o) None) busy ≡ join.Ask → is_open ≡ false
 asked_closed (Some g) is_open o busy is = absurd (cc is)
 asked_closed None true o busy is = absurd (step (nat_le (o.copies.count + 1) most_copies) is)
   where
@@ -81,17 +82,18 @@ asked_closed None false o busy is = refl
 
 -- the sessions stay
 join_keeps : (net : Network) (h : List Entry) (number : ℕ) (t : Ticket) (heard : Heard) (r : Reply) → let e : Entry = entry_of number (call.Join t heard) r in
-    device_record net (h ++ e ∷ []) (dev_eui t) ≡ record_by (last_nonce net (dev_eui t)) (acceptances h (dev_eui t)) (sessions_by (acceptances h (dev_eui t)) (openings h (dev_eui t)) (closings h (dev_eui t))) (tickets_said (h ++ e ∷ []) (dev_eui t))
+    device_record net (h ++ e ∷ []) (dev_eui t) ≡ record_by (last_nonce net (dev_eui t)) (acceptances h (dev_eui t)) (sessions_by (acceptances h (dev_eui t)) (openings h (dev_eui t)) (session_round h (dev_eui t)) (closings h (dev_eui t))) (tickets_said (h ++ e ∷ []) (dev_eui t))
 join_keeps net h number t heard r =
     let e : Entry = entry_of number (call.Join t heard) r in
     let eui : DevEui = dev_eui t in
     let joins : acceptances (h ++ e ∷ []) eui ≡ acceptances h eui = acceptances-push h e eui ∙ append-nil (acceptances h eui) in
     let os : openings (h ++ e ∷ []) eui ≡ openings h eui = openings-push h e eui ∙ append-nil (openings h eui) in
     let cs : closings (h ++ e ∷ []) eui ≡ closings h eui = closings-push h e eui ∙ append-nil (closings h eui) in
-    record_said net (h ++ e ∷ []) eui ∙ (λ i. record_by (last_nonce net eui) (joins i) (sessions_by (joins i) (os i) (cs i)) (tickets_said (h ++ e ∷ []) eui))
+    let rs : session_round (h ++ e ∷ []) eui ≡ session_round h eui = rounds-stay h e eui os tt in
+    record_said net (h ++ e ∷ []) eui ∙ (λ i. record_by (last_nonce net eui) (joins i) (sessions_by (joins i) (os i) (rs i) (cs i)) (tickets_said (h ++ e ∷ []) eui))
 
 after_decision : (net : Network) (h : List Entry) → IsLegal net h → (number : ℕ) (t : Ticket) (heard : Heard) (decision : JoinDecision) → (decision ≡ join.Ask → is_ticket_open h t ≡ false) →
-    with_join decision t heard (device_record net h (dev_eui t)) ≡ device_record net (h ++ entry_of number (call.Join t heard) (join_reply t decision) ∷ []) (dev_eui t)
+    with_join decision t heard (device_record net h (dev_eui t)) ≡ device_record net (h ++ entry_of number (call.Join t heard) (join_decision_reply t decision) ∷ []) (dev_eui t)
 after_decision net h legal number t heard join.Ask closed =
     let r = said_of net h (dev_eui t) in
     ap (with_join join.Ask t heard) (record_said net h (dev_eui t))
@@ -109,6 +111,6 @@ joins_agree net h = record {
   replies = λ t known. join_replies net h t known;
   records = λ legal number t heard known.
       (let decision = join_decision (device_record net h (dev_eui t)) t in
-      after_decision net h legal number t heard decision (λ is. asked_closed (spent_by net h t) (is_ticket_open h t) (ticket_record h t) (nat_le most_tickets (ticket_count h (dev_eui t))) (sym (decision_said net h t) ∙ is))
+      after_decision net h legal number t heard decision (λ is. asked_closed (nonce_at_or_above net h t) (is_ticket_open h t) (ticket_record h t) (nat_le most_tickets (ticket_count h (dev_eui t))) (sym (decision_said net h t) ∙ is))
       ∙ ap (λ r. device_record net (h ++ entry_of number (call.Join t heard) r ∷ []) (dev_eui t)) (join_replies net h t known));
 }

@@ -3,6 +3,7 @@ pub mod Tickets
 pub mod Counters
 pub mod Sessions
 pub mod SessionSteps
+pub mod Rounds
 pub mod Facts
 pub mod Records
 pub mod OpenTickets

@@ -12,7 +12,7 @@ use Rattle.ns_calls.specs.declared.call.Reply.{Reply}
 use Rattle.ns_calls.specs.declared.call.Reply.TheVariants as reply
 use Rattle.ns_calls.specs.declared.call.Entry.{Entry}
 use Rattle.ns_calls.specs.Queries.{greater, maximum}
-use Rattle.ns_calls.specs.History.{Acceptance, Opening, Closing, acceptance_in, opening_in, closing_in, acceptances, openings, closings, same_device, first_and_other, last_nonce}
+use Rattle.ns_calls.specs.History.{Acceptance, Opening, Closing, acceptance_in, opening_in, window_in, closing_in, acceptances, openings, closings, session_round, same_device, first_and_other, last_nonce}
 use Rattle.ns_calls.proofs.LocalJoin.{none_single}
 use Rattle.ns_calls.proofs.PushLemmas.{acceptances-push, openings-push, closings-push}
 use Rattle.ns_sessions.specs.declared.session.Session.{Session}
@@ -20,6 +20,7 @@ use Rattle.ns_sessions.specs.declared.ticket.OpenTicket.{OpenTicket}
 use Rattle.ns_sessions.specs.Record.{DeviceRecord, device_record, ticket_record, tickets_of}
 use Rattle.ns_sessions.specs.Laws.{concerns}
 use Rattle.ns_sessions.proofs.Sessions.{join_by, counter_by, greatest_ack_by, next_ack_by, session_of, session_by, active_by, newest_by, sessions_by, ack-push, same_on}
+use Rattle.ns_sessions.proofs.Rounds.{rounds-stay}
 use Rattle.ns_sessions.proofs.Basics.{greater-none}
 
 abbrev pub tickets_said : List Entry → DevEui → List OpenTicket
@@ -33,11 +34,11 @@ record_by named joins sessions tickets = record {
   tickets = tickets;
 }
 
-pub record_said : (net : Network) (h : List Entry) (eui : DevEui) → device_record net h eui ≡ record_by (last_nonce net eui) (acceptances h eui) (sessions_by (acceptances h eui) (openings h eui) (closings h eui)) (tickets_said h eui)
+pub record_said : (net : Network) (h : List Entry) (eui : DevEui) → device_record net h eui ≡ record_by (last_nonce net eui) (acceptances h eui) (sessions_by (acceptances h eui) (openings h eui) (session_round h eui) (closings h eui)) (tickets_said h eui)
 unfolding device_record
 record_said net h eui = refl
 
-pub sessions_said : (net : Network) (h : List Entry) (eui : DevEui) → (device_record net h eui).sessions ≡ sessions_by (acceptances h eui) (openings h eui) (closings h eui)
+pub sessions_said : (net : Network) (h : List Entry) (eui : DevEui) → (device_record net h eui).sessions ≡ sessions_by (acceptances h eui) (openings h eui) (session_round h eui) (closings h eui)
 unfolding device_record
 sessions_said net h eui = refl
 
@@ -59,6 +60,11 @@ opening-other : (eui : DevEui) (c : Call) (r : Reply) → concerns eui c r ≡ f
 opening-other eui (call.Uplink frame heard) (reply.Opened w) other = other
 opening-other eui _ _ other = tt
 
+window-other : (eui : DevEui) (c : Call) (r : Reply) → concerns eui c r ≡ false → IfSome (window_in c r) (λ o. same_device o.window.eui eui ≡ false)
+window-other eui (call.Uplink frame heard) (reply.Opened w) other = other
+window-other eui (call.Uplink frame heard) (reply.Again w) other = other
+window-other eui _ _ other = tt
+
 -- a closing of another device, or with no number, leaves the greatest number
 acks_stay : (eui : DevEui) (c : Call) (r : Reply) (cs : List Closing) (n : ℕ) → concerns eui c r ≡ false → greatest_ack_by (cs ++ filter (λ x. same_device x.window.eui eui) (option_to_list (closing_in c r))) n ≡ greatest_ack_by cs n
 acks_stay eui (call.Close w) (reply.Closed closed (Some ack)) cs n other =
@@ -78,22 +84,22 @@ acks_stay eui (call.Close w) (reply.Closed closed None) cs n other = mine (same_
 acks_stay eui _ _ cs n other = ap (λ ys. greatest_ack_by ys n) (append-nil cs)
 
 -- sessions whose greatest numbers are the same
-same_acks : (joins : List Acceptance) (os : List Opening) (cs ds : List Closing) → ((n : ℕ) → greatest_ack_by cs n ≡ greatest_ack_by ds n) → (xs : List ℕ) →
-    AllByRecursion (λ n. session_by joins os cs n ≡ session_by joins os ds n) xs
-same_acks joins os cs ds same [] = tt
-same_acks joins os cs ds same (x ∷ xs) =
-    (ap (λ greatest. option_map (session_of x (counter_by os x) (next_ack_by greatest)) (join_by joins x)) (same x), same_acks joins os cs ds same xs)
+same_acks : (joins : List Acceptance) (os : List Opening) (rs : ℕ → ℕ) (cs ds : List Closing) → ((n : ℕ) → greatest_ack_by cs n ≡ greatest_ack_by ds n) → (xs : List ℕ) →
+    AllByRecursion (λ n. session_by joins os rs cs n ≡ session_by joins os rs ds n) xs
+same_acks joins os rs cs ds same [] = tt
+same_acks joins os rs cs ds same (x ∷ xs) =
+    (ap (λ greatest. option_map (session_of x (counter_by os x) (rs x) (next_ack_by greatest)) (join_by joins x)) (same x), same_acks joins os rs cs ds same xs)
 
 pub sessions_stay : (h : List Entry) (e : Entry) (eui : DevEui) → concerns eui e.call e.reply ≡ false →
-    sessions_by (acceptances (h ++ e ∷ []) eui) (openings (h ++ e ∷ []) eui) (closings (h ++ e ∷ []) eui) ≡ sessions_by (acceptances h eui) (openings h eui) (closings h eui)
+    sessions_by (acceptances (h ++ e ∷ []) eui) (openings (h ++ e ∷ []) eui) (session_round (h ++ e ∷ []) eui) (closings (h ++ e ∷ []) eui) ≡ sessions_by (acceptances h eui) (openings h eui) (session_round h eui) (closings h eui)
 sessions_stay h e eui other =
     let joins : acceptances (h ++ e ∷ []) eui ≡ acceptances h eui = acceptances-push h e eui ∙ none_added (λ (a : Acceptance). same_device a.eui eui) (acceptances h eui) (acceptance_in e.call e.reply) (acceptance-other eui e.call e.reply other) in
     let os : openings (h ++ e ∷ []) eui ≡ openings h eui = openings-push h e eui ∙ none_added (λ (o : Opening). same_device o.window.eui eui) (openings h eui) (opening_in e.call e.reply) (opening-other eui e.call e.reply other) in
     let cs : (n : ℕ) → greatest_ack_by (closings (h ++ e ∷ []) eui) n ≡ greatest_ack_by (closings h eui) n = λ n. ap (λ ys. greatest_ack_by ys n) (closings-push h e eui) ∙ acks_stay eui e.call e.reply (closings h eui) n other in
-    ap (λ ys. sessions_by ys (openings (h ++ e ∷ []) eui) (closings (h ++ e ∷ []) eui)) joins
-    ∙ (ap (λ ys. sessions_by (acceptances h eui) ys (closings (h ++ e ∷ []) eui)) os
+    let rs : session_round (h ++ e ∷ []) eui ≡ session_round h eui = rounds-stay h e eui os (window-other eui e.call e.reply other) in
+    (λ i. sessions_by (joins i) (os i) (rs i) (closings (h ++ e ∷ []) eui))
     ∙ same_on _ _ (first_and_other (active_by (openings h eui)) (newest_by (acceptances h eui)))
-    (same_acks (acceptances h eui) (openings h eui) (closings (h ++ e ∷ []) eui) (closings h eui) cs _))
+    (same_acks (acceptances h eui) (openings h eui) (session_round h eui) (closings (h ++ e ∷ []) eui) (closings h eui) cs _)
 
 pub acceptances_stay : (h : List Entry) (e : Entry) (eui : DevEui) → concerns eui e.call e.reply ≡ false → acceptances (h ++ e ∷ []) eui ≡ acceptances h eui
 acceptances_stay h e eui other = acceptances-push h e eui ∙ none_added (λ (a : Acceptance). same_device a.eui eui) (acceptances h eui) (acceptance_in e.call e.reply) (acceptance-other eui e.call e.reply other)

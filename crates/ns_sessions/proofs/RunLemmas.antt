@@ -22,9 +22,9 @@ use Rattle.ns_sessions.specs.declared.decision.JoinDecision.TheVariants as join
 use Rattle.ns_sessions.specs.declared.decision.AnswerDecision.{AnswerDecision}
 use Rattle.ns_sessions.specs.declared.decision.AnswerDecision.TheVariants as answer
 use Rattle.ns_sessions.specs.Copies.{with_one_more}
-use Rattle.ns_sessions.specs.Record.{DeviceRecord, no_joins, ticket_among, ticket_in, spent_in, one_copy, tickets_after_copy, without, join_decision, with_join, answer_decision, with_reply}
-use Rattle.ns_sessions.specs.Runs.{StateCall, Ask, Answer, Open, NextAck, after_call, nonce_in, accepted_nonce, accepted_nonces, is_asked, is_answered, asks, answers, times_asked, times_answered, JoinsInTurn}
-use Rattle.ns_sessions.proofs.Basics.{unspent}
+use Rattle.ns_sessions.specs.Record.{DeviceRecord, no_joins, ticket_among, ticket_in, nonce_at_or_above, one_copy, tickets_after_copy, without, join_decision, with_join, answer_decision, with_reply}
+use Rattle.ns_sessions.specs.Runs.{StateCall, Ask, Answer, Open, OpenAgain, NextAck, after_call, nonce_in, accepted_nonce, accepted_nonces, is_asked, is_answered, asks, answers, times_asked, times_answered, JoinsInTurn}
+use Rattle.ns_calls.proofs.JoinLemmas.{exceeds_all}
 use Rattle.ns_sessions.proofs.JoinAnswers.{answer_decision_by}
 
 -- ---- nonces
@@ -33,11 +33,11 @@ use Rattle.ns_sessions.proofs.JoinAnswers.{answer_decision_by}
 NextNonce : Option ℕ → Option ℕ → Option ℕ → Type 0
 NextNonce accepted before after = (accepted ≡ None) × (after ≡ before) ⊎ ((n : ℕ) × (accepted ≡ Some n) × (after ≡ Some n) × Exceeds before n)
 
-answer_nonce : (r : DeviceRecord) (t : Ticket) (o : Outcome) (found : Option OpenTicket) (spent : Option ℕ) → spent_in r t ≡ spent →
-    NextNonce (nonce_in (answer_decision_by found (is_failed o) spent r.next_session) t) r.greatest_nonce (with_reply (answer_decision_by found (is_failed o) spent r.next_session) t o r).greatest_nonce
+answer_nonce : (r : DeviceRecord) (t : Ticket) (o : Outcome) (found : Option OpenTicket) (stale : Option ℕ) → nonce_at_or_above r t ≡ stale →
+    NextNonce (nonce_in (answer_decision_by found (is_failed o) stale r.next_session) t) r.greatest_nonce (with_reply (answer_decision_by found (is_failed o) stale r.next_session) t o r).greatest_nonce
 unfolding NextNonce
-answer_nonce r t o None spent is = inl (refl, refl)
-answer_nonce r t outcome.Failed (Some x) spent is = inl (refl, refl)
+answer_nonce r t o None stale is = inl (refl, refl)
+answer_nonce r t outcome.Failed (Some x) stale is = inl (refl, refl)
 answer_nonce r t (outcome.Success j) (Some x) (Some g) is = inl (refl, refl)
 answer_nonce r t (outcome.Success j) (Some x) None is = step x.copies.best
   where
@@ -48,14 +48,15 @@ answer_nonce r t (outcome.Success j) (Some x) None is = step x.copies.best
         (nonce_in decision t ≡ None) × ((with_reply decision t (outcome.Success j) r).greatest_nonce ≡ r.greatest_nonce)
         ⊎ ((n : ℕ) × (nonce_in decision t ≡ Some n) × ((with_reply decision t (outcome.Success j) r).greatest_nonce ≡ Some n) × Exceeds r.greatest_nonce n)
     step None = inl (refl, refl)
-    step (Some heard) = inr ((nonce t).0, refl, refl, unspent r.greatest_nonce (nonce t).0 is)
+    step (Some heard) = inr ((nonce t).0, refl, refl, exceeds_all r.greatest_nonce (nonce t).0 is)
 
 next_nonce : (c : StateCall) (r : DeviceRecord) → NextNonce (accepted_nonce c r) r.greatest_nonce (after_call c r).greatest_nonce
 unfolding NextNonce
 next_nonce (Ask t heard) r = inl (refl, refl)
 next_nonce (Open session counter) r = inl (refl, refl)
+next_nonce (OpenAgain session counter) r = inl (refl, refl)
 next_nonce (NextAck session) r = inl (refl, refl)
-next_nonce (Answer t o) r = answer_nonce r t o (ticket_in r t) (spent_in r t) refl
+next_nonce (Answer t o) r = answer_nonce r t o (ticket_in r t) (nonce_at_or_above r t) refl
 
 exceeds_more : (greatest : Option ℕ) (n m : ℕ) → Exceeds greatest n → n < m → Exceeds greatest m
 exceeds_more None n m above more = tt
@@ -150,9 +151,9 @@ ask_in_step t u heard r (join.Old greatest) = omega arith
 ask_in_step t u heard r join.Busy = omega arith
 
 -- an answer other than NoTicket is to an open ticket
-answered_open : (found : Option OpenTicket) (o : Outcome) (spent : Option ℕ) (next : ℕ) → is_answered (answer_decision_by found (is_failed o) spent next) ≡ true → is_some found ≡ true
-answered_open None o spent next is = absurd (cc is)
-answered_open (Some x) o spent next is = refl
+answered_open : (found : Option OpenTicket) (o : Outcome) (stale : Option ℕ) (next : ℕ) → is_answered (answer_decision_by found (is_failed o) stale next) ≡ true → is_some found ≡ true
+answered_open None o stale next is = absurd (cc is)
+answered_open (Some x) o stale next is = refl
 
 -- an answer takes its ticket out of the open tickets
 tickets_after : (decision : AnswerDecision) (t : Ticket) (o : Outcome) (r : DeviceRecord) → (with_reply decision t o r).tickets ≡ without t r.tickets
@@ -165,7 +166,7 @@ tickets_after (answer.Accepted session heard) t (outcome.Success j) r = refl
 answer_in_step : (t u : Ticket) (o : Outcome) (r : DeviceRecord) (b c : Bool) → same_ticket t u ≡ b → is_answered (answer_decision r u o) ≡ c →
     cond (b && c) 1 0 + open_count t (without u r.tickets) ≤ 0 + open_count t r.tickets
 answer_in_step t u o r true true same is =
-    let open_one : is_some (ticket_in r u) ≡ true = answered_open (ticket_in r u) o (spent_in r u) r.next_session is in
+    let open_one : is_some (ticket_in r u) ≡ true = answered_open (ticket_in r u) o (nonce_at_or_above r u) r.next_session is in
     let fewer = count_without t u r.tickets open_one in
     let one : cond {A = ℕ} (same_ticket t u) 1 0 ≡ 1 = ap (λ b. cond {A = ℕ} b 1 0) same in
     omega (arith, fewer, one)
@@ -176,6 +177,7 @@ in_step : (t : Ticket) (c : StateCall) (r : DeviceRecord) → InStep t c r
 unfolding InStep
 in_step t (Ask u heard) r = (let more = ask_in_step t u heard r (join_decision r u) in omega (arith, more))
 in_step t (Open session counter) r = omega arith
+in_step t (OpenAgain session counter) r = omega arith
 in_step t (NextAck session) r = omega arith
 in_step t (Answer u o) r =
     let less = answer_in_step t u o r (same_ticket t u) (is_answered (answer_decision r u o)) refl refl in

@@ -8,12 +8,12 @@ use Rattle.std.proofs.lemmas.Bool.Decides.{nat_tests}
 use Rattle.ns_calls.specs.History.{first_and_other}
 use Rattle.ns_calls.proofs.LocalLemmas.{bool_tells}
 use Rattle.ns_sessions.specs.declared.session.Session.{Session}
-use Rattle.ns_sessions.specs.Record.{sessions_after_uplink, session_after_ack, sessions_after_ack}
+use Rattle.ns_sessions.specs.Record.{sessions_after_uplink, change_session}
 use Rattle.ns_sessions.proofs.Sessions.{Numbered, AreApart, same_on, others_same}
 use Rattle.ns_sessions.proofs.Basics.{or_last}
 
 abbrev pub with_counter : ℕ → Session → Session
-with_counter counter s = record s { greatest_counter = Some counter }
+with_counter counter s = record s { greatest_counter = Some counter; round = 1 }
 
 -- the numbers from this one on
 abbrev pub from : ℕ → List ℕ → List ℕ
@@ -88,38 +88,38 @@ live_opened (Some x) (Some y) s lives =
     kept true here = ap (λ b. cond {A = List ℕ} b (x ∷ []) []) here
     kept false here = ap (λ b. cond {A = List ℕ} b (x ∷ y ∷ []) (from s (y ∷ []))) here
 
--- a closing with a number in session s
-pub acknowledged_in : (f g : ℕ → Option Session) (s : ℕ) → Numbered f → ((n : ℕ) → (n == s) ≡ false → f n ≡ g n) → g s ≡ option_map session_after_ack (f s) →
-    (xs : List ℕ) → AreApart xs → filter_map g xs ≡ sessions_after_ack s (filter_map f xs)
-acknowledged_in f g s numbered same now [] apart = refl
-acknowledged_in f g s numbered same now (x ∷ xs) apart =
+-- a change of session s
+pub changed_in : (change : Session → Session) (f g : ℕ → Option Session) (s : ℕ) → Numbered f → ((n : ℕ) → (n == s) ≡ false → f n ≡ g n) → g s ≡ option_map change (f s) →
+    (xs : List ℕ) → AreApart xs → filter_map g xs ≡ change_session s change (filter_map f xs)
+changed_in change f g s numbered same now [] apart = refl
+changed_in change f g s numbered same now (x ∷ xs) apart =
     let after : List Session = filter_map f xs in
     elim (bool_tells (x == s)) [
       | inl here ↦
           (let is : x ≡ s = grind (arith, nat_tests) in
           let others : AllByRecursion (λ n. (n == s) ≡ false) xs = subst (λ m. AllByRecursion (λ n. (n == m) ≡ false) xs) is apart.0 in
           let rest : filter_map g xs ≡ after = sym (same_on f g xs (others_same f g s same xs others)) in
-          let used : g x ≡ option_map session_after_ack (f x) = ap g is ∙ (now ∙ ap (λ n. option_map session_after_ack (f n)) (sym is)) in
+          let used : g x ≡ option_map change (f x) = ap g is ∙ (now ∙ ap (λ n. option_map change (f n)) (sym is)) in
           ap (λ ys. cons_option (g x) ys) rest ∙ (ap (λ o. cons_option o after) used ∙ hit (f x) (numbered x) here (none_there xs others)))
-      | inr there ↦ ap (λ ys. cons_option (g x) ys) (acknowledged_in f g s numbered same now xs apart.1) ∙ (ap (λ o. cons_option o (sessions_after_ack s after)) (sym (same x there)) ∙ missed (f x) (numbered x) there)
+      | inr there ↦ ap (λ ys. cons_option (g x) ys) (changed_in change f g s numbered same now xs apart.1) ∙ (ap (λ o. cons_option o (change_session s change after)) (sym (same x there)) ∙ missed (f x) (numbered x) there)
     ]
   where
-    missed : (o : Option Session) → IfSome o (λ y. y.number ≡ x) → (x == s) ≡ false → cons_option o (sessions_after_ack s (filter_map f xs)) ≡ sessions_after_ack s (cons_option o (filter_map f xs))
+    missed : (o : Option Session) → IfSome o (λ y. y.number ≡ x) → (x == s) ≡ false → cons_option o (change_session s change (filter_map f xs)) ≡ change_session s change (cons_option o (filter_map f xs))
     missed None number differs = refl
-    missed (Some y) number differs = sym (ap (λ b. cond {A = List Session} b (session_after_ack y ∷ filter_map f xs) (y ∷ sessions_after_ack s (filter_map f xs))) (number_test s x y false number differs))
+    missed (Some y) number differs = sym (ap (λ b. cond {A = List Session} b (change y ∷ filter_map f xs) (y ∷ change_session s change (filter_map f xs))) (number_test s x y false number differs))
 
-    hit : (o : Option Session) → IfSome o (λ y. y.number ≡ x) → (x == s) ≡ true → sessions_after_ack s (filter_map f xs) ≡ filter_map f xs → cons_option (option_map session_after_ack o) (filter_map f xs) ≡ sessions_after_ack s (cons_option o (filter_map f xs))
+    hit : (o : Option Session) → IfSome o (λ y. y.number ≡ x) → (x == s) ≡ true → change_session s change (filter_map f xs) ≡ filter_map f xs → cons_option (option_map change o) (filter_map f xs) ≡ change_session s change (cons_option o (filter_map f xs))
     hit None number here none = sym none
-    hit (Some y) number here none = sym (ap (λ b. cond {A = List Session} b (session_after_ack y ∷ filter_map f xs) (y ∷ sessions_after_ack s (filter_map f xs))) (number_test s x y true number here))
+    hit (Some y) number here none = sym (ap (λ b. cond {A = List Session} b (change y ∷ filter_map f xs) (y ∷ change_session s change (filter_map f xs))) (number_test s x y true number here))
 
-    none_there : (ys : List ℕ) → AllByRecursion (λ n. (n == s) ≡ false) ys → sessions_after_ack s (filter_map f ys) ≡ filter_map f ys
+    none_there : (ys : List ℕ) → AllByRecursion (λ n. (n == s) ≡ false) ys → change_session s change (filter_map f ys) ≡ filter_map f ys
     none_there [] others = refl
     none_there (y ∷ ys) others = other_one y (f y) (numbered y) others.0 (filter_map f ys) (none_there ys others.1)
       where
-        other_one : (y : ℕ) (o : Option Session) → IfSome o (λ z. z.number ≡ y) → (y == s) ≡ false → (rest : List Session) → sessions_after_ack s rest ≡ rest → sessions_after_ack s (cons_option o rest) ≡ cons_option o rest
+        other_one : (y : ℕ) (o : Option Session) → IfSome o (λ z. z.number ≡ y) → (y == s) ≡ false → (rest : List Session) → change_session s change rest ≡ rest → change_session s change (cons_option o rest) ≡ cons_option o rest
         other_one y None number differs rest later = later
         other_one y (Some z) number differs rest later =
-            ap (λ b. cond {A = List Session} b (session_after_ack z ∷ rest) (z ∷ sessions_after_ack s rest)) (number_test s y z false number differs) ∙ ap (λ zs. z ∷ zs) later
+            ap (λ b. cond {A = List Session} b (change z ∷ rest) (z ∷ change_session s change rest)) (number_test s y z false number differs) ∙ ap (λ zs. z ∷ zs) later
 
 -- ---- a join that is accepted
 

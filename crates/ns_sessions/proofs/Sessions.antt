@@ -28,11 +28,12 @@ greatest_ack_by closed n = maximum (filter_map (λ (c : Closing). c.ack) (filter
 abbrev pub next_ack_by : Option ℕ → ℕ
 next_ack_by greatest = unwrap_or (option_map (λ m. m + 1) greatest) 0
 
-abbrev pub session_of : ℕ → Option ℕ → ℕ → JoinAns → Session
-session_of n counter ack join = record { number = n; nwk = join.nwk; app = join.app; greatest_counter = counter; next_ack = ack }
+abbrev pub session_of : ℕ → Option ℕ → ℕ → ℕ → JoinAns → Session
+session_of n counter round ack join = record { number = n; nwk = join.nwk; app = join.app; greatest_counter = counter; round = round; next_ack = ack }
 
-abbrev pub session_by : List Acceptance → List Opening → List Closing → ℕ → Option Session
-session_by accepted opened closed n = option_map (session_of n (counter_by opened n) (next_ack_by (greatest_ack_by closed n))) (join_by accepted n)
+-- rounds says the last round of each session's greatest counter
+abbrev pub session_by : List Acceptance → List Opening → (ℕ → ℕ) → List Closing → ℕ → Option Session
+session_by accepted opened rounds closed n = option_map (session_of n (counter_by opened n) (rounds n) (next_ack_by (greatest_ack_by closed n))) (join_by accepted n)
 
 abbrev pub active_by : List Opening → Option ℕ
 active_by opened = option_map (λ (o : Opening). o.window.session) (last opened)
@@ -40,8 +41,8 @@ active_by opened = option_map (λ (o : Opening). o.window.session) (last opened)
 abbrev pub newest_by : List Acceptance → Option ℕ
 newest_by accepted = option_map (λ (a : Acceptance). a.session) (last accepted)
 
-abbrev pub sessions_by : List Acceptance → List Opening → List Closing → List Session
-sessions_by accepted opened closed = filter_map (session_by accepted opened closed) (first_and_other (active_by opened) (newest_by accepted))
+abbrev pub sessions_by : List Acceptance → List Opening → (ℕ → ℕ) → List Closing → List Session
+sessions_by accepted opened rounds closed = filter_map (session_by accepted opened rounds closed) (first_and_other (active_by opened) (newest_by accepted))
 
 -- ---- one more element
 
@@ -98,10 +99,10 @@ join-push joins a n =
 abbrev pub Numbered : (ℕ → Option Session) → Type 0
 Numbered f = (n : ℕ) → IfSome (f n) (λ s. s.number ≡ n)
 
-pub session_by-numbered : (joins : List Acceptance) (os : List Opening) (cs : List Closing) → Numbered (session_by joins os cs)
-session_by-numbered joins os cs n = step (join_by joins n)
+pub session_by-numbered : (joins : List Acceptance) (os : List Opening) (rs : ℕ → ℕ) (cs : List Closing) → Numbered (session_by joins os rs cs)
+session_by-numbered joins os rs cs n = step (join_by joins n)
   where
-    step : (o : Option JoinAns) → IfSome (option_map (session_of n (counter_by os n) (next_ack_by (greatest_ack_by cs n))) o) (λ s. s.number ≡ n)
+    step : (o : Option JoinAns) → IfSome (option_map (session_of n (counter_by os n) (rs n) (next_ack_by (greatest_ack_by cs n))) o) (λ s. s.number ≡ n)
     step None = tt
     step (Some join) = refl
 

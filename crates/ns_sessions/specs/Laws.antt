@@ -1,6 +1,6 @@
 -- What the state of a device has to do with the history of its shard: each call says what the plain server replies, and leaves what
 -- the history says with the new entry.
-use Rattle.std.specs.Prelude.{◌≡◌, ℕ, Bool, true, false, List, [], ◌∷◌, ◌++◌, Option, None, Some, option_map, if◌then◌else◌}
+use Rattle.std.specs.Prelude.{◌≡◌, ◌≤◌, ℕ, Bool, true, false, List, [], ◌∷◌, ◌++◌, Option, None, Some, option_map, if◌then◌else◌}
 use Rattle.ns_types.specs.declared.identity.DevEui.{DevEui}
 use Rattle.ns_types.specs.declared.identity.WindowName.{WindowName}
 use Rattle.ns_types.specs.declared.heard.Heard.{Heard}
@@ -15,24 +15,22 @@ use Rattle.ns_calls.specs.declared.call.Call.TheVariants as call
 use Rattle.ns_calls.specs.declared.call.Reply.{Reply}
 use Rattle.ns_calls.specs.declared.call.Reply.TheVariants as reply
 use Rattle.ns_calls.specs.declared.call.Entry.{Entry}
-use Rattle.ns_calls.specs.History.{Opening, same_device, ticket_copies, last_nonce}
+use Rattle.ns_calls.specs.History.{Opening, same_device, is_live, greatest_counter, last_round, ticket_copies, last_nonce}
 use Rattle.ns_calls.specs.Reply as plain
-use Rattle.ns_calls.specs.Reply.{fit_of, address, ack_number, reply_to_join, reply_to_join_reply}
-use Rattle.ns_calls.specs.Legal.{IsLegal, with_call}
+use Rattle.ns_calls.specs.Reply.{Fit, fit_of, next_round, address, ack_number, reply_to_join, reply_to_join_reply}
+use Rattle.ns_calls.specs.Legal.{IsLegal, entry_of, with_call}
 use Rattle.ns_sessions.specs.declared.decision.JoinDecision.{JoinDecision}
 use Rattle.ns_sessions.specs.declared.decision.JoinDecision.TheVariants as join
 use Rattle.ns_sessions.specs.declared.decision.AnswerDecision.{AnswerDecision}
 use Rattle.ns_sessions.specs.declared.decision.AnswerDecision.TheVariants as answer
-use Rattle.ns_sessions.specs.Record.{no_joins, device_record, device_fit, session_in, IsNewCounter, with_uplink, ack_in, with_ack, join_decision, with_join, answer_decision, with_reply}
-
-abbrev pub entry_of : ℕ → Call → Reply → Entry
-entry_of number c r = record { number = number; call = c; reply = r }
+use Rattle.ns_sessions.specs.Record.{no_joins, device_record, device_fit, session_in, IsNewCounter, with_uplink, next_round_in, with_round, ack_in, with_ack, join_decision, with_join, answer_decision, with_reply}
 
 -- ---- entries that say nothing of a device
 
 -- whether an entry changes what a history says of a device
 abbrev pub concerns : DevEui → Call → Reply → Bool
 concerns eui (call.Uplink frame heard) (reply.Opened w) = same_device w.eui eui
+concerns eui (call.Uplink frame heard) (reply.Again w) = same_device w.eui eui
 concerns eui (call.Join t heard) (reply.Ask asked) = same_device (dev_eui t) eui
 concerns eui (call.Join t heard) (reply.JoinCopied place) = same_device (dev_eui t) eui
 concerns eui (call.JoinReply t outcome) (reply.Accepted device session addr) = same_device (dev_eui t) eui
@@ -48,12 +46,16 @@ pub record OthersStay : Type 0 where
 
 -- ---- uplinks
 
--- A frame fits where the plain server says, and an uplink that is opened changes the state as `open` does.
+-- A frame fits where the plain server says, and an uplink that is opened changes the state as `open` does. A counter of a live session has
+-- the next round that the plain server says, and an uplink that is opened again changes the state as `open_again` does.
 pub record UplinksAgree (net : Network) (h : List Entry) : Type 0 where
   pub fits : (recover : Option ℕ → ℕ → Option ℕ) (frame : List ℕ) (eui : DevEui) →
       option_map (λ f. fit_of eui f.0 f.1) (device_fit recover frame (device_record net h eui)) ≡ plain.device_fit recover h frame eui
-  pub records : (number : ℕ) (frame : List ℕ) (heard : Heard) (w : WindowName) → IsNewCounter (session_in (device_record net h w.eui) w.session) w.fcnt →
+  pub records : IsLegal net h → (number : ℕ) (frame : List ℕ) (heard : Heard) (w : WindowName) → w.round ≡ 1 → IsNewCounter (session_in (device_record net h w.eui) w.session) w.fcnt →
       with_uplink w.session w.fcnt (device_record net h w.eui) ≡ device_record net (h ++ entry_of number (call.Uplink frame heard) (reply.Opened w) ∷ []) w.eui
+  pub rounds : IsLegal net h → (f : Fit) → is_live h f.eui f.session ≡ true → next_round_in (device_record net h f.eui) f.session f.counter ≡ next_round h f
+  pub again : (number : ℕ) (frame : List ℕ) (heard : Heard) (w : WindowName) → greatest_counter h w.eui w.session ≡ Some w.fcnt → last_round h w ≤ w.round →
+      with_round w.session w.round (device_record net h w.eui) ≡ device_record net (h ++ entry_of number (call.Uplink frame heard) (reply.Again w) ∷ []) w.eui
 
 -- ---- acknowledgements
 
@@ -66,28 +68,28 @@ pub record ClosingsAgree (net : Network) (h : List Entry) : Type 0 where
 -- ---- joins
 
 -- the reply that a decision stands for
-abbrev pub join_reply : Ticket → JoinDecision → Reply
-join_reply t join.Ask = reply.Ask t
-join_reply t (join.Copied place) = reply.JoinCopied place
-join_reply t join.Crowded = reply.JoinCrowded
-join_reply t (join.Old greatest) = reply.NonceOld greatest
-join_reply t join.Busy = reply.JoinBusy
+abbrev pub join_decision_reply : Ticket → JoinDecision → Reply
+join_decision_reply t join.Ask = reply.Ask t
+join_decision_reply t (join.Copied place) = reply.JoinCopied place
+join_decision_reply t join.Crowded = reply.JoinCrowded
+join_decision_reply t (join.Old greatest) = reply.NonceOld greatest
+join_decision_reply t join.Busy = reply.JoinBusy
 
 pub record JoinsAgree (net : Network) (h : List Entry) : Type 0 where
-  pub replies : (t : Ticket) → is_known net (dev_eui t) (join_eui t) ≡ true → join_reply t (join_decision (device_record net h (dev_eui t)) t) ≡ reply_to_join net h t
+  pub replies : (t : Ticket) → is_known net (dev_eui t) (join_eui t) ≡ true → join_decision_reply t (join_decision (device_record net h (dev_eui t)) t) ≡ reply_to_join net h t
   pub records : IsLegal net h → (number : ℕ) (t : Ticket) (heard : Heard) → is_known net (dev_eui t) (join_eui t) ≡ true →
       let r = device_record net h (dev_eui t) in with_join (join_decision r t) t heard r ≡ device_record net (with_call net h number (call.Join t heard)) (dev_eui t)
 
 -- ---- answers of join servers
 
-abbrev pub answer_reply : Network → Ticket → AnswerDecision → Reply
-answer_reply net t answer.NoTicket = reply.NoTicket
-answer_reply net t answer.Refused = reply.JoinRefused
-answer_reply net t (answer.Stale greatest) = reply.JoinStale greatest
-answer_reply net t (answer.Accepted session heard) = reply.Accepted (dev_eui t) session (address net (dev_eui t))
+abbrev pub answer_decision_reply : Network → Ticket → AnswerDecision → Reply
+answer_decision_reply net t answer.NoTicket = reply.NoTicket
+answer_decision_reply net t answer.Refused = reply.JoinRefused
+answer_decision_reply net t (answer.Stale greatest) = reply.JoinStale greatest
+answer_decision_reply net t (answer.Accepted session heard) = reply.Accepted (dev_eui t) session (address net (dev_eui t))
 
 pub record AnswersAgree (net : Network) (h : List Entry) : Type 0 where
-  pub replies : (t : Ticket) (outcome : Outcome) → answer_reply net t (answer_decision (device_record net h (dev_eui t)) t outcome) ≡ reply_to_join_reply net h t outcome
+  pub replies : (t : Ticket) (outcome : Outcome) → answer_decision_reply net t (answer_decision (device_record net h (dev_eui t)) t outcome) ≡ reply_to_join_reply net h t outcome
   pub copies : (t : Ticket) (outcome : Outcome) (session : ℕ) (heard : Heard) →
       answer_decision (device_record net h (dev_eui t)) t outcome ≡ answer.Accepted session heard → best (ticket_copies h t) ≡ Some heard
   pub records : IsLegal net h → (number : ℕ) (t : Ticket) (outcome : Outcome) →

@@ -1,6 +1,6 @@
 -- What the state of one device says, how each call changes it, and what a history says of the device.
 -- (LoRaWAN L2 1.0.4, 4.3.1.5 for counters and 6.2 for joins)
-use Rattle.std.specs.Prelude.{ℕ, ◌+◌, ◌^◌, not, ◌==◌, nat_le, nat_lt, List, [], ◌∷◌, ◌++◌, length, map, filter, filter_map, find, Option, None, Some, option_map, option_and_then, is_some, if◌then◌else◌}
+use Rattle.std.specs.Prelude.{ℕ, ◌+◌, ◌^◌, not, ◌&&◌, ◌==◌, nat_le, nat_lt, List, [], ◌∷◌, ◌++◌, length, map, filter, filter_map, find, Option, None, Some, option_map, option_and_then, is_some, if◌then◌else◌}
 use Rattle.ns_types.specs.declared.identity.DevEui.{DevEui}
 use Rattle.ns_types.specs.declared.heard.Heard.{Heard}
 use Rattle.ns_types.specs.declared.ticket.Ticket.{Ticket}
@@ -13,8 +13,8 @@ use Rattle.ns_calls.specs.declared.call.Outcome.{Outcome}
 use Rattle.ns_calls.specs.declared.call.Outcome.TheVariants.{Success}
 use Rattle.ns_calls.specs.declared.call.Entry.{Entry}
 use Rattle.ns_calls.specs.Queries.{first}
-use Rattle.ns_calls.specs.History.{same_device, same_ticket, greatest_nonce, next_session, session_join, live, greatest_counter, next_ack, open_tickets, ticket_copies}
-use Rattle.ns_calls.specs.Reply.{most_copies, most_tickets, is_failed, fitting_counter}
+use Rattle.ns_calls.specs.History.{same_device, same_ticket, greatest_nonce, next_session, session_join, live, greatest_counter, session_round, next_ack, open_tickets, ticket_copies}
+use Rattle.ns_calls.specs.Reply.{most_copies, most_tickets, at_or_above, is_failed, fitting_counter, is_greatest}
 use Rattle.ns_sessions.specs.declared.session.Session.{Session}
 use Rattle.ns_sessions.specs.declared.ticket.OpenTicket.{OpenTicket}
 use Rattle.ns_sessions.specs.declared.decision.JoinDecision.{JoinDecision}
@@ -56,10 +56,31 @@ IsNewCounter (Some s) counter = Exceeds s.greatest_counter counter
 -- an uplink is opened in a session: the sessions before it end
 abbrev pub sessions_after_uplink : ℕ → ℕ → List Session → List Session
 sessions_after_uplink number counter [] = []
-sessions_after_uplink number counter (s ∷ sessions) = if s.number == number then (record s { greatest_counter = Some counter }) ∷ sessions else sessions_after_uplink number counter sessions
+sessions_after_uplink number counter (s ∷ sessions) = if s.number == number then (record s { greatest_counter = Some counter; round = 1 }) ∷ sessions else sessions_after_uplink number counter sessions
 
 abbrev pub with_uplink : ℕ → ℕ → DeviceRecord → DeviceRecord
 with_uplink number counter r = record r { sessions = sessions_after_uplink number counter r.sessions }
+
+-- ---- rounds
+
+-- the next round of a session's greatest counter, where there is one of 32 bits
+abbrev pub session_next_round : ℕ → Session → Option ℕ
+session_next_round counter s = when (is_greatest s.greatest_counter counter && nat_lt (s.round + 1) (2 ^ 32)) (s.round + 1)
+
+abbrev pub next_round_in : DeviceRecord → ℕ → ℕ → Option ℕ
+next_round_in r number counter = option_and_then (session_next_round counter) (session_in r number)
+
+-- a change of the live session of this number
+abbrev pub change_session : ℕ → (Session → Session) → List Session → List Session
+change_session number change [] = []
+change_session number change (s ∷ sessions) = if s.number == number then change s ∷ sessions else s ∷ change_session number change sessions
+
+-- a window of this round is opened for the greatest counter of a session
+abbrev pub session_in_round : ℕ → Session → Session
+session_in_round round s = record s { round = round }
+
+abbrev pub with_round : ℕ → ℕ → DeviceRecord → DeviceRecord
+with_round number round r = record r { sessions = change_session number (session_in_round round) r.sessions }
 
 -- ---- acknowledgements
 
@@ -74,18 +95,14 @@ ack_in r number = option_and_then session_ack (session_in r number)
 abbrev pub session_after_ack : Session → Session
 session_after_ack s = if nat_lt s.next_ack (2 ^ 32) then record s { next_ack = s.next_ack + 1 } else s
 
-abbrev pub sessions_after_ack : ℕ → List Session → List Session
-sessions_after_ack number [] = []
-sessions_after_ack number (s ∷ sessions) = if s.number == number then session_after_ack s ∷ sessions else s ∷ sessions_after_ack number sessions
-
 abbrev pub with_ack : ℕ → DeviceRecord → DeviceRecord
-with_ack number r = record r { sessions = sessions_after_ack number r.sessions }
+with_ack number r = record r { sessions = change_session number session_after_ack r.sessions }
 
 -- ---- joins
 
 -- the greatest nonce, where the ticket's is at most that
-abbrev pub spent_in : DeviceRecord → Ticket → Option ℕ
-spent_in r t = option_and_then (λ g. when (nat_le (nonce t).0 g) g) r.greatest_nonce
+abbrev pub nonce_at_or_above : DeviceRecord → Ticket → Option ℕ
+nonce_at_or_above r t = at_or_above r.greatest_nonce (nonce t).0
 
 -- the open ticket of equal bytes
 abbrev pub ticket_among : Ticket → List OpenTicket → Option OpenTicket
@@ -101,7 +118,7 @@ copy_decision o = let place = o.copies.count + 1 in if nat_le place most_copies 
 -- what comes of a Join-Request
 abbrev pub join_decision : DeviceRecord → Ticket → JoinDecision
 join_decision r t = first_case (
-    option_map (λ g. join.Old (record { 0 = g })) (spent_in r t)
+    option_map (λ g. join.Old (record { 0 = g })) (nonce_at_or_above r t)
     ∷ option_map copy_decision (ticket_in r t)
     ∷ when (nat_le most_tickets (length r.tickets)) join.Busy
     ∷ []) join.Ask
@@ -138,7 +155,7 @@ abbrev pub answer_decision : DeviceRecord → Ticket → Outcome → AnswerDecis
 answer_decision r t outcome = first_case (
     when (not (is_some (ticket_in r t))) reply.NoTicket
     ∷ when (is_failed outcome) reply.Refused
-    ∷ option_map (λ g. reply.Stale (record { 0 = g })) (spent_in r t)
+    ∷ option_map (λ g. reply.Stale (record { 0 = g })) (nonce_at_or_above r t)
     ∷ option_map (λ heard. reply.Accepted r.next_session heard) (best_in r t)
     ∷ []) reply.NoTicket
 
@@ -148,7 +165,7 @@ without t (o ∷ tickets) = if same_ticket t o.ticket then tickets else o ∷ wi
 
 -- a session in which nothing was opened yet
 abbrev pub new_session : ℕ → JoinAns → Session
-new_session number join_ans = record { number = number; nwk = join_ans.nwk; app = join_ans.app; greatest_counter = None; next_ack = 0 }
+new_session number join_ans = record { number = number; nwk = join_ans.nwk; app = join_ans.app; greatest_counter = None; round = 0; next_ack = 0 }
 
 -- a join is accepted: the session in which nothing was opened ends
 abbrev pub after_acceptance : ℕ → JoinAns → DeviceRecord → DeviceRecord
@@ -169,7 +186,7 @@ with_reply decision t outcome r = with_session decision t outcome (record r { ti
 
 abbrev pub session_record : List Entry → DevEui → ℕ → Option Session
 session_record h eui number =
-    option_map (λ join_ans. record { number = number; nwk = join_ans.nwk; app = join_ans.app; greatest_counter = greatest_counter h eui number; next_ack = next_ack h eui number })
+    option_map (λ join_ans. record { number = number; nwk = join_ans.nwk; app = join_ans.app; greatest_counter = greatest_counter h eui number; round = session_round h eui number; next_ack = next_ack h eui number })
     (session_join h eui number)
 
 abbrev pub ticket_record : List Entry → Ticket → OpenTicket

@@ -12,13 +12,14 @@ use Rattle.ns_sessions.specs.declared.decision.JoinDecision.{JoinDecision}
 use Rattle.ns_sessions.specs.declared.decision.JoinDecision.TheVariants as join
 use Rattle.ns_sessions.specs.declared.decision.AnswerDecision.{AnswerDecision}
 use Rattle.ns_sessions.specs.declared.decision.AnswerDecision.TheVariants as answer
-use Rattle.ns_sessions.specs.Record.{DeviceRecord, no_joins, with_uplink, with_ack, join_decision, with_join, answer_decision, with_reply}
+use Rattle.ns_sessions.specs.Record.{DeviceRecord, no_joins, with_uplink, with_round, with_ack, join_decision, with_join, answer_decision, with_reply}
 
 -- the calls that change a state
 pub data StateCall : Type 0 where
   Ask : Ticket → Heard → StateCall
   Answer : Ticket → Outcome → StateCall
   Open : ℕ → ℕ → StateCall
+  OpenAgain : ℕ → ℕ → StateCall
   NextAck : ℕ → StateCall
 
 -- what a call leaves
@@ -26,6 +27,7 @@ abbrev pub after_call : StateCall → DeviceRecord → DeviceRecord
 after_call (Ask t heard) r = with_join (join_decision r t) t heard r
 after_call (Answer t outcome) r = with_reply (answer_decision r t outcome) t outcome r
 after_call (Open session counter) r = with_uplink session counter r
+after_call (OpenAgain session round) r = with_round session round r
 after_call (NextAck session) r = with_ack session r
 
 -- the nonce of a join that is accepted

@@ -1,16 +1,18 @@
 //! The state of one device.
 
-ghost use Rattle.std.specs.Prelude.{◌≡◌, IfSome, IfNone, option_map};
+ghost use Rattle.std.specs.Prelude.{◌≡◌, ◌<◌, IfSome, IfNone, option_map, is_some};
+ghost use Rattle.std.specs.List.{list_any};
 ghost use Rattle.ns_types.specs.Ticket.{nonce};
 ghost use Rattle.ns_secure.specs.Counter.{Exceeds};
+ghost use Rattle.ns_calls.specs.History.{same_ticket};
 ghost use Rattle.ns_sessions.specs.declared.recovery.Recovery.TheVariants.{Above};
 ghost use Rattle.ns_sessions.specs.Recovery.{recovery_counter};
-ghost use Rattle.ns_sessions.specs.Record.{no_joins, session_in, device_fit, IsNewCounter, with_uplink, ack_in, with_ack, spent_in, join_decision, with_join, after_acceptance, answer_decision, with_reply};
+ghost use Rattle.ns_sessions.specs.Record.{no_joins, session_in, device_fit, IsNewCounter, with_uplink, next_round_in, with_round, ack_in, with_ack, nonce_at_or_above, join_decision, with_join, after_acceptance, answer_decision, with_reply};
 
 use crate::decision::{AnswerDecision, JoinDecision};
 use crate::recovery::Recovery;
 use crate::session::Session;
-use crate::ticket::{OpenTicket, add_copy, remove_ticket};
+use crate::ticket::{OpenTicket, add_copy, has_ticket, remove_ticket};
 use arrayvec::ArrayVec;
 use ns_calls::{JoinAns, MOST_TICKETS, Outcome};
 use ns_types::{DevNonce, Heard, Key, Ticket};
@@ -73,6 +75,20 @@ impl DeviceState {
         Some((live.nwk, live.app))
     }
 
+    /// Whether a session lives.
+    pub fn is_live(&self, session: u32) -> bool
+        ensures { result ≡ is_some (session_in self.now session) }
+    {
+        self.session(session).is_some()
+    }
+
+    /// Whether a ticket is open.
+    pub fn is_open(&self, ticket: &Ticket) -> bool
+        ensures { result ≡ list_any (λ o. same_ticket ticket.now o.ticket) self.now.tickets }
+    {
+        has_ticket(self.tickets.as_slice(), ticket)
+    }
+
     /// The live session of a number.
     fn session(&self, number: u32) -> Option<Session>
         ensures { result ≡ session_in self.now number }
@@ -98,15 +114,42 @@ impl DeviceState {
         if let Some(active) = &mut self.active {
             if active.number == session {
                 active.greatest_counter = Some(fcnt);
+                active.round = 1;
                 return;
             }
         }
         if let Some(pending) = self.pending {
             self.active = Some(Session {
                 greatest_counter: Some(fcnt),
+                round: 1,
                 ..pending
             });
             self.pending = None;
+        }
+    }
+
+    /// The round in which an uplink may be opened again: one more than its last, where its counter is the greatest of a live session.
+    pub fn next_round(&self, session: u32, counter: u32) -> Option<u32>
+        ensures is { result ≡ next_round_in self.now session counter }
+        ensures above { IfSome result (λ round. 0 < round) }
+    {
+        self.session(session)?.next_round(counter)
+    }
+
+    /// Opens the uplink with the greatest counter of a session again, in this round.
+    pub fn open_again(&mut self, session: u32, round: u32)
+        ensures { self.new ≡ with_round session round self.old }
+    {
+        if let Some(active) = &mut self.active {
+            if active.number == session {
+                active.round = round;
+                return;
+            }
+        }
+        if let Some(pending) = &mut self.pending {
+            if pending.number == session {
+                pending.round = round;
+            }
         }
     }
 
@@ -129,8 +172,8 @@ impl DeviceState {
     }
 
     /// The greatest nonce, where the ticket's is at most that.
-    fn spent(&self, ticket: &Ticket) -> Option<DevNonce>
-        ensures spent { option_map (λ n. n.0) result ≡ spent_in self.now ticket.now }
+    fn nonce_at_or_above(&self, ticket: &Ticket) -> Option<DevNonce>
+        ensures nonce_at_or_above { option_map (λ n. n.0) result ≡ nonce_at_or_above self.now ticket.now }
         ensures unspent { IfNone result (Exceeds self.now.greatest_nonce (nonce ticket.now).0) }
     {
         match self.greatest_nonce {
@@ -144,7 +187,7 @@ impl DeviceState {
         ensures decision { result ≡ join_decision self.old ticket.now }
         ensures record { self.new ≡ with_join result ticket.now heard.now self.old }
     {
-        if let Some(greatest) = self.spent(ticket) {
+        if let Some(greatest) = self.nonce_at_or_above(ticket) {
             return JoinDecision::Old(greatest);
         }
         if let Some(decision) = add_copy(self.tickets.as_mut_slice(), ticket, heard) {
@@ -168,7 +211,7 @@ impl DeviceState {
         let Outcome::Success(join) = outcome else {
             return AnswerDecision::Refused;
         };
-        if let Some(greatest) = self.spent(ticket) {
+        if let Some(greatest) = self.nonce_at_or_above(ticket) {
             return AnswerDecision::Stale(greatest);
         }
         AnswerDecision::Accepted {

@@ -1,8 +1,8 @@
 //! One live session.
 
-ghost use Rattle.std.specs.Prelude.{◌≡◌};
+ghost use Rattle.std.specs.Prelude.{◌≡◌, ◌<◌, IfSome};
 ghost use Rattle.ns_sessions.specs.Recovery.{recovery_counter};
-ghost use Rattle.ns_sessions.specs.Record.{session_fit, session_ack, session_after_ack, new_session};
+ghost use Rattle.ns_sessions.specs.Record.{session_fit, session_next_round, session_ack, session_after_ack, new_session};
 
 use crate::recovery::Recovery;
 use ns_calls::JoinAns;
@@ -19,6 +19,8 @@ pub struct Session {
     pub app: Option<Key>,
     /// The greatest counter opened in it.
     pub greatest_counter: Option<u32>,
+    /// The last round of that counter, 0 where there is none.
+    pub round: u32,
     /// The number of the next acknowledgement. From 2^32 on there is none.
     pub next_ack: u64,
 }
@@ -33,6 +35,7 @@ impl Session {
             nwk: join.nwk,
             app: join.app,
             greatest_counter: None,
+            round: 0,
             next_ack: 0,
         }
     }
@@ -46,6 +49,17 @@ impl Session {
             Some((self.number, counter))
         } else {
             None
+        }
+    }
+
+    /// The next round of the greatest counter, where it is this one.
+    pub(crate) fn next_round(&self, counter: u32) -> Option<u32>
+        ensures is { result ≡ session_next_round counter self.now }
+        ensures above { IfSome result (λ round. 0 < round) }
+    {
+        match self.greatest_counter {
+            Some(greatest) if greatest == counter => self.round.checked_add(1),
+            _ => None,
         }
     }
 

@@ -176,3 +176,27 @@ fn two_sessions(rt: HostRuntime) -> Result<(), Fail> {
     assert_eq!(rt; state.next_ack(2), Some(1));
     Ok(())
 }
+
+/// The uplink with a session's greatest counter has a next round, and no other has.
+#[test]
+fn rounds_of_the_greatest_counter(rt: HostRuntime) -> Result<(), Fail> {
+    let mut state = DeviceState::new(None);
+    let copy = heard(0xa1, 1_000_000, 75);
+    let PhyView::Frame(frame) = view(&FRAME).map_err(|_| "refused")? else {
+        return Err("no data frame".into());
+    };
+    state.ask(&request(1), &copy);
+    state.answer(&request(1), &success(None));
+    assert_eq!(rt; state.next_round(1, 2), None);
+    assert_eq!(rt; open(&mut state, &frame), Some((1, 2)));
+    assert_eq!(rt; state.next_round(1, 2), Some(2));
+    assert_eq!(rt; state.next_round(1, 1), None);
+    assert_eq!(rt; state.next_round(2, 2), None);
+    state.open_again(1, 2);
+    assert_eq!(rt; state.next_round(1, 2), Some(3));
+    state.open_again(1, 0xffff_fffe);
+    assert_eq!(rt; state.next_round(1, 2), Some(0xffff_ffff));
+    state.open_again(1, 0xffff_ffff);
+    assert_eq!(rt; state.next_round(1, 2), None);
+    Ok(())
+}

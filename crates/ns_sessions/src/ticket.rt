@@ -1,6 +1,7 @@
 //! One open ticket and its copies.
 
 ghost use Rattle.std.specs.Prelude.{◌≡◌, ◌<◌, ◌≤◌, [], ◌∷◌, Some, length, position, IfSome, IfNone, option_map};
+ghost use Rattle.std.specs.List.{list_any};
 ghost use Rattle.ns_calls.specs.History.{same_ticket};
 ghost use Rattle.ns_calls.specs.Reply.{most_copies};
 ghost use Rattle.ns_sessions.specs.Copies.{copies_record, with_one_more};
@@ -118,6 +119,13 @@ fn place_of(tickets: &[OpenTicket], ticket: &Ticket) -> Option<usize>
     ensures within { IfSome result (λ i. i < length tickets.now) }
 {
     tickets.iter().position(|open| *ticket == open.ticket)
+}
+
+/// Whether there is a ticket of equal bytes.
+pub(crate) fn has_ticket(tickets: &[OpenTicket], ticket: &Ticket) -> bool
+    ensures { result ≡ list_any (λ o. same_ticket ticket.now o.ticket) tickets.now }
+{
+    tickets.iter().any(|open| *ticket == open.ticket)
 }
 
 /// Adds a copy to the ticket of equal bytes, where there is one.

@@ -1,7 +1,7 @@
 -- What comes of a join server's answer by the devices that agree with the entries, and that they agree after it.
-use Rattle.std.proofs.Common.{◌≡◌, ℕ, Bool, true, false, not, List, length, filter, Option, None, Some, IfSome, option_map, option_to_list, refl, sym, ap, ap₂, subst, ◌∙◌, inl, inr}
+use Rattle.std.proofs.Common.{◌≡◌, ℕ, true, false, not, List, length, Option, None, Some, IfSome, option_map, refl, sym, ap, ap₂, subst, ◌∙◌, inl, inr}
 use Rattle.std.specs.Prelude.{IsSome}
-use Rattle.std.specs.List.{AllByRecursion, list_any}
+use Rattle.std.specs.List.{AllByRecursion}
 use Rattle.std.specs.Option.{option_map_or}
 use Rattle.ns_types.specs.declared.identity.DevAddr.{DevAddr}
 use Rattle.ns_types.specs.declared.identity.DevEui.{DevEui}
@@ -25,11 +25,11 @@ use Rattle.ns_calls.specs.declared.call.Entry.{Entry}
 use Rattle.ns_calls.specs.declared.answer.Answer.{Answer}
 use Rattle.ns_calls.specs.Accept.{accept_bytes}
 use Rattle.ns_calls.specs.History.{same_device, asking_in, ends_ticket, open_tickets, is_ticket_open, ticket_copies, next_session}
-use Rattle.ns_calls.specs.Reply.{reply_to, reply_to_join, reply_to_join_reply, address, spent_by, is_failed}
+use Rattle.ns_calls.specs.Reply.{reply_to, reply_to_join, reply_to_join_reply, address, nonce_at_or_above, is_failed}
 use Rattle.ns_calls.specs.Out.{answer, uplink_out, downlink_out, downlink_to, join_accept_delay}
 use Rattle.ns_calls.specs.Legal.{IsLegal, entry_for, with_call}
 use Rattle.ns_calls.proofs.LocalLemmas.{bool_tells}
-use Rattle.ns_calls.proofs.Lists.{All-append, All-filter}
+use Rattle.ns_calls.proofs.Lists.{All-after}
 use Rattle.ns_calls.proofs.PushLemmas.{open_tickets-push}
 use Rattle.ns_calls.proofs.LegalLemmas.{history_more}
 use Rattle.ns_calls.proofs.Induction.{legal_induction}
@@ -37,15 +37,17 @@ use Rattle.ns_calls.proofs.JoinLemmas.{join_reply_by}
 use Rattle.ns_sessions.specs.declared.decision.AnswerDecision.{AnswerDecision}
 use Rattle.ns_sessions.specs.declared.decision.AnswerDecision.TheVariants as decision
 use Rattle.ns_sessions.specs.Record.{device_record, answer_decision}
-use Rattle.ns_sessions.specs.Laws.{OthersStay, AnswersAgree, concerns, answer_reply}
+use Rattle.ns_sessions.specs.Laws.{OthersStay, AnswersAgree, concerns, answer_decision_reply}
 use Rattle.ns_sessions.proofs.OpenTickets.{at_member}
 use Rattle.ns_windows.specs.declared.window.Window.{Window}
-use Rattle.ns_shard.specs.declared.devices.Own.{Own}
-use Rattle.ns_shard.specs.Devices.{own_in, own_of, changed, after_answer}
+use Rattle.ns_devices.specs.declared.own.Own.{Own}
+use Rattle.ns_shard.specs.Private.Devices.{own_in}
+use Rattle.ns_devices.specs.Devices.{own_of, with_change_of, after_answer}
 use Rattle.ns_shard.specs.declared.event.Event.TheVariants.{Quiet}
-use Rattle.ns_shard.specs.Sending.{quiet, answer_of}
-use Rattle.ns_shard.specs.Reaction.{answer_event, own_answer_event, shard_answer_event}
-use Rattle.ns_shard.specs.Parts.{Agrees}
+use Rattle.ns_shard.specs.State.{quiet}
+use Rattle.ns_shard.specs.Private.Sending.{answer_of}
+use Rattle.ns_shard.specs.Private.Reaction.{answer_event, own_answer_event, shard_answer_event}
+use Rattle.ns_shard.specs.Private.Parts.{Agrees}
 use Rattle.ns_shard.proofs.Roster.{own-found}
 use Rattle.ns_shard.proofs.DeviceSteps.{devices-changed}
 use Rattle.ns_shard.proofs.WindowSteps.{windows-quiet}
@@ -79,7 +81,7 @@ tickets_step : (net : Network) → IsRoster net → (h : List Entry) (number : �
 unfolding TicketsKnown
 tickets_step net valid h number c known =
     subst (AllByRecursion Known) (sym (open_tickets-push h e))
-    (All-append Known (filter stays (open_tickets h)) (option_to_list (asking_in c (reply_to net h c))) (All-filter Known stays (open_tickets h) known) (new (asking_in c (reply_to net h c)) (asked-known net h valid c)))
+    (All-after Known (λ t. not (ends_ticket t e)) (open_tickets h) (asking_in c (reply_to net h c)) known (asked-known net h valid c))
   where
     e : Entry
     e = entry_for net h number c
@@ -87,19 +89,12 @@ tickets_step net valid h number c known =
     Known : Ticket → Type 0
     Known t = IsSome (device net (dev_eui t))
 
-    stays : Ticket → Bool
-    stays t = not (ends_ticket t e)
-
-    new : (o : Option Ticket) → IfSome o Known → AllByRecursion Known (option_to_list o)
-    new None is = tt
-    new (Some t) is = (is, tt)
-
 tickets_known : (net : Network) (h : List Entry) → IsRoster net → IsLegal net h → TicketsKnown net h
 unfolding TicketsKnown
 tickets_known net h valid legal = legal_induction net (TicketsKnown net) tt (λ g number c ok known. tickets_step net valid g number c known) h legal
 
 -- a ticket of an unknown device is not open
-not_open : (net : Network) (h : List Entry) (t : Ticket) → IsRoster net → IsLegal net h → device net (dev_eui t) ≡ None → is_ticket_open h t ≡ false
+pub not_open : (net : Network) (h : List Entry) (t : Ticket) → IsRoster net → IsLegal net h → device net (dev_eui t) ≡ None → is_ticket_open h t ≡ false
 unfolding TicketsKnown
 not_open net h t valid legal none =
     elim (bool_tells (is_ticket_open h t)) [
@@ -109,8 +104,8 @@ not_open net h t valid legal none =
           absurd (cc (subst (λ (o : Option Device). IsSome o) none some)))
     ]
 
-answer-unknown : (net : Network) (h : List Entry) (t : Ticket) (o : Outcome) → is_ticket_open h t ≡ false → reply_to_join_reply net h t o ≡ reply.NoTicket
-answer-unknown net h t o closed = ap (λ b. join_reply_by b (is_failed o) (spent_by net h t) (reply.Accepted (dev_eui t) (next_session h (dev_eui t)) (address net (dev_eui t)))) closed
+pub answer-unknown : (net : Network) (h : List Entry) (t : Ticket) (o : Outcome) → is_ticket_open h t ≡ false → reply_to_join_reply net h t o ≡ reply.NoTicket
+answer-unknown net h t o closed = ap (λ b. join_reply_by b (is_failed o) (nonce_at_or_above net h t) (reply.Accepted (dev_eui t) (next_session h (dev_eui t)) (address net (dev_eui t)))) closed
 
 -- ---- the answer
 
@@ -123,7 +118,7 @@ no_ticket-out net h t outcome.Failed = refl
 no_ticket-out net h t (outcome.Success join) = refl
 
 decision-out : (net : Network) (h : List Entry) (t : Ticket) (o : Outcome) (d : AnswerDecision) → ((session : ℕ) (heard : Heard) → d ≡ decision.Accepted session heard → best (ticket_copies h t) ≡ Some heard) →
-    answer_of net None (answer_event (address net (dev_eui t)) t o d) ≡ answer_with net h t o (answer_reply net t d)
+    answer_of net None (answer_event (address net (dev_eui t)) t o d) ≡ answer_with net h t o (answer_decision_reply net t d)
 decision-out net h t o decision.NoTicket copies = no_ticket-out net h t o
 decision-out net h t outcome.Failed decision.Refused copies = refl
 decision-out net h t (outcome.Success join) decision.Refused copies = refl
@@ -165,12 +160,12 @@ concerns-answer other t o (reply.JoinStale greatest) differs = same_device-false
 concerns-answer other t o _ differs = refl
 
 pub agrees-answer : (net : Network) (index : ℕ) (h : List Entry) (devices : List Own) (windows : List Window) (t : Ticket) (o : Outcome) → Agrees net index h devices windows → OthersStay → AnswersAgree net h → shard_of (dev_eui t) ≡ index →
-    Agrees net index (with_call net h (length h) (call.JoinReply t o)) (changed (dev_eui t) (after_answer t o) devices) windows
+    Agrees net index (with_call net h (length h) (call.JoinReply t o)) (with_change_of (dev_eui t) (after_answer t o) devices) windows
 agrees-answer net index h devices windows t o agrees stay law mine = record {
   valid = agrees.valid;
   history = history_more net index h (call.JoinReply t o) mine agrees.history;
   by_device =
-      ap (changed (dev_eui t) (after_answer t o)) agrees.by_device
+      ap (with_change_of (dev_eui t) (after_answer t o)) agrees.by_device
       ∙ sym (devices-changed net index h (with_call net h (length h) (call.JoinReply t o)) (dev_eui t) (after_answer t o) agrees.valid
       (others-stay net h (length h) (call.JoinReply t o) (dev_eui t) stay (λ other differs. concerns-answer other t o (reply_to_join_reply net h t o) differs))
       (sym (law.records agrees.history.legal (length h) t o)));

@@ -1,14 +1,14 @@
 -- What comes of a closing by the devices and windows that agree with the entries, and that they agree after it.
-use Rattle.std.proofs.Common.{◌≡◌, ℕ, ◌+◌, ◌^◌, ◌==◌, Bool, true, false, not, cond, nat_lt, List, [], ◌∷◌, ◌++◌, length, filter, filter_map, find, Option, None, Some, IfSome, option_map, option_to_list, refl, sym, ap, ap₂, subst, ◌∙◌, inl, inr}
+use Rattle.std.proofs.Common.{◌≡◌, ℕ, ◌+◌, ◌^◌, ◌==◌, Bool, true, false, not, cond, nat_lt, nat_le, List, [], ◌∷◌, ◌++◌, length, find, Option, None, Some, IfSome, option_map, refl, sym, ap, ap₂, subst, ◌∙◌, inl, inr}
 use Rattle.std.specs.Prelude.{IsSome, Contains}
-use Rattle.std.specs.List.{AllByRecursion, cons_option}
+use Rattle.std.specs.List.{AllByRecursion}
 use Rattle.std.specs.Option.{option_and_then}
 use Rattle.ns_types.specs.declared.identity.DevEui.{DevEui}
 use Rattle.ns_types.specs.declared.identity.WindowName.{WindowName}
 use Rattle.ns_types.specs.Cases.{first_case, when}
-use Rattle.ns_types.specs.Identity.{shard_of, same_window}
+use Rattle.ns_types.specs.Identity.{shard_of, same_window, is_first}
 use Rattle.ns_views.specs.Frame.{data_fields, is_confirmed}
-use Rattle.ns_secure.specs.Counter.{above}
+use Rattle.ns_secure.specs.Counter.{above, below}
 use Rattle.ns_roster.specs.declared.Device.{Device}
 use Rattle.ns_roster.specs.Network.{Network, device, device_addr}
 use Rattle.ns_roster.specs.Valid.{IsRoster}
@@ -22,44 +22,37 @@ use Rattle.ns_calls.specs.declared.call.Entry.{Entry}
 use Rattle.ns_calls.specs.declared.answer.Answer.{Answer}
 use Rattle.ns_calls.specs.declared.answer.Uplink.{Uplink}
 use Rattle.ns_calls.specs.declared.answer.Downlink.{Downlink}
-use Rattle.ns_calls.specs.Queries.{first}
-use Rattle.ns_calls.specs.History.{Opening, same_device, opening_in, closes, open_windows, open_window, window_copies, session_join, live, greatest_counter}
+use Rattle.ns_calls.specs.History as history
+use Rattle.ns_calls.specs.History.{Opening, window_count, same_device, closes, open_windows, open_window, window_copies, session_join, live, greatest_counter}
 use Rattle.ns_calls.specs.Reply as plain
-use Rattle.ns_calls.specs.Reply.{reply_to, reply_to_close, ack_number, Fit, fit_of, fitting_counter, devices_at, first_fit, window_with}
-use Rattle.ns_calls.specs.Out.{answer, uplink_of, uplink_out, downlink_out, ack_downlink}
+use Rattle.ns_calls.specs.Reply.{reply_to, reply_to_close, ack_number, Fit, fit_of, window_of, fitting_counter, devices_at, first_fit, window_with, most_copies, most_windows}
+use Rattle.ns_calls.specs.Out.{answer, uplink_of, first_uplink_of, uplink_out, downlink_out, ack_downlink}
 use Rattle.ns_calls.specs.Legal.{IsLegal, entry_for, with_call}
 use Rattle.ns_calls.proofs.LocalLemmas.{bool_tells}
-use Rattle.ns_calls.proofs.Lists.{All-append, All-filter, All-weaker, find-has, first-gives, IfSome-weaker, at_some}
+use Rattle.ns_calls.proofs.Lists.{All-after, All-filter, All-weaker, find-has, first-gives, first-gives_of, IfSome-weaker, at_some}
 use Rattle.ns_calls.proofs.PushLemmas.{open_windows-push}
 use Rattle.ns_calls.proofs.LegalLemmas.{history_more}
 use Rattle.ns_calls.proofs.Induction.{legal_induction}
-use Rattle.ns_calls.proofs.UplinkLemmas.{opened-cases}
-use Rattle.ns_calls.proofs.WindowLemmas.{same_window-eq}
+use Rattle.ns_calls.proofs.UplinkLemmas.{uplink_reply_by, old-has}
+use Rattle.ns_calls.proofs.NameLemmas.{same_window-eq}
 use Rattle.ns_sessions.specs.declared.session.Session.{Session}
-use Rattle.ns_sessions.specs.Record.{DeviceRecord, device_record, ack_in, with_ack, session_ack, session_after_ack, sessions_after_ack}
+use Rattle.ns_sessions.specs.Record.{DeviceRecord, device_record, ack_in, with_ack, session_ack, session_after_ack, change_session}
 use Rattle.ns_sessions.specs.Laws.{OthersStay, ClosingsAgree, concerns}
 use Rattle.ns_windows.specs.declared.window.Window.{Window}
-use Rattle.ns_windows.specs.Windows.{named, without}
-use Rattle.ns_shard.specs.declared.devices.Own.{Own}
-use Rattle.ns_shard.specs.Held.{window_in, windows_in}
-use Rattle.ns_shard.specs.Devices.{own_in, devices_in, own_of, changed}
-use Rattle.ns_shard.specs.Sending.{uplink_from, ack_from, answer_of}
-use Rattle.ns_shard.specs.Reaction.{ack_of, close_event, with_closing}
-use Rattle.ns_shard.specs.Parts.{Agrees}
+use Rattle.ns_windows.specs.Windows.{window_named, without}
+use Rattle.ns_devices.specs.declared.own.Own.{Own}
+use Rattle.ns_shard.specs.Private.Held.{window_of_opening, windows_in}
+use Rattle.ns_shard.specs.Private.Devices.{own_in, devices_in}
+use Rattle.ns_devices.specs.Devices.{own_of, with_change_of}
+use Rattle.ns_shard.specs.Private.Sending.{uplink_from, first_uplink_from, ack_from, answer_of}
+use Rattle.ns_shard.specs.Private.Reaction.{ack_of, close_event, with_closing}
+use Rattle.ns_shard.specs.Private.Parts.{Agrees}
 use Rattle.ns_shard.proofs.Roster.{own-found, members}
 use Rattle.ns_shard.proofs.DeviceSteps.{devices-changed, devices-same}
 use Rattle.ns_shard.proofs.WindowSteps.{windows-quiet, windows-closed, windows-named}
 use Rattle.ns_shard.proofs.PartSteps.{joined, others-stay, same_device-false}
 
 -- ---- the devices of open windows are the roster's
-
-pub gives-all : {X Y : Type 0} (P : Y → Type 0) (f : X → Option Y) (xs : List X) → AllByRecursion (λ x. IfSome (f x) P) xs → IfSome (first (filter_map f xs)) P
-gives-all P f [] all = tt
-gives-all {X} {Y} P f (x ∷ xs) all = step (f x) all.0 (gives-all P f xs all.1)
-  where
-    step : (o : Option Y) → IfSome o P → IfSome (first (filter_map f xs)) P → IfSome (first (cons_option o (filter_map f xs))) P
-    step None here later = later
-    step (Some y) here later = here
 
 session_fit-eui : (recover : Option ℕ → ℕ → Option ℕ) (h : List Entry) (frame : List ℕ) (eui : DevEui) (session : ℕ) → IfSome (plain.session_fit recover h frame eui session) (λ f. f.eui ≡ eui)
 session_fit-eui recover h frame eui session = step (option_and_then (λ (join : JoinAns). fitting_counter recover frame join.nwk (greatest_counter h eui session)) (session_join h eui session))
@@ -74,7 +67,7 @@ device_fit-eui recover h frame eui = first-gives (λ (f : Fit). f.eui ≡ eui) (
 -- what fits is of a device of the roster
 pub fit-known : (recover : Option ℕ → ℕ → Option ℕ) (net : Network) (h : List Entry) (frame : List ℕ) → IsRoster net → IfSome (first_fit recover net h frame) (λ f. IsSome (device net f.eui))
 fit-known recover net h frame valid =
-    gives-all Known (λ (d : Device). plain.device_fit recover h frame d.eui) (devices_at net (data_fields frame).addr)
+    first-gives_of Known (λ (d : Device). plain.device_fit recover h frame d.eui) (devices_at net (data_fields frame).addr)
     (All-filter (λ (d : Device). IfSome (plain.device_fit recover h frame d.eui) Known) (λ (d : Device). (device_addr net d).0 == (data_fields frame).addr) net.devices
     (All-weaker (Contains net.devices) (λ (d : Device). IfSome (plain.device_fit recover h frame d.eui) Known) each net.devices (members net)))
   where
@@ -87,15 +80,29 @@ fit-known recover net h frame valid =
         let here : IsSome (device net d.eui) = subst (λ (o : Option Device). IsSome o) (sym found) refl in
         IfSome-weaker (λ (f : Fit). f.eui ≡ d.eui) Known (plain.device_fit recover h frame d.eui) (λ f is. subst (λ (e : DevEui). IsSome (device net e)) (sym is) here) (device_fit-eui recover h frame d.eui)
 
-opened-known : (net : Network) (h : List Entry) → IsRoster net → (c : Call) → IfSome (opening_in c (reply_to net h c)) (λ o. IsSome (device net o.window.eui))
+-- whatever is opened, in any round, is of a device of the roster
+opened-known : (net : Network) (h : List Entry) → IsRoster net → (c : Call) → IfSome (history.window_in c (reply_to net h c)) (λ o. IsSome (device net o.window.eui))
 opened-known net h valid (call.Join t heard) = tt
 opened-known net h valid (call.JoinReply t o) = tt
 opened-known net h valid (call.Close w) = tt
-opened-known net h valid (call.Uplink frame heard) =
-    elim (opened-cases h frame heard (window_with h frame) (first_fit above net h frame) _) [
-      | inl none ↦ subst (λ o. IfSome o (λ x. IsSome (device net x.window.eui))) (sym none) tt
-      | inr found ↦ subst (λ o. IfSome o (λ x. IsSome (device net x.window.eui))) (sym found.3) (at_some (λ (f : Fit). IsSome (device net f.eui)) (first_fit above net h frame) found.0 found.2 (fit-known above net h frame valid))
-    ]
+opened-known net h valid (call.Uplink frame heard) = step (window_with h frame) (first_fit above net h frame) (first_fit below net h frame) (fit-known above net h frame valid) (fit-known below net h frame valid)
+  where
+    Known : Reply → Type 0
+    Known r = IfSome (history.window_in (call.Uplink frame heard) r) (λ o. IsSome (device net o.window.eui))
+
+    copied : (o : Opening) (b : Bool) → Known (cond b (reply.Copied o.window (length (window_copies h o.window) + 1)) (reply.Crowded o.window))
+    copied o true = tt
+    copied o false = tt
+
+    opened : (f : Fit) → IsSome (device net f.eui) → (b : Bool) → Known (cond b (reply.Busy f.eui) (reply.Opened (window_of f)))
+    opened f known true = tt
+    opened f known false = known
+
+    step : (o : Option Opening) (fresh stale : Option Fit) → IfSome fresh (λ f. IsSome (device net f.eui)) → IfSome stale (λ f. IsSome (device net f.eui)) → Known (uplink_reply_by h frame o fresh stale)
+    step (Some o) fresh stale new old = copied o (nat_le (length (window_copies h o.window) + 1) most_copies)
+    step None (Some f) stale new old = opened f new (nat_le most_windows (window_count h f.eui))
+    step None None (Some f) new old = old-has Known h frame f tt tt (λ round is room. old)
+    step None None None new old = tt
 
 WindowsKnown : Network → List Entry → Type 0
 WindowsKnown net h = AllByRecursion (λ o. IsSome (device net o.window.eui)) (open_windows h)
@@ -104,20 +111,13 @@ windows_step : (net : Network) → IsRoster net → (h : List Entry) (number : �
 unfolding WindowsKnown
 windows_step net valid h number c known =
     subst (AllByRecursion Known) (sym (open_windows-push h e))
-    (All-append Known (filter stays (open_windows h)) (option_to_list (opening_in c (reply_to net h c))) (All-filter Known stays (open_windows h) known) (new (opening_in c (reply_to net h c)) (opened-known net h valid c)))
+    (All-after Known (λ o. not (closes o.window e)) (open_windows h) (history.window_in c (reply_to net h c)) known (opened-known net h valid c))
   where
     e : Entry
     e = entry_for net h number c
 
     Known : Opening → Type 0
     Known o = IsSome (device net o.window.eui)
-
-    stays : Opening → Bool
-    stays o = not (closes o.window e)
-
-    new : (o : Option Opening) → IfSome o Known → AllByRecursion Known (option_to_list o)
-    new None is = tt
-    new (Some o) is = (is, tt)
 
 windows_known : (net : Network) (h : List Entry) → IsRoster net → IsLegal net h → WindowsKnown net h
 unfolding WindowsKnown
@@ -143,17 +143,17 @@ open-kept net index h devices windows w o agrees is =
 
 -- ---- what goes out
 
-uplink-same : (h : List Entry) (o : Opening) → IsSome (session_join h o.window.eui o.window.session) → uplink_from (window_in h o) ≡ uplink_of h o
+uplink-same : (h : List Entry) (o : Opening) → IsSome (session_join h o.window.eui o.window.session) → uplink_from (window_of_opening h o) ≡ uplink_of h o
 uplink-same h o keyed = step (session_join h o.window.eui o.window.session) refl keyed
   where
-    step : (j : Option JoinAns) → session_join h o.window.eui o.window.session ≡ j → IsSome j → uplink_from (window_in h o) ≡ uplink_of h o
+    step : (j : Option JoinAns) → session_join h o.window.eui o.window.session ≡ j → IsSome j → uplink_from (window_of_opening h o) ≡ uplink_of h o
     step None is some = absurd (cc some)
     step (Some join) is some = rw is refl
 
-ack-same : (net : Network) (h : List Entry) (o : Opening) (n : ℕ) → IsSome (session_join h o.window.eui o.window.session) → ack_from net (window_in h o) n ≡ ack_downlink net h o n
+ack-same : (net : Network) (h : List Entry) (o : Opening) (n : ℕ) → IsSome (session_join h o.window.eui o.window.session) → ack_from net (window_of_opening h o) n ≡ ack_downlink net h o n
 ack-same net h o n keyed = step (session_join h o.window.eui o.window.session) refl keyed
   where
-    step : (j : Option JoinAns) → session_join h o.window.eui o.window.session ≡ j → IsSome j → ack_from net (window_in h o) n ≡ ack_downlink net h o n
+    step : (j : Option JoinAns) → session_join h o.window.eui o.window.session ≡ j → IsSome j → ack_from net (window_of_opening h o) n ≡ ack_downlink net h o n
     step None is some = absurd (cc some)
     step (Some join) is some = rw is refl
 
@@ -166,21 +166,21 @@ own-some net index h eui mine known = step (device net eui) refl known
 
 -- the number of the device's record
 ack-by_record : (net : Network) (index : ℕ) (h : List Entry) (o : Opening) → shard_of o.window.eui ≡ index → IsSome (device net o.window.eui) →
-    ack_of (devices_in net index h) (window_in h o) ≡ cond (is_confirmed o.frame) (ack_in (device_record net h o.window.eui) o.window.session) None
+    ack_of (devices_in net index h) (window_of_opening h o) ≡ cond (is_confirmed o.frame) (ack_in (device_record net h o.window.eui) o.window.session) None
 ack-by_record net index h o mine known =
     let found = own-some net index h o.window.eui mine known in
     ap (λ (x : Option Own). cond (is_confirmed o.frame) (option_and_then (λ (y : Own). ack_in y.state o.window.session) x) None) found.1
     ∙ ap (λ (e : DevEui). cond (is_confirmed o.frame) (ack_in (device_record net h e) o.window.session) None) found.2
 
-closed-out : (net : Network) (h : List Entry) (w : WindowName) (o : Opening) → open_window h w ≡ Some o → (ack : Option ℕ) → uplink_from (window_in h o) ≡ uplink_of h o → ((n : ℕ) → ack_from net (window_in h o) n ≡ ack_downlink net h o n) →
-    let a : Answer = record { reply = reply.Closed w ack; uplink = Some (uplink_from (window_in h o)); downlink = option_and_then (λ n. ack_from net (window_in h o) n) ack } in
+closed-out : (net : Network) (h : List Entry) (w : WindowName) (o : Opening) → open_window h w ≡ Some o → (ack : Option ℕ) → uplink_from (window_of_opening h o) ≡ uplink_of h o → ((n : ℕ) → ack_from net (window_of_opening h o) n ≡ ack_downlink net h o n) →
+    let a : Answer = record { reply = reply.Closed w ack; uplink = first_uplink_from (window_of_opening h o); downlink = option_and_then (λ n. ack_from net (window_of_opening h o) n) ack } in
     let b : Answer = record { reply = reply.Closed w ack; uplink = uplink_out h (call.Close w) (reply.Closed w ack); downlink = downlink_out net h (call.Close w) (reply.Closed w ack) } in
     a ≡ b
 closed-out net h w o is None uplink ack_is =
-    ap (λ (u : Option Uplink). let a : Answer = record { reply = reply.Closed w None; uplink = u; downlink = None } in a) (ap Some uplink ∙ ap (option_map (uplink_of h)) (sym is))
+    ap (λ (u : Option Uplink). let a : Answer = record { reply = reply.Closed w None; uplink = u; downlink = None } in a) (ap (when (is_first o.window)) uplink ∙ ap (option_and_then (first_uplink_of h)) (sym is))
 closed-out net h w o is (Some n) uplink ack_is =
     ap₂ (λ (u : Option Uplink) (d : Option Downlink). let a : Answer = record { reply = reply.Closed w (Some n); uplink = u; downlink = d } in a)
-    (ap Some uplink ∙ ap (option_map (uplink_of h)) (sym is)) (ack_is n ∙ ap (option_and_then (λ (x : Opening). ack_downlink net h x n)) (sym is))
+    (ap (when (is_first o.window)) uplink ∙ ap (option_and_then (first_uplink_of h)) (sym is)) (ack_is n ∙ ap (option_and_then (λ (x : Opening). ack_downlink net h x n)) (sym is))
 
 abbrev close_with : Network → List Entry → WindowName → Reply → Answer
 close_with net h w r = record { reply = r; uplink = uplink_out h (call.Close w) r; downlink = downlink_out net h (call.Close w) r }
@@ -189,19 +189,19 @@ close-reply : (h : List Entry) (w : WindowName) (found : Option Opening) → ope
 close-reply h w found is = ap (λ (x : Option Opening). first_case (option_map (λ (o : Opening). reply.Closed w (ack_number h o)) x ∷ []) reply.NoWindow) is
 
 pub close-answered : (net : Network) (index : ℕ) (h : List Entry) (devices : List Own) (windows : List Window) (w : WindowName) → Agrees net index h devices windows → ClosingsAgree net h → shard_of w.eui ≡ index →
-    answer_of net (named w windows) (close_event devices (named w windows)) ≡ answer net h (call.Close w)
+    answer_of net (window_named w windows) (close_event devices (window_named w windows)) ≡ answer net h (call.Close w)
 close-answered net index h devices windows w agrees law mine =
-    ap₂ (λ ds x. answer_of net x (close_event ds x)) agrees.by_device (ap (named w) agrees.by_window ∙ windows-named h w) ∙ step (open_window h w) refl
+    ap₂ (λ ds x. answer_of net x (close_event ds x)) agrees.by_device (ap (window_named w) agrees.by_window ∙ windows-named h w) ∙ step (open_window h w) refl
   where
-    step : (found : Option Opening) → open_window h w ≡ found → answer_of net (option_map (window_in h) found) (close_event (devices_in net index h) (option_map (window_in h) found)) ≡ answer net h (call.Close w)
+    step : (found : Option Opening) → open_window h w ≡ found → answer_of net (option_map (window_of_opening h) found) (close_event (devices_in net index h) (option_map (window_of_opening h) found)) ≡ answer net h (call.Close w)
     step None is = ap (close_with net h w) (sym (close-reply h w None is))
     step (Some o) is =
         let kept = open-kept net index h devices windows w o agrees is in
         let name : o.window ≡ w = kept.0 in
         let shard : shard_of o.window.eui ≡ index = ap (λ (v : WindowName). shard_of v.eui) name ∙ mine in
-        let ack : ack_of (devices_in net index h) (window_in h o) ≡ ack_number h o = ack-by_record net index h o shard kept.1.known ∙ sym (law.numbers agrees.history.legal o) in
+        let ack : ack_of (devices_in net index h) (window_of_opening h o) ≡ ack_number h o = ack-by_record net index h o shard kept.1.known ∙ sym (law.numbers agrees.history.legal o) in
         ap₂ (λ (v : WindowName) (n : Option ℕ).
-        let a : Answer = record { reply = reply.Closed v n; uplink = Some (uplink_from (window_in h o)); downlink = option_and_then (λ m. ack_from net (window_in h o) m) n } in a) name ack
+        let a : Answer = record { reply = reply.Closed v n; uplink = first_uplink_from (window_of_opening h o); downlink = option_and_then (λ m. ack_from net (window_of_opening h o) m) n } in a) name ack
         ∙ (closed-out net h w o is (ack_number h o) (uplink-same h o kept.1.keyed) (λ n. ack-same net h o n kept.1.keyed)
         ∙ ap (close_with net h w) (sym (close-reply h w (Some o) is)))
 
@@ -215,11 +215,11 @@ no_ack s is = step (nat_lt s.next_ack (2 ^ 32)) is
     step true none = absurd (cc none)
     step false none = refl
 
-none-acknowledged : (number : ℕ) (sessions : List Session) → option_and_then session_ack (find (λ s. s.number == number) sessions) ≡ None → sessions_after_ack number sessions ≡ sessions
+none-acknowledged : (number : ℕ) (sessions : List Session) → option_and_then session_ack (find (λ s. s.number == number) sessions) ≡ None → change_session number session_after_ack sessions ≡ sessions
 none-acknowledged number [] none = refl
 none-acknowledged number (s ∷ sessions) none =
     let asked = λ (b : Bool). option_and_then session_ack (cond {A = Option Session} b (Some s) (find (λ (x : Session). x.number == number) sessions)) in
-    let left = λ (b : Bool). cond {A = List Session} b (session_after_ack s ∷ sessions) (s ∷ sessions_after_ack number sessions) in
+    let left = λ (b : Bool). cond {A = List Session} b (session_after_ack s ∷ sessions) (s ∷ change_session number session_after_ack sessions) in
     elim (bool_tells (s.number == number)) [
       | inl here ↦ ap left here ∙ ap (λ (x : Session). x ∷ sessions) (no_ack s (sym (ap asked here) ∙ none))
       | inr other ↦ ap left other ∙ ap (λ xs. s ∷ xs) (none-acknowledged number sessions (sym (ap asked other) ∙ none))
@@ -238,18 +238,18 @@ unnumbered : (net : Network) (h : List Entry) (w : WindowName) (r : Reply) → O
 unnumbered net h w r stay is none eui = stay.others net h (entry_for net h (length h) (call.Close w)) eui (ap (λ x. concerns eui (call.Close w) x) is ∙ none eui)
 
 pub agrees-close : (net : Network) (index : ℕ) (h : List Entry) (devices : List Own) (windows : List Window) (w : WindowName) → Agrees net index h devices windows → OthersStay → ClosingsAgree net h → shard_of w.eui ≡ index →
-    Agrees net index (with_call net h (length h) (call.Close w)) (with_closing (named w windows) devices) (without w windows)
+    Agrees net index (with_call net h (length h) (call.Close w)) (with_closing (window_named w windows) devices) (without w windows)
 agrees-close net index h devices windows w agrees stay law mine = record {
   valid = agrees.valid;
   history = history_more net index h (call.Close w) mine agrees.history;
-  by_device = ap₂ with_closing (ap (named w) agrees.by_window ∙ windows-named h w) agrees.by_device ∙ devices_step (open_window h w) refl;
+  by_device = ap₂ with_closing (ap (window_named w) agrees.by_window ∙ windows-named h w) agrees.by_device ∙ devices_step (open_window h w) refl;
   by_window = ap (without w) agrees.by_window ∙ sym (windows_after (open_window h w) refl);
 }
   where
     now : List Entry
     now = with_call net h (length h) (call.Close w)
 
-    confirmed_step : (o : Opening) → open_window h w ≡ Some o → is_confirmed o.frame ≡ true → (ack : Option ℕ) → ack_in (device_record net h w.eui) w.session ≡ ack → devices_in net index now ≡ changed w.eui (with_ack w.session) (devices_in net index h)
+    confirmed_step : (o : Opening) → open_window h w ≡ Some o → is_confirmed o.frame ≡ true → (ack : Option ℕ) → ack_in (device_record net h w.eui) w.session ≡ ack → devices_in net index now ≡ with_change_of w.eui (with_ack w.session) (devices_in net index h)
     confirmed_step o is confirmed ack ack_is =
         let kept = open-kept net index h devices windows w o agrees is in
         let number : ack_number h o ≡ ack =
@@ -267,15 +267,15 @@ agrees-close net index h devices windows w agrees stay law mine = record {
             ap (λ (x : Reply). let e : Entry = record { number = length h; call = call.Close w; reply = x } in device_record net (h ++ e ∷ []) w.eui) r
             ∙ sym (law.records (length h) w n some)
 
-    devices_step : (found : Option Opening) → open_window h w ≡ found → with_closing (option_map (window_in h) found) (devices_in net index h) ≡ devices_in net index now
+    devices_step : (found : Option Opening) → open_window h w ≡ found → with_closing (option_map (window_of_opening h) found) (devices_in net index h) ≡ devices_in net index now
     devices_step None is = sym (devices-same net index h now (unnumbered net h w reply.NoWindow stay (close-reply h w None is) (λ eui. refl)))
     devices_step (Some o) is =
         let kept = open-kept net index h devices windows w o agrees is in
-        let by = λ (b : Bool). cond b (changed o.window.eui (with_ack o.window.session) (devices_in net index h)) (devices_in net index h) in
+        let by = λ (b : Bool). cond b (with_change_of o.window.eui (with_ack o.window.session) (devices_in net index h)) (devices_in net index h) in
         elim (bool_tells (is_confirmed o.frame)) [
           | inl confirmed ↦
               ap by confirmed
-              ∙ (ap (λ (v : WindowName). changed v.eui (with_ack v.session) (devices_in net index h)) kept.0
+              ∙ (ap (λ (v : WindowName). with_change_of v.eui (with_ack v.session) (devices_in net index h)) kept.0
               ∙ sym (confirmed_step o is confirmed (ack_in (device_record net h w.eui) w.session) refl))
           | inr not_confirmed ↦
               (let number : ack_number h o ≡ None = law.numbers agrees.history.legal o ∙ ap (λ b. cond b (ack_in (device_record net h o.window.eui) o.window.session) None) not_confirmed in
@@ -288,7 +288,7 @@ agrees-close net index h devices windows w agrees stay law mine = record {
         let e : Entry = entry_for net h (length h) (call.Close w) in
         let reply_is : reply_to_close h w ≡ reply.NoWindow = close-reply h w None is in
         windows-quiet h e (joined net index h devices windows agrees) (ap (closing_of w) reply_is) refl refl
-        ∙ sym (Rattle.ns_windows.proofs.Places.filter-none (Rattle.ns_windows.specs.Windows.is_named w) (windows_in h) (Rattle.ns_windows.proofs.Places.none_found (Rattle.ns_windows.specs.Windows.is_named w) (windows_in h) (windows-named h w ∙ ap (option_map (window_in h)) is)))
+        ∙ sym (Rattle.ns_windows.proofs.Places.filter-none (Rattle.ns_windows.specs.Windows.is_named w) (windows_in h) (Rattle.ns_windows.proofs.Places.none_found (Rattle.ns_windows.specs.Windows.is_named w) (windows_in h) (windows-named h w ∙ ap (option_map (window_of_opening h)) is)))
       where
         closing_of : WindowName → Reply → Option Rattle.ns_calls.specs.History.Closing
         closing_of v r = Rattle.ns_calls.specs.History.closing_in (call.Close v) r

@@ -10,8 +10,9 @@ use Rattle.ns_calls.proofs.LocalLemmas.{bool_tells}
 use Rattle.ns_calls.proofs.Lists.{All-weaker}
 use Rattle.ns_calls.proofs.JoinLemmas.{same_device-eq}
 use Rattle.ns_sessions.specs.Record.{DeviceRecord, device_record}
-use Rattle.ns_shard.specs.declared.devices.Own.{Own}
-use Rattle.ns_shard.specs.Devices.{devices_of, own, own_in, devices_in, is_own, with_state, change_first, changed}
+use Rattle.ns_devices.specs.declared.own.Own.{Own}
+use Rattle.ns_shard.specs.Private.Devices.{own_in, devices_in}
+use Rattle.ns_devices.specs.Devices.{devices_of, own, is_own, with_state, change_first, with_change_of}
 use Rattle.ns_shard.proofs.Maps.{map-same}
 use Rattle.ns_shard.proofs.Roster.{AreDistinct, own-distinct}
 
@@ -40,7 +41,7 @@ change-one net h g eui f (d ∷ ds) apart others this =
     ]
 
 pub devices-changed : (net : Network) (index : ℕ) (h g : List Entry) (eui : DevEui) (f : DeviceRecord → DeviceRecord) → IsRoster net → OthersSame net g h eui → device_record net g eui ≡ f (device_record net h eui) →
-    devices_in net index g ≡ changed eui f (devices_in net index h)
+    devices_in net index g ≡ with_change_of eui f (devices_in net index h)
 devices-changed net index h g eui f valid others this = change-one net h g eui f (devices_of net index) (own-distinct net index valid) others this
 
 pub devices-same : (net : Network) (index : ℕ) (h g : List Entry) → ((eui : DevEui) → device_record net g eui ≡ device_record net h eui) → devices_in net index g ≡ devices_in net index h

@@ -1,5 +1,5 @@
--- What comes of an uplink that no open window has, and that fits at a counter above.
-use Rattle.std.proofs.Common.{◌≡◌, ◌⊎◌, ℕ, Bool, true, false, cond, nat_le, List, [], ◌∷◌, Option, None, Some, option_map, refl, sym, ap, ap₂, subst, ◌∙◌}
+-- What comes of an uplink that no open window has, by where it fits.
+use Rattle.std.proofs.Common.{◌≡◌, ℕ, Bool, false, cond, nat_le, List, [], ◌∷◌, Option, None, Some, option_map, refl, sym, ap, ap₂, ◌∙◌}
 use Rattle.std.specs.Option.{option_map_or}
 use Rattle.ns_types.specs.declared.identity.WindowName.{WindowName}
 use Rattle.ns_types.specs.declared.heard.Heard.{Heard}
@@ -7,51 +7,57 @@ use Rattle.ns_types.specs.Cases.{first_case}
 use Rattle.ns_secure.specs.Counter.{above, below}
 use Rattle.ns_calls.specs.declared.call.Reply.{Reply}
 use Rattle.ns_calls.specs.declared.call.Reply.TheVariants as reply
-use Rattle.ns_calls.specs.Reply.{Fit, window_of, most_windows}
+use Rattle.ns_calls.specs.Reply.{Fit, window_of, in_round, most_windows}
 use Rattle.ns_windows.specs.declared.window.Window.{Window}
-use Rattle.ns_windows.specs.declared.window.Addition.{Addition}
-use Rattle.ns_windows.specs.Windows.{framed, addition, count, copied, with_copy_of}
-use Rattle.ns_shard.specs.declared.devices.Own.{Own}
-use Rattle.ns_shard.specs.Devices.{first_own_fit}
-use Rattle.ns_shard.specs.Reaction.{copy_reply, open_reply, uplink_reply, CanOpen, IsOpenable}
+use Rattle.ns_windows.specs.Windows.{window_of_frame, addition, count, with_copy_in, with_copy_of}
+use Rattle.ns_devices.specs.declared.own.Own.{Own}
+use Rattle.ns_devices.specs.Devices.{first_own_fit}
+use Rattle.ns_shard.specs.Private.Reaction.{copy_reply, unless_busy, open_reply, round_of, old_reply, uplink_reply}
 
-pub nothing-framed : (frame : List ℕ) (windows : List Window) → None ≡ option_map addition (framed frame windows) → framed frame windows ≡ None
-nothing-framed frame windows none = step (framed frame windows) none
+pub nothing-framed : (frame : List ℕ) (windows : List Window) → None ≡ option_map addition (window_of_frame frame windows) → window_of_frame frame windows ≡ None
+nothing-framed frame windows none = step (window_of_frame frame windows) none
   where
     step : (o : Option Window) → None ≡ option_map addition o → o ≡ None
     step None is = refl
     step (Some w) is = absurd (cc is)
 
--- the reply is that to a window of the fit's name
-pub fresh-reply : (devices : List Own) (windows : List Window) (frame : List ℕ) (f : Fit) → framed frame windows ≡ None → first_own_fit above frame devices ≡ Some f → open_reply windows (window_of f) ≡ uplink_reply devices windows frame
+-- the reply to a frame that no open window has, by where it fits
+reply-by : List Own → List Window → List ℕ → Option Window → Option Fit → Option Fit → Reply
+reply-by devices windows frame copied fresh stale =
+    first_case (option_map (λ w. copy_reply (addition w)) copied ∷ option_map (λ f. open_reply windows (window_of f)) fresh ∷ option_map (old_reply devices windows frame) stale ∷ []) reply.NoSession
+
+pub fresh-reply : (devices : List Own) (windows : List Window) (frame : List ℕ) (f : Fit) → window_of_frame frame windows ≡ None → first_own_fit above frame devices ≡ Some f → open_reply windows (window_of f) ≡ uplink_reply devices windows frame
+unfolding reply-by
 fresh-reply devices windows frame f none fits =
-    sym (ap₂ (λ (x : Option Window) (y : Option Fit). first_case (
-    option_map (λ w. copy_reply (addition w)) x
-    ∷ option_map (λ g. open_reply windows (window_of g)) y
-    ∷ option_map (λ (g : Fit). reply.Old g.eui g.session g.counter) (first_own_fit below frame devices)
-    ∷ []) reply.NoSession) none fits)
+    sym (ap₂ (λ (x : Option Window) (y : Option Fit). reply-by devices windows frame x y (first_own_fit below frame devices)) none fits)
 
-opened-name : (windows : List Window) (name w : WindowName) → open_reply windows name ≡ reply.Opened w → w ≡ name
-opened-name windows name w is = step (nat_le most_windows (count name.eui windows)) is
-  where
-    step : (b : Bool) → cond b (reply.Busy name.eui) (reply.Opened name) ≡ reply.Opened w → w ≡ name
-    step true busy = absurd (cc busy)
-    step false opened = cc
+pub stale-reply : (devices : List Own) (windows : List Window) (frame : List ℕ) (f : Fit) → window_of_frame frame windows ≡ None → first_own_fit above frame devices ≡ None → first_own_fit below frame devices ≡ Some f
+    → old_reply devices windows frame f ≡ uplink_reply devices windows frame
+unfolding reply-by
+stale-reply devices windows frame f none above_none fits =
+    sym (λ i. reply-by devices windows frame (none i) (above_none i) (fits i))
 
-pub busy-reply : (windows : List Window) (name : WindowName) (r : Reply) → r ≡ open_reply windows name → ((x : WindowName) → r ≡ reply.Opened x → ⊥) → r ≡ reply.Busy name.eui
-busy-reply windows name r is closed = step (nat_le most_windows (count name.eui windows)) is
-  where
-    step : (b : Bool) → r ≡ cond b (reply.Busy name.eui) (reply.Opened name) → r ≡ reply.Busy name.eui
-    step true busy = busy
-    step false opened = absurd (closed name opened)
+pub no-reply : (devices : List Own) (windows : List Window) (frame : List ℕ) → window_of_frame frame windows ≡ None → first_own_fit above frame devices ≡ None → first_own_fit below frame devices ≡ None → reply.NoSession ≡ uplink_reply devices windows frame
+unfolding reply-by
+no-reply devices windows frame none above_none below_none = sym (λ i. reply-by devices windows frame (none i) (above_none i) (below_none i))
 
--- a window that is opened can be opened
-pub openable : (devices : List Own) (windows : List Window) (frame : List ℕ) (f : Fit) (name w : WindowName) → CanOpen devices windows frame → framed frame windows ≡ None → first_own_fit above frame devices ≡ Some f
-    → name ≡ window_of f → open_reply windows name ≡ reply.Opened w → IsOpenable devices windows name
-openable devices windows frame f name w can none fits named_so opened =
-    let replied : uplink_reply devices windows frame ≡ reply.Opened w = sym (ap (open_reply windows) named_so ∙ fresh-reply devices windows frame f none fits) ∙ opened in
-    subst (IsOpenable devices windows) (opened-name windows name w opened) (can w replied)
+-- the reply with which a window is opened, by whether its device is busy
+pub open-told : (windows : List Window) (f : Fit) (name : WindowName) (busy : Bool) → name ≡ window_of f → busy ≡ nat_le most_windows (count name.eui windows) → busy ≡ false → open_reply windows (window_of f) ≡ reply.Opened (window_of f)
+open-told windows f name busy named_so busy_is free =
+    ap (λ b. cond b (reply.Busy f.eui) (reply.Opened (window_of f))) (ap (λ (v : WindowName). nat_le most_windows (count v.eui windows)) (sym named_so) ∙ (sym busy_is ∙ free))
+
+-- the same of one that is opened again
+pub again-told : (devices : List Own) (windows : List Window) (frame : List ℕ) (f : Fit) (round : ℕ) (name : WindowName) (busy : Bool) → Some round ≡ round_of devices windows frame f → name ≡ in_round f round → busy ≡ nat_le most_windows (count name.eui windows)
+    → old_reply devices windows frame f ≡ cond busy (reply.Busy name.eui) (reply.Again name)
+again-told devices windows frame f round name busy is named_so busy_is =
+    ap (λ o. first_case (option_map (λ r. unless_busy windows (in_round f r) (reply.Again (in_round f r))) o ∷ []) (reply.Old f.eui f.session f.counter)) (sym is)
+    ∙ (ap (λ (v : WindowName). cond (nat_le most_windows (count v.eui windows)) (reply.Busy v.eui) (reply.Again v)) (sym named_so) ∙ ap (λ b. cond b (reply.Busy name.eui) (reply.Again name)) (sym busy_is))
+
+pub again-free : (devices : List Own) (windows : List Window) (frame : List ℕ) (f : Fit) (round : ℕ) (name : WindowName) (busy : Bool) → Some round ≡ round_of devices windows frame f → name ≡ in_round f round → busy ≡ nat_le most_windows (count name.eui windows)
+    → busy ≡ false → old_reply devices windows frame f ≡ reply.Again name
+again-free devices windows frame f round name busy is named_so busy_is free =
+    again-told devices windows frame f round name busy is named_so busy_is ∙ ap (λ b. cond b (reply.Busy name.eui) (reply.Again name)) free
 
 -- a frame that no open window has adds no copy
-pub none-copied : (frame : List ℕ) (heard : Heard) (windows now : List Window) → framed frame windows ≡ None → now ≡ with_copy_of frame heard windows → now ≡ windows
-none-copied frame heard windows now none is = is ∙ ap (λ (o : Option Window). option_map_or (λ (w : Window). copied w.name heard windows) o windows) none
+pub none-copied : (frame : List ℕ) (heard : Heard) (windows now : List Window) → window_of_frame frame windows ≡ None → now ≡ with_copy_of frame heard windows → now ≡ windows
+none-copied frame heard windows now none is = is ∙ ap (λ (o : Option Window). option_map_or (λ (w : Window). with_copy_in w.name heard windows) o windows) none

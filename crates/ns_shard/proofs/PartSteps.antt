@@ -22,18 +22,19 @@ use Rattle.ns_calls.specs.declared.call.Reply.TheVariants as reply
 use Rattle.ns_calls.specs.declared.call.Entry.{Entry}
 use Rattle.ns_calls.specs.History.{same_device}
 use Rattle.ns_calls.specs.History.{last_nonce, is_ticket_open, ticket_count}
-use Rattle.ns_calls.specs.Reply.{reply_to, reply_to_join, spent_by, join_copy_reply, most_tickets}
+use Rattle.ns_calls.specs.Reply.{reply_to, reply_to_join, nonce_at_or_above, join_copy_reply, most_tickets}
 use Rattle.ns_calls.specs.Legal.{entry_for, with_call}
 use Rattle.ns_calls.proofs.LocalLemmas.{bool_tells}
 use Rattle.ns_calls.proofs.LegalLemmas.{history_none, history_more}
 use Rattle.ns_calls.proofs.KeyLemmas.{sessions_have_joins}
 use Rattle.ns_sessions.specs.Record.{no_joins, device_record, join_decision}
-use Rattle.ns_sessions.specs.Laws.{OthersStay, JoinsAgree, concerns, join_reply}
+use Rattle.ns_sessions.specs.Laws.{OthersStay, JoinsAgree, concerns, join_decision_reply}
 use Rattle.ns_windows.specs.declared.window.Window.{Window}
-use Rattle.ns_shard.specs.declared.devices.Own.{Own}
-use Rattle.ns_shard.specs.Devices.{devices_of, own, own_in, devices_in, joinless, is_own, own_of, with_state, after_join}
-use Rattle.ns_shard.specs.Reaction.{own_join_reply, with_own_join, shard_join_reply, with_shard_join}
-use Rattle.ns_shard.specs.Parts.{Agrees}
+use Rattle.ns_devices.specs.declared.own.Own.{Own}
+use Rattle.ns_shard.specs.Private.Devices.{own_in, devices_in}
+use Rattle.ns_devices.specs.Devices.{devices_of, own, joinless, is_own, own_of, with_state, after_join, with_own_join, with_join_of}
+use Rattle.ns_shard.specs.Private.Reaction.{own_join_reply, shard_join_reply}
+use Rattle.ns_shard.specs.Private.Parts.{Agrees}
 use Rattle.ns_shard.proofs.Places.{change_first-same, change_first-stays, change_first-none}
 use Rattle.ns_shard.proofs.Roster.{own-found}
 use Rattle.ns_shard.proofs.DeviceSteps.{OthersSame, devices-changed, devices-same}
@@ -82,7 +83,7 @@ others-stay net h number c eui stay apart other differs = stay.others net h (ent
 join_reply_by : Bool → Network → List Entry → Ticket → Reply
 join_reply_by known net h t = first_case (
     when (not known) reply.NoDevice
-    ∷ option_map (λ g. reply.NonceOld (record { 0 = g })) (spent_by net h t)
+    ∷ option_map (λ g. reply.NonceOld (record { 0 = g })) (nonce_at_or_above net h t)
     ∷ when (is_ticket_open h t) (join_copy_reply h t)
     ∷ when (nat_le most_tickets (ticket_count h (dev_eui t))) reply.JoinBusy
     ∷ []) (reply.Ask t)
@@ -105,7 +106,7 @@ join-replied net index h devices windows t agrees law mine =
     step : (o : Option Device) → device net (dev_eui t) ≡ o → replied (option_map (own_in net h) o) ≡ reply_to_join net h t
     step None is = sym (join-unknown net h t (known_is ∙ ap (has_join_eui (join_eui t)) is))
     step (Some d) is =
-        let asks = λ (e : DevEui). join_reply t (join_decision (device_record net h e) t) in
+        let asks = λ (e : DevEui). join_decision_reply t (join_decision (device_record net h e) t) in
         let by = λ (b : Bool). cond b (asks d.eui) reply.NoDevice in
         elim (bool_tells (d.join_eui.0 == (join_eui t).0)) [
           | inl same ↦ ap by same ∙ (ap asks (found-device net (dev_eui t) d is).1 ∙ law.replies t (known_is ∙ (ap (has_join_eui (join_eui t)) is ∙ same)))
@@ -121,11 +122,11 @@ concerns-join other t heard (reply.JoinCopied place) differs = same_device-false
 concerns-join other t heard _ differs = refl
 
 pub agrees-join : (net : Network) (index : ℕ) (h : List Entry) (devices : List Own) (windows : List Window) (t : Ticket) (heard : Heard) → Agrees net index h devices windows → OthersStay → JoinsAgree net h → shard_of (dev_eui t) ≡ index →
-    Agrees net index (with_call net h (length h) (call.Join t heard)) (with_shard_join t heard devices) windows
+    Agrees net index (with_call net h (length h) (call.Join t heard)) (with_join_of t heard devices) windows
 agrees-join net index h devices windows t heard agrees stay law mine = record {
   valid = agrees.valid;
   history = history_more net index h (call.Join t heard) mine agrees.history;
-  by_device = ap (with_shard_join t heard) agrees.by_device ∙ step (device net (dev_eui t)) refl;
+  by_device = ap (with_join_of t heard) agrees.by_device ∙ step (device net (dev_eui t)) refl;
   by_window = agrees.by_window ∙ sym (windows-quiet h (entry_for net h (length h) (call.Join t heard)) (joined net index h devices windows agrees) refl refl refl);
 }
   where
@@ -147,7 +148,7 @@ agrees-join net index h devices windows t heard agrees stay law mine = record {
         sym (devices-same net index h now (λ other. stay.others net h (entry_for net h (length h) (call.Join t heard)) other
         (ap (λ (r : Reply). concerns other (call.Join t heard) r) (join-unknown net h t unknown))))
 
-    step : (o : Option Device) → device net (dev_eui t) ≡ o → with_shard_join t heard (devices_in net index h) ≡ devices_in net index now
+    step : (o : Option Device) → device net (dev_eui t) ≡ o → with_join_of t heard (devices_in net index h) ≡ devices_in net index now
     step None is =
         change_first-none (is_own (dev_eui t)) f (devices_in net index h) (found ∙ ap (option_map (own_in net h)) is)
         ∙ stays (known_is ∙ ap (has_join_eui (join_eui t)) is)

@@ -1,21 +1,8 @@
 -- A change of the first element that passes a test.
-use Rattle.std.proofs.Common.{◌≡◌, ℕ, zero, suc, Bool, cond, List, [], ◌∷◌, find, set, Option, None, Some, refl, sym, ap, ◌∙◌, inl, inr}
+use Rattle.std.proofs.Common.{◌≡◌, Bool, cond, List, [], ◌∷◌, find, Option, None, Some, refl, sym, ap, ◌∙◌, inl, inr}
 use Rattle.ns_calls.proofs.LocalLemmas.{bool_tells}
-use Rattle.ns_windows.proofs.Places.{NonePasses, PassesFirst, none_found}
-use Rattle.ns_shard.specs.Devices.{change_first}
-
--- a write at the first place is a change of the first that passes
-pub first-set : {X : Type 0} (test : X → Bool) (f : X → X) (xs : List X) (i : ℕ) (x : X) → PassesFirst test xs i x → set xs i (f x) ≡ change_first test f xs
-first-set test f [] i x at = absurd at
-first-set {X} test f (y ∷ ys) zero x at =
-    sym (ap (λ z. cond {A = List X} (test z) (f z ∷ ys) (z ∷ change_first test f ys)) at.0 ∙ ap (λ b. cond {A = List X} b (f x ∷ ys) (x ∷ change_first test f ys)) at.1)
-first-set {X} test f (y ∷ ys) (suc i) x at =
-    ap (λ zs. y ∷ zs) (first-set test f ys i x at.1) ∙ sym (ap (λ b. cond {A = List X} b (f y ∷ ys) (y ∷ change_first test f ys)) at.0)
-
-pub none-change : {X : Type 0} (test : X → Bool) (f : X → X) (xs : List X) → NonePasses test xs → xs ≡ change_first test f xs
-none-change test f [] none = refl
-none-change {X} test f (x ∷ xs) none =
-    ap (λ ys. x ∷ ys) (none-change test f xs none.1) ∙ sym (ap (λ b. cond {A = List X} b (f x ∷ xs) (x ∷ change_first test f xs)) none.0)
+use Rattle.ns_devices.specs.Devices.{change_first}
+use Rattle.ns_devices.proofs.Positions.{change-nothing}
 
 -- ---- a change of the first that passes, by what is found
 
@@ -50,4 +37,4 @@ change_first-stays {X} test f xs x found stays = change_first-same test f (λ (y
 
 -- where none is found, all stays
 pub change_first-none : {X : Type 0} (test : X → Bool) (f : X → X) (xs : List X) → find test xs ≡ None → change_first test f xs ≡ xs
-change_first-none test f xs none = sym (none-change test f xs (none_found test xs none))
+change_first-none test f xs none = sym (change-nothing test f xs none)

@@ -1,6 +1,6 @@
 -- What comes of any call by the devices and windows that agree with the entries is what comes of it by the entries, and they agree after
 -- it.
-use Rattle.std.proofs.Common.{◌≡◌, ℕ, List, length, sym, ap, subst}
+use Rattle.std.proofs.Common.{◌≡◌, ℕ, List, length, sym, ap}
 use Rattle.ns_roster.specs.Network.{Network}
 use Rattle.ns_calls.specs.declared.call.Call.{Call}
 use Rattle.ns_calls.specs.declared.call.Call.TheVariants as call
@@ -12,12 +12,11 @@ use Rattle.ns_sessions.proofs.Uplinks.{others_stay, uplinks_agree, closings_agre
 use Rattle.ns_sessions.proofs.Joins.{joins_agree}
 use Rattle.ns_sessions.proofs.JoinAnswers.{answers_agree}
 use Rattle.ns_windows.specs.declared.window.Window.{Window}
-use Rattle.ns_shard.specs.declared.devices.Own.{Own}
-use Rattle.ns_shard.specs.Devices.{AreApart}
-use Rattle.ns_shard.specs.Sending.{quiet, answer_of}
-use Rattle.ns_shard.specs.Reaction.{CanReact, uplink_reply, event_of, window_closed_by, devices_after, windows_after}
-use Rattle.ns_shard.specs.Parts.{Agrees}
-use Rattle.ns_shard.proofs.Apart.{own-apart}
+use Rattle.ns_devices.specs.declared.own.Own.{Own}
+use Rattle.ns_shard.specs.State.{quiet}
+use Rattle.ns_shard.specs.Private.Sending.{answer_of}
+use Rattle.ns_shard.specs.Private.Reaction.{CanReact, uplink_reply, event_of, window_closed_by, devices_after, windows_after}
+use Rattle.ns_shard.specs.Private.Parts.{Agrees}
 use Rattle.ns_shard.proofs.PartSteps.{join-replied, agrees-join}
 use Rattle.ns_shard.proofs.AnswerSteps.{answer-answered, agrees-answer}
 use Rattle.ns_shard.proofs.CloseSteps.{close-answered, agrees-close}
@@ -28,9 +27,6 @@ can_react net index h devices windows (call.Uplink frame heard) agrees mine = ca
 can_react net index h devices windows (call.Join t heard) agrees mine = tt
 can_react net index h devices windows (call.JoinReply t o) agrees mine = tt
 can_react net index h devices windows (call.Close w) agrees mine = tt
-
-pub devices-apart : (net : Network) (index : ℕ) (h : List Entry) (devices : List Own) (windows : List Window) → Agrees net index h devices windows → AreApart devices
-devices-apart net index h devices windows agrees = subst AreApart (sym agrees.by_device) (own-apart net index h agrees.valid)
 
 pub call-answered : (net : Network) (index : ℕ) (h : List Entry) (devices : List Own) (windows : List Window) (c : Call) → Agrees net index h devices windows → shard_of_call c ≡ index →
     answer_of net (window_closed_by windows c) (event_of devices windows c) ≡ answer net h c

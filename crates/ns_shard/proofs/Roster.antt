@@ -1,6 +1,6 @@
 -- The devices of a shard are those of the roster that are asked for.
 use Rattle.ns_shard.specs.State.{known_greatest}
-use Rattle.ns_shard.specs.declared.devices.Own.{Own}
+use Rattle.ns_devices.specs.declared.own.Own.{Own}
 use Rattle.std.specs.Option.{option_and_then}
 use Rattle.std.proofs.Common.{◌≡◌, ℕ, zero, suc, ◌==◌, Bool, true, false, cond, List, [], ◌∷◌, filter, filter_map, map, find, Option, Some, option_map, refl, sym, ap, ap₂, ◌∙◌, arith, inl, inr, None}
 use Rattle.std.specs.Prelude.{All, AllPairs, Contains}
@@ -18,12 +18,13 @@ use Rattle.ns_calls.specs.declared.call.Entry.{Entry}
 use Rattle.ns_calls.specs.Queries.{first}
 use Rattle.ns_calls.specs.History.{same_device, greatest_nonce}
 use Rattle.ns_calls.specs.Reply as plain
-use Rattle.ns_calls.specs.Reply.{fit_of, devices_at, first_fit}
+use Rattle.ns_calls.specs.Reply.{fit_of, first_fit}
 use Rattle.ns_calls.proofs.LocalLemmas.{bool_tells}
 use Rattle.ns_calls.proofs.Lists.{All-filter, All-weaker}
 use Rattle.ns_calls.proofs.JoinLemmas.{same_device-eq}
 use Rattle.ns_sessions.specs.Record.{device_fit, device_record}
-use Rattle.ns_shard.specs.Devices.{devices_of, own_in, devices_in, is_own, own_of, own_fit, is_addressed, first_own_fit}
+use Rattle.ns_shard.specs.Private.Devices.{own_in, devices_in}
+use Rattle.ns_devices.specs.Devices.{devices_of, is_own, own_of, own_fit, is_addressed, first_own_fit}
 use Rattle.ns_shard.proofs.Maps.{find-map, filter-map}
 
 pub all_each : {X : Type 0} (P : X → Type 0) (xs : List X) → All P xs → AllByRecursion P xs

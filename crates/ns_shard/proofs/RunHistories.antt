@@ -13,7 +13,7 @@ use Rattle.std.specs.Prelude.{Contains}
 use Rattle.std.proofs.Common.{◌≡◌, ℕ, ◌<◌, List, [], ◌∷◌, ◌++◌, length, map, filter, slice_get, take, drop, ◌≤◌, Some, Result, Ok, Err, refl, sym, ap, ◌∙◌, subst, arith, eqb, cond, inl, inr, None, Option, option_map, find, ◌==◌, eq-eqb}
 use Rattle.std.specs.List.{AllByRecursion}
 use Rattle.std.proofs.lemmas.Bool.Decides.{eqb_tells}
-use Rattle.std.proofs.lemmas.List.{append_assoc, append-nil, map_push, drop_all}
+use Rattle.std.proofs.lemmas.List.{append_assoc, append-nil, map_push, take_all, drop_all}
 use Rattle.std.proofs.lemmas.Option.{slice_get_within}
 use Rattle.ns_roster.specs.Network.{Network, device}
 use Rattle.ns_calls.specs.declared.call.Call.{Call}
@@ -29,6 +29,7 @@ use Rattle.ns_calls.proofs.UplinkLemmas.{counters_rise}
 use Rattle.ns_calls.proofs.WindowLemmas.{windows_open_once}
 use Rattle.ns_calls.proofs.AckLemmas.{acks_rise}
 use Rattle.ns_calls.proofs.OutLemmas.{goes_out}
+use Rattle.ns_kept.proofs.ReadLemmas.{reading-whole}
 use Rattle.ns_shard.specs.declared.step.Step.{Step}
 use Rattle.ns_shard.specs.declared.run.Taken.{Taken}
 use Rattle.ns_shard.specs.State.{State, known_greatest, greatest_in}
@@ -95,6 +96,10 @@ all-hand_out net before [] = tt
 all-hand_out net before (step ∷ steps) = (hands_out net before (call_of step.act), all-hand_out net (before ++ step ∷ []) steps)
 
 -- what came of all the steps
+-- the shards after all steps
+pub after-all : (net : Network) (steps : List Step) (i : ℕ) (shards : List State) → length steps ≤ i → AreAfter net (take i steps) shards → AreAfter net steps shards
+after-all net steps i shards whole after = subst (λ ss. AreAfter net ss shards) (take_all i steps whole) after
+
 pub told-all : (net : Network) (steps : List Step) (i : ℕ) (taken : List Taken) → length steps ≤ i → taken ++ all_taken net (take i steps) (drop i steps) ≡ all_taken net [] steps → taken ≡ all_taken net [] steps
 told-all net steps i taken whole told =
     sym (ap (λ rest. taken ++ all_taken net (take i steps) rest) (drop_all i steps whole) ∙ append-nil taken) ∙ told
@@ -108,7 +113,8 @@ greatest-after net steps shards after eui =
     let shard : ℕ = shard_of eui in
     let s : State = state_after net shard steps in
     ap (option_and_then (λ (t : State). greatest_in t eui)) (after.each shard (omega arith))
-    ∙ ap (λ b. cond b (known_greatest net s.entries eui) None) (eq-eqb shard shard refl)
+    ∙ (ap (λ h. cond (shard == shard) (known_greatest net h eui) None) (reading-whole s.entries)
+    ∙ ap (λ b. cond b (known_greatest net s.entries eui) None) (eq-eqb shard shard refl))
 
 -- ---- two runs
 

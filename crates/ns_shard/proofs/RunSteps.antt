@@ -12,13 +12,17 @@ use Rattle.ns_calls.specs.declared.call.Call.TheVariants as call
 use Rattle.ns_calls.specs.declared.call.Entry.{Entry}
 use Rattle.ns_calls.specs.Steps.{Refusal, link, view}
 use Rattle.ns_calls.specs.Shards.{shard_of_call}
-use Rattle.ns_calls.specs.Legal.{with_call}
+use Rattle.ns_calls.specs.Legal.{entry_for, with_call}
+use Rattle.ns_calls.specs.Out.{answer}
+use Rattle.ns_kept.proofs.ReadLemmas.{reading-whole}
 use Rattle.ns_calls.specs.Runs.{history_after, history_of}
 use Rattle.ns_calls.proofs.MergeLemmas.{slice_get-set_other}
 use Rattle.ns_shard.specs.declared.run.Taken.{Taken}
+use Rattle.ns_shard.specs.declared.run.Taken.TheVariants.{Made}
 use Rattle.ns_shard.specs.declared.step.Step.{Step}
 use Rattle.ns_shard.specs.State.{State, after_call}
-use Rattle.ns_shard.specs.Steps.{call_of, refused_as, calls_of, shard_history, call_taken, step_taken, all_taken, state_after, AreAfter, AreInPlace, taken_in, states_after}
+use Rattle.ns_shard.specs.Steps.{call_of, calls_of, shard_history, call_taken, step_taken, all_taken, state_after, AreAfter}
+use Rattle.ns_shard.specs.Private.Run.{refused_as, AreInPlace, taken_in, states_after}
 
 -- the history of one call more
 history_after-push : (net : Network) (before : List Entry) (calls : List Call) (c : Call) → history_after net before (calls ++ c ∷ []) ≡ with_call net (history_after net before calls) (length (history_after net before calls)) c
@@ -65,21 +69,24 @@ shard_history-own net shard steps step c one =
 
 state_after-other : (net : Network) (shard : ℕ) (steps : List Step) (step : Step) → one_call shard (call_of step.act) ≡ [] → state_after net shard (steps ++ step ∷ []) ≡ state_after net shard steps
 state_after-other net shard steps step none =
-    let state : List Entry → State = λ h. record { roster = net; index = shard; made = length h; entries = h } in
+    let state : List Entry → State = λ h. record { roster = net; index = shard; made = length h; mark = 0; windows = []; entries = h } in
     ap state (shard_history-other net shard steps step none)
 
 state_after-own : (net : Network) (shard : ℕ) (steps : List Step) (step : Step) (c : Call) → one_call shard (call_of step.act) ≡ c ∷ [] → state_after net shard (steps ++ step ∷ []) ≡ after_call (state_after net shard steps) c
 state_after-own net shard steps step c one =
     let h = shard_history net shard steps in
-    let state : ℕ → List Entry → State = λ n es. record { roster = net; index = shard; made = n; entries = es } in
-    ap (λ es. state (length es) es) (shard_history-own net shard steps step c one) ∙ ap (λ n. state n (with_call net h (length h) c)) (length-append h _)
+    let state : ℕ → List Entry → State = λ n es. record { roster = net; index = shard; made = n; mark = 0; windows = []; entries = es } in
+    ap (λ es. state (length es) es) (shard_history-own net shard steps step c one) ∙ (ap (λ n. state n (with_call net h (length h) c)) (length-append h _)
+    ∙ ap (λ es. state (length h + 1) (h ++ entry_for net es (length h) c ∷ [])) (sym (reading-whole h)))
 
 -- what comes of a step in the shards after the steps before it
 pub taken-after : (net : Network) (before : List Step) (shards : List State) (r : Result Call Refusal) → AreAfter net before shards
     → ((c : Call) → shard_of_call c < 16) → taken_in shards (refused_as r) ≡ Some (call_taken net before r)
 taken-after net before shards (Err (link fault)) after small = refl
 taken-after net before shards (Err (view fault)) after small = refl
-taken-after net before shards (Ok c) after small = rw (after.each (shard_of_call c) (small c)) refl
+taken-after net before shards (Ok c) after small =
+    let h = shard_history net (shard_of_call c) before in
+    rw (after.each (shard_of_call c) (small c)) (ap (λ es. Some (Made (shard_of_call c) (length h) (answer net es c))) (reading-whole h))
 
 slice_get-set_same : {X : Type 0} (xs : List X) (k : ℕ) (x y : X) → slice_get xs k ≡ Some x → slice_get (slice_set xs k y) k ≡ Some y
 slice_get-set_same [] k x y h = absurd (cc h)

@@ -1,14 +1,14 @@
--- What a run hands out: each uplink with just its copies, and that of a window's name once.
-use Rattle.std.proofs.Common.{◌≡◌, ◌⊎◌, ℕ, zero, suc, ◌+◌, ◌<◌, ◌≤◌, Bool, true, false, cond, List, [], ◌∷◌, ◌++◌, length, take, slice_get, find, filter_map, count_by, Option, None, Some, IfSome, option_map, option_to_list, Result, Ok, Err, refl, sym, ap, subst, ◌∙◌, arith, eqb, inl, inr}
+-- What a run hands out: each uplink with just its copies, and once.
+use Rattle.std.proofs.Common.{◌≡◌, ◌⊎◌, ℕ, ◌+◌, ◌≤◌, Bool, true, false, ◌&&◌, cond, List, [], ◌∷◌, ◌++◌, length, take, slice_get, find, filter_map, count_by, Option, None, Some, IfSome, option_map, option_to_list, Result, Ok, Err, refl, sym, ap, subst, ◌∙◌, arith, eqb, inl, inr}
 use Rattle.std.specs.List.{AllByRecursion}
-use Rattle.std.specs.Option.{option_map_or}
+use Rattle.std.specs.Option.{option_map_or, option_and_then}
 use Rattle.std.proofs.lemmas.Bool.Decides.{eqb_tells}
 use Rattle.std.proofs.lemmas.List.{append_assoc, append-nil}
 use Rattle.std.proofs.lemmas.List.Elements.{filter_map-append}
 use Rattle.std.proofs.lemmas.Option.{same_Some}
 use Rattle.ns_types.specs.declared.identity.WindowName.{WindowName}
-use Rattle.ns_types.specs.Cases.{first_case}
-use Rattle.ns_types.specs.Identity.{same_window, shard_of}
+use Rattle.ns_types.specs.Cases.{first_case, when}
+use Rattle.ns_types.specs.Identity.{same_uplink, same_window, is_first, shard_of}
 use Rattle.ns_roster.specs.Network.{Network}
 use Rattle.ns_calls.specs.declared.answer.Uplink.{Uplink}
 use Rattle.ns_calls.specs.declared.call.Call.{Call}
@@ -16,11 +16,11 @@ use Rattle.ns_calls.specs.declared.call.Call.TheVariants as call
 use Rattle.ns_calls.specs.declared.call.Reply.{Reply}
 use Rattle.ns_calls.specs.declared.call.Reply.TheVariants as reply
 use Rattle.ns_calls.specs.declared.call.Entry.{Entry}
-use Rattle.ns_calls.specs.History.{Opening, Closing, closing_in, open_windows, open_window}
+use Rattle.ns_calls.specs.History.{Opening, Closing, closing_in, first_window, open_windows, open_window}
 use Rattle.ns_calls.specs.Headline.{closing_count, opening_count, open_count}
 use Rattle.ns_calls.specs.Legal.{entry_for, with_call}
 use Rattle.ns_calls.specs.Open.{HasJustItsCopies}
-use Rattle.ns_calls.specs.Out.{answer, uplink_of, uplink_out}
+use Rattle.ns_calls.specs.Out.{answer, uplink_of, first_uplink_of, uplink_out}
 use Rattle.ns_calls.specs.Reply.{ack_number, reply_to}
 use Rattle.ns_calls.specs.Runs.{history_after, history_of}
 use Rattle.ns_calls.specs.Shards.{shard_of_call}
@@ -28,9 +28,8 @@ use Rattle.ns_calls.specs.Steps.{Refusal, link, view}
 use Rattle.ns_calls.proofs.CopyLemmas.{just_its_copies}
 use Rattle.ns_calls.proofs.Lists.{one_more, count-append, count-cons}
 use Rattle.ns_calls.proofs.LocalLemmas.{bool_tells}
-use Rattle.ns_calls.proofs.WindowLemmas.{same_window-eq, windows_open_once}
-use Rattle.ns_shard.specs.declared.run.Taken.{Taken}
-use Rattle.ns_shard.specs.declared.run.Taken.TheVariants.{Made}
+use Rattle.ns_calls.proofs.NameLemmas.{same_uplink-eq, same_window-eq}
+use Rattle.ns_calls.proofs.WindowLemmas.{windows_open_once}
 use Rattle.ns_shard.specs.declared.step.Step.{Step}
 use Rattle.ns_shard.specs.State.{State}
 use Rattle.ns_shard.specs.Steps.{call_of, calls_of, shard_history, call_taken, made, all_taken, state_after, AreAfter, HasCopiesAt, HasCopies, hands_out, AreHandedOutOnce}
@@ -47,6 +46,7 @@ record Closes (net : Network) (h : List Entry) (c : Call) : Type 0 where
   is_reply : reply_to net h c ≡ reply.Closed window ack
   is_uplink : (answer net h c).uplink ≡ Some uplink
   is_window : uplink.window ≡ window
+  is_first_of : is_first window ≡ true
 
 found-passes : {X : Type 0} (test : X → Bool) (xs : List X) (x : X) → find test xs ≡ Some x → test x ≡ true
 found-passes test [] x is = absurd (cc is)
@@ -69,16 +69,25 @@ closing-cases net h (call.Close w) = step (open_window h w) refl
 
     step : (found : Option Opening) → open_window h w ≡ found → ((answer net h (call.Close w)).uplink ≡ None) ⊎ Closes net h (call.Close w)
     step None is = inl (ap (λ found. uplink_out h (call.Close w) (replied found)) is)
-    step (Some o) is =
-        let closed : reply_to net h (call.Close w) ≡ reply.Closed w (ack_number h o) = ap replied is in
-        inr (record {
+    step (Some o) is = first (is_first o.window) refl (ap (uplink_out h (call.Close w)) closed ∙ ap (option_and_then (first_uplink_of h)) is)
+      where
+        closed : reply_to net h (call.Close w) ≡ reply.Closed w (ack_number h o)
+        closed = ap replied is
+
+        name : o.window ≡ w
+        name = same_window-eq o.window w (found-passes (λ (x : Opening). same_window x.window w) (open_windows h) o is)
+
+        first : (b : Bool) → is_first o.window ≡ b → (answer net h (call.Close w)).uplink ≡ when b (uplink_of h o) → ((answer net h (call.Close w)).uplink ≡ None) ⊎ Closes net h (call.Close w)
+        first false tells none = inl none
+        first true tells out = inr (record {
           window = w;
           ack = ack_number h o;
           uplink = uplink_of h o;
           is_closing = refl;
           is_reply = closed;
-          is_uplink = ap (uplink_out h (call.Close w)) closed ∙ ap (option_map (uplink_of h)) is;
-          is_window = same_window-eq o.window w (found-passes (λ (x : Opening). same_window x.window w) (open_windows h) o is);
+          is_uplink = out;
+          is_window = name;
+          is_first_of = subst (λ (v : WindowName). is_first v ≡ true) name tells;
         })
 
 -- ---- with just its copies
@@ -162,14 +171,18 @@ all-copies net before (step ∷ steps) shards are =
 pub taken-copies : (net : Network) (steps : List Step) (shards : List State) → AreAfter net steps shards → AllByRecursion (HasCopies shards) (all_taken net [] steps)
 taken-copies net steps shards are = all-copies net [] steps shards are
 
--- ---- once of a window's name
+-- ---- once of an uplink
 
--- how many closings of a window's name one call adds
+-- the first window of an uplink
+abbrev first_of : WindowName → WindowName
+first_of w = first_window w.eui w.session w.fcnt
+
+-- how many closings of it one call adds
 abbrev closed_by : Network → List Entry → Call → WindowName → ℕ
-closed_by net h c w = count_by (λ x. same_window x.window w) (option_to_list (closing_in c (reply_to net h c)))
+closed_by net h c w = count_by (λ x. same_window x.window (first_of w)) (option_to_list (closing_in c (reply_to net h c)))
 
 abbrev handed : WindowName → Option Uplink → Bool
-handed w o = option_map_or (λ u. same_window u.window w) o false
+handed w o = option_map_or (λ u. same_uplink u.window w) o false
 
 closings-added : (h : List Entry) (e : Entry) (w : WindowName) → closing_count (h ++ e ∷ []) w ≡ closing_count h w + count_by (λ c. same_window c.window w) (option_to_list (closing_in e.call e.reply))
 closings-added h e w =
@@ -177,44 +190,50 @@ closings-added h e w =
     let test = λ (c : Closing). same_window c.window w in
     ap (count_by test) (filter_map-append says h (e ∷ []) ∙ ap (λ ys. filter_map says h ++ ys) (one_more says e)) ∙ count-append test (filter_map says h) (option_to_list (says e))
 
--- what a call hands out of a window's name, it closes
+-- what a call hands out of an uplink, it closes the first window of
 handed-closed : (net : Network) (h : List Entry) (c : Call) (w : WindowName) → cond (handed w (answer net h c).uplink) 1 0 ≤ closed_by net h c w
 handed-closed net h c w = by (closing-cases net h c)
   where
+    and_true : (a : Bool) → (a && true) ≡ a
+    and_true true = refl
+    and_true false = refl
+
     by : ((answer net h c).uplink ≡ None) ⊎ Closes net h c → cond (handed w (answer net h c).uplink) 1 0 ≤ closed_by net h c w
     by (inl none) = (let nothing : cond (handed w (answer net h c).uplink) 1 0 ≡ 0 = ap (λ o. cond {A = ℕ} (handed w o) 1 0) none in omega (arith, nothing))
     by (inr closes) =
-        let test : Closing → Bool = λ x. same_window x.window w in
-        let out : cond (handed w (answer net h c).uplink) 1 0 ≡ cond (same_window closes.window w) 1 0 =
-        ap (λ o. cond {A = ℕ} (handed w o) 1 0) closes.is_uplink ∙ ap (λ (v : WindowName). cond {A = ℕ} (same_window v w) 1 0) closes.is_window in
+        let test : Closing → Bool = λ x. same_window x.window (first_of w) in
+        let out : cond (handed w (answer net h c).uplink) 1 0 ≡ cond (same_uplink closes.window w) 1 0 =
+        ap (λ o. cond {A = ℕ} (handed w o) 1 0) closes.is_uplink ∙ ap (λ (v : WindowName). cond {A = ℕ} (same_uplink v w) 1 0) closes.is_window in
         let closed : closing_in c (reply_to net h c) ≡ Some (record { window = closes.window; ack = closes.ack }) =
         ap (closing_in c) closes.is_reply ∙ ap (λ (x : Call). closing_in x (reply.Closed closes.window closes.ack)) closes.is_closing in
-        let one : closed_by net h c w ≡ cond (same_window closes.window w) 1 0 + 0 = ap (λ o. count_by test (option_to_list o)) closed ∙ count-cons test (record { window = closes.window; ack = closes.ack }) [] in
-        omega (arith, out, one)
+        let one : closed_by net h c w ≡ cond (same_window closes.window (first_of w)) 1 0 + 0 = ap (λ o. count_by test (option_to_list o)) closed ∙ count-cons test (record { window = closes.window; ack = closes.ack }) [] in
+        let same : same_window closes.window (first_of w) ≡ same_uplink closes.window w = ap (λ b. same_uplink closes.window w && b) closes.is_first_of ∙ and_true (same_uplink closes.window w) in
+        let here : cond (same_window closes.window (first_of w)) 1 0 ≡ cond (same_uplink closes.window w) 1 0 = ap (λ b. cond {A = ℕ} b 1 0) same in
+        omega (arith, out, one, here)
 
--- what a call of another shard hands out is of another window
+-- what a call of another shard hands out is of another uplink
 handed-elsewhere : (net : Network) (h : List Entry) (c : Call) (w : WindowName) → (shard_of_call c ≡ shard_of w.eui → ⊥) → handed w (answer net h c).uplink ≡ false
 handed-elsewhere net h c w apart = by (closing-cases net h c)
   where
     by : ((answer net h c).uplink ≡ None) ⊎ Closes net h c → handed w (answer net h c).uplink ≡ false
     by (inl none) = ap (handed w) none
     by (inr closes) =
-        elim (bool_tells (same_window closes.window w)) [
-          | inl same ↦ absurd (apart (ap shard_of_call closes.is_closing ∙ ap (λ (v : WindowName). shard_of v.eui) (same_window-eq closes.window w same)))
-          | inr other ↦ ap (handed w) closes.is_uplink ∙ (ap (λ (v : WindowName). same_window v w) closes.is_window ∙ other)
+        elim (bool_tells (same_uplink closes.window w)) [
+          | inl same ↦ absurd (apart (ap shard_of_call closes.is_closing ∙ ap shard_of (same_uplink-eq closes.window w same).eui))
+          | inr other ↦ ap (handed w) closes.is_uplink ∙ (ap (λ (v : WindowName). same_uplink v w) closes.is_window ∙ other)
         ]
 
--- one step hands out no more of a window's name than it closes in the window's shard
+-- one step hands out no more of an uplink than it closes of its first window in its shard
 step-handed : (net : Network) (before : List Step) (step : Step) (w : WindowName) (r : Result Call Refusal) → call_of step.act ≡ r →
     let shard = shard_of w.eui in
-    cond (hands_out w (call_taken net before r)) 1 0 + closing_count (shard_history net shard before) w ≤ closing_count (shard_history net shard (before ++ step ∷ [])) w
+    cond (hands_out w (call_taken net before r)) 1 0 + closing_count (shard_history net shard before) (first_of w) ≤ closing_count (shard_history net shard (before ++ step ∷ [])) (first_of w)
 step-handed net before step w (Err (link fault)) is =
     let shard = shard_of w.eui in
-    let same = ap (λ es. closing_count es w) (shard_history-other net shard before step (ap (one_call shard) is)) in
+    let same = ap (λ es. closing_count es (first_of w)) (shard_history-other net shard before step (ap (one_call shard) is)) in
     omega (arith, same)
 step-handed net before step w (Err (view fault)) is =
     let shard = shard_of w.eui in
-    let same = ap (λ es. closing_count es w) (shard_history-other net shard before step (ap (one_call shard) is)) in
+    let same = ap (λ es. closing_count es (first_of w)) (shard_history-other net shard before step (ap (one_call shard) is)) in
     omega (arith, same)
 step-handed net before step w (Ok c) is =
     let shard = shard_of w.eui in
@@ -222,27 +241,27 @@ step-handed net before step w (Ok c) is =
       | inl own ↦
           (let h = shard_history net shard before in
           let one : one_call shard (call_of step.act) ≡ c ∷ [] = ap (one_call shard) is ∙ ap (λ b. cond {A = List Call} b (c ∷ []) []) own.0 in
-          let now = ap (λ es. closing_count es w) (shard_history-own net shard before step c one) ∙ closings-added h (entry_for net h (length h) c) w in
+          let now = ap (λ es. closing_count es (first_of w)) (shard_history-own net shard before step c one) ∙ closings-added h (entry_for net h (length h) c) (first_of w) in
           let out : cond (hands_out w (call_taken net before (Ok c))) 1 0 ≤ closed_by net h c w = subst (λ k. cond (handed w (answer net (shard_history net k before) c).uplink) 1 0 ≤ closed_by net h c w) (sym own.1) (handed-closed net h c w) in
           omega (arith, now, out))
       | inr other ↦
           (let none : one_call shard (call_of step.act) ≡ [] = ap (one_call shard) is ∙ ap (λ b. cond {A = List Call} b (c ∷ []) []) other.0 in
-          let same = ap (λ es. closing_count es w) (shard_history-other net shard before step none) in
+          let same = ap (λ es. closing_count es (first_of w)) (shard_history-other net shard before step none) in
           let out : cond (hands_out w (call_taken net before (Ok c))) 1 0 ≡ 0 = ap (λ b. cond {A = ℕ} b 1 0) (handed-elsewhere net (shard_history net (shard_of_call c) before) c w other.1) in
           omega (arith, same, out))
     ]
 
 steps-handed : (net : Network) (before steps : List Step) (w : WindowName) →
     let shard = shard_of w.eui in
-    count_by (hands_out w) (all_taken net before steps) + closing_count (shard_history net shard before) w ≤ closing_count (shard_history net shard (before ++ steps)) w
+    count_by (hands_out w) (all_taken net before steps) + closing_count (shard_history net shard before) (first_of w) ≤ closing_count (shard_history net shard (before ++ steps)) (first_of w)
 steps-handed net before [] w =
     let shard = shard_of w.eui in
-    let same = ap (λ ss. closing_count (shard_history net shard ss) w) (append-nil before) in
+    let same = ap (λ ss. closing_count (shard_history net shard ss) (first_of w)) (append-nil before) in
     omega (arith, same)
 steps-handed net before (step ∷ steps) w =
     let shard = shard_of w.eui in
     let later = steps-handed net (before ++ step ∷ []) steps w in
-    let same = ap (λ ss. closing_count (shard_history net shard ss) w) (append_assoc before (step ∷ []) steps) in
+    let same = ap (λ ss. closing_count (shard_history net shard ss) (first_of w)) (append_assoc before (step ∷ []) steps) in
     let one = step-handed net before step w (call_of step.act) refl in
     let sum = count-cons (hands_out w) (call_taken net before (call_of step.act)) (all_taken net (before ++ step ∷ []) steps) in
     omega (arith, later, same, one, sum)
@@ -253,6 +272,6 @@ taken-once net steps w =
     let h = shard_history net shard steps in
     let once = windows_open_once net h (shard_history-is net shard steps).legal in
     let all = steps-handed net [] steps w in
-    let closes : closing_count h w + open_count h w ≡ opening_count h w = once.closes w in
-    let opens : opening_count h w ≤ 1 = once.opens w in
+    let closes : closing_count h (first_of w) + open_count h (first_of w) ≡ opening_count h (first_of w) = once.closes (first_of w) in
+    let opens : opening_count h (first_of w) ≤ 1 = once.opens (first_of w) in
     omega (arith, all, closes, opens)

@@ -1,18 +1,17 @@
 -- What comes of an uplink by the devices and windows that agree with the entries, and that they agree after it.
-use Rattle.std.proofs.Common.{◌≡◌, ℕ, ◌+◌, ◌<◌, ◌≤◌, ◌==◌, Bool, true, false, cond, nat_lt, nat_le, List, [], ◌∷◌, ◌++◌, length, filter, filter_map, map, count_by, Option, None, Some, IfSome, option_map, option_to_list, refl, sym, ap, ap₂, subst, ◌∙◌, arith, inl, inr}
-use Rattle.std.specs.Prelude.{IsSome, Contains}
+use Rattle.std.proofs.Common.{◌≡◌, ℕ, ◌+◌, ◌<◌, ◌≤◌, ◌==◌, Bool, true, false, cond, nat_lt, nat_le, List, [], ◌∷◌, ◌++◌, length, filter, Option, None, Some, IfSome, option_map, refl, sym, ap, ap₂, subst, ◌∙◌, arith, inl, inr}
+use Rattle.std.specs.Prelude.{IsSome, is_some, Contains, ◌-◌, ◌^◌, ◌&&◌, ◌||◌, not, find, unwrap_or}
 use Rattle.std.specs.List.{AllByRecursion, list_any}
 use Rattle.std.specs.Option.{option_and_then}
-use Rattle.std.proofs.lemmas.List.Elements.{filter_map-append}
 use Rattle.std.proofs.lemmas.Option.{same_Some}
 use Rattle.std.proofs.lemmas.Bool.Decides.{nat_tests}
 use Rattle.ns_types.specs.declared.identity.DevEui.{DevEui}
 use Rattle.ns_types.specs.declared.identity.Key.{Key}
 use Rattle.ns_types.specs.declared.identity.WindowName.{WindowName}
 use Rattle.ns_types.specs.declared.heard.Heard.{Heard}
-use Rattle.ns_types.specs.Cases.{first_case}
-use Rattle.ns_types.specs.Identity.{shard_of, shard_of_addr, same_window}
-use Rattle.ns_views.specs.Frame.{data_fields}
+use Rattle.ns_types.specs.Cases.{first_case, when}
+use Rattle.ns_types.specs.Identity.{shard_of, shard_of_addr, same_uplink, same_window}
+use Rattle.ns_views.specs.Frame.{data_fields, is_confirmed}
 use Rattle.ns_secure.specs.Counter.{above, below, Exceeds}
 use Rattle.ns_roster.specs.declared.Device.{Device}
 use Rattle.ns_roster.specs.Network.{Network, device, device_addr}
@@ -24,38 +23,48 @@ use Rattle.ns_calls.specs.declared.call.Call.TheVariants as call
 use Rattle.ns_calls.specs.declared.call.Reply.{Reply}
 use Rattle.ns_calls.specs.declared.call.Reply.TheVariants as reply
 use Rattle.ns_calls.specs.declared.call.Entry.{Entry}
-use Rattle.ns_calls.specs.History.{Opening, opening_in, window_copy_in, open_windows, window_count, window_copies, session_join, live, is_live, greatest_counter, next_ack}
-use Rattle.ns_calls.specs.Headline.{opening_count, open_count}
+use Rattle.ns_calls.specs.Queries.{maximum}
+use Rattle.ns_calls.specs.History as history
+use Rattle.ns_calls.specs.History.{Opening, opening_in, window_copy_in, open_windows, open_window, is_uplink_open, window_count, window_copies, session_join, live, is_live, greatest_counter, last_round, session_round, next_ack}
 use Rattle.ns_calls.specs.Reply as plain
 use Rattle.ns_calls.specs.Reply.{reply_to, reply_to_uplink, Fit, window_of, first_fit, devices_at, copy_reply, open_reply, most_windows, most_copies}
 use Rattle.ns_calls.specs.Legal.{IsLegal, entry_for, with_call}
 use Rattle.ns_calls.proofs.LocalLemmas.{bool_tells}
-use Rattle.ns_calls.proofs.Lists.{All-weaker, find-has, find-none, one_more, count-append, count-cons, IfSome-weaker, at_some}
-use Rattle.ns_calls.proofs.PushLemmas.{window_copies-push}
+use Rattle.ns_calls.proofs.Lists.{All-weaker, IfSome-weaker, at_some, first-gives_of}
 use Rattle.ns_calls.proofs.LegalLemmas.{history_more}
-use Rattle.ns_calls.proofs.Induction.{legal_induction}
-use Rattle.ns_calls.proofs.UplinkLemmas.{uplink_reply_by, opening_of, opened-cases, IsNewOpening, opening-new}
-use Rattle.ns_calls.proofs.WindowLemmas.{same_window-refl, windows_open_once}
+use Rattle.ns_calls.proofs.UplinkLemmas.{uplink_reply_by, old-has, opening_of, opened-cases}
+use Rattle.ns_calls.proofs.RoundLemmas.{rounds-same, rounds_are_counted}
+use Rattle.ns_calls.proofs.FreshLemmas.{IsApart, windows-apart, opened-new, again-fits, again-next}
 use Rattle.ns_sessions.specs.declared.session.Session.{Session}
-use Rattle.ns_sessions.specs.Record.{device_record, session_record, session_in, IsNewCounter, with_uplink}
+use Rattle.ns_sessions.specs.Record.{device_record, session_record, session_in, IsNewCounter, with_uplink, next_round_in, with_round}
 use Rattle.ns_sessions.specs.Laws.{OthersStay, UplinksAgree, concerns}
 use Rattle.ns_sessions.proofs.Sessions.{Numbered, found_by_number}
 use Rattle.ns_sessions.proofs.Facts.{IsFit, first_fit-live}
 use Rattle.ns_windows.specs.declared.window.Window.{Window}
 use Rattle.ns_windows.specs.declared.window.Addition.TheVariants as addition
-use Rattle.ns_windows.specs.Windows.{named, framed, addition}
-use Rattle.ns_shard.specs.declared.devices.Own.{Own}
-use Rattle.ns_shard.specs.Held.{window_in, windows_in, nwk_of, app_of}
-use Rattle.ns_shard.specs.Devices.{devices_in, own_of}
-use Rattle.ns_shard.specs.Reaction as kept
-use Rattle.ns_shard.specs.Reaction.{uplink_reply, with_shard_uplink, with_copy_or_window, with_window, keys_in, IsOpenable}
-use Rattle.ns_shard.specs.Parts.{Agrees}
-use Rattle.ns_shard.proofs.Maps.{none-count}
+use Rattle.ns_windows.specs.Windows.{window_named, window_of_frame, addition}
+use Rattle.ns_devices.specs.declared.own.Own.{Own}
+use Rattle.ns_shard.specs.Private.Held.{window_of_opening, windows_in, nwk_of, app_of}
+use Rattle.ns_shard.specs.Private.Devices.{devices_in}
+use Rattle.ns_devices.specs.Devices as table
+use Rattle.ns_devices.specs.Devices.{keys_in}
+use Rattle.ns_shard.specs.Private.Reaction as kept
+use Rattle.ns_shard.specs.Private.Reaction.{uplink_reply, with_shard_uplink, with_copy_or_window, with_window, HasPlace, CanOpen}
+use Rattle.ns_shard.specs.Private.Parts.{Agrees}
 use Rattle.ns_shard.proofs.Roster.{fit-own, members}
 use Rattle.ns_shard.proofs.DeviceSteps.{devices-changed, devices-same}
 use Rattle.ns_shard.proofs.WindowSteps.{windows-quiet, windows-copied, windows-opened, windows-framed, windows-named, windows-count, copied-full}
 use Rattle.ns_shard.proofs.PartSteps.{joined, same_device-false}
-use Rattle.ns_shard.proofs.CloseSteps.{gives-all, device_fit-eui, fit-known, own-some}
+use Rattle.ns_shard.proofs.CloseSteps.{device_fit-eui, fit-known, own-some}
+
+-- nothing is found: no element passes
+none-found : (test : Opening → Bool) (os : List Opening) → find test os ≡ None → AllByRecursion (λ o. test o ≡ false) os
+none-found test [] is = tt
+none-found test (o ∷ os) is = step (none-found test os) (test o) refl is
+  where
+    step : (find test os ≡ None → AllByRecursion (λ x. test x ≡ false) os) → (b : Bool) → test o ≡ b → cond {A = Option Opening} b (Some o) (find test os) ≡ None → AllByRecursion (λ x. test x ≡ false) (o ∷ os)
+    step later true here none = absurd (cc none)
+    step later false here none = (here, later none)
 
 -- ---- the reply
 
@@ -66,136 +75,93 @@ place-test n =
       | inr is ↦ (let past : 16 ≤ n = grind (arith, nat_tests) in let beyond : nat_le (n + 1) 16 ≡ false = grind (arith, nat_tests) in is ∙ sym beyond)
     ]
 
-copied-same : (h : List Entry) (o : Opening) → kept.copy_reply (addition (window_in h o)) ≡ copy_reply h o.window
+copied-same : (h : List Entry) (o : Opening) → kept.copy_reply (addition (window_of_opening h o)) ≡ copy_reply h o.window
 copied-same h o =
     let len : ℕ = length (window_copies h o.window) in
     ap (λ b. kept.copy_reply (cond b (addition.Copied o.window (len + 1)) (addition.Crowded o.window))) (place-test len)
     ∙ elim (nat_le (len + 1) 16) as (λ b. kept.copy_reply (cond b (addition.Copied o.window (len + 1)) (addition.Crowded o.window)) ≡ cond b (reply.Copied o.window (len + 1)) (reply.Crowded o.window)) [ true ↦ refl | false ↦ refl ]
 
-pub uplink-replied : (net : Network) (index : ℕ) (h : List Entry) (devices : List Own) (windows : List Window) (frame : List ℕ) → Agrees net index h devices windows → UplinksAgree net h →
-    shard_of_addr (record { 0 = (data_fields frame).addr }) ≡ index → uplink_reply devices windows frame ≡ reply_to_uplink net h frame
-uplink-replied net index h devices windows frame agrees law mine =
-    ap₂ (λ ds ws. uplink_reply ds ws frame) agrees.by_device agrees.by_window
-    ∙ (ap₂ (λ f s. first_case (option_map by_copy (framed frame (windows_in h)) ∷ option_map kept_open f ∷ option_map old s ∷ []) reply.NoSession)
-    (fit-own above net index h frame agrees.valid (law.fits above frame) mine) (fit-own below net index h frame agrees.valid (law.fits below frame) mine)
-    ∙ (ap (λ x. first_case (option_map by_copy x ∷ option_map kept_open (first_fit above net h frame) ∷ option_map old (first_fit below net h frame) ∷ []) reply.NoSession) (windows-framed h frame)
-    ∙ step (plain.window_with h frame) refl (first_fit above net h frame)))
+-- ---- the reply to a frame at or below the greatest counter
+
+-- what is known of where a frame fits
+record IsPlaced (net : Network) (index : ℕ) (h : List Entry) (f : Fit) : Type 0 where
+  fits : IsFit h f
+  shard : shard_of f.eui ≡ index
+  known : IsSome (device net f.eui)
+
+next-round : (h : List Entry) (f : Fit) (round : ℕ) → plain.next_round h f ≡ Some round → round ≡ last_round h (window_of f) + 1
+next-round h f round is = step (plain.is_greatest (greatest_counter h f.eui f.session) f.counter && nat_lt (last_round h (window_of f) + 1) (2 ^ 32)) is
   where
-    by_copy : Window → Reply
-    by_copy w = kept.copy_reply (addition w)
+    step : (b : Bool) → when b (last_round h (window_of f) + 1) ≡ Some round → round ≡ last_round h (window_of f) + 1
+    step true some = sym (same_Some (last_round h (window_of f) + 1) round some)
+    step false none = absurd (cc none)
 
-    old : Fit → Reply
-    old f = reply.Old f.eui f.session f.counter
-
-    kept_open : Fit → Reply
-    kept_open f = kept.open_reply (windows_in h) (window_of f)
-
-    opens : (w : WindowName) → kept.open_reply (windows_in h) w ≡ open_reply h w
-    opens w = ap (λ n. cond (nat_le most_windows n) (reply.Busy w.eui) (reply.Opened w)) (windows-count h w.eui)
-
-    step : (o : Option Opening) → plain.window_with h frame ≡ o → (f : Option Fit) →
-        first_case (option_map by_copy (option_map (window_in h) o) ∷ option_map kept_open f ∷ option_map old (first_fit below net h frame) ∷ []) reply.NoSession
-        ≡ first_case (option_map (λ (x : Opening). copy_reply h x.window) o ∷ option_map (λ (x : Fit). open_reply h (window_of x)) f ∷ option_map old (first_fit below net h frame) ∷ []) reply.NoSession
-    step (Some o) is f = copied-same h o
-    step None is (Some f) = opens (window_of f)
-    step None is None = refl
-
--- ---- a name that never opened has no copies
-
-openings-pushed : (h : List Entry) (e : Entry) (w : WindowName) → opening_count (h ++ e ∷ []) w ≡ opening_count h w + count_by (λ o. same_window o.window w) (option_to_list (opening_in e.call e.reply))
-openings-pushed h e w =
-    let says = λ (x : Entry). opening_in x.call x.reply in
-    let test = λ (o : Opening). same_window o.window w in
-    ap (count_by test) (filter_map-append says h (e ∷ []) ∙ ap (λ ys. filter_map says h ++ ys) (one_more says e)) ∙ count-append test (filter_map says h) (option_to_list (says e))
-
-apart_in : (net : Network) (h : List Entry) (w : WindowName) → IsLegal net h → opening_count h w ≡ 0 → AllByRecursion (λ o. same_window o.window w ≡ false) (open_windows h)
-apart_in net h w legal none =
-    let once = (windows_open_once net h legal).closes w in
-    let no_open : open_count h w ≡ 0 = omega (arith, once, none) in
-    none-count (λ (o : Opening). same_window o.window w) (open_windows h) no_open
-
-no_copies : (w : WindowName) (o : Option (WindowName × Heard)) → IfSome o (λ p. same_window p.0 w ≡ false) → map (λ (c : WindowName × Heard). c.1) (filter (λ (c : WindowName × Heard). same_window c.0 w) (option_to_list o)) ≡ []
-no_copies w None apart = refl
-no_copies w (Some p) apart = ap (λ b. map (λ (c : WindowName × Heard). c.1) (cond {A = List (WindowName × Heard)} b (p ∷ []) [])) apart
-
-copy-apart : (h : List Entry) (frame : List ℕ) (heard : Heard) (w : WindowName) (copied : Option Opening) (fresh stale : Option Fit) → IfSome copied (λ (o : Opening). same_window o.window w ≡ false) →
-    IfSome (opening_in (call.Uplink frame heard) (uplink_reply_by h copied fresh stale)) (λ o. same_window o.window w ≡ false) → IfSome (window_copy_in (call.Uplink frame heard) (uplink_reply_by h copied fresh stale)) (λ p. same_window p.0 w ≡ false)
-copy-apart h frame heard w (Some o) fresh stale apart opened = step (nat_le (length (window_copies h o.window) + 1) most_copies)
+-- the window of an uplink's last round is open where one of its windows is
+find-any : (test other : Opening → Bool) (os : List Opening) → AllByRecursion (λ o. test o ≡ other o) os → is_some (find test os) ≡ list_any other os
+find-any test other [] same = refl
+find-any test other (o ∷ os) same = step (find-any test other os same.1) (test o) same.0
   where
-    step : (b : Bool) → IfSome (window_copy_in (call.Uplink frame heard) (cond b (reply.Copied o.window (length (window_copies h o.window) + 1)) (reply.Crowded o.window))) (λ p. same_window p.0 w ≡ false)
-    step true = apart
-    step false = tt
-copy-apart h frame heard w None (Some f) stale apart opened = step (nat_le most_windows (window_count h f.eui)) opened
+    step : is_some (find test os) ≡ list_any other os → (b : Bool) → b ≡ other o → is_some (cond {A = Option Opening} b (Some o) (find test os)) ≡ (other o || list_any other os)
+    step rest true is = ap (λ c. c || list_any other os) is
+    step rest false is = rest ∙ ap (λ c. c || list_any other os) is
+
+last-open : (net : Network) (h : List Entry) → IsLegal net h → (f : Fit) → is_some (open_window h (plain.in_round f (last_round h (window_of f)))) ≡ is_uplink_open h (window_of f)
+last-open net h legal f =
+    find-any (λ (o : Opening). same_window o.window (plain.in_round f last)) (λ (o : Opening). same_uplink o.window (window_of f)) (open_windows h)
+    (All-weaker (λ (o : Opening). o.window.round ≡ last_round h o.window) (λ (o : Opening). same_window o.window (plain.in_round f last) ≡ same_uplink o.window (window_of f)) same (open_windows h) (rounds_are_counted net h legal).of_open)
   where
-    v : WindowName
-    v = window_of f
+    last : ℕ
+    last = last_round h (window_of f)
 
-    step : (b : Bool) → IfSome (opening_in (call.Uplink frame heard) (cond b (reply.Busy v.eui) (reply.Opened v))) (λ o. same_window o.window w ≡ false) →
-        IfSome (window_copy_in (call.Uplink frame heard) (cond b (reply.Busy v.eui) (reply.Opened v))) (λ p. same_window p.0 w ≡ false)
-    step true is = tt
-    step false is = is
-copy-apart h frame heard w None None (Some f) apart opened = tt
-copy-apart h frame heard w None None None apart opened = tt
+    and_true : (a : Bool) → (a && true) ≡ a
+    and_true true = refl
+    and_true false = refl
 
-NoCopies : List Entry → Type 0
-NoCopies h = (w : WindowName) → opening_count h w ≡ 0 → window_copies h w ≡ []
-
-to_option : {X : Type 0} (P : X → Type 0) (o : Option X) → AllByRecursion P (option_to_list o) → IfSome o P
-to_option P None all = tt
-to_option P (Some x) all = all.0
-
-copies_step : (net : Network) (h : List Entry) (number : ℕ) (c : Call) → IsLegal net h → NoCopies h → NoCopies (with_call net h number c)
-unfolding NoCopies
-copies_step net h number c legal holds w none =
-    let e : Entry = entry_for net h number c in
-    let said : opening_count (h ++ e ∷ []) w ≡ opening_count h w + count_by (λ (o : Opening). same_window o.window w) (option_to_list (opening_in c (reply_to net h c))) = openings-pushed h e w in
-    let before : opening_count h w ≡ 0 = omega (arith, said, none) in
-    let new : count_by (λ (o : Opening). same_window o.window w) (option_to_list (opening_in c (reply_to net h c))) ≡ 0 = omega (arith, said, none) in
-    let opened = to_option (λ (o : Opening). same_window o.window w ≡ false) (opening_in c (reply_to net h c)) (none-count (λ (o : Opening). same_window o.window w) (option_to_list (opening_in c (reply_to net h c))) new) in
-    window_copies-push h e w ∙ ap₂ (λ xs ys. xs ++ ys) (holds w before) (no_copies w (window_copy_in c (reply_to net h c)) (each c before opened))
-  where
-    each : (d : Call) → opening_count h w ≡ 0 → IfSome (opening_in d (reply_to net h d)) (λ (o : Opening). same_window o.window w ≡ false) → IfSome (window_copy_in d (reply_to net h d)) (λ p. same_window p.0 w ≡ false)
-    each (call.Join t heard) before is = tt
-    each (call.JoinReply t o) before is = tt
-    each (call.Close v) before is = tt
-    each (call.Uplink frame heard) before is =
-        copy-apart h frame heard w (plain.window_with h frame) (first_fit above net h frame) (first_fit below net h frame)
-        (IfSome-weaker (λ (o : Opening). (same_window o.window w ≡ false) × (Rattle.std.specs.Prelude.bytes_eq o.frame frame ≡ true)) (λ (o : Opening). same_window o.window w ≡ false) (plain.window_with h frame) (λ o both. both.0)
-        (find-has (λ (o : Opening). same_window o.window w ≡ false) (λ (o : Opening). Rattle.std.specs.Prelude.bytes_eq o.frame frame) (open_windows h) (apart_in net h w legal before))) is
-
-copies_none : (net : Network) (h : List Entry) → IsLegal net h → NoCopies h
-unfolding NoCopies
-copies_none net h legal = legal_induction net NoCopies (λ w none. refl) (λ g number c ok holds. copies_step net g number c ok holds) h legal
-
-none_copied : (net : Network) (h : List Entry) (w : WindowName) → IsLegal net h → opening_count h w ≡ 0 → window_copies h w ≡ []
-unfolding NoCopies
-none_copied net h w legal never = copies_none net h legal w never
-
--- ---- an uplink that is opened
-
--- what is opened is of a frame that no open window has, where it fits
-opened-facts : (net : Network) (h : List Entry) (frame : List ℕ) (heard : Heard) (w : WindowName) → reply_to_uplink net h frame ≡ reply.Opened w → (plain.window_with h frame ≡ None) × (f : Fit) × (first_fit above net h frame ≡ Some f) × (window_of f ≡ w)
-opened-facts net h frame heard w is =
-    let said : opening_in (call.Uplink frame heard) (reply_to_uplink net h frame) ≡ Some (opening_of w frame heard) = ap (opening_in (call.Uplink frame heard)) is in
-    elim (opened-cases h frame heard (plain.window_with h frame) (first_fit above net h frame) _) [
-      | inl none ↦ absurd (cc (sym none ∙ said))
-      | inr found ↦
-          (let same : opening_of (window_of found.0) frame heard ≡ opening_of w frame heard = same_Some _ _ (sym found.3 ∙ said) in
-          (found.1, found.0, found.2, ap (λ (o : Opening). o.window) same))
+    same : (o : Opening) → o.window.round ≡ last_round h o.window → same_window o.window (plain.in_round f (last_round h (window_of f))) ≡ same_uplink o.window (window_of f)
+    same o is = elim (bool_tells (same_uplink o.window (window_of f))) [
+      | inl mine ↦
+          (let round : o.window.round ≡ last_round h (window_of f) = is ∙ ap (λ ns. unwrap_or (maximum ns) 0) (rounds-same h o.window (window_of f) mine) in
+          let test : (o.window.round == last_round h (window_of f)) ≡ true = grind (arith, nat_tests) in
+          ap (λ b. same_uplink o.window (window_of f) && b) test ∙ and_true (same_uplink o.window (window_of f)))
+      | inr other ↦ ap (λ b. b && (o.window.round == last_round h (window_of f))) other ∙ sym other
     ]
 
--- the session of a window that fits is one of the record's, with its keys and its counter
-session_record-numbered : (h : List Entry) (eui : DevEui) → Numbered (session_record h eui)
-session_record-numbered h eui n = step (session_join h eui n)
+round-same : (net : Network) (index : ℕ) (h : List Entry) (frame : List ℕ) (f : Fit) → IsLegal net h → UplinksAgree net h → IsPlaced net index h f → kept.round_of (devices_in net index h) (windows_in h) frame f ≡ plain.round_of h frame f
+round-same net index h frame f legal law placed = by_type (is_confirmed frame)
   where
-    step : (j : Option JoinAns) → IfSome (option_map (λ (join : JoinAns). let s : Session = record { number = n; nwk = join.nwk; app = join.app; greatest_counter = greatest_counter h eui n; next_ack = next_ack h eui n } in s) j) (λ s. s.number ≡ n)
-    step None = tt
-    step (Some join) = refl
+    open_before : Option ℕ → Option ℕ
+    open_before o = option_and_then (λ round. when (not (is_some (window_named (plain.in_round f (round - 1)) (windows_in h)))) round) o
 
-session-found : (net : Network) (h : List Entry) (eui : DevEui) (session : ℕ) → is_live h eui session ≡ true → session_in (device_record net h eui) session ≡ session_record h eui session
-unfolding device_record
-session-found net h eui session lives =
-    found_by_number (session_record h eui) (session_record-numbered h eui) session (live h eui) ∙ ap (λ b. cond b (session_record h eui session) None) lives
+    next : table.next_round (devices_in net index h) f ≡ plain.next_round h f
+    next =
+        let own = own-some net index h f.eui placed.shard placed.known in
+        ap (option_and_then (λ (o : Own). next_round_in o.state f.session f.counter)) own.1
+        ∙ (ap (λ (e : DevEui). next_round_in (device_record net h e) f.session f.counter) own.2 ∙ law.rounds legal f placed.fits.lives)
+
+    some-map : (o : Option Opening) → is_some (option_map (window_of_opening h) o) ≡ is_some o
+    some-map None = refl
+    some-map (Some o) = refl
+
+    by_round : (o : Option ℕ) → plain.next_round h f ≡ o → open_before o ≡ cond (not (is_uplink_open h (window_of f))) o None
+    by_round None is = elim (not (is_uplink_open h (window_of f))) as (λ b. None ≡ cond {A = Option ℕ} b None None) [ true ↦ refl | false ↦ refl ]
+    by_round (Some round) is =
+        let last : round ≡ last_round h (window_of f) + 1 = next-round h f round is in
+        let before : round - 1 ≡ last_round h (window_of f) = omega (arith, last) in
+        let opens : is_some (window_named (plain.in_round f (round - 1)) (windows_in h)) ≡ is_uplink_open h (window_of f) =
+        ap (λ n. is_some (window_named (plain.in_round f n) (windows_in h))) before
+        ∙ (ap (λ o. is_some o) (windows-named h (plain.in_round f (last_round h (window_of f))))
+        ∙ (some-map (open_window h (plain.in_round f (last_round h (window_of f)))) ∙ last-open net h legal f)) in
+        ap (λ b. when (not b) round) opens
+
+    by_type : (b : Bool) → cond b (open_before (table.next_round (devices_in net index h) f)) None ≡ cond (b && not (is_uplink_open h (window_of f))) (plain.next_round h f) None
+    by_type true = ap open_before next ∙ by_round (plain.next_round h f) refl
+    by_type false = refl
+
+old-same : (net : Network) (index : ℕ) (h : List Entry) (frame : List ℕ) (f : Fit) → IsLegal net h → UplinksAgree net h → IsPlaced net index h f → kept.old_reply (devices_in net index h) (windows_in h) frame f ≡ plain.old_reply h frame f
+old-same net index h frame f legal law placed =
+    let rounds = round-same net index h frame f legal law placed in
+    let counts = windows-count h f.eui in
+    λ i. first_case (option_map (λ round. cond (nat_le most_windows (counts i)) (reply.Busy f.eui) (reply.Again (plain.in_round f round))) (rounds i) ∷ []) (reply.Old f.eui f.session f.counter)
 
 filter-passes : {X : Type 0} (P : X → Type 0) (test : X → Bool) (xs : List X) → AllByRecursion P xs → AllByRecursion (λ x. P x × (test x ≡ true)) (filter test xs)
 filter-passes P test [] all = tt
@@ -208,7 +174,7 @@ filter-passes {X} P test (x ∷ xs) all = step (test x) refl (filter-passes P te
 -- what fits is of a device of the frame's shard
 fit-shard : (recover : Option ℕ → ℕ → Option ℕ) (net : Network) (index : ℕ) (h : List Entry) (frame : List ℕ) → IsRoster net → shard_of_addr (record { 0 = (data_fields frame).addr }) ≡ index → IfSome (first_fit recover net h frame) (λ f. shard_of f.eui ≡ index)
 fit-shard recover net index h frame valid mine =
-    gives-all Mine (λ (d : Device). plain.device_fit recover h frame d.eui) (devices_at net (data_fields frame).addr)
+    first-gives_of Mine (λ (d : Device). plain.device_fit recover h frame d.eui) (devices_at net (data_fields frame).addr)
     (All-weaker (λ (d : Device). Contains net.devices d × (addressed d ≡ true)) (λ (d : Device). IfSome (plain.device_fit recover h frame d.eui) Mine) each (devices_at net (data_fields frame).addr)
     (filter-passes (Contains net.devices) addressed net.devices (members net)))
   where
@@ -224,53 +190,110 @@ fit-shard recover net index h frame valid mine =
         let shard : shard_of d.eui ≡ index = sym (shard_of_device net valid d both.0) ∙ (ap (λ n. shard_of_addr (record { 0 = n })) addr ∙ mine) in
         IfSome-weaker (λ (f : Fit). f.eui ≡ d.eui) Mine (plain.device_fit recover h frame d.eui) (λ f is. ap shard_of is ∙ shard) (device_fit-eui recover h frame d.eui)
 
--- what is known of a window that is opened
+-- where a frame fits is placed
+fits-placed : (recover : Option ℕ → ℕ → Option ℕ) (net : Network) (index : ℕ) (h : List Entry) (frame : List ℕ) → IsRoster net → shard_of_addr (record { 0 = (data_fields frame).addr }) ≡ index → IfSome (first_fit recover net h frame) (IsPlaced net index h)
+fits-placed recover net index h frame valid mine = step (first_fit recover net h frame) (first_fit-live recover net h frame) (fit-shard recover net index h frame valid mine) (fit-known recover net h frame valid)
+  where
+    step : (o : Option Fit) → IfSome o (IsFit h) → IfSome o (λ f. shard_of f.eui ≡ index) → IfSome o (λ f. IsSome (device net f.eui)) → IfSome o (IsPlaced net index h)
+    step None fits shard known = tt
+    step (Some f) fits shard known = record { fits = fits; shard = shard; known = known }
+
+pub uplink-replied : (net : Network) (index : ℕ) (h : List Entry) (devices : List Own) (windows : List Window) (frame : List ℕ) → Agrees net index h devices windows → UplinksAgree net h →
+    shard_of_addr (record { 0 = (data_fields frame).addr }) ≡ index → uplink_reply devices windows frame ≡ reply_to_uplink net h frame
+uplink-replied net index h devices windows frame agrees law mine =
+    ap₂ (λ ds ws. uplink_reply ds ws frame) agrees.by_device agrees.by_window
+    ∙ (ap₂ (λ f s. first_case (option_map by_copy (window_of_frame frame (windows_in h)) ∷ option_map kept_open f ∷ option_map kept_old s ∷ []) reply.NoSession)
+    (fit-own above net index h frame agrees.valid (law.fits above frame) mine) (fit-own below net index h frame agrees.valid (law.fits below frame) mine)
+    ∙ (ap (λ x. first_case (option_map by_copy x ∷ option_map kept_open (first_fit above net h frame) ∷ option_map kept_old (first_fit below net h frame) ∷ []) reply.NoSession) (windows-framed h frame)
+    ∙ step (plain.window_with h frame) refl (first_fit above net h frame) (first_fit below net h frame) (fits-placed below net index h frame agrees.valid mine)))
+  where
+    by_copy : Window → Reply
+    by_copy w = kept.copy_reply (addition w)
+
+    kept_old : Fit → Reply
+    kept_old f = kept.old_reply (devices_in net index h) (windows_in h) frame f
+
+    kept_open : Fit → Reply
+    kept_open f = kept.open_reply (windows_in h) (window_of f)
+
+    opens : (w : WindowName) → kept.open_reply (windows_in h) w ≡ open_reply h w
+    opens w = ap (λ n. cond (nat_le most_windows n) (reply.Busy w.eui) (reply.Opened w)) (windows-count h w.eui)
+
+    step : (o : Option Opening) → plain.window_with h frame ≡ o → (f s : Option Fit) → IfSome s (IsPlaced net index h) →
+        first_case (option_map by_copy (option_map (window_of_opening h) o) ∷ option_map kept_open f ∷ option_map kept_old s ∷ []) reply.NoSession
+        ≡ first_case (option_map (λ (x : Opening). copy_reply h x.window) o ∷ option_map (λ (x : Fit). open_reply h (window_of x)) f ∷ option_map (plain.old_reply h frame) s ∷ []) reply.NoSession
+    step (Some o) is f s placed = copied-same h o
+    step None is (Some f) s placed = opens (window_of f)
+    step None is None (Some f) placed = old-same net index h frame f agrees.history.legal law placed
+    step None is None None placed = refl
+
+-- ---- an uplink that is opened
+
+-- the session of a window that fits is one of the record's, with its keys and its counter
+session_record-numbered : (h : List Entry) (eui : DevEui) → Numbered (session_record h eui)
+session_record-numbered h eui n = step (session_join h eui n)
+  where
+    step : (j : Option JoinAns) → IfSome (option_map (λ (join : JoinAns). let s : Session = record { number = n; nwk = join.nwk; app = join.app; greatest_counter = greatest_counter h eui n; round = session_round h eui n; next_ack = next_ack h eui n } in s) j) (λ s. s.number ≡ n)
+    step None = tt
+    step (Some join) = refl
+
+session-found : (net : Network) (h : List Entry) (eui : DevEui) (session : ℕ) → is_live h eui session ≡ true → session_in (device_record net h eui) session ≡ session_record h eui session
+unfolding device_record
+session-found net h eui session lives =
+    found_by_number (session_record h eui) (session_record-numbered h eui) session (live h eui) ∙ ap (λ b. cond b (session_record h eui session) None) lives
+
+-- what is known of a window that is opened, in any round
 record IsOpened (net : Network) (index : ℕ) (h : List Entry) (frame : List ℕ) (w : WindowName) : Type 0 where
   shard : shard_of w.eui ≡ index
   known : IsSome (device net w.eui)
   keyed : IsSome (session_join h w.eui w.session)
   found : session_in (device_record net h w.eui) w.session ≡ session_record h w.eui w.session
-  counter : Exceeds (greatest_counter h w.eui w.session) w.fcnt
-  never : opening_count h w ≡ 0
+  apart : IsApart h frame w
 
-is-opened : (net : Network) (index : ℕ) (h : List Entry) (frame : List ℕ) (heard : Heard) (w : WindowName) → IsRoster net → IsLegal net h → IsLegal net (with_call net h (length h) (call.Uplink frame heard)) →
-    shard_of_addr (record { 0 = (data_fields frame).addr }) ≡ index → reply_to_uplink net h frame ≡ reply.Opened w → IsOpened net index h frame w
-is-opened net index h frame heard w valid legal after mine is =
+placed-opened : (net : Network) (index : ℕ) (h : List Entry) (frame : List ℕ) (w : WindowName) (f : Fit) → IsPlaced net index h f → f.eui ≡ w.eui → f.session ≡ w.session → IsApart h frame w → IsOpened net index h frame w
+placed-opened net index h frame w f placed eui session apart = record {
+  shard = subst (λ (d : DevEui). shard_of d ≡ index) eui placed.shard;
+  known = subst (λ (d : DevEui). IsSome (device net d)) eui placed.known;
+  keyed = subst (λ s. IsSome (session_join h w.eui s)) session (subst (λ (d : DevEui). IsSome (session_join h d f.session)) eui placed.fits.keyed);
+  found =
+      session-found net h w.eui w.session (subst (λ s. is_live h w.eui s ≡ true) session (subst (λ (d : DevEui). is_live h d f.session ≡ true) eui placed.fits.lives));
+  apart = apart;
+}
+
+is-opened : (net : Network) (index : ℕ) (h : List Entry) (frame : List ℕ) (heard : Heard) (w : WindowName) → IsRoster net → IsLegal net h → shard_of_addr (record { 0 = (data_fields frame).addr }) ≡ index → reply_to_uplink net h frame ≡ reply.Opened w → IsOpened net index h frame w
+is-opened net index h frame heard w valid legal mine is =
     let c : Call = call.Uplink frame heard in
-    let e : Entry = entry_for net h (length h) c in
-    let facts = opened-facts net h frame heard w is in
-    let fit : first_fit above net h frame ≡ Some facts.1 = facts.2 in
-    let name : window_of facts.1 ≡ w = facts.3 in
-    let lives : IsFit h facts.1 = at_some (IsFit h) (first_fit above net h frame) facts.1 fit (first_fit-live above net h frame) in
-    let said : opening_in c (reply_to net h c) ≡ Some (opening_of w frame heard) = ap (opening_in c) is in
-    let new : IsNewOpening h (opening_of w frame heard) = at_some (IsNewOpening h) (opening_in c (reply_to net h c)) (opening_of w frame heard) said (opening-new net h c) in
-    let test : Opening → Bool = λ o. same_window o.window w in
-    let one : count_by test (option_to_list (opening_in c (reply_to net h c))) ≡ 1 + 0 =
-    ap (λ o. count_by test (option_to_list o)) said ∙ (count-cons test (opening_of w frame heard) [] ∙ ap (λ b. cond {A = ℕ} b 1 0 + 0) (same_window-refl w)) in
-    let pushed : opening_count (h ++ e ∷ []) w ≡ opening_count h w + count_by test (option_to_list (opening_in c (reply_to net h c))) = openings-pushed h e w in
-    let once : opening_count (h ++ e ∷ []) w ≤ 1 = (windows_open_once net (h ++ e ∷ []) after).opens w in
-    record {
-      shard = subst (λ (v : WindowName). shard_of v.eui ≡ index) name (at_some (λ (f : Fit). shard_of f.eui ≡ index) (first_fit above net h frame) facts.1 fit (fit-shard above net index h frame valid mine));
-      known = subst (λ (v : WindowName). IsSome (device net v.eui)) name (at_some (λ (f : Fit). IsSome (device net f.eui)) (first_fit above net h frame) facts.1 fit (fit-known above net h frame valid));
-      keyed = subst (λ (v : WindowName). IsSome (session_join h v.eui v.session)) name lives.keyed;
-      found = session-found net h w.eui w.session (subst (λ (v : WindowName). is_live h v.eui v.session ≡ true) name lives.lives);
-      counter = new.fresh.counter;
-      never = omega (arith, one, pushed, once);
-    }
+    let says : opening_in c (reply_to net h c) ≡ Some (opening_of w frame heard) = ap (opening_in c) is in
+    elim (opened-cases h frame heard (plain.window_with h frame) (first_fit above net h frame) (first_fit below net h frame)) [
+      | inl none ↦ absurd (cc (sym none ∙ says))
+      | inr found ↦
+          (let same : opening_of (window_of found.0) frame heard ≡ opening_of w frame heard = same_Some _ _ (sym found.3 ∙ says) in
+          let name : window_of found.0 ≡ w = ap (λ (o : Opening). o.window) same in
+          placed-opened net index h frame w found.0 (at_some (IsPlaced net index h) (first_fit above net h frame) found.0 found.2 (fits-placed above net index h frame valid mine))
+          (ap (λ (v : WindowName). v.eui) name) (ap (λ (v : WindowName). v.session) name) (windows-apart net h legal frame heard w (ap (history.window_in c) is)))
+    ]
+
+is-again : (net : Network) (index : ℕ) (h : List Entry) (frame : List ℕ) (heard : Heard) (w : WindowName) → IsRoster net → IsLegal net h → shard_of_addr (record { 0 = (data_fields frame).addr }) ≡ index → reply_to_uplink net h frame ≡ reply.Again w → IsOpened net index h frame w
+is-again net index h frame heard w valid legal mine is =
+    let c : Call = call.Uplink frame heard in
+    let found = again-fits h frame heard (plain.window_with h frame) (first_fit above net h frame) (first_fit below net h frame) w is in
+    let name : plain.in_round found.0 found.2 ≡ w = found.3 in
+    placed-opened net index h frame w found.0 (at_some (IsPlaced net index h) (first_fit below net h frame) found.0 found.1 (fits-placed below net index h frame valid mine))
+    (ap (λ (v : WindowName). v.eui) name) (ap (λ (v : WindowName). v.session) name) (windows-apart net h legal frame heard w (ap (history.window_in c) is))
 
 -- the record has the session
 opened-session : (net : Network) (index : ℕ) (h : List Entry) (frame : List ℕ) (w : WindowName) → IsOpened net index h frame w → (join : JoinAns) → session_join h w.eui w.session ≡ Some join →
-    let s : Session = record { number = w.session; nwk = join.nwk; app = join.app; greatest_counter = greatest_counter h w.eui w.session; next_ack = next_ack h w.eui w.session } in
+    let s : Session = record { number = w.session; nwk = join.nwk; app = join.app; greatest_counter = greatest_counter h w.eui w.session; round = session_round h w.eui w.session; next_ack = next_ack h w.eui w.session } in
     session_in (device_record net h w.eui) w.session ≡ Some s
 opened-session net index h frame w is join keyed =
-    is.found ∙ ap (option_map (λ (j : JoinAns). let s : Session = record { number = w.session; nwk = j.nwk; app = j.app; greatest_counter = greatest_counter h w.eui w.session; next_ack = next_ack h w.eui w.session } in s)) keyed
+    is.found ∙ ap (option_map (λ (j : JoinAns). let s : Session = record { number = w.session; nwk = j.nwk; app = j.app; greatest_counter = greatest_counter h w.eui w.session; round = session_round h w.eui w.session; next_ack = next_ack h w.eui w.session } in s)) keyed
 
-new_counter : (net : Network) (index : ℕ) (h : List Entry) (frame : List ℕ) (w : WindowName) → IsOpened net index h frame w → IsNewCounter (session_in (device_record net h w.eui) w.session) w.fcnt
-new_counter net index h frame w is = step (session_join h w.eui w.session) refl is.keyed
+new_counter : (net : Network) (index : ℕ) (h : List Entry) (frame : List ℕ) (w : WindowName) → IsOpened net index h frame w → Exceeds (greatest_counter h w.eui w.session) w.fcnt → IsNewCounter (session_in (device_record net h w.eui) w.session) w.fcnt
+new_counter net index h frame w is above = step (session_join h w.eui w.session) refl is.keyed
   where
     step : (j : Option JoinAns) → session_join h w.eui w.session ≡ j → IsSome j → IsNewCounter (session_in (device_record net h w.eui) w.session) w.fcnt
     step None none some = absurd (cc some)
-    step (Some join) keyed some = subst (λ o. IsNewCounter o w.fcnt) (sym (opened-session net index h frame w is join keyed)) is.counter
+    step (Some join) keyed some = subst (λ o. IsNewCounter o w.fcnt) (sym (opened-session net index h frame w is join keyed)) above
 
 opened-keys : (net : Network) (index : ℕ) (h : List Entry) (frame : List ℕ) (w : WindowName) → IsOpened net index h frame w →
     keys_in (devices_in net index h) w ≡ Some (nwk_of (session_join h w.eui w.session), app_of (session_join h w.eui w.session))
@@ -288,27 +311,33 @@ opened-keys net index h frame w is = step (session_join h w.eui w.session) refl 
         ∙ (ap keys_of (opened-session net index h frame w is join keyed)
         ∙ ap (λ (j : Option JoinAns). Some (nwk_of j, app_of j)) (sym keyed)))
 
+has-place : (net : Network) (index : ℕ) (h : List Entry) (devices : List Own) (windows : List Window) (frame : List ℕ) (w : WindowName) → Agrees net index h devices windows → IsOpened net index h frame w → HasPlace devices windows w
+has-place net index h devices windows frame w agrees is = record {
+  keys = subst (λ ds. IsSome (keys_in ds w)) (sym agrees.by_device) (subst (λ o. IsSome o) (sym (opened-keys net index h frame w is)) refl);
+  apart = ap (window_named w) agrees.by_window ∙ (windows-named h w ∙ ap (option_map (window_of_opening h)) is.apart.name);
+}
+
 pub can_open : (net : Network) (index : ℕ) (h : List Entry) (devices : List Own) (windows : List Window) (frame : List ℕ) (heard : Heard) → Agrees net index h devices windows → UplinksAgree net h →
-    shard_of_addr (record { 0 = (data_fields frame).addr }) ≡ index → (w : WindowName) → uplink_reply devices windows frame ≡ reply.Opened w → IsOpenable devices windows w
-can_open net index h devices windows frame heard agrees law mine w said =
-    let is : IsOpened net index h frame w =
-    is-opened net index h frame heard w agrees.valid agrees.history.legal (history_more net index h (call.Uplink frame heard) mine agrees.history).legal mine (sym (uplink-replied net index h devices windows frame agrees law mine) ∙ said) in
-    let own = own-some net index h w.eui is.shard is.known in
-    record {
-      counter =
-          subst (λ ds. IfSome (own_of w.eui ds) (λ (o : Own). IsNewCounter (session_in o.state w.session) w.fcnt)) (sym agrees.by_device)
-          (subst (λ x. IfSome x (λ (o : Own). IsNewCounter (session_in o.state w.session) w.fcnt)) (sym own.1)
-          (subst (λ (e : DevEui). IsNewCounter (session_in (device_record net h e) w.session) w.fcnt) (sym own.2) (new_counter net index h frame w is)));
-      keys = subst (λ ds. IsSome (keys_in ds w)) (sym agrees.by_device) (subst (λ o. IsSome o) (sym (opened-keys net index h frame w is)) refl);
-      apart =
-          ap (named w) agrees.by_window
-          ∙ (windows-named h w ∙ ap (option_map (window_in h)) (find-none (λ (o : Opening). same_window o.window w) (open_windows h) (apart_in net h w agrees.history.legal is.never)));
-    }
+    shard_of_addr (record { 0 = (data_fields frame).addr }) ≡ index → CanOpen devices windows frame
+can_open net index h devices windows frame heard agrees law mine =
+    record { place = λ w said. has-place net index h devices windows frame w agrees (opens w (replied w said)); again = λ w said. has-place net index h devices windows frame w agrees (again w said) }
+  where
+    same : uplink_reply devices windows frame ≡ reply_to_uplink net h frame
+    same = uplink-replied net index h devices windows frame agrees law mine
+
+    replied : (w : WindowName) → uplink_reply devices windows frame ≡ reply.Opened w → reply_to_uplink net h frame ≡ reply.Opened w
+    replied w said = sym (uplink-replied net index h devices windows frame agrees law mine) ∙ said
+
+    opens : (w : WindowName) → reply_to_uplink net h frame ≡ reply.Opened w → IsOpened net index h frame w
+    opens w is = is-opened net index h frame heard w agrees.valid agrees.history.legal mine is
+
+    again : (w : WindowName) → uplink_reply devices windows frame ≡ reply.Again w → IsOpened net index h frame w
+    again w said = is-again net index h frame heard w agrees.valid agrees.history.legal mine (sym (uplink-replied net index h devices windows frame agrees law mine) ∙ said)
 
 -- ---- after it
 
-room-of : (h : List Entry) (copied : Option Opening) (fresh stale : Option Fit) (w : WindowName) (place : ℕ) → uplink_reply_by h copied fresh stale ≡ reply.Copied w place → length (window_copies h w) < most_copies
-room-of h (Some o) fresh stale w place is = step (nat_le (length (window_copies h o.window) + 1) most_copies) refl is
+room-of : (h : List Entry) (frame : List ℕ) (copied : Option Opening) (fresh stale : Option Fit) (w : WindowName) (place : ℕ) → uplink_reply_by h frame copied fresh stale ≡ reply.Copied w place → length (window_copies h w) < most_copies
+room-of h frame (Some o) fresh stale w place is = step (nat_le (length (window_copies h o.window) + 1) most_copies) refl is
   where
     step : (b : Bool) → nat_le (length (window_copies h o.window) + 1) most_copies ≡ b → cond b (reply.Copied o.window (length (window_copies h o.window) + 1)) (reply.Crowded o.window) ≡ reply.Copied w place → length (window_copies h w) < most_copies
     step false fits said = absurd (cc said)
@@ -316,7 +345,7 @@ room-of h (Some o) fresh stale w place is = step (nat_le (length (window_copies 
         let less : length (window_copies h o.window) < 16 = grind (arith, nat_tests) in
         let same : o.window ≡ w = cc in
         subst (λ (v : WindowName). length (window_copies h v) < 16) same less
-room-of h None (Some f) stale w place is = step (nat_le most_windows (window_count h f.eui)) is
+room-of h frame None (Some f) stale w place is = step (nat_le most_windows (window_count h f.eui)) is
   where
     v : WindowName
     v = window_of f
@@ -324,18 +353,18 @@ room-of h None (Some f) stale w place is = step (nat_le most_windows (window_cou
     step : (b : Bool) → cond b (reply.Busy v.eui) (reply.Opened v) ≡ reply.Copied w place → length (window_copies h w) < most_copies
     step true said = absurd (cc said)
     step false said = absurd (cc said)
-room-of h None None (Some f) w place is = absurd (cc is)
-room-of h None None None w place is = absurd (cc is)
+room-of h frame None None (Some f) w place is = old-has (λ r. r ≡ reply.Copied w place → length (window_copies h w) < most_copies) h frame f (λ said. absurd (cc said)) (λ said. absurd (cc said)) (λ round found room said. absurd (cc said)) is
+room-of h frame None None None w place is = absurd (cc is)
 
-full-of : (h : List Entry) (copied : Option Opening) (fresh stale : Option Fit) (w : WindowName) → uplink_reply_by h copied fresh stale ≡ reply.Crowded w → nat_lt (length (window_copies h w)) most_copies ≡ false
-full-of h (Some o) fresh stale w is = step (nat_le (length (window_copies h o.window) + 1) most_copies) refl is
+full-of : (h : List Entry) (frame : List ℕ) (copied : Option Opening) (fresh stale : Option Fit) (w : WindowName) → uplink_reply_by h frame copied fresh stale ≡ reply.Crowded w → nat_lt (length (window_copies h w)) most_copies ≡ false
+full-of h frame (Some o) fresh stale w is = step (nat_le (length (window_copies h o.window) + 1) most_copies) refl is
   where
     step : (b : Bool) → nat_le (length (window_copies h o.window) + 1) most_copies ≡ b → cond b (reply.Copied o.window (length (window_copies h o.window) + 1)) (reply.Crowded o.window) ≡ reply.Crowded w → nat_lt (length (window_copies h w)) most_copies ≡ false
     step true fits said = absurd (cc said)
     step false fits said =
         let same : o.window ≡ w = cc in
         ap (λ (v : WindowName). nat_lt (length (window_copies h v)) 16) (sym same) ∙ (place-test (length (window_copies h o.window)) ∙ fits)
-full-of h None (Some f) stale w is = step (nat_le most_windows (window_count h f.eui)) is
+full-of h frame None (Some f) stale w is = step (nat_le most_windows (window_count h f.eui)) is
   where
     v : WindowName
     v = window_of f
@@ -343,8 +372,8 @@ full-of h None (Some f) stale w is = step (nat_le most_windows (window_count h f
     step : (b : Bool) → cond b (reply.Busy v.eui) (reply.Opened v) ≡ reply.Crowded w → nat_lt (length (window_copies h w)) most_copies ≡ false
     step true said = absurd (cc said)
     step false said = absurd (cc said)
-full-of h None None (Some f) w is = absurd (cc is)
-full-of h None None None w is = absurd (cc is)
+full-of h frame None None (Some f) w is = old-has (λ r. r ≡ reply.Crowded w → nat_lt (length (window_copies h w)) most_copies ≡ false) h frame f (λ said. absurd (cc said)) (λ said. absurd (cc said)) (λ round found room said. absurd (cc said)) is
+full-of h frame None None None w is = absurd (cc is)
 
 -- the devices and the windows after an uplink
 record After (net : Network) (index : ℕ) (h g : List Entry) (frame : List ℕ) (heard : Heard) (r : Reply) : Type 0 where
@@ -365,41 +394,54 @@ after-of net index h devices windows frame heard agrees stay law mine r is = ste
     unconcerned : (x : Reply) → reply_to_uplink net h frame ≡ x → ((eui : DevEui) → concerns eui (call.Uplink frame heard) x ≡ false) → devices_in net index h ≡ devices_in net index (h ++ e ∷ [])
     unconcerned x said none = sym (devices-same net index h (h ++ e ∷ []) (λ eui. stay.others net h e eui (ap (concerns eui (call.Uplink frame heard)) said ∙ none eui)))
 
-    quiet : (x : Reply) → reply_to_uplink net h frame ≡ x → opening_in (call.Uplink frame heard) x ≡ None → window_copy_in (call.Uplink frame heard) x ≡ None → windows_in h ≡ windows_in (h ++ e ∷ [])
+    -- a window that is opened stands at the end
+    windows_opened : (w : WindowName) → IsOpened net index h frame w → history.window_in (call.Uplink frame heard) (reply_to_uplink net h frame) ≡ Some (opening_of w frame heard)
+        → window_copy_in (call.Uplink frame heard) (reply_to_uplink net h frame) ≡ Some (w, heard) → with_window frame heard w (keys_in (devices_in net index h) w) (windows_in h) ≡ windows_in (h ++ e ∷ [])
+    windows_opened w opened says copied =
+        ap (λ keys. with_window frame heard w keys (windows_in h)) (opened-keys net index h frame w opened)
+        ∙ sym (windows-opened h e (opening_of w frame heard) (joined net index h devices windows agrees) opened.keyed refl says copied opened.apart.copies
+        (none-found (λ (o : Opening). same_window o.window w) (open_windows h) opened.apart.name))
+
+    quiet : (x : Reply) → reply_to_uplink net h frame ≡ x → history.window_in (call.Uplink frame heard) x ≡ None → window_copy_in (call.Uplink frame heard) x ≡ None → windows_in h ≡ windows_in (h ++ e ∷ [])
     quiet x said opens copies =
-        sym (windows-quiet h e (joined net index h devices windows agrees) refl (ap (opening_in (call.Uplink frame heard)) said ∙ opens) (ap (window_copy_in (call.Uplink frame heard)) said ∙ copies))
+        sym (windows-quiet h e (joined net index h devices windows agrees) refl (ap (history.window_in (call.Uplink frame heard)) said ∙ opens) (ap (window_copy_in (call.Uplink frame heard)) said ∙ copies))
 
     step : (x : Reply) → reply_to_uplink net h frame ≡ x → After net index h (h ++ e ∷ []) frame heard x
     step (reply.Copied w place) said = record {
       devices_after = unconcerned (reply.Copied w place) said (λ eui. refl);
       windows_after =
-          sym (windows-copied h e w heard (joined net index h devices windows agrees) refl (ap (opening_in (call.Uplink frame heard)) said) (ap (window_copy_in (call.Uplink frame heard)) said)
-          (room-of h (plain.window_with h frame) (first_fit above net h frame) (first_fit below net h frame) w place said));
+          sym (windows-copied h e w heard (joined net index h devices windows agrees) refl (ap (history.window_in (call.Uplink frame heard)) said) (ap (window_copy_in (call.Uplink frame heard)) said)
+          (room-of h frame (plain.window_with h frame) (first_fit above net h frame) (first_fit below net h frame) w place said));
     }
     step (reply.Crowded w) said = record {
       devices_after = unconcerned (reply.Crowded w) said (λ eui. refl);
       windows_after =
-          copied-full h w heard (full-of h (plain.window_with h frame) (first_fit above net h frame) (first_fit below net h frame) w said)
+          copied-full h w heard (full-of h frame (plain.window_with h frame) (first_fit above net h frame) (first_fit below net h frame) w said)
           ∙ quiet (reply.Crowded w) said refl refl;
     }
     step (reply.Opened w) said =
-        let opened : IsOpened net index h frame w =
-        is-opened net index h frame heard w agrees.valid agrees.history.legal (history_more net index h (call.Uplink frame heard) mine agrees.history).legal mine said in
-        let o : Opening = opening_of w frame heard in
+        let opened = is-opened net index h frame heard w agrees.valid agrees.history.legal mine said in
+        let new = opened-new net h agrees.history.legal frame heard w said in
         record {
           devices_after =
               sym (devices-changed net index h (h ++ e ∷ []) w.eui (with_uplink w.session w.fcnt) agrees.valid
               (λ other differs. stay.others net h e other (ap (concerns other (call.Uplink frame heard)) said ∙ same_device-false other w.eui differs))
               (ap (λ (x : Reply). let d : Entry = record { number = length h; call = call.Uplink frame heard; reply = x } in device_record net (h ++ d ∷ []) w.eui) said
-              ∙ sym (law.records (length h) frame heard w (new_counter net index h frame w opened))));
-          windows_after =
-              ap (λ keys. with_window frame heard w keys (windows_in h)) (opened-keys net index h frame w opened)
-              ∙ sym (windows-opened h e o (joined net index h devices windows agrees) opened.keyed refl (ap (opening_in (call.Uplink frame heard)) said) (ap (window_copy_in (call.Uplink frame heard)) said)
-              (copies_none_of w opened.never) (apart_in net h w agrees.history.legal opened.never));
+              ∙ sym (law.records agrees.history.legal (length h) frame heard w new.round (new_counter net index h frame w opened new.counter))));
+          windows_after = windows_opened w opened (ap (history.window_in (call.Uplink frame heard)) said) (ap (window_copy_in (call.Uplink frame heard)) said);
         }
-      where
-        copies_none_of : (v : WindowName) → opening_count h v ≡ 0 → window_copies h v ≡ []
-        copies_none_of v never = none_copied net h v agrees.history.legal never
+    step (reply.Again w) said =
+        let opened = is-again net index h frame heard w agrees.valid agrees.history.legal mine said in
+        let next = again-next net h agrees.history.legal frame heard w said in
+        let round : w.round ≡ last_round h w + 1 = next.round in
+        record {
+          devices_after =
+              sym (devices-changed net index h (h ++ e ∷ []) w.eui (with_round w.session w.round) agrees.valid
+              (λ other differs. stay.others net h e other (ap (concerns other (call.Uplink frame heard)) said ∙ same_device-false other w.eui differs))
+              (ap (λ (x : Reply). let d : Entry = record { number = length h; call = call.Uplink frame heard; reply = x } in device_record net (h ++ d ∷ []) w.eui) said
+              ∙ sym (law.again (length h) frame heard w next.counter (omega (arith, round)))));
+          windows_after = windows_opened w opened (ap (history.window_in (call.Uplink frame heard)) said) (ap (window_copy_in (call.Uplink frame heard)) said);
+        }
     step (reply.Old eui session fcnt) said = record { devices_after = unconcerned (reply.Old eui session fcnt) said (λ d. refl); windows_after = quiet (reply.Old eui session fcnt) said refl refl }
     step reply.NoSession said = record { devices_after = unconcerned reply.NoSession said (λ d. refl); windows_after = quiet reply.NoSession said refl refl }
     step (reply.Busy eui) said = record { devices_after = unconcerned (reply.Busy eui) said (λ d. refl); windows_after = quiet (reply.Busy eui) said refl refl }

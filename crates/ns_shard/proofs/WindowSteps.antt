@@ -12,17 +12,19 @@ use Rattle.ns_calls.specs.declared.call.JoinAns.{JoinAns}
 use Rattle.ns_calls.specs.declared.call.Call.TheVariants as call
 use Rattle.ns_calls.specs.declared.call.Reply.TheVariants as reply
 use Rattle.ns_calls.specs.declared.call.Entry.{Entry}
-use Rattle.ns_calls.specs.History.{Opening, opening_in, closing_in, window_copy_in, closes, open_windows, open_window, window_count, window_copies, session_join}
+use Rattle.ns_calls.specs.History as history
+use Rattle.ns_calls.specs.History.{Opening, closing_in, window_copy_in, closes, open_windows, open_window, window_count, window_copies, session_join}
 use Rattle.ns_calls.proofs.LocalLemmas.{bool_tells}
 use Rattle.ns_calls.proofs.Lists.{All-filter, All-weaker, filter-all}
 use Rattle.ns_calls.proofs.PushLemmas.{open_windows-push, window_copies-push}
 use Rattle.ns_calls.proofs.KeyLemmas.{session_join-stays}
-use Rattle.ns_calls.proofs.WindowLemmas.{same_window-refl, same_window-eq}
+use Rattle.ns_calls.proofs.NameLemmas.{same_window-refl, same_window-eq}
+use Rattle.ns_calls.specs.Reply.{most_copies}
 use Rattle.ns_windows.specs.declared.window.Window.{Window}
-use Rattle.ns_windows.specs.Windows.{with_copy, copied, without, is_named, is_of, named, framed, count, most_copies}
+use Rattle.ns_windows.specs.Windows.{with_copy, with_copy_in, without, is_named, is_of, window_named, window_of_frame, count}
 use Rattle.ns_types.specs.declared.identity.DevEui.{DevEui}
 use Rattle.ns_calls.specs.Reply as plain
-use Rattle.ns_shard.specs.Held.{window_with, window_in, windows_in}
+use Rattle.ns_shard.specs.Private.Held.{window_from, window_of_opening, windows_in}
 use Rattle.ns_shard.proofs.Maps.{map-same, filter-same, filter-map, map-map, find-map, count-map}
 
 -- the session of each open window has an answer
@@ -46,8 +48,8 @@ copies_by e w = map (λ c. c.1) (filter (λ c. same_window c.0 w) (option_to_lis
 
 -- an open window after one more entry
 pub window-push : (h : List Entry) (e : Entry) (o : Opening) → IsSome (session_join h o.window.eui o.window.session) →
-    window_in (h ++ e ∷ []) o ≡ window_with o (window_copies h o.window ++ copies_by e o.window) (session_join h o.window.eui o.window.session)
-window-push h e o has = ap₂ (window_with o) (window_copies-push h e o.window) (stays (session_join h o.window.eui o.window.session) refl has)
+    window_of_opening (h ++ e ∷ []) o ≡ window_from o (window_copies h o.window ++ copies_by e o.window) (session_join h o.window.eui o.window.session)
+window-push h e o has = ap₂ (window_from o) (window_copies-push h e o.window) (stays (session_join h o.window.eui o.window.session) refl has)
   where
     stays : (j : Option JoinAns) → session_join h o.window.eui o.window.session ≡ j → IsSome j → session_join (h ++ e ∷ []) o.window.eui o.window.session ≡ session_join h o.window.eui o.window.session
     stays None is some = absurd (cc some)
@@ -60,33 +62,33 @@ closes-none h e none =
     ∙ filter-all (open_windows h)
 
 -- what is open, where the entry closes and opens nothing
-still-open : (h : List Entry) (e : Entry) → closing_in e.call e.reply ≡ None → opening_in e.call e.reply ≡ None → open_windows (h ++ e ∷ []) ≡ open_windows h
+still-open : (h : List Entry) (e : Entry) → closing_in e.call e.reply ≡ None → history.window_in e.call e.reply ≡ None → open_windows (h ++ e ∷ []) ≡ open_windows h
 still-open h e closes_none opens_none =
     open_windows-push h e ∙ (ap₂ (λ os o. os ++ option_to_list o) (closes-none h e closes_none) opens_none ∙ append-nil (open_windows h))
 
 -- an entry that opens, closes and copies nothing leaves the windows
-pub windows-quiet : (h : List Entry) (e : Entry) → WindowsHaveJoins h → closing_in e.call e.reply ≡ None → opening_in e.call e.reply ≡ None → window_copy_in e.call e.reply ≡ None →
+pub windows-quiet : (h : List Entry) (e : Entry) → WindowsHaveJoins h → closing_in e.call e.reply ≡ None → history.window_in e.call e.reply ≡ None → window_copy_in e.call e.reply ≡ None →
     windows_in (h ++ e ∷ []) ≡ windows_in h
 windows-quiet h e joined closes_none opens_none copies_none =
-    ap (map (window_in (h ++ e ∷ []))) (still-open h e closes_none opens_none)
-    ∙ map-same (window_in (h ++ e ∷ [])) (window_in h) (open_windows h) (All-weaker (λ (o : Opening). IsSome (session_join h o.window.eui o.window.session)) (λ (o : Opening). window_in (h ++ e ∷ []) o ≡ window_in h o) same (open_windows h) joined)
+    ap (map (window_of_opening (h ++ e ∷ []))) (still-open h e closes_none opens_none)
+    ∙ map-same (window_of_opening (h ++ e ∷ [])) (window_of_opening h) (open_windows h) (All-weaker (λ (o : Opening). IsSome (session_join h o.window.eui o.window.session)) (λ (o : Opening). window_of_opening (h ++ e ∷ []) o ≡ window_of_opening h o) same (open_windows h) joined)
   where
     none : (w : WindowName) → copies_by e w ≡ []
     none w = ap (λ c. map (λ (x : WindowName × Heard). x.1) (filter (λ (x : WindowName × Heard). same_window x.0 w) (option_to_list c))) copies_none
 
-    same : (o : Opening) → IsSome (session_join h o.window.eui o.window.session) → window_in (h ++ e ∷ []) o ≡ window_in h o
+    same : (o : Opening) → IsSome (session_join h o.window.eui o.window.session) → window_of_opening (h ++ e ∷ []) o ≡ window_of_opening h o
     same o has =
         window-push h e o has
-        ∙ ap (λ hs. window_with o hs (session_join h o.window.eui o.window.session)) (ap (λ hs. window_copies h o.window ++ hs) (none o.window) ∙ append-nil (window_copies h o.window))
+        ∙ ap (λ hs. window_from o hs (session_join h o.window.eui o.window.session)) (ap (λ hs. window_copies h o.window ++ hs) (none o.window) ∙ append-nil (window_copies h o.window))
 
 -- a copy of an open window that has room is one more copy of it
-pub windows-copied : (h : List Entry) (e : Entry) (w : WindowName) (heard : Heard) → WindowsHaveJoins h → closing_in e.call e.reply ≡ None → opening_in e.call e.reply ≡ None →
-    window_copy_in e.call e.reply ≡ Some (w, heard) → length (window_copies h w) < most_copies → windows_in (h ++ e ∷ []) ≡ copied w heard (windows_in h)
+pub windows-copied : (h : List Entry) (e : Entry) (w : WindowName) (heard : Heard) → WindowsHaveJoins h → closing_in e.call e.reply ≡ None → history.window_in e.call e.reply ≡ None →
+    window_copy_in e.call e.reply ≡ Some (w, heard) → length (window_copies h w) < most_copies → windows_in (h ++ e ∷ []) ≡ with_copy_in w heard (windows_in h)
 windows-copied h e w heard joined closes_none opens_none copies_is room =
-    ap (map (window_in (h ++ e ∷ []))) (still-open h e closes_none opens_none)
-    ∙ (map-same (window_in (h ++ e ∷ [])) (λ (o : Opening). change (window_in h o)) (open_windows h)
-    (All-weaker (λ (o : Opening). IsSome (session_join h o.window.eui o.window.session)) (λ (o : Opening). window_in (h ++ e ∷ []) o ≡ change (window_in h o)) same (open_windows h) joined)
-    ∙ sym (map-map (window_in h) change (open_windows h)))
+    ap (map (window_of_opening (h ++ e ∷ []))) (still-open h e closes_none opens_none)
+    ∙ (map-same (window_of_opening (h ++ e ∷ [])) (λ (o : Opening). change (window_of_opening h o)) (open_windows h)
+    (All-weaker (λ (o : Opening). IsSome (session_join h o.window.eui o.window.session)) (λ (o : Opening). window_of_opening (h ++ e ∷ []) o ≡ change (window_of_opening h o)) same (open_windows h) joined)
+    ∙ sym (map-map (window_of_opening h) change (open_windows h)))
   where
     change : Window → Window
     change x = cond (is_named w x) (with_copy heard x) x
@@ -101,31 +103,31 @@ windows-copied h e w heard joined closes_none opens_none copies_is room =
         let less : length (window_copies h v) < most_copies = subst (λ u. length (window_copies h u) < most_copies) (sym is) room in
         grind (arith, nat_tests)
 
-    same : (o : Opening) → IsSome (session_join h o.window.eui o.window.session) → window_in (h ++ e ∷ []) o ≡ change (window_in h o)
+    same : (o : Opening) → IsSome (session_join h o.window.eui o.window.session) → window_of_opening (h ++ e ∷ []) o ≡ change (window_of_opening h o)
     same o has =
         let join : Option JoinAns = session_join h o.window.eui o.window.session in
         let here : List Heard = window_copies h o.window in
         window-push h e o has
-        ∙ (ap (λ hs. window_with o (here ++ hs) join) (told o.window ∙ ap (λ b. cond {A = List Heard} b (heard ∷ []) []) (same_window-sym w o.window))
+        ∙ (ap (λ hs. window_from o (here ++ hs) join) (told o.window ∙ ap (λ b. cond {A = List Heard} b (heard ∷ []) []) (same_window-sym w o.window))
         ∙ elim (bool_tells (same_window o.window w)) [
           | inl is ↦
-              ap (λ b. window_with o (here ++ cond {A = List Heard} b (heard ∷ []) []) join) is
-              ∙ (ap (λ b. cond {A = Window} b (window_with o (here ++ heard ∷ []) join) (window_with o here join)) (sym (has_room o.window (same_window-eq o.window w is)))
-              ∙ ap (λ b. cond {A = Window} b (with_copy heard (window_with o here join)) (window_with o here join)) (sym is))
+              ap (λ b. window_from o (here ++ cond {A = List Heard} b (heard ∷ []) []) join) is
+              ∙ (ap (λ b. cond {A = Window} b (window_from o (here ++ heard ∷ []) join) (window_from o here join)) (sym (has_room o.window (same_window-eq o.window w is)))
+              ∙ ap (λ b. cond {A = Window} b (with_copy heard (window_from o here join)) (window_from o here join)) (sym is))
           | inr differs ↦
-              ap (λ b. window_with o (here ++ cond {A = List Heard} b (heard ∷ []) []) join) differs
-              ∙ (ap (λ hs. window_with o hs join) (append-nil here) ∙ ap (λ b. cond {A = Window} b (with_copy heard (window_with o here join)) (window_with o here join)) (sym differs))
+              ap (λ b. window_from o (here ++ cond {A = List Heard} b (heard ∷ []) []) join) differs
+              ∙ (ap (λ hs. window_from o hs join) (append-nil here) ∙ ap (λ b. cond {A = Window} b (with_copy heard (window_from o here join)) (window_from o here join)) (sym differs))
         ])
 
 -- a closing takes the window out
 pub windows-closed : (h : List Entry) (e : Entry) (w : WindowName) (ack : Option ℕ) → WindowsHaveJoins h → e.call ≡ call.Close w → e.reply ≡ reply.Closed w ack →
     windows_in (h ++ e ∷ []) ≡ without w (windows_in h)
 windows-closed h e w ack joined call_is reply_is =
-    ap (map (window_in (h ++ e ∷ []))) open_is
-    ∙ (map-same (window_in (h ++ e ∷ [])) (window_in h) (filter stays (open_windows h))
-    (All-filter (λ (o : Opening). window_in (h ++ e ∷ []) o ≡ window_in h o) stays (open_windows h)
-    (All-weaker (λ (o : Opening). IsSome (session_join h o.window.eui o.window.session)) (λ (o : Opening). window_in (h ++ e ∷ []) o ≡ window_in h o) same (open_windows h) joined))
-    ∙ sym (filter-map (window_in h) (λ (x : Window). not (is_named w x)) (open_windows h)))
+    ap (map (window_of_opening (h ++ e ∷ []))) open_is
+    ∙ (map-same (window_of_opening (h ++ e ∷ [])) (window_of_opening h) (filter stays (open_windows h))
+    (All-filter (λ (o : Opening). window_of_opening (h ++ e ∷ []) o ≡ window_of_opening h o) stays (open_windows h)
+    (All-weaker (λ (o : Opening). IsSome (session_join h o.window.eui o.window.session)) (λ (o : Opening). window_of_opening (h ++ e ∷ []) o ≡ window_of_opening h o) same (open_windows h) joined))
+    ∙ sym (filter-map (window_of_opening h) (λ (x : Window). not (is_named w x)) (open_windows h)))
   where
     stays : Opening → Bool
     stays o = not (same_window o.window w)
@@ -136,70 +138,70 @@ windows-closed h e w ack joined call_is reply_is =
         ∙ (ap₂ (λ os o. os ++ option_to_list o)
         (filter-same (λ (o : Opening). not (closes o.window e)) stays
         (λ o. ap not (ap₂ (λ c r. Rattle.std.specs.Option.option_map_or (λ x. same_window x.window o.window) (closing_in c r) false) call_is reply_is ∙ same_window-sym w o.window)) (open_windows h))
-        (ap₂ opening_in call_is reply_is)
+        (ap₂ history.window_in call_is reply_is)
         ∙ append-nil (filter stays (open_windows h)))
 
     none : (v : WindowName) → copies_by e v ≡ []
     none v = ap₂ (λ c r. map (λ (x : WindowName × Heard). x.1) (filter (λ (x : WindowName × Heard). same_window x.0 v) (option_to_list (window_copy_in c r)))) call_is reply_is
 
-    same : (o : Opening) → IsSome (session_join h o.window.eui o.window.session) → window_in (h ++ e ∷ []) o ≡ window_in h o
+    same : (o : Opening) → IsSome (session_join h o.window.eui o.window.session) → window_of_opening (h ++ e ∷ []) o ≡ window_of_opening h o
     same o has =
         window-push h e o has
-        ∙ ap (λ hs. window_with o hs (session_join h o.window.eui o.window.session)) (ap (λ hs. window_copies h o.window ++ hs) (none o.window) ∙ append-nil (window_copies h o.window))
+        ∙ ap (λ hs. window_from o hs (session_join h o.window.eui o.window.session)) (ap (λ hs. window_copies h o.window ++ hs) (none o.window) ∙ append-nil (window_copies h o.window))
 
 -- an opening of a name that never opened puts a window with its one copy at the end
 pub windows-opened : (h : List Entry) (e : Entry) (o : Opening) → WindowsHaveJoins h → IsSome (session_join h o.window.eui o.window.session) → closing_in e.call e.reply ≡ None →
-    opening_in e.call e.reply ≡ Some o → window_copy_in e.call e.reply ≡ Some (o.window, o.heard) → window_copies h o.window ≡ [] → AllByRecursion (λ x. same_window x.window o.window ≡ false) (open_windows h) →
-    windows_in (h ++ e ∷ []) ≡ windows_in h ++ window_with o (o.heard ∷ []) (session_join h o.window.eui o.window.session) ∷ []
+    history.window_in e.call e.reply ≡ Some o → window_copy_in e.call e.reply ≡ Some (o.window, o.heard) → window_copies h o.window ≡ [] → AllByRecursion (λ x. same_window x.window o.window ≡ false) (open_windows h) →
+    windows_in (h ++ e ∷ []) ≡ windows_in h ++ window_from o (o.heard ∷ []) (session_join h o.window.eui o.window.session) ∷ []
 windows-opened h e o joined has closes_none opens_is copies_is no_copies apart =
-    ap (map (window_in (h ++ e ∷ []))) (open_windows-push h e ∙ ap₂ (λ os x. os ++ option_to_list x) (closes-none h e closes_none) opens_is)
-    ∙ (map-append (window_in (h ++ e ∷ [])) (open_windows h) (o ∷ [])
-    ∙ ap₂ (λ ws w. ws ++ w ∷ []) (map-same (window_in (h ++ e ∷ [])) (window_in h) (open_windows h) (all_same (open_windows h) joined apart)) new)
+    ap (map (window_of_opening (h ++ e ∷ []))) (open_windows-push h e ∙ ap₂ (λ os x. os ++ option_to_list x) (closes-none h e closes_none) opens_is)
+    ∙ (map-append (window_of_opening (h ++ e ∷ [])) (open_windows h) (o ∷ [])
+    ∙ ap₂ (λ ws w. ws ++ w ∷ []) (map-same (window_of_opening (h ++ e ∷ [])) (window_of_opening h) (open_windows h) (all_same (open_windows h) joined apart)) new)
   where
     told : (v : WindowName) → copies_by e v ≡ cond (same_window o.window v) (o.heard ∷ []) []
     told v =
         ap (λ c. map (λ (x : WindowName × Heard). x.1) (filter (λ (x : WindowName × Heard). same_window x.0 v) (option_to_list c))) copies_is
         ∙ elim (same_window o.window v) as (λ b. map (λ (x : WindowName × Heard). x.1) (cond {A = List (WindowName × Heard)} b ((o.window, o.heard) ∷ []) []) ≡ cond b (o.heard ∷ []) []) [ true ↦ refl | false ↦ refl ]
 
-    same : (x : Opening) → IsSome (session_join h x.window.eui x.window.session) → same_window x.window o.window ≡ false → window_in (h ++ e ∷ []) x ≡ window_in h x
+    same : (x : Opening) → IsSome (session_join h x.window.eui x.window.session) → same_window x.window o.window ≡ false → window_of_opening (h ++ e ∷ []) x ≡ window_of_opening h x
     same x joins differs =
         window-push h e x joins
-        ∙ ap (λ hs. window_with x hs (session_join h x.window.eui x.window.session))
+        ∙ ap (λ hs. window_from x hs (session_join h x.window.eui x.window.session))
         (ap (λ hs. window_copies h x.window ++ hs) (told x.window ∙ ap (λ b. cond {A = List Heard} b (o.heard ∷ []) []) (same_window-sym o.window x.window ∙ differs)) ∙ append-nil (window_copies h x.window))
 
     all_same : (os : List Opening) → AllByRecursion (λ x. IsSome (session_join h x.window.eui x.window.session)) os → AllByRecursion (λ x. same_window x.window o.window ≡ false) os →
-        AllByRecursion (λ x. window_in (h ++ e ∷ []) x ≡ window_in h x) os
+        AllByRecursion (λ x. window_of_opening (h ++ e ∷ []) x ≡ window_of_opening h x) os
     all_same [] joins differ = tt
     all_same (x ∷ xs) joins differ = (same x joins.0 differ.0, all_same xs joins.1 differ.1)
 
-    new : window_in (h ++ e ∷ []) o ≡ window_with o (o.heard ∷ []) (session_join h o.window.eui o.window.session)
+    new : window_of_opening (h ++ e ∷ []) o ≡ window_from o (o.heard ∷ []) (session_join h o.window.eui o.window.session)
     new =
         window-push h e o has
-        ∙ ap₂ (λ before more. window_with o (before ++ more) (session_join h o.window.eui o.window.session)) no_copies
+        ∙ ap₂ (λ before more. window_from o (before ++ more) (session_join h o.window.eui o.window.session)) no_copies
         (told o.window ∙ ap (λ b. cond {A = List Heard} b (o.heard ∷ []) []) (same_window-refl o.window))
 
 -- ---- what is asked of the windows
 
-pub windows-framed : (h : List Entry) (frame : List ℕ) → framed frame (windows_in h) ≡ option_map (window_in h) (plain.window_with h frame)
-windows-framed h frame = find-map (window_in h) (is_of frame) (open_windows h)
+pub windows-framed : (h : List Entry) (frame : List ℕ) → window_of_frame frame (windows_in h) ≡ option_map (window_of_opening h) (plain.window_with h frame)
+windows-framed h frame = find-map (window_of_opening h) (is_of frame) (open_windows h)
 
-pub windows-named : (h : List Entry) (w : WindowName) → named w (windows_in h) ≡ option_map (window_in h) (open_window h w)
-windows-named h w = find-map (window_in h) (is_named w) (open_windows h)
+pub windows-named : (h : List Entry) (w : WindowName) → window_named w (windows_in h) ≡ option_map (window_of_opening h) (open_window h w)
+windows-named h w = find-map (window_of_opening h) (is_named w) (open_windows h)
 
 pub windows-count : (h : List Entry) (eui : DevEui) → count eui (windows_in h) ≡ window_count h eui
-windows-count h eui = count-map (window_in h) (λ (w : Window). w.name.eui.0 == eui.0) (open_windows h)
+windows-count h eui = count-map (window_of_opening h) (λ (w : Window). w.name.eui.0 == eui.0) (open_windows h)
 
 -- a window that is full takes no copy
-pub copied-full : (h : List Entry) (w : WindowName) (heard : Heard) → nat_lt (length (window_copies h w)) most_copies ≡ false → copied w heard (windows_in h) ≡ windows_in h
+pub copied-full : (h : List Entry) (w : WindowName) (heard : Heard) → nat_lt (length (window_copies h w)) most_copies ≡ false → with_copy_in w heard (windows_in h) ≡ windows_in h
 copied-full h w heard full =
-    map-map (window_in h) change (open_windows h) ∙ each (open_windows h)
+    map-map (window_of_opening h) change (open_windows h) ∙ each (open_windows h)
   where
     change : Window → Window
     change x = cond (is_named w x) (with_copy heard x) x
 
-    same : (o : Opening) → change (window_in h o) ≡ window_in h o
+    same : (o : Opening) → change (window_of_opening h o) ≡ window_of_opening h o
     same o =
-        let x : Window = window_in h o in
+        let x : Window = window_of_opening h o in
         elim (bool_tells (same_window o.window w)) [
           | inl is ↦
               (let none : nat_lt (length (window_copies h o.window)) most_copies ≡ false = ap (λ v. nat_lt (length (window_copies h v)) most_copies) (same_window-eq o.window w is) ∙ full in
@@ -207,6 +209,6 @@ copied-full h w heard full =
           | inr differs ↦ ap (λ b. cond {A = Window} b (with_copy heard x) x) differs
         ]
 
-    each : (os : List Opening) → map (λ (o : Opening). change (window_in h o)) os ≡ map (window_in h) os
+    each : (os : List Opening) → map (λ (o : Opening). change (window_of_opening h o)) os ≡ map (window_of_opening h) os
     each [] = refl
     each (o ∷ os) = ap₂ (λ (x : Window) xs. x ∷ xs) (same o) (each os)

@@ -1,11 +1,11 @@
 -- The steps of a run: the calls that they make, and what comes of each.
 use Rattle.ns_roster.specs.Closing.{with_nonces}
 use Rattle.ns_types.specs.declared.identity.DevEui.{DevEui}
-use Rattle.std.specs.Prelude.{◌≡◌, ℕ, ◌<◌, ◌≤◌, ◌==◌, Bool, false, List, [], ◌∷◌, ◌++◌, length, take, filter, filter_map, count_by, slice_get, Option, Some, IfSome, option_map, is_some, slice_set, Result, Ok, Err, map, option_and_then}
+use Rattle.std.specs.Prelude.{◌≡◌, ℕ, ◌<◌, ◌≤◌, ◌==◌, Bool, false, List, [], ◌∷◌, ◌++◌, length, take, filter, filter_map, count_by, slice_get, Option, Some, IfSome, is_some, Result, Ok, Err, option_and_then, map, option_map}
 use Rattle.std.specs.Result.{result_ok}
 use Rattle.std.specs.Option.{option_map_or}
 use Rattle.ns_types.specs.declared.identity.WindowName.{WindowName}
-use Rattle.ns_types.specs.Identity.{shard_count, same_window, shard_of}
+use Rattle.ns_types.specs.Identity.{shard_count, same_uplink, shard_of}
 use Rattle.ns_types.specs.Ticket.{transaction}
 use Rattle.ns_roster.specs.Network.{Network}
 use Rattle.ns_calls.specs.declared.call.JoinAns.{JoinAns}
@@ -28,19 +28,12 @@ use Rattle.ns_shard.specs.declared.step.Act.TheVariants.{Datagram, Answer, Lost,
 use Rattle.ns_shard.specs.declared.step.Step.{Step}
 use Rattle.ns_shard.specs.declared.run.Taken.{Taken}
 use Rattle.ns_shard.specs.declared.run.Taken.TheVariants.{Link, View, Made}
-use Rattle.ns_shard.specs.State.{State, after_call, answer_in, known_greatest, greatest_in}
+use Rattle.ns_shard.specs.State.{State, known_greatest, greatest_in}
 
 -- how asking a join server ended, by what its body is read as
 abbrev pub outcome_of : Result JoinAns AnsFault → Outcome
 outcome_of (Ok join) = Success join
 outcome_of (Err fault) = Failed
-
--- a join server's answer; for private clauses
-abbrev pub IsAnswer : Act → Type 0
-IsAnswer (Datagram bytes) = ⊥
-IsAnswer (Answer ticket body) = Unit {0}
-IsAnswer (Lost ticket) = ⊥
-IsAnswer (Close window) = ⊥
 
 -- the call of a step, or why it makes none
 abbrev pub call_of : Act → Result Call Refusal
@@ -48,12 +41,6 @@ call_of (Datagram bytes) = datagram_call bytes
 call_of (Answer ticket body) = Ok (call.JoinReply ticket (outcome_of (joinans body (transaction ticket))))
 call_of (Lost ticket) = Ok (call.JoinReply ticket Failed)
 call_of (Close window) = Ok (call.Close window)
-
--- the same, where why it makes none is what comes of the step; for private clauses
-abbrev pub refused_as : Result Call Refusal → Result Call Taken
-refused_as (Ok c) = Ok c
-refused_as (Err (link fault)) = Err (Link fault)
-refused_as (Err (view fault)) = Err (View fault)
 
 -- the calls that steps send to a shard, in order
 abbrev pub calls_of : ℕ → List Step → List Call
@@ -81,22 +68,9 @@ abbrev pub all_taken : Network → List Step → List Step → List Taken
 all_taken net before [] = []
 all_taken net before (step ∷ steps) = step_taken net before step ∷ all_taken net (before ++ step ∷ []) steps
 
--- each shard stands at its number; for private clauses
-abbrev pub AreInPlace : List State → Type 0
-AreInPlace shards = (shard : ℕ) (s : State) → slice_get shards shard ≡ Some s → s.index ≡ shard
-
--- what comes of a call or a refusal in these states, and the states after it; for private clauses
-abbrev pub taken_in : List State → Result Call Taken → Option Taken
-taken_in shards (Err refusal) = Some refusal
-taken_in shards (Ok c) = option_map (λ s. Made (shard_of_call c) s.made (answer_in s c)) (slice_get shards (shard_of_call c))
-
-abbrev pub states_after : List State → Result Call Taken → List State
-states_after shards (Err refusal) = shards
-states_after shards (Ok c) = option_map_or (λ s. slice_set shards (shard_of_call c) (after_call s c)) (slice_get shards (shard_of_call c)) shards
-
 -- the state of a shard after steps
 abbrev pub state_after : Network → ℕ → List Step → State
-state_after net shard steps = let h = shard_history net shard steps in record { roster = net; index = shard; made = length h; entries = h }
+state_after net shard steps = let h = shard_history net shard steps in record { roster = net; index = shard; made = length h; mark = 0; windows = []; entries = h }
 
 -- the sixteen shards are those after the steps
 pub record AreAfter (net : Network) (steps : List Step) (shards : List State) : Type 0 where
@@ -129,13 +103,13 @@ HasCopies shards (Link fault) = Unit {0}
 HasCopies shards (View fault) = Unit {0}
 HasCopies shards (Made shard number a) = IfSome a.uplink (HasCopiesAt shards shard number)
 
--- whether the uplink of a window of this name goes out
+-- whether an uplink goes out that is of the uplink of this window
 abbrev pub hands_out : WindowName → Taken → Bool
 hands_out w (Link fault) = false
 hands_out w (View fault) = false
-hands_out w (Made shard number a) = option_map_or (λ u. same_window u.window w) a.uplink false
+hands_out w (Made shard number a) = option_map_or (λ u. same_uplink u.window w) a.uplink false
 
--- of the uplinks that go out no two are of windows of one name
+-- of the uplinks that go out no two are of one counter of a session
 abbrev pub AreHandedOutOnce : List Taken → Type 0
 AreHandedOutOnce taken = (w : WindowName) → count_by (hands_out w) taken ≤ 1
 

@@ -1,7 +1,7 @@
 //! What came of a call, and the answer that is made of it.
 
 ghost use Rattle.std.specs.Prelude.{◌≡◌};
-ghost use Rattle.ns_shard.specs.Sending.{reply_of, downlink_of, answer_of};
+ghost use Rattle.ns_shard.specs.Private.Sending.{reply_of, downlink_of, answer_of};
 
 use crate::sending::{ack_from, uplink_of};
 use ns_calls::{Answer, Downlink, Reply};

@@ -1,7 +1,8 @@
 //! An answer that is kept in no more memory than it needs.
 
 ghost use Rattle.std.specs.Prelude.{◌≡◌, IfOk, Some, is_some};
-ghost use Rattle.ns_shard.specs.Sending.{quiet, uplink_of};
+ghost use Rattle.ns_shard.specs.State.{quiet};
+ghost use Rattle.ns_shard.specs.Private.Sending.{uplink_of};
 
 use crate::sending::uplink_of;
 use arrayvec::ArrayVec;
@@ -51,7 +52,7 @@ impl PackedUplink {
     }
 
     // The uplink itself.
-    fn unpacked(&self) -> Uplink
+    fn to_uplink(&self) -> Uplink
         ensures { result ≡ self.now }
     {
         let Ok(copies) = ArrayVec::try_from(self.copies.as_slice()) else {
@@ -94,7 +95,7 @@ impl Model for PackedAnswer {
 }
 
 // An uplink that is kept, where there is one.
-fn packed(alloc: Global, uplink: &Option<Uplink>) -> Result<Option<PackedUplink>, AllocError>
+fn packed_uplink(alloc: Global, uplink: &Option<Uplink>) -> Result<Option<PackedUplink>, AllocError>
     ensures { IfOk result (λ u. u ≡ uplink.now) }
 {
     match uplink {
@@ -116,7 +117,7 @@ impl PackedAnswer {
         ensures { IfOk result (λ a. a ≡ answer) }
     {
         let sent = Sent {
-            uplink: packed(alloc, &answer.uplink)?,
+            uplink: packed_uplink(alloc, &answer.uplink)?,
             downlink: answer.downlink,
         };
         Ok(PackedAnswer {
@@ -168,7 +169,7 @@ impl PackedAnswer {
         ensures { result ≡ self.now.uplink }
     {
         let uplink = self.sent.as_ref()?.uplink.as_ref()?;
-        Some(uplink.unpacked())
+        Some(uplink.to_uplink())
     }
 
     /// The downlink that goes out.
@@ -179,7 +180,7 @@ impl PackedAnswer {
     }
 
     /// The answer itself.
-    pub fn unpacked(&self) -> Answer
+    pub fn to_answer(&self) -> Answer
         ensures { result ≡ self.now }
     {
         Answer {

@@ -1,23 +1,25 @@
 //! A run of steps over the sixteen shards.
 
 ghost use Rattle.ns_types.specs.declared.identity.DevEui.{DevEui};
-ghost use Rattle.std.specs.Prelude.{◌≡◌, ◌<◌, [], length, map, slice_get, Some, IfOk, OnOk, IfSome, option_map};
+ghost use Rattle.std.specs.Prelude.{◌≡◌, ◌<◌, [], length, map, slice_get, Some, IsOk, IfOk, OnOk, OnErr, IfSome, option_map};
 ghost use Rattle.std.specs.Arc.{arc_value};
 ghost use Rattle.std.specs.List.{AllByRecursion};
 ghost use Rattle.ns_types.specs.Identity.{shard_count};
 ghost use Rattle.ns_calls.specs.Legal.{IsHistory};
 ghost use Rattle.ns_calls.specs.Headline.{NoncesRise, CountersRise, AcksRise, WindowsOpenOnce, NoncesAreWithin};
-ghost use Rattle.ns_shard.specs.Steps.{all_taken, taken_in, states_after, refused_as, call_of, calls_of, AreAfter, AreInPlace, OfEach, HandsOut, HasCopies, AreHandedOutOnce, greatest_among, greatest_after};
+ghost use Rattle.ns_calls.specs.Steps.{datagram_call};
+ghost use Rattle.ns_shard.specs.Steps.{all_taken, call_of, calls_of, AreAfter, OfEach, HandsOut, HasCopies, AreHandedOutOnce, greatest_among, greatest_after};
+ghost use Rattle.ns_shard.specs.Private.Run.{taken_in, states_after, refused_as, AreInPlace};
 
-use crate::calls::call_of;
+use crate::calls::answer_call;
 use crate::packed::PackedAnswer;
 use crate::shard::Shard;
-use crate::step::Step;
-use ns_calls::{Call, SHARDS, shard_of_call};
-use ns_link::LinkFault;
+use crate::step::{Act, Step};
+use ns_calls::{Call, DataFrame, Outcome, shard_of_call};
+use ns_link::{LinkFault, read_datagram};
 use ns_roster::Roster;
-use ns_types::{DevEui, DevNonce, shard_of};
-use ns_views::ViewFault;
+use ns_types::{DevEui, DevNonce, SHARDS, shard_of};
+use ns_views::{PhyView, ViewFault, view};
 use std::alloc::{AllocError, Global};
 use std::marker::Model;
 use std::sync::Arc;
@@ -113,7 +115,7 @@ impl Shards {
         let mut list = new_shards(alloc, roster)?;
         let mut taken = Vec::new(alloc);
         'steps: for step in steps {
-            let one = take(alloc, &mut list, step)?;
+            let one = run_step(alloc, &mut list, step)?;
             taken.push(one)?;
         }
         Ok(Run {
@@ -135,7 +137,7 @@ fn new_shards(alloc: Global, roster: Arc<Roster>) -> Result<Vec<Shard>, AllocErr
     Ok(list)
 }
 
-// Takes a call to its shard.
+// Makes a call at its shard.
 fn apply(alloc: Global, shards: &mut Vec<Shard>, call: &Call) -> Result<Taken, AllocError>
     requires sixteen { length shards.old.items ≡ shard_count }
     requires in_place { AreInPlace shards.old.items }
@@ -153,15 +155,52 @@ fn apply(alloc: Global, shards: &mut Vec<Shard>, call: &Call) -> Result<Taken, A
     })
 }
 
-// Takes a step.
-fn take(alloc: Global, shards: &mut Vec<Shard>, step: &Step) -> Result<Taken, AllocError>
+// Makes the call of a datagram. One that is refused makes no call, and wants no memory. A call is made where it is handed on, so that it is not moved.
+fn run_datagram(alloc: Global, shards: &mut Vec<Shard>, bytes: &[u8]) -> Result<Taken, AllocError>
+    requires sixteen { length shards.old.items ≡ shard_count }
+    requires in_place { AreInPlace shards.old.items }
+    ensures taken { IfOk result (λ t. taken_in shards.old.items (refused_as (datagram_call bytes.now)) ≡ Some t) }
+    ensures shards { OnOk result (shards.new.items ≡ states_after shards.old.items (refused_as (datagram_call bytes.now))) }
+    ensures memory { OnErr result (IsOk (datagram_call bytes.now)) }
+{
+    let datagram = match read_datagram(bytes) {
+        Ok(datagram) => datagram,
+        Err(fault) => return Ok(Taken::Link(fault)),
+    };
+    let heard = datagram.heard();
+    match view(datagram.frame()) {
+        Ok(PhyView::Join(frame)) => {
+            let ticket = frame.ticket();
+            apply(alloc, shards, &Call::Join { ticket, heard })
+        }
+        Ok(PhyView::Frame(frame)) => {
+            let frame = DataFrame::of(&frame);
+            apply(alloc, shards, &Call::Uplink { frame, heard })
+        }
+        Err(fault) => Ok(Taken::View(fault)),
+    }
+}
+
+// Makes the call of a step.
+fn run_step(alloc: Global, shards: &mut Vec<Shard>, step: &Step) -> Result<Taken, AllocError>
     requires sixteen { length shards.old.items ≡ shard_count }
     requires in_place { AreInPlace shards.old.items }
     ensures taken { IfOk result (λ t. taken_in shards.old.items (refused_as (call_of step.now.act)) ≡ Some t) }
     ensures shards { OnOk result (shards.new.items ≡ states_after shards.old.items (refused_as (call_of step.now.act))) }
 {
-    match call_of(alloc, &step.act)? {
-        Ok(call) => apply(alloc, shards, &call),
-        Err(refusal) => Ok(refusal),
+    match &step.act {
+        Act::Datagram(bytes) => run_datagram(alloc, shards, bytes.as_slice()),
+        Act::Answer { ticket, body } => {
+            let call = answer_call(alloc, ticket, body.as_slice())?;
+            apply(alloc, shards, &call)
+        }
+        Act::Lost { ticket } => {
+            let call = Call::JoinReply {
+                ticket: *ticket,
+                outcome: Outcome::Failed,
+            };
+            apply(alloc, shards, &call)
+        }
+        Act::Close(window) => apply(alloc, shards, &Call::Close { window: *window }),
     }
 }

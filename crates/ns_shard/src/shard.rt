@@ -1,17 +1,21 @@
 //! One shard.
 
-ghost use Rattle.std.specs.Prelude.{◌≡◌, ◌<◌, ◌%◌, length, IfOk, IfSome, OnOk, OnErr, option_map};
+ghost use Rattle.std.specs.Prelude.{◌≡◌, ◌==◌, ◌+◌, ◌*◌, ◌<◌, ◌≤◌, ◌^◌, ◌%◌, true, Err, length, count_by, IsOk, IfOk, IfSome, OnOk, OnErr, option_map};
 ghost use Rattle.std.specs.Arc.{arc_value};
 ghost use Rattle.ns_types.specs.Identity.{shard_count, shard_of};
+ghost use Rattle.ns_calls.specs.declared.call.Call.TheVariants.{JoinReply, Close};
 ghost use Rattle.ns_calls.specs.Shards.{shard_of_call};
-ghost use Rattle.ns_shard.specs.State.{no_entries, after_call, answer_in, oldest_in, IsState, greatest_in};
-ghost use Rattle.ns_shard.specs.Parts.{AreParts, state_of};
+ghost use Rattle.ns_shard.specs.State.{no_entries, after_call, answer_in, finds_open, answer_if_open, after_if_open, after_trim, dropped, oldest_in, IsState, greatest_in};
+ghost use Rattle.ns_kept.specs.Bound.{most_kept};
+ghost use Rattle.ns_shard.specs.declared.trim.TrimFault.TheVariants.{Full};
+ghost use Rattle.ns_shard.specs.Private.Parts.{AreParts, state_of};
 
 use crate::packed::PackedAnswer;
 use crate::parts::Parts;
-use ns_calls::{Answer, Call, Entry};
+use crate::trim::{Dropped, TrimFault};
+use ns_calls::{Answer, Call, Entry, Outcome};
 use ns_roster::Roster;
-use ns_types::{DevEui, DevNonce, WindowName, shard_of};
+use ns_types::{DevEui, DevNonce, Ticket, WindowName, shard_of};
 use std::alloc::{AllocError, Global};
 use std::marker::Model;
 use std::sync::Arc;
@@ -25,7 +29,7 @@ pub struct Shard {
 
 impl Model for Shard {
     ghost use Rattle.ns_shard.specs.State.{State};
-    ghost use Rattle.ns_shard.specs.Parts.{AreParts, state_of};
+    ghost use Rattle.ns_shard.specs.Private.Parts.{AreParts, state_of};
 
     ghost Value = { State };
 
@@ -45,15 +49,56 @@ impl Shard {
         })
     }
 
-    /// Answers a call, and adds exactly its entry. `NoMemory` (`AllocError`) where a growth was refused: then nothing has changed.
+    /// Answers a call, and adds exactly its entry. `NoMemory` (`AllocError`) where a growth was refused: then nothing has changed. A
+    /// closing, or a join server's answer, that finds its window or its ticket open is never refused.
     pub fn apply(&mut self, call: Call) -> Result<Answer, AllocError>
         requires { shard_of_call call ≡ self.old.index }
         ensures entry { OnOk result (self.new ≡ after_call self.old call) }
         ensures answer { IfOk result (λ a. a ≡ answer_in self.old call) }
         ensures err { OnErr result (self.new ≡ self.old) }
+        ensures open { finds_open self.old call ≡ true → IsOk result }
         ensures state { IsState self.new }
     {
         self.parts.apply(&call)
+    }
+
+    /// Closes a window, where it is open: this is what `apply` does, and takes no memory. Where it is not open, nothing changes, and there
+    /// is no answer.
+    pub fn close(&mut self, window: &WindowName) -> Option<Answer>
+        ensures answer { result ≡ answer_if_open self.old (Close window.now) }
+        ensures entry { self.new ≡ after_if_open self.old (Close window.now) }
+        ensures state { IsState self.new }
+    {
+        self.parts.apply_if_open(&Call::Close { window: *window })
+    }
+
+    /// Answers a ticket, where it is open: this is what `apply` does with a join server's answer, and takes no memory. Where it is not
+    /// open, nothing changes, and there is no answer.
+    pub fn join_reply(&mut self, ticket: &Ticket, outcome: Outcome) -> Option<Answer>
+        ensures answer { result ≡ answer_if_open self.old (JoinReply ticket.now outcome) }
+        ensures entry { self.new ≡ after_if_open self.old (JoinReply ticket.now outcome) }
+        ensures state { IsState self.new }
+    {
+        self.parts.apply_if_open(&Call::JoinReply {
+            ticket: *ticket,
+            outcome,
+        })
+    }
+
+    /// Drops the entries on which no answer rests, and hands them out: of each device the last join that was accepted and the last uplink
+    /// that was opened stay, and what its live sessions, its open windows and its open tickets need. Every later answer is what it would have
+    /// been. `Full` (Z1) where more than 2^63 entries would be dropped in all, `NoMemory` (Z2) where a growth was refused: then nothing has
+    /// changed.
+    pub fn trim(&mut self, alloc: Global) -> Result<Dropped, TrimFault>
+        ensures kept { OnOk result (self.new ≡ after_trim self.old) }
+        ensures mark { IfOk result (λ d. d.mark ≡ self.old.made) }
+        ensures dropped { IfOk result (λ d. d.entries.items ≡ dropped self.old) }
+        ensures few { OnOk result (length self.new.entries ≤ most_kept * count_by (λ d. shard_of d.eui == self.old.index) self.old.roster.devices) }
+        ensures full { result ≡ Err Full → 2 ^ 63 + length (after_trim self.old).entries < self.old.made }
+        ensures err { OnErr result (self.new ≡ self.old) }
+        ensures state { IsState self.new }
+    {
+        self.parts.trim(alloc)
     }
 
     /// The same, with an answer that is kept. Where a growth was refused, the call may have been taken.
@@ -93,6 +138,13 @@ impl Shard {
         self.parts.journal.made()
     }
 
+    /// How many entries were made before the last trim: none where there was none.
+    pub fn mark(&self) -> u64
+        ensures { result ≡ self.now.mark }
+    {
+        self.parts.mark
+    }
+
     /// The greatest DevNonce of one of the shard's devices: of those accepted, and of the last one that the roster names.
     pub fn greatest(&self, eui: DevEui) -> Option<DevNonce>
         ensures { option_map (λ n. n.0) result ≡ greatest_in self.now eui }
@@ -107,6 +159,7 @@ impl Shard {
     pub fn oldest(&self) -> Option<WindowName>
         ensures oldest { result ≡ oldest_in self.now }
         ensures own { IfSome result (λ w. shard_of w.eui ≡ self.now.index) }
+        ensures open { IfSome result (λ w. finds_open self.now (Close w) ≡ true) }
     {
         self.parts.windows.oldest()
     }

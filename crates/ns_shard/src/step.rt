@@ -56,7 +56,7 @@ pub struct DatagramBytes {
 
 impl Model for DatagramBytes {
     ghost use Rattle.std.specs.Prelude.{List, ℕ};
-    ghost use Rattle.ns_shard.specs.Datagram.{stored_bytes};
+    ghost use Rattle.ns_shard.specs.Private.Datagram.{stored_bytes};
 
     ghost Value = { List ℕ };
 

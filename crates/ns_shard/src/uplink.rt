@@ -1,16 +1,20 @@
 //! What comes of an uplink.
 
-ghost use Rattle.std.specs.Prelude.{◌≡◌, IfSome, IsSome, IfOk, OnOk, OnErr, None, Some, position};
-ghost use Rattle.ns_sessions.specs.Record.{IsNewCounter, session_in, with_uplink};
-ghost use Rattle.ns_windows.specs.Windows.{named, framed};
-ghost use Rattle.ns_shard.specs.Devices.{is_own, own_of, changed, AreApart};
-ghost use Rattle.ns_shard.specs.Reaction.{copy_reply, first_window, keys_in, with_window, open_reply, uplink_reply, with_shard_uplink, with_copy_or_window, CanOpen};
+ghost use Rattle.std.specs.Prelude.{◌≡◌, true, nat_le, IsSome, IfOk, OnOk, OnErr, None, Some, position};
+ghost use Rattle.ns_types.specs.declared.identity.WindowName.{WindowName};
+ghost use Rattle.ns_calls.specs.declared.call.Call.TheVariants.{Uplink};
+ghost use Rattle.ns_calls.specs.declared.call.Reply.TheVariants.{Opened, Again};
+ghost use Rattle.ns_calls.specs.Reply.{most_windows, window_of};
+ghost use Rattle.ns_windows.specs.Windows.{window_named, window_of_frame, count};
+ghost use Rattle.ns_shard.specs.Private.Room.{opens};
+ghost use Rattle.ns_devices.specs.Devices.{is_own, fit_at, IsNew, keys_in};
+ghost use Rattle.ns_shard.specs.Private.Reaction.{copy_reply, new_window, with_window, open_reply, round_of, old_reply, uplink_reply, with_shard_uplink, with_copy_or_window, HasPlace, CanOpen};
 
-use crate::devices::Devices;
 use arrayvec::ArrayVec;
 use ns_calls::{DataFrame, MOST_WINDOWS, Reply};
+use ns_devices::{Devices, Placed};
 use ns_sessions::Recovery;
-use ns_types::{Heard, Key, WindowName};
+use ns_types::{DevEui, Heard, Key, WindowName};
 use ns_windows::{Addition, Window, Windows};
 use std::alloc::AllocError;
 
@@ -25,14 +29,14 @@ fn copy_reply(addition: Addition) -> Reply
 }
 
 // A window with its first copy.
-fn first_window(
+fn new_window(
     frame: &DataFrame,
     heard: &Heard,
     name: &WindowName,
     nwk: Key,
     app: Option<Key>,
 ) -> Window
-    ensures { result ≡ first_window frame.now heard.now name.now (nwk, app) }
+    ensures { result ≡ new_window frame.now heard.now name.now (nwk, app) }
 {
     let mut copies = ArrayVec::new();
     copies.push(*heard);
@@ -45,56 +49,127 @@ fn first_window(
     }
 }
 
-// Opens a window. It takes the one growth first.
-fn open(
-    devices: &mut Devices,
+// Puts a window with its first copy. It takes the one growth of an uplink.
+fn put(
+    devices: &Devices,
     windows: &mut Windows,
     place: usize,
     name: &WindowName,
     frame: &DataFrame,
     heard: &Heard,
 ) -> Result<(), AllocError>
-    requires place { position (is_own name.now.eui) devices.old ≡ Some place }
-    requires counter { IfSome (own_of name.now.eui devices.old) (λ o. IsNewCounter (session_in o.state name.now.session) name.now.fcnt) }
-    requires keys { IsSome (keys_in devices.old name.now) }
-    requires name { named name.now windows.old ≡ None }
-    requires frame { framed frame.now windows.old ≡ None }
-    ensures devices { OnOk result (devices.new ≡ changed name.now.eui (with_uplink name.now.session name.now.fcnt) devices.old) }
-    ensures windows { OnOk result (windows.new ≡ with_window frame.now heard.now name.now (keys_in devices.old name.now) windows.old) }
-    ensures err_devices { OnErr result (devices.new ≡ devices.old) }
-    ensures err_windows { OnErr result (windows.new ≡ windows.old) }
+    requires place { position (is_own name.now.eui) devices.now ≡ Some place }
+    requires keys { IsSome (keys_in devices.now name.now) }
+    requires name { window_named name.now windows.old ≡ None }
+    requires frame { window_of_frame frame.now windows.old ≡ None }
+    ensures windows { OnOk result (windows.new ≡ with_window frame.now heard.now name.now (keys_in devices.now name.now) windows.old) }
+    ensures err { OnErr result (windows.new ≡ windows.old) }
 {
     let Some((nwk, app)) = devices.keys(place, name) else {
         unreachable!()
     };
-    windows.put(first_window(frame, heard, name, nwk, app))?;
-    devices.open(place, name);
-    Ok(())
+    windows.put(new_window(frame, heard, name, nwk, app))
 }
 
-// The reply to a frame for which this window is to be opened.
-fn open_reply(windows: &Windows, name: &WindowName) -> Reply
-    ensures { result ≡ open_reply windows.now name.now }
+// Whether a device has as many open windows as it may have.
+fn is_busy(windows: &Windows, eui: DevEui) -> bool
+    ensures { result ≡ nat_le most_windows (count eui windows.now) }
 {
-    if windows.count(name.eui) >= MOST_WINDOWS {
-        Reply::Busy { eui: name.eui }
+    windows.count(eui) >= MOST_WINDOWS
+}
+
+// Takes an uplink with a new counter, which fits there.
+fn open(
+    devices: &mut Devices,
+    windows: &mut Windows,
+    fit: &Placed,
+    frame: &DataFrame,
+    heard: &Heard,
+) -> Result<Reply, AllocError>
+    requires fit { position (is_own fit.now.eui) devices.old ≡ Some fit.now.place }
+    requires new { IsNew devices.old (window_of (fit_at fit.now)) }
+    requires place { let name = window_of (fit_at fit.now) in open_reply windows.old name ≡ Opened name → HasPlace devices.old windows.old name }
+    requires frame { window_of_frame frame.now windows.old ≡ None }
+    ensures reply { IfOk result (λ r. r ≡ open_reply windows.old (window_of (fit_at fit.now))) }
+    ensures devices { IfOk result (λ r. devices.new ≡ with_shard_uplink r devices.old) }
+    ensures windows { IfOk result (λ r. windows.new ≡ with_copy_or_window r frame.now heard.now devices.old windows.old) }
+    ensures memory { OnErr result (opens (Uplink frame.now heard.now) (open_reply windows.old (window_of (fit_at fit.now))) ≡ true) }
+    ensures err_devices { OnErr result (devices.new ≡ devices.old) }
+    ensures err_windows { OnErr result (windows.new ≡ windows.old) }
+{
+    let name = fit.window();
+    if is_busy(windows, name.eui) {
+        return Ok(Reply::Busy { eui: name.eui });
+    }
+    put(devices, windows, fit.place, &name, frame, heard)?;
+    devices.open(fit.place, &name);
+    Ok(Reply::Opened { window: name })
+}
+
+// The round in which a frame is acknowledged again, which fits there: it is a Confirmed Data Up, and the window of the round before is
+// closed.
+fn round_of(devices: &Devices, windows: &Windows, fit: &Placed, frame: &DataFrame) -> Option<u32>
+    requires { position (is_own fit.now.eui) devices.now ≡ Some fit.now.place }
+    ensures { result ≡ round_of devices.now windows.now frame.now (fit_at fit.now) }
+{
+    if !frame.view().confirmed() {
+        return None;
+    }
+    let round = devices.next_round(fit)?;
+    if windows.is_open(&fit.in_round(round - 1)) {
+        None
     } else {
-        Reply::Opened { window: *name }
+        Some(round)
     }
 }
 
-/// Takes an uplink. Where a growth is refused, nothing has changed.
+// Takes an uplink at or below the greatest counter, which fits there.
+fn open_again(
+    devices: &mut Devices,
+    windows: &mut Windows,
+    fit: &Placed,
+    frame: &DataFrame,
+    heard: &Heard,
+) -> Result<Reply, AllocError>
+    requires fit { position (is_own fit.now.eui) devices.old ≡ Some fit.now.place }
+    requires place { (name : WindowName) → old_reply devices.old windows.old frame.now (fit_at fit.now) ≡ Again name
+        → HasPlace devices.old windows.old name }
+    requires frame { window_of_frame frame.now windows.old ≡ None }
+    ensures reply { IfOk result (λ r. r ≡ old_reply devices.old windows.old frame.now (fit_at fit.now)) }
+    ensures devices { IfOk result (λ r. devices.new ≡ with_shard_uplink r devices.old) }
+    ensures windows { IfOk result (λ r. windows.new ≡ with_copy_or_window r frame.now heard.now devices.old windows.old) }
+    ensures memory { OnErr result (opens (Uplink frame.now heard.now) (old_reply devices.old windows.old frame.now (fit_at fit.now)) ≡ true) }
+    ensures err_devices { OnErr result (devices.new ≡ devices.old) }
+    ensures err_windows { OnErr result (windows.new ≡ windows.old) }
+{
+    let Some(round) = round_of(devices, windows, fit, frame) else {
+        return Ok(Reply::Old {
+            eui: fit.eui,
+            session: fit.session,
+            fcnt: fit.counter,
+        });
+    };
+    let name = fit.in_round(round);
+    if is_busy(windows, name.eui) {
+        return Ok(Reply::Busy { eui: name.eui });
+    }
+    put(devices, windows, fit.place, &name, frame, heard)?;
+    devices.open_again(fit.place, &name);
+    Ok(Reply::Again { window: name })
+}
+
+/// Takes an uplink. Only an opening wants memory: where a growth is refused, nothing has changed.
 pub fn uplink(
     devices: &mut Devices,
     windows: &mut Windows,
     frame: &DataFrame,
     heard: &Heard,
 ) -> Result<Reply, AllocError>
-    requires apart { AreApart devices.old }
     requires open { CanOpen devices.old windows.old frame.now }
     ensures reply { IfOk result (λ r. r ≡ uplink_reply devices.old windows.old frame.now) }
     ensures devices { IfOk result (λ r. devices.new ≡ with_shard_uplink r devices.old) }
     ensures windows { IfOk result (λ r. windows.new ≡ with_copy_or_window r frame.now heard.now devices.old windows.old) }
+    ensures memory { OnErr result (opens (Uplink frame.now heard.now) (uplink_reply devices.old windows.old frame.now) ≡ true) }
     ensures err_devices { OnErr result (devices.new ≡ devices.old) }
     ensures err_windows { OnErr result (windows.new ≡ windows.old) }
 {
@@ -103,19 +178,10 @@ pub fn uplink(
     }
     let view = frame.view();
     if let Some(fit) = devices.fit(Recovery::Above, &view) {
-        let name = fit.window();
-        let reply = open_reply(windows, &name);
-        if let Reply::Opened { .. } = &reply {
-            open(devices, windows, fit.place, &name, frame, heard)?;
-        }
-        return Ok(reply);
+        return open(devices, windows, &fit, frame, heard);
     }
     match devices.fit(Recovery::Below, &view) {
-        Some(old) => Ok(Reply::Old {
-            eui: old.eui,
-            session: old.session,
-            fcnt: old.counter,
-        }),
+        Some(fit) => open_again(devices, windows, &fit, frame, heard),
         None => Ok(Reply::NoSession),
     }
 }

@@ -190,8 +190,7 @@ impl<B: Ledgers> ShardBook<B> {
     }
 }
 
-/// Books that were just opened, shard by shard.
-#[derive(Drop)]
+/// Books that were just opened, shard by shard. They are not dropped: each is put where its shard is.
 pub struct Books<B: Ledgers> {
     pub k0: ShardBook<B>,
     pub k1: ShardBook<B>,
@@ -222,7 +221,6 @@ pub struct Books<B: Ledgers> {
 }
 
 /// A new ledger for each shard, which no type stands for yet. Contracts see their names and their parts.
-#[derive(Drop)]
 pub struct Blanks {
     b0: Blank,
     b1: Blank,
@@ -260,6 +258,29 @@ impl Model for Blanks {
         × (s.b7.parts ≡ s.b0.parts) × (s.b8.parts ≡ s.b0.parts) × (s.b9.parts ≡ s.b0.parts)
         × (s.b10.parts ≡ s.b0.parts) × (s.b11.parts ≡ s.b0.parts) × (s.b12.parts ≡ s.b0.parts)
         × (s.b13.parts ≡ s.b0.parts) × (s.b14.parts ≡ s.b0.parts) × (s.b15.parts ≡ s.b0.parts) };
+}
+
+impl Drop for Blanks {
+    fn drop(self) {
+        let Blanks {
+            b0: _,
+            b1: _,
+            b2: _,
+            b3: _,
+            b4: _,
+            b5: _,
+            b6: _,
+            b7: _,
+            b8: _,
+            b9: _,
+            b10: _,
+            b11: _,
+            b12: _,
+            b13: _,
+            b14: _,
+            b15: _,
+        } = self;
+    }
 }
 
 // Opens each blank as the ledger of its shard, and puts the books and the shares together.

@@ -13,6 +13,12 @@ pub use work::{make, parted};
 #[cfg(test)]
 mod gate_tests;
 #[cfg(test)]
+mod growth_tests;
+#[cfg(test)]
+mod long_tests;
+#[cfg(test)]
 mod served;
 #[cfg(test)]
 mod tests;
+#[cfg(test)]
+mod trim_tests;

@@ -99,7 +99,7 @@ fn drained<B: Naming>(
     receipts: &mut Vec<Receipt>,
 ) -> Result<(), AllocError> {
     for _ in 0..10_000u32 {
-        let Some(receipt) = settled.drain_next()? else {
+        let Some(receipt) = settled.drain_next() else {
             break;
         };
         receipts.push(receipt)?;

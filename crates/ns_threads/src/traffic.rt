@@ -119,6 +119,7 @@ pub fn closing(device: u32, session: u32, counter: u32) -> Call {
             eui: DevEui(u64::from(device)),
             session,
             fcnt: counter,
+            round: 1,
         },
     }
 }

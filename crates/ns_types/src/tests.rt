@@ -21,6 +21,18 @@ fn addresses(rt: HostRuntime) {
 }
 
 #[test]
+fn first_windows(rt: HostRuntime) {
+    let first = WindowName {
+        eui: DevEui(0x0d),
+        session: 1,
+        fcnt: 2,
+        round: 1,
+    };
+    assert!(rt; first.is_first());
+    assert!(rt; !WindowName { round: 2, ..first }.is_first());
+}
+
+#[test]
 fn tickets(rt: HostRuntime) {
     assert_eq!(rt; JOIN.join_eui(), JoinEui(0x0102_0304_0102_0304));
     assert_eq!(rt; JOIN.dev_eui(), DevEui(0x0d));

@@ -1,13 +1,19 @@
 -- A call at the parts of a frame, put together from what is known of the parts.
-use Rattle.std.proofs.Common.{◌≡◌, ℕ, ◌+◌, ◌-◌, ◌≤◌, List, ◌++◌, length, take, drop, ap, ◌∙◌, arith, MutBor}
+use Rattle.std.proofs.Common.{◌≡◌, ℕ, ◌+◌, ◌-◌, ◌≤◌, List, ◌++◌, length, take, drop, refl, ap, ◌∙◌, arith, MutBor}
 use Rattle.std.proofs.lemmas.List.{take-take, drop-take}
 use Rattle.std.specs.Fn.{Once}
 use Rattle.ns_views.specs.Frame.{data_fields, fopts_len}
-use Rattle.ns_views.specs.Parts.{Lent, ShowsParts, WorksOnParts, with_payload}
+use Rattle.ns_views.specs.Parts.{with_payload}
+use Rattle.ns_views.specs.Work.{Lent, Left, left_of, ShowsParts, WorksOnParts}
 
-pub WorksOnParts-call : {F R : Type 0} (g : Once F Lent (R × (MutBor (List ℕ) × Unit {0}))) (work : F) (bytes : List ℕ) (r : R) (after : List ℕ) (lent : Lent) (left : MutBor (List ℕ)) →
-    g.post work lent (r, (left, tt)) → ShowsParts bytes lent → length left.now ≡ length (data_fields bytes).payload → after ≡ with_payload bytes left.now → WorksOnParts g work bytes r after
-WorksOnParts-call g work bytes r after lent left met shows same_length writes = record { lent = lent; shows = shows; left = left; met = met; same_length = same_length; writes = writes }
+pub WorksOnParts-call : {F R : Type 0} (g : Once F Lent (Left R)) (work : F) (bytes : List ℕ) (r : R) (after : List ℕ) (lent : Lent) (left : MutBor (List ℕ)) →
+    g.post work lent (left_of r left) → ShowsParts bytes lent → length left.now ≡ length (data_fields bytes).payload → after ≡ with_payload bytes left.now → WorksOnParts g work bytes r after
+WorksOnParts-call g work bytes r after lent left met shows same_length writes = record {
+  written = left.now;
+  call = record { lent = lent; shows = shows; payload = left; met = met; is = refl };
+  same_length = same_length;
+  frame = writes;
+}
 
 -- a front of a front of a front
 take_of_fronts : (n p m : ℕ) (bytes : List ℕ) → n ≤ p → p ≤ m → take n (take p (take m bytes)) ≡ take n bytes

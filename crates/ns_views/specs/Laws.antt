@@ -1,7 +1,7 @@
 -- Laws of the grammar of uplinks.
-use Rattle.std.specs.Prelude.{◌≡◌, ℕ, List, ◌⊎◌, ◌↔◌, ◌++◌, length, take, None}
+use Rattle.std.specs.Prelude.{◌≡◌, ℕ, List, ◌⊎◌, ◌↔◌, ◌++◌, length, None}
 use Rattle.ns_views.specs.Grammar.{DataFields, JoinFields, AreBytes, IsDataFrame, IsDataUplink, IsJoinRequest, ported}
-use Rattle.ns_views.specs.Parts.{with_payload}
+use Rattle.ns_views.specs.Parts.{header, with_payload}
 use Rattle.ns_views.specs.Frame.{data_fields, join_fields, signed, view_fault, parts_fault}
 
 -- no fields make these bytes an uplink
@@ -15,7 +15,7 @@ pub record HasParts (bytes header options rest mic : List ℕ) : Type 0 where
 
 -- the parts of a data uplink: eight bytes up to the options, the options, the port and what is behind it, the MIC
 abbrev pub PartsCover : List ℕ → Type 0
-PartsCover bytes = let d = data_fields bytes in HasParts bytes (take 8 bytes) d.fopts (ported d.port d.payload) d.mic
+PartsCover bytes = let d = data_fields bytes in HasParts bytes (header bytes) d.fopts (ported d.port d.payload) d.mic
 
 -- bytes have no fault exactly where they are a data uplink or a Join-Request
 abbrev pub FaultsAreExact : Type 0

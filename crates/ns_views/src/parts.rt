@@ -2,7 +2,7 @@
 
 ghost use Rattle.std.specs.Prelude.{◌≡◌, ◌+◌, ◌-◌, ◌≤◌, ◌++◌, List, ℕ, length, take, drop, IfOk, OnOk, IfErr, OnErr, Some, None};
 ghost use Rattle.ns_views.specs.Frame.{data_fields, fopts_len, parts_fault};
-ghost use Rattle.ns_views.specs.Parts.{TakesParts, WorksOnParts};
+ghost use Rattle.ns_views.specs.Work.{TakesParts, WorksOnParts};
 
 use crate::ViewFault;
 use crate::phy::{PhyView, view};

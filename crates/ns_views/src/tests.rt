@@ -165,20 +165,44 @@ fn covers(rt: &impl Abort, bytes: &[u8]) {
     }
 }
 
+/// A byte replaced by 00 and by ff, and each of its bits flipped.
+fn changes(byte: u8) -> [u8; 10] {
+    [
+        0x00,
+        0xff,
+        byte ^ 0x01,
+        byte ^ 0x02,
+        byte ^ 0x04,
+        byte ^ 0x08,
+        byte ^ 0x10,
+        byte ^ 0x20,
+        byte ^ 0x40,
+        byte ^ 0x80,
+    ]
+}
+
+/// Whether both readers take the bytes for a data uplink, or neither does.
+fn agree(bytes: &mut [u8]) -> bool {
+    let is_frame = matches!(view(bytes), Ok(PhyView::Frame(_)));
+    parts_mut(bytes, |_, _, payload| payload.len()).is_ok() == is_frame
+}
+
 #[test]
 fn covers_changed_frames(rt: HostRuntime) {
     for i in 0..17 {
-        for byte in [0x00, 0xff] {
+        for byte in changes(UPLINK[i]) {
             let mut changed = UPLINK;
             changed[i] = byte;
             covers(&rt, &changed);
+            assert!(rt; agree(&mut changed));
         }
     }
     for i in 0..23 {
-        for byte in [0x00, 0xff] {
+        for byte in changes(JOIN[i]) {
             let mut changed = JOIN;
             changed[i] = byte;
             covers(&rt, &changed);
+            assert!(rt; agree(&mut changed));
         }
     }
 }

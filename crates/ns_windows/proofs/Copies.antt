@@ -5,21 +5,22 @@ use Rattle.std.specs.Map.{lookup, values_of, set_value}
 use Rattle.ns_types.specs.declared.identity.WindowName.{WindowName}
 use Rattle.ns_types.specs.declared.heard.Heard.{Heard}
 use Rattle.ns_types.specs.Identity.{same_window}
+use Rattle.ns_calls.specs.Reply.{most_copies}
 use Rattle.ns_windows.specs.declared.window.Window.{Window}
-use Rattle.ns_windows.specs.Windows.{is_named, copied, copied_entries, with_copy, most_copies, AreApart, AreNamed}
+use Rattle.ns_windows.specs.Windows.{is_named, with_copy_in, entries_with_copy, with_copy, AreApart, AreNamed}
 use Rattle.ns_windows.proofs.Names.{copied_none, copy-name}
 use Rattle.ns_windows.proofs.Named.{lookup-named, values-set, named-set}
 use Rattle.ns_windows.proofs.Places.{none_found}
 
 module _ (test : WindowName → Bool) (name : WindowName) (is : (m : WindowName) → test m ≡ same_window m name) (heard : Heard) (es : List (WindowName × Window)) (named : AreNamed es) where
-  pub values-copied : AreApart (values_of es) → values_of (copied_entries test heard es) ≡ copied name heard (values_of es)
+  pub values-copied : AreApart (values_of es) → values_of (entries_with_copy test heard es) ≡ with_copy_in name heard (values_of es)
   values-copied apart = step (lookup test es) refl
     where
-      step : (o : Option Window) → lookup test es ≡ o → values_of (option_map_or (λ w. set_value test es (with_copy heard w)) o es) ≡ copied name heard (values_of es)
+      step : (o : Option Window) → lookup test es ≡ o → values_of (option_map_or (λ w. set_value test es (with_copy heard w)) o es) ≡ with_copy_in name heard (values_of es)
       step None at = copied_none name heard (values_of es) (none_found (is_named name) (values_of es) (sym (lookup-named test name is es named) ∙ at))
       step (Some w) at = values-set test name is (with_copy heard) es w (with_copy heard w) named apart at refl
 
-  pub named-copied : AreNamed (copied_entries test heard es)
+  pub named-copied : AreNamed (entries_with_copy test heard es)
   named-copied = step (lookup test es) refl
     where
       step : (o : Option Window) → lookup test es ≡ o → AreNamed (option_map_or (λ w. set_value test es (with_copy heard w)) o es)

@@ -1,4 +1,5 @@
 pub mod Places
+pub mod Pairs
 pub mod Names
 pub mod Named
 pub mod Framed

@@ -6,7 +6,7 @@ use Rattle.ns_types.specs.Identity.{same_window}
 use Rattle.ns_types.specs.contracts.identity.WindowNamePartialEq.TheImpl as name_eq
 use Rattle.ns_calls.specs.Queries.{first}
 use Rattle.ns_calls.proofs.LocalLemmas.{bool_tells}
-use Rattle.ns_calls.proofs.WindowLemmas.{same_window-refl, same_window-eq}
+use Rattle.ns_calls.proofs.NameLemmas.{same_window-refl, same_window-eq}
 use Rattle.ns_windows.specs.declared.window.Window.{Window}
 use Rattle.ns_windows.specs.Windows.{is_named, without, AreApart, AreNamed}
 use Rattle.ns_windows.proofs.Names.{apart-sym, none_else}
@@ -23,9 +23,13 @@ and_and : (a b c : Bool) → ((a && b) && c) ≡ (a && (b && c))
 and_and true b c = refl
 and_and false b c = refl
 
+and_and_and : (a b c d : Bool) → (((a && b) && c) && d) ≡ (a && (b && (c && d)))
+and_and_and true b c d = and_and b c d
+and_and_and false b c d = refl
+
 -- the test by which keys are compared
 pub key_test : (name m : WindowName) → (name_eq.ghosts).eq name m ≡ same_window m name
-key_test name m = sym (and_and (name.eui.0 == m.eui.0) (name.session == m.session) (name.fcnt == m.fcnt)) ∙ same_window-sym name m
+key_test name m = sym (and_and_and (name.eui.0 == m.eui.0) (name.session == m.session) (name.fcnt == m.fcnt) (name.round == m.round)) ∙ same_window-sym name m
 
 pub values-push : (es : List (WindowName × Window)) (n : WindowName) (w : Window) → values_of (es ++ (n, w) ∷ []) ≡ values_of es ++ w ∷ []
 values-push [] n w = refl

@@ -1,16 +1,17 @@
 -- Windows of which no two have one name.
-use Rattle.std.proofs.Common.{◌≡◌, Bool, true, false, cond, nat_lt, List, [], ◌∷◌, ◌++◌, length, filter, map, refl, sym, ap, subst, ◌∙◌, inl, inr}
+use Rattle.std.proofs.Common.{◌≡◌, Bool, true, false, cond, nat_lt, List, [], ◌∷◌, ◌++◌, length, filter, map, refl, sym, ap, ap₂, subst, ◌∙◌, inl, inr}
 use Rattle.std.specs.List.{AllByRecursion}
 use Rattle.std.proofs.lemmas.Bool.{false≢true}
 use Rattle.ns_types.specs.declared.identity.WindowName.{WindowName}
 use Rattle.ns_types.specs.declared.heard.Heard.{Heard}
 use Rattle.ns_types.specs.Identity.{same_window}
 use Rattle.ns_calls.proofs.LocalLemmas.{bool_tells}
-use Rattle.ns_calls.proofs.Lists.{All-filter, All-push}
-use Rattle.ns_calls.proofs.WindowLemmas.{same_window-refl, same_window-eq}
+use Rattle.ns_calls.proofs.NameLemmas.{same_window-refl, same_window-eq}
+use Rattle.ns_calls.specs.Reply.{most_copies}
 use Rattle.ns_windows.specs.declared.window.Window.{Window}
-use Rattle.ns_windows.specs.Windows.{is_named, with_copy, copied, most_copies, AreApart}
+use Rattle.ns_windows.specs.Windows.{is_named, with_copy, with_copy_in, AreApart}
 use Rattle.ns_windows.proofs.Places.{NonePasses, map-none}
+use Rattle.ns_windows.proofs.Pairs.{NoTwo-filter, NoTwo-push, NoTwo-map}
 
 -- two names that differ from each other differ the other way round
 pub apart-sym : (v w : WindowName) → same_window v w ≡ false → same_window w v ≡ false
@@ -26,27 +27,17 @@ none_else name w ws is apart = subst (λ n. NonePasses (is_named n) ws) (same_wi
 
 -- ---- what keeps the names apart
 
-pub apart-filter : (keep : Window → Bool) (ws : List Window) → AreApart ws → AreApart (filter keep ws)
-apart-filter keep [] apart = tt
-apart-filter keep (w ∷ ws) apart = step (keep w) (All-filter (λ v. is_named w.name v ≡ false) keep ws apart.0) (apart-filter keep ws apart.1)
-  where
-    step : (b : Bool) → AllByRecursion (λ v. is_named w.name v ≡ false) (filter keep ws) → AreApart (filter keep ws) → AreApart (cond b (w ∷ filter keep ws) (filter keep ws))
-    step true here later = (here, later)
-    step false here later = later
+abbrev of_one_name : Window → Window → Bool
+of_one_name w v = is_named w.name v
 
-all-map : (name : WindowName) (f : Window → Window) → ((w : Window) → (f w).name ≡ w.name) → (ws : List Window) → AllByRecursion (λ v. is_named name v ≡ false) ws → AllByRecursion (λ v. is_named name v ≡ false) (map f ws)
-all-map name f keeps [] all = tt
-all-map name f keeps (w ∷ ws) all = (ap (λ n. same_window n name) (keeps w) ∙ all.0, all-map name f keeps ws all.1)
+pub apart-filter : (keep : Window → Bool) (ws : List Window) → AreApart ws → AreApart (filter keep ws)
+apart-filter keep ws apart = NoTwo-filter of_one_name keep ws apart
 
 pub apart-map : (f : Window → Window) → ((w : Window) → (f w).name ≡ w.name) → (ws : List Window) → AreApart ws → AreApart (map f ws)
-apart-map f keeps [] apart = tt
-apart-map f keeps (w ∷ ws) apart =
-    (subst (λ n. AllByRecursion (λ v. is_named n v ≡ false) (map f ws)) (sym (keeps w)) (all-map w.name f keeps ws apart.0), apart-map f keeps ws apart.1)
+apart-map f keeps ws apart = NoTwo-map of_one_name f (λ w v. ap₂ (λ m n. same_window m n) (keeps v) (keeps w)) ws apart
 
 pub apart-push : (ws : List Window) (w : Window) → AreApart ws → NonePasses (is_named w.name) ws → AreApart (ws ++ w ∷ [])
-apart-push [] w apart new = (tt, tt)
-apart-push (v ∷ ws) w apart new =
-    (All-push (λ u. is_named v.name u ≡ false) ws w apart.0 (apart-sym v.name w.name new.0), apart-push ws w apart.1 new.1)
+apart-push ws w apart new = NoTwo-push of_one_name (λ x y differs. apart-sym y.name x.name differs) ws w apart new
 
 -- a copy more leaves the name
 pub copy-name : (heard : Heard) (w : Window) → (with_copy heard w).name ≡ w.name
@@ -56,7 +47,7 @@ copy-name heard w = step (nat_lt (length w.copies.items) most_copies)
     step true = refl
     step false = refl
 
-pub copied-apart : (name : WindowName) (heard : Heard) (ws : List Window) → AreApart ws → AreApart (copied name heard ws)
+pub copied-apart : (name : WindowName) (heard : Heard) (ws : List Window) → AreApart ws → AreApart (with_copy_in name heard ws)
 copied-apart name heard ws apart = apart-map (λ w. cond (is_named name w) (with_copy heard w) w) keeps ws apart
   where
     step : (w : Window) (b : Bool) → (cond b (with_copy heard w) w).name ≡ w.name
@@ -66,5 +57,5 @@ copied-apart name heard ws apart = apart-map (λ w. cond (is_named name w) (with
     keeps : (w : Window) → (cond (is_named name w) (with_copy heard w) w).name ≡ w.name
     keeps w = step w (is_named name w)
 
-pub copied_none : (name : WindowName) (heard : Heard) (ws : List Window) → NonePasses (is_named name) ws → ws ≡ copied name heard ws
+pub copied_none : (name : WindowName) (heard : Heard) (ws : List Window) → NonePasses (is_named name) ws → ws ≡ with_copy_in name heard ws
 copied_none name heard ws none = sym (map-none (is_named name) (with_copy heard) ws none)

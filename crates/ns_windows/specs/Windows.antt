@@ -8,13 +8,10 @@ use Rattle.ns_types.specs.declared.identity.DevEui.{DevEui}
 use Rattle.ns_types.specs.declared.identity.WindowName.{WindowName}
 use Rattle.ns_types.specs.declared.heard.Heard.{Heard}
 use Rattle.ns_types.specs.Identity.{same_window}
+use Rattle.ns_calls.specs.Reply.{most_copies}
 use Rattle.ns_windows.specs.declared.window.Window.{Window}
 use Rattle.ns_windows.specs.declared.window.Addition.{Addition}
 use Rattle.ns_windows.specs.declared.window.Addition.TheVariants.{Copied, Crowded}
-
--- how many copies a window has at most
-abbrev pub most_copies : ℕ
-most_copies = 16
 
 abbrev pub is_named : WindowName → Window → Bool
 is_named name w = same_window w.name name
@@ -23,11 +20,11 @@ abbrev pub is_of : List ℕ → Window → Bool
 is_of frame w = bytes_eq w.frame frame
 
 -- the window of a name, and the window of a frame
-abbrev pub named : WindowName → List Window → Option Window
-named name windows = find (is_named name) windows
+abbrev pub window_named : WindowName → List Window → Option Window
+window_named name windows = find (is_named name) windows
 
-abbrev pub framed : List ℕ → List Window → Option Window
-framed frame windows = find (is_of frame) windows
+abbrev pub window_of_frame : List ℕ → List Window → Option Window
+window_of_frame frame windows = find (is_of frame) windows
 
 -- how many windows are of a device
 abbrev pub count : DevEui → List Window → ℕ
@@ -38,8 +35,8 @@ abbrev pub with_copy : Heard → Window → Window
 with_copy heard w = if nat_lt (length w.copies.items) most_copies then record w { copies = record { items = w.copies.items ++ heard ∷ [] } } else w
 
 -- the windows, where the one of a name has one copy more
-abbrev pub copied : WindowName → Heard → List Window → List Window
-copied name heard windows = map (λ w. if is_named name w then with_copy heard w else w) windows
+abbrev pub with_copy_in : WindowName → Heard → List Window → List Window
+with_copy_in name heard windows = map (λ w. if is_named name w then with_copy heard w else w) windows
 
 -- what comes of a copy for a window: the copy's place, from 1 on
 abbrev pub addition : Window → Addition
@@ -47,24 +44,28 @@ addition w = if nat_lt (length w.copies.items) most_copies then Copied w.name (l
 
 -- the windows, where the one of a frame has one copy more
 abbrev pub with_copy_of : List ℕ → Heard → List Window → List Window
-with_copy_of frame heard windows = option_map_or (λ w. copied w.name heard windows) (framed frame windows) windows
+with_copy_of frame heard windows = option_map_or (λ w. with_copy_in w.name heard windows) (window_of_frame frame windows) windows
 
 -- the windows but for the one of a name
 abbrev pub without : WindowName → List Window → List Window
 without name windows = filter (λ w. not (is_named name w)) windows
 
+-- no two of a list pass a test together
+abbrev pub NoTwo : {X : Type 0} → (X → X → Bool) → List X → Type 0
+NoTwo test [] = Unit {0}
+NoTwo test (x ∷ xs) = AllByRecursion (λ y. test x y ≡ false) xs × NoTwo test xs
+
 -- no two windows have one name
 abbrev pub AreApart : List Window → Type 0
-AreApart [] = Unit {0}
-AreApart (w ∷ windows) = AllByRecursion (λ v. is_named w.name v ≡ false) windows × AreApart windows
+AreApart = NoTwo (λ w v. is_named w.name v)
 
 -- the entries of a map that need not be there
 abbrev pub entries_of : Option (LruCache WindowName Window) → List (WindowName × Window)
 entries_of linked = option_map_or (λ l. l.entries) linked []
 
 -- entries, where the window of the name that passes the test has one copy more
-abbrev pub copied_entries : (WindowName → Bool) → Heard → List (WindowName × Window) → List (WindowName × Window)
-copied_entries test heard entries = option_map_or (λ w. set_value test entries (with_copy heard w)) (lookup test entries) entries
+abbrev pub entries_with_copy : (WindowName → Bool) → Heard → List (WindowName × Window) → List (WindowName × Window)
+entries_with_copy test heard entries = option_map_or (λ w. set_value test entries (with_copy heard w)) (lookup test entries) entries
 
 -- each window stands at its own name
 abbrev pub AreNamed : List (WindowName × Window) → Type 0
@@ -72,8 +73,7 @@ AreNamed = AllByRecursion (λ e. e.0 ≡ e.1.name)
 
 -- no two windows have one frame
 abbrev pub AreOfFrames : List Window → Type 0
-AreOfFrames [] = Unit {0}
-AreOfFrames (w ∷ windows) = AllByRecursion (λ v. is_of w.frame v ≡ false) windows × AreOfFrames windows
+AreOfFrames = NoTwo (λ w v. is_of w.frame v)
 
 -- what a device's count says
 abbrev pub count_in : List (DevEui × ℕ) → DevEui → ℕ
@@ -87,4 +87,4 @@ AreCounted counts windows = (eui : DevEui) → count_in counts eui ≡ count eui
 abbrev pub Agree : {F : Type 0} → (F → List ℕ) → List Window → List (F × WindowName) → Type 0
 Agree bytes windows frames =
     AreApart windows × AreOfFrames windows
-    × ((frame : List ℕ) → lookup (λ k. bytes_eq frame (bytes k)) frames ≡ option_map (λ w. w.name) (framed frame windows))
+    × ((frame : List ℕ) → lookup (λ k. bytes_eq frame (bytes k)) frames ≡ option_map (λ w. w.name) (window_of_frame frame windows))

@@ -25,6 +25,7 @@ fn name(number: u32) -> WindowName {
         eui: DevEui(u64::from(number / 8)),
         session: 1,
         fcnt: number,
+        round: 1,
     }
 }
 

@@ -1,8 +1,8 @@
 //! Open windows by their names and by their frames.
 
-ghost use Rattle.std.specs.Prelude.{◌≡◌, [], ◌∷◌, ◌++◌, None, option_map, OnOk, OnErr};
+ghost use Rattle.std.specs.Prelude.{◌≡◌, [], ◌∷◌, ◌++◌, None, is_some, map, option_map, IfOk, OnOk, OnErr};
 ghost use Rattle.ns_calls.specs.Queries.{first};
-ghost use Rattle.ns_windows.specs.Windows.{named, framed, count, addition, with_copy_of, without};
+ghost use Rattle.ns_windows.specs.Windows.{window_named, window_of_frame, count, addition, with_copy_of, without};
 
 use crate::by_name::ByName;
 use crate::counts::{Counts, count_of, lower, raise};
@@ -65,9 +65,23 @@ impl Windows {
         self.names.oldest()
     }
 
+    /// The names of the windows, in the order of their opening. `NoMemory` (`AllocError`) where a growth was refused.
+    pub fn names(&self, alloc: Global) -> Result<Vec<WindowName>, AllocError>
+        ensures { IfOk result (λ v. v.items ≡ map (λ w. w.name) self.now) }
+    {
+        self.names.names(alloc)
+    }
+
+    /// Whether a window of this name is open.
+    pub fn is_open(&self, name: &WindowName) -> bool
+        ensures { result ≡ is_some (window_named name.now self.now) }
+    {
+        self.names.has(name)
+    }
+
     /// Adds a copy to the window of a frame of equal bytes, where there is one, and where it has fewer than 16.
     pub fn add_copy(&mut self, frame: &[u8], heard: &Heard) -> Option<Addition>
-        ensures result { result ≡ option_map addition (framed frame.now self.old) }
+        ensures result { result ≡ option_map addition (window_of_frame frame.now self.old) }
         ensures windows { self.new ≡ with_copy_of frame.now heard.now self.old }
     {
         let name = self.frames.get(frame).copied()?;
@@ -76,8 +90,8 @@ impl Windows {
 
     /// Adds a window at the end. Where the growth is refused, nothing has changed.
     pub fn put(&mut self, window: Window) -> Result<(), AllocError>
-        requires name { named window.name self.old ≡ None }
-        requires frame { framed window.frame self.old ≡ None }
+        requires name { window_named window.name self.old ≡ None }
+        requires frame { window_of_frame window.frame self.old ≡ None }
         ensures ok { OnOk result (self.new ≡ self.old ++ window ∷ []) }
         ensures err { OnErr result (self.new ≡ self.old) }
     {
@@ -93,7 +107,7 @@ impl Windows {
 
     /// Takes the window of a name out. It takes no memory.
     pub fn take(&mut self, name: &WindowName) -> Option<Window>
-        ensures result { result ≡ named name.now self.old }
+        ensures result { result ≡ window_named name.now self.old }
         ensures windows { self.new ≡ without name.now self.old }
     {
         let window = self.names.remove(name)?;

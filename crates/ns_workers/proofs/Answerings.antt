@@ -1,12 +1,36 @@
 -- What a join worker knows of its source, turn by turn.
-use Rattle.std.proofs.Common.{◌≡◌, ℕ, ◌+◌, ◌^◌, List, [], ◌∷◌, ◌++◌, length, Option, None, Some, inl, inr, refl, sym, ap, ◌∙◌, length-append}
+use Rattle.std.proofs.Common.{◌≡◌, ℕ, ◌+◌, ◌^◌, List, [], ◌∷◌, ◌++◌, length, Option, None, Some, Ok, inl, inr, refl, sym, ap, ◌∙◌, subst, length-append}
 use Rattle.std.specs.Prelude.{IfSome}
+use Rattle.ns_types.specs.declared.ticket.Ticket.{Ticket}
+use Rattle.ns_types.specs.Ticket.{dev_eui, transaction}
+use Rattle.ns_roster.specs.declared.Device.{Device}
+use Rattle.ns_roster.specs.Network.{Network, device}
+use Rattle.ns_calls.specs.declared.call.JoinAns.{JoinAns}
+use Rattle.ns_joinwire.specs.JoinReq.{joinreq}
+use Rattle.ns_joinclient.specs.Request.{request}
+use Rattle.ns_joinclient.specs.Asked.{Exchanges, IsAnswer}
 use Rattle.ns_workers.specs.declared.outside.AskJob.{AskJob}
 use Rattle.ns_workers.specs.declared.outside.Next.TheVariants.{Job, End, Failed}
 use Rattle.ns_workers.specs.declared.outside.WorkerFault.TheVariants.{NoMemory, SourceFailed}
 use Rattle.ns_workers.specs.Given.{Given, with_jobs, Takes}
+use Rattle.ns_workers.specs.Asking.{IsAskedFor}
 use Rattle.ns_workers.specs.Answering.{Answers}
 use Rattle.ns_workers.proofs.Closings.{with_none, with_more, taken_then}
+
+-- an exchange about a ticket of a device that the roster has
+pub asked_for : {S : Type 0} (taken left : S → Option (List ℕ)) (net : Network) (host : List ℕ) (t : Ticket) (d : Device) (opened ended : S)
+    (text : List ℕ) (n : ℕ) (answer : JoinAns) → Some d ≡ device net (dev_eui t) → text ≡ joinreq net d t → n ≡ transaction t
+    → Exchanges taken left opened ended (request host text) (λ bytes. IsAnswer bytes (left ended) n (Ok answer))
+    → IsAskedFor taken left net host t answer
+asked_for taken left net host t d opened ended text n answer found written numbered exchange =
+    let sent = subst (λ k. Exchanges taken left opened ended (request host text) (λ bytes. IsAnswer bytes (left ended) k (Ok answer))) numbered exchange in
+    record {
+      asks = d;
+      found = sym found;
+      opened = opened;
+      ended = ended;
+      exchange = subst (λ out. Exchanges taken left opened ended (request host out) (λ bytes. IsAnswer bytes (left ended) (transaction t) (Ok answer))) written sent;
+    }
 
 -- so many jobs were taken
 abbrev pub Took : Option (Given AskJob) → Option (Given AskJob) → ℕ → Type 0

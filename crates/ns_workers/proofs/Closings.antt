@@ -1,18 +1,23 @@
 -- What a closer knows of its source and of its sink, turn by turn.
-use Rattle.std.proofs.Common.{◌≡◌, ℕ, List, [], ◌∷◌, ◌++◌, length, Option, None, Some, inl, inr, refl, sym, ap, ◌∙◌, subst, append_assoc, append-nil}
-use Rattle.std.specs.Prelude.{IfSome}
+use Rattle.std.proofs.Common.{◌≡◌, ℕ, List, [], ◌∷◌, ◌++◌, length, Option, None, Some, Result, Ok, Err, inl, inr, refl, sym, ap, ◌∙◌, subst, append_assoc, append-nil}
+use Rattle.std.specs.Prelude.{All, IfOk, IfSome}
 use Rattle.std.specs.Io.KnownBytes.{Appends}
-use Rattle.std.proofs.KnownBytes.{Appends-trans}
+use Rattle.std.proofs.KnownBytes.{Appends-nil, Appends-trans}
 use Rattle.std.proofs.lemmas.List.{map-append}
 use Rattle.std.proofs.lemmas.List.Concat.{flat_map-append}
 use Rattle.ns_types.specs.Streams.{AppendsFront}
+use Rattle.ns_calls.specs.declared.call.Call.{Call}
+use Rattle.ns_calls.specs.Shards.{shard_of_call}
+use Rattle.std.proofs.lemmas.List.Elements.{All-nil, All-append, All-push}
+use Rattle.ns_roster.specs.Network.{Network}
 use Rattle.ns_server.specs.declared.kept.Receipt.{Receipt}
+use Rattle.ns_server.specs.Receipts.{HasHistory}
 use Rattle.ns_workers.specs.declared.outside.CloseJob.{CloseJob}
 use Rattle.ns_workers.specs.declared.outside.Next.TheVariants.{Job, End, Failed}
 use Rattle.ns_workers.specs.declared.outside.WorkerFault.TheVariants.{NoMemory, SourceFailed, SinkFailed}
 use Rattle.ns_workers.specs.Given.{Given, with_jobs, after_next, Takes}
 use Rattle.ns_workers.specs.Lines.{uplink_line, up_lines}
-use Rattle.ns_workers.specs.Closing.{closing, calls_made, closings, Closes}
+use Rattle.ns_workers.specs.Closing.{HasAnswer, AreAnswered, Writes, WritesFront, closing, calls_made, closings, Closes}
 
 -- the receipts are those of the jobs that were taken
 abbrev pub Holds : Option (Given CloseJob) → Option (Given CloseJob) → List Receipt → Type 0
@@ -76,6 +81,26 @@ pub ends_full : (limit : ℕ) (old now : Option (Given CloseJob)) (rs : List Rec
 ends_full limit None now rs holds full = tt
 ends_full limit (Some g) now rs holds full = let (taken, names, is) = holds in (taken, (names, inl (full, is)))
 
+-- no receipt, and one more
+pub answered_none : (net : Network) → AreAnswered net []
+answered_none net = record { each = All-nil (λ (q : Receipt). HasAnswer net q) }
+
+pub answered_more : (net : Network) (rs : List Receipt) (r : Receipt) → AreAnswered net rs → HasAnswer net r → AreAnswered net (rs ++ r ∷ [])
+answered_more net rs r before now = record { each = All-push (λ (q : Receipt). HasAnswer net q) rs r before.each now }
+
+answered_both : (net : Network) (rs qs : List Receipt) → AreAnswered net rs → AreAnswered net qs → AreAnswered net (rs ++ qs)
+answered_both net rs qs before now = record { each = All-append (λ (q : Receipt). HasAnswer net q) rs qs before.each now.each }
+
+-- the answer of a call that may be refused
+pub counted_answer : {E : Type 0} (net : Network) (result : Result Receipt E) (call : Call)
+    → IfOk result (λ r. (r.shard ≡ shard_of_call call) × (r.entry.call ≡ call)) → IfOk result (λ r. HasHistory net (shard_of_call call) r)
+    → IfOk result (λ r. HasAnswer net r)
+counted_answer net (Ok r) call named history = record {
+  shard = named.0 ∙ ap shard_of_call (sym named.1);
+  history = subst (λ c. HasHistory net (shard_of_call c) r) (sym named.1) history;
+}
+counted_answer net (Err e) call named history = tt
+
 up_lines_push : (rs : List Receipt) (r : Receipt) → up_lines (rs ++ r ∷ []) ≡ up_lines rs ++ uplink_line r.uplink
 up_lines_push rs r =
     flat_map-append (λ (q : Receipt). uplink_line q.uplink) rs (r ∷ []) ∙ ap (λ l. up_lines rs ++ l) (append-nil (uplink_line r.uplink))
@@ -94,3 +119,46 @@ lines_front a b c rs r before now =
 
 pub lines_whole : (a b : Option (List ℕ)) (rs : List Receipt) → Appends a b (up_lines rs) → AppendsFront a b (up_lines rs)
 lines_whole a b rs before = (up_lines rs, [], sym (append-nil (up_lines rs)), before)
+
+-- nothing was written, all lines, a line or a front of it, and lines after lines
+pub writes_none : (net : Network) (a : Option (List ℕ)) → Writes net a a
+writes_none net a = record { receipts = []; answered = answered_none net; text = Appends-nil a }
+
+pub writes_all : (net : Network) (a b : Option (List ℕ)) → Writes net a b → WritesFront net a b
+writes_all net a b w = record { receipts = w.receipts; answered = w.answered; front = lines_whole a b w.receipts w.text }
+
+pub writes_line : (net : Network) (a b : Option (List ℕ)) (r : Receipt) → HasAnswer net r → Appends a b (uplink_line r.uplink) → Writes net a b
+writes_line net a b r answer appended = record {
+  receipts = r ∷ [];
+  answered = answered_more net [] r (answered_none net) answer;
+  text = lines_more a a b [] r (Appends-nil a) appended;
+}
+
+pub writes_front : (net : Network) (a b : Option (List ℕ)) (r : Receipt) → HasAnswer net r → AppendsFront a b (uplink_line r.uplink) → WritesFront net a b
+writes_front net a b r answer appended = record {
+  receipts = r ∷ [];
+  answered = answered_more net [] r (answered_none net) answer;
+  front = lines_front a a b [] r (Appends-nil a) appended;
+}
+
+pub writes_more : (net : Network) (a b c : Option (List ℕ)) → Writes net a b → Writes net b c → Writes net a c
+writes_more net a b c v w = record {
+  receipts = v.receipts ++ w.receipts;
+  answered = answered_both net v.receipts w.receipts v.answered w.answered;
+  text = subst (Appends a c) (sym (flat_map-append (λ (q : Receipt). uplink_line q.uplink) v.receipts w.receipts)) (Appends-trans a b c _ _ v.text w.text);
+}
+
+pub writes_front_more : (net : Network) (a b c : Option (List ℕ)) → Writes net a b → WritesFront net b c → WritesFront net a c
+writes_front_more net a b c v w =
+    let (front, rest, split, now) = w.front in
+    record {
+      receipts = v.receipts ++ w.receipts;
+      answered = answered_both net v.receipts w.receipts v.answered w.answered;
+      front = (
+        up_lines v.receipts ++ front,
+        rest,
+        flat_map-append (λ (q : Receipt). uplink_line q.uplink) v.receipts w.receipts ∙ ap (λ l. up_lines v.receipts ++ l) split
+            ∙ sym (append_assoc (up_lines v.receipts) front rest),
+        Appends-trans a b c _ _ v.text now,
+      );
+    }

@@ -5,6 +5,7 @@ use Rattle.std.proofs.lemmas.Bool.Decides.{nat_tests}
 use Rattle.std.specs.Prelude.{slice_index, count_by, OnOk}
 use Rattle.ns_calls.specs.declared.call.Call.{Call}
 use Rattle.ns_calls.specs.declared.call.Call.TheVariants.{Uplink, Join, JoinReply, Close}
+use Rattle.ns_types.specs.Identity.{shard_count}
 use Rattle.ns_calls.specs.Shards.{shard_of_call}
 use Rattle.ns_server.specs.declared.kept.Receipt.{Receipt}
 use Rattle.ns_server.specs.Receipts.{RisesAt}
@@ -48,11 +49,11 @@ rises_below (suc n) shard old new rises within = step (n == shard) refl (rises_b
         omega (arith, before, here)
 
 -- one call raises the counts of all shards together by one
-pub rises_in_all : (shard : ℕ) (old new : List ℕ) → shard < 16 → RisesAt shard old new → made_in_all new ≡ made_in_all old + 1
+pub rises_in_all : (shard : ℕ) (old new : List ℕ) → shard < shard_count → RisesAt shard old new → made_in_all new ≡ made_in_all old + 1
 unfolding made_in_all
-rises_in_all shard old new within rises = rises_below 16 shard old new rises within
+rises_in_all shard old new within rises = rises_below shard_count shard old new rises within
 
-shard_below : (call : Call) → shard_of_call call < 16
+shard_below : (call : Call) → shard_of_call call < shard_count
 shard_below (Uplink frame heard) = omega arith
 shard_below (Join ticket heard) = omega arith
 shard_below (JoinReply ticket outcome) = omega arith

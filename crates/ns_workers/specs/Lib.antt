@@ -2,6 +2,7 @@ pub mod Given
 pub mod Datagrams
 pub mod Lines
 pub mod Closing
+pub mod Asking
 pub mod Answering
 pub mod Serving
 pub mod Counts

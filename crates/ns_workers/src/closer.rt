@@ -3,7 +3,7 @@ ghost use Rattle.std.specs.Prelude.{◌≡◌, ◌≢◌, Some, false, true, IfO
 ghost use Rattle.std.specs.Io.KnownBytes.{Appends};
 ghost use Rattle.ns_types.specs.Streams.{AppendsFront};
 ghost use Rattle.ns_server.specs.Receipts.{RisesAt};
-ghost use Rattle.ns_workers.specs.Closing.{Closes, closing};
+ghost use Rattle.ns_workers.specs.Closing.{Closes, AreAnswered, HasAnswer, closing};
 ghost use Rattle.ns_workers.specs.Counts.{RisesByReceipts};
 ghost use Rattle.ns_workers.specs.Lines.{uplink_line, up_lines};
 
@@ -31,6 +31,7 @@ fn close_due<B: Naming, R: Wait, G: Gate<R>, D, M: Monitor<R>, T: Timer<R>>(
     job: CloseJob,
 ) -> Result<Receipt, AllocError>
     ensures call { IfOk result (λ r. r.entry.call ≡ closing job) }
+    ensures answered { IfOk result (λ r. HasAnswer B.roster r) }
     ensures counted { IfOk result (λ r. RisesAt r.shard pass.old pass.new) }
     ensures err { OnErr result (pass.new ≡ pass.old) }
 {
@@ -56,11 +57,12 @@ pub(crate) fn hand_out<B: Naming, R, G, D: Downlinks<R>, M: Monitor<R>, W: Sink>
 }
 
 /// Closes the windows of at most `limit` jobs, each as it becomes due, and writes the `up` line of each that was open, with a line
-/// feed. Room for the receipts is taken first.
+/// feed. Room for the receipts is taken first. Each receipt tells the plain server's answer after a history of its shard.
 ///
 /// With no fault and fewer receipts than `limit` the source has ended. K1 where a growth was refused: then nothing was done with the
-/// job taken last. K2 where the source failed. K3 where the sink failed: then it has a beginning of the lines.
-#[tactic(auto, using(crate::proofs::Counting::rises_more, crate::proofs::Closings::holds_first, crate::proofs::Closings::holds_more, crate::proofs::Closings::ends_at_end, crate::proofs::Closings::ends_broken, crate::proofs::Closings::ends_refused, crate::proofs::Closings::ends_before, crate::proofs::Closings::ends_unsent, crate::proofs::Closings::ends_full, crate::proofs::Closings::lines_more, crate::proofs::Closings::lines_front, crate::proofs::Closings::lines_whole,))]
+/// job taken last, whose window was not open. K2 where the source failed. K3 where the sink failed: then it has a beginning of the
+/// lines.
+#[tactic(auto, using(crate::proofs::Counting::rises_more, crate::proofs::Closings::holds_first, crate::proofs::Closings::holds_more, crate::proofs::Closings::answered_none, crate::proofs::Closings::ends_at_end, crate::proofs::Closings::ends_broken, crate::proofs::Closings::ends_refused, crate::proofs::Closings::ends_before, crate::proofs::Closings::ends_unsent, crate::proofs::Closings::ends_full, crate::proofs::Closings::lines_more, crate::proofs::Closings::lines_front, crate::proofs::Closings::lines_whole,))]
 pub fn run_closer<
     B: Naming,
     R: Wait,
@@ -81,6 +83,7 @@ pub fn run_closer<
 ) -> Ended
     requires { W.has_failed sink.old ≡ false }
     ensures jobs { Closes limit (J.given jobs.old) (J.given jobs.new) result.receipts.items result.fault }
+    ensures answered { AreAnswered B.roster result.receipts.items }
     ensures counted { RisesByReceipts pass.old pass.new result.receipts.items }
     ensures text { result.fault ≢ Some WorkerFault.SinkFailed
         → Appends (W.taken sink.old) (W.taken sink.new) (up_lines result.receipts.items) }

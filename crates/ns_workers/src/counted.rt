@@ -1,6 +1,7 @@
 //! Calls, and what goes down with them.
 ghost use Rattle.std.specs.Prelude.{◌≡◌, ◌+◌, IfOk, OnOk, OnErr};
 ghost use Rattle.ns_server.specs.Receipts.{RisesAt};
+ghost use Rattle.ns_workers.specs.Closing.{HasAnswer};
 ghost use Rattle.ns_workers.specs.Counts.{made_in_all};
 
 use crate::outside::{Downlinks, Monitor, Shared};
@@ -10,13 +11,14 @@ use std::alloc::AllocError;
 use std::sync::Wait;
 
 // Makes a call and tells its reply. It is one more in the counts of all shards together.
-#[tactic(auto, using(crate::proofs::Counting::counted_one))]
+#[tactic(auto, using(crate::proofs::Counting::counted_one, crate::proofs::Closings::counted_answer))]
 pub(crate) fn counted<B: Naming, R: Wait, G: Gate<R>, D, M: Monitor<R>>(
     shared: &Shared<'_, B, R, G, D, M>,
     pass: &mut Pass<B>,
     call: Call,
 ) -> Result<Receipt, AllocError>
     ensures call { IfOk result (λ r. r.entry.call ≡ call) }
+    ensures answered { IfOk result (λ r. HasAnswer B.roster r) }
     ensures counted { IfOk result (λ r. RisesAt r.shard pass.old pass.new) }
     ensures sum { OnOk result (made_in_all pass.new ≡ made_in_all pass.old + 1) }
     ensures err { OnErr result (pass.new ≡ pass.old) }

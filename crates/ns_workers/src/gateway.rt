@@ -1,7 +1,8 @@
 //! Reads the datagrams of gateways, makes their calls and puts the jobs that follow.
-ghost use Rattle.std.specs.Prelude.{◌≡◌, ◌≢◌, ◌+◌, ◌^◌, ◌<◌, ◌≤◌, if◌then◌else◌, false, true, Some, Ok, Err, IfSome, OnOk};
+ghost use Rattle.std.specs.Prelude.{◌≡◌, ◌≢◌, ◌+◌, ◌-◌, ◌*◌, ◌^◌, ◌<◌, ◌≤◌, if◌then◌else◌, false, true, Some, Ok, Err, min, IfSome, IfNone, IsSome};
 ghost use Rattle.ns_calls.specs.Steps.{datagram_call};
 ghost use Rattle.ns_workers.specs.Serving.{Reads, is_refused, refused_as};
+ghost use Rattle.ns_workers.specs.Closing.{Writes, WritesFront};
 ghost use Rattle.ns_workers.specs.Counts.{made_in_all};
 
 use crate::closer::hand_out;
@@ -29,6 +30,7 @@ pub struct Served {
 const MOST: u64 = 1 << 63;
 
 // Closes a window whose job could not be put.
+#[tactic(auto, using(crate::proofs::Closings::writes_none, crate::proofs::Closings::writes_all, crate::proofs::Closings::writes_line, crate::proofs::Closings::writes_front,))]
 fn close_itself<B: Naming, R: Wait, G: Gate<R>, D: Downlinks<R>, M: Monitor<R>, W: Sink>(
     shared: &Shared<'_, B, R, G, D, M>,
     pass: &mut Pass<B>,
@@ -37,7 +39,10 @@ fn close_itself<B: Naming, R: Wait, G: Gate<R>, D: Downlinks<R>, M: Monitor<R>, 
 ) -> Result<(), WorkerFault>
     requires { W.has_failed sink.old ≡ false }
     ensures sum { made_in_all pass.old ≤ made_in_all pass.new }
-    ensures sound { OnOk result (W.has_failed sink.new ≡ false) }
+    ensures most { made_in_all pass.new ≤ made_in_all pass.old + 1 }
+    ensures text { result ≢ Err WorkerFault.SinkFailed → Writes B.roster (W.taken sink.old) (W.taken sink.new) }
+    ensures front { WritesFront B.roster (W.taken sink.old) (W.taken sink.new) }
+    ensures sound { result ≢ Err WorkerFault.SinkFailed → W.has_failed sink.new ≡ false }
     ensures failed { result ≡ Err WorkerFault.SinkFailed → W.has_failed sink.new ≡ true }
     ensures fault { result ≢ Err WorkerFault.SourceFailed }
 {
@@ -57,6 +62,7 @@ fn answer_itself<B: Naming, R: Wait, G: Gate<R>, D: Downlinks<R>, M: Monitor<R>>
     ticket: Ticket,
 ) -> Result<(), WorkerFault>
     ensures sum { made_in_all pass.old ≤ made_in_all pass.new }
+    ensures most { made_in_all pass.new ≤ made_in_all pass.old + 1 }
     ensures fault { result ≢ Err WorkerFault.SourceFailed }
     ensures sink { result ≢ Err WorkerFault.SinkFailed }
 {
@@ -68,7 +74,18 @@ fn answer_itself<B: Naming, R: Wait, G: Gate<R>, D: Downlinks<R>, M: Monitor<R>>
     Ok(())
 }
 
+// The job of a window that is opened now.
+fn close_job(name: WindowName, now: u64, window_ms: u32) -> CloseJob
+    ensures { result ≡ record { name = name; due = min (now + window_ms) (2 ^ 64 - 1) } }
+{
+    CloseJob {
+        name,
+        due: now.saturating_add(u64::from(window_ms)),
+    }
+}
+
 // Puts the job that follows a reply, if one does; where it cannot be put, the worker does what the job asks itself.
+#[tactic(auto, using(crate::proofs::Closings::writes_none, crate::proofs::Closings::writes_all,))]
 fn put_job<
     B: Naming,
     R: Wait,
@@ -91,15 +108,17 @@ fn put_job<
 ) -> Result<(), WorkerFault>
     requires { W.has_failed sink.old ≡ false }
     ensures sum { made_in_all pass.old ≤ made_in_all pass.new }
-    ensures sound { OnOk result (W.has_failed sink.new ≡ false) }
+    ensures most { made_in_all pass.new ≤ made_in_all pass.old + 1 }
+    ensures text { result ≢ Err WorkerFault.SinkFailed → Writes B.roster (W.taken sink.old) (W.taken sink.new) }
+    ensures front { WritesFront B.roster (W.taken sink.old) (W.taken sink.new) }
+    ensures sound { result ≢ Err WorkerFault.SinkFailed → W.has_failed sink.new ≡ false }
     ensures failed { result ≡ Err WorkerFault.SinkFailed → W.has_failed sink.new ≡ true }
     ensures fault { result ≢ Err WorkerFault.SourceFailed }
 {
     match reply {
-        Reply::Opened { window } => {
-            let name = *window;
-            let due = timer.now(shared.rt).saturating_add(u64::from(window_ms));
-            match close_jobs.put(shared.rt, CloseJob { name, due }) {
+        Reply::Opened { window } | Reply::Again { window } => {
+            let job = close_job(*window, timer.now(shared.rt), window_ms);
+            match close_jobs.put(shared.rt, job) {
                 Ok(()) => Ok(()),
                 Err(job) => close_itself(shared, pass, sink, job.name),
             }
@@ -125,8 +144,10 @@ fn serve_one<B: Naming, R: Wait, G: Gate<R>, D, M: Monitor<R>>(
     ensures refused { served.new.refused ≡ served.old.refused + (if is_refused bytes.now then 1 else 0) }
     ensures dropped { served.new.dropped ≤ served.old.dropped + 1 }
     ensures same { served.new.fault ≡ served.old.fault }
-    ensures sum { made_in_all pass.old + 1 + (served.old.refused + served.old.dropped)
-        ≤ made_in_all pass.new + (served.new.refused + served.new.dropped) }
+    ensures sum { made_in_all pass.new + (served.new.refused + served.new.dropped)
+        ≡ made_in_all pass.old + 1 + (served.old.refused + served.old.dropped) }
+    ensures called { IsSome result → made_in_all pass.new ≡ made_in_all pass.old + 1 }
+    ensures none { IfNone result (pass.new ≡ pass.old) }
 {
     served.read += 1;
     let call = match call_of(bytes) {
@@ -145,13 +166,15 @@ fn serve_one<B: Naming, R: Wait, G: Gate<R>, D, M: Monitor<R>>(
     Some(receipt)
 }
 
-/// Reads datagrams, makes the call of each that is not refused, and puts the job that follows: a window that was opened is due
-/// `window_ms` milliseconds from then, and a ticket that was asked for goes to the join worker. Where a job cannot be put, the worker
-/// closes the window itself and writes its `up` line, or answers the ticket as failed.
+/// Reads datagrams, makes the call of each that is not refused, and puts the job that follows: a window that was opened, in any round,
+/// is due `window_ms` milliseconds from then, and a ticket that was asked for goes to the join worker. Where a job cannot be put, the
+/// worker closes the window itself and writes its `up` line, where it has one, or answers the ticket as failed.
 ///
-/// A call that is refused for want of memory is dropped and counted. With no fault the source has ended. K1 where a job could not be
-/// put and its call was refused memory; K2 where the source failed; K3 where the sink failed.
-#[tactic(auto, using(crate::proofs::Servings::heard_first, crate::proofs::Servings::heard_idle, crate::proofs::Servings::heard_more, crate::proofs::Servings::reads_to_end, crate::proofs::Servings::reads_broken, crate::proofs::Servings::reads_fault, crate::proofs::Servings::reads_full,))]
+/// A call that is refused for want of memory is dropped and counted: each datagram is refused, dropped or called, and a call makes one
+/// entry, or two where the worker did the job itself. With no fault the source has ended. K1 where a job could not be
+/// put and its call was refused memory, which never comes where its window or ticket is still open; K2 where the source failed; K3 where
+/// the sink failed.
+#[tactic(auto, using(crate::proofs::Servings::heard_first, crate::proofs::Servings::heard_idle, crate::proofs::Servings::heard_more, crate::proofs::Servings::reads_to_end, crate::proofs::Servings::reads_broken, crate::proofs::Servings::reads_fault, crate::proofs::Servings::reads_full, crate::proofs::Closings::writes_none, crate::proofs::Closings::writes_all, crate::proofs::Closings::writes_more, crate::proofs::Closings::writes_front_more,))]
 pub fn run_gateway<
     B: Naming,
     R: Wait,
@@ -176,6 +199,10 @@ pub fn run_gateway<
     requires { W.has_failed sink.old ≡ false }
     ensures read { Reads (I.given datagrams.old) (I.given datagrams.new) result.read result.refused result.fault }
     ensures sum { made_in_all pass.old + result.read ≤ made_in_all pass.new + (result.refused + result.dropped) }
+    ensures most { made_in_all pass.new + 2 * (result.refused + result.dropped) ≤ made_in_all pass.old + 2 * result.read }
+    ensures text { result.fault ≢ Some WorkerFault.SinkFailed → Writes B.roster (W.taken sink.old) (W.taken sink.new) }
+    ensures front { WritesFront B.roster (W.taken sink.old) (W.taken sink.new) }
+    ensures sound { result.fault ≢ Some WorkerFault.SinkFailed → W.has_failed sink.new ≡ false }
     ensures failed { result.fault ≡ Some WorkerFault.SinkFailed → W.has_failed sink.new ≡ true }
 {
     let rt = shared.rt;

@@ -1,5 +1,7 @@
 //! Asks the join server about tickets, and answers them.
-ghost use Rattle.std.specs.Prelude.{◌≡◌, ◌+◌};
+ghost use Rattle.std.specs.Prelude.{◌≡◌, ◌+◌, IfOk};
+ghost use Rattle.ns_joinclient.specs.Request.{host_text};
+ghost use Rattle.ns_workers.specs.Asking.{IsAskedFor, HasOutcome};
 ghost use Rattle.ns_workers.specs.Answering.{Answers};
 ghost use Rattle.ns_workers.specs.Counts.{made_in_all};
 
@@ -52,7 +54,9 @@ fn asked<R, C: Connections<R>>(
     host: HostName<'_>,
     connections: &C,
     ticket: &Ticket,
-) -> Result<JoinAns, JoinFault> {
+) -> Result<JoinAns, JoinFault>
+    ensures { IfOk result (λ answer. IsAskedFor C.S.taken C.S.left roster.now (host_text host.entry) ticket.now answer) }
+{
     let Some(device) = roster.find(ticket.dev_eui()) else {
         return Err(JoinFault::NoDevice);
     };
@@ -83,7 +87,9 @@ fn outcome_of<R, C: Connections<R>, M: Monitor<R>>(
     connections: &C,
     monitor: &M,
     ticket: &Ticket,
-) -> Outcome {
+) -> Outcome
+    ensures { HasOutcome C.S.taken C.S.left roster.now (host_text host.entry) ticket.now result }
+{
     match asked(rt, alloc, roster, host, connections, ticket) {
         Ok(answer) => Outcome::Success(answer),
         Err(fault) => {
@@ -96,8 +102,8 @@ fn outcome_of<R, C: Connections<R>, M: Monitor<R>>(
 /// Asks the join server about each ticket, and answers it: with what the join server answered, or, where there was no answer that
 /// can be used, as failed.
 ///
-/// With no fault the source has ended. K1 where the call was refused for want of memory: then the ticket taken last is still open.
-/// K2 where the source failed. K3 never comes.
+/// With no fault the source has ended. K1 where the call was refused for want of memory: then the ticket taken last was not open. K2
+/// where the source failed. K3 never comes.
 #[tactic(auto, using(crate::proofs::Answerings::took_first, crate::proofs::Answerings::took_more, crate::proofs::Answerings::answers_to_end, crate::proofs::Answerings::answers_broken, crate::proofs::Answerings::answers_refused, crate::proofs::Answerings::answers_full,))]
 pub fn run_join<
     B: Naming,

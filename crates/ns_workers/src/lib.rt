@@ -31,4 +31,6 @@ pub use outside::{
 };
 
 #[cfg(test)]
+mod growth_tests;
+#[cfg(test)]
 mod tests;

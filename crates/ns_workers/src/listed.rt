@@ -48,6 +48,8 @@ pub struct ListedJobs<J> {
     jobs: Vec<J>,
     place: Place,
     ghost within: { place.at ≤ vec_len jobs },
+    ghost ended: { place.ended ≡ true → (place.at ≡ vec_len jobs) × (place.fails ≡ false) },
+    ghost broken: { place.broken ≡ true → (place.at ≡ vec_len jobs) × (place.fails ≡ true) },
 }
 
 impl<J: Copy> ListedJobs<J> {
@@ -56,7 +58,8 @@ impl<J: Copy> ListedJobs<J> {
 
     /// A source of these jobs, which then ends, or fails.
     pub fn new(jobs: Vec<J>, fails: bool) -> Self
-        ensures { jobs_given result ≡ Some (record { jobs = []; ended = false; broken = false }) }
+        ensures given { jobs_given result ≡ Some (record { jobs = []; ended = false; broken = false }) }
+        ensures all { (result.jobs ≡ jobs) × (result.place.fails ≡ fails) }
     {
         ListedJobs {
             jobs,
@@ -66,11 +69,15 @@ impl<J: Copy> ListedJobs<J> {
 }
 
 impl<R, J: Copy> JobSource<R, J> for ListedJobs<J> {
+    ghost use Rattle.ns_workers.specs.Given.{Takes};
     ghost use Rattle.ns_workers.specs.Listed.{jobs_given};
 
     ghost given = { λ s. jobs_given s };
 
-    fn take(&mut self, _rt: &R) -> Next<J> {
+    fn take(&mut self, _rt: &R) -> Next<J>
+        ensures given { Takes (jobs_given self.old) (jobs_given self.new) result }
+        ensures all { (self.new.jobs ≡ self.old.jobs) × (self.new.place.fails ≡ self.old.place.fails) }
+    {
         if self.place.at < self.jobs.len() {
             let job = self.jobs[self.place.at];
             self.place.at += 1;
@@ -92,6 +99,8 @@ pub struct ListedDatagrams {
     place: Place,
     idles: bool,
     ghost within: { place.at ≤ vec_len datagrams },
+    ghost ended: { place.ended ≡ true → (place.at ≡ vec_len datagrams) × (place.fails ≡ false) },
+    ghost broken: { place.broken ≡ true → (place.at ≡ vec_len datagrams) × (place.fails ≡ true) },
 }
 
 impl ListedDatagrams {
@@ -100,7 +109,9 @@ impl ListedDatagrams {
 
     /// A source of these datagrams, which then ends, or fails.
     pub fn new(datagrams: Vec<Vec<u8>>, fails: bool) -> Self
-        ensures { datagrams_given result ≡ Some (record { jobs = []; ended = false; broken = false }) }
+        ensures given { datagrams_given result ≡ Some (record { jobs = []; ended = false; broken = false }) }
+        ensures all { (result.datagrams ≡ datagrams) × (result.place.fails ≡ fails) }
+        ensures idles { result.idles ≡ false }
     {
         ListedDatagrams {
             datagrams,
@@ -111,11 +122,19 @@ impl ListedDatagrams {
 }
 
 impl<R> Datagrams<R> for ListedDatagrams {
+    ghost use Rattle.std.specs.Prelude.{◌≡◌, ◌↔◌, false, not};
+    ghost use Rattle.ns_workers.specs.Datagrams.{FitsBuffer, TakesDatagram};
     ghost use Rattle.ns_workers.specs.Listed.{datagrams_given};
 
     ghost given = { λ s. datagrams_given s };
 
-    fn next(&mut self, _rt: &R, buf: &mut [u8; 512]) -> Received {
+    fn next(&mut self, _rt: &R, buf: &mut [u8; 512]) -> Received
+        ensures fits { FitsBuffer result }
+        ensures given { TakesDatagram (datagrams_given self.old) (datagrams_given self.new) result buf.new }
+        ensures all { (self.new.datagrams ≡ self.old.datagrams) × (self.new.place.fails ≡ self.old.place.fails) }
+        ensures idles { (result ≡ Received.Idle) ↔ (self.old.idles ≡ false) }
+        ensures turn { self.new.idles ≡ not self.old.idles }
+    {
         self.idles = !self.idles;
         if self.idles {
             return Received::Idle;

@@ -1,4 +1,5 @@
 use Rattle.ns_calls.proofs.PushLemmas.{acceptances-push, openings-push, closings-push, open_windows-push, window_copies-push, open_tickets-push, ticket_copies-push}
+use Rattle.ns_calls.proofs.RoundLemmas.{rounds-push}
 use Rattle.ns_calls.proofs.laws.what_one_entry_adds.Goals as goal
 
 pub returns-clause-acceptances : goal.returns-clause-acceptances
@@ -12,6 +13,9 @@ returns-clause-closings c = closings-push
 
 pub returns-clause-open_windows : goal.returns-clause-open_windows
 returns-clause-open_windows c = open_windows-push
+
+pub returns-clause-rounds : goal.returns-clause-rounds
+returns-clause-rounds c = rounds-push
 
 pub returns-clause-window_copies : goal.returns-clause-window_copies
 returns-clause-window_copies c = window_copies-push

@@ -1,4 +1,4 @@
-use Rattle.ns_server.proofs.Counting.{all_receipts}
+use Rattle.ns_server.proofs.Since.{all_receipts}
 use Rattle.ns_server.proofs.laws.receipts_are_all.Goals as goal
 
 pub returns : goal.returns

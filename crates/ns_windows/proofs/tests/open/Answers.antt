@@ -1,7 +1,7 @@
 use Rattle.std.proofs.Common.{◌≡◌, false, Option, None, Some, is_some, option_map, refl, sym, ap, ◌∙◌}
 use Rattle.std.specs.Option.{option_map_or}
 use Rattle.ns_windows.specs.declared.window.Window.{Window}
-use Rattle.ns_windows.specs.Windows.{is_named, named, framed, copied, addition}
+use Rattle.ns_windows.specs.Windows.{is_named, window_named, window_of_frame, with_copy_in, addition}
 use Rattle.ns_windows.proofs.Places.{none_found, filter-none}
 use Rattle.ns_windows.proofs.tests.open.Goals as goal
 
@@ -17,8 +17,8 @@ pub put-requires-clause-name : goal.put-requires-clause-name
 put-requires-clause-name c =
     let name = c.args.window.name in
     let ws = c.add_copy.new.self in
-    let none : named name ws ≡ None = not_there (named name ws) (sym (ap is_some c.take.ensures.result) ∙ sym c.if-is_some-2.ensures) in
-    ap (named name) (c.take.ensures.windows ∙ filter-none (is_named name) ws (none_found (is_named name) ws none)) ∙ none
+    let none : window_named name ws ≡ None = not_there (window_named name ws) (sym (ap is_some c.take.ensures.result) ∙ sym c.if-is_some-2.ensures) in
+    ap (window_named name) (c.take.ensures.windows ∙ filter-none (is_named name) ws (none_found (is_named name) ws none)) ∙ none
 
 pub put-requires-clause-frame : goal.put-requires-clause-frame
 put-requires-clause-frame c =
@@ -26,8 +26,8 @@ put-requires-clause-frame c =
     let frame = c.args.window.frame in
     let was = c.args.windows.now in
     let ws = c.add_copy.new.self in
-    let is : is_some (option_map addition (framed frame was)) ≡ false = ap (λ f. is_some (option_map addition (framed f was))) (sym c.bytes.ensures.bytes) ∙ sym (ap is_some c.add_copy.ensures.result) ∙ sym c.if-is_some.ensures in
-    let new : framed frame was ≡ None = not_at _ is in
-    let stays : ws ≡ was = c.add_copy.ensures.windows ∙ ap (λ o. option_map_or (λ (w : Window). copied w.name c.default-heard.result was) o was) (ap (λ f. framed f was) c.bytes.ensures.bytes ∙ new) in
-    let none : named name ws ≡ None = not_there (named name ws) (sym (ap is_some c.take.ensures.result) ∙ sym c.if-is_some-2.ensures) in
-    ap (framed frame) (c.take.ensures.windows ∙ filter-none (is_named name) ws (none_found (is_named name) ws none) ∙ stays) ∙ new
+    let is : is_some (option_map addition (window_of_frame frame was)) ≡ false = ap (λ f. is_some (option_map addition (window_of_frame f was))) (sym c.bytes.ensures.bytes) ∙ sym (ap is_some c.add_copy.ensures.result) ∙ sym c.if-is_some.ensures in
+    let new : window_of_frame frame was ≡ None = not_at _ is in
+    let stays : ws ≡ was = c.add_copy.ensures.windows ∙ ap (λ o. option_map_or (λ (w : Window). with_copy_in w.name c.default-heard.result was) o was) (ap (λ f. window_of_frame f was) c.bytes.ensures.bytes ∙ new) in
+    let none : window_named name ws ≡ None = not_there (window_named name ws) (sym (ap is_some c.take.ensures.result) ∙ sym c.if-is_some-2.ensures) in
+    ap (window_of_frame frame) (c.take.ensures.windows ∙ filter-none (is_named name) ws (none_found (is_named name) ws none) ∙ stays) ∙ new

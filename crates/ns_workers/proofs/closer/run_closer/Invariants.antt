@@ -1,6 +1,7 @@
 use Rattle.std.proofs.Common.{◌≡◌, false, ◌≤◌, ◌-◌}
 use Rattle.std.specs.Prelude.{vec_len, vec_capacity}
 use Rattle.std.specs.Io.KnownBytes.{Appends}
+use Rattle.ns_workers.specs.Closing.{AreAnswered}
 use Rattle.ns_workers.specs.Counts.{RisesByReceipts}
 use Rattle.ns_workers.specs.Lines.{up_lines}
 use Rattle.ns_workers.proofs.Closings.{Holds}
@@ -12,6 +13,7 @@ invariant-loop-jobs g l =
     × Holds (g.J.JobSource.given l.fn.jobs) (g.J.JobSource.given l.jobs) l.receipts.items
     × RisesByReceipts l.fn.pass l.pass l.receipts.items
     × Appends (g.W.Sink.taken l.fn.sink) (g.W.Sink.taken l.sink) (up_lines l.receipts.items)
+    × AreAnswered g.B.Naming.roster l.receipts.items
 
 abbrev pub decreases-loop-jobs : goal.decreases-loop-jobs
 decreases-loop-jobs g l = l.limit - vec_len l.receipts

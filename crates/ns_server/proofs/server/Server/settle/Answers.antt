@@ -1,6 +1,6 @@
 use Rattle.std.proofs.Common.{◌∙◌, subst}
 use Rattle.ns_roster.specs.Valid.{IsRoster}
-use Rattle.ns_server.proofs.Shards.{row_states, row_counts, states_histories}
+use Rattle.ns_server.proofs.Shards.{row_states, row_counts}
 use Rattle.ns_server.proofs.server.Server.settle.Goals as goal
 
 pub invariant_of-result : goal.invariant_of-result
@@ -18,4 +18,4 @@ pub returns-clause-merges : goal.returns-clause-merges
 returns-clause-merges g c =
     let opened = c.all_opened-roster.ensures in
     let valid = subst IsRoster (c.deref.ensures ∙ opened.roster) c.net_id-net.ensures.valid in
-    c.merges_are_legal.ensures _ valid _ (states_histories _ _ (row_states _ _ opened.shards))
+    λ lists left. c.merges_of_what_leaves_are_legal.ensures _ valid lists _ left

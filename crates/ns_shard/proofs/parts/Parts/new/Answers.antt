@@ -2,7 +2,9 @@ use Rattle.std.proofs.Common.{◌≡◌, [], map, refl}
 use Rattle.std.specs.Arc.{arc_value}
 use Rattle.ns_roster.specs.Network.{Network}
 use Rattle.ns_roster.specs.Valid.{IsRoster}
-use Rattle.ns_shard.specs.Devices.{joinless, devices_of}
+use Rattle.ns_devices.specs.Devices.{joinless, devices_of}
+use Rattle.ns_calls.proofs.LegalLemmas.{history_none}
+use Rattle.ns_kept.proofs.Law.{whole-leaves}
 use Rattle.ns_shard.proofs.PartSteps.{agrees-new}
 use Rattle.ns_sessions.proofs.Uplinks.{others_stay}
 use Rattle.ns_shard.proofs.parts.Parts.new.Goals as goal
@@ -15,6 +17,7 @@ returns-clause-agree c =
     record {
       small = c.requires;
       history = [];
-      keeps = record { made = rw c.new-3.ensures.made refl; entries = rw c.new-3.ensures.entries refl };
+      keeps = record { made = rw c.new-3.ensures.made refl; left = rw (c.new-3.ensures.entries, c.new-4.ensures.items) (whole-leaves net [] (history_none net c.args.index).legal (history_none net c.args.index).numbered) };
       agrees = rw (c.new-2.ensures, are) (agrees-new net c.args.index others_stay valid);
+      reserved = c.new-3.ensures.reserved;
     }

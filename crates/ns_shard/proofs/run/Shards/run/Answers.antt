@@ -1,10 +1,9 @@
 use Rattle.std.proofs.Common.{sym, ap, ◌∙◌, ◌++◌, ◌+◌, take, drop, subst, []}
 use Rattle.std.specs.List.{AllByRecursion}
-use Rattle.std.proofs.lemmas.List.{take_all}
 use Rattle.std.specs.Arc.{arc_value}
-use Rattle.ns_shard.specs.Steps.{all_taken, AreAfter, HandsOut, HasCopies, AreHandedOutOnce}
+use Rattle.ns_shard.specs.Steps.{all_taken, HandsOut, HasCopies, AreHandedOutOnce}
 use Rattle.ns_shard.proofs.RunSteps.{step-after, step-taken, told-more}
-use Rattle.ns_shard.proofs.RunHistories.{histories-legal, histories-calls, histories-nonces, histories-counters, histories-acks, histories-windows, all-hand_out, told-all, histories-within, greatest-after}
+use Rattle.ns_shard.proofs.RunHistories.{histories-legal, histories-calls, histories-nonces, histories-counters, histories-acks, histories-windows, all-hand_out, after-all, told-all, histories-within, greatest-after}
 use Rattle.ns_shard.proofs.RunTaken.{taken-copies, taken-once}
 use Rattle.ns_shard.proofs.run.Shards.run.Goals as goal
 
@@ -15,7 +14,7 @@ steps-preserved c =
     let x = c.step-item.result in
     let new = step-taken net (take i c.args.steps.now) x c.steps.list.items c.in_ok-one.one c.steps.invariant.after c.in_ok-one.ensures.taken in
     record {
-      after = step-after net c.args.steps.now i x c.steps.list.items c.take.new.shards.items c.steps-test.true c.step-item.is c.steps.invariant.after c.in_ok-one.ensures.shards;
+      after = step-after net c.args.steps.now i x c.steps.list.items c.run_step.new.shards.items c.steps-test.true c.step-item.is c.steps.invariant.after c.in_ok-one.ensures.shards;
       told =
           ap (λ ts. ts ++ all_taken net (take (i + 1) c.args.steps.now) (drop (i + 1) c.args.steps.now)) c.in_ok-push.ensures.items
           ∙ told-more net c.args.steps.now i x c.steps.taken.items _ c.in_ok-one.one c.steps-test.true c.step-item.is c.steps.invariant.told new;
@@ -24,50 +23,42 @@ steps-preserved c =
 pub returns-clause-histories : goal.returns-clause-histories
 returns-clause-histories c =
     let net = arc_value c.args.roster in
-    let all = take_all c.steps.step-index c.args.steps.now c.steps-test.false in
-    histories-legal net c.args.steps.now c.steps.list.items (subst (λ ss. AreAfter net ss c.steps.list.items) all c.steps.invariant.after)
+    histories-legal net c.args.steps.now c.steps.list.items (after-all net c.args.steps.now c.steps.step-index c.steps.list.items c.steps-test.false c.steps.invariant.after)
 
 pub returns-clause-calls : goal.returns-clause-calls
 returns-clause-calls c =
     let net = arc_value c.args.roster in
-    let all = take_all c.steps.step-index c.args.steps.now c.steps-test.false in
-    histories-calls net c.args.steps.now c.steps.list.items (subst (λ ss. AreAfter net ss c.steps.list.items) all c.steps.invariant.after)
+    histories-calls net c.args.steps.now c.steps.list.items (after-all net c.args.steps.now c.steps.step-index c.steps.list.items c.steps-test.false c.steps.invariant.after)
 
 pub returns-clause-nonces_rise : goal.returns-clause-nonces_rise
 returns-clause-nonces_rise c =
     let net = arc_value c.args.roster in
-    let all = take_all c.steps.step-index c.args.steps.now c.steps-test.false in
-    histories-nonces net c.args.steps.now c.steps.list.items (subst (λ ss. AreAfter net ss c.steps.list.items) all c.steps.invariant.after)
+    histories-nonces net c.args.steps.now c.steps.list.items (after-all net c.args.steps.now c.steps.step-index c.steps.list.items c.steps-test.false c.steps.invariant.after)
 
 pub returns-clause-nonces_within : goal.returns-clause-nonces_within
 returns-clause-nonces_within c =
     let net = arc_value c.args.roster in
-    let all = take_all c.steps.step-index c.args.steps.now c.steps-test.false in
-    histories-within net c.args.steps.now c.steps.list.items (subst (λ ss. AreAfter net ss c.steps.list.items) all c.steps.invariant.after)
+    histories-within net c.args.steps.now c.steps.list.items (after-all net c.args.steps.now c.steps.step-index c.steps.list.items c.steps-test.false c.steps.invariant.after)
 
 pub returns-clause-greatest : goal.returns-clause-greatest
 returns-clause-greatest c =
     let net = arc_value c.args.roster in
-    let all = take_all c.steps.step-index c.args.steps.now c.steps-test.false in
-    greatest-after net c.args.steps.now c.steps.list.items (subst (λ ss. AreAfter net ss c.steps.list.items) all c.steps.invariant.after)
+    greatest-after net c.args.steps.now c.steps.list.items (after-all net c.args.steps.now c.steps.step-index c.steps.list.items c.steps-test.false c.steps.invariant.after)
 
 pub returns-clause-counters_rise : goal.returns-clause-counters_rise
 returns-clause-counters_rise c =
     let net = arc_value c.args.roster in
-    let all = take_all c.steps.step-index c.args.steps.now c.steps-test.false in
-    histories-counters net c.args.steps.now c.steps.list.items (subst (λ ss. AreAfter net ss c.steps.list.items) all c.steps.invariant.after)
+    histories-counters net c.args.steps.now c.steps.list.items (after-all net c.args.steps.now c.steps.step-index c.steps.list.items c.steps-test.false c.steps.invariant.after)
 
 pub returns-clause-windows_open_once : goal.returns-clause-windows_open_once
 returns-clause-windows_open_once c =
     let net = arc_value c.args.roster in
-    let all = take_all c.steps.step-index c.args.steps.now c.steps-test.false in
-    histories-windows net c.args.steps.now c.steps.list.items (subst (λ ss. AreAfter net ss c.steps.list.items) all c.steps.invariant.after)
+    histories-windows net c.args.steps.now c.steps.list.items (after-all net c.args.steps.now c.steps.step-index c.steps.list.items c.steps-test.false c.steps.invariant.after)
 
 pub returns-clause-acks_rise : goal.returns-clause-acks_rise
 returns-clause-acks_rise c =
     let net = arc_value c.args.roster in
-    let all = take_all c.steps.step-index c.args.steps.now c.steps-test.false in
-    histories-acks net c.args.steps.now c.steps.list.items (subst (λ ss. AreAfter net ss c.steps.list.items) all c.steps.invariant.after)
+    histories-acks net c.args.steps.now c.steps.list.items (after-all net c.args.steps.now c.steps.step-index c.steps.list.items c.steps-test.false c.steps.invariant.after)
 
 pub returns-clause-uplinks : goal.returns-clause-uplinks
 returns-clause-uplinks c =
@@ -77,8 +68,7 @@ returns-clause-uplinks c =
 pub returns-clause-copies : goal.returns-clause-copies
 returns-clause-copies c =
     let net = arc_value c.args.roster in
-    let all = take_all c.steps.step-index c.args.steps.now c.steps-test.false in
-    let after = subst (λ ss. AreAfter net ss c.steps.list.items) all c.steps.invariant.after in
+    let after = after-all net c.args.steps.now c.steps.step-index c.steps.list.items c.steps-test.false c.steps.invariant.after in
     subst (AllByRecursion (HasCopies c.steps.list.items)) (sym (told-all net c.args.steps.now c.steps.step-index c.steps.taken.items c.steps-test.false c.steps.invariant.told)) (taken-copies net c.args.steps.now c.steps.list.items after)
 
 pub returns-clause-handed_out_once : goal.returns-clause-handed_out_once

@@ -1,7 +1,7 @@
 use Rattle.std.proofs.Common.{◌≡◌, ◌-◌, ◌^◌, option_map, sym, ap, subst, ◌∙◌}
 use Rattle.std.specs.Map.{values_of}
 use Rattle.ns_types.specs.contracts.identity.WindowNamePartialEq.TheImpl as name_eq
-use Rattle.ns_windows.specs.Windows.{named, copied, addition, entries_of, AreNamed, AreApart}
+use Rattle.ns_windows.specs.Windows.{window_named, with_copy_in, addition, entries_of, AreNamed, AreApart}
 use Rattle.ns_windows.proofs.Names.{copied-apart}
 use Rattle.ns_windows.proofs.Named.{lookup-named, key_test}
 use Rattle.ns_windows.proofs.Copies.{values-copied, named-copied}
@@ -14,7 +14,7 @@ invariant c = rw c.in-Some.is at c.self.invariant
 was : (c : After-add_to_named) → values_of c.in-Some.linked.entries ≡ c.args.self.now
 was c = ap (λ o. values_of (entries_of o)) (sym c.in-Some.is) ∙ c.self.view_is
 
-now : (c : After-add_to_named) → values_of c.add_to_named.new.linked.entries ≡ copied c.args.name.now c.args.heard.now (values_of c.in-Some.linked.entries)
+now : (c : After-add_to_named) → values_of c.add_to_named.new.linked.entries ≡ with_copy_in c.args.name.now c.args.heard.now (values_of c.in-Some.linked.entries)
 now c =
     ap values_of c.add_to_named.ensures.entries
     ∙ values-copied _ c.args.name.now (key_test c.args.name.now) c.args.heard.now c.in-Some.linked.entries (invariant c).0 (invariant c).1
@@ -31,7 +31,7 @@ invariant_of-self-2 c =
 pub returns-clause-result : goal.returns-clause-result
 returns-clause-result c =
     let name = c.args.name.now in
-    c.add_to_named.ensures.result ∙ ap (option_map addition) (lookup-named _ name (key_test name) c.in-Some.linked.entries (invariant c).0 ∙ ap (named name) (was c))
+    c.add_to_named.ensures.result ∙ ap (option_map addition) (lookup-named _ name (key_test name) c.in-Some.linked.entries (invariant c).0 ∙ ap (window_named name) (was c))
 
 pub returns-clause-windows : goal.returns-clause-windows
-returns-clause-windows c = now c ∙ ap (copied c.args.name.now c.args.heard.now) (was c)
+returns-clause-windows c = now c ∙ ap (with_copy_in c.args.name.now c.args.heard.now) (was c)

@@ -1,6 +1,6 @@
 use Rattle.std.proofs.Common.{◌≡◌, cond, Some, option_map, sym, ap, ◌∙◌}
 use Rattle.ns_windows.specs.declared.window.Window.{Window}
-use Rattle.ns_windows.specs.Windows.{is_named, framed, addition, with_copy}
+use Rattle.ns_windows.specs.Windows.{is_named, window_of_frame, addition, with_copy}
 use Rattle.ns_windows.proofs.Names.{copied-apart}
 use Rattle.ns_windows.proofs.Framed.{framed-map, of_frames-map}
 use Rattle.ns_windows.proofs.Counted.{count-map}
@@ -10,7 +10,7 @@ use Rattle.ns_windows.proofs.windows.Windows.add_copy.Goals as goal
 use Rattle.ns_windows.proofs.windows.Windows.add_copy.Goals.{After-add_copy}
 
 -- the name that was found is that of the frame's window
-at : (c : After-add_copy) → Some c.in_ok-name.name ≡ option_map (λ w. w.name) (framed c.args.frame.now c.self.inside.names)
+at : (c : After-add_copy) → Some c.in_ok-name.name ≡ option_map (λ w. w.name) (window_of_frame c.args.frame.now c.self.inside.names)
 at c = c.in_ok-name.ensures ∙ c.get.ensures.value ∙ c.self.invariant.0.2 c.args.frame.now
 
 pub invariant_of-self : goal.invariant_of-self

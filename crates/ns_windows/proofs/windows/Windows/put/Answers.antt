@@ -5,7 +5,7 @@ use Rattle.std.specs.Map.{lookup}
 use Rattle.indexmap.proofs.CallerLemmas.{insert_entry-new}
 use Rattle.ns_types.specs.declared.identity.DevEui.{DevEui}
 use Rattle.ns_windows.specs.declared.window.Window.{Window}
-use Rattle.ns_windows.specs.Windows.{is_named, is_of, named, framed, count, count_in, AreCounted}
+use Rattle.ns_windows.specs.Windows.{is_named, is_of, window_named, window_of_frame, count, count_in, AreCounted}
 use Rattle.ns_windows.proofs.Names.{apart-push}
 use Rattle.ns_windows.proofs.Framed.{frames-push, of_frames-push}
 use Rattle.ns_windows.proofs.Counted.{one_of, count-push}
@@ -21,7 +21,7 @@ new_frames c =
     let w = c.args.window in
     let frames = c.self.inside.frames.entries in
     let stays : c.reserve.new.self.entries ≡ frames = c.reserve.ensures.entries in
-    let new : framed w.frame c.self.inside.names ≡ None = rw c.self.view_is c.requires.frame in
+    let new : window_of_frame w.frame c.self.inside.names ≡ None = rw c.self.view_is c.requires.frame in
     let absent = ap (λ xs. lookup (λ k. bytes_eq (boxed_slice_items c.in_ok-frame.frame) (boxed_slice_items k)) xs) stays
     ∙ ap (λ f. lookup (λ k. bytes_eq f (boxed_slice_items k)) frames) (key c) ∙ c.self.invariant.0.2 w.frame ∙ ap (λ r. option_map (λ v. v.name) r) new in
     let inserted = rw c.unwrap.ensures at c.insert.ensures.entries in
@@ -49,6 +49,6 @@ invariant_of-self-2 c =
     let ws = c.self.inside.names in
     let w = c.args.window in
     let i = c.self.invariant.0 in
-    let name : named w.name ws ≡ None = rw c.self.view_is c.requires.name in
-    let frame : framed w.frame ws ≡ None = rw c.self.view_is c.requires.frame in
+    let name : window_named w.name ws ≡ None = rw c.self.view_is c.requires.name in
+    let frame : window_of_frame w.frame ws ≡ None = rw c.self.view_is c.requires.frame in
     rw (c.in_ok-push.ensures.ok, new_frames c) ((apart-push ws w i.0 (none_found (is_named w.name) ws name), of_frames-push ws w i.1 (none_found (is_of w.frame) ws frame), (λ f. frames-push boxed_slice_items c.self.inside.frames.entries ws c.in_ok-frame.frame w f (key c) (i.2 f))), counted c)

@@ -1,7 +1,7 @@
 use Rattle.std.proofs.Common.{◌≡◌, ◌+◌, ◌-◌, arith, None, Some, bytes_eq, not, sym, ◌∙◌}
 use Rattle.std.specs.Box.{boxed_slice_items}
 use Rattle.std.specs.Map.{lookup, KeepsOthers}
-use Rattle.ns_windows.specs.Windows.{is_named, named, without, count, count_in, AreCounted}
+use Rattle.ns_windows.specs.Windows.{is_named, window_named, without, count, count_in, AreCounted}
 use Rattle.ns_windows.proofs.Names.{apart-filter}
 use Rattle.ns_windows.proofs.Framed.{frames-taken, of_frames-filter}
 use Rattle.ns_windows.proofs.Counted.{one_of, count-taken}
@@ -18,7 +18,7 @@ stays c =
 pub invariant_of-self : goal.invariant_of-self
 invariant_of-self c = rw (stays c) c.self.invariant
 
-there : (c : After-lower) → Some c.in_ok-window.window ≡ named c.args.name.now c.self.inside.names
+there : (c : After-lower) → Some c.in_ok-window.window ≡ window_named c.args.name.now c.self.inside.names
 there c = c.in_ok-window.ensures.result
 
 keeps : (c : After-lower) → KeepsOthers (λ x y. bytes_eq (boxed_slice_items x) (boxed_slice_items y)) (λ k. bytes_eq c.in_ok-window.window.frame (boxed_slice_items k)) c.self.inside.frames.entries c.swap_remove.new.self.entries

@@ -1,0 +1,5 @@
+pub mod Positions
+pub mod Addressed
+pub mod Euis
+pub mod Tables
+pub mod Rosters

@@ -1,0 +1,34 @@
+use Rattle.std.proofs.Common.{◌≡◌, ◌++◌, ◌∷◌, [], ℕ, Option, Some, IsSome, Result, Ok, Err, OnErr, refl, ap, subst, ◌∙◌}
+use Rattle.std.specs.Option.{option_map_or}
+use Rattle.smallvec.specs.SmallVec.{SmallVec}
+use Rattle.ns_devices.specs.Places.{places_in}
+use Rattle.ns_devices.proofs.Tables.{places-added, places-same}
+use Rattle.ns_devices.proofs.places.add_place.Goals as goal
+
+on_err : {A E P : Type 0} (r : Result A E) → P → OnErr r P
+on_err (Ok x) holds = tt
+on_err (Err e) holds = holds
+
+found : (o : Option (SmallVec ℕ)) (v : SmallVec ℕ) → Some v ≡ o → (v.items ≡ option_map_or (λ (w : SmallVec ℕ). w.items) o []) × IsSome o
+found o v is = (ap (λ (p : Option (SmallVec ℕ)). option_map_or (λ (w : SmallVec ℕ). w.items) p []) is, subst (λ (p : Option (SmallVec ℕ)). IsSome p) is refl)
+
+pub returns-in_err-push-clause-err : goal.returns-in_err-push-clause-err
+returns-in_err-push-clause-err c =
+    let known = found _ _ c.in-Some.ensures.value in
+    let writes = (c.get_mut.follows.holds c.push.new.self).3 known.1 in
+    on_err c.from_residual.result
+    (places-same c.args.places.now.entries (c.get_mut.follows.lender c.push.new.self).entries c.args.addr c.push.new.self writes.0 (ap (λ (v : SmallVec ℕ). v.items) c.in_err-push.ensures.err ∙ known.0))
+
+pub returns-in-Some-clause-ok : goal.returns-in-Some-clause-ok
+returns-in-Some-clause-ok c =
+    let known = found _ _ c.in-Some.ensures.value in
+    let writes = (c.get_mut.follows.holds c.push.new.self).3 known.1 in
+    places-added c.args.places.now.entries (c.get_mut.follows.lender c.push.new.self).entries c.args.addr c.push.new.self writes.0 c.args.place
+    (c.in_ok-push.ensures.ok ∙ ap (λ is. is ++ c.args.place ∷ []) known.0)
+
+pub returns-clause-ok : goal.returns-clause-ok
+returns-clause-ok c =
+    let none = c.get_mut.follows.holds-at-none in
+    let new : [] ≡ places_in c.args.places.now.entries c.args.addr = ap (λ (o : Option (SmallVec ℕ)). option_map_or (λ (w : SmallVec ℕ). w.items) o []) c.in_default.ensures.value in
+    places-added c.args.places.now.entries c.insert.new.self.entries c.args.addr c.in_ok-from_slice.field-0 (rw none at c.in_ok-insert.ensures.updates.0) c.args.place
+    (c.in_ok-from_slice.ensures.ok ∙ ap (λ is. is ++ c.args.place ∷ []) new)

@@ -1,0 +1,4 @@
+mod Sets
+pub mod Marked
+pub mod Kept
+pub mod Numbers

@@ -1,0 +1,22 @@
+use Rattle.std.proofs.Common.{◌≡◌, ◌<◌, ◌≤◌, ℕ, length, Some, ap, sym, subst, ◌∙◌, arith}
+use Rattle.std.specs.Prelude.{slice_get}
+use Rattle.std.proofs.lemmas.Option.{slice_get-get_or}
+use Rattle.ns_server.proofs.Shards.{entries_fit, dropped_at}
+use Rattle.ns_server.proofs.settled.Settled.dropped.Goals as goal
+
+pub overflow_sub-result : goal.overflow_sub-result
+overflow_sub-result g c =
+    let fit = entries_fit _ c.made.ensures.state in
+    let made = c.made.ensures.made in
+    let entries = ap length c.entries.ensures.entries in
+    omega (arith, fit, made, entries)
+
+pub returns : goal.returns
+returns g c =
+    let shards = c.self.inside.shards in
+    let below : c.from.result < length shards = omega (arith, c.requires, c.self.told, c.from.ensures) in
+    let at = slice_get-get_or shards c.from.result c.index-self-from.result below in
+    let fit = entries_fit _ c.made.ensures.state in
+    let made = c.made.ensures.made in
+    let entries = ap length c.entries.ensures.entries in
+    dropped_at c.args.self.now shards c.args.shard c.from.result _ _ c.self.view_is c.from.ensures at (omega (arith, fit, made, entries))

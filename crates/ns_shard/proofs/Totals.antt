@@ -1,0 +1,263 @@
+-- How many windows and tickets are open after one more entry.
+use Rattle.std.proofs.Common.{◌≡◌, ℕ, suc, ◌+◌, Bool, true, false, not, ◌||◌, cond, List, [], ◌∷◌, length, length-append, filter, count_by, zero-add, Option, None, Some, option_map, option_to_list, refl, sym, ap, ap₂, subst, ◌∙◌, arith, inl, inr}
+use Rattle.std.specs.List.{AllByRecursion, list_any}
+use Rattle.std.specs.Option.{option_map_or, is_some}
+use Rattle.std.proofs.lemmas.Bool.{false≢true}
+use Rattle.ns_types.specs.declared.identity.WindowName.{WindowName}
+use Rattle.ns_types.specs.declared.ticket.Ticket.{Ticket}
+use Rattle.ns_types.specs.Cases.{first_case, when}
+use Rattle.ns_types.specs.Identity.{same_window}
+use Rattle.ns_types.specs.Ticket.{dev_eui}
+use Rattle.ns_roster.specs.Network.{Network}
+use Rattle.ns_calls.specs.declared.call.Outcome.{Outcome}
+use Rattle.ns_calls.specs.declared.call.Call.{Call}
+use Rattle.ns_calls.specs.declared.call.Call.TheVariants as call
+use Rattle.ns_calls.specs.declared.call.Reply.{Reply}
+use Rattle.ns_calls.specs.declared.call.Reply.TheVariants as reply
+use Rattle.ns_calls.specs.declared.call.Entry.{Entry}
+use Rattle.ns_calls.specs.History.{Opening, Closing, window_in, closing_in, asking_in, ending_in, is_ticket, same_ticket, closes, ends_ticket, open_windows, open_window, open_tickets, is_ticket_open, next_session}
+use Rattle.ns_calls.specs.Reply.{reply_to, reply_to_close, reply_to_join_reply, ack_number, is_failed, nonce_at_or_above, address}
+use Rattle.ns_calls.specs.Headline.{open_count}
+use Rattle.ns_calls.specs.Legal.{IsLegal, entry_for, with_call}
+use Rattle.ns_calls.proofs.LocalLemmas.{bool_tells}
+use Rattle.ns_calls.proofs.Lists.{count-cons, count-found}
+use Rattle.ns_calls.proofs.PushLemmas.{open_windows-push, open_tickets-push}
+use Rattle.ns_calls.proofs.TicketLemmas.{same_ticket-eq}
+use Rattle.ns_calls.proofs.WindowLemmas.{windows_open_once}
+use Rattle.ns_sessions.proofs.Apart as sessions
+use Rattle.ns_sessions.proofs.OpenTickets.{same_ticket-sym}
+use Rattle.ns_windows.proofs.Places.{none_found}
+use Rattle.ns_shard.specs.State.{ends_open}
+use Rattle.ns_shard.specs.Private.Room.{opens, ends, is_ending, open_total}
+use Rattle.ns_shard.proofs.WindowSteps.{same_window-sym}
+
+-- ---- lists
+
+-- what passes a test and what does not are all
+passed-and-failed : {X : Type 0} (test : X → Bool) (xs : List X) → length (filter (λ x. not (test x)) xs) + count_by test xs ≡ length xs
+passed-and-failed test [] = refl
+passed-and-failed {X} test (x ∷ xs) =
+    let ih = passed-and-failed test xs in
+    let kept = filter (λ y. not (test y)) xs in
+    let left = λ (b : Bool). length (cond {A = List X} (not b) (x ∷ kept) kept) in
+    elim (bool_tells (test x)) [
+      | inl passes ↦
+          (let is : count_by test (x ∷ xs) ≡ 1 + count_by test xs = count-cons test x xs ∙ ap (λ b. cond {A = ℕ} b 1 0 + count_by test xs) passes in
+          let rest : length (filter (λ y. not (test y)) (x ∷ xs)) ≡ length kept = ap left passes in
+          omega (arith, ih, is, rest))
+      | inr fails ↦
+          (let is : count_by test (x ∷ xs) ≡ 0 + count_by test xs = count-cons test x xs ∙ ap (λ b. cond {A = ℕ} b 1 0 + count_by test xs) fails in
+          let rest : length (filter (λ y. not (test y)) (x ∷ xs)) ≡ suc (length kept) = ap left fails in
+          omega (arith, ih, is, rest))
+    ]
+
+none-counted : {X : Type 0} (test : X → Bool) (xs : List X) → AllByRecursion (λ x. test x ≡ false) xs → count_by test xs ≡ 0
+none-counted test [] none = refl
+none-counted test (x ∷ xs) none = count-cons test x xs ∙ (ap (λ b. cond {A = ℕ} b 1 0 + count_by test xs) none.0 ∙ (zero-add (count_by test xs) ∙ none-counted test xs none.1))
+
+nothing-counted : {X : Type 0} (xs : List X) → count_by (λ _. false) xs ≡ 0
+nothing-counted [] = refl
+nothing-counted (x ∷ xs) = count-cons (λ _. false) x xs ∙ (zero-add (count_by (λ _. false) xs) ∙ nothing-counted xs)
+
+count-same : {X : Type 0} (p q : X → Bool) → ((x : X) → p x ≡ q x) → (xs : List X) → count_by p xs ≡ count_by q xs
+count-same p q same [] = refl
+count-same p q same (x ∷ xs) = count-cons p x xs ∙ (ap₂ (λ b n. cond {A = ℕ} b 1 0 + n) (same x) (count-same p q same xs) ∙ sym (count-cons q x xs))
+
+option-length : {X : Type 0} (o : Option X) → length (option_to_list o) ≡ cond (is_some o) 1 0
+option-length None = refl
+option-length (Some x) = refl
+
+pub is_some-map : {X Y : Type 0} (f : X → Y) (o : Option X) → is_some (option_map f o) ≡ is_some o
+is_some-map f None = refl
+is_some-map f (Some x) = refl
+
+is_some-when : {X : Type 0} (b : Bool) (x : X) → is_some (when b x) ≡ b
+is_some-when true x = refl
+is_some-when false x = refl
+
+or-false : (b : Bool) → (b || false) ≡ b
+or-false true = refl
+or-false false = refl
+
+-- ---- closings
+
+closing-is : (h : List Entry) (w : WindowName) → closing_in (call.Close w) (reply_to_close h w) ≡ option_map (λ o. let c : Closing = record { window = w; ack = ack_number h o } in c) (open_window h w)
+closing-is h w = step (open_window h w)
+  where
+    step : (found : Option Opening) → closing_in (call.Close w) (first_case (option_map (λ o. reply.Closed w (ack_number h o)) found ∷ []) reply.NoWindow) ≡ option_map (λ o. let c : Closing = record { window = w; ack = ack_number h o } in c) found
+    step None = refl
+    step (Some o) = refl
+
+-- a closing ends the one open window of its name, if there is one
+named-once : (net : Network) (h : List Entry) (w : WindowName) → IsLegal net h → (found : Option Opening) → open_window h w ≡ found → count_by (λ o. same_window w o.window) (open_windows h) ≡ cond (is_some found) 1 0
+named-once net h w legal found is =
+    count-same (λ (o : Opening). same_window w o.window) (λ (o : Opening). same_window o.window w) (λ o. same_window-sym w o.window) (open_windows h) ∙ step found is
+  where
+    step : (found : Option Opening) → open_window h w ≡ found → open_count h w ≡ cond (is_some found) 1 0
+    step None is = none-counted (λ (o : Opening). same_window o.window w) (open_windows h) (none_found (λ (o : Opening). same_window o.window w) (open_windows h) is)
+    step (Some o) is =
+        let once = windows_open_once net h legal in
+        let most = once.opens w in
+        let split = once.closes w in
+        let least = count-found (λ (o : Opening). same_window o.window w) (open_windows h) (ap (λ (x : Option Opening). is_some x) is) in
+        omega (arith, most, split, least)
+
+abbrev closed-by : Option Closing → Opening → Bool
+closed-by c o = option_map_or (λ x. same_window x.window o.window) c false
+
+windows-ended : (net : Network) (h : List Entry) (c : Call) → IsLegal net h → count_by (closed-by (closing_in c (reply_to net h c))) (open_windows h) ≡ cond (is_some (closing_in c (reply_to net h c))) 1 0
+windows-ended net h (call.Uplink frame heard) legal = nothing-counted (open_windows h)
+windows-ended net h (call.Join t heard) legal = nothing-counted (open_windows h)
+windows-ended net h (call.JoinReply t o) legal = nothing-counted (open_windows h)
+windows-ended net h (call.Close w) legal =
+    ap (λ (c : Option Closing). count_by (closed-by c) (open_windows h)) (closing-is h w)
+    ∙ (step (open_window h w) refl ∙ sym (ap (λ (c : Option Closing). cond {A = ℕ} (is_some c) 1 0) (closing-is h w)))
+  where
+    closing : Option Opening → Option Closing
+    closing found = option_map (λ o. let c : Closing = record { window = w; ack = ack_number h o } in c) found
+
+    step : (found : Option Opening) → open_window h w ≡ found → count_by (closed-by (closing found)) (open_windows h) ≡ cond (is_some (closing found)) 1 0
+    step None is = nothing-counted (open_windows h)
+    step (Some o) is = named-once net h w legal (Some o) is
+
+windows-total : (net : Network) (h : List Entry) (number : ℕ) (c : Call) → IsLegal net h →
+    length (open_windows (with_call net h number c)) + cond (is_some (closing_in c (reply_to net h c))) 1 0 ≡ length (open_windows h) + cond (is_some (window_in c (reply_to net h c))) 1 0
+windows-total net h number c legal =
+    let e = entry_for net h number c in
+    let opened = window_in c (reply_to net h c) in
+    let stays : List Opening = filter (λ o. not (closes o.window e)) (open_windows h) in
+    let now : length (open_windows (with_call net h number c)) ≡ length stays + cond (is_some opened) 1 0 =
+    ap (λ (os : List Opening). length os) (open_windows-push h e) ∙ (length-append stays (option_to_list opened) ∙ ap (λ n. length stays + n) (option-length opened)) in
+    let all = passed-and-failed (λ (o : Opening). closes o.window e) (open_windows h) in
+    let ended : count_by (λ (o : Opening). closes o.window e) (open_windows h) ≡ cond (is_some (closing_in c (reply_to net h c))) 1 0 = windows-ended net h c legal in
+    omega (arith, now, all, ended)
+
+-- ---- answers
+
+ending-is : (net : Network) (h : List Entry) (t : Ticket) (o : Outcome) → ending_in (call.JoinReply t o) (reply_to_join_reply net h t o) ≡ when (is_ticket_open h t) t
+ending-is net h t o = step (is_ticket_open h t) (is_failed o) (nonce_at_or_above net h t)
+  where
+    step : (is_open failed : Bool) (stale : Option ℕ) → ending_in (call.JoinReply t o) (first_case (
+        when (not is_open) reply.NoTicket
+        ∷ when failed reply.JoinRefused
+        ∷ option_map (λ g. reply.JoinStale (record { 0 = g })) stale
+        ∷ []) (reply.Accepted (dev_eui t) (next_session h (dev_eui t)) (address net (dev_eui t)))) ≡ when is_open t
+    step false failed stale = refl
+    step true true stale = refl
+    step true false (Some g) = refl
+    step true false None = refl
+
+-- an answer ends the one open ticket of its bytes, if there is one
+asked-once : (t : Ticket) (ts : List Ticket) → sessions.AreApart ts → count_by (λ u. same_ticket u t) ts ≡ cond (list_any (same_ticket t) ts) 1 0
+asked-once t [] apart = refl
+asked-once t (u ∷ ts) apart =
+    let counted = λ (b : Bool). cond {A = ℕ} b 1 0 + count_by (λ (v : Ticket). same_ticket v t) ts in
+    elim (bool_tells (same_ticket t u)) [
+      | inl here ↦
+          count-cons (λ (v : Ticket). same_ticket v t) u ts
+          ∙ (ap counted (same_ticket-sym t u true here)
+          ∙ (ap (λ n. 1 + n) (none-counted (λ (v : Ticket). same_ticket v t) ts (others ts (subst (λ (x : Ticket). AllByRecursion (λ v. same_ticket x v ≡ false) ts) (sym (same_ticket-eq t u here)) apart.0)))
+          ∙ sym (ap (λ b. cond {A = ℕ} (b || list_any (same_ticket t) ts) 1 0) here)))
+      | inr other ↦
+          count-cons (λ (v : Ticket). same_ticket v t) u ts
+          ∙ (ap counted (same_ticket-sym t u false other) ∙ (zero-add (count_by (λ (v : Ticket). same_ticket v t) ts) ∙ (asked-once t ts apart.1 ∙ sym (ap (λ b. cond {A = ℕ} (b || list_any (same_ticket t) ts) 1 0) other))))
+    ]
+  where
+    others : (us : List Ticket) → AllByRecursion (λ v. same_ticket t v ≡ false) us → AllByRecursion (λ v. same_ticket v t ≡ false) us
+    others [] all = tt
+    others (v ∷ us) all = (same_ticket-sym t v false all.0, others us all.1)
+
+tickets-ended : (net : Network) (h : List Entry) (c : Call) → IsLegal net h → count_by (λ t. is_ticket t (ending_in c (reply_to net h c))) (open_tickets h) ≡ cond (is_some (ending_in c (reply_to net h c))) 1 0
+tickets-ended net h (call.Uplink frame heard) legal = nothing-counted (open_tickets h)
+tickets-ended net h (call.Join t heard) legal = nothing-counted (open_tickets h)
+tickets-ended net h (call.Close w) legal = nothing-counted (open_tickets h)
+tickets-ended net h (call.JoinReply t o) legal =
+    ap (λ (x : Option Ticket). count_by (λ u. is_ticket u x) (open_tickets h)) (ending-is net h t o)
+    ∙ (step (is_ticket_open h t) refl ∙ sym (ap (λ (x : Option Ticket). cond {A = ℕ} (is_some x) 1 0) (ending-is net h t o)))
+  where
+    step : (b : Bool) → is_ticket_open h t ≡ b → count_by (λ u. is_ticket u (when b t)) (open_tickets h) ≡ cond (is_some (when b t)) 1 0
+    step false is = nothing-counted (open_tickets h)
+    step true is = asked-once t (open_tickets h) (sessions.tickets_apart net h legal) ∙ ap (λ b. cond {A = ℕ} b 1 0) is
+
+tickets-total : (net : Network) (h : List Entry) (number : ℕ) (c : Call) → IsLegal net h →
+    length (open_tickets (with_call net h number c)) + cond (is_some (ending_in c (reply_to net h c))) 1 0 ≡ length (open_tickets h) + cond (is_some (asking_in c (reply_to net h c))) 1 0
+tickets-total net h number c legal =
+    let e = entry_for net h number c in
+    let asked = asking_in c (reply_to net h c) in
+    let stays : List Ticket = filter (λ t. not (ends_ticket t e)) (open_tickets h) in
+    let now : length (open_tickets (with_call net h number c)) ≡ length stays + cond (is_some asked) 1 0 =
+    ap (λ (ts : List Ticket). length ts) (open_tickets-push h e) ∙ (length-append stays (option_to_list asked) ∙ ap (λ n. length stays + n) (option-length asked)) in
+    let all = passed-and-failed (λ (t : Ticket). ends_ticket t e) (open_tickets h) in
+    let ended : count_by (λ (t : Ticket). ends_ticket t e) (open_tickets h) ≡ cond (is_some (ending_in c (reply_to net h c))) 1 0 = tickets-ended net h c legal in
+    omega (arith, now, all, ended)
+
+-- ---- both
+
+-- a closing or an answer ends something exactly where its window or ticket is open
+pub ends-found : (net : Network) (h : List Entry) (c : Call) → ends c (reply_to net h c) ≡ ends_open h c
+ends-found net h (call.Uplink frame heard) = refl
+ends-found net h (call.Join t heard) = refl
+ends-found net h (call.JoinReply t o) = ap (λ (x : Option Ticket). is_some x) (ending-is net h t o) ∙ is_some-when (is_ticket_open h t) t
+ends-found net h (call.Close w) =
+    or-false (is_some (closing_in (call.Close w) (reply_to_close h w)))
+    ∙ (ap (λ (x : Option Closing). is_some x) (closing-is h w) ∙ is_some-map (λ (o : Opening). let c : Closing = record { window = w; ack = ack_number h o } in c) (open_window h w))
+
+total-after : (net : Network) (h : List Entry) (number : ℕ) (c : Call) → IsLegal net h →
+    open_total (with_call net h number c) + cond (ends c (reply_to net h c)) 1 0 ≡ open_total h + cond (opens c (reply_to net h c)) 1 0
+total-after net h number (call.Uplink frame heard) legal =
+    let windows = windows-total net h number (call.Uplink frame heard) legal in
+    let tickets = tickets-total net h number (call.Uplink frame heard) legal in
+    let one = ap (λ b. cond {A = ℕ} b 1 0) (or-false (is_some (window_in (call.Uplink frame heard) (reply_to net h (call.Uplink frame heard))))) in
+    omega (arith, windows, tickets, one)
+total-after net h number (call.Join t heard) legal =
+    let windows = windows-total net h number (call.Join t heard) legal in
+    let tickets = tickets-total net h number (call.Join t heard) legal in
+    omega (arith, windows, tickets)
+total-after net h number (call.JoinReply t o) legal =
+    let windows = windows-total net h number (call.JoinReply t o) legal in
+    let tickets = tickets-total net h number (call.JoinReply t o) legal in
+    omega (arith, windows, tickets)
+total-after net h number (call.Close w) legal =
+    let windows = windows-total net h number (call.Close w) legal in
+    let tickets = tickets-total net h number (call.Close w) legal in
+    let one = ap (λ b. cond {A = ℕ} b 1 0) (or-false (is_some (closing_in (call.Close w) (reply_to_close h w)))) in
+    omega (arith, windows, tickets, one)
+
+-- a closing or an answer takes one from it where it finds its window or ticket open
+total-ended : (net : Network) (h : List Entry) (number : ℕ) (c : Call) → IsLegal net h → is_ending c ≡ true → open_total (with_call net h number c) + cond (ends_open h c) 1 0 ≡ open_total h
+total-ended net h number c legal ending =
+    let all = total-after net h number c legal in
+    let found = ap (λ b. cond {A = ℕ} b 1 0) (ends-found net h c) in
+    let none = ap (λ b. cond {A = ℕ} b 1 0) (opens-nothing c (reply_to net h c) ending) in
+    omega (arith, all, found, none)
+  where
+    opens-nothing : (k : Call) (r : Reply) → is_ending k ≡ true → opens k r ≡ false
+    opens-nothing (call.Uplink frame heard) r is = absurd (false≢true is)
+    opens-nothing (call.Join t heard) r is = absurd (false≢true is)
+    opens-nothing (call.JoinReply t o) r is = refl
+    opens-nothing (call.Close w) r is = refl
+
+pub total-lower : (net : Network) (h : List Entry) (number : ℕ) (c : Call) → IsLegal net h → is_ending c ≡ true → ends_open h c ≡ true → open_total (with_call net h number c) + 1 ≡ open_total h
+total-lower net h number c legal ending found =
+    let all = total-ended net h number c legal ending in
+    let one = ap (λ b. cond {A = ℕ} b 1 0) found in
+    omega (arith, all, one)
+
+pub total-stays : (net : Network) (h : List Entry) (number : ℕ) (c : Call) → IsLegal net h → is_ending c ≡ true → ends_open h c ≡ false → open_total (with_call net h number c) ≡ open_total h
+total-stays net h number c legal ending closed =
+    let all = total-ended net h number c legal ending in
+    let one = ap (λ b. cond {A = ℕ} b 1 0) closed in
+    omega (arith, all, one)
+
+-- another one adds one where it opens something
+pub total-begun : (net : Network) (h : List Entry) (number : ℕ) (c : Call) → IsLegal net h → is_ending c ≡ false → open_total (with_call net h number c) ≡ open_total h + cond (opens c (reply_to net h c)) 1 0
+total-begun net h number c legal begins =
+    let all = total-after net h number c legal in
+    let none = ap (λ b. cond {A = ℕ} b 1 0) (ends-nothing c (reply_to net h c) begins) in
+    omega (arith, all, none)
+  where
+    ends-nothing : (k : Call) (r : Reply) → is_ending k ≡ false → ends k r ≡ false
+    ends-nothing (call.Uplink frame heard) r is = refl
+    ends-nothing (call.Join t heard) r is = refl
+    ends-nothing (call.JoinReply t o) r is = absurd (false≢true (sym is))
+    ends-nothing (call.Close w) r is = absurd (false≢true (sym is))

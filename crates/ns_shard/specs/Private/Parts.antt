@@ -1,0 +1,34 @@
+-- The parts of a shard agree: what it keeps of its devices and windows is what its entries tell.
+use Rattle.std.specs.Prelude.{◌≡◌, ℕ, ◌<◌, List}
+use Rattle.std.specs.Arc.{arc_value}
+use Rattle.ns_types.specs.Identity.{shard_count}
+use Rattle.ns_roster.specs.Network.{Network}
+use Rattle.ns_roster.specs.Valid.{IsRoster}
+use Rattle.ns_calls.specs.declared.call.Entry.{Entry}
+use Rattle.ns_calls.specs.Legal.{IsHistory}
+use Rattle.ns_windows.specs.declared.window.Window.{Window}
+use Rattle.ns_devices.specs.declared.own.Own.{Own}
+use Rattle.ns_shard.specs.declared.parts.Parts.{Parts}
+use Rattle.ns_shard.specs.State.{State, Keeps}
+use Rattle.ns_shard.specs.Private.Room.{open_total}
+use Rattle.ns_shard.specs.Private.Held.{windows_in}
+use Rattle.ns_shard.specs.Private.Devices.{devices_in}
+
+-- these devices and windows are those that the history tells, and it is one of the shard
+pub record Agrees (net : Network) (index : ℕ) (h : List Entry) (devices : List Own) (windows : List Window) : Type 0 where
+  pub valid : IsRoster net
+  pub history : IsHistory net index h
+  pub by_device : devices ≡ devices_in net index h
+  pub by_window : windows ≡ windows_in h
+
+abbrev pub state_of : Parts → State
+state_of p = record { roster = arc_value p.roster; index = p.index; made = p.journal.made; mark = p.mark; windows = p.named.items; entries = p.journal.entries }
+
+-- The history is every entry that was made. What is left of it stands in the journal, and the devices and windows are those that it
+-- tells. The journal has room for one more entry for each open window and each open ticket.
+pub record AreParts (p : Parts) : Type 0 where
+  pub small : p.index < shard_count
+  pub history : List Entry
+  pub keeps : Keeps history (state_of p)
+  pub agrees : Agrees (arc_value p.roster) p.index history p.devices p.windows
+  pub reserved : p.journal.reserved ≡ open_total history

@@ -1,0 +1,178 @@
+-- What a call gives and leaves, told of the devices and windows that a shard keeps.
+use Rattle.std.specs.Prelude.{◌≡◌, IsSome, ℕ, ◌==◌, nat_le, List, [], ◌∷◌, ◌++◌, Option, None, Some, option_map, option_and_then, if◌then◌else◌, not, is_some, ◌-◌}
+use Rattle.std.specs.Option.{option_map_or}
+use Rattle.ns_types.specs.declared.identity.DevAddr.{DevAddr}
+use Rattle.ns_types.specs.declared.identity.Key.{Key}
+use Rattle.ns_types.specs.declared.identity.WindowName.{WindowName}
+use Rattle.ns_types.specs.declared.heard.Heard.{Heard}
+use Rattle.ns_types.specs.declared.ticket.Ticket.{Ticket}
+use Rattle.ns_types.specs.Cases.{first_case, when}
+use Rattle.ns_types.specs.Ticket.{dev_eui, join_eui}
+use Rattle.ns_views.specs.Frame.{is_confirmed}
+use Rattle.ns_secure.specs.Counter.{above, below}
+use Rattle.ns_calls.specs.declared.call.Outcome.{Outcome}
+use Rattle.ns_calls.specs.declared.call.Outcome.TheVariants as outcome
+use Rattle.ns_calls.specs.declared.call.Call.{Call}
+use Rattle.ns_calls.specs.declared.call.Call.TheVariants as call
+use Rattle.ns_calls.specs.declared.call.Reply.{Reply}
+use Rattle.ns_calls.specs.declared.call.Reply.TheVariants as reply
+use Rattle.ns_calls.specs.declared.answer.Downlink.{Downlink}
+use Rattle.ns_calls.specs.Reply.{most_windows, Fit, window_of, in_round}
+use Rattle.ns_calls.specs.Out.{accept_at}
+use Rattle.ns_sessions.specs.declared.decision.AnswerDecision.{AnswerDecision}
+use Rattle.ns_sessions.specs.declared.decision.AnswerDecision.TheVariants as decision
+use Rattle.ns_sessions.specs.Record.{join_decision, answer_decision, ack_in, with_ack, with_uplink, with_round}
+use Rattle.ns_sessions.specs.Laws.{join_decision_reply}
+use Rattle.ns_windows.specs.declared.window.Window.{Window}
+use Rattle.ns_windows.specs.declared.window.Addition.{Addition}
+use Rattle.ns_windows.specs.declared.window.Addition.TheVariants as addition
+use Rattle.ns_windows.specs.Windows.{with_copy_in, count, window_of_frame, window_named, addition, without}
+use Rattle.ns_devices.specs.declared.own.Own.{Own}
+use Rattle.ns_shard.specs.declared.event.Event.{Event}
+use Rattle.ns_shard.specs.declared.event.Event.TheVariants.{Quiet, Accepted, Closed}
+use Rattle.ns_shard.specs.Private.Sending.{reply_of}
+use Rattle.ns_shard.specs.Private.Room.{ends}
+use Rattle.ns_devices.specs.Devices.{own_of, keys_in, with_change_of, with_join_of, after_answer, first_own_fit, next_round}
+
+-- ---- joins
+
+-- the reply to a Join-Request of a device's EUI
+abbrev pub own_join_reply : Ticket → Own → Reply
+own_join_reply t o = if o.device.join_eui.0 == (join_eui t).0 then join_decision_reply t (join_decision o.state t) else reply.NoDevice
+
+abbrev pub shard_join_reply : List Own → Ticket → Reply
+shard_join_reply devices t = option_map_or (own_join_reply t) (own_of (dev_eui t) devices) reply.NoDevice
+
+-- ---- answers to joins
+
+-- the Join-Accept of an answer, at RX1 of a copy
+abbrev pub accept_downlink : Outcome → Heard → Option Downlink
+accept_downlink (outcome.Success join) heard = Some (accept_at join heard)
+accept_downlink outcome.Failed heard = None
+
+abbrev pub answer_event : DevAddr → Ticket → Outcome → AnswerDecision → Event
+answer_event addr t o decision.NoTicket = Quiet reply.NoTicket
+answer_event addr t o decision.Refused = Quiet reply.JoinRefused
+answer_event addr t o (decision.Stale greatest) = Quiet (reply.JoinStale greatest)
+answer_event addr t o (decision.Accepted session heard) = Accepted (reply.Accepted (dev_eui t) session addr) (accept_downlink o heard)
+
+abbrev pub own_answer_event : Ticket → Outcome → Own → Event
+own_answer_event t outcome o = answer_event o.addr t outcome (answer_decision o.state t outcome)
+
+abbrev pub shard_answer_event : List Own → Ticket → Outcome → Event
+shard_answer_event devices t outcome = option_map_or (own_answer_event t outcome) (own_of (dev_eui t) devices) (Quiet reply.NoTicket)
+
+-- ---- closings
+
+-- the acknowledgement number that a closing uses
+abbrev pub ack_of : List Own → Window → Option ℕ
+ack_of devices w = if is_confirmed w.frame then option_and_then (λ o. ack_in o.state w.name.session) (own_of w.name.eui devices) else None
+
+abbrev pub with_shard_ack : Window → List Own → List Own
+with_shard_ack w devices = if is_confirmed w.frame then with_change_of w.name.eui (with_ack w.name.session) devices else devices
+
+abbrev pub close_event : List Own → Option Window → Event
+close_event devices None = Quiet reply.NoWindow
+close_event devices (Some w) = Closed w.name (ack_of devices w)
+
+abbrev pub with_closing : Option Window → List Own → List Own
+with_closing None devices = devices
+with_closing (Some w) devices = with_shard_ack w devices
+
+-- ---- uplinks
+
+abbrev pub copy_reply : Addition → Reply
+copy_reply (addition.Copied name place) = reply.Copied name place
+copy_reply (addition.Crowded name) = reply.Crowded name
+
+-- a window with its first copy, and the keys of its session
+abbrev pub new_window : List ℕ → Heard → WindowName → Key × Option Key → Window
+new_window frame heard name keys = record { name = name; frame = frame; copies = record { items = heard ∷ [] }; nwk = keys.0; app = keys.1 }
+
+-- the reply with which a window is opened, where its device has room for it
+abbrev pub unless_busy : List Window → WindowName → Reply → Reply
+unless_busy windows name opened = if nat_le most_windows (count name.eui windows) then reply.Busy name.eui else opened
+
+abbrev pub open_reply : List Window → WindowName → Reply
+open_reply windows name = unless_busy windows name (reply.Opened name)
+
+-- the round in which a frame is acknowledged again: the window of the round before it is closed
+abbrev pub round_of : List Own → List Window → List ℕ → Fit → Option ℕ
+round_of devices windows frame f =
+    if is_confirmed frame then option_and_then (λ round. when (not (is_some (window_named (in_round f (round - 1)) windows))) round) (next_round devices f) else None
+
+abbrev pub old_reply : List Own → List Window → List ℕ → Fit → Reply
+old_reply devices windows frame f = first_case (
+    option_map (λ round. unless_busy windows (in_round f round) (reply.Again (in_round f round))) (round_of devices windows frame f)
+    ∷ []) (reply.Old f.eui f.session f.counter)
+
+abbrev pub uplink_reply : List Own → List Window → List ℕ → Reply
+uplink_reply devices windows frame = first_case (
+    option_map (λ w. copy_reply (addition w)) (window_of_frame frame windows)
+    ∷ option_map (λ f. open_reply windows (window_of f)) (first_own_fit above frame devices)
+    ∷ option_map (old_reply devices windows frame) (first_own_fit below frame devices)
+    ∷ []) reply.NoSession
+
+-- what an uplink of this reply leaves
+abbrev pub with_shard_uplink : Reply → List Own → List Own
+with_shard_uplink (reply.Opened name) devices = with_change_of name.eui (with_uplink name.session name.fcnt) devices
+with_shard_uplink (reply.Again name) devices = with_change_of name.eui (with_round name.session name.round) devices
+with_shard_uplink _ devices = devices
+
+abbrev pub with_window : List ℕ → Heard → WindowName → Option (Key × Option Key) → List Window → List Window
+with_window frame heard name None windows = windows
+with_window frame heard name (Some keys) windows = windows ++ new_window frame heard name keys ∷ []
+
+abbrev pub with_copy_or_window : Reply → List ℕ → Heard → List Own → List Window → List Window
+with_copy_or_window (reply.Opened name) frame heard devices windows = with_window frame heard name (keys_in devices name) windows
+with_copy_or_window (reply.Again name) frame heard devices windows = with_window frame heard name (keys_in devices name) windows
+with_copy_or_window (reply.Copied name place) frame heard devices windows = with_copy_in name heard windows
+with_copy_or_window (reply.Crowded name) frame heard devices windows = with_copy_in name heard windows
+with_copy_or_window _ frame heard devices windows = windows
+
+-- the window's session has keys, and no open window has the name
+pub record HasPlace (devices : List Own) (windows : List Window) (name : WindowName) : Type 0 where
+  pub keys : IsSome (keys_in devices name)
+  pub apart : window_named name windows ≡ None
+
+-- what is opened can be opened, and what is opened again too
+pub record CanOpen (devices : List Own) (windows : List Window) (frame : List ℕ) : Type 0 where
+  pub place : (name : WindowName) → uplink_reply devices windows frame ≡ reply.Opened name → HasPlace devices windows name
+  pub again : (name : WindowName) → uplink_reply devices windows frame ≡ reply.Again name → HasPlace devices windows name
+
+-- ---- any call
+
+abbrev pub CanReact : List Own → List Window → Call → Type 0
+CanReact devices windows (call.Uplink frame heard) = CanOpen devices windows frame
+CanReact devices windows (call.Join t heard) = Unit {0}
+CanReact devices windows (call.JoinReply t outcome) = Unit {0}
+CanReact devices windows (call.Close name) = Unit {0}
+
+abbrev pub event_of : List Own → List Window → Call → Event
+event_of devices windows (call.Uplink frame heard) = Quiet (uplink_reply devices windows frame)
+event_of devices windows (call.Join t heard) = Quiet (shard_join_reply devices t)
+event_of devices windows (call.JoinReply t outcome) = shard_answer_event devices t outcome
+event_of devices windows (call.Close name) = close_event devices (window_named name windows)
+
+-- what came of a closing or an answer that ended something
+abbrev pub ending_event : Call → Event → Option Event
+ending_event call event = when (ends call (reply_of event)) event
+
+-- the window that a call closes
+abbrev pub window_closed_by : List Window → Call → Option Window
+window_closed_by windows (call.Uplink frame heard) = None
+window_closed_by windows (call.Join t heard) = None
+window_closed_by windows (call.JoinReply t outcome) = None
+window_closed_by windows (call.Close name) = window_named name windows
+
+abbrev pub devices_after : List Own → List Window → Call → List Own
+devices_after devices windows (call.Uplink frame heard) = with_shard_uplink (uplink_reply devices windows frame) devices
+devices_after devices windows (call.Join t heard) = with_join_of t heard devices
+devices_after devices windows (call.JoinReply t outcome) = with_change_of (dev_eui t) (after_answer t outcome) devices
+devices_after devices windows (call.Close name) = with_closing (window_named name windows) devices
+
+abbrev pub windows_after : List Own → List Window → Call → List Window
+windows_after devices windows (call.Uplink frame heard) = with_copy_or_window (uplink_reply devices windows frame) frame heard devices windows
+windows_after devices windows (call.Join t heard) = windows
+windows_after devices windows (call.JoinReply t outcome) = windows
+windows_after devices windows (call.Close name) = without name windows
