@@ -13,6 +13,7 @@ use Rattle.ns_calls.specs.declared.call.Reply.{Reply}
 use Rattle.ns_calls.specs.declared.call.Reply.TheVariants as reply
 use Rattle.ns_calls.specs.declared.call.Entry.{Entry}
 use Rattle.ns_calls.specs.History.{Opening, opening_in, closing_in, same_device, is_live, is_ticket_open, asks_for, open_windows, open_window}
+use Rattle.ns_calls.specs.Legal.{entry_of}
 use Rattle.ns_calls.proofs.LocalLemmas.{bool_tells}
 use Rattle.ns_kept.specs.Kept.{repetition_in, is_kept, none_says, same_session}
 use Rattle.ns_keep.specs.declared.marks.Marks.{Marks}
@@ -22,7 +23,6 @@ use Rattle.ns_keep.specs.Private.Said.{said_in}
 use Rattle.ns_keep.specs.Private.Open.{is_named, has_session, IsOf}
 use Rattle.ns_keep.specs.Private.Marks.{key_of, is_of, is_opened, is_opened_in, is_repeated_in, is_acknowledged, is_asked, AreMarks}
 use Rattle.ns_keep.specs.Private.Keeps.{keeps_said}
-use Rattle.ns_keep.proofs.Marked.{entry_of}
 
 -- ---- tests
 

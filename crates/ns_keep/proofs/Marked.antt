@@ -16,6 +16,7 @@ use Rattle.ns_calls.specs.declared.call.Reply.{Reply}
 use Rattle.ns_calls.specs.declared.call.Reply.TheVariants as reply
 use Rattle.ns_calls.specs.declared.call.Entry.{Entry}
 use Rattle.ns_calls.specs.History.{same_ticket, asks_for}
+use Rattle.ns_calls.specs.Legal.{entry_of}
 use Rattle.ns_calls.proofs.LocalLemmas.{bool_tells}
 use Rattle.ns_calls.proofs.TicketLemmas.{same_ticket-eq}
 use Rattle.ns_keep.specs.declared.marks.Marks.{Marks}
@@ -37,9 +38,6 @@ unmarked has_ticket m none = record {
 added : (b : Bool) {had was : Bool} → had ≡ was → cond b true had ≡ (b || was)
 added true e = refl
 added false e = e
-
-abbrev pub entry_of : ℕ → Call → Reply → Entry
-entry_of number c r = record { number = number; call = c; reply = r }
 
 -- an open ticket is another than one that is not open
 other_ticket : (has_ticket : Ticket → Bool) (t u : Ticket) → has_ticket t ≡ false → has_ticket u ≡ true → same_ticket u t ≡ false

@@ -406,6 +406,11 @@ after-of net index h devices windows frame heard agrees stay law mine r is = ste
     quiet x said opens copies =
         sym (windows-quiet h e (joined net index h devices windows agrees) refl (ap (history.window_in (call.Uplink frame heard)) said ∙ opens) (ap (window_copy_in (call.Uplink frame heard)) said ∙ copies))
 
+    -- a reply that changes no device and no window
+    still : (x : Reply) → reply_to_uplink net h frame ≡ x → ((eui : DevEui) → concerns eui (call.Uplink frame heard) x ≡ false) → history.window_in (call.Uplink frame heard) x ≡ None → window_copy_in (call.Uplink frame heard) x ≡ None
+        → with_shard_uplink x (devices_in net index h) ≡ devices_in net index h → with_copy_or_window x frame heard (devices_in net index h) (windows_in h) ≡ windows_in h → After net index h (h ++ e ∷ []) frame heard x
+    still x said none opens copies devices_stay windows_stay = record { devices_after = devices_stay ∙ unconcerned x said none; windows_after = windows_stay ∙ quiet x said opens copies }
+
     step : (x : Reply) → reply_to_uplink net h frame ≡ x → After net index h (h ++ e ∷ []) frame heard x
     step (reply.Copied w place) said = record {
       devices_after = unconcerned (reply.Copied w place) said (λ eui. refl);
@@ -442,21 +447,21 @@ after-of net index h devices windows frame heard agrees stay law mine r is = ste
               ∙ sym (law.again (length h) frame heard w next.counter (omega (arith, round)))));
           windows_after = windows_opened w opened (ap (history.window_in (call.Uplink frame heard)) said) (ap (window_copy_in (call.Uplink frame heard)) said);
         }
-    step (reply.Old eui session fcnt) said = record { devices_after = unconcerned (reply.Old eui session fcnt) said (λ d. refl); windows_after = quiet (reply.Old eui session fcnt) said refl refl }
-    step reply.NoSession said = record { devices_after = unconcerned reply.NoSession said (λ d. refl); windows_after = quiet reply.NoSession said refl refl }
-    step (reply.Busy eui) said = record { devices_after = unconcerned (reply.Busy eui) said (λ d. refl); windows_after = quiet (reply.Busy eui) said refl refl }
-    step (reply.Ask t) said = record { devices_after = unconcerned (reply.Ask t) said (λ d. refl); windows_after = quiet (reply.Ask t) said refl refl }
-    step (reply.JoinCopied place) said = record { devices_after = unconcerned (reply.JoinCopied place) said (λ d. refl); windows_after = quiet (reply.JoinCopied place) said refl refl }
-    step reply.JoinCrowded said = record { devices_after = unconcerned reply.JoinCrowded said (λ d. refl); windows_after = quiet reply.JoinCrowded said refl refl }
-    step (reply.NonceOld greatest) said = record { devices_after = unconcerned (reply.NonceOld greatest) said (λ d. refl); windows_after = quiet (reply.NonceOld greatest) said refl refl }
-    step reply.NoDevice said = record { devices_after = unconcerned reply.NoDevice said (λ d. refl); windows_after = quiet reply.NoDevice said refl refl }
-    step reply.JoinBusy said = record { devices_after = unconcerned reply.JoinBusy said (λ d. refl); windows_after = quiet reply.JoinBusy said refl refl }
-    step (reply.Accepted eui session addr) said = record { devices_after = unconcerned (reply.Accepted eui session addr) said (λ d. refl); windows_after = quiet (reply.Accepted eui session addr) said refl refl }
-    step reply.JoinRefused said = record { devices_after = unconcerned reply.JoinRefused said (λ d. refl); windows_after = quiet reply.JoinRefused said refl refl }
-    step (reply.JoinStale greatest) said = record { devices_after = unconcerned (reply.JoinStale greatest) said (λ d. refl); windows_after = quiet (reply.JoinStale greatest) said refl refl }
-    step reply.NoTicket said = record { devices_after = unconcerned reply.NoTicket said (λ d. refl); windows_after = quiet reply.NoTicket said refl refl }
-    step (reply.Closed w ack) said = record { devices_after = unconcerned (reply.Closed w ack) said (λ d. refl); windows_after = quiet (reply.Closed w ack) said refl refl }
-    step reply.NoWindow said = record { devices_after = unconcerned reply.NoWindow said (λ d. refl); windows_after = quiet reply.NoWindow said refl refl }
+    step (reply.Old eui session fcnt) said = still _ said (λ d. refl) refl refl refl refl
+    step reply.NoSession said = still _ said (λ d. refl) refl refl refl refl
+    step (reply.Busy eui) said = still _ said (λ d. refl) refl refl refl refl
+    step (reply.Ask t) said = still _ said (λ d. refl) refl refl refl refl
+    step (reply.JoinCopied place) said = still _ said (λ d. refl) refl refl refl refl
+    step reply.JoinCrowded said = still _ said (λ d. refl) refl refl refl refl
+    step (reply.NonceOld greatest) said = still _ said (λ d. refl) refl refl refl refl
+    step reply.NoDevice said = still _ said (λ d. refl) refl refl refl refl
+    step reply.JoinBusy said = still _ said (λ d. refl) refl refl refl refl
+    step (reply.Accepted eui session addr) said = still _ said (λ d. refl) refl refl refl refl
+    step reply.JoinRefused said = still _ said (λ d. refl) refl refl refl refl
+    step (reply.JoinStale greatest) said = still _ said (λ d. refl) refl refl refl refl
+    step reply.NoTicket said = still _ said (λ d. refl) refl refl refl refl
+    step (reply.Closed w ack) said = still _ said (λ d. refl) refl refl refl refl
+    step reply.NoWindow said = still _ said (λ d. refl) refl refl refl refl
 
 pub agrees-uplink : (net : Network) (index : ℕ) (h : List Entry) (devices : List Own) (windows : List Window) (frame : List ℕ) (heard : Heard) → Agrees net index h devices windows → OthersStay → UplinksAgree net h →
     shard_of_addr (record { 0 = (data_fields frame).addr }) ≡ index → (r : Reply) → reply_to_uplink net h frame ≡ r →
