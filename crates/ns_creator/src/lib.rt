@@ -20,6 +20,3 @@ pub use fault::CreateFault;
 pub use join::{JoinAcceptCreator, JoinRequestCreator};
 pub use keys::Keys;
 pub use laws::{acknowledgement_law, frames_read_back};
-
-#[cfg(test)]
-mod tests;

@@ -107,8 +107,8 @@ impl TestJoinServer {
         TestJoinServer::with_join_nonce(alloc, 1)
     }
 
-    /// One whose first JoinNonce is this.
-    pub(crate) fn with_join_nonce(alloc: Global, next_join_nonce: u32) -> Self
+    /// A join server that knows no device, and whose first JoinNonce is this (L2 6.2.3, JoinNonce).
+    pub fn with_join_nonce(alloc: Global, next_join_nonce: u32) -> Self
         requires { IsJoinNonce next_join_nonce }
         ensures { result ≡ record { app_keys = []; next_join_nonce = next_join_nonce } }
     {

@@ -31,8 +31,3 @@ pub use join_fault::ReplyFault;
 pub use join_server::TestJoinServer;
 pub use laws::created_accepts_are_taken;
 pub use session::Session;
-
-#[cfg(test)]
-mod server_tests;
-#[cfg(test)]
-mod tests;

@@ -12,6 +12,3 @@ mod places;
 
 pub use devices::Devices;
 pub use own::{Own, Placed};
-
-#[cfg(test)]
-mod tests;

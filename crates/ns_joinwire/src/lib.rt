@@ -16,6 +16,3 @@ pub use crate::answer::join_ans;
 pub use crate::fault::{AnsFault, ResultCode};
 pub use crate::laws::answered_exactly;
 pub use crate::request::join_req;
-
-#[cfg(test)]
-mod tests;

@@ -13,6 +13,3 @@ mod windows;
 
 pub use table::DeviceTable;
 pub use walk::numbers_kept;
-
-#[cfg(test)]
-mod tests;

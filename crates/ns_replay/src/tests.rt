@@ -4,7 +4,7 @@ ghost use Rattle.std.specs.Prelude.{◌≡◌, ◌<◌, IfOk, false};
 
 use crate::run::{ReplayFault, replay};
 use ns_roster::Roster;
-use ns_types::{Fuse, Stream};
+use ns_types::{BLOCKS, Fuse, Stream, take_all};
 use std::process::Abort;
 use std::sync::Arc;
 use std::test::Fail;
@@ -196,19 +196,10 @@ fn a_failed_write_leaves_a_beginning(rt: HostRuntime) -> Result<(), Fail> {
     Ok(())
 }
 
-// Blocks of falling size until none can be had.
+// All memory, in blocks of falling size.
 fn all_memory<R: AllocGlobal>(rt: &R) -> Result<Vec<Vec<u8>>, Fail> {
-    let mut held = Vec::with_capacity(rt.alloc(), 200_000)?;
-    let mut size = 1usize << 46;
-    for _ in 0..400_000u32 {
-        if size < 16 || held.len() >= 200_000 {
-            break;
-        }
-        match Vec::with_capacity(rt.alloc(), size) {
-            Ok(block) => held.push(block)?,
-            Err(_) => size /= 2,
-        }
-    }
+    let mut held = Vec::with_capacity(rt.alloc(), BLOCKS)?;
+    take_all(rt.alloc(), &mut held)?;
     Ok(held)
 }
 

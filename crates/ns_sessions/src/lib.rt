@@ -1,6 +1,6 @@
 //! One device's nonces, sessions and open joins.
 //!
-//! `DeviceState` has the greatest DevNonce that was accepted, the live sessions with their keys and counters, and the open
+//! `DeviceState` has the greatest DevNonce that was accepted, or the roster's last one, the live sessions with their keys and counters, and the open
 //! tickets, each with the count of its copies and the best of them. It is of fixed size and takes no memory, and no call of it is refused.
 //!
 //! Each call is proved to be its definition on a `DeviceRecord` (`specs/Record`), and to agree with the history of the
@@ -24,6 +24,3 @@ pub use laws::{
     answers_agree, closings_agree, joins_agree, joins_in_turn, others_stay, uplinks_agree,
 };
 pub use recovery::Recovery;
-
-#[cfg(test)]
-mod tests;

@@ -3,8 +3,8 @@
 //! A shard keeps the state of its devices, its open windows and its entries. It promises that each answer is the plain server's, over
 //! the entries made before, that a call adds exactly its own entry, and that where memory is refused nothing has changed. It answers
 //! from its records, and never searches its entries. `Shards::run` takes steps, from their bytes on, to the sixteen shards: each
-//! makes the entry that the plain server makes, or is refused. It stands on `ns_devices`, `ns_windows` and `ns_journal`, on `ns_creator`
-//! for acknowledgements, and on the definitions of `ns_calls`; it looks into no frame.
+//! makes the entry that the plain server makes, or is refused. It stands on `ns_devices`, `ns_windows` and `ns_journal`, on `ns_sent`
+//! for what goes out, on `ns_keep` for trims, and on the definitions of `ns_calls`.
 #![tactic(auto)]
 
 mod calls;
@@ -27,10 +27,3 @@ pub use run::{Run, Shards, Taken};
 pub use shard::Shard;
 pub use step::{Act, DatagramBytes, OwnedBytes, SHORT_DATAGRAM, Step};
 pub use trim::{Dropped, TrimFault};
-
-#[cfg(test)]
-mod growth_tests;
-#[cfg(test)]
-mod tests;
-#[cfg(test)]
-mod trim_tests;

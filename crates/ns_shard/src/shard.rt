@@ -122,7 +122,7 @@ impl Shard {
         self.parts.index
     }
 
-    /// The entries that are kept, the earliest first: all of a history of the shard.
+    /// The entries that are kept, the earliest first: all that were made, where the shard was never trimmed.
     pub fn entries(&self) -> &[Entry]
         ensures entries { result.now ≡ self.now.entries }
         ensures state { IsState self.now }

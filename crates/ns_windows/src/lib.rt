@@ -12,6 +12,3 @@ mod windows;
 
 pub use window::{Addition, Window};
 pub use windows::Windows;
-
-#[cfg(test)]
-mod tests;
