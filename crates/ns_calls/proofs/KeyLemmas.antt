@@ -22,7 +22,7 @@ use Rattle.ns_calls.proofs.QueryLemmas.{still_open-push}
 use Rattle.ns_calls.proofs.Lists.{said, said-push, All-push, All-after, All-weaker, All-map, IfSome-weaker, last-has, find-none, Exceeds-each}
 use Rattle.ns_calls.proofs.Induction.{legal_induction}
 use Rattle.ns_calls.proofs.JoinLemmas.{NewAcceptance}
-use Rattle.ns_calls.proofs.UplinkLemmas.{IsOpened, window-new, openings-cases}
+use Rattle.ns_calls.proofs.UplinkLemmas.{IsNewOpening, IsOpened, opening-new, window-new, openings-cases}
 
 -- the answer of a session stays once it is there
 kept : (o p : Option Acceptance) (join : JoinAns) → option_map (λ (a : Acceptance). a.join_ans) o ≡ Some join → option_map (λ (a : Acceptance). a.join_ans) (option_or o p) ≡ Some join
@@ -109,7 +109,7 @@ keyed_step net h number c keyed = record {
       (let Keyed : Opening → Type 0 = λ o. IsSome (session_join now eui o.window.session) in
       let old : AllByRecursion Keyed (openings h eui) =
       All-weaker (λ (o : Opening). IsSome (session_join h eui o.window.session)) Keyed (λ o has. has_join-stays h e eui o.window.session has) (openings h eui) (keyed.of_openings eui) in
-      elim (openings-cases net h number c eui) [
+      elim (openings-cases (IsNewOpening h) net h number c (opening-new net h c) eui) [
         | inl same ↦ subst (AllByRecursion Keyed) (sym same) old
         | inr new ↦
             (let has : IsSome (session_join h eui new.o.window.session) =

@@ -243,17 +243,17 @@ window-new net h (call.Close w) = tt
 window-new net h (call.Uplink frame heard) =
     uplink-window net h frame heard (window_with h frame) (first_fit above net h frame) (first_fit below net h frame) refl (first_fit-fresh net h frame) (first_fit-mic below net h frame)
 
--- what a call adds to the openings of a device
-pub record NewOpening (h : List Entry) (eui : DevEui) (now : List Opening) : Type 0 where
+-- what a call adds to the openings of a device, with what holds of it
+pub record AddedOpening (Holds : Opening → Type 0) (h : List Entry) (eui : DevEui) (now : List Opening) : Type 0 where
   pub o : Opening
   pub joined : now ≡ openings h eui ++ o ∷ []
   pub device : o.window.eui ≡ eui
-  pub new : IsNewOpening h o
+  pub new : Holds o
 
-pub openings-cases : (net : Network) (h : List Entry) (number : ℕ) (c : Call) (eui : DevEui) →
+pub openings-cases : (Holds : Opening → Type 0) (net : Network) (h : List Entry) (number : ℕ) (c : Call) → IfSome (opening_in c (reply_to net h c)) Holds → (eui : DevEui) →
     let now : List Opening = openings (with_call net h number c) eui in
-    (now ≡ openings h eui) ⊎ NewOpening h eui now
-openings-cases net h number c eui =
+    (now ≡ openings h eui) ⊎ AddedOpening Holds h eui now
+openings-cases Holds net h number c holds eui =
     let e : Entry = entry_for net h number c in
     let asked : Opening → Bool = λ o. same_device o.window.eui eui in
     let says : Entry → Option Opening = λ x. opening_in x.call x.reply in
@@ -263,7 +263,7 @@ openings-cases net h number c eui =
         o = one.thing;
         joined = one.joined;
         device = same_device-eq one.thing.window.eui eui one.asked;
-        new = at_some (IsNewOpening h) (opening_in c (reply_to net h c)) one.thing one.says (opening-new net h c);
+        new = at_some Holds (opening_in c (reply_to net h c)) one.thing one.says holds;
       })
     ]
 
@@ -277,7 +277,7 @@ counters-cases net h number c eui session =
     let in_session : Opening → Bool = λ o. o.window.session == session in
     let fcnt : Opening → ℕ = λ o. o.window.fcnt in
     let counters : List Opening → List ℕ = λ os. map fcnt (filter in_session os) in
-    elim (openings-cases net h number c eui) [
+    elim (openings-cases (IsNewOpening h) net h number c (opening-new net h c) eui) [
       | inl same ↦ inl (ap counters same)
       | inr new ↦
           (let now : filter in_session (openings (with_call net h number c) eui) ≡ filter in_session (openings h eui) ++ cond (in_session new.o) (new.o ∷ []) [] =

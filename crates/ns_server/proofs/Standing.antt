@@ -1,7 +1,7 @@
 -- Receipts of entries that were made since a trim.
 use Rattle.std.proofs.Common.{◌≡◌, ℕ, ◌+◌, ◌-◌, ◌<◌, ◌≤◌, Bool, false, List, length, take, Some, refl, sym, ap, subst, ◌∙◌, arith}
-use Rattle.std.specs.Prelude.{slice_get, ◌↔◌, IsTrue}
-use Rattle.std.proofs.lemmas.Option.{slice_get_within}
+use Rattle.std.specs.Prelude.{slice_get, ◌↔◌, IsTrue, get_or}
+use Rattle.std.proofs.lemmas.Option.{slice_get_within, slice_get-get_or}
 use Rattle.ns_roster.specs.Network.{Network}
 use Rattle.ns_calls.specs.declared.call.Entry.{Entry}
 use Rattle.ns_calls.specs.Legal.{IsLegal}
@@ -45,6 +45,28 @@ place_fits s is number since below =
     let made = is.keeps.made in
     (omega (arith, len, made, since, below), omega (arith, len, made, since, below))
 
+-- the entry that is read for a receipt, at its place among those that are kept
+pub record FoundFor (s : State) (r : Receipt) (place : ℕ) (e : Entry) : Type 0 where
+  since : s.mark ≤ r.entry.number
+  below : r.entry.number < s.made
+  at : place + s.made ≡ length s.entries + r.entry.number
+  found : slice_get s.entries place ≡ Some e
+
+pub found_for : (s : State) → IsState s → (r : Receipt) (es : List Entry) (made : ℕ) (e : Entry) → es ≡ s.entries → made ≡ s.made → s.mark ≤ r.entry.number → r.entry.number < s.made →
+    let place : ℕ = length es - (made - r.entry.number) in
+    get_or es place e ≡ e → FoundFor s r place e
+found_for s is r es made e es_is made_is since below got =
+    let place : ℕ = length es - (made - r.entry.number) in
+    let fits = place_fits s is r.entry.number since below in
+    let len = ap length es_is in
+    let inside : place < length es = omega (arith, fits.0, fits.1, len, made_is) in
+    record {
+      since = since;
+      below = below;
+      at = omega (arith, fits.0, below, len, made_is);
+      found = subst (λ (l : List Entry). slice_get l place ≡ Some e) es_is (slice_get-get_or es place e inside ∙ ap Some got);
+    }
+
 -- the laws that are asked of histories
 pub record Laws (net : Network) : Type 0 where
   once : (h : List Entry) → IsLegal net h → WindowsOpenOnce h
@@ -54,21 +76,19 @@ pub laws_of : (net : Network) → ((h : List Entry) → IsLegal net h → Window
 laws_of net once limits = record { once = once; limits = limits }
 
 -- the copies of the entries before it fit
-pub fits_there : (s : State) → IsState s → Laws s.roster → (r : Receipt) (place : ℕ) (e : Entry) → s.mark ≤ r.entry.number → r.entry.number < s.made → place + s.made ≡ length s.entries + r.entry.number
-    → slice_get s.entries place ≡ Some e → e ≡ r.entry → CopiesFit (take place s.entries) r.entry
-fits_there s is laws r place e since below at found same =
+pub fits_there : (s : State) → IsState s → Laws s.roster → (r : Receipt) (place : ℕ) (e : Entry) → FoundFor s r place e → e ≡ r.entry → CopiesFit (take place s.entries) r.entry
+fits_there s is laws r place e it same =
     let h : List Entry = is.history in
-    let st = standing s h is.keeps r.entry.number place since below at in
-    let there : slice_get h r.entry.number ≡ Some r.entry = sym st.there ∙ (found ∙ ap Some same) in
+    let st = standing s h is.keeps r.entry.number place it.since it.below it.at in
+    let there : slice_get h r.entry.number ≡ Some r.entry = sym st.there ∙ (it.found ∙ ap Some same) in
     copies_fit s.roster (take r.entry.number h) (first_entries place (remains s)) st.first (laws.limits (take r.entry.number h) st.first.legal) r.entry (is.keeps.left.legal r.entry.number r.entry there)
 
 -- the entry is the one at its place, and what goes out is compared
-pub stands_found : (s : State) → IsState s → Laws s.roster → (r : Receipt) (place : ℕ) (e : Entry) (b : Bool) → s.mark ≤ r.entry.number → r.entry.number < s.made → place + s.made ≡ length s.entries + r.entry.number
-    → slice_get s.entries place ≡ Some e → e ≡ r.entry → (IsTrue b ↔ Sends s.roster (take place s.entries) r) → (IsTrue b ↔ StandsIn s r)
-stands_found s is laws r place e b since below at found same sends = (
+pub stands_found : (s : State) → IsState s → Laws s.roster → (r : Receipt) (place : ℕ) (e : Entry) (b : Bool) → FoundFor s r place e → e ≡ r.entry → (IsTrue b ↔ Sends s.roster (take place s.entries) r) → (IsTrue b ↔ StandsIn s r)
+stands_found s is laws r place e b it same sends = (
   (λ t h keeps.
-      let st = standing s h keeps r.entry.number place since below at in
-      let there : slice_get h r.entry.number ≡ Some r.entry = sym st.there ∙ (found ∙ ap Some same) in
+      let st = standing s h keeps r.entry.number place it.since it.below it.at in
+      let there : slice_get h r.entry.number ≡ Some r.entry = sym st.there ∙ (it.found ∙ ap Some same) in
       record { entry = there; sent = sends_too s.roster (take place s.entries) (take r.entry.number h) r (goes_out h keeps there) (sends.0 t) }),
   (λ stands.
       let at_own = stands is.history is.keeps in
@@ -77,17 +97,16 @@ stands_found s is laws r place e b since below at found same sends = (
   where
     goes_out : (h : List Entry) → Keeps h s → slice_get h r.entry.number ≡ Some r.entry → out s.roster (take place s.entries) r.entry ≡ out s.roster (take r.entry.number h) r.entry
     goes_out h keeps there =
-        let st = standing s h keeps r.entry.number place since below at in
+        let st = standing s h keeps r.entry.number place it.since it.below it.at in
         out_unread s.roster (take r.entry.number h) (first_entries place (remains s)) st.first (laws.once (take r.entry.number h) st.first.legal) r.entry (keeps.left.legal r.entry.number r.entry there)
 
 -- the entry at its place is another
-pub stands_other : (s : State) → IsState s → (r : Receipt) (place : ℕ) (e : Entry) (a : Bool) → s.mark ≤ r.entry.number → r.entry.number < s.made → place + s.made ≡ length s.entries + r.entry.number
-    → slice_get s.entries place ≡ Some e → (IsTrue a ↔ (e ≡ r.entry)) → a ≡ false → (IsTrue a ↔ StandsIn s r)
-stands_other s is r place e a since below at found same failed = (
+pub stands_other : (s : State) → IsState s → (r : Receipt) (place : ℕ) (e : Entry) (a : Bool) → FoundFor s r place e → (IsTrue a ↔ (e ≡ r.entry)) → a ≡ false → (IsTrue a ↔ StandsIn s r)
+stands_other s is r place e a it same failed = (
   (λ t. absurd (cc (t, failed))),
   (λ stands.
-      let st = standing s is.history is.keeps r.entry.number place since below at in
-      let there : Some e ≡ Some r.entry = sym found ∙ (st.there ∙ (stands is.history is.keeps).entry) in
+      let st = standing s is.history is.keeps r.entry.number place it.since it.below it.at in
+      let there : Some e ≡ Some r.entry = sym it.found ∙ (st.there ∙ (stands is.history is.keeps).entry) in
       same.1 (cc there)),
 )
 

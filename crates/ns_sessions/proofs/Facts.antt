@@ -31,7 +31,7 @@ use Rattle.ns_calls.proofs.Lists.{said-adds, All-push, All-weaker, find-has, at_
 use Rattle.ns_calls.proofs.QueryLemmas.{last-push}
 use Rattle.ns_calls.proofs.Induction.{legal_induction}
 use Rattle.ns_calls.proofs.JoinLemmas.{acceptances-cases, same_device-eq}
-use Rattle.ns_calls.proofs.UplinkLemmas.{opened-cases}
+use Rattle.ns_calls.proofs.UplinkLemmas.{AddedOpening, openings-cases, opened-cases}
 use Rattle.ns_calls.proofs.KeyLemmas.{has_join-stays, session_join-next, sessions_have_joins}
 use Rattle.ns_calls.proofs.NameLemmas.{same_window-eq}
 use Rattle.ns_sessions.proofs.Basics.{or_last, or_later}
@@ -105,28 +105,9 @@ closing-open net h (call.Close w) = step (open_window h w) refl
 
 -- ---- what a call adds to the openings and closings of a device
 
-pub record LiveOpening (h : List Entry) (eui : DevEui) (now : List Opening) : Type 0 where
-  pub o : Opening
-  pub joined : now ≡ openings h eui ++ o ∷ []
-  pub device : o.window.eui ≡ eui
-  pub fit : IsLiveWindow h o.window
-
-pub openings-live : (net : Network) (h : List Entry) (number : ℕ) (c : Call) (eui : DevEui) →
-    let now : List Opening = openings (with_call net h number c) eui in
-    (now ≡ openings h eui) ⊎ LiveOpening h eui now
-openings-live net h number c eui =
-    let e : Entry = entry_for net h number c in
-    let asked : Opening → Bool = λ o. same_device o.window.eui eui in
-    let says : Entry → Option Opening = λ x. opening_in x.call x.reply in
-    elim (said-adds says asked h e) [
-      | inl same ↦ inl same
-      | inr one ↦ inr (record {
-        o = one.thing;
-        joined = one.joined;
-        device = same_device-eq one.thing.window.eui eui one.asked;
-        fit = at_some (λ o. IsLiveWindow h o.window) (opening_in c (reply_to net h c)) one.thing one.says (opening-live net h c);
-      })
-    ]
+-- an opening in a live session
+abbrev IsLiveOpening : List Entry → Opening → Type 0
+IsLiveOpening h o = IsLiveWindow h o.window
 
 pub record OpenClosing (h : List Entry) (eui : DevEui) (now : List Closing) : Type 0 where
   pub c : Closing
@@ -184,11 +165,11 @@ pub record SessionFacts (h : List Entry) : Type 0 where
 openings-keyed : (net : Network) (h : List Entry) (number : ℕ) (c : Call) → SessionFacts h → (eui : DevEui) → AllByRecursion (λ o. IsSome (session_join h eui o.window.session)) (openings (with_call net h number c) eui)
 openings-keyed net h number c facts eui =
     let Keyed : Opening → Type 0 = λ o. IsSome (session_join h eui o.window.session) in
-    elim (openings-live net h number c eui) [
+    elim (openings-cases (IsLiveOpening h) net h number c (opening-live net h c) eui) [
       | inl same ↦ subst (AllByRecursion Keyed) (sym same) (facts.of_openings eui)
       | inr new ↦
           subst (AllByRecursion Keyed) (sym new.joined)
-          (All-push Keyed (openings h eui) new.o (facts.of_openings eui) (subst (λ (d : DevEui). IsSome (session_join h d new.o.window.session)) new.device new.fit.keyed))
+          (All-push Keyed (openings h eui) new.o (facts.of_openings eui) (subst (λ (d : DevEui). IsSome (session_join h d new.o.window.session)) new.device new.new.keyed))
     ]
 
 closings-keyed : (net : Network) (h : List Entry) (number : ℕ) (c : Call) → SessionsHaveJoins h → SessionFacts h → (eui : DevEui) → AllByRecursion (λ x. IsSome (session_join h eui x.window.session)) (closings (with_call net h number c) eui)
@@ -234,16 +215,16 @@ newest_step net h number c facts eui =
           subst (λ joins. Fine joins (openings now eui)) (sym joined.joined)
           (subst (λ (o : Option Acceptance). IfSome (option_map (λ (a : Acceptance). a.session) o) (λ y. (option_map (λ x. x == y) (active_session now eui) ≡ Some true) ⊎ (session_counters now eui y ≡ [])))
           (sym (last-push (acceptances h eui) joined.a)) (inr unused)))
-      | inl same ↦ subst (λ joins. Fine joins (openings now eui)) (sym same) (elim (openings-live net h number c eui) [
+      | inl same ↦ subst (λ joins. Fine joins (openings now eui)) (sym same) (elim (openings-cases (IsLiveOpening h) net h number c (opening-live net h c) eui) [
         | inl still ↦ subst (λ os. Fine (acceptances h eui) os) (sym still) (facts.newest eui)
         | inr new ↦ subst (λ os. Fine (acceptances h eui) os) (sym new.joined) (opened new)
       ])
     ]
   where
-    opened : (new : LiveOpening h eui (openings (with_call net h number c) eui)) →
+    opened : (new : AddedOpening (IsLiveOpening h) h eui (openings (with_call net h number c) eui)) →
         IfSome (newest_session h eui) (λ y. (option_map (λ x. x == y) (option_map (λ (o : Opening). o.window.session) (last (openings h eui ++ new.o ∷ []))) ≡ Some true)
         ⊎ (map (λ (o : Opening). o.window.fcnt) (filter (λ (o : Opening). o.window.session == y) (openings h eui ++ new.o ∷ [])) ≡ []))
-    opened new = step (newest_session h eui) (facts.newest eui) (subst (λ (d : DevEui). is_live h d new.o.window.session ≡ true) new.device new.fit.lives)
+    opened new = step (newest_session h eui) (facts.newest eui) (subst (λ (d : DevEui). is_live h d new.o.window.session ≡ true) new.device new.new.lives)
       where
         step : (b : Option ℕ) → IfSome b (λ y. (option_map (λ x. x == y) (active_session h eui) ≡ Some true) ⊎ (session_counters h eui y ≡ [])) →
             list_any (λ n. n == new.o.window.session) (first_and_other (active_session h eui) b) ≡ true →
