@@ -18,7 +18,7 @@ use Rattle.ns_types.specs.declared.identity.WindowName.{WindowName}
 use Rattle.ns_types.specs.declared.ticket.Ticket.{Ticket}
 use Rattle.ns_shard.specs.declared.step.Act.{Act}
 use Rattle.ns_shard.specs.declared.step.Act.TheVariants.{Datagram, Answer, Lost, Close}
-use Rattle.ns_replay.specs.StepLines.{without_return, parted_by, parted, is_digit, decimal_value, number, eui, ticket, heard, answered, lost, later_round, counter_by, counter, window, closed, act, step}
+use Rattle.ns_replay.specs.StepLines.{without_return, split_by, split_words, is_digit, decimal_value, number, eui, ticket, datagram_step, answer_step, lost_step, later_round, counter_by, counter, window, close_step, act, step}
 use Rattle.ns_replay.specs.Spelled.{Says, SpellsTicket, SpellsCounter, SpellsWindow, SpellsStep, Spells}
 use Rattle.ns_replay.proofs.LineLemmas.{byte_at}
 
@@ -49,8 +49,8 @@ first_place byte (b ∷ word) rest none =
     ap (λ t. cond (not t) (1 + position_or_len (λ c. c == byte) (word ++ byte ∷ rest)) 0) parts.0 ∙ omega (arith, ih)
 
 -- the texts before and behind the first such byte
-parted-from : (byte : ℕ) (word rest : List ℕ) → has byte word ≡ false → parted_by byte (word ++ byte ∷ rest) ≡ Some (word, rest)
-unfolding parted_by
+parted-from : (byte : ℕ) (word rest : List ℕ) → has byte word ≡ false → split_by byte (word ++ byte ∷ rest) ≡ Some (word, rest)
+unfolding split_by
 parted-from byte word rest none =
     let whole : List ℕ = word ++ byte ∷ rest in
     let first = first_place byte word rest none in
@@ -64,8 +64,8 @@ parted-from byte word rest none =
     both : {a c b d : List ℕ} → a ≡ c → b ≡ d → ◌≡◌ {A = List ℕ × List ℕ} (a, b) (c, d)
     both first second = λ i. (first i, second i)
 
-parted-is : (byte : ℕ) (text : List ℕ) (p : List ℕ × List ℕ) → parted_by byte text ≡ Some p → text ≡ p.0 ++ byte ∷ p.1
-unfolding parted_by
+parted-is : (byte : ℕ) (text : List ℕ) (p : List ℕ × List ℕ) → split_by byte text ≡ Some p → text ≡ p.0 ++ byte ∷ p.1
+unfolding split_by
 parted-is byte text p is = found (position (λ b. b == byte) text) refl is
   where
     found : (o : Option ℕ) → position (λ b. b == byte) text ≡ o → option_map (λ i. (take i text, drop (i + 1) text)) o ≡ Some p → text ≡ p.0 ++ byte ∷ p.1
@@ -74,9 +74,9 @@ parted-is byte text p is = found (position (λ b. b == byte) text) refl is
         let same : (take i text, drop (i + 1) text) ≡ p = same_Some _ p h in
         byte_at byte text i at ∙ ap (λ (q : List ℕ × List ℕ). q.0 ++ byte ∷ q.1) same
 
--- a text in which the byte does not stand is not parted
-unparted : (byte : ℕ) (text : List ℕ) → has byte text ≡ false → parted_by byte text ≡ None
-unfolding parted_by
+-- a text in which the byte does not stand is not split
+unparted : (byte : ℕ) (text : List ℕ) → has byte text ≡ false → split_by byte text ≡ None
+unfolding split_by
 unparted byte text none =
     let first = nowhere text none in
     let outside : nat_lt (length text) (length text) ≡ false = grind (arith, nat_tests) in
@@ -211,32 +211,32 @@ ticket-spelled text t is =
     let m = map-some (result_ok (decode_sized text 23)) _ t is in
     ok-is (decode_sized text 23) m.0 m.1 ∙ ap (λ (x : Ticket). Ok x.0) m.2
 
-heard-spelled : (rest : List ℕ) (a : Act) → heard rest ≡ Some a → SpellsStep (codes "heard " ++ rest) a
-unfolding heard
+heard-spelled : (rest : List ℕ) (a : Act) → datagram_step rest ≡ Some a → SpellsStep (codes "heard " ++ rest) a
+unfolding datagram_step
 heard-spelled rest a is =
     let b = bind-some (result_ok (decode_of rest)) _ a is in
     let w = when-is (nat_lt 0 (length b.0)) (Datagram b.0) a b.2 in
     let some : 0 < length b.0 = grind (arith, nat_tests, w.0) in
     subst (SpellsStep (codes "heard " ++ rest)) w.1 (rest, refl, ok-is (decode_of rest) b.0 b.1, some)
 
-answered-spelled : (rest : List ℕ) (a : Act) → answered rest ≡ Some a → SpellsStep (codes "answer " ++ rest) a
-unfolding answered
+answered-spelled : (rest : List ℕ) (a : Act) → answer_step rest ≡ Some a → SpellsStep (codes "answer " ++ rest) a
+unfolding answer_step
 answered-spelled rest a is =
-    let p = bind-some (parted rest) _ a is in
+    let p = bind-some (split_words rest) _ a is in
     let m = map-some (ticket p.0.0) _ a p.2 in
     subst (SpellsStep (codes "answer " ++ rest)) m.2 (p.0.0, ap (λ r. codes "answer " ++ r) (parted-is 32 rest p.0 p.1), ticket-spelled p.0.0 m.0 m.1)
 
-lost-spelled : (rest : List ℕ) (a : Act) → lost rest ≡ Some a → SpellsStep (codes "lost " ++ rest) a
-unfolding lost
+lost-spelled : (rest : List ℕ) (a : Act) → lost_step rest ≡ Some a → SpellsStep (codes "lost " ++ rest) a
+unfolding lost_step
 lost-spelled rest a is =
     let m = map-some (ticket rest) Lost a is in
     subst (SpellsStep (codes "lost " ++ rest)) m.2 (rest, refl, ticket-spelled rest m.0 m.1)
 
 counter-spelled : (text : List ℕ) (c : ℕ × ℕ) → counter text ≡ Some c → SpellsCounter text c.0 c.1
 unfolding counter later_round
-counter-spelled text c is = by (parted_by 58 text) refl is
+counter-spelled text c is = by (split_by 58 text) refl is
   where
-    by : (o : Option (List ℕ × List ℕ)) → parted_by 58 text ≡ o → counter_by text o ≡ Some c → SpellsCounter text c.0 c.1
+    by : (o : Option (List ℕ × List ℕ)) → split_by 58 text ≡ o → counter_by text o ≡ Some c → SpellsCounter text c.0 c.1
     by None at h =
         let n = map-some (number text) _ c h in
         inl (n.1 ∙ ap (λ (x : ℕ × ℕ). Some x.0) n.2, sym (ap (λ (x : ℕ × ℕ). x.1) n.2))
@@ -250,13 +250,13 @@ counter-spelled text c is = by (parted_by 58 text) refl is
         let round : n.0 ≡ c.1 = w.1 ∙ ap (λ (x : ℕ × ℕ). x.1) same in
         inr (p.0, p.1, parted-is 58 text p at, f.1 ∙ ap (λ (x : ℕ × ℕ). Some x.0) same, n.1 ∙ ap Some round, subst (λ m. 1 < m) round above)
 
-closed-spelled : (rest : List ℕ) (a : Act) → closed rest ≡ Some a → SpellsStep (codes "close " ++ rest) a
-unfolding closed window
+closed-spelled : (rest : List ℕ) (a : Act) → close_step rest ≡ Some a → SpellsStep (codes "close " ++ rest) a
+unfolding close_step window
 closed-spelled rest a is =
-    let p = bind-some (parted rest) _ a is in
+    let p = bind-some (split_words rest) _ a is in
     let e = bind-some (eui p.0.0) _ a p.2 in
     let c = map-some (window e.0 p.0.1) _ a e.2 in
-    let q = bind-some (parted p.0.1) _ c.0 c.1 in
+    let q = bind-some (split_words p.0.1) _ c.0 c.1 in
     let s = bind-some (number q.0.0) _ c.0 q.2 in
     let f = map-some (counter q.0.1) _ c.0 s.2 in
     let b = map-some (result_ok (decode_sized p.0.0 8)) _ e.0 e.1 in
@@ -284,7 +284,7 @@ act-spelled word rest a is = by (bytes_eq word (codes "heard")) refl (bytes_eq w
     under known same spelled = subst (λ w. SpellsStep (w ++ 32 ∷ rest) a) (sym ((bytes_eq-Decides word known).0 same)) spelled
 
     by : (h : Bool) → bytes_eq word (codes "heard") ≡ h → (n : Bool) → bytes_eq word (codes "answer") ≡ n → (l : Bool) → bytes_eq word (codes "lost") ≡ l → (c : Bool) → bytes_eq word (codes "close") ≡ c
-        → (if h then heard rest else if n then answered rest else if l then lost rest else if c then closed rest else None) ≡ Some a → SpellsStep (word ++ 32 ∷ rest) a
+        → (if h then datagram_step rest else if n then answer_step rest else if l then lost_step rest else if c then close_step rest else None) ≡ Some a → SpellsStep (word ++ 32 ∷ rest) a
     by true same n _ l _ c _ x = under (codes "heard") same (heard-spelled rest a x)
     by false _ true same l _ c _ x = under (codes "answer") same (answered-spelled rest a x)
     by false _ false _ true same c _ x = under (codes "lost") same (lost-spelled rest a x)
@@ -294,13 +294,13 @@ act-spelled word rest a is = by (bytes_eq word (codes "heard")) refl (bytes_eq w
 pub step-spelled : (line : List ℕ) (a : Act) → step line ≡ Some a → Spells line a
 unfolding step
 step-spelled line a is =
-    let p = bind-some (parted (without_return line)) _ a is in
+    let p = bind-some (split_words (without_return line)) _ a is in
     (without_return line, says-without line, subst (λ words. SpellsStep words a) (sym (parted-is 32 (without_return line) p.0 p.1)) (act-spelled p.0.0 p.0.1 a p.2))
 
 -- ---- what is spelled is read
 
 abbrev reads : List ℕ → Option Act
-reads words = option_and_then (λ (p : List ℕ × List ℕ). act p.0 p.1) (parted words)
+reads words = option_and_then (λ (p : List ℕ × List ℕ). act p.0 p.1) (split_words words)
 
 ticket-from : (hex : List ℕ) (t : Ticket) → SpellsTicket hex t → ticket hex ≡ Some t
 ticket-from hex t is = ap (λ (r : Result (List ℕ) FromHexError). option_map (λ (bytes : List ℕ). let x : Ticket = record { 0 = bytes } in x) (result_ok r)) is
@@ -309,20 +309,20 @@ counter-from : (text : List ℕ) (fcnt round : ℕ) → SpellsCounter text fcnt 
 unfolding counter later_round
 counter-from text fcnt round (inl (is, first)) = rw (unparted 58 text (number-without 58 refl text fcnt is), is, first) refl
 counter-from text fcnt round (inr (before, behind, is, is_fcnt, is_round, above)) =
-    let whole : parted_by 58 text ≡ Some (before, behind) = ap (parted_by 58) is ∙ parted-from 58 before behind (number-without 58 refl before fcnt is_fcnt) in
+    let whole : split_by 58 text ≡ Some (before, behind) = ap (split_by 58) is ∙ parted-from 58 before behind (number-without 58 refl before fcnt is_fcnt) in
     let later : nat_lt 1 round ≡ true = grind (arith, nat_tests, above) in
     rw (whole, is_fcnt, is_round, later) refl
 
-closed-from : (rest : List ℕ) (w : WindowName) → SpellsWindow rest w → closed rest ≡ Some (Close w)
-unfolding closed window
+closed-from : (rest : List ℕ) (w : WindowName) → SpellsWindow rest w → close_step rest ≡ Some (Close w)
+unfolding close_step window
 closed-from rest w spelled =
     let tail : List ℕ = spelled.session ++ (32 ∷ spelled.fcnt) in
-    let whole : parted rest ≡ Some (spelled.eui, tail) = ap parted spelled.are ∙ parted-from 32 spelled.eui tail (sized-no_space spelled.eui 8 spelled.bytes spelled.hex) in
-    let inner : parted tail ≡ Some (spelled.session, spelled.fcnt) = parted-from 32 spelled.session spelled.fcnt (number-without 32 refl spelled.session w.session spelled.is_session) in
+    let whole : split_words rest ≡ Some (spelled.eui, tail) = ap split_words spelled.are ∙ parted-from 32 spelled.eui tail (sized-no_space spelled.eui 8 spelled.bytes spelled.hex) in
+    let inner : split_words tail ≡ Some (spelled.session, spelled.fcnt) = parted-from 32 spelled.session spelled.fcnt (number-without 32 refl spelled.session w.session spelled.is_session) in
     rw (whole, spelled.hex, inner, spelled.is_session, counter-from spelled.fcnt w.fcnt w.round spelled.is_fcnt, spelled.is_eui) refl
 
 reads-from : (words : List ℕ) (a : Act) → SpellsStep words a → reads words ≡ Some a
-unfolding act heard answered lost
+unfolding act datagram_step answer_step lost_step
 reads-from words (Datagram bytes) (hex, is, decoded, some) =
     let is_some : nat_lt 0 (length bytes) ≡ true = grind (arith, nat_tests, some) in
     ap reads is ∙ (ap (option_and_then (λ (p : List ℕ × List ℕ). act p.0 p.1)) (parted-from 32 (codes "heard") hex refl) ∙ rw (decoded, is_some) refl)

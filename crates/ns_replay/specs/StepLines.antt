@@ -30,12 +30,12 @@ without_return line = if slice_index line (length line - 1) == 13 then take (len
 -- ---- words
 
 -- the text before the first such byte and the text behind it, where there is one
-unfoldable pub parted_by : ℕ → List ℕ → Option (List ℕ × List ℕ)
-parted_by byte text = option_map (λ i. (take i text, drop (i + 1) text)) (position (λ b. b == byte) text)
+unfoldable pub split_by : ℕ → List ℕ → Option (List ℕ × List ℕ)
+split_by byte text = option_map (λ i. (take i text, drop (i + 1) text)) (position (λ b. b == byte) text)
 
 -- words, parted by one space
-abbrev pub parted : List ℕ → Option (List ℕ × List ℕ)
-parted text = parted_by 32 text
+abbrev pub split_words : List ℕ → Option (List ℕ × List ℕ)
+split_words text = split_by 32 text
 
 abbrev pub is_digit : ℕ → Bool
 is_digit b = nat_le 48 b && nat_le b 57
@@ -63,21 +63,21 @@ abbrev pub ◌>>=◌ : {A B : Type 0} → Option A → (A → Option B) → Opti
 part >>= f = option_and_then f part
 
 -- `heard HEX`: one byte or more
-unfoldable pub heard : List ℕ → Option Act
-heard text = do
+unfoldable pub datagram_step : List ℕ → Option Act
+datagram_step text = do
   bytes ← result_ok (decode_of text)
   when (nat_lt 0 (length bytes)) (Datagram bytes)
 
 -- `answer TICKET TEXT`
-unfoldable pub answered : List ℕ → Option Act
-answered text = do
-  words ← parted text
+unfoldable pub answer_step : List ℕ → Option Act
+answer_step text = do
+  words ← split_words text
   t ← ticket words.0
   Some (Answer t words.1)
 
 -- `lost TICKET`
-unfoldable pub lost : List ℕ → Option Act
-lost text = option_map Lost (ticket text)
+unfoldable pub lost_step : List ℕ → Option Act
+lost_step text = option_map Lost (ticket text)
 
 -- a round above 1
 unfoldable pub later_round : List ℕ → Option ℕ
@@ -95,20 +95,20 @@ counter_by text (Some parts) = do
 
 -- `FCNT` or `FCNT:ROUND`
 unfoldable pub counter : List ℕ → Option (ℕ × ℕ)
-counter text = counter_by text (parted_by 58 text)
+counter text = counter_by text (split_by 58 text)
 
 -- a device's window, by `SESSION FCNT` or `SESSION FCNT:ROUND`
 unfoldable pub window : DevEui → List ℕ → Option WindowName
 window device text = do
-  words ← parted text
+  words ← split_words text
   session ← number words.0
   counter ← counter words.1
   Some (record { eui = device; session = session; fcnt = counter.0; round = counter.1 })
 
 -- `close EUI SESSION FCNT` or `close EUI SESSION FCNT:ROUND`
-unfoldable pub closed : List ℕ → Option Act
-closed text = do
-  words ← parted text
+unfoldable pub close_step : List ℕ → Option Act
+close_step text = do
+  words ← split_words text
   device ← eui words.0
   name ← window device words.1
   Some (Close name)
@@ -116,16 +116,16 @@ closed text = do
 -- the step that a first word asks for, with the text behind it
 unfoldable pub act : List ℕ → List ℕ → Option Act
 act word text =
-    if bytes_eq word (codes "heard") then heard text
-    else if bytes_eq word (codes "answer") then answered text
-    else if bytes_eq word (codes "lost") then lost text
-    else if bytes_eq word (codes "close") then closed text
+    if bytes_eq word (codes "heard") then datagram_step text
+    else if bytes_eq word (codes "answer") then answer_step text
+    else if bytes_eq word (codes "lost") then lost_step text
+    else if bytes_eq word (codes "close") then close_step text
     else None
 
 -- the step that a line asks for, where it is a step line
 unfoldable pub step : List ℕ → Option Act
 step line = do
-  words ← parted (without_return line)
+  words ← split_words (without_return line)
   act words.0 words.1
 
 -- the steps of a text, in order, and nothing for each line that is no step line

@@ -50,7 +50,7 @@ fn decode_into(text: &[u8], out: &mut [u8]) -> bool
 }
 
 // The bytes of a text of hex digits, in either case: none where the text is odd or a byte of it is no digit.
-fn decoded(alloc: Global, text: &[u8]) -> Result<Option<Vec<u8>>, AllocError>
+fn decode(alloc: Global, text: &[u8]) -> Result<Option<Vec<u8>>, AllocError>
     ensures { IfOk result (λ found. option_map (λ bytes. bytes.items) found ≡ result_ok (decode_of text.now)) }
 {
     if text.len() % 2 == 1 {
@@ -86,7 +86,7 @@ pub fn datagram(alloc: Global, text: &[u8]) -> Result<Option<DatagramBytes>, All
     if text.len() % 2 == 0 && text.len() <= 2 * SHORT_DATAGRAM {
         return short_datagram(alloc, text);
     }
-    match decoded(alloc, text)? {
+    match decode(alloc, text)? {
         Some(bytes) => Ok(Some(DatagramBytes::new(bytes))),
         None => Ok(None),
     }

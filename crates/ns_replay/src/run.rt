@@ -67,7 +67,7 @@ struct Answers {
 
 // What comes of the lines of a source.
 #[tactic(auto, using(crate::proofs::Woven::all_lines_woven))]
-fn answered<R: Source>(
+fn answers_of<R: Source>(
     alloc: Global,
     roster: Arc<Roster>,
     closing: bool,
@@ -131,7 +131,7 @@ pub fn replay<R: Source, W: Sink>(
     ensures memory { result ≡ Err ReplayFault.NoMemory → writer.new ≡ writer.old }
     ensures unread { R.Stream.has_failed reader.new ≡ true → writer.new ≡ writer.old }
 {
-    let answers = match answered(alloc, roster, closing, reader) {
+    let answers = match answers_of(alloc, roster, closing, reader) {
         Ok(answered) => answered,
         Err(ReadFault::NoMemory) => return Err(ReplayFault::NoMemory),
         Err(ReadFault::Io) => return Err(ReplayFault::Io),

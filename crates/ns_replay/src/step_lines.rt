@@ -3,7 +3,7 @@
 ghost use Rattle.std.specs.Prelude.{◌≡◌, ◌<◌, ◌≤◌, ◌∷◌, ◌++◌, [], ℕ, List, false, true, slice_index_or, vec_len, length, option_map, IfOk, IfErr, OnOk, IfSome, position, ◌==◌, ◌↔◌};
 ghost use Rattle.ns_types.specs.declared.transfer.ReadFault.TheVariants.{Io};
 ghost use Rattle.ns_replay.specs.Private.Lines.{steps_in, are_steps};
-ghost use Rattle.ns_replay.specs.StepLines.{without_return, parted_by, parted, number, eui, ticket, heard, answered, lost, later_round, counter, window, closed, act, step};
+ghost use Rattle.ns_replay.specs.StepLines.{without_return, split_by, split_words, number, eui, ticket, datagram_step, answer_step, lost_step, later_round, counter, window, close_step, act, step};
 ghost use Rattle.ns_replay.specs.Private.Found.{FoundIn, StepsOf, Longer};
 
 use crate::hex_text::datagram;
@@ -38,9 +38,9 @@ fn without_return(line: &[u8]) -> &[u8]
 }
 
 // The text before the first such byte and the text behind it.
-#[tactic(auto, unfolding(crate::specs::StepLines::parted_by))]
-fn parted_by(byte: u8, text: &[u8]) -> Option<(&[u8], &[u8])>
-    ensures { option_map (λ p. (p.0.now, p.1.now)) result ≡ parted_by byte text.now }
+#[tactic(auto, unfolding(crate::specs::StepLines::split_by))]
+fn split_by(byte: u8, text: &[u8]) -> Option<(&[u8], &[u8])>
+    ensures { option_map (λ p. (p.0.now, p.1.now)) result ≡ split_by byte text.now }
 {
     match place_of(byte, text) {
         Some(at) => Some((&text[..at], &text[at + 1..])),
@@ -49,10 +49,10 @@ fn parted_by(byte: u8, text: &[u8]) -> Option<(&[u8], &[u8])>
 }
 
 // The text before the first space and the text behind it.
-fn parted(text: &[u8]) -> Option<(&[u8], &[u8])>
-    ensures { option_map (λ p. (p.0.now, p.1.now)) result ≡ parted text.now }
+fn split_words(text: &[u8]) -> Option<(&[u8], &[u8])>
+    ensures { option_map (λ p. (p.0.now, p.1.now)) result ≡ split_words text.now }
 {
-    parted_by(b' ', text)
+    split_by(b' ', text)
 }
 
 // The value of decimal digits.
@@ -93,9 +93,9 @@ fn ticket(text: &[u8]) -> Option<Ticket>
 }
 
 // The step of the text behind `heard`.
-#[tactic(auto, unfolding(crate::specs::StepLines::heard))]
-fn heard(alloc: Global, text: &[u8]) -> Result<Option<Act>, AllocError>
-    ensures { IfOk result (λ a. a ≡ heard text.now) }
+#[tactic(auto, unfolding(crate::specs::StepLines::datagram_step))]
+fn datagram_step(alloc: Global, text: &[u8]) -> Result<Option<Act>, AllocError>
+    ensures { IfOk result (λ a. a ≡ datagram_step text.now) }
 {
     match datagram(alloc, text)? {
         Some(bytes) if !bytes.as_slice().is_empty() => Ok(Some(Act::Datagram(bytes))),
@@ -104,11 +104,11 @@ fn heard(alloc: Global, text: &[u8]) -> Result<Option<Act>, AllocError>
 }
 
 // The step of the text behind `answer`.
-#[tactic(auto, unfolding(crate::specs::StepLines::answered))]
-fn answered(alloc: Global, text: &[u8]) -> Result<Option<Act>, AllocError>
-    ensures { IfOk result (λ a. a ≡ answered text.now) }
+#[tactic(auto, unfolding(crate::specs::StepLines::answer_step))]
+fn answer_step(alloc: Global, text: &[u8]) -> Result<Option<Act>, AllocError>
+    ensures { IfOk result (λ a. a ≡ answer_step text.now) }
 {
-    let Some((word, body)) = parted(text) else {
+    let Some((word, body)) = split_words(text) else {
         return Ok(None);
     };
     let Some(ticket) = ticket(word) else {
@@ -119,9 +119,9 @@ fn answered(alloc: Global, text: &[u8]) -> Result<Option<Act>, AllocError>
 }
 
 // The step of the text behind `lost`.
-#[tactic(auto, unfolding(crate::specs::StepLines::lost))]
-fn lost(text: &[u8]) -> Option<Act>
-    ensures { result ≡ lost text.now }
+#[tactic(auto, unfolding(crate::specs::StepLines::lost_step))]
+fn lost_step(text: &[u8]) -> Option<Act>
+    ensures { result ≡ lost_step text.now }
 {
     Some(Act::Lost {
         ticket: ticket(text)?,
@@ -142,7 +142,7 @@ fn later_round(text: &[u8]) -> Option<u32>
 fn counter(text: &[u8]) -> Option<(u32, u32)>
     ensures { result ≡ counter text.now }
 {
-    match parted_by(b':', text) {
+    match split_by(b':', text) {
         Some((fcnt, round)) => Some((number(fcnt)?, later_round(round)?)),
         None => Some((number(text)?, 1)),
     }
@@ -153,7 +153,7 @@ fn counter(text: &[u8]) -> Option<(u32, u32)>
 fn window(eui: DevEui, text: &[u8]) -> Option<WindowName>
     ensures { result ≡ window eui text.now }
 {
-    let (session, text) = parted(text)?;
+    let (session, text) = split_words(text)?;
     let session = number(session)?;
     let (fcnt, round) = counter(text)?;
     Some(WindowName {
@@ -165,11 +165,11 @@ fn window(eui: DevEui, text: &[u8]) -> Option<WindowName>
 }
 
 // The step of the text behind `close`.
-#[tactic(auto, unfolding(crate::specs::StepLines::closed))]
-fn closed(text: &[u8]) -> Option<Act>
-    ensures { result ≡ closed text.now }
+#[tactic(auto, unfolding(crate::specs::StepLines::close_step))]
+fn close_step(text: &[u8]) -> Option<Act>
+    ensures { result ≡ close_step text.now }
 {
-    let (device, text) = parted(text)?;
+    let (device, text) = split_words(text)?;
     Some(Act::Close(window(eui(device)?, text)?))
 }
 
@@ -179,13 +179,13 @@ fn act(alloc: Global, word: &[u8], text: &[u8]) -> Result<Option<Act>, AllocErro
     ensures { IfOk result (λ a. a ≡ act word.now text.now) }
 {
     if word == b"heard".as_slice() {
-        heard(alloc, text)
+        datagram_step(alloc, text)
     } else if word == b"answer".as_slice() {
-        answered(alloc, text)
+        answer_step(alloc, text)
     } else if word == b"lost".as_slice() {
-        Ok(lost(text))
+        Ok(lost_step(text))
     } else if word == b"close".as_slice() {
-        Ok(closed(text))
+        Ok(close_step(text))
     } else {
         Ok(None)
     }
@@ -197,7 +197,7 @@ fn act(alloc: Global, word: &[u8], text: &[u8]) -> Result<Option<Act>, AllocErro
 fn step(alloc: Global, line: &[u8]) -> Result<Option<Act>, AllocError>
     ensures { IfOk result (λ a. a ≡ step line.now) }
 {
-    match parted(without_return(line)) {
+    match split_words(without_return(line)) {
         Some((word, text)) => act(alloc, word, text),
         None => Ok(None),
     }

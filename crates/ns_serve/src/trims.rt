@@ -53,7 +53,7 @@ fn is_due(trims: &Trims, receipts: &[Receipt], shard: u8) -> bool
 }
 
 // Trims a shard, and gives the mark of its last trim: the one before, where the trim was refused.
-fn trimmed<B: Naming, R: Wait + Log>(
+fn trim_shard<B: Naming, R: Wait + Log>(
     rt: &R,
     alloc: Global,
     server: &Server<B>,
@@ -89,7 +89,7 @@ pub(crate) fn trim_due<B: Naming, R: Wait + Log>(
     for shard in 0..SHARDS {
         if is_due(trims, receipts, shard) {
             let place = usize::from(shard);
-            trims.marks[place] = trimmed(rt, alloc, server, shard, trims.marks[place]);
+            trims.marks[place] = trim_shard(rt, alloc, server, shard, trims.marks[place]);
         }
     }
 }

@@ -103,7 +103,7 @@ fn run<B: Naming, const K: usize, R: Wait, G: Gate<R>>(
 }
 
 // Takes the lock and trims.
-fn trimmed<B: Naming, const K: usize, R: Wait>(
+fn trim_kept<B: Naming, const K: usize, R: Wait>(
     rt: &R,
     lock: &Mutex<Kept<B, K>>,
     alloc: Global,
@@ -264,27 +264,27 @@ impl<B: Naming> Server<B> {
         ensures full { result ≡ Err Full → IsFull B.roster shard }
     {
         match shard {
-            0 => trimmed(rt, &self.k0, alloc),
-            1 => trimmed(rt, &self.k1, alloc),
-            2 => trimmed(rt, &self.k2, alloc),
-            3 => trimmed(rt, &self.k3, alloc),
-            4 => trimmed(rt, &self.k4, alloc),
-            5 => trimmed(rt, &self.k5, alloc),
-            6 => trimmed(rt, &self.k6, alloc),
-            7 => trimmed(rt, &self.k7, alloc),
-            8 => trimmed(rt, &self.k8, alloc),
-            9 => trimmed(rt, &self.k9, alloc),
-            10 => trimmed(rt, &self.k10, alloc),
-            11 => trimmed(rt, &self.k11, alloc),
-            12 => trimmed(rt, &self.k12, alloc),
-            13 => trimmed(rt, &self.k13, alloc),
-            14 => trimmed(rt, &self.k14, alloc),
-            _ => trimmed(rt, &self.k15, alloc),
+            0 => trim_kept(rt, &self.k0, alloc),
+            1 => trim_kept(rt, &self.k1, alloc),
+            2 => trim_kept(rt, &self.k2, alloc),
+            3 => trim_kept(rt, &self.k3, alloc),
+            4 => trim_kept(rt, &self.k4, alloc),
+            5 => trim_kept(rt, &self.k5, alloc),
+            6 => trim_kept(rt, &self.k6, alloc),
+            7 => trim_kept(rt, &self.k7, alloc),
+            8 => trim_kept(rt, &self.k8, alloc),
+            9 => trim_kept(rt, &self.k9, alloc),
+            10 => trim_kept(rt, &self.k10, alloc),
+            11 => trim_kept(rt, &self.k11, alloc),
+            12 => trim_kept(rt, &self.k12, alloc),
+            13 => trim_kept(rt, &self.k13, alloc),
+            14 => trim_kept(rt, &self.k14, alloc),
+            _ => trim_kept(rt, &self.k15, alloc),
         }
     }
 
     // Takes all shards out of their locks, with the roster.
-    pub(crate) fn all_opened(self, mut all: Shares<B>) -> (Arc<Roster>, [Shard; PLACES])
+    pub(crate) fn open_all(self, mut all: Shares<B>) -> (Arc<Roster>, [Shard; PLACES])
         requires { all.parts ≡ B.workers }
         ensures roster { arc_value result.0 ≡ B.roster }
         ensures shards { AreRow B.roster 0 result.1 }
@@ -312,29 +312,29 @@ impl<B: Naming> Server<B> {
             k15,
         } = self;
         let shards = [
-            opened(k0, &mut all),
-            opened(k1, &mut all),
-            opened(k2, &mut all),
-            opened(k3, &mut all),
-            opened(k4, &mut all),
-            opened(k5, &mut all),
-            opened(k6, &mut all),
-            opened(k7, &mut all),
-            opened(k8, &mut all),
-            opened(k9, &mut all),
-            opened(k10, &mut all),
-            opened(k11, &mut all),
-            opened(k12, &mut all),
-            opened(k13, &mut all),
-            opened(k14, &mut all),
-            opened(k15, &mut all),
+            open_one(k0, &mut all),
+            open_one(k1, &mut all),
+            open_one(k2, &mut all),
+            open_one(k3, &mut all),
+            open_one(k4, &mut all),
+            open_one(k5, &mut all),
+            open_one(k6, &mut all),
+            open_one(k7, &mut all),
+            open_one(k8, &mut all),
+            open_one(k9, &mut all),
+            open_one(k10, &mut all),
+            open_one(k11, &mut all),
+            open_one(k12, &mut all),
+            open_one(k13, &mut all),
+            open_one(k14, &mut all),
+            open_one(k15, &mut all),
         ];
         (roster, shards)
     }
 }
 
 // Takes a shard out of its lock, and compares the count of its entries with what all passes made.
-fn opened<B: Naming, const K: usize>(lock: Mutex<Kept<B, K>>, all: &mut Shares<B>) -> Shard
+fn open_one<B: Naming, const K: usize>(lock: Mutex<Kept<B, K>>, all: &mut Shares<B>) -> Shard
     requires { all.old.parts ≡ B.workers }
     ensures state { IsStateOf B.roster K result }
     ensures counted { result.made ≡ slice_index all.old.amounts K }

@@ -52,7 +52,7 @@ pub struct SettleFault<B: Naming> {
 }
 
 // The shares of all passes together.
-fn gathered<B: Naming>(mut passes: Vec<Pass<B>>) -> Shares<B>
+fn all_shares<B: Naming>(mut passes: Vec<Pass<B>>) -> Shares<B>
     requires { 0 < vec_len passes }
     ensures parts { result.parts ≡ vec_len passes }
     ensures amounts { (k : ℕ) → slice_index result.amounts k ≡ sum_by (λ p. slice_index p k) passes.items }
@@ -81,8 +81,8 @@ impl<B: Naming> Server<B> {
                 passes,
             });
         }
-        let all = gathered(passes);
-        let (roster, shards) = self.all_opened(all);
+        let all = all_shares(passes);
+        let (roster, shards) = self.open_all(all);
         let _net = roster.net_id();
         merges_of_what_leaves_are_legal();
         Ok(Settled {

@@ -7,7 +7,7 @@ ghost use Rattle.ns_workers.specs.Closing.{Closes, AreAnswered, HasAnswer, closi
 ghost use Rattle.ns_workers.specs.Counts.{RisesByReceipts};
 ghost use Rattle.ns_workers.specs.Lines.{uplink_line, up_lines};
 
-use crate::counted::{counted, send_down};
+use crate::counted::{make_call, send_down};
 use crate::line::write_uplink;
 use crate::outside::{CloseJob, Downlinks, JobSource, Monitor, Next, Shared, Timer, WorkerFault};
 use ns_calls::Call;
@@ -37,7 +37,7 @@ fn close_due<B: Naming, R: Wait, G: Gate<R>, D, M: Monitor<R>, T: Timer<R>>(
 {
     timer.until(shared.rt, job.due);
     let call = Call::Close { window: job.name };
-    counted(shared, pass, call)
+    make_call(shared, pass, call)
 }
 
 // Sends what goes down, and writes the line of what goes up.

@@ -12,7 +12,7 @@ use std::sync::Wait;
 
 // Makes a call and tells its reply. It is one more in the counts of all shards together.
 #[tactic(auto, using(crate::proofs::Counting::counted_one, crate::proofs::Closings::counted_answer))]
-pub(crate) fn counted<B: Naming, R: Wait, G: Gate<R>, D, M: Monitor<R>>(
+pub(crate) fn make_call<B: Naming, R: Wait, G: Gate<R>, D, M: Monitor<R>>(
     shared: &Shared<'_, B, R, G, D, M>,
     pass: &mut Pass<B>,
     call: Call,

@@ -6,7 +6,7 @@ ghost use Rattle.ns_workers.specs.Closing.{Writes, WritesFront};
 ghost use Rattle.ns_workers.specs.Counts.{made_in_all};
 
 use crate::closer::hand_out;
-use crate::counted::{counted, send_down};
+use crate::counted::{make_call, send_down};
 use crate::datagram::call_of;
 use crate::outside::{
     AskJob, CloseJob, Datagrams, Downlinks, Jobs, Monitor, Received, Shared, Timer, WorkerFault,
@@ -46,7 +46,7 @@ fn close_itself<B: Naming, R: Wait, G: Gate<R>, D: Downlinks<R>, M: Monitor<R>, 
     ensures failed { result ≡ Err WorkerFault.SinkFailed → W.has_failed sink.new ≡ true }
     ensures fault { result ≢ Err WorkerFault.SourceFailed }
 {
-    let Ok(receipt) = counted(shared, pass, Call::Close { window }) else {
+    let Ok(receipt) = make_call(shared, pass, Call::Close { window }) else {
         return Err(WorkerFault::NoMemory);
     };
     match hand_out(shared, sink, &receipt) {
@@ -67,7 +67,7 @@ fn answer_itself<B: Naming, R: Wait, G: Gate<R>, D: Downlinks<R>, M: Monitor<R>>
     ensures sink { result ≢ Err WorkerFault.SinkFailed }
 {
     let outcome = Outcome::Failed;
-    let Ok(receipt) = counted(shared, pass, Call::JoinReply { ticket, outcome }) else {
+    let Ok(receipt) = make_call(shared, pass, Call::JoinReply { ticket, outcome }) else {
         return Err(WorkerFault::NoMemory);
     };
     send_down(shared, &receipt);
@@ -158,7 +158,7 @@ fn serve_one<B: Naming, R: Wait, G: Gate<R>, D, M: Monitor<R>>(
             return None;
         }
     };
-    let Ok(receipt) = counted(shared, pass, call) else {
+    let Ok(receipt) = make_call(shared, pass, call) else {
         shared.monitor.dropped(shared.rt);
         served.dropped += 1;
         return None;

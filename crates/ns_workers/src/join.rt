@@ -5,7 +5,7 @@ ghost use Rattle.ns_workers.specs.Asking.{IsAskedFor, HasOutcome};
 ghost use Rattle.ns_workers.specs.Answering.{Answers};
 ghost use Rattle.ns_workers.specs.Counts.{made_in_all};
 
-use crate::counted::{counted, send_down};
+use crate::counted::{make_call, send_down};
 use crate::outside::{
     AskJob, Connections, Downlinks, JobSource, Monitor, Next, Shared, WorkerFault,
 };
@@ -47,7 +47,7 @@ pub enum JoinFault {
 const MOST: u64 = 1 << 63;
 
 // What the join server answers to a ticket.
-fn asked<R, C: Connections<R>>(
+fn ask_server<R, C: Connections<R>>(
     rt: &R,
     alloc: Global,
     roster: &Roster,
@@ -90,7 +90,7 @@ fn outcome_of<R, C: Connections<R>, M: Monitor<R>>(
 ) -> Outcome
     ensures { HasOutcome C.S.taken C.S.left roster.now (host_text host.entry) ticket.now result }
 {
-    match asked(rt, alloc, roster, host, connections, ticket) {
+    match ask_server(rt, alloc, roster, host, connections, ticket) {
         Ok(answer) => Outcome::Success(answer),
         Err(fault) => {
             monitor.unanswered(rt, ticket, &fault);
@@ -152,7 +152,7 @@ pub fn run_join<
             shared.monitor,
             &ticket,
         );
-        let Ok(receipt) = counted(shared, pass, Call::JoinReply { ticket, outcome }) else {
+        let Ok(receipt) = make_call(shared, pass, Call::JoinReply { ticket, outcome }) else {
             return Joined {
                 answered,
                 fault: Some(WorkerFault::NoMemory),

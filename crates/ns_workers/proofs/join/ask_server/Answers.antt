@@ -3,7 +3,7 @@ use Rattle.ns_roster.specs.Network.{device}
 use Rattle.ns_roster.proofs.DeviceLemmas.{found-device}
 use Rattle.ns_joinclient.specs.Request.{host_text}
 use Rattle.ns_workers.proofs.Answerings.{asked_for}
-use Rattle.ns_workers.proofs.join.asked.Goals as goal
+use Rattle.ns_workers.proofs.join.ask_server.Goals as goal
 
 pub join_req-requires : goal.join_req-requires
 join_req-requires g c = (found-device c.args.roster.now c.dev_eui.result c.in-Some.device.now (sym c.in-Some.ensures.is)).0

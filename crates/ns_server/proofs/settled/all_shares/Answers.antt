@@ -2,7 +2,7 @@ use Rattle.std.proofs.Common.{ℕ, List, ap, ◌∙◌, rules, arith}
 use Rattle.std.specs.Prelude.{slice_index, sum_by}
 use Rattle.std.proofs.lemmas.List.Sums.{sum_by_push}
 use Rattle.ns_server.proofs.Shards.{slice_index-added}
-use Rattle.ns_server.proofs.settled.gathered.Goals as goal
+use Rattle.ns_server.proofs.settled.all_shares.Goals as goal
 
 pub loop-pass-preserved : goal.loop-pass-preserved
 loop-pass-preserved g c = record {
