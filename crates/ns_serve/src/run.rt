@@ -15,7 +15,7 @@ use crossbeam_channel::{Receiver, Sender, unbounded};
 use log::Log;
 use ns_joinclient::HostName;
 use ns_roster::Roster;
-use ns_server::{Gate, Naming, Pass, Server};
+use ns_server::{Naming, Open, Pass, Server};
 use ns_types::Sink;
 use ns_workers::{AskJob, CloseJob, Shared, WorkerFault, run_closer, run_gateway, run_join};
 use std::alloc::{AllocError, Global};
@@ -32,14 +32,6 @@ const AT_A_TIME: u32 = 256;
 // How long connecting to the join server and the whole exchange take at most. A Join-Accept is of use within the 5 s of its receive
 // window.
 const EXCHANGE_MS: u64 = 4000;
-
-// A gate that lets every call pass.
-#[derive(Clone, Copy)]
-struct Open;
-
-impl<R> Gate<R> for Open {
-    fn visit(&self, _rt: &R, _shard: u8, _number: u64) {}
-}
 
 // What the threads see. One reference to it goes into each.
 #[derive(Drop)]

@@ -7,6 +7,7 @@ pub trait Gate<R> {
 }
 
 /// A gate that lets every call go on at once.
+#[derive(Clone, Copy)]
 pub struct Open;
 
 impl<R> Gate<R> for Open {

@@ -6,12 +6,12 @@ ghost use Rattle.ns_tally.specs.Tally.{AreNamed};
 
 use super::*;
 use crate::tests::{
-    F, JA, LINE_2, Open, Told, ask_job, call, connections_with, heard, join, join_request,
-    refused_joins, roster_a, serves, shared,
+    F, JA, LINE_2, Told, ask_job, call, connections_with, heard, join, join_request, refused_joins,
+    roster_a, serves, shared,
 };
 use ns_joinclient::HostName;
 use ns_roster::Roster;
-use ns_server::{Naming, Pass, Server};
+use ns_server::{Naming, Open, Pass, Server};
 use ns_tally::Blanks;
 use ns_types::{BLOCKS, take_all};
 use std::alloc::Global;

@@ -12,7 +12,7 @@ use ns_joinclient::HostName;
 use ns_joinwire::join_ans;
 use ns_roster::Roster;
 use ns_secure::Dir;
-use ns_server::{Gate, Naming, Pass, Receipt, Server};
+use ns_server::{Gate, Naming, Open, Pass, Receipt, Server};
 use ns_tally::Blanks;
 use ns_types::{DevAddr, DevEui, Fuse, Key, Ticket, WindowName};
 use std::alloc::Global;
@@ -58,14 +58,6 @@ const APP: Key = Key([
 pub const LINE_2: &[u8] = b"up 000000000000000d 1 2 1 plain - 74657374 1 00000000000000a1\n";
 
 const LINE_3: &[u8] = b"up 000000000000000d 1 3 1 plain - 55 1 00000000000000a1\n";
-
-// A gate that lets every call pass.
-#[derive(Clone, Copy)]
-pub struct Open;
-
-impl<R> Gate<R> for Open {
-    fn visit(&self, _rt: &R, _shard: u8, _number: u64) {}
-}
 
 // A clock that stands still.
 struct Still;
