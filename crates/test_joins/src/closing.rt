@@ -26,36 +26,50 @@ fn last_nonce(
     })
 }
 
+// Versions, fields of a device, and its last nonce or the fault.
+const LAST_NONCES: &[(u64, &str, Result<Option<DevNonce>, RosterFault>)] = &[
+    (1, ",\"slot\":0", Ok(None)),
+    (1, ",\"slot\":0,\"last_nonce\":6", Ok(None)),
+    (1, ",\"slot\":0,\"last_nonce\":65536", Ok(None)),
+    (1, ",\"slot\":0,\"last_nonce\":\"six\"", Ok(None)),
+    (2, ",\"slot\":0", Ok(None)),
+    (2, ",\"slot\":0,\"last_nonce\":null", Ok(None)),
+    (2, ",\"slot\":0,\"last_nonce\":0", Ok(Some(DevNonce(0)))),
+    (
+        2,
+        ",\"slot\":0,\"last_nonce\":65535",
+        Ok(Some(DevNonce(65_535))),
+    ),
+    (
+        2,
+        ",\"slot\":0,\"last_nonce\":65536",
+        Err(RosterFault::Field),
+    ),
+    (2, ",\"slot\":0,\"last_nonce\":-1", Err(RosterFault::Field)),
+    (2, ",\"slot\":0,\"last_nonce\":6.0", Err(RosterFault::Field)),
+    (
+        2,
+        ",\"slot\":0,\"last_nonce\":\"6\"",
+        Err(RosterFault::Field),
+    ),
+    // Of the device's fields, ranges of slots are looked at last.
+    (
+        2,
+        ",\"slot\":2097152,\"last_nonce\":65536",
+        Err(RosterFault::Field),
+    ),
+    (
+        2,
+        ",\"slot\":2097152,\"last_nonce\":65535",
+        Err(RosterFault::Slot),
+    ),
+    (0, ",\"slot\":0", Err(RosterFault::Field)),
+    (3, ",\"slot\":0", Err(RosterFault::Field)),
+];
+
 #[test]
 fn last_nonces_are_read(rt: HostRuntime) -> Result<(), Fail> {
-    let field = Err(RosterFault::Field);
-    for (version, fields, wanted) in [
-        (1, ",\"slot\":0", Ok(None)),
-        (1, ",\"slot\":0,\"last_nonce\":6", Ok(None)),
-        (1, ",\"slot\":0,\"last_nonce\":65536", Ok(None)),
-        (1, ",\"slot\":0,\"last_nonce\":\"six\"", Ok(None)),
-        (2, ",\"slot\":0", Ok(None)),
-        (2, ",\"slot\":0,\"last_nonce\":null", Ok(None)),
-        (2, ",\"slot\":0,\"last_nonce\":0", Ok(Some(DevNonce(0)))),
-        (
-            2,
-            ",\"slot\":0,\"last_nonce\":65535",
-            Ok(Some(DevNonce(65_535))),
-        ),
-        (2, ",\"slot\":0,\"last_nonce\":65536", field),
-        (2, ",\"slot\":0,\"last_nonce\":-1", field),
-        (2, ",\"slot\":0,\"last_nonce\":6.0", field),
-        (2, ",\"slot\":0,\"last_nonce\":\"6\"", field),
-        // Of the device's fields, ranges of slots are looked at last.
-        (2, ",\"slot\":2097152,\"last_nonce\":65536", field),
-        (
-            2,
-            ",\"slot\":2097152,\"last_nonce\":65535",
-            Err(RosterFault::Slot),
-        ),
-        (0, ",\"slot\":0", field),
-        (3, ",\"slot\":0", field),
-    ] {
+    for &(version, fields, wanted) in LAST_NONCES {
         assert_eq!(rt;
             last_nonce(&rt, version, fields)?,
             wanted,

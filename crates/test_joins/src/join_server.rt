@@ -115,25 +115,28 @@ fn one_bit_of_a_join_request(rt: HostRuntime) -> Result<(), Fail> {
     Ok(())
 }
 
+// A text of a JoinReq, and one that makes it none.
+const OTHERS: &[(&str, &str)] = &[
+    (r#""JoinReq""#, r#""JoinAns""#),
+    (r#""MessageType":"#, r#""Type":"#),
+    (r#":"0004"#, r#":"2004"#),
+    (r#":"0004"#, r#":"0104"#),
+    (r#":"0004"#, r#":"04"#),
+    (r#":"000024""#, r#":"24""#),
+    (r#":"49be7df1""#, r#":"be7df1""#),
+    (r#":"49be7df1""#, ":1237220849"),
+    (r#":"00","DevAddr""#, r#":"000","DevAddr""#),
+    (r#""RxDelay":1,"#, r#""RxDelay":16,"#),
+    (r#""RxDelay":1,"#, r#""RxDelay":"1","#),
+    (":1601484516", ":4294967296"),
+    (":1601484516", ":1.5"),
+    (":1601484516", ":null"),
+];
+
 #[test]
 fn takes_no_other_text(rt: HostRuntime) -> Result<(), Fail> {
     let mut server = new_server(&rt)?;
-    for (old, new) in [
-        (r#""JoinReq""#, r#""JoinAns""#),
-        (r#""MessageType":"#, r#""Type":"#),
-        (r#":"0004"#, r#":"2004"#),
-        (r#":"0004"#, r#":"0104"#),
-        (r#":"0004"#, r#":"04"#),
-        (r#":"000024""#, r#":"24""#),
-        (r#":"49be7df1""#, r#":"be7df1""#),
-        (r#":"49be7df1""#, ":1237220849"),
-        (r#":"00","DevAddr""#, r#":"000","DevAddr""#),
-        (r#""RxDelay":1,"#, r#""RxDelay":16,"#),
-        (r#""RxDelay":1,"#, r#""RxDelay":"1","#),
-        (":1601484516", ":4294967296"),
-        (":1601484516", ":1.5"),
-        (":1601484516", ":null"),
-    ] {
+    for &(old, new) in OTHERS {
         let text = changed(&rt, old, new)?;
         assert!(rt;
             matches!(

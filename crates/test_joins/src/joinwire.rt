@@ -95,111 +95,117 @@ fn asks(rt: HostRuntime) -> Result<(), Fail> {
     Ok(())
 }
 
+// JoinAns with both keys.
+const ANSWERS: &[&str] = &[
+    JA,
+    r#"{"AppSKey":{"AESKey":"0xEC925802AE430CA77FD3DD73CB2CC588","KEKLabel":""},"MessageType":"JoinAns","NwkSKey":{"AESKey":"0x44024241ED4CE9A68C6A8BC055233FD3","KEKLabel":""},"PHYPayload":"0x20000102030405060708090A0B0C0D0E0F","Result":{"ResultCode":"Success"},"TransactionID":1}"#,
+    r#" { "TransactionID" : 2, "Lifetime": 3600.5, "Result" : {"Description":"","ResultCode":"Success"},
+        "NwkSKey":{"AESKey":"44024241ED4ce9a68c6a8bc055233fd3"}, "SenderID":null, "TransactionID" : 1,
+        "PHYPayload":"20000102030405060708090a0b0c0d0e0f", "MessageType":"JoinAns",
+        "AppSKey":{"KEKLabel":null,"AESKey":"EC925802ae430ca77fd3dd73cb2cc588"} } "#,
+];
+
 #[test]
 fn takes_answers(rt: HostRuntime) -> Result<(), Fail> {
     assert_eq!(rt; JA.len(), 267);
-    for text in [
-        JA,
-        r#"{"AppSKey":{"AESKey":"0xEC925802AE430CA77FD3DD73CB2CC588","KEKLabel":""},"MessageType":"JoinAns","NwkSKey":{"AESKey":"0x44024241ED4CE9A68C6A8BC055233FD3","KEKLabel":""},"PHYPayload":"0x20000102030405060708090A0B0C0D0E0F","Result":{"ResultCode":"Success"},"TransactionID":1}"#,
-        r#" { "TransactionID" : 2, "Lifetime": 3600.5, "Result" : {"Description":"","ResultCode":"Success"},
-            "NwkSKey":{"AESKey":"44024241ED4ce9a68c6a8bc055233fd3"}, "SenderID":null, "TransactionID" : 1,
-            "PHYPayload":"20000102030405060708090a0b0c0d0e0f", "MessageType":"JoinAns",
-            "AppSKey":{"KEKLabel":null,"AESKey":"EC925802ae430ca77fd3dd73cb2cc588"} } "#,
-    ] {
+    for &text in ANSWERS {
         let found = outcome(&rt, text.as_bytes())?;
         assert_eq!(rt; found.as_str(), "both keys", "{text}");
     }
     Ok(())
 }
 
+// A text of JA, what stands there instead, and what the answer is read as.
+const CHANGES: &[(&str, &str, &str)] = &[
+    ("Success", "MICFailed", "A4 MICFailed"),
+    (r#""TransactionID":1"#, r#""TransactionID":2"#, "A3"),
+    (r#""JoinAns""#, r#""JoinReq""#, "A3"),
+    (r#"3fd3","KEKLabel":"""#, r#"3fd3","KEKLabel":"k1""#, "A6"),
+    (
+        r#"c588","KEKLabel":"""#,
+        r#"c588","KEKLabel":"k1""#,
+        "NwkSKey",
+    ),
+    (
+        r#""ec925802ae430ca77fd3dd73cb2cc588","KEKLabel":"""#,
+        r#""wrapped","KEKLabel":"k1""#,
+        "NwkSKey",
+    ),
+    (
+        r#""AppSKey":{"AESKey":"ec925802ae430ca77fd3dd73cb2cc588","KEKLabel":""}"#,
+        r#""AppSKey":null"#,
+        "NwkSKey",
+    ),
+    (r#""AppSKey""#, r#""Other""#, "NwkSKey"),
+    (r#":"2000"#, r#":"4000"#, "A5"),
+    (r#":"2000"#, r#":"2100"#, "A5"),
+    (r#":"2000"#, r#":"20"#, "A5"),
+    (r#":"2000"#, r#":"0X2000"#, "A5"),
+    (r#":"2000"#, r#":"0x0x2000"#, "A5"),
+    ("0e0f", "0e0g", "A5"),
+    ("3fd3", "3f", "A6"),
+    ("3fd3", "3fdx", "A6"),
+    ("c588", "c5", "A2"),
+    (r#""TransactionID":1"#, r#""TransactionID":1.0"#, "A2"),
+    (
+        r#""TransactionID":1"#,
+        r#""TransactionID":4294967296"#,
+        "A2",
+    ),
+    (r#""TransactionID":1"#, r#""TransactionID":-1"#, "A2"),
+    (r#""TransactionID":1"#, r#""TransactionID":"1""#, "A2"),
+    (r#""JoinAns""#, "null", "A2"),
+    (
+        r#""Result":{"#,
+        r#""Result":{"ResultCode":"MICFailed"},"#,
+        "A1",
+    ),
+    (r#"{"ResultCode":"Success"}"#, r#""Success""#, "A2"),
+    (
+        r#"{"ResultCode":"Success"}"#,
+        r#"{"ResultCode":null}"#,
+        "A2",
+    ),
+    (
+        r#"{"ResultCode":"Success"}"#,
+        r#"{"ResultCode":"Other"},"PHYPayload":0"#,
+        "A4 Other",
+    ),
+    (
+        "Success",
+        "0123456789012345678901234567890\u{e9}",
+        "A4 0123456789012345678901234567890",
+    ),
+    (
+        "Success",
+        "012345678901234567890123456789\u{e9}0",
+        "A4 012345678901234567890123456789\u{e9}",
+    ),
+    (r#""PHYPayload":"#, r#""PHY":"#, "A2"),
+    (r#""NwkSKey":{"#, r#""NwkSKey":null,"Other":{"#, "A2"),
+    (
+        r#":"2000"#,
+        r#":"4000","NwkSKey":{"KEKLabel":""},"Other":""#,
+        "A2",
+    ),
+    (r#"3fd3","KEKLabel":"""#, r#"3fd3","KEKLabel":1"#, "A2"),
+    (
+        r#"3fd3","KEKLabel":"""#,
+        r#"3fd3","KEKLabel":null"#,
+        "both keys",
+    ),
+    (r#"c588","KEKLabel":"""#, r#"c588","KEKLabel":false"#, "A2"),
+    (
+        r#""AESKey":"ec92"#,
+        r#""KEKLabel":"k1","Other":"ec92"#,
+        "A2",
+    ),
+    (r#""AppSKey":{"#, r#""AppSKey":[],"Other":{"#, "A2"),
+];
+
 #[test]
 fn finds_the_first_fault(rt: HostRuntime) -> Result<(), Fail> {
-    for (old, new, want) in [
-        ("Success", "MICFailed", "A4 MICFailed"),
-        (r#""TransactionID":1"#, r#""TransactionID":2"#, "A3"),
-        (r#""JoinAns""#, r#""JoinReq""#, "A3"),
-        (r#"3fd3","KEKLabel":"""#, r#"3fd3","KEKLabel":"k1""#, "A6"),
-        (
-            r#"c588","KEKLabel":"""#,
-            r#"c588","KEKLabel":"k1""#,
-            "NwkSKey",
-        ),
-        (
-            r#""ec925802ae430ca77fd3dd73cb2cc588","KEKLabel":"""#,
-            r#""wrapped","KEKLabel":"k1""#,
-            "NwkSKey",
-        ),
-        (
-            r#""AppSKey":{"AESKey":"ec925802ae430ca77fd3dd73cb2cc588","KEKLabel":""}"#,
-            r#""AppSKey":null"#,
-            "NwkSKey",
-        ),
-        (r#""AppSKey""#, r#""Other""#, "NwkSKey"),
-        (r#":"2000"#, r#":"4000"#, "A5"),
-        (r#":"2000"#, r#":"2100"#, "A5"),
-        (r#":"2000"#, r#":"20"#, "A5"),
-        (r#":"2000"#, r#":"0X2000"#, "A5"),
-        (r#":"2000"#, r#":"0x0x2000"#, "A5"),
-        ("0e0f", "0e0g", "A5"),
-        ("3fd3", "3f", "A6"),
-        ("3fd3", "3fdx", "A6"),
-        ("c588", "c5", "A2"),
-        (r#""TransactionID":1"#, r#""TransactionID":1.0"#, "A2"),
-        (
-            r#""TransactionID":1"#,
-            r#""TransactionID":4294967296"#,
-            "A2",
-        ),
-        (r#""TransactionID":1"#, r#""TransactionID":-1"#, "A2"),
-        (r#""TransactionID":1"#, r#""TransactionID":"1""#, "A2"),
-        (r#""JoinAns""#, "null", "A2"),
-        (
-            r#""Result":{"#,
-            r#""Result":{"ResultCode":"MICFailed"},"#,
-            "A1",
-        ),
-        (r#"{"ResultCode":"Success"}"#, r#""Success""#, "A2"),
-        (
-            r#"{"ResultCode":"Success"}"#,
-            r#"{"ResultCode":null}"#,
-            "A2",
-        ),
-        (
-            r#"{"ResultCode":"Success"}"#,
-            r#"{"ResultCode":"Other"},"PHYPayload":0"#,
-            "A4 Other",
-        ),
-        (
-            "Success",
-            "0123456789012345678901234567890\u{e9}",
-            "A4 0123456789012345678901234567890",
-        ),
-        (
-            "Success",
-            "012345678901234567890123456789\u{e9}0",
-            "A4 012345678901234567890123456789\u{e9}",
-        ),
-        (r#""PHYPayload":"#, r#""PHY":"#, "A2"),
-        (r#""NwkSKey":{"#, r#""NwkSKey":null,"Other":{"#, "A2"),
-        (
-            r#":"2000"#,
-            r#":"4000","NwkSKey":{"KEKLabel":""},"Other":""#,
-            "A2",
-        ),
-        (r#"3fd3","KEKLabel":"""#, r#"3fd3","KEKLabel":1"#, "A2"),
-        (
-            r#"3fd3","KEKLabel":"""#,
-            r#"3fd3","KEKLabel":null"#,
-            "both keys",
-        ),
-        (r#"c588","KEKLabel":"""#, r#"c588","KEKLabel":false"#, "A2"),
-        (
-            r#""AESKey":"ec92"#,
-            r#""KEKLabel":"k1","Other":"ec92"#,
-            "A2",
-        ),
-        (r#""AppSKey":{"#, r#""AppSKey":[],"Other":{"#, "A2"),
-    ] {
+    for &(old, new, want) in CHANGES {
         let text = changed(&rt, old, new)?;
         let found = outcome(&rt, text.as_bytes())?;
         assert_eq!(rt; found.as_str(), want, "{text}");

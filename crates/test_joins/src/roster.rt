@@ -65,82 +65,85 @@ fn reads_roster_a(rt: HostRuntime) -> Result<(), Fail> {
     Ok(())
 }
 
+// Rosters without devices, or with none that is read, and their faults.
+const OUTER: &[(&str, Option<RosterFault>)] = &[
+    ("[", Some(RosterFault::NotJson)),
+    ("{} {}", Some(RosterFault::NotJson)),
+    ("[]", Some(RosterFault::Field)),
+    // No devices, and no list of devices.
+    (
+        r#"{"version":1,"net_id":"200024","rx1_offset":0,"rx_delay":1}"#,
+        Some(RosterFault::Field),
+    ),
+    (
+        r#"{"version":1,"net_id":"200024","rx1_offset":0,"rx_delay":1,"devices":{}}"#,
+        Some(RosterFault::Field),
+    ),
+    (
+        r#"{"version":1,"net_id":"000024","rx1_offset":0,"rx_delay":1,"devices":[]}"#,
+        None,
+    ),
+    (
+        r#"{"version":1,"net_id":"200024","rx1_offset":0,"rx_delay":1,"devices":[0]}"#,
+        Some(RosterFault::NetId),
+    ),
+    // Null counts as missing, and an unknown field is ignored.
+    (
+        r#"{"version":1,"net_id":"000024","rx1_offset":0,"rx_delay":null,"devices":[]}"#,
+        Some(RosterFault::Field),
+    ),
+    (
+        r#"{"version":1,"net_id":"000024","rx1_offset":0,"rx_delay":1,"devices":[],"more":null}"#,
+        None,
+    ),
+    // Of equal keys the last one counts.
+    (
+        r#"{"version":3,"net_id":"000024","rx1_offset":0,"rx_delay":1,"devices":[],"version":1}"#,
+        None,
+    ),
+    (
+        r#"{"version":1,"net_id":"000024","rx1_offset":0,"rx_delay":1,"devices":[],"version":3}"#,
+        Some(RosterFault::Field),
+    ),
+    // Numbers that are not whole, or out of range.
+    (
+        r#"{"version":1.0,"net_id":"000024","rx1_offset":0,"rx_delay":1,"devices":[]}"#,
+        Some(RosterFault::Field),
+    ),
+    (
+        r#"{"version":1,"net_id":"000024","rx1_offset":6,"rx_delay":1,"devices":[]}"#,
+        Some(RosterFault::Field),
+    ),
+    (
+        r#"{"version":1,"net_id":"000024","rx1_offset":-0,"rx_delay":1,"devices":[]}"#,
+        Some(RosterFault::Field),
+    ),
+    (
+        r#"{"version":1,"net_id":"000024","rx1_offset":0,"rx_delay":16,"devices":[]}"#,
+        Some(RosterFault::Field),
+    ),
+    // Hex text: 0x once, and not 0X; six digits.
+    (
+        r#"{"version":1,"net_id":"0x0000aB","rx1_offset":0,"rx_delay":1,"devices":[]}"#,
+        None,
+    ),
+    (
+        r#"{"version":1,"net_id":"0X000024","rx1_offset":0,"rx_delay":1,"devices":[]}"#,
+        Some(RosterFault::Field),
+    ),
+    (
+        r#"{"version":1,"net_id":"0x0x000024","rx1_offset":0,"rx_delay":1,"devices":[]}"#,
+        Some(RosterFault::Field),
+    ),
+    (
+        r#"{"version":1,"net_id":"24","rx1_offset":0,"rx_delay":1,"devices":[]}"#,
+        Some(RosterFault::Field),
+    ),
+];
+
 #[test]
 fn outer_faults(rt: HostRuntime) -> Result<(), Fail> {
-    for (text, wanted) in [
-        ("[", Some(RosterFault::NotJson)),
-        ("{} {}", Some(RosterFault::NotJson)),
-        ("[]", Some(RosterFault::Field)),
-        // No devices, and no list of devices.
-        (
-            r#"{"version":1,"net_id":"200024","rx1_offset":0,"rx_delay":1}"#,
-            Some(RosterFault::Field),
-        ),
-        (
-            r#"{"version":1,"net_id":"200024","rx1_offset":0,"rx_delay":1,"devices":{}}"#,
-            Some(RosterFault::Field),
-        ),
-        (
-            r#"{"version":1,"net_id":"000024","rx1_offset":0,"rx_delay":1,"devices":[]}"#,
-            None,
-        ),
-        (
-            r#"{"version":1,"net_id":"200024","rx1_offset":0,"rx_delay":1,"devices":[0]}"#,
-            Some(RosterFault::NetId),
-        ),
-        // Null counts as missing, and an unknown field is ignored.
-        (
-            r#"{"version":1,"net_id":"000024","rx1_offset":0,"rx_delay":null,"devices":[]}"#,
-            Some(RosterFault::Field),
-        ),
-        (
-            r#"{"version":1,"net_id":"000024","rx1_offset":0,"rx_delay":1,"devices":[],"more":null}"#,
-            None,
-        ),
-        // Of equal keys the last one counts.
-        (
-            r#"{"version":3,"net_id":"000024","rx1_offset":0,"rx_delay":1,"devices":[],"version":1}"#,
-            None,
-        ),
-        (
-            r#"{"version":1,"net_id":"000024","rx1_offset":0,"rx_delay":1,"devices":[],"version":3}"#,
-            Some(RosterFault::Field),
-        ),
-        // Numbers that are not whole, or out of range.
-        (
-            r#"{"version":1.0,"net_id":"000024","rx1_offset":0,"rx_delay":1,"devices":[]}"#,
-            Some(RosterFault::Field),
-        ),
-        (
-            r#"{"version":1,"net_id":"000024","rx1_offset":6,"rx_delay":1,"devices":[]}"#,
-            Some(RosterFault::Field),
-        ),
-        (
-            r#"{"version":1,"net_id":"000024","rx1_offset":-0,"rx_delay":1,"devices":[]}"#,
-            Some(RosterFault::Field),
-        ),
-        (
-            r#"{"version":1,"net_id":"000024","rx1_offset":0,"rx_delay":16,"devices":[]}"#,
-            Some(RosterFault::Field),
-        ),
-        // Hex text: 0x once, and not 0X; six digits.
-        (
-            r#"{"version":1,"net_id":"0x0000aB","rx1_offset":0,"rx_delay":1,"devices":[]}"#,
-            None,
-        ),
-        (
-            r#"{"version":1,"net_id":"0X000024","rx1_offset":0,"rx_delay":1,"devices":[]}"#,
-            Some(RosterFault::Field),
-        ),
-        (
-            r#"{"version":1,"net_id":"0x0x000024","rx1_offset":0,"rx_delay":1,"devices":[]}"#,
-            Some(RosterFault::Field),
-        ),
-        (
-            r#"{"version":1,"net_id":"24","rx1_offset":0,"rx_delay":1,"devices":[]}"#,
-            Some(RosterFault::Field),
-        ),
-    ] {
+    for &(text, wanted) in OUTER {
         assert_eq!(rt; fault(&rt, text), wanted, "{text}");
     }
     assert_eq!(rt;
