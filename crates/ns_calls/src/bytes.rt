@@ -1,14 +1,14 @@
 //! Byte strings of bounded length that lie in the value itself, so that calls and entries are of fixed size and can be copied.
 
-ghost use Rattle.std.specs.Prelude.{◌≡◌, ◌≤◌, ◌-◌, length, take, drop, replicate};
+ghost use Rattle.std.specs.Prelude.{◌≡◌, ◌≤◌, length};
 
 use std::marker::Model;
 
 /// At most `N` bytes, for `N` up to 255. Contracts see the list of them.
 #[derive(Clone, Copy, PartialEq, Eq)]
 pub struct Bytes<const N: usize> {
-    len: u8,
-    room: [u8; N],
+    pub(crate) len: u8,
+    pub(crate) room: [u8; N],
 }
 
 impl<const N: usize> Model for Bytes<N> {
@@ -39,19 +39,6 @@ impl<const N: usize> Bytes<N> {
         room[..bytes.len()].copy_from_slice(bytes);
         Bytes {
             len: bytes.len() as u8,
-            room,
-        }
-    }
-
-    /// The bytes at the front of a room that has 0 behind them.
-    pub(crate) fn in_room(room: [u8; N], len: usize) -> Self
-        requires fits { len ≤ N }
-        requires short { len ≤ 255 }
-        requires rest { drop len room ≡ replicate (N - len) 0 }
-        ensures { result ≡ take len room.entry }
-    {
-        Bytes {
-            len: len as u8,
             room,
         }
     }

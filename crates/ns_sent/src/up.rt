@@ -18,18 +18,15 @@ fn key_of(entries: &[Entry], opened: &Opened) -> Option<Key>
     payload_key(opened.frame.view().fport(), join.nwk, join.app)
 }
 
-// The uplink of an open window.
+// The uplink of an open window. A copy of its frame is deciphered.
 fn uplink_from(entries: &[Entry], opened: &Opened) -> Uplink
     requires { length (window_copies entries.now opened.now.window) ≤ most_copies }
     ensures { result ≡ uplink_of entries.now (opening opened.now) }
 {
+    let mut frame = opened.frame;
     let copies = window_copies(entries, &opened.window);
-    Uplink::under(
-        opened.window,
-        &opened.frame,
-        copies,
-        key_of(entries, opened),
-    )
+    let key = key_of(entries, opened);
+    Uplink::under(opened.window, &mut frame, copies, key)
 }
 
 // The same, where this is the first window of its uplink.

@@ -8,13 +8,13 @@ use ns_roster::Roster;
 use ns_sent::acknowledgement;
 use ns_windows::Window;
 
-// The uplink of a window.
-fn uplink_from(window: Window) -> Uplink
+// The uplink of a window, whose own frame is deciphered.
+fn uplink_from(mut window: Window) -> Uplink
     ensures { result ≡ uplink_from window }
 {
     let key = payload_key(window.frame.view().fport(), window.nwk, window.app);
     let copies = window.copies;
-    Uplink::under(window.name, &window.frame, copies, key)
+    Uplink::under(window.name, &mut window.frame, copies, key)
 }
 
 /// The uplink of a window that was closed, if any, where it is the first of its rounds.

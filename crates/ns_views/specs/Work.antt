@@ -2,6 +2,7 @@
 use Rattle.std.specs.Prelude.{◌≡◌, ℕ, List, length}
 use Rattle.std.specs.Borrow.{Bor, MutBor}
 use Rattle.std.specs.Fn.{Once}
+use Rattle.ns_views.specs.Grammar.{IsDataUplink}
 use Rattle.ns_views.specs.Frame.{data_fields}
 use Rattle.ns_views.specs.Parts.{header, with_payload}
 
@@ -43,9 +44,11 @@ pub record GivesAndWrites {F R : Type 0} (g : Once F Lent (Left R)) (work : F) (
   pub met : g.post work lent (left_of r payload)
   pub is : payload.now ≡ written
 
--- a call of `work` at the parts of the frame may give r, and the frame after it has the payload that was written, of the same length
+-- a call of `work` at the parts of the frame may give r, and the frame after it has the payload that was written, of the same length: it is
+-- a data uplink with that payload, and else the same fields
 pub record WorksOnParts {F R : Type 0} (g : Once F Lent (Left R)) (work : F) (bytes : List ℕ) (r : R) (after : List ℕ) : Type 0 where
   pub written : List ℕ
   pub call : GivesAndWrites g work bytes r written
   pub same_length : length written ≡ length (data_fields bytes).payload
   pub frame : after ≡ with_payload bytes written
+  pub uplink : IsDataUplink after (record (data_fields bytes) { payload = written })

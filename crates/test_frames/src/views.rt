@@ -1,7 +1,7 @@
 //! Frames of which another program or the standard says how they read.
 
 use ns_types::{DevAddr, DevEui, DevNonce, JoinEui, Mic};
-use ns_views::{DataView, JoinView, PhyView, ViewFault, parts_mut, view};
+use ns_views::{DataView, JoinView, PhyView, ViewFault, known_parts_mut, parts_mut, view};
 use std::process::Abort;
 
 /// An Unconfirmed Data Up with port 1 and four bytes of payload.
@@ -219,6 +219,23 @@ fn writes_the_payload(rt: HostRuntime) {
     assert_eq!(rt; lent, Ok((8, 0, 4)));
     let mut expected = UPLINK;
     expected[9..13].copy_from_slice(&[0x6a, 0xbc, 0x87, 0x89]);
+    assert_eq!(rt; frame, expected);
+}
+
+#[test]
+fn writes_the_payload_of_a_known_frame(rt: HostRuntime) {
+    let mut frame = UPLINK;
+    let Ok(PhyView::Frame(_)) = view(&frame) else {
+        assert!(rt; false, "the frame is a data uplink");
+        return;
+    };
+    let lent = known_parts_mut(&mut frame, |header, options, payload| {
+        payload.fill(0xff);
+        (header.len(), options.len(), payload.len())
+    });
+    assert_eq!(rt; lent, (8, 0, 4));
+    let mut expected = UPLINK;
+    expected[9..13].fill(0xff);
     assert_eq!(rt; frame, expected);
 }
 

@@ -25,6 +25,11 @@ const FRAME: [u8; 17] = [
     0x40, 0xf1, 0x7d, 0xbe, 0x49, 0, 2, 0, 1, 0x95, 0x43, 0x78, 0x76, 0x2b, 0x11, 0xff, 0x0d,
 ];
 
+// The key of its payload.
+const APP_S_KEY: Key = Key([
+    0xec, 0x92, 0x58, 0x02, 0xae, 0x43, 0x0c, 0xa7, 0x7f, 0xd3, 0xdd, 0x73, 0xcb, 0x2c, 0xc5, 0x88,
+]);
+
 const EUI: DevEui = DevEui(0x0d);
 
 const WINDOW: WindowName = WindowName {
@@ -293,4 +298,17 @@ fn frames_and_shards(rt: HostRuntime) -> Result<(), Fail> {
     assert!(rt; JoinAccept::of(&[0; 33]) == Some(JoinAccept::WithChannels([0; 33])));
     assert!(rt; JoinAccept::of(&ACCEPT[1..]) == None);
     Ok(())
+}
+
+#[test]
+fn payload_is_deciphered_where_it_stands(rt: HostRuntime) {
+    let Ok(PhyView::Frame(shown)) = view(&FRAME) else {
+        assert!(rt; false, "the frame is a data uplink");
+        return;
+    };
+    let mut frame = DataFrame::of(&shown);
+    frame.decipher_payload(&APP_S_KEY, 2);
+    let mut expected = FRAME;
+    expected[9..13].copy_from_slice(b"test");
+    assert!(rt; frame.bytes() == &expected[..]);
 }
