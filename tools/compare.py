@@ -403,7 +403,7 @@ class Steps:
 class Options:
     def __init__(self, arguments):
         self.program, self.runs, self.seed, self.steps = None, 100, 0, 200
-        self.served, self.downlinks, self.closing, self.keep = model.SERVED, True, False, None
+        self.served, self.downlinks, self.closing, self.keep = model.STAGES, True, False, None
         words = iter(arguments)
         for word in words:
             if word in ('--runs', '--seed', '--steps'):

@@ -6,12 +6,12 @@
     model.py --short-selftest      the same without the run to the last counter
 
     --served WORDS     the steps that are served, parted by commas: joins, answers,
-                       uplinks, rounds, versions. Default: all but versions.
+                       uplinks, rounds, versions. Default: all.
                        A step that is not served prints `refused line`.
                        `rounds`: a confirmed uplink that is sent again is acknowledged
                        again. `versions`: rosters of version 2 with `last_nonce`.
     --no-downlinks     no acknowledgement numbers and no `down` lines
-    --closing          prints the closing roster behind all lines (with `versions`)
+    --closing          prints the closing roster behind all lines
     --own-aes          does not use the package `cryptography` where it is present
 
 It is written from the formats and rules of the project and from the standards
@@ -413,7 +413,6 @@ class Window:
 
 HEX = re.compile(rb'[0-9a-fA-F]+')
 STAGES = ('joins', 'answers', 'uplinks', 'rounds', 'versions')
-SERVED = STAGES[:4]
 REFUSED = ['refused line']
 
 
@@ -426,7 +425,7 @@ def number_of(word):
 
 
 class Server:
-    def __init__(self, roster, served=SERVED, downlinks=True):
+    def __init__(self, roster, served=STAGES, downlinks=True):
         self.roster, self.served, self.downlinks = roster, served, downlinks
         self.by_frame = {}     # open windows by the bytes of their frame
 
@@ -622,7 +621,7 @@ def step_lines(text):
     return lines
 
 
-def replay(roster_text, text, served=SERVED, downlinks=True,
+def replay(roster_text, text, served=STAGES, downlinks=True,
            closing=False):
     """What `replay` prints, as a list of (step line or None, printed lines)."""
     server = Server(Roster(roster_text, 'versions' in served), served, downlinks)
@@ -633,7 +632,7 @@ def replay(roster_text, text, served=SERVED, downlinks=True,
 
 
 def main(arguments):
-    served, downlinks, closing, files, test, long = SERVED, True, False, [], False, True
+    served, downlinks, closing, files, test, long = STAGES, True, False, [], False, True
     words = iter(arguments)
     for word in words:
         if word == '--served':

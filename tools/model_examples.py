@@ -53,7 +53,7 @@ class Check:
     failures = 0
     count = 0
 
-    def __init__(self, title, roster=ROSTER, served=model.SERVED, **more):
+    def __init__(self, title, roster=ROSTER, served=model.STAGES, **more):
         self.title = title
         self.server = model.Server(model.Roster(roster, 'versions' in served), served, **more)
 
