@@ -386,10 +386,17 @@ def tell(line):
 # ---------------------------------------------------------------- the command line
 
 def address(text):
-    host, colon, port = text.rpartition(':')
-    if not colon or not re.fullmatch('[0-9]{1,5}', port) or int(port) > 65535:
-        raise argparse.ArgumentTypeError('no host:port: ' + text)
-    return host.strip('[]'), int(port)
+    """Host and port of `host:port`; raises ValueError."""
+    host, _, port = text.rpartition(':')
+    host = host.strip('[]')
+    if not host or not re.fullmatch('[0-9]{1,5}', port) or int(port) > 65535:
+        raise ValueError('no host:port: ' + text)
+    return host, int(port)
+
+
+def written(where):
+    """A socket's address as `host:port`."""
+    return ('[%s]:%d' if ':' in where[0] else '%s:%d') % where[:2]
 
 
 def positive(text):
@@ -424,18 +431,22 @@ def arguments(words):
 
 def main(words):
     options = arguments(words)
-    forwarders, where = udp(options.listen)
-    forwarders.bind(where)
     servers = []
-    for place in options.serve:
-        server, where = udp(place)
-        server.connect(where)
-        servers.append(server)
-    record = open(options.record, 'a', encoding='utf-8') if options.record else None
+    try:
+        forwarders, where = udp(options.listen)
+        forwarders.bind(where)
+        for place in options.serve:
+            server, where = udp(place)
+            server.connect(where)
+            servers.append(server)
+        record = open(options.record, 'a', encoding='utf-8') if options.record else None
+    except OSError as why:
+        print('cannot begin: %s' % why, file=sys.stderr)
+        return 1
     stopped = []
     for name in (signal.SIGINT, signal.SIGTERM):
         signal.signal(name, lambda *_: stopped.append(True))
-    print('listening %s:%d' % forwarders.getsockname()[:2], flush=True)
+    print('listening ' + written(forwarders.getsockname()), flush=True)
     end = time.monotonic() + options.seconds if options.seconds > 0 else math.inf
     bridge = Bridge(forwarders, servers, options.power, options.gateways, record)
     bridge.run(lambda: bool(stopped) or time.monotonic() >= end, options.every)

@@ -6,28 +6,33 @@
     KEYS                a file with a device a line: its DevEUI in 16 and its AppKey in 32 hex digits; # begins a comment
     --listen ADDR       TCP, host:port (default 127.0.0.1:8080); it prints `listening ADDR` once it listens
     --record FILE       appends each answer to FILE as a line that recorded_to_steps.py reads. It holds session keys
-    --first-nonce N     JoinNonce of the first Join-Accept, 1 (the default) to 16777215; it rises by one with each
+    --first-nonce N     JoinNonce of each device's first Join-Accept, 1 to 16777215; it rises by one with each of the
+                        device. By default it is made from the clock, one more every 8 seconds until April 2030: a device takes
+                        no JoinNonce that is not above its last, and this program forgets them as it ends
     --seconds SECONDS   ends after this time (default 0: never)
 
 It answers each JoinReq that is POSTed to it: `Success` with the Join-Accept and the session keys in clear, `MICFailed`
 where the Join-Request's MIC does not fit, `Other` for a device that it does not know; a text that is no JoinReq gets
 status 400. Formulas: LoRaWAN L2 1.0.4, section 6.2; AES and CMAC are those of the package `cryptography`
-(`apt-get install python3-cryptography`), or slow ones of this folder where it is not there. It is for trials: it keeps no DevNonces and no state on disk, so after a
-restart its JoinNonces begin again, and it speaks plain HTTP and wraps no keys, so let it be reached from its own
-machine only. The interrupt and termination signals end it with status 0.
+(`apt-get install python3-cryptography`), or slow ones of this folder where it is not there. It is for trials: it keeps
+no DevNonces and no state on disk, speaks plain HTTP and wraps no keys, so let it be reached from its own machine only.
+The interrupt and termination signals end it with status 0.
 """
 import argparse
 import http.server
 import json
 import re
 import signal
+import socket
 import sys
 import threading
 import time
 
 import aes_cmac
+from forwarder_bridge import address, written
 
 MOST_BODY, LAST_NONCE = 65536, 0xFFFFFF
+YEAR_2026, NONCE_SECONDS = 1767225600, 8
 
 
 # ---------------------------------------------------------------- JoinReq
@@ -84,11 +89,12 @@ class JoinServer:
     """Answers JoinReqs. The AppKeys are 16 bytes by the DevEUI's 8; its calls may come from several threads."""
 
     def __init__(self, keys, first_nonce=1, record=None):
-        self.keys, self.next_nonce, self.record, self.lock = keys, first_nonce, record, threading.Lock()
+        self.keys, self.first_nonce, self.record, self.lock = keys, first_nonce, record, threading.Lock()
+        self.next_nonces = {}
 
-    def take_nonce(self):
-        nonce = self.next_nonce
-        self.next_nonce = 1 if nonce == LAST_NONCE else nonce + 1
+    def take_nonce(self, eui):
+        nonce = self.next_nonces.get(eui, self.first_nonce)
+        self.next_nonces[eui] = 1 if nonce == LAST_NONCE else nonce + 1
         return nonce
 
     def answer(self, text):
@@ -100,7 +106,7 @@ class JoinServer:
             if key is not None and aes_cmac.of(key).mic(request.ticket[:19]) != request.ticket[19:]:
                 answer['Result']['ResultCode'] = 'MICFailed'
             elif key is not None:
-                accept, nwk, app = granted(request, key, self.take_nonce())
+                accept, nwk, app = granted(request, key, self.take_nonce(request.eui))
                 answer['Result']['ResultCode'] = 'Success'
                 answer['PHYPayload'] = accept.hex()
                 answer['NwkSKey'] = {'AESKey': nwk.hex(), 'KEKLabel': ''}
@@ -151,9 +157,18 @@ class Handler(http.server.BaseHTTPRequestHandler):
         self.wfile.write(told)
 
 
+def nonce_of_clock(now):
+    """A first JoinNonce above those of a run that began before, by the seconds since 1970."""
+    return int(now - YEAR_2026) // NONCE_SECONDS % LAST_NONCE + 1
+
+
 class Listener(http.server.ThreadingHTTPServer):
     daemon_threads = True
     request_queue_size = 128
+
+    def __init__(self, where, handler):
+        self.address_family = socket.AF_INET6 if ':' in where[0] else socket.AF_INET
+        super().__init__(where, handler)
 
     def handle_error(self, request, client_address):
         print('%s:%d: %s' % (*client_address[:2], sys.exc_info()[1]), file=sys.stderr)
@@ -167,22 +182,26 @@ def listener(where, join_server):
 def main(words):
     parser = argparse.ArgumentParser(description=__doc__, formatter_class=argparse.RawDescriptionHelpFormatter)
     parser.add_argument('keys', metavar='KEYS')
-    parser.add_argument('--listen', default='127.0.0.1:8080', metavar='ADDR')
+    parser.add_argument('--listen', type=address, default='127.0.0.1:8080', metavar='ADDR')
     parser.add_argument('--record', metavar='FILE')
-    parser.add_argument('--first-nonce', type=int, default=1, metavar='N')
+    parser.add_argument('--first-nonce', type=int, default=nonce_of_clock(time.time()), metavar='N')
     parser.add_argument('--seconds', type=float, default=0, metavar='SECONDS')
     options = parser.parse_args(words)
-    host, _, port = options.listen.rpartition(':')
-    if not re.fullmatch('[0-9]{1,5}', port) or not 1 <= options.first_nonce <= LAST_NONCE:
-        parser.error('--listen wants host:port, --first-nonce 1 to %d' % LAST_NONCE)
+    if not 1 <= options.first_nonce <= LAST_NONCE:
+        parser.error('--first-nonce: 1 to %d' % LAST_NONCE)
     try:
         with open(options.keys, encoding='utf-8') as file:
             keys = keys_of(file.read())
     except (OSError, ValueError) as why:
         print('keys: %s' % why, file=sys.stderr)
         return 1
-    record = open(options.record, 'a', encoding='utf-8') if options.record else None
-    with listener((host, int(port)), JoinServer(keys, options.first_nonce, record)) as server:
+    try:
+        record = open(options.record, 'a', encoding='utf-8') if options.record else None
+        server = listener(options.listen, JoinServer(keys, options.first_nonce, record))
+    except OSError as why:
+        print('cannot begin: %s' % why, file=sys.stderr)
+        return 1
+    with server:
         stop = lambda *_: threading.Thread(target=server.shutdown).start()
         for name in (signal.SIGINT, signal.SIGTERM):
             signal.signal(name, stop)
@@ -190,7 +209,7 @@ def main(words):
             timer = threading.Timer(options.seconds, server.shutdown)
             timer.daemon = True
             timer.start()
-        print('listening %s:%d' % server.server_address[:2], flush=True)
+        print('listening ' + written(server.server_address), flush=True)
         server.serve_forever(0.2)
     return 0
 

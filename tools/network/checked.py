@@ -13,6 +13,7 @@ from network.nodes import CHANNELS, JOIN_DELAY, NET_ID, Copy, Down, Gateway, Nod
 MOST_JOINS = 64         # Join-Requests that wait for their answer at a time
 MOST_AT_ONCE = 4        # of them sent one after the other, since the system keeps some 250 datagrams for a socket that is not read
 MOST_OPEN = 6           # uplinks of a device within a window's time; the server takes eight
+APART = 0.1             # seconds between two uplinks of a device at least, since of two workers the one may overtake the other
 GRACE = 2.0             # seconds after which what has not come is missing, beside the window
 PATIENCE = 6.0          # seconds after which a device sends its next Join-Request
 MOST_TRIES = 4          # Join-Requests of a device that must be answered
@@ -103,13 +104,19 @@ class Run:
         while self.next_at <= now and self.joined and self.has_more(now):
             node = self.joined[0]
             self.joined.rotate(-1)
-            if len(node.sent_at) == MOST_OPEN and now - node.sent_at[0] < self.options.window / 1000 + 0.5:
+            if self.is_soon(node, now):
                 self.skipped += 1
                 if self.skipped >= len(self.joined):
                     self.next_at, self.skipped = now + 0.01, 0
                 continue
             self.skipped, self.next_at = 0, max(self.next_at + 1 / self.options.rate, now - 0.2)
             self.send_one(node, now)
+
+    def is_soon(self, node, now):
+        """Whether the device has sent too much, or too lately, to send now."""
+        sent_at = node.sent_at
+        return (len(sent_at) == MOST_OPEN and now - sent_at[0] < self.options.window / 1000 + 0.5
+                or bool(sent_at) and now - sent_at[-1] < APART)
 
     def send_one(self, node, now):
         frame = node.next_frame(self.options.confirmed)

@@ -11,17 +11,10 @@ import threading
 import time
 
 import join_server
+from forwarder_bridge import address
 
 LONGEST = 30        # seconds that a program that is started has to say where it listens
 MODES = 'right', 'silent', 'right', 'slow', 'right', 'early', 'right', 'refusing', 'right', 'garbage', 'right', 'absent'
-
-
-def address(text):
-    """Host and port of `host:port`; raises ValueError."""
-    host, _, port = text.rpartition(':')
-    if not host or not re.fullmatch('[0-9]{1,5}', port) or int(port) > 65535:
-        raise ValueError('no host:port: %s' % text)
-    return host.strip('[]'), int(port)
 
 
 class NotServing(Exception):

@@ -2,11 +2,14 @@
 import json
 import os
 import socket
+import subprocess
+import sys
 import tempfile
+import time
 import unittest
 from concurrent.futures import ThreadPoolExecutor
 
-from live import (APP_KEY, HAS_PROGRAM, JOIN_EUI, PROGRAM, SLOT, ended, join_req, posted, replayed, roster_of, started)
+from live import (APP_KEY, HAS_PROGRAM, JOIN_EUI, LONGEST, PROGRAM, SLOT, ended, join_req, posted, replayed, roster_of, started)
 
 from device import Device, WrongAccept
 import join_server
@@ -42,6 +45,20 @@ class Answers(unittest.TestCase):
         server = join_server.JoinServer(KEYS, first_nonce=0xFFFFFF)
         self.assertEqual(server.answer(ASKED_1), ANSWER_LAST)
         self.assertEqual(server.answer(ASKED_1), ANSWER_1)
+
+    def test_each_device_has_its_nonces(self):
+        server = join_server.JoinServer({**KEYS, (14).to_bytes(8, 'big'): APP_KEY})
+        devices = [Device(eui, JOIN_EUI, APP_KEY) for eui in (13, 14)]
+        for nonce in range(1, 4):
+            for device in devices:
+                answer = server.answer(join_req(device.join_request(nonce), 36 << 25 | device.eui << 21 | SLOT, device.eui))
+                device.accept(bytes.fromhex(json.loads(answer)['PHYPayload']))
+                self.assertEqual(device.join_nonce, nonce)
+
+    def test_nonce_of_clock(self):
+        of = join_server.nonce_of_clock
+        self.assertEqual([of(1767225600), of(1767225607), of(1767225608)], [1, 1, 2])
+        self.assertEqual([of(1767225600 + 8 * (0xFFFFFF - 1)), of(1767225600 + 8 * 0xFFFFFF)], [0xFFFFFF, 1])
 
     def test_refusals_take_no_nonce(self):
         server = join_server.JoinServer(KEYS)
@@ -83,8 +100,9 @@ class Over(unittest.TestCase):
         with open(keys, 'w', encoding='utf-8') as file:
             file.writelines('%016x %s\n' % (eui, APP_KEY.hex()) for eui in range(1, 17))
         self.record = os.path.join(self.folder.name, 'record')
-        self.child, self.where = started([keys, '--listen', '127.0.0.1:0', '--record', self.record, '--seconds', '120'],
-                                         'join_server.py')
+        self.keys = keys
+        self.child, self.where = started([keys, '--listen', '127.0.0.1:0', '--record', self.record, '--seconds', '120',
+                                          '--first-nonce', '1'], 'join_server.py')
 
     def tearDown(self):
         if self.child.poll() is None:
@@ -101,6 +119,20 @@ class Over(unittest.TestCase):
         self.assertEqual((line['ticket'], line['answer']), ('0004030201040302010d000000000000000100e4b6745f', ANSWER_1))
         self.assertEqual(ended(self.child)[0], 0)
 
+    def test_begins_by_the_clock(self):
+        """Without --first-nonce, over IPv6 too; a second one at the same address does not begin."""
+        child, (host, port) = started([self.keys, '--listen', '[::1]:0', '--seconds', '60'], 'join_server.py')
+        device, before = Device(13, JOIN_EUI, APP_KEY), join_server.nonce_of_clock(time.time() - 30)
+        _, body = posted((host.strip('[]'), port), join_req(device.join_request(1), 36 << 25 | 13 << 21 | SLOT, 13))
+        device.accept(bytes.fromhex(json.loads(body)['PHYPayload']))
+        self.assertIn(device.join_nonce - before, range(6))
+        for where in ('[::1]:%d' % port, ':0', '0', '127.0.0.1:65536'):
+            second = subprocess.run([sys.executable, join_server.__file__, self.keys, '--listen', where],
+                                    capture_output=True, text=True, timeout=LONGEST)
+            self.assertEqual((second.returncode, second.stdout), (1 if where[0] == '[' else 2, ''))
+            self.assertNotIn('Traceback', second.stderr)
+        self.assertEqual(ended(child)[0], 0)
+
     def test_odd_clients(self):
         """A client that is silent, one that ends early and one that is no client of HTTP stop nobody."""
         silent = socket.create_connection(self.where)
@@ -111,12 +143,12 @@ class Over(unittest.TestCase):
         silent.close()
 
     def test_many_at_once(self):
-        """Sixteen devices ask at once: each Join-Accept is taken by its device, and no JoinNonce comes twice."""
+        """Sixteen devices ask at once: each Join-Accept is taken by its device, and no two have the same keys."""
         devices = [Device(eui, JOIN_EUI, APP_KEY) for eui in range(1, 17)]
 
         def joined(device):
             address = 36 << 25 | device.eui % 16 << 21 | SLOT
-            status, body = posted(self.where, join_req(device.join_request(7), address, device.eui))
+            status, body = posted(self.where, join_req(device.join_request(device.eui), address, device.eui))
             answer = json.loads(body)
             device.accept(bytes.fromhex(answer['PHYPayload']))
             self.assertEqual((status, device.address), (200, address.to_bytes(4, 'little')))
