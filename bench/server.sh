@@ -15,7 +15,7 @@ program="$here/../crates/bench_server/out/bench_server"
 (cd "$here/../crates/bench_server" && rt run --jobs 2 > "$work/build" 2>&1) || { cat "$work/build"; exit 1; }
 if [ "${1:-}" = --instructions ]; then
     count() { valgrind --tool=callgrind --callgrind-out-file="$work/$1" "$program" 256 8 1 "$1" 2>&1 > "$work/lines" | awk '/Collected/ {print $NF}'; }
-    calls=$("$program" 256 8 1 none 2> "$work/times" | head -1 | cut -d' ' -f1)
+    calls=$("$program" 256 8 1 none 2> "$work/times" | awk 'NR == 1 {print $1}')
     none=$(count none) apply=$(count apply) server=$(count server)
     awk -v n="$calls" -v none="$none" -v apply="$apply" -v server="$server" 'BEGIN {
         printf "%d calls: %.0f instructions each by apply, %.0f by the server, ratio %.2f\n", n, (apply - none) / n, (server - none) / n, (server - none) / (apply - none) }'

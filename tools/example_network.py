@@ -34,9 +34,11 @@ is slow, which a handful of devices does not mind. The benchmarks under bench/ s
 import argparse
 import json
 import os
+import signal
 import sys
 import tempfile
 
+from forwarder_bridge import written
 from network import nodes
 from network.checked import Run, told
 from network.servers import Joins, NotServing, Serve, address
@@ -142,12 +144,16 @@ def shown(options):
     say = (lambda *_: None) if options.quiet else lambda text, *values: print(text % values, flush=True)
     keys = {eui.to_bytes(8, 'big'): nodes.app_key(options.seed, eui) for eui in range(options.devices)}
     with tempfile.TemporaryDirectory() as folder:
-        joins = Joins(options.join, keys, options.join_faults)
+        try:
+            joins = Joins(options.join, keys, options.join_faults)
+        except OSError as why:
+            print('cannot listen at %s: %s' % (written(options.join), why.strerror), file=sys.stderr)
+            return 1
         serve = run = None
         try:
             serve = Running(options.serve) if options.serve else started(options, folder, joins.where)
-            print('server at %s:%d, join server at %s:%d, %d devices, %d gateways\n' % (
-                *serve.where, *joins.where, options.devices, options.gateways), flush=True)
+            print('server at %s, join server at %s, %d devices, %d gateways\n' % (
+                written(serve.where), written(joins.where), options.devices, options.gateways), flush=True)
             run = Run(options, serve, say)
             run.run()
             if serve.child:
@@ -170,6 +176,8 @@ def main(words):
         with open(options.roster, 'w', encoding='utf-8') as file:
             json.dump(nodes.roster(options.devices, options.rx1_offset, options.rx_delay), file)
         return 0
+    # A termination ends what was started, too.
+    signal.signal(signal.SIGTERM, lambda *_: sys.exit(1))
     return shown(options)
 
 

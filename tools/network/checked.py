@@ -208,6 +208,8 @@ class Run:
         node.sessions += 1
         if is_late or sent not in self.joining:
             self.counts['join_accepts_too_late'] += 1
+            if sent.at < node.asked_at:
+                self.count_session_before(node)
             return
         self.joining.remove(sent)
         try:
@@ -219,12 +221,22 @@ class Run:
         told = device.address, device.net_id, device.settings, device.delay
         if told != (address_of(node.eui), NET_ID, 16 * self.options.rx1_offset, self.options.rx_delay):
             self.fault('device %016x: wrong fields in its Join-Accept', node.eui)
-        node.sent_at = collections.deque(maxlen=MOST_OPEN)
+        node.sent_at, node.asked_at = collections.deque(maxlen=MOST_OPEN), sent.at
         self.joined.append(node)
         self.counts['joined'] += 1
         self.delays['Join-Accept'].append(now - sent.at)
         self.say('joined        %016x  address %s  by gateway %s, %.1f MHz DR%d, 5 s after it heard; told after %.0f ms',
                  node.eui, device.address[::-1].hex(), down.gateway.hex(), down.hertz / 1e6, down.rate, 1000 * (now - sent.at))
+
+    def count_session_before(self, node):
+        """Of two Join-Requests of a device the server answered the older one first, but its Join-Accept came last: the session that the
+        device began is one later than was counted."""
+        frames = {id(sent.frame): sent.frame for table in (self.lines, self.moments) for sent in table.values()
+                  if sent.node is node and sent.frame.session == node.session}
+        node.session += 1
+        for frame in frames.values():
+            frame.session += 1
+        self.lines = {sent.frame.up_words(): sent for sent in self.lines.values()}
 
     def take_acknowledgement(self, down, sent, now):
         node, frame = sent.node, sent.frame

@@ -46,8 +46,9 @@ class Node:
         self.eui, self.pick = eui, random.Random(seed << 32 | eui)
         self.device = Device(eui, JOIN_EUI, app_key(seed, eui))
         self.nonce = self.sessions = self.session = self.counter = self.next_ack = self.frames = 0
-        # `sent_at`: when its last uplinks were sent. `ahead`: acknowledgements' numbers that came before an earlier one.
-        self.is_joined, self.sent_at, self.ahead = False, (), set()
+        # `sent_at`: when its last uplinks were sent. `asked_at`: when the Join-Request was whose Join-Accept it took. `ahead`:
+        # acknowledgements' numbers that came before an earlier one.
+        self.is_joined, self.sent_at, self.asked_at, self.ahead = False, (), 0, set()
 
     def join_request(self):
         """A Join-Request with the next DevNonce."""
