@@ -6,12 +6,13 @@ import os
 import socket
 import subprocess
 import sys
+import types
 import unittest
 
 from live import HAS_PROGRAM, PROGRAM, TOOLS, StandIn
 
 import example_network
-from network import nodes
+from network import checked, nodes
 
 HAS_SERVE = HAS_PROGRAM and subprocess.run([PROGRAM, 'serve', '--help'], capture_output=True).returncode == 0
 
@@ -37,6 +38,24 @@ class Wrong(StandIn):
 
 def flipped(frame):
     return frame[:-1] + '0123456789abcdef'[int(frame[-1], 16) ^ 1]
+
+
+class Counted(unittest.TestCase):
+    def test_older_accept_comes_last(self):
+        """Two Join-Accepts of a device come in the other order: what it sent meanwhile is of the later session; another device's is not."""
+        run, sent = types.SimpleNamespace(lines={}, moments={}), []
+        for eui in (1, 2):
+            node = nodes.Node(7, eui)
+            node.begin_without_join()
+            node.session = 1
+            one = checked.Sent()
+            one.node, one.frame = node, node.next_frame(1)
+            run.lines[one.frame.up_words()] = run.moments[eui] = one
+            sent.append(one)
+        checked.Run.count_session_before(run, sent[0].node)
+        self.assertEqual([(one.node.session, one.frame.session) for one in sent], [(2, 2), (1, 1)])
+        self.assertEqual(list(run.lines), [one.frame.up_words() for one in sent])
+        self.assertIn('up 0000000000000001 2 0 ', sent[0].frame.up_words())
 
 
 class Shown(unittest.TestCase):
