@@ -150,14 +150,14 @@ fn serve_command<'a>(alloc: Global) -> Result<Command<'a>, AllocError> {
             "stop-after",
             "N",
             4_294_967_295,
-            "After how many datagrams to stop; without it, never",
+            "After how many datagrams to stop, 1 to 4294967295; without it, never",
         ))?
         .arg(number(
             alloc,
             "trim",
             "N",
             4_294_967_295,
-            "After how many entries a shard is trimmed; without it, never",
+            "After how many entries a shard is trimmed, 1 to 4294967295; without it, never",
         ))?
         .arg(closing(alloc))
 }
