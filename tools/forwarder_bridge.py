@@ -23,7 +23,9 @@ Counts, of the whole run: `push`, `pull`, `tx_ack` messages of forwarders; `stat
 dropped of them; `unknown` messages that are none; `downlinks` of `serve`; `sent` as PULL_RESP; `no_route` for gateways
 that have asked for none; `tx_ok`, and `tx_NAME` for each error that a forwarder told; `bad_downlinks` datagrams of
 `serve` that are no downlinks; `unsent` sends that failed; `unheard` receives that failed (as where no `serve`
-listens); `forgotten` gateways; `unrecorded` lines of FILE; `faults` of this program.
+listens); `forgotten` gateways; `unrecorded` lines of FILE; `faults` of this program; `too_long` messages of more than
+16,384 bytes, which are neither parsed nor acknowledged; `too_many` messages of more than 255 `rxpk` items, none of which
+is looked at. Of these two the first between two lines of counts is told with its sender and its EUI.
 """
 import argparse
 import base64
@@ -46,6 +48,12 @@ TX_ERRORS = ('TOO_LATE', 'TOO_EARLY', 'COLLISION_PACKET', 'COLLISION_BEACON', 'T
 DATA_RATES = ('SF12BW125', 'SF11BW125', 'SF10BW125', 'SF9BW125', 'SF8BW125', 'SF7BW125', 'SF7BW250')
 FSK_DATA_RATE, FSK_BITS, FSK_DEVIATION = 7, 50000, 25000
 LOWEST, HIGHEST = 863_000_000, 870_000_000
+
+# A forwarder collects at most 255 frames at a time, and sends far fewer at once: one of 16 bytes takes some 200 bytes of JSON.
+MOST_BYTES, MOST_ITEMS = 16384, 255
+
+# Bytes of messages that wait for this program, where the system allows as many (net.core.rmem_max).
+WAITING = 1 << 22
 
 UP, DOWN, HEADER = 0x01, 0x81, struct.Struct('>BB8sQIBhhB')
 WRAP = 1 << 32
@@ -170,6 +178,16 @@ def message_of(body):
     return value
 
 
+def items_of(message):
+    """The items of the object of a PUSH_DATA. Raises Dropped."""
+    items = message.get('rxpk', [])
+    if not isinstance(items, list):
+        raise Dropped('malformed')
+    if len(items) > MOST_ITEMS:
+        raise Dropped('too_many')
+    return items
+
+
 def shard_of(frame):
     """The shard whose server answers the frame; 0 for what is no uplink and no Join-Request (docs/SCALE.md)."""
     kind = frame[0] >> 5 if frame else None
@@ -213,6 +231,7 @@ class Bridge:
         self.forwarders, self.servers, self.power, self.most, self.record = forwarders, servers, power, most, record
         self.gateways = collections.OrderedDict()    # by their EUIs' bytes; last is the one heard last
         self.counts = collections.Counter()
+        self.warned = set()                          # the counts of whose messages one was told
         self.token = 0
 
     def gateway(self, eui):
@@ -231,6 +250,9 @@ class Bridge:
     def from_forwarder(self, message, peer, now, clock):
         """Takes one message. `now` is a time that only rises, in microseconds, `clock` the time of day in seconds."""
         version, kind = (message[0], message[3]) if len(message) >= 12 else (0, None)
+        if len(message) > MOST_BYTES:
+            self.drop('too_long', message[4:12], peer, '%d bytes' % len(message))
+            return
         if version not in (1, 2) or kind not in (PUSH_DATA, PULL_DATA, TX_ACK):
             self.counts['unknown'] += 1
             return
@@ -238,7 +260,7 @@ class Bridge:
         if kind == PUSH_DATA:
             self.counts['push'] += 1
             self.send(message[:3] + bytes([PUSH_ACK]), peer)
-            self.heard(eui, body, now, clock)
+            self.heard(eui, body, peer, now, clock)
         elif kind == PULL_DATA:
             self.counts['pull'] += 1
             gateway = self.gateway(eui)
@@ -248,15 +270,26 @@ class Bridge:
             self.counts['tx_ack'] += 1
             self.counts[self.told(body)] += 1
 
-    def heard(self, eui, body, now, clock):
+    def drop(self, count, eui, peer, text):
+        """Drops a message, and tells of it where it is the first of its kind since the counts were told."""
+        self.counts[count] += 1
+        if count not in self.warned:
+            self.warned.add(count)
+            tell('%s: a message of %s from %s as gateway %s' % (count, text, written(peer), eui.hex()))
+
+    def heard(self, eui, body, peer, now, clock):
         """Hands on the frames of a PUSH_DATA."""
         try:
+            # More objects than the items, the message and its `stat` are. What is no object is counted once it is parsed.
+            if body.count(b'{') > MOST_ITEMS + 2:
+                raise Dropped('too_many')
             message = message_of(body)
-            items = message.get('rxpk', [])
-            if not isinstance(items, list):
-                raise Dropped('malformed')
+            items = items_of(message)
         except Dropped as why:
-            self.counts[str(why)] += 1
+            if str(why) == 'too_many':
+                self.drop('too_many', eui, peer, 'more than %d items' % MOST_ITEMS)
+            else:
+                self.counts[str(why)] += 1
             return
         if 'stat' in message:
             self.counts['stat'] += 1
@@ -356,7 +389,8 @@ class Bridge:
                 self.counts['faults'] += 1
 
     def line(self):
-        """The counts as one line."""
+        """The counts as one line, behind which messages that are dropped are told again."""
+        self.warned.clear()
         return 'counts gateways=%d %s' % (len(self.gateways), ' '.join(
             '%s=%d' % (name, self.counts[name]) for name in sorted(self.counts)))
 
@@ -409,7 +443,9 @@ def positive(text):
 def udp(where):
     """A UDP socket of the address's family, and the address."""
     family, kind, protocol, _, found = socket.getaddrinfo(*where, type=socket.SOCK_DGRAM)[0]
-    return socket.socket(family, kind, protocol), found
+    sock = socket.socket(family, kind, protocol)
+    sock.setsockopt(socket.SOL_SOCKET, socket.SO_RCVBUF, WAITING)
+    return sock, found
 
 
 def arguments(words):

@@ -1,26 +1,34 @@
 #!/usr/bin/env python3
 """A small join server by the profile of docs/FORMATS.md, to try `lorawan_ns serve` with.
 
-    join_server.py KEYS [--listen ADDR] [--record FILE] [--first-nonce N] [--seconds SECONDS]
+    join_server.py KEYS [--listen ADDR] [--nonces FILE] [--record FILE] [--first-nonce N] [--seconds SECONDS]
 
     KEYS                a file with a device a line: its DevEUI in 16 and its AppKey in 32 hex digits; # begins a comment
     --listen ADDR       TCP, host:port (default 127.0.0.1:8080); it prints `listening ADDR` once it listens
     --record FILE       appends each answer to FILE as a line that recorded_to_steps.py reads. It holds session keys
-    --first-nonce N     JoinNonce of each device's first Join-Accept, 1 to 16777215; it rises by one with each of the
-                        device. By default it is made from the clock, one more every 8 seconds until April 2030: a device takes
-                        no JoinNonce that is not above its last, and this program forgets them as it ends
+    --nonces FILE       holds a JoinNonce above all that were given (default: KEYS with `.nonces` behind it; see below)
+    --first-nonce N     JoinNonce of each device's first Join-Accept where FILE holds no greater one, 1 to 16777215. Without
+                        it and without FILE it is made from the clock, one more every 8 seconds until April 2030
     --seconds SECONDS   ends after this time (default 0: never)
 
 It answers each JoinReq that is POSTed to it: `Success` with the Join-Accept and the session keys in clear, `MICFailed`
 where the Join-Request's MIC does not fit, `Other` for a device that it does not know; a text that is no JoinReq gets
 status 400. Formulas: LoRaWAN L2 1.0.4, section 6.2; AES and CMAC are those of the package `cryptography`
 (`apt-get install python3-cryptography`), or slow ones of this folder where it is not there. It is for trials: it keeps
-no DevNonces and no state on disk, speaks plain HTTP and wraps no keys, so let it be reached from its own machine only.
-The interrupt and termination signals end it with status 0.
+no DevNonces, speaks plain HTTP and wraps no keys, so let it be reached from its own machine only. The interrupt and
+termination signals end it with status 0.
+
+A device takes no JoinNonce that is not above its last. Here a device's JoinNonce rises by one with each Join-Accept, and none is
+given before FILE holds, on the disk, a number above it: FILE is written again once in 256 Join-Accepts of one device, and the
+next run begins every device at FILE's number, so no JoinNonce is given twice, however soon or by whatever it ended. Each run costs
+up to 256 of the 16,777,215 JoinNonces; behind the last one the answer is `Other`. One run at a time may have FILE. Where FILE was
+lost, begin with a --first-nonce above all that were given.
 """
 import argparse
+import fcntl
 import http.server
 import json
+import os
 import re
 import signal
 import socket
@@ -33,6 +41,7 @@ from forwarder_bridge import address, written
 
 MOST_BODY, LAST_NONCE = 65536, 0xFFFFFF
 YEAR_2026, NONCE_SECONDS = 1767225600, 8
+AT_A_TIME = 256         # JoinNonces for which the file of nonces is written once
 
 
 # ---------------------------------------------------------------- JoinReq
@@ -85,16 +94,49 @@ def granted(request, key, join_nonce):
     return accept, cipher.encrypt(b'\x01' + front), cipher.encrypt(b'\x02' + front)
 
 
-class JoinServer:
-    """Answers JoinReqs. The AppKeys are 16 bytes by the DevEUI's 8; its calls may come from several threads."""
+class Nonces:
+    """The file that holds a number above all JoinNonces that were given. Raises OSError and ValueError."""
 
-    def __init__(self, keys, first_nonce=1, record=None):
+    def __init__(self, path):
+        self.file = os.open(path, os.O_RDWR | os.O_CREAT | os.O_CLOEXEC, 0o600)
+        try:
+            fcntl.flock(self.file, fcntl.LOCK_EX | fcntl.LOCK_NB)
+        except BlockingIOError:
+            self.close()
+            raise ValueError('%s is held by another join server' % path) from None
+        text = os.pread(self.file, 100, 0)
+        if text and not re.fullmatch(b'[0-9]{8}\n', text):
+            self.close()
+            raise ValueError('%s holds no number of 8 digits' % path)
+        self.above = int(text or 0)
+
+    def hold(self, nonce):
+        """Has the file hold a number above this one."""
+        if nonce >= self.above:
+            os.pwrite(self.file, b'%08d\n' % (nonce + AT_A_TIME), 0)
+            os.fsync(self.file)
+            self.above = nonce + AT_A_TIME
+
+    def close(self):
+        os.close(self.file)
+
+
+class JoinServer:
+    """Answers JoinReqs. The AppKeys are 16 bytes by the DevEUI's 8; its calls may come from several threads. Without `nonces` it
+    knows of no other run's JoinNonces."""
+
+    def __init__(self, keys, first_nonce=1, record=None, nonces=None):
         self.keys, self.first_nonce, self.record, self.lock = keys, first_nonce, record, threading.Lock()
-        self.next_nonces = {}
+        self.next_nonces, self.nonces = {}, nonces
 
     def take_nonce(self, eui):
+        """The device's next JoinNonce; none behind the last one."""
         nonce = self.next_nonces.get(eui, self.first_nonce)
-        self.next_nonces[eui] = 1 if nonce == LAST_NONCE else nonce + 1
+        if nonce > LAST_NONCE:
+            return None
+        if self.nonces:
+            self.nonces.hold(nonce)
+        self.next_nonces[eui] = nonce + 1
         return nonce
 
     def answer(self, text):
@@ -102,11 +144,13 @@ class JoinServer:
         request = JoinReq(text)
         answer = {'MessageType': 'JoinAns', 'Result': {'ResultCode': 'Other'}, 'TransactionID': request.transaction}
         with self.lock:
-            key = self.keys.get(request.eui)
+            key, nonce = self.keys.get(request.eui), None
             if key is not None and aes_cmac.of(key).mic(request.ticket[:19]) != request.ticket[19:]:
                 answer['Result']['ResultCode'] = 'MICFailed'
             elif key is not None:
-                accept, nwk, app = granted(request, key, self.take_nonce(request.eui))
+                nonce = self.take_nonce(request.eui)
+            if nonce is not None:
+                accept, nwk, app = granted(request, key, nonce)
                 answer['Result']['ResultCode'] = 'Success'
                 answer['PHYPayload'] = accept.hex()
                 answer['NwkSKey'] = {'AESKey': nwk.hex(), 'KEKLabel': ''}
@@ -158,8 +202,8 @@ class Handler(http.server.BaseHTTPRequestHandler):
 
 
 def nonce_of_clock(now):
-    """A first JoinNonce above those of a run that began before, by the seconds since 1970."""
-    return int(now - YEAR_2026) // NONCE_SECONDS % LAST_NONCE + 1
+    """A first JoinNonce by the seconds since 1970; above LAST_NONCE from April 2030 on."""
+    return max(1, int(now - YEAR_2026) // NONCE_SECONDS + 1)
 
 
 class Listener(http.server.ThreadingHTTPServer):
@@ -179,16 +223,33 @@ def listener(where, join_server):
     return Listener(where, type('Answers', (Handler,), {'join_server': join_server}))
 
 
-def main(words):
+def options_of(words):
     parser = argparse.ArgumentParser(description=__doc__, formatter_class=argparse.RawDescriptionHelpFormatter)
     parser.add_argument('keys', metavar='KEYS')
     parser.add_argument('--listen', type=address, default='127.0.0.1:8080', metavar='ADDR')
+    parser.add_argument('--nonces', metavar='FILE')
     parser.add_argument('--record', metavar='FILE')
-    parser.add_argument('--first-nonce', type=int, default=nonce_of_clock(time.time()), metavar='N')
+    parser.add_argument('--first-nonce', type=int, metavar='N')
     parser.add_argument('--seconds', type=float, default=0, metavar='SECONDS')
     options = parser.parse_args(words)
-    if not 1 <= options.first_nonce <= LAST_NONCE:
+    if options.first_nonce is not None and not 1 <= options.first_nonce <= LAST_NONCE:
         parser.error('--first-nonce: 1 to %d' % LAST_NONCE)
+    options.nonces = options.nonces or options.keys + '.nonces'
+    return options
+
+
+def begun(options, keys):
+    """A listener of these options. Raises OSError and ValueError."""
+    nonces = Nonces(options.nonces)
+    first = options.first_nonce or (0 if nonces.above else nonce_of_clock(time.time()))
+    if not nonces.above and first > LAST_NONCE:
+        raise ValueError('no JoinNonce can be made from the clock any more: give --first-nonce')
+    record = open(options.record, 'a', encoding='utf-8') if options.record else None
+    return listener(options.listen, JoinServer(keys, max(first, nonces.above), record, nonces))
+
+
+def main(words):
+    options = options_of(words)
     try:
         with open(options.keys, encoding='utf-8') as file:
             keys = keys_of(file.read())
@@ -196,9 +257,8 @@ def main(words):
         print('keys: %s' % why, file=sys.stderr)
         return 1
     try:
-        record = open(options.record, 'a', encoding='utf-8') if options.record else None
-        server = listener(options.listen, JoinServer(keys, options.first_nonce, record))
-    except OSError as why:
+        server = begun(options, keys)
+    except (OSError, ValueError) as why:
         print('cannot begin: %s' % why, file=sys.stderr)
         return 1
     with server:

@@ -5,10 +5,14 @@ import os
 import random
 import re
 import socket
+import subprocess
+import sys
 import threading
+import time
 import unittest
+import unittest.mock
 
-from live import APP_KEY, JOIN_EUI, Forwarder, StandIn, ended, roster_of, rxpk, started, wait_for
+from live import APP_KEY, JOIN_EUI, TOOLS, Forwarder, StandIn, ended, roster_of, rxpk, started, wait_for
 
 from device import Device
 import forwarder_bridge as bridge
@@ -158,7 +162,10 @@ class Answering(unittest.TestCase):
 
     def setUp(self):
         self.forwarders, self.server = self.Kept(), self.Kept()
-        self.bridge = bridge.Bridge(self.forwarders, [self.server], most=2)
+        self.bridge, self.told = bridge.Bridge(self.forwarders, [self.server], most=2), []
+        patch = unittest.mock.patch.object(bridge, 'tell', self.told.append)
+        patch.start()
+        self.addCleanup(patch.stop)
 
     def tell(self, message, peer='there'):
         self.bridge.from_forwarder(message, peer, 0, 0)
@@ -216,6 +223,46 @@ class Answering(unittest.TestCase):
             self.assertEqual(self.server.sent, [HEARD])
             self.assertEqual(self.bridge.counts['unrecorded'], 1)
             os.dup2(os.open(os.devnull, os.O_WRONLY), self.bridge.record.fileno())
+
+    def push(self, body):
+        """A PUSH_DATA of a body, and the counts that it made."""
+        self.bridge.counts.clear()
+        self.tell(b'\x02\0\0\0' + A1 + body, ('10.0.0.9', 1700))
+        return dict(self.bridge.counts)
+
+    def test_lengths(self):
+        """A message of 16,384 bytes is taken. One of a byte more is neither parsed nor acknowledged, whatever it is."""
+        text = json.dumps({'rxpk': [rxpk(JOIN, 1_000_000)]}).encode()
+        self.assertEqual(self.push(text + b' ' * (bridge.MOST_BYTES - 12 - len(text))), {'push': 1, 'frames': 1})
+        self.assertEqual((len(self.forwarders.sent), self.server.sent), (1, [HEARD]))
+        with unittest.mock.patch.object(bridge, 'message_of') as parsed:
+            self.assertEqual(self.push(text + b' ' * (bridge.MOST_BYTES - 11 - len(text))), {'too_long': 1})
+            for kind in range(7):
+                self.tell(bytes([2, 0, 0, kind]) + A1 + b'[' * bridge.MOST_BYTES, ('10.0.0.9', 1700))
+            parsed.assert_not_called()
+        self.assertEqual((len(self.forwarders.sent), self.bridge.counts), (1, {'too_long': 8}))
+
+    def test_numbers_of_items(self):
+        """255 items are looked at, of 256 none is; of objects it is told before the message is parsed."""
+        many = {'push': 1, 'too_many': 1}
+        for item in (b'0', b'""', b'[]', b'null'):
+            self.assertEqual(self.push(b'{"rxpk":[%s]}' % b','.join([item] * 255)), {'push': 1, 'malformed': 255})
+            self.assertEqual(self.push(b'{"rxpk":[%s]}' % b','.join([item] * 256)), many)
+        self.assertEqual(self.push(b'{"stat":{},"rxpk":[%s]}' % b','.join([b'{}'] * 255)), {'push': 1, 'stat': 1, 'malformed': 255})
+        self.assertEqual(self.push(b'{"rxpk":[%s]}' % b','.join([b'{}'] * 256)), many)
+        self.assertEqual(self.push(b'{' * 258), many)
+        self.assertEqual(self.push(b'{' * 257), {'push': 1, 'malformed': 1})
+        self.assertEqual(self.server.sent, [])
+
+    def test_first_of_what_is_dropped_is_told(self):
+        """With its sender and its EUI; the next is told once the counts were."""
+        for _ in range(2):
+            for _ in range(3):
+                self.push(b'x' * bridge.MOST_BYTES)
+                self.push(b'{' * 300)
+            self.bridge.line()
+        self.assertEqual(self.told, 2 * ['too_long: a message of 16396 bytes from 10.0.0.9:1700 as gateway 00000000000000a1',
+                                    'too_many: a message of more than 255 items from 10.0.0.9:1700 as gateway 00000000000000a1'])
 
     def test_gateways_are_bounded(self):
         for eui in range(100):
@@ -363,6 +410,30 @@ class Live(unittest.TestCase):
         self.assertEqual(counts['frames'], 1)
         self.assertGreater(counts['malformed'], 50_000)
         self.assertGreaterEqual(counts['push'] + counts['tx_ack'] + counts['unknown'], 100_000)
+
+    def test_long_lists(self):
+        """200 messages of 64 KB of zeros, and 200 of 16 KB, are over within two seconds, and another gateway is answered."""
+        server = self.stand_in([13])
+        child, where = self.bridge([server])
+        forwarder, noise = self.forwarder(A1, where), self.forwarder(A2, where)
+        begun = time.monotonic()
+        for number in range(400):
+            length = 65507 if number % 2 else bridge.MOST_BYTES
+            noise.up.sendto((b'\x02\0\0\0' + A2 + b'{"rxpk":[' + b'0,' * length)[:length - 3] + b'0]}', where)
+            if number % 20 == 19:
+                forwarder.pull()
+        forwarder.push(rxpk(JOIN, 1_000_000))
+        self.assertLess(time.monotonic() - begun, 2)
+        wait_for(lambda: server.datagrams, 'the frame')
+        counts = self.counts(child)
+        self.assertEqual([counts[name] for name in ('frames', 'too_long', 'too_many')], [1, 200, 200])
+
+    def test_what_bridge_load_measures(self):
+        """In small: what was sent came, but for what the system dropped."""
+        done = subprocess.run([sys.executable, os.path.join(TOOLS, 'bridge_load.py'), '--rates', '400', '--seconds', '0.5', '--long', '20'],
+                              capture_output=True, text=True, timeout=30)
+        self.assertEqual((done.returncode, done.stderr), (0, ''), done.stdout)
+        self.assertRegex(done.stdout.splitlines()[-1], r'^\| 2[0-9][0-9] \| (9|1[0-9]) \| ')
 
     def test_malformed_downlinks(self):
         server = self.stand_in([13])

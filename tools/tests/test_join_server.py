@@ -14,7 +14,7 @@ from live import (APP_KEY, HAS_PROGRAM, JOIN_EUI, LONGEST, PROGRAM, SLOT, ended,
 from device import Device, WrongAccept
 import join_server
 
-# A JoinReq and its answers, whose Join-Accepts and keys OpenSSL made: the vectors of crates/ns_device.
+# A JoinReq and its answers, whose Join-Accepts and keys OpenSSL made: the vectors of crates/test_device.
 ASKED_1 = ('{"DLSettings":"00","DevAddr":"49be7df1","DevEUI":"000000000000000d","MACVersion":"1.0.4","MessageType":"JoinReq",'
            '"PHYPayload":"0004030201040302010d000000000000000100e4b6745f","ProtocolVersion":"1.0",'
            '"ReceiverID":"0102030401020304","RxDelay":1,"SenderID":"000024","TransactionID":1601484516}')
@@ -44,7 +44,7 @@ class Answers(unittest.TestCase):
     def test_last_nonce(self):
         server = join_server.JoinServer(KEYS, first_nonce=0xFFFFFF)
         self.assertEqual(server.answer(ASKED_1), ANSWER_LAST)
-        self.assertEqual(server.answer(ASKED_1), ANSWER_1)
+        self.assertEqual(server.answer(ASKED_1), REFUSED % 'Other')
 
     def test_each_device_has_its_nonces(self):
         server = join_server.JoinServer({**KEYS, (14).to_bytes(8, 'big'): APP_KEY})
@@ -58,7 +58,8 @@ class Answers(unittest.TestCase):
     def test_nonce_of_clock(self):
         of = join_server.nonce_of_clock
         self.assertEqual([of(1767225600), of(1767225607), of(1767225608)], [1, 1, 2])
-        self.assertEqual([of(1767225600 + 8 * (0xFFFFFF - 1)), of(1767225600 + 8 * 0xFFFFFF)], [0xFFFFFF, 1])
+        self.assertEqual([of(1767225600 + 8 * (0xFFFFFF - 1)), of(0)], [0xFFFFFF, 1])
+        self.assertGreater(of(1767225600 + 8 * 0xFFFFFF), join_server.LAST_NONCE)
 
     def test_refusals_take_no_nonce(self):
         server = join_server.JoinServer(KEYS)
@@ -91,6 +92,62 @@ class Answers(unittest.TestCase):
                 join_server.keys_of(text)
 
 
+class Begun(unittest.TestCase):
+    """Join servers over one file of nonces, without sockets."""
+
+    def setUp(self):
+        folder = tempfile.TemporaryDirectory()
+        self.addCleanup(folder.cleanup)
+        self.file = os.path.join(folder.name, 'nonces')
+
+    def nonces(self):
+        nonces = join_server.Nonces(self.file)
+        self.addCleanup(nonces.close)
+        return nonces
+
+    def written(self):
+        with open(self.file, encoding='ascii') as file:
+            return file.read()
+
+    def test_the_file_is_above_all_that_were_given(self):
+        server = join_server.JoinServer(KEYS, 7, nonces=self.nonces())
+        eui, = KEYS
+        for given in range(7, 7 + 600):
+            self.assertEqual(server.take_nonce(eui), given)
+            self.assertGreater(int(self.written()), given)
+        self.assertLessEqual(int(self.written()), 7 + 600 + join_server.AT_A_TIME)
+
+    def test_what_is_not_held_is_not_given(self):
+        """A file that cannot be written gives no JoinNonce, and the next one is the same."""
+        nonces = self.nonces()
+        server, file = join_server.JoinServer(KEYS, 7, nonces=nonces), nonces.file
+        eui, = KEYS
+        nonces.file = os.open(self.file, os.O_RDONLY)
+        with self.assertRaises(OSError):
+            server.take_nonce(eui)
+        os.close(nonces.file)
+        nonces.file = file
+        self.assertEqual(server.take_nonce(eui), 7)
+
+    def test_the_last_ones(self):
+        server = join_server.JoinServer(KEYS, join_server.LAST_NONCE, nonces=self.nonces())
+        eui, = KEYS
+        self.assertEqual([server.take_nonce(eui) for _ in range(3)], [join_server.LAST_NONCE, None, None])
+        self.assertRegex(self.written(), '^[0-9]{8}\n$')
+
+    def test_other_files(self):
+        for text in ('x', '7\n', '000000007\n', '0000000a\n'):
+            with open(self.file, 'w', encoding='ascii') as file:
+                file.write(text)
+            with self.assertRaisesRegex(ValueError, 'no number'):
+                join_server.Nonces(self.file)
+
+    def test_one_at_a_time(self):
+        self.nonces()
+        with self.assertRaisesRegex(ValueError, 'another join server'):
+            join_server.Nonces(self.file)
+
+
 class Over(unittest.TestCase):
     """The join server as a program of its own, asked over HTTP on loopback."""
 
@@ -121,17 +178,42 @@ class Over(unittest.TestCase):
 
     def test_begins_by_the_clock(self):
         """Without --first-nonce, over IPv6 too; a second one at the same address does not begin."""
-        child, (host, port) = started([self.keys, '--listen', '[::1]:0', '--seconds', '60'], 'join_server.py')
+        nonces = ['--nonces', self.keys + '.other']
+        child, (host, port) = started([self.keys, '--listen', '[::1]:0', '--seconds', '60', *nonces], 'join_server.py')
         device, before = Device(13, JOIN_EUI, APP_KEY), join_server.nonce_of_clock(time.time() - 30)
         _, body = posted((host.strip('[]'), port), join_req(device.join_request(1), 36 << 25 | 13 << 21 | SLOT, 13))
         device.accept(bytes.fromhex(json.loads(body)['PHYPayload']))
         self.assertIn(device.join_nonce - before, range(6))
         for where in ('[::1]:%d' % port, ':0', '0', '127.0.0.1:65536'):
-            second = subprocess.run([sys.executable, join_server.__file__, self.keys, '--listen', where],
-                                    capture_output=True, text=True, timeout=LONGEST)
+            second = subprocess.run([sys.executable, join_server.__file__, self.keys, '--listen', where, '--nonces',
+                                     self.keys + '.third'], capture_output=True, text=True, timeout=LONGEST)
             self.assertEqual((second.returncode, second.stdout), (1 if where[0] == '[' else 2, ''))
             self.assertNotIn('Traceback', second.stderr)
         self.assertEqual(ended(child)[0], 0)
+
+    def test_begun_again_at_once(self):
+        """Ended by signals, among them one that it cannot see, and begun again at once, ten times: the device takes each Join-Accept,
+        which it does not where the JoinNonce is not above its last. So it does with any --first-nonce."""
+        device, nonce = Device(13, JOIN_EUI, APP_KEY), 0
+        for turn in range(10):
+            words = ['--first-nonce', str(turn % 3 + 1)] if turn % 2 else []
+            child, where = started([self.keys, '--listen', '127.0.0.1:0', '--seconds', '60', '--nonces', self.keys + '.again', *words],
+                                   'join_server.py')
+            try:
+                for _ in range(3):
+                    nonce += 1
+                    _, body = posted(where, join_req(device.join_request(nonce), 36 << 25 | 13 << 21 | SLOT, 13))
+                    device.accept(bytes.fromhex(json.loads(body)['PHYPayload']))
+            finally:
+                (child.kill if turn % 2 else child.terminate)()
+                child.communicate(timeout=LONGEST)
+
+    def test_one_file_for_one(self):
+        """A second one with the same file does not begin, and says why."""
+        second = subprocess.run([sys.executable, join_server.__file__, self.keys, '--listen', '127.0.0.1:0'],
+                                capture_output=True, text=True, timeout=LONGEST)
+        self.assertEqual((second.returncode, second.stdout), (1, ''))
+        self.assertEqual(second.stderr, 'cannot begin: %s.nonces is held by another join server\n' % self.keys)
 
     def test_odd_clients(self):
         """A client that is silent, one that ends early and one that is no client of HTTP stop nobody."""

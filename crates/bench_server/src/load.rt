@@ -3,8 +3,8 @@
 ghost use Rattle.std.specs.Prelude.{◌≡◌, ◌<◌, vec_len, IfOk};
 
 use ns_calls::Call;
-use ns_threads::{closing, join, join_reply, uplink};
 use std::alloc::{AllocError, Global};
+use test_threads::{closing, join, join_reply, uplink};
 
 /// How much traffic there is.
 #[derive(Clone, Copy)]

@@ -18,12 +18,12 @@ mod trim;
 use crate::load::Load;
 use crate::served::{apply_all, serve_all};
 use crate::trim::time_trims;
-use ns_threads::roster;
 use std::alloc::Global;
 use std::env;
 use std::sync::{Arc, Wait};
 use std::thread::Threads;
 use std::time::Clock;
+use test_threads::roster;
 
 // What to make, in arguments.
 #[derive(Drop)]

@@ -10,11 +10,11 @@ use ns_calls::Call;
 use ns_roster::Roster;
 use ns_server::{Naming, Open, Pass, Server};
 use ns_tally::Blanks;
-use ns_threads::{closing, join, join_reply, uplink};
 use std::alloc::{AllocError, Global};
 use std::marker::Brand;
 use std::sync::{Arc, Wait};
 use std::time::{Clock, Instant};
+use test_threads::{closing, join, join_reply, uplink};
 
 /// What two trims of shard 0 did, one after the other: how many entries were made before, how many each handed out, and its nanoseconds.
 #[derive(Clone, Copy)]

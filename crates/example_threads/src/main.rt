@@ -18,11 +18,11 @@ use ns_calls::{Answer, lines};
 use ns_roster::Roster;
 use ns_server::{Naming, Receipt, Server, Settled};
 use ns_tally::Blanks;
-use ns_threads::{parted, roster};
 use std::alloc::Global;
 use std::marker::Brand;
 use std::sync::{Arc, Wait};
 use std::thread::Threads;
+use test_threads::{parted, roster};
 
 // How many devices there are. Each worker hears two uplinks of each.
 const DEVICES: u32 = 3;

@@ -3,11 +3,11 @@
 use crate::DEVICES;
 use ns_server::{Naming, Pass, Receipt, Server};
 use ns_shard::TrimFault;
-use ns_threads::{join, join_reply, make, uplink};
 use std::alloc::{AllocError, Global};
 use std::sync::Wait;
 use std::thread;
 use std::thread::Threads;
+use test_threads::{join, join_reply, make, uplink};
 
 /// Lends the server to a thread for each pass, and waits for all of them.
 pub fn all_work<B: Naming + Send + Sync, R: Threads + Wait + Sync>(

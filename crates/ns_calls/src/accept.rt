@@ -4,7 +4,7 @@ ghost use Rattle.std.specs.Prelude.{◌≡◌, ◌≤◌, length, IfSome};
 ghost use Rattle.ns_calls.specs.Accept.{accept_bytes, accept_of};
 
 /// A Join-Accept as a join server gave it, enciphered (LoRaWAN L2 1.0.4, 6.2.6).
-#[derive(Clone, Copy, PartialEq, Eq)]
+#[derive(Clone, Copy, Debug, PartialEq, Eq)]
 pub enum JoinAccept {
     Plain([u8; 17]),
     /// With a list of channel frequencies (CFList).

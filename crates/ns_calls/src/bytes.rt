@@ -2,6 +2,7 @@
 
 ghost use Rattle.std.specs.Prelude.{◌≡◌, ◌≤◌, length};
 
+use std::fmt;
 use std::marker::Model;
 
 /// At most `N` bytes, for `N` up to 255. Contracts see the list of them.
@@ -49,5 +50,13 @@ impl<const N: usize> Bytes<N> {
         ensures fits { length result.now ≤ N }
     {
         &self.room[..self.len as usize]
+    }
+}
+
+/// The bytes in use alone, as a slice prints them.
+impl<const N: usize> fmt::Debug for Bytes<N> {
+    fn fmt<W: fmt::Write>(&self, f: &mut fmt::Formatter<W>) -> fmt::Result {
+        let bytes = self.as_slice();
+        write!(f, "{bytes:?}")
     }
 }

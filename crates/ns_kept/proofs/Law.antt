@@ -1,6 +1,7 @@
 -- The answers over what is left are those over the whole history.
 use Rattle.std.proofs.Common.{◌≡◌, ◌⊎◌, ℕ, zero, suc, ◌+◌, ◌<◌, ◌≤◌, Bool, true, false, not, ◌||◌, cond, List, [], ◌∷◌, ◌++◌, length, take, drop, filter, count_by, map, nat_le, Option, None, Some, slice_get, refl, sym, ap, subst, ◌∙◌, arith, append_assoc, length-append, take-append-drop, inl, inr}
 use Rattle.std.specs.List.{AllByRecursion, list_any}
+use Rattle.ns_types.specs.declared.identity.DevEui.{DevEui}
 use Rattle.ns_types.specs.Identity.{same_window}
 use Rattle.std.proofs.lemmas.List.{take-append-le, append-nil}
 use Rattle.std.proofs.Math.Seq.{take-length}
@@ -14,7 +15,7 @@ use Rattle.ns_calls.specs.declared.call.Reply.{Reply}
 use Rattle.ns_calls.specs.declared.call.Entry.{Entry}
 use Rattle.ns_calls.specs.declared.answer.Answer.{Answer}
 use Rattle.ns_calls.specs.Queries.{is_ended}
-use Rattle.ns_calls.specs.History.{Opening, window_in, closes, asking_in, ends_ticket, open_windows, open_tickets}
+use Rattle.ns_calls.specs.History.{Opening, window_in, closes, asking_in, ends_ticket, open_windows, open_tickets, greatest_nonce}
 use Rattle.ns_calls.specs.Reply.{reply_to}
 use Rattle.ns_calls.specs.Legal.{IsLegal, IsNumbered, IsOfShard, entry_for}
 use Rattle.ns_calls.specs.Legal as calls
@@ -361,3 +362,8 @@ rises-within test ks (x ∷ xs) (inr gone) rises = rises-within test ks xs gone.
 pub leaves-rise : (net : Network) (h : List Entry) (k : Remains) → Leaves net h k → Rises (map (λ e. e.number) k.entries)
 leaves-rise net h k leaves =
     rises-within (is_kept h) k.entries h (entries-within net h k leaves) (rise-from 0 h (λ n e at. (let is : e.number ≡ n = leaves.numbered n e at in omega (arith, is))))
+
+-- ---- the greatest nonces
+
+pub leaves-nonces : (net : Network) (h : List Entry) (k : Remains) → Leaves net h k → (eui : DevEui) → greatest_nonce net (reading k) eui ≡ greatest_nonce net h eui
+leaves-nonces net h k leaves = (leaves-alike net h k leaves).nonces

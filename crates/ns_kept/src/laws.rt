@@ -8,7 +8,7 @@ ghost use Rattle.ns_roster.specs.Network.{Network};
 ghost use Rattle.ns_roster.specs.Valid.{IsRoster};
 ghost use Rattle.ns_calls.specs.declared.call.Call.{Call};
 ghost use Rattle.ns_calls.specs.declared.call.Entry.{Entry};
-ghost use Rattle.ns_calls.specs.History.{open_windows};
+ghost use Rattle.ns_calls.specs.History.{open_windows, greatest_nonce};
 ghost use Rattle.ns_calls.specs.Reply.{reply_to};
 ghost use Rattle.ns_calls.specs.Out.{out, answer};
 ghost use Rattle.ns_calls.specs.Runs.{answers_after};
@@ -37,7 +37,7 @@ pub fn trims_leave_the_answers()
 {}
 
 /// A legal history leaves itself. What it leaves gives its answers, is left by the longer history after a call, and its trim is
-/// left by it; its numbers rise.
+/// left by it; its numbers rise; and the greatest nonce of each device over it is that of the whole history.
 pub fn what_histories_leave()
     ensures whole { (net : Network) (h : List Entry) → calls.IsLegal net h → calls.IsNumbered h
         → Leaves net h (whole h) }
@@ -48,6 +48,8 @@ pub fn what_histories_leave()
     ensures trim { (net : Network) (h : List Entry) (k : Remains) → Leaves net h k → Leaves net h (keep (length h) k) }
     ensures numbers { (net : Network) (h : List Entry) (k : Remains) → Leaves net h k
         → Rises (map (λ e. e.number) k.entries) }
+    ensures nonces { (net : Network) (h : List Entry) (k : Remains) → Leaves net h k → (eui : DevEui)
+        → greatest_nonce net (reading k) eui ≡ greatest_nonce net h eui }
 {}
 
 /// Over every list of calls and trims the answers are those of the calls alone.

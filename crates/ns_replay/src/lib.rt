@@ -15,16 +15,3 @@ mod taken;
 
 pub use laws::{lines_are_spelled, steps_are_spelled};
 pub use run::{ReplayFault, replay};
-
-#[cfg(test)]
-mod closing_tests;
-#[cfg(test)]
-mod hex_tests;
-#[cfg(test)]
-mod long_tests;
-#[cfg(test)]
-mod recorded;
-#[cfg(test)]
-mod round_tests;
-#[cfg(test)]
-mod tests;

@@ -6,7 +6,6 @@ use crate::{ServeFault, ServeOptions, serve};
 use log::Log;
 use log::sink::Writer;
 use ns_calls::Reply;
-use ns_device::{TestDevice, TestJoinServer};
 use ns_joinclient::HostName;
 use ns_roster::Roster;
 use ns_types::{DevEui, DevNonce, JoinEui, Key, OverStd};
@@ -18,6 +17,7 @@ use std::test::*;
 use std::thread;
 use std::thread::Threads;
 use std::time::{Clock, Duration};
+use test_device::{TestDevice, TestJoinServer};
 
 pub const ROSTER_A: &str =
     r#"{"version":1,"net_id":"000024","rx1_offset":0,"rx_delay":1,"devices":[{"dev_eui":"000000000000000d","join_eui":"0102030401020304","slot":1998321}]}"#;

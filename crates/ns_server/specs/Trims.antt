@@ -1,8 +1,8 @@
 -- What a trim under a lock tells of the shard that was trimmed.
-use Rattle.std.specs.Prelude.{ℕ, ◌≡◌, ◌+◌, ◌^◌, ◌<◌, length}
+use Rattle.std.specs.Prelude.{ℕ, ◌≡◌}
 use Rattle.ns_roster.specs.Network.{Network}
 use Rattle.ns_shard.specs.declared.trim.Dropped.{Dropped}
-use Rattle.ns_shard.specs.State.{State, after_trim, dropped}
+use Rattle.ns_shard.specs.State.{State, dropped}
 use Rattle.ns_server.specs.Kept.{IsStateOf}
 
 -- There is a state of this shard, which some legal history of the shard leaves: the mark is how many entries were made by then, and what
@@ -12,9 +12,3 @@ pub record IsTrimOf (net : Network) (shard : ℕ) (d : Dropped) : Type 0 where
   pub is_state : IsStateOf net shard before
   pub mark : d.mark ≡ before.made
   pub entries : d.entries.items ≡ dropped before
-
--- there is a state of this shard of which more than 2^63 entries would have been dropped in all
-pub record IsFull (net : Network) (shard : ℕ) : Type 0 where
-  pub before : State
-  pub is_state : IsStateOf net shard before
-  pub too_many : 2 ^ 63 + length (after_trim before).entries < before.made

@@ -8,7 +8,7 @@ ghost use Rattle.ns_shard.specs.State.{after_call, after_trim, dropped, finds_op
 ghost use Rattle.ns_shard.specs.declared.trim.TrimFault.TheVariants.{Full};
 ghost use Rattle.ns_server.specs.Receipts.{receipt_of, receipt_for, HasHistory, RisesAt};
 ghost use Rattle.ns_server.specs.Kept.{IsStateOf};
-ghost use Rattle.ns_server.specs.Trims.{IsTrimOf, IsFull};
+ghost use Rattle.ns_server.specs.Trims.{IsTrimOf};
 
 use crate::names::Naming;
 use crate::pass::Pass;
@@ -19,7 +19,7 @@ use std::alloc::{AllocError, Global};
 use std::marker::Model;
 
 /// What a call got: its shard, the entry that it made, and what goes out with it.
-#[derive(PartialEq, Eq, Drop)]
+#[derive(Debug, PartialEq, Eq, Drop)]
 pub struct Receipt {
     pub shard: u8,
     pub entry: Entry,
@@ -102,7 +102,6 @@ impl<B: Naming, const K: usize> Kept<B, K> {
         ensures err { OnErr result (self.new ≡ self.old) }
         ensures state { IsStateOf B.roster K self.new }
         ensures told { IfOk result (IsTrimOf B.roster K) }
-        ensures refused { result ≡ Err Full → IsFull B.roster K }
     {
         self.shard.trim(alloc)
     }

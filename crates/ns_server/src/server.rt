@@ -1,14 +1,13 @@
 //! Sixteen shards, each behind its own lock.
 
-ghost use Rattle.std.specs.Prelude.{◌≡◌, ◌≤◌, ◌<◌, ◌+◌, [], suc, Err, length, slice_index, vec_len, vec_capacity, All, IfOk, OnOk, OnErr};
+ghost use Rattle.std.specs.Prelude.{◌≡◌, ◌≤◌, ◌<◌, ◌+◌, [], suc, length, slice_index, vec_len, vec_capacity, All, IfOk, OnOk, OnErr};
 ghost use Rattle.std.specs.Arc.{arc_value};
 ghost use Rattle.ns_types.specs.Identity.{shard_count};
 ghost use Rattle.ns_calls.specs.Shards.{shard_of_call};
-ghost use Rattle.ns_shard.specs.declared.trim.TrimFault.TheVariants.{Full};
 ghost use Rattle.ns_tally.specs.Tally.{none_made, shard_of_book, total_of_book, AreNamed};
 ghost use Rattle.ns_server.specs.Receipts.{HasHistory, RisesAt};
 ghost use Rattle.ns_server.specs.Kept.{IsStateOf};
-ghost use Rattle.ns_server.specs.Trims.{IsTrimOf, IsFull};
+ghost use Rattle.ns_server.specs.Trims.{IsTrimOf};
 ghost use Rattle.ns_server.specs.Rows.{new_states, AreRow, AreCounted};
 
 use crate::gate::Gate;
@@ -108,8 +107,7 @@ fn trim_kept<B: Naming, const K: usize, R: Wait>(
     lock: &Mutex<Kept<B, K>>,
     alloc: Global,
 ) -> Result<Dropped, TrimFault>
-    ensures told { IfOk result (IsTrimOf B.roster K) }
-    ensures full { result ≡ Err Full → IsFull B.roster K }
+    ensures { IfOk result (IsTrimOf B.roster K) }
 {
     let mut kept = lock.lock(rt);
     kept.trim(alloc)
@@ -255,13 +253,12 @@ impl<B: Naming> Server<B> {
     }
 
     /// Drops the entries of a shard on which no answer rests, under the lock of that shard, and hands them out. No gate is visited, and
-    /// no entry is made. What it does to the shard is `Kept::trim`: the mark is how many entries were made before, and what comes out is
-    /// all that a trim drops of the shard as it was then. `Full` (Z1) where more than 2^63 entries would be dropped in all, `NoMemory`
-    /// (Z2) where a growth was refused.
+    /// no entry is made. What it does to the shard, and when it answers `Full` (Z1) or `NoMemory` (Z2), is said of `Kept::trim`. The
+    /// contract has no name for the shard under its lock: it says that some state of the shard is such that the mark is how many entries
+    /// were made by then, and that what comes out is all that a trim of it drops.
     pub fn trim<R: Wait>(&self, rt: &R, alloc: Global, shard: u8) -> Result<Dropped, TrimFault>
         requires { shard < shard_count }
         ensures told { IfOk result (IsTrimOf B.roster shard) }
-        ensures full { result ≡ Err Full → IsFull B.roster shard }
     {
         match shard {
             0 => trim_kept(rt, &self.k0, alloc),

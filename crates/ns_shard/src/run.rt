@@ -85,17 +85,19 @@ impl Shards {
     /// Runs steps on one thread, in order. `NoMemory` (`AllocError`) where a growth was refused, and then there is no run.
     ///
     /// What comes of a step that makes a call is the plain server's answer to it, after the entries of its shard that the steps
-    /// before it made; a closing hands out the uplink of its window, with just its copies, and no other step hands out an uplink.
+    /// before it made. The closing of an uplink's first window hands out the uplink, with just its copies. No other step hands out
+    /// an uplink: the closing of a later round, in which the uplink was sent again, acknowledges it and hands out nothing.
     pub fn run(alloc: Global, roster: Arc<Roster>, steps: &[Step]) -> Result<Run, AllocError>
         ensures taken { IfOk result (λ run. run.taken.items ≡ all_taken (arc_value roster) [] steps.now) }
         ensures shards { IfOk result (λ run. AreAfter (arc_value roster) steps.now run.shards) }
+        ensures sixteen { IfOk result (λ run. length run.shards ≡ shard_count) }
 
         // Each shard's history is legal, numbered from 0, and holds one entry for each call that reached the shard, in order.
         ensures histories { IfOk result (λ run. OfEach run.shards (λ shard h. IsHistory (arc_value roster) shard h)) }
         ensures calls { IfOk result (λ run. OfEach run.shards (λ shard h. map (λ e. e.call) h ≡ calls_of shard steps.now)) }
 
-        // Accepted nonces of a device, and counters and acknowledgement numbers of a session, strictly rise; a window opens and
-        // closes at most once, and an uplink goes out at a closing alone.
+        // Accepted nonces of a device, and counters and acknowledgement numbers of a session, strictly rise; the window of each round
+        // of an uplink opens and closes at most once, and an uplink goes out at the closing of its first window alone.
         ensures nonces_rise { IfOk result (λ run. OfEach run.shards (λ shard h. NoncesRise h)) }
         ensures counters_rise { IfOk result (λ run. OfEach run.shards (λ shard h. CountersRise h)) }
         ensures acks_rise { IfOk result (λ run. OfEach run.shards (λ shard h. AcksRise h)) }
@@ -107,8 +109,8 @@ impl Shards {
         ensures nonces_within { IfOk result (λ run. OfEach run.shards (λ shard h. NoncesAreWithin (arc_value roster) h)) }
         ensures greatest { IfOk result (λ run. (eui : DevEui) → greatest_among run.shards eui ≡ greatest_after (arc_value roster) steps.now eui) }
 
-        // An uplink goes out with the first 16 hearings of its frame's bytes from its window's opening to its closing, and that of a
-        // window's name goes out at most once.
+        // An uplink goes out with the first 16 hearings of its frame's bytes from its first window's opening to its closing, and the
+        // uplink of a session and counter goes out at most once, however often it is sent.
         ensures copies { IfOk result (λ run. AllByRecursion (HasCopies run.shards) run.taken.items) }
         ensures handed_out_once { IfOk result (λ run. AreHandedOutOnce run.taken.items) }
     {

@@ -3,9 +3,9 @@
 ghost use Rattle.std.specs.Prelude.{◌≡◌, ◌<◌, ◌^◌};
 
 use ns_creator::{CreateFault, JoinAcceptCreator, Keys};
-use ns_device::{DeviceFault, TestDevice};
 use ns_types::{DevAddr, DevEui, DevNonce, JoinEui, Key, NetId};
 use ns_views::{PhyView, view};
+use test_device::{DeviceFault, TestDevice};
 
 const ROOT: Key = Key([
     0x2b, 0x7e, 0x15, 0x16, 0x28, 0xae, 0xd2, 0xa6, 0xab, 0xf7, 0x15, 0x88, 0x09, 0xcf, 0x4f, 0x3c,

@@ -1,10 +1,10 @@
 //! Joins through the join server. OpenSSL made the Join-Accepts and the keys.
 
 use crate::common::all_memory;
-use ns_device::{ReplyFault, TestDevice, TestJoinServer};
 use ns_joinwire::{AnsFault, join_ans};
 use ns_types::{DevAddr, DevEui, DevNonce, JoinEui, Key};
 use std::test::Fail;
+use test_device::{ReplyFault, TestDevice, TestJoinServer};
 
 const APP_KEY: Key = Key([
     0x2b, 0x7e, 0x15, 0x16, 0x28, 0xae, 0xd2, 0xa6, 0xab, 0xf7, 0x15, 0x88, 0x09, 0xcf, 0x4f, 0x3c,

@@ -5,8 +5,6 @@
 #![tactic(auto)]
 
 #[cfg(test)]
-mod closing;
-#[cfg(test)]
 mod common;
 #[cfg(test)]
 mod join_server;

@@ -1,10 +1,10 @@
-//! A journal that grows, where there is memory and where there is none.
+//! A journal where there is no memory, or as much as its growth is to need.
 
 ghost use Rattle.std.specs.Prelude.{◌≡◌};
 
 use ns_calls::{Call, Entry, Reply};
 use ns_journal::Journal;
-use ns_types::{DevEui, WindowName};
+use ns_types::{BLOCKS, DevEui, WindowName, take_all};
 use std::alloc::{AllocError, Global};
 use std::test::Fail;
 
@@ -23,29 +23,6 @@ fn add(journal: &mut Journal, fcnt: u32) -> Result<u64, AllocError> {
     journal.room(1)?;
     let window = window(fcnt);
     Ok(journal.push(Call::Close { window }, Reply::NoWindow))
-}
-
-#[test]
-fn entries_in_order(rt: HostRuntime) -> Result<(), Fail> {
-    let mut journal = Journal::new(rt.alloc());
-    assert_eq!(rt; journal.made(), 0);
-    assert_eq!(rt; journal.entries().len(), 0);
-    for fcnt in 0..20_000u32 {
-        assert_eq!(rt; add(&mut journal, fcnt)?, u64::from(fcnt));
-    }
-    assert_eq!(rt; journal.made(), 20_000);
-    assert_eq!(rt; journal.entries().len(), 20_000);
-    for fcnt in 0..20_000u32 {
-        let wanted = Entry {
-            number: u64::from(fcnt),
-            call: Call::Close {
-                window: window(fcnt),
-            },
-            reply: Reply::NoWindow,
-        };
-        assert!(rt; journal.entries().get(fcnt as usize) == Some(&wanted));
-    }
-    Ok(())
 }
 
 // Room for more entries than there can be is refused, and what stands in the journal stays.
@@ -91,24 +68,6 @@ fn cut_all(journal: &mut Journal, alloc: Global) -> Result<Vec<Entry>, AllocErro
     journal.cut(alloc, &[])
 }
 
-// What is cut out comes in order, and numbers go on.
-#[test]
-fn a_cut_of_all_entries(rt: HostRuntime) -> Result<(), Fail> {
-    let mut journal = Journal::new(rt.alloc());
-    for fcnt in 0..100u32 {
-        assert_eq!(rt; add(&mut journal, fcnt)?, u64::from(fcnt));
-    }
-    let out = cut_all(&mut journal, rt.alloc())?;
-    assert_eq!(rt; out.len(), 100);
-    for (place, entry) in out.iter().enumerate() {
-        assert_eq!(rt; entry.number, place as u64);
-    }
-    assert_eq!(rt; journal.entries().len(), 0);
-    assert_eq!(rt; journal.made(), 100);
-    assert_eq!(rt; add(&mut journal, 7)?, 100);
-    Ok(())
-}
-
 // Reserved room outlasts a cut.
 #[test]
 fn a_cut_leaves_the_reserved_room(rt: HostRuntime) -> Result<(), Fail> {
@@ -122,5 +81,26 @@ fn a_cut_leaves_the_reserved_room(rt: HostRuntime) -> Result<(), Fail> {
         journal.push_reserved(Call::Close { window }, Reply::NoWindow),
         1
     );
+    Ok(())
+}
+
+// Of 65,536 entries, which fill their room: a growth is refused where all memory is gone, and is made where 64 MB are given back, which
+// has room for twice as many and not for eight times as many. A cut of which nothing stays takes no memory.
+#[test]
+fn growth_and_cut_take_no_more_than_they_need(rt: HostRuntime) -> Result<(), Fail> {
+    let mut journal = Journal::new(rt.alloc());
+    let mut held: Vec<Vec<u8>> = Vec::with_capacity(rt.alloc(), BLOCKS)?;
+    for fcnt in 0..65_536u32 {
+        add(&mut journal, fcnt)?;
+    }
+    let spare: Vec<u8> = Vec::with_capacity(rt.alloc(), 1 << 26)?;
+    take_all(rt.alloc(), &mut held)?;
+    let is_refused = journal.room(1).is_err();
+    drop(spare);
+    let is_grown = journal.room(1).is_ok();
+    take_all(rt.alloc(), &mut held)?;
+    let is_cut = cut_all(&mut journal, rt.alloc()).is_ok();
+    drop(held);
+    assert_eq!(rt; (is_refused, is_grown, is_cut), (true, true, true));
     Ok(())
 }

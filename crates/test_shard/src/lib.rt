@@ -1,5 +1,5 @@
-//! The tests of a shard and of what it is made of: calls and lines, sessions, devices, windows, what a trim keeps, the journal, whole
-//! runs, growths that are refused, and trims.
+//! Tests of a shard and of `replay` that no text of a worked run can say: a server that searches its entries gives the same replies to
+//! Join-Requests, the last round of a session, memory that is refused to a shard, to a journal and to a whole run, and streams that fail.
 //!
 //! They call what those crates give in public, and stand here so that no crate is proved once more for its tests.
 #![tactic(auto)]
@@ -7,18 +7,12 @@
 #[cfg(test)]
 mod calls;
 #[cfg(test)]
-mod devices;
-#[cfg(test)]
 mod growth;
+#[cfg(test)]
+mod joins;
 #[cfg(test)]
 mod journal;
 #[cfg(test)]
-mod keep;
+mod rounds;
 #[cfg(test)]
-mod sessions;
-#[cfg(test)]
-mod shard;
-#[cfg(test)]
-mod trim;
-#[cfg(test)]
-mod windows;
+mod streams;

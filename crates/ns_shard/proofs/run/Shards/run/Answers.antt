@@ -20,6 +20,10 @@ steps-preserved c =
           ∙ told-more net c.args.steps.now i x c.steps.taken.items _ c.in_ok-one.one c.steps-test.true c.step-item.is c.steps.invariant.told new;
     }
 
+pub returns-clause-sixteen : goal.returns-clause-sixteen
+returns-clause-sixteen c =
+    (after-all (arc_value c.args.roster) c.args.steps.now c.steps.step-index c.steps.list.items c.steps-test.false c.steps.invariant.after).sixteen
+
 pub returns-clause-histories : goal.returns-clause-histories
 returns-clause-histories c =
     let net = arc_value c.args.roster in

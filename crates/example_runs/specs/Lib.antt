@@ -1,0 +1,11 @@
+pub mod OneDevice
+pub mod ThreeDevices
+pub mod FirstJoin
+pub mod SecondJoin
+pub mod SentAgain
+pub mod LastCounter
+pub mod SharedAddress
+pub mod FirstWindow
+pub mod Legal
+pub mod JsonTexts
+pub mod Frames

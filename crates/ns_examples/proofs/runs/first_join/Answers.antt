@@ -1,8 +1,0 @@
-use Rattle.ns_examples.proofs.FirstJoin.{first_join, first_join_lines}
-use Rattle.ns_examples.proofs.runs.first_join.Goals as goal
-
-pub returns-clause-answers : goal.returns-clause-answers
-returns-clause-answers c = first_join
-
-pub returns-clause-lines : goal.returns-clause-lines
-returns-clause-lines c = first_join_lines

@@ -1,0 +1,9 @@
+use Rattle.std.proofs.Common.{arith}
+use Rattle.ns_responses.proofs.HeldLemmas.{skipped}
+use Rattle.ns_responses.proofs.held.Held.skip.Goals as goal
+
+pub returns : goal.returns
+returns c =
+    let i = c.self.inside in
+    let v = c.self.invariant in
+    skipped i.bytes i.start i.middle i.end c.args.self.now c.self.view_is (v.0, v.1, omega (arith, v.2, c.self.told)) c.args.count c.requires.within

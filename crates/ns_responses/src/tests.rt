@@ -1,0 +1,121 @@
+//! Responses read in pieces of every size. What is wanted of each is written by RFC 9112 and RFC 9110.
+
+ghost use Rattle.std.specs.Prelude.{◌<◌};
+
+use crate::Responses;
+use ns_types::{Fuse, ReadFault, read_all};
+use std::test::Fail;
+
+const PLAIN: &str = "HTTP/1.1 200 OK\r\nServer: a\r\nContent-Length: 2\r\n\r\nhi";
+
+const CHUNKED: &str = "HTTP/1.1 200 OK\r\nTransfer-Encoding: chunked\r\n\r\n";
+
+// A response, and what is given in its place, or None where it is refused.
+const RESPONSES: &[(&str, Option<&str>)] = &[
+    (PLAIN, Some(PLAIN)),
+    ("", Some("")),
+    // Chunks, their sizes in either case and with zeros before them.
+    (
+        "HTTP/1.1 200 OK\r\nServer: a\r\ntransfer-encoding:\tChunked \r\nDate: b\r\n\r\n2\r\nhi\r\n0A\r\n0123456789\r\nb\r\n0123456789a\r\n000\r\n\r\n",
+        Some("HTTP/1.1 200 OK\r\nServer: a\r\nDate: b\r\n\r\nhi01234567890123456789a"),
+    ),
+    // Extensions, trailers, and lines that end in LF alone.
+    (
+        "HTTP/1.1 200 OK\nTransfer-Encoding: chunked\n\n1;a=b\r\nh\r\n1 ;c=\"d\"\r\ni\r\n0;e\r\nServer: a\r\nDate: b\r\n\r\nmore",
+        Some("HTTP/1.1 200 OK\n\nhi"),
+    ),
+    // The data of a chunk looks like lines of chunks.
+    (
+        "HTTP/1.1 404 No\r\nTransfer-Encoding: chunked\r\n\r\n7\r\n\r\n0\r\n\r\n\r\n0\r\n\r\n",
+        Some("HTTP/1.1 404 No\r\n\r\n\r\n0\r\n\r\n"),
+    ),
+    // Interim heads.
+    (
+        "HTTP/1.1 100 Continue\r\n\r\nHTTP/1.1 103 Early Hints\r\nLink: a\r\n\r\nHTTP/1.1 200 OK\r\nTransfer-Encoding: chunked\r\n\r\n2\r\nhi\r\n0\r\n\r\n",
+        Some("HTTP/1.1 200 OK\r\n\r\nhi"),
+    ),
+    (
+        "HTTP/1.1 102 Processing\r\nTransfer-Encoding: chunked\r\n\r\nHTTP/1.1 200 OK\r\nContent-Length: 2\r\n\r\nhi",
+        Some("HTTP/1.1 200 OK\r\nContent-Length: 2\r\n\r\nhi"),
+    ),
+    // What goes through as it came.
+    (
+        "HTTP/1.0 200 OK\r\nTransfer-Encoding: chunked\r\n\r\n0\r\n\r\n",
+        Some("HTTP/1.0 200 OK\r\nTransfer-Encoding: chunked\r\n\r\n0\r\n\r\n"),
+    ),
+    (
+        "HTTP/1.1 200 OK\r\nTransfer-Encoding: gzip, chunked\r\n\r\n0\r\n\r\n",
+        Some("HTTP/1.1 200 OK\r\nTransfer-Encoding: gzip, chunked\r\n\r\n0\r\n\r\n"),
+    ),
+    (
+        "HTTP/1.1 200 OK\r\nTransfer-Encoding: chunked\r\nTransfer-Encoding: chunked\r\n\r\n0\r\n\r\n",
+        Some(
+            "HTTP/1.1 200 OK\r\nTransfer-Encoding: chunked\r\nTransfer-Encoding: chunked\r\n\r\n0\r\n\r\n",
+        ),
+    ),
+    (
+        "HTTP/1.1 200 OK\r\nContent-Length: 5\r\nTransfer-Encoding: chunked\r\n\r\n0\r\n\r\n",
+        Some("HTTP/1.1 200 OK\r\nContent-Length: 5\r\nTransfer-Encoding: chunked\r\n\r\n0\r\n\r\n"),
+    ),
+    (
+        "HTTP/1.1 200 OK\r\nTransfer-Encoding: chunked",
+        Some("HTTP/1.1 200 OK\r\nTransfer-Encoding: chunked"),
+    ),
+    ("SSH-2.0-a\r\n\r\n", Some("SSH-2.0-a\r\n\r\n")),
+];
+
+// Bodies that are no lawful chunks, or that end early.
+const UNLAWFUL: &[&str] = &[
+    "",
+    "2\r\nhi\r\n",
+    "2\r\nhi\r\n0\r\n",
+    "0\r\nDate: b\r\n",
+    "2\r\nh",
+    "2\r\nhi0\r\n\r\n",
+    "2\r\nhi\n0\r\n\r\n",
+    "2\nhi\r\n0\r\n\r\n",
+    "-2\r\nhi\r\n0\r\n\r\n",
+    "0x2\r\nhi\r\n0\r\n\r\n",
+    "\r\n0\r\n\r\n",
+    "g\r\n0\r\n\r\n",
+    "10000000000000002\r\nhi\r\n0\r\n\r\n",
+    "2;a\u{7f}\r\nhi\r\n0\r\n\r\n",
+    "2 x\r\nhi\r\n0\r\n\r\n",
+];
+
+// All that is given of a response that comes in pieces of at most so many bytes.
+fn given(rt: &HostRuntime, response: &[u8], most: usize) -> Result<Option<Vec<u8>>, Fail>
+    requires { 0 < most }
+{
+    let input = Vec::from_slice(rt.alloc(), response)?;
+    let mut responses = Responses::new(Fuse::new(rt.alloc(), input, most, None, None));
+    match read_all(rt.alloc(), &mut responses) {
+        Ok(bytes) => Ok(Some(bytes)),
+        Err(ReadFault::Io) => Ok(None),
+        Err(ReadFault::NoMemory) => Err("no memory".into()),
+    }
+}
+
+#[test]
+fn responses_are_given_in_their_plain_form(rt: HostRuntime) -> Result<(), Fail> {
+    for (response, wanted) in RESPONSES {
+        for less in 0..=response.len() {
+            let given = given(&rt, response.as_bytes(), less + 1)?;
+            assert_eq!(rt;
+                given.as_deref(),
+                wanted.map(|text| text.as_bytes()),
+                "{response}"
+            );
+        }
+    }
+    for body in UNLAWFUL {
+        let response = format!(in rt.alloc(); "{CHUNKED}{body}")?;
+        for less in 0..=response.len() {
+            assert!(rt;
+                given(&rt, response.as_bytes(), less + 1)?.is_none(),
+                "{body}"
+            );
+        }
+    }
+    Ok(())
+}

@@ -1,0 +1,50 @@
+//! Rounds up to the last one, of one device's state.
+
+use ns_calls::{JoinAccept, JoinAns, Outcome};
+use ns_sessions::{DeviceState, Recovery};
+use ns_types::{Heard, Key, Ticket};
+use ns_views::{PhyView, view};
+use std::test::Fail;
+
+// An unconfirmed uplink with counter 2 under the NwkSKey below.
+const FRAME: [u8; 17] = [
+    0x40, 0xf1, 0x7d, 0xbe, 0x49, 0x00, 0x02, 0x00, 0x01, 0x95, 0x43, 0x78, 0x76, 0x2b, 0x11, 0xff,
+    0x0d,
+];
+
+const NWK_S_KEY: Key = Key([
+    0x44, 0x02, 0x42, 0x41, 0xed, 0x4c, 0xe9, 0xa6, 0x8c, 0x6a, 0x8b, 0xc0, 0x55, 0x23, 0x3f, 0xd3,
+]);
+
+/// The uplink with a session's greatest counter has a next round until the last, and no other has one.
+#[test]
+fn rounds_of_the_greatest_counter(rt: HostRuntime) -> Result<(), Fail> {
+    let mut state = DeviceState::new(None);
+    let PhyView::Frame(frame) = view(&FRAME).map_err(|_| "refused")? else {
+        return Err("no data frame".into());
+    };
+    let ticket = Ticket([
+        0, 4, 3, 2, 1, 4, 3, 2, 1, 13, 0, 0, 0, 0, 0, 0, 0, 1, 0, 1, 0, 0, 0,
+    ]);
+    state.ask(&ticket, &Heard::default());
+    let join = JoinAns {
+        accept: JoinAccept::Plain([0x20; 17]),
+        nwk: NWK_S_KEY,
+        app: None,
+    };
+    state.answer(&ticket, &Outcome::Success(join));
+    assert_eq!(rt; state.next_round(1, 2), None);
+    let (session, counter) = state.fit(Recovery::Above, &frame).ok_or("no session")?;
+    state.open(session, counter);
+    assert_eq!(rt; (session, counter), (1, 2));
+    assert_eq!(rt; state.next_round(1, 2), Some(2));
+    assert_eq!(rt; state.next_round(1, 1), None);
+    assert_eq!(rt; state.next_round(2, 2), None);
+    state.open_again(1, 2);
+    assert_eq!(rt; state.next_round(1, 2), Some(3));
+    state.open_again(1, 0xffff_fffe);
+    assert_eq!(rt; state.next_round(1, 2), Some(0xffff_ffff));
+    state.open_again(1, 0xffff_ffff);
+    assert_eq!(rt; state.next_round(1, 2), None);
+    Ok(())
+}

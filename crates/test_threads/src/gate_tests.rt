@@ -1,0 +1,231 @@
+//! Gates: a call of one shard held while all other shards answer, and two calls of one shard in turn.
+
+ghost use Rattle.std.specs.Prelude.{◌≡◌};
+ghost use Rattle.std.specs.Arc.{arc_value};
+ghost use Rattle.ns_tally.specs.Tally.{AreNamed};
+
+use crate::served::shared_roster;
+use crate::traffic;
+use ns_roster::Roster;
+use ns_server::{Gate, Naming, Open, Pass, Server};
+use ns_tally::Blanks;
+use std::alloc::Global;
+use std::marker::Brand;
+use std::process::Abort;
+use std::rt::Clock;
+use std::sync::atomic::{AtomicU64, Ordering};
+use std::sync::{Arc, Wait};
+use std::test::*;
+use std::thread;
+use std::thread::Threads;
+use std::time::Duration;
+
+#[test]
+fn two_shards_at_once(rt: HostRuntime) -> Result<(), Fail> {
+    let alloc: Global = rt.alloc();
+    let roster = shared_roster(alloc, 16)?;
+    both_answered::<Brand, _>(&rt, alloc, roster, Blanks::new(2))
+}
+
+#[test]
+fn one_shard_in_turn(rt: HostRuntime) -> Result<(), Fail> {
+    let alloc: Global = rt.alloc();
+    let roster = shared_roster(alloc, 16)?;
+    one_after_the_other::<Brand, _>(&rt, alloc, roster, Blanks::new(2))
+}
+
+// Holds a call at its gate until the flag is up, for ten seconds at most, and keeps the number of its visit.
+#[derive(Drop)]
+struct Until {
+    flag: AtomicU64,
+    late: AtomicU64,
+    number: AtomicU64,
+}
+
+impl<R: Clock> Gate<R> for Until {
+    fn visit(&self, rt: &R, _shard: u8, number: u64) {
+        self.number.store(number, Ordering::SeqCst);
+        for _ in 0..10_000u32 {
+            if self.flag.load(Ordering::SeqCst) == 1 {
+                return;
+            }
+            let _ = thread::sleep(rt, Duration::from_millis(1));
+        }
+        self.late.store(1, Ordering::SeqCst);
+    }
+}
+
+// The first visit lasts for 100 turns, and sees whether another comes meanwhile. Keeps the numbers of both.
+#[derive(Drop)]
+struct Turns {
+    visits: AtomicU64,
+    early: AtomicU64,
+    first: AtomicU64,
+    second: AtomicU64,
+}
+
+impl<R: Clock> Gate<R> for Turns {
+    fn visit(&self, rt: &R, _shard: u8, number: u64) {
+        if self.visits.fetch_add(1, Ordering::SeqCst) > 0 {
+            self.second.store(number, Ordering::SeqCst);
+            return;
+        }
+        self.first.store(number, Ordering::SeqCst);
+        for _ in 0..100u32 {
+            let _ = thread::sleep(rt, Duration::from_millis(1));
+        }
+        if self.visits.load(Ordering::SeqCst) > 1 {
+            self.early.store(1, Ordering::SeqCst);
+        }
+    }
+}
+
+// The number of the entry of a device's Join-Request, and 1000 where there was no memory.
+fn one_call<B: Naming, R: Wait, G: Gate<R>>(
+    rt: &R,
+    server: &Server<B>,
+    pass: &mut Pass<B>,
+    device: u32,
+    gate: &G,
+) -> u64 {
+    match server.call(rt, pass, traffic::join(device, 1), gate) {
+        Ok(receipt) => receipt.entry.number,
+        Err(_) => 1000,
+    }
+}
+
+// The same with a pass that is given up.
+fn last_call<B: Naming, R: Wait, G: Gate<R>>(
+    rt: &R,
+    server: &Server<B>,
+    pass: Pass<B>,
+    device: u32,
+    gate: &G,
+) -> u64 {
+    let mut pass = pass;
+    one_call(rt, server, &mut pass, device, gate)
+}
+
+fn both_answered<B: Naming + Send + Sync, R: Threads + Wait + Abort + Clock + Sync>(
+    rt: &R,
+    alloc: Global,
+    roster: Arc<Roster>,
+    blanks: Blanks,
+) -> Result<(), Fail>
+    requires names { AreNamed B.ledger blanks.names }
+    requires parts { (blanks.parts ≡ 2) × (B.workers ≡ 2) }
+    requires roster { arc_value roster ≡ B.roster }
+{
+    let (server, mut passes) = Server::<B>::new(alloc, roster, 2, blanks)?;
+    let one = passes.pop().unwrap();
+    let two = passes.pop().unwrap();
+    let gate = Until {
+        flag: AtomicU64::new(0),
+        late: AtomicU64::new(0),
+        number: AtomicU64::new(77),
+    };
+    let answered = held(rt, &server, one, two, &gate);
+    assert_eq!(rt; answered, (0, 15));
+    assert_eq!(rt; gate.late.load(Ordering::SeqCst), 0);
+    assert_eq!(rt; gate.number.load(Ordering::SeqCst), 0);
+    Ok(())
+}
+
+// A call on shard 0 is held until one on each of the fifteen others is answered. The number of its entry, and how many of the others were
+// answered by the first entry of their shard.
+fn held<B: Naming + Send + Sync, R: Threads + Wait + Clock + Sync>(
+    rt: &R,
+    server: &Server<B>,
+    one: Pass<B>,
+    two: Pass<B>,
+    gate: &Until,
+) -> (u64, u32) {
+    thread::join(
+        rt,
+        || last_call(rt, server, one, 0, gate),
+        || {
+            wait_until_held(rt, gate);
+            let answered = fifteen_calls(rt, server, two);
+            gate.flag.store(1, Ordering::SeqCst);
+            answered
+        },
+    )
+}
+
+// Waits until a call is at the gate, for ten seconds at most.
+fn wait_until_held<R: Clock>(rt: &R, gate: &Until) {
+    for _ in 0..10_000u32 {
+        if gate.number.load(Ordering::SeqCst) != 77 {
+            return;
+        }
+        let _ = thread::sleep(rt, Duration::from_millis(1));
+    }
+}
+
+// A call on each shard but 0.
+fn fifteen_calls<B: Naming, R: Wait>(rt: &R, server: &Server<B>, pass: Pass<B>) -> u32 {
+    let mut pass = pass;
+    let mut answered = 0u32;
+    for device in 1..16u32 {
+        if one_call(rt, server, &mut pass, device, &Open) == 0 {
+            answered = answered.wrapping_add(1);
+        }
+    }
+    answered
+}
+
+fn one_after_the_other<B: Naming + Send + Sync, R: Threads + Wait + Abort + Clock + Sync>(
+    rt: &R,
+    alloc: Global,
+    roster: Arc<Roster>,
+    blanks: Blanks,
+) -> Result<(), Fail>
+    requires names { AreNamed B.ledger blanks.names }
+    requires parts { (blanks.parts ≡ 2) × (B.workers ≡ 2) }
+    requires roster { arc_value roster ≡ B.roster }
+{
+    let (server, mut passes) = Server::<B>::new(alloc, roster, 2, blanks)?;
+    let mut one = passes.pop().unwrap();
+    let two = passes.pop().unwrap();
+    assert_eq!(rt; one_call(rt, &server, &mut one, 0, &Open), 0);
+    let gate = Turns {
+        visits: AtomicU64::new(0),
+        early: AtomicU64::new(0),
+        first: AtomicU64::new(77),
+        second: AtomicU64::new(77),
+    };
+    let numbers = in_turn(rt, &server, one, two, &gate);
+    assert_eq!(rt; numbers, (1, 2));
+    assert_eq!(rt; gate.early.load(Ordering::SeqCst), 0);
+    assert_eq!(rt; gate.visits.load(Ordering::SeqCst), 2);
+    assert_eq!(rt; gate.first.load(Ordering::SeqCst), 1);
+    assert_eq!(rt; gate.second.load(Ordering::SeqCst), 2);
+    Ok(())
+}
+
+// A second call on shard 0 begins once the first is at its gate.
+fn in_turn<B: Naming + Send + Sync, R: Threads + Wait + Clock + Sync>(
+    rt: &R,
+    server: &Server<B>,
+    one: Pass<B>,
+    two: Pass<B>,
+    gate: &Turns,
+) -> (u64, u64) {
+    thread::join(
+        rt,
+        || last_call(rt, server, one, 0, gate),
+        || {
+            wait_for_first(rt, gate);
+            last_call(rt, server, two, 0, gate)
+        },
+    )
+}
+
+fn wait_for_first<R: Clock>(rt: &R, gate: &Turns) {
+    for _ in 0..10_000u32 {
+        if gate.visits.load(Ordering::SeqCst) > 0 {
+            return;
+        }
+        let _ = thread::sleep(rt, Duration::from_millis(1));
+    }
+}

@@ -1,0 +1,75 @@
+#!/usr/bin/env python3
+"""Draws which crate stands on which, from crates.txt.
+
+    python3 tools/crates_graph.py            Mermaid's text of the server's crates, as in docs/DEVELOPING.md
+    python3 tools/crates_graph.py --all      with the tests, examples and benchmarks
+    python3 tools/crates_graph.py --update   puts the first into docs/DEVELOPING.md
+    python3 tools/crates_graph.py --check    status 1 where docs/DEVELOPING.md has another
+
+crates.txt lists for each crate all libraries below it, since each is handed to the compiler. Drawn is what is not
+implied: an arrow leads from a crate to one that it stands on and that no other of its libraries stands on. Crates of
+the kit are left out.
+"""
+import argparse
+import sys
+from pathlib import Path
+
+ROOT = Path(__file__).resolve().parent.parent
+PAGE = ROOT / "docs" / "DEVELOPING.md"
+BEGIN, END = "<!-- crates: begin -->\n", "<!-- crates: end -->\n"
+BESIDE = "# Beside the server"
+
+
+def listed(text):
+    """The crates in their order, each with its libraries of the repository, and how many of them are the server's."""
+    below, server = {}, []
+    beside = False
+    for line in text.splitlines():
+        beside = beside or line.startswith(BESIDE)
+        line = line.split("#")[0].strip()
+        if line:
+            name, libraries = line.split(":")
+            name = name.split()[0]
+            below[name] = libraries.split()
+            if not beside:
+                server.append(name)
+    return {name: [x for x in libraries if x in below] for name, libraries in below.items()}, server
+
+
+def arrows(below):
+    """What is not implied: (crate, library) where no other library of the crate stands on that library."""
+    return [(name, low) for name, libraries in below.items() for low in libraries
+            if not any(low in below[other] for other in libraries)]
+
+
+def graph(all_of_them):
+    below, server = listed((ROOT / "crates.txt").read_text())
+    shown = list(below) if all_of_them else server
+    below = {name: [x for x in below[name] if x in shown] for name in shown}
+    rows = [f"    {name} --> {low}" for name, low in arrows(below)]
+    return "```mermaid\ngraph TD\n" + "\n".join(rows) + "\n```\n"
+
+
+def page_with(text):
+    before, rest = PAGE.read_text().split(BEGIN)
+    return before + BEGIN + text + END + rest.split(END)[1]
+
+
+def main():
+    words = argparse.ArgumentParser(description=__doc__, formatter_class=argparse.RawDescriptionHelpFormatter)
+    words.add_argument("--all", action="store_true")
+    words.add_argument("--update", action="store_true")
+    words.add_argument("--check", action="store_true")
+    asked = words.parse_args()
+    text = graph(asked.all)
+    if asked.update:
+        PAGE.write_text(page_with(text))
+    elif asked.check:
+        return 0 if PAGE.read_text() == page_with(text) else 1
+    else:
+        print(text, end="")
+    return 0
+
+
+if __name__ == "__main__":
+    sys.exit(main())

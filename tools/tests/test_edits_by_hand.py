@@ -1,0 +1,103 @@
+"""tools/edits_by_hand: what an edit changes, what is said of it, and that the repository stays as it is. A stand-in for `rt` proves what has
+no word WRONG, and its tests pass where the code has no word SLOW."""
+import os
+import shutil
+import signal
+import subprocess
+import tempfile
+import time
+import unittest
+
+from live import TOOLS
+
+SCRIPT = os.path.join(TOOLS, 'edits_by_hand')
+RT = '''#!/bin/sh
+if [ "$1" = check ]; then
+    if grep -q HANG src/*; then exec sleep 60; fi
+    if grep -q WRONG src/*; then echo "note: src/lib.rt:1:1: it is not proved"; echo logic=not-proved; exit 1; fi
+    echo "crate: modules loaded"; echo logic=proved
+else
+    if grep -q SLOW ../low/src/*; then echo "test it::is_fast ... FAILED"; else echo "test it::is_fast ... ok"; fi
+    echo "test it::fails ... FAILED"; echo "test result: FAILED."
+fi
+'''
+
+
+class Edits(unittest.TestCase):
+    def setUp(self):
+        room = tempfile.TemporaryDirectory()
+        self.addCleanup(room.cleanup)
+        self.room = room.name
+        self.put('bin/rt', RT)
+        os.chmod(self.room + '/bin/rt', 0o755)
+        os.mkdir(self.room + '/tmp')
+        os.mkdir(self.room + '/tools')
+        shutil.copy(SCRIPT, self.room + '/tools')
+        self.put('crates.txt', '# Crates: low\nlow:\nhigh: low itoa\n')
+        self.put('crates/low/src/lib.rt', 'one\ntwo two\n')
+        self.put('crates/high/src/lib.rt', 'three\n')
+
+    def put(self, path, text):
+        path = os.path.join(self.room, path)
+        os.makedirs(os.path.dirname(path), exist_ok=True)
+        with open(path, 'w', encoding='utf-8') as file:
+            file.write(text)
+
+    def edit(self, name, old, new, more='', folder='by-hand'):
+        self.put('crates/low/%s/%s.edit' % (folder, name), '%sfile: src/lib.rt\nold: %s\nnew: %s\n' % (more, old, new))
+
+    def started(self, *words):
+        env = dict(os.environ, PATH=self.room + '/bin:' + os.environ['PATH'], TMPDIR=self.room + '/tmp')
+        return subprocess.Popen(['python3', '-B', self.room + '/tools/edits_by_hand', *words], env=env, text=True,
+                                stdout=subprocess.PIPE, stderr=subprocess.STDOUT)
+
+    def says(self, *words):
+        """The status, and each line without its seconds."""
+        child = self.started(*words)
+        lines = child.communicate(timeout=60)[0].splitlines()
+        self.assertEqual(os.listdir(self.room + '/tmp'), [])
+        with open(self.room + '/crates/low/src/lib.rt', encoding='utf-8') as file:
+            self.assertEqual(file.read(), 'one\ntwo two\n')
+        return child.returncode, [line.partition(' (')[0] for line in lines]
+
+    def test_by_the_prover(self):
+        self.edit('a', 'one', 'WRONG')
+        self.edit('b', 'one', 'right')
+        self.edit('c', 'two', 'WRONG')
+        self.edit('d', 'one', 'WRONG', folder='must-fail')
+        self.assertEqual(self.says('low'), (1, ['low/a: refused', 'low/b: ACCEPTED', 'low/c: NOT TRIED', '1 refused, 1 ACCEPTED, 1 NOT TRIED']))
+        self.assertEqual(self.says('low/a', 'low/d'), (0, ['low/a: refused', 'low/d: refused', '2 refused, 0 ACCEPTED, 0 NOT TRIED']))
+        self.assertEqual(self.says('high')[0], 1)
+
+    def test_by_tests(self):
+        self.edit('a', 'one', 'SLOW', 'tests: high\n')
+        self.edit('b', 'one', 'WRONG', 'tests: high\n')
+        self.assertEqual(self.says(), (1, ['low/a: refused', 'low/b: ACCEPTED', '1 refused, 1 ACCEPTED, 0 NOT TRIED']))
+
+    def test_read(self):
+        self.edit('a', 'one', 'WRONG')
+        self.assertEqual(self.says('--read'), (0, ['1 can be applied, 0 cannot']))
+        self.edit('b', 'two', 'WRONG', folder='must-fail')
+        self.edit('c', 'one', 'one')
+        status, lines = self.says('--read')
+        self.assertEqual((status, lines[-1]), (1, '1 can be applied, 2 cannot'))
+        self.assertIn('crates/low/must-fail/b.edit: `two` stands there 2 times', lines)
+
+    def test_ended_in_between(self):
+        self.edit('a', 'one', 'HANG')
+        child = self.started('low')
+        time.sleep(2)
+        self.assertEqual(len(os.listdir(self.room + '/tmp')), 1)
+        child.send_signal(signal.SIGTERM)
+        child.communicate(timeout=20)
+        self.assertEqual((child.returncode, os.listdir(self.room + '/tmp')), (128 + signal.SIGTERM, []))
+
+
+class Repository(unittest.TestCase):
+    def test_each_edit_can_be_applied(self):
+        ran = subprocess.run([SCRIPT, '--read'], stdout=subprocess.PIPE, text=True)
+        self.assertEqual(ran.returncode, 0, ran.stdout)
+
+
+if __name__ == '__main__':
+    unittest.main()

@@ -1,0 +1,29 @@
+"""The model beside the worked runs."""
+import glob
+import os
+import tempfile
+import unittest
+
+import check_worked_runs
+
+WINDOWS = os.path.join(os.path.dirname(check_worked_runs.FILES), 'windows.txt')
+
+
+class WorkedRuns(unittest.TestCase):
+    def test_all_files(self):
+        self.assertGreaterEqual(len(glob.glob(check_worked_runs.FILES)), 10)
+        self.assertEqual(check_worked_runs.main([]), 0)
+
+    def test_a_wrong_line(self):
+        with open(WINDOWS, encoding='utf-8') as file:
+            text = file.read()
+        wrong = text.replace('copied 000000000000000d 1 2 3', 'copied 000000000000000d 1 2 4')
+        self.assertNotEqual(wrong, text)
+        with tempfile.NamedTemporaryFile('w', suffix='.txt') as file:
+            file.write(wrong)
+            file.flush()
+            self.assertEqual(check_worked_runs.main([file.name]), 1)
+
+
+if __name__ == '__main__':
+    unittest.main()
