@@ -19,7 +19,7 @@ status 0 only where all came as it must.
     --confirmed SHARE    how many of them are confirmed (default 0.5)
     --seed N             of all that is picked by chance (default 1)
     --workers N, --join-workers N, --window MS     of the `serve` that it starts (4, 4 and 200; the window also of one that runs)
-    --trim N             of the `serve` that it starts: after how many entries a shard is trimmed (0: never, the default)
+    --trim N             of the `serve` that it starts: after how many entries a shard is trimmed, or `never` (default: its own default)
     --rx1-offset N, --rx-delay N      of the roster (default 2 and 1)
     --quiet              tells the sums alone, which it also does once a minute
     --soak SECONDS       sends for this time in place of --frames, with what follows
@@ -67,6 +67,13 @@ def between(least, most, kind=int):
     return read
 
 
+def trims(value):
+    return value if value == 'never' else str(between(1, MOST_DATAGRAMS)(value))
+
+
+trims.__name__ = 'number of entries'
+
+
 def options_of(words):
     parser = argparse.ArgumentParser(description=__doc__, formatter_class=argparse.RawDescriptionHelpFormatter,
                                      usage='%(prog)s [options]', allow_abbrev=False)
@@ -75,7 +82,7 @@ def options_of(words):
             ('devices', between(1, 65536), 8), ('gateways', between(1, 1000), 4), ('copies', between(1, 16), 3),
             ('frames', between(1, 60000), 6), ('rate', between(0.01, 1e5, float), 40.0), ('confirmed', between(0, 1, float), 0.5),
             ('seed', between(0, 1 << 32), 1), ('workers', between(1, 16), 4), ('join-workers', between(1, 16), 4),
-            ('window', between(1, 60000), 200), ('trim', between(0, 4294967295), 0), ('rx1-offset', between(0, 5), 2), ('rx-delay', between(0, 15), 1),
+            ('window', between(1, 60000), 200), ('trim', trims, None), ('rx1-offset', between(0, 5), 2), ('rx-delay', between(0, 15), 1),
             ('soak', between(0, 1e7, float), 0), ('rejoin', between(0, 60000), 0), ('flap', between(0, 1e6, float), 0),
             ('hostile', between(0, 1, float), 0), ('join-faults', between(0, 1e6, float), 0)):
         parser.add_argument('--' + name, type=kind, default=default, help=argparse.SUPPRESS)
@@ -100,7 +107,7 @@ def started(options, folder, join):
     serve = Serve([options.program, 'serve', roster, '--join', '%s:%d' % join, '--listen', '127.0.0.1:0',
                    '--workers', str(options.workers), '--join-workers', str(options.join_workers),
                    '--window', str(options.window), '--stop-after', str(options.datagrams),
-                   *(['--trim', str(options.trim)] if options.trim else [])])
+                   *(['--trim', options.trim] if options.trim else [])])
     serve.is_over = False
     return serve
 

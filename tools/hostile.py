@@ -4,7 +4,7 @@
     hostile.py PROGRAM READER [--kind KIND] [--count N] [--seed S] [--size N] [--keep DIR] [--own-aes]
 
     PROGRAM         `lorawan_ns`, for datagrams, lines, answers and files
-    READER          `read_texts`, for rosters and responses
+    READER          `worked_joins`, for rosters and responses
     --kind KIND     one of datagrams, lines, answers (of join servers, in lines), rosters, responses (of join servers, with their
                     heads) and files (rosters as the program reads them); default: each of them
     --count N       how many inputs of a kind (default 10000)
@@ -258,7 +258,9 @@ def file_batch(options, seed, folder, reached):
     fault = reading(text)
     want = (1, '', 'roster: %s\n' % fault) if fault[0] == 'O' else (0, '', '')
     reached[fault if fault[0] == 'O' else 'read'] += 1
-    got = compare.run_program(options, text, b'', folder)
+    status, lines, told = compare.run_program(options, text, b'', folder)
+    # Before the fault stands a log line, which says where it is.
+    got = status, lines, ''.join(line for line in told.splitlines(True) if ' ERROR ' not in line)
     return None if got == want else (text, b'', 'want %s\n  got  %s' % (want, got))
 
 

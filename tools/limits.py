@@ -14,7 +14,7 @@ status, what the program said, and of `replay` whether its output is that of the
 beginning of it, or something else, of `serve`, round which devices join and send uplinks, how many of
 these it answered. Status 1 where the program ended by a signal but where the stack could not grow (a
 limit of the stack or of the address space), with another status or text than OPERATOR says, with an
-output that is no beginning of the whole one, with a line that comes twice, or not at all.
+output that is no beginning of the whole one, with a line that comes twice, with an acknowledged uplink that has no line, or not at all.
 """
 import json
 import os
@@ -57,7 +57,8 @@ class Tried:
         if self.status == 0:
             return self.said == '' and self.part in ('whole', 'not seen')
         if self.status == 1:
-            is_said = self.said.strip() in FAULTS or self.said.startswith('cannot read ')
+            last = (self.said.splitlines() or [''])[-1]
+            is_said = last in FAULTS or last.startswith('cannot read ')
             return is_said and self.part != 'ANOTHER OUTPUT'
         return may_overflow and self.status is not None and self.status < 0
 
@@ -130,6 +131,7 @@ class Served:
     def run(self, name, limit, may_overflow=False):
         run = small.Run(self.words, limit=limit)
         good = run.status == 0 and run.is_settled() or run.status == 1 and run.said[-1] in FAULTS
+        good = good and not run.unprinted()
         good = good or may_overflow and run.status is not None and run.status < 0
         more = '' if run.sent is None else '  uplinks: %d sent, %d without a line' % (len(run.sent), run.missing())
         self.told(name, good, run.status, run.said[-1], more)

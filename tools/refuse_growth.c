@@ -5,7 +5,7 @@
 
    REFUSED=N refuses the N-th call of malloc, calloc or realloc, from 1, whoever makes it, the C library's own ones among them; REFUSED=N+
    refuses it and all behind it; without it none is refused. The file that GROWTHS names has at any time how many calls there were, in the
-   machine's own 8 bytes. */
+   machine's own 8 bytes. Where another program writes a number that is not 0 in the 8 bytes behind them, all are refused from then on. */
 #include <errno.h>
 #include <fcntl.h>
 #include <stdatomic.h>
@@ -17,8 +17,8 @@
 extern void *__libc_malloc(size_t), *__libc_calloc(size_t, size_t), *__libc_realloc(void *, size_t);
 
 static unsigned long first, last;
-static atomic_ulong own;
-static atomic_ulong *calls = &own;
+static atomic_ulong own[2];
+static atomic_ulong *calls = own;
 
 static void count_in(const char *name) {
     int file = open(name, O_RDWR | O_CREAT | O_TRUNC, 0600);
@@ -34,13 +34,14 @@ __attribute__((constructor)) static void begin(void) {
     if (name) count_in(name);
     if (!refused) return;
     atomic_store(calls, 0);
+    atomic_store(calls + 1, 0);
     first = strtoul(refused, &end, 10);
     last = *end == '+' ? -1UL : first;
 }
 
 static int is_refused(void) {
     unsigned long number = atomic_fetch_add(calls, 1) + 1;
-    if (!first || number < first || number > last) return 0;
+    if (!atomic_load(calls + 1) && (!first || number < first || number > last)) return 0;
     errno = ENOMEM;
     return 1;
 }

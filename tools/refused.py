@@ -11,7 +11,7 @@
 A growth is a call of malloc, calloc or realloc, whoever makes it, the C library among them (refuse_growth.c, built with `cc`). In
 each run sixteen devices join and send uplinks that two gateways hear, over loopback; then the server is stopped by its number of
 datagrams. It is to end with `no memory` and status 1, or to go on: then it ends with status 0, its last line is `settled T`, no uplink
-has two lines, and without --on at most one has none. `replay` is to end with `no memory` and status 1, having written nothing, or with
+has two lines, and without --on at most one has none. However it ends, each uplink that was acknowledged has its line. `replay` is to end with `no memory` and status 1, having written nothing, or with
 status 0 and all that it writes without a refusal. Each other end, a signal and a run that does not end are told with the number of the
 growth. Status 1 where there is one.
 """
@@ -50,6 +50,8 @@ class Served:
         return how
 
     def judged(self, run, environ):
+        if run.unprinted():
+            return '* an uplink was acknowledged and has no line'
         if run.status == 1 and run.said[-1] == 'no memory':
             return 'no memory, once it served' if run.sent is not None else 'no memory, before it listened'
         if run.status != 0 or run.sent is None:
@@ -84,7 +86,7 @@ class Replayed:
         except subprocess.TimeoutExpired:
             return '* no end'
         found = done.returncode, done.stderr.decode(errors='replace'), done.stdout
-        if found == (1, 'no memory\n', b''):
+        if found[0] == 1 and found[1].splitlines()[-1:] == ['no memory'] and not found[2]:
             return 'no memory'
         return 'went on, and all came' if found == (0, '', self.whole) else '* status %d, %d bytes: %s' % (found[0], len(found[2]), found[1])
 

@@ -63,16 +63,13 @@ class Run:
             self.faults.append(text % values)
 
     def hear(self, node, frame, data, now):
-        """Some gateways hear a frame: a datagram each, in any order; a Join-Request's best copy comes first, since its answer may
-        come before the others."""
+        """Some gateways hear a frame: a datagram each, in any order."""
         pick, sent = self.pick, Sent()
         sent.node, sent.frame, sent.at, sent.hertz, sent.rate = node, frame, now, pick.choice(CHANNELS), pick.randrange(6)
         up = [gateway for gateway in self.gateways if gateway.is_up]
         number = pick.randint(1, min(len(up), self.options.copies))
         sent.copies = [Copy(gateway, gateway.moment(now), snr, pick.randrange(-1300, -300))
                        for gateway, snr in zip(pick.sample(up, number), pick.sample(range(-200, 150), number))]
-        if frame is None:
-            sent.copies.sort(key=lambda copy: -copy.snr)
         sent.waits_for_down = frame is None or frame.is_confirmed
         sent.waits_for_line = frame is not None and self.serve.output is not None
         for copy in sent.copies:
@@ -191,7 +188,7 @@ class Run:
         rate = sent.rate if is_join else max(0, sent.rate - self.options.rx1_offset)
         if (down.hertz, down.rate) != (sent.hertz, rate):
             self.fault('%s: answered on %d Hz at DR%d', named(sent), down.hertz, down.rate)
-        if not is_join and gateway is not sent.best().gateway:
+        if gateway is not sent.best().gateway:
             self.fault('%s: answered by gateway %s, and not by the best', named(sent), gateway.eui.hex())
         is_late = down.moment - gateway.offset < 1e6 * now
         sent.waits_for_down = False

@@ -15,7 +15,7 @@ from network.nodes import JOIN_DELAY, Down, Node
 
 HERTZ, RATE = 868_100_000, 5
 CHUNK = 8                   # frames that are sent at a time
-MOST_JOINS = 32             # Join-Requests of a sender that wait for their answer at a time
+MOST_JOINS = 100            # Join-Requests of a sender that wait for their answer at a time
 SO_TIMESTAMPNS = 35         # each datagram comes with the time at which the system got it
 LATE = 0.005                # seconds behind its pace after which a sender does not catch up
 

@@ -40,11 +40,15 @@ class Traffic:
         self.nodes = [Node(SEED, eui) for eui in range(DEVICES)]
         self.gateways = [Gateway(number, where) for number in range(2)]
         self.lines, self.sent, self.waiting = collections.Counter(), [], {node.eui: node for node in self.nodes}
+        # By gateway and moment: the device of a frame and the words of its line. Of frames that were acknowledged: these words.
+        self.moments, self.acknowledged = {}, set()
         os.set_blocking(child.stdout.fileno(), False)
 
-    def hear(self, data):
+    def hear(self, data, frame=None):
         for number, gateway in enumerate(self.gateways):
             copy = Copy(gateway, gateway.moment(time.monotonic()), 50 - number, -900)
+            if frame:
+                self.moments[gateway.eui, copy.moment] = self.nodes[frame.eui], frame.up_words()
             try:
                 gateway.socket.send(copy.datagram(868_100_000, 5, data))
             except OSError:
@@ -78,6 +82,9 @@ class Traffic:
             down = Down(socket.recv(600))
         except (OSError, ValueError):
             raise Ended from None
+        node, words = self.moments.get((down.gateway, down.moment - 1_000_000), (None, None))
+        if node and node.acknowledgement(down.frame) is not None:
+            self.acknowledged.add(words)
         for node in list(self.waiting.values()) if down.frame[:1] == b'\x20' else []:
             node.sessions += 1
             try:
@@ -98,8 +105,17 @@ class Traffic:
                 if node.is_joined:
                     frame = node.next_frame(0.5)
                     self.sent.append(frame.up_words())
-                    self.hear(frame.bytes)
+                    self.hear(frame.bytes, frame)
             self.take(lambda: all(words in self.lines for words in self.sent))
+
+    def take_last_downs(self):
+        """Takes what came and was not looked at, from a server that has ended."""
+        for gateway in self.gateways:
+            for _ in range(10_000):
+                try:
+                    self.take_downs(gateway.socket)
+                except Ended:       # nothing more, or nobody listens any more
+                    break
 
     def close(self):
         for gateway in self.gateways:
@@ -145,27 +161,28 @@ def ended(child, end):
 
 class Run:
     """One run: `status` (none where it did not end) and the lines that it `said` on standard error, the `lines` that it printed with how
-    often each came, and the words of those of the uplinks that were `sent`, none where it did not come to listen. `dropped` are
-    datagrams that the system dropped before the server's socket."""
+    often each came, and the words of those of the uplinks that were `sent`, none where it did not come to listen, and of those that were
+    `acknowledged`. `dropped` are datagrams that the system dropped before the server's socket."""
 
     def __init__(self, words, environ=None, limit=None, seconds=20):
         end = time.monotonic() + seconds
         child = subprocess.Popen(words, env={**os.environ, **(environ or {})}, preexec_fn=limit, bufsize=0,
                                  stdout=subprocess.PIPE, stderr=subprocess.PIPE)
-        line, self.sent, self.lines, self.dropped = first_line(child, end), None, {}, 0
+        line, self.sent, self.lines, self.acknowledged, self.dropped = first_line(child, end), None, {}, set(), 0
         traffic = Traffic(child, address(line[10:].decode().strip())) if line.startswith(b'listening ') else None
         if traffic:
-            self.sent, self.lines = traffic.sent, traffic.lines
+            self.sent, self.lines, self.acknowledged = traffic.sent, traffic.lines, traffic.acknowledged
             try:
                 traffic.run()
                 self.dropped = dropped_at(traffic.where)[0]
             except (Ended, NotServing):
                 pass
             stopped(child, traffic, end)
-            traffic.close()
         self.status, rest, self.said = ended(child, end)
         if traffic:
+            traffic.take_last_downs()
             traffic.take_text(rest)
+            traffic.close()
 
     def is_settled(self):
         """Whether it ended as it must after its last datagram, with no line twice."""
@@ -174,6 +191,10 @@ class Run:
     def missing(self):
         """How many uplinks have no line."""
         return sum(words not in self.lines for words in self.sent)
+
+    def unprinted(self):
+        """How many uplinks were acknowledged and have no line."""
+        return sum(words not in self.lines for words in self.acknowledged)
 
     def unsent(self):
         """How many uplinks could not be sent, for want of a join."""

@@ -40,20 +40,29 @@ class Lines(threading.Thread):
 
 
 class Serve:
-    """A running `serve`: `where` it listens, its lines (`out`, behind the first) and its log lines (`log`)."""
+    """A running `serve`: `where` it listens, its lines (`out`, behind the first) and its log lines (`log`). Where `stdout` is not a pipe
+    of its own, its first line is read from `first`."""
 
-    def __init__(self, roster, join, *words, level=None, reads=True):
-        environment = {name: value for name, value in os.environ.items() if name != 'RUST_LOG'}
+    def __init__(self, roster, join, *words, level=None, reads=True, stdout=subprocess.PIPE, first=None, limit=None, environment=()):
+        environment = {**{name: value for name, value in os.environ.items() if name != 'RUST_LOG'}, **dict(environment)}
         if level is not None:
             environment['RUST_LOG'] = level
         self.child = subprocess.Popen(
             [PROGRAM, 'serve', roster, '--join', '%s:%d' % join, '--listen', '127.0.0.1:0', *words],
-            stdout=subprocess.PIPE, stderr=subprocess.PIPE, text=True, env=environment)
-        word, where = self.child.stdout.readline().split()
+            stdout=stdout, stderr=subprocess.PIPE, text=True, env=environment, preexec_fn=limit)
+        word, where = self.first_line(first or self.child.stdout).split()
         assert word == 'listening'
         host, _, port = where.rpartition(':')
         self.where = host, int(port)
-        self.out, self.log = Lines(self.child.stdout) if reads else None, Lines(self.child.stderr)
+        self.out, self.log = Lines(self.child.stdout) if reads and not first else None, Lines(self.child.stderr)
+
+    @staticmethod
+    def first_line(stream):
+        """The first line, from a file perhaps, where it may not stand yet."""
+        line, end = '', time.monotonic() + LONGEST
+        while not line.endswith('\n') and time.monotonic() < end:
+            line += stream.readline()
+        return line
 
     def status(self):
         """Waits for the end: the exit status."""
@@ -82,7 +91,7 @@ class Serve:
         if self.child.poll() is None:
             self.child.kill()
             self.child.wait(LONGEST)
-        for pipe in (self.child.stdout, self.child.stderr):
+        for pipe in filter(None, (self.child.stdout, self.child.stderr)):
             pipe.close()
 
 

@@ -23,7 +23,8 @@ class CrowdedRoster(unittest.TestCase):
         with tempfile.NamedTemporaryFile('w', suffix='.json') as file:
             json.dump(roster, file)
             file.flush()
-            self.assertEqual(replayed(file.name, steps), lines)
+            # The run of the gate ends with the closing roster, which is another one here.
+            self.assertEqual(replayed(file.name, steps), lines[:-1])
 
 
 if __name__ == '__main__':

@@ -7,7 +7,7 @@ import unittest
 
 from live import HAS_PROGRAM, PROGRAM, TOOLS
 
-READER = os.environ.get('READ_TEXTS', os.path.join(os.path.dirname(TOOLS), 'crates', 'read_texts', 'out', 'read_texts'))
+READER = os.environ.get('WORKED_JOINS', os.path.join(os.path.dirname(TOOLS), 'crates', 'worked_joins', 'out', 'worked_joins'))
 
 
 def done(script, *words):

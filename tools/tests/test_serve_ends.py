@@ -71,8 +71,8 @@ class GoodEnds(Served):
         counts = server.counts()
         self.assertEqual((counts['read'], counts['dropped'], counts['opened']), (5000, 0, len(ups)))
         self.assertGreater(counts['V3'] + counts['V2'], 0)
-        # An entry of each datagram that is not refused, of the join's answer and of each closing.
-        self.assertEqual(settled, 'settled %d' % (5000 - counts['V3'] - counts['V2'] + 1 + len(ups)))
+        # An entry of each datagram that is not refused and no late copy, of the join's answer and of each closing.
+        self.assertEqual(settled, 'settled %d' % (5000 - counts['V3'] - counts['V2'] - counts['late'] + 1 + len(ups)))
 
     def test_under_load(self):
         for workers, window in ((1, 1), (4, 1), (4, 60000)):
@@ -117,7 +117,7 @@ class Faults(Served):
 
     def test_files(self):
         gone = os.path.join(self.folder, 'gone.json')
-        for path, said in ((gone, 'cannot read ' + gone), (self.written('bad.json', '['), 'roster: O1')):
+        for path, said in ((gone, 'cannot read ' + gone), (self.written('bad.json', '['), 'roster: O1')):     # more: test_statuses
             words = [path, '--join', '127.0.0.1:9', '--listen', '127.0.0.1:0']
             self.assertEqual(self.ended(words, stdout=subprocess.PIPE), (1, '', said))
 

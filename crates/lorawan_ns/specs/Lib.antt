@@ -1,1 +1,4 @@
+pub mod Asked
+pub mod Commands
 pub mod Status
+pub mod Times

@@ -1,13 +1,17 @@
 -- The exit status where the words of the command line ask for nothing that is to be done.
-use Rattle.std.specs.Prelude.{◌≡◌, ◌≢◌, ◌≤◌, ◌<◌, ◌⊎◌, ℕ, ⊤}
+use Rattle.std.specs.Prelude.{◌≡◌, ◌≢◌, ◌≤◌, ◌<◌, ◌⊎◌, ℕ, List, ⊤, Result, Ok, Err}
 use Rattle.clap.specs.Values.{kind_of}
 use Rattle.clap.specs.declared.error.kind.ErrorKind.{ErrorKind}
 use Rattle.clap.specs.declared.error.kind.ErrorKind.TheVariants.{DisplayHelp, DisplayVersion, OutOfMemory}
 use Rattle.clap.specs.declared.error.Error.{Error}
+use Rattle.clap.specs.Words.{Text}
+use Rattle.lorawan_ns.specs.Asked.{IsAsked}
 use Rattle.lorawan_ns.specs.declared.options.BadWords.{BadWords}
 use Rattle.lorawan_ns.specs.declared.options.BadWords.TheVariants.{NoMemory, NotText, BadValue, Shown}
 use Rattle.lorawan_ns.specs.declared.options.Asked.{Asked}
 use Rattle.lorawan_ns.specs.declared.options.Asked.TheVariants.{Replay, Serve}
+use Rattle.lorawan_ns.specs.declared.End.{End}
+use Rattle.lorawan_ns.specs.declared.End.TheVariants.{Ran, Refused}
 use Rattle.ns_serve.specs.declared.options.ServeOptions.{ServeOptions}
 
 -- a text that was asked for, and no mistake in the words
@@ -20,6 +24,12 @@ IsStatusOf NoMemory status = status ≡ 1
 IsStatusOf NotText status = status ≡ 2
 IsStatusOf (BadValue name) status = status ≡ 2
 IsStatusOf (Shown error) status = (IsAskedFor error → status ≤ 1) × (¬ IsAskedFor error → status ≡ 2)
+
+-- 0 where what was asked for was done, 1 after a fault
+abbrev pub IsEnd : End → ℕ → Type 0
+IsEnd (Ran (Ok done)) status = status ≡ 0
+IsEnd (Ran (Err fault)) status = status ≡ 1
+IsEnd (Refused bad) status = IsStatusOf bad status
 
 -- what reading words refuses is told: a shown text is not want of memory, and words that came as text are text
 abbrev pub IsTold : BadWords → Type 0
@@ -35,3 +45,8 @@ IsServed options = ((0 < options.workers) × (options.workers ≤ 16)) × ((0 < 
 abbrev pub IsDoable : Asked → Type 0
 IsDoable (Replay path closing) = ⊤
 IsDoable (Serve path options) = IsServed options
+
+-- a run is of what the words ask for, and a refusal of words is told
+abbrev pub IsRun : List Text → End → Type 0
+IsRun words (Ran outcome) = (asked : Asked) × IsAsked words asked × IsDoable asked
+IsRun words (Refused bad) = IsTold bad

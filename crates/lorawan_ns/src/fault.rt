@@ -1,6 +1,6 @@
 //! Why the program ends early, and the status that it ends with.
 
-ghost use Rattle.std.specs.Prelude.{◌≡◌, ◌≢◌, IsOk, IsErr};
+ghost use Rattle.std.specs.Prelude.{◌≡◌, ◌≢◌, Err, IsOk, IsErr};
 ghost use Rattle.std.specs.Process.{exit_status};
 ghost use Rattle.ns_roster.specs.declared.fault.RosterFault.TheVariants as roster;
 ghost use Rattle.ns_replay.specs.declared.run.ReplayFault.TheVariants as replay;
@@ -53,25 +53,29 @@ pub fn of_roster(fault: RosterFault) -> Fault<'static>
     }
 }
 
-/// The fault of a run.
-pub fn of_run(fault: ReplayFault) -> Fault<'static>
-    ensures memory { fault ≡ replay.NoMemory → result ≡ Fault.NoMemory }
-    ensures io { fault ≡ replay.Io → result ≡ Fault.Io }
+/// What becomes of a run of `replay`: where that failed, its fault.
+pub fn of_replay(outcome: Result<(), ReplayFault>) -> Result<(), Fault<'static>>
+    ensures done { IsOk outcome → IsOk result }
+    ensures memory { outcome ≡ Err replay.NoMemory → result ≡ Err Fault.NoMemory }
+    ensures io { outcome ≡ Err replay.Io → result ≡ Err Fault.Io }
 {
-    match fault {
-        ReplayFault::NoMemory => Fault::NoMemory,
-        ReplayFault::Io => Fault::Io,
+    match outcome {
+        Ok(()) => Ok(()),
+        Err(ReplayFault::NoMemory) => Err(Fault::NoMemory),
+        Err(ReplayFault::Io) => Err(Fault::Io),
     }
 }
 
-/// The fault of serving.
-pub fn of_serving(fault: ServeFault) -> Fault<'static>
-    ensures memory { fault ≡ serve.NoMemory → result ≡ Fault.NoMemory }
-    ensures io { fault ≡ serve.Io → result ≡ Fault.Io }
+/// What becomes of serving: where that failed, its fault.
+pub fn of_serve(outcome: Result<u128, ServeFault>) -> Result<(), Fault<'static>>
+    ensures done { IsOk outcome → IsOk result }
+    ensures memory { outcome ≡ Err serve.NoMemory → result ≡ Err Fault.NoMemory }
+    ensures io { outcome ≡ Err serve.Io → result ≡ Err Fault.Io }
 {
-    match fault {
-        ServeFault::NoMemory => Fault::NoMemory,
-        ServeFault::Io => Fault::Io,
+    match outcome {
+        Ok(_) => Ok(()),
+        Err(ServeFault::NoMemory) => Err(Fault::NoMemory),
+        Err(ServeFault::Io) => Err(Fault::Io),
     }
 }
 

@@ -2,31 +2,39 @@
 //!
 //! `lorawan_ns replay ROSTER` reads step lines from standard input and writes the lines of their answers to standard output. The
 //! contract of `replay` in `ns_replay` says what is written. `lorawan_ns serve ROSTER --join ADDR` hears gateways over UDP and writes
-//! their uplinks: `serve` of `ns_serve` does it, with threads and sockets. Here are the command line, the texts of faults and the
-//! exit statuses: which fault each refusal is and which status follows stand in contracts, what words ask for and the texts are shown
-//! by tests. It stands on `ns_roster`, which reads the roster, on `ns_replay`, `ns_serve` and `log`.
+//! their uplinks: `serve` of `ns_serve` does it, with threads and sockets. Here are the command line, the texts of faults, log lines and
+//! the exit statuses: what the words ask for, which fault each refusal is and which status follows stand in contracts; the texts are shown
+//! by tests. Before a run ends early, a log line of level error says where and why. The program stands on `ns_roster`, which reads the
+//! roster, on `ns_roster_place`, which names the place of its fault, on `ns_replay` and `ns_serve`, and on `log` and `jiff` of the kit.
 #![tactic(auto)]
 
 mod fault;
 mod logging;
 mod options;
+mod streams;
 #[cfg(test)]
 mod tests;
 
-ghost use Rattle.std.specs.Prelude.{◌≡◌, IsOk, IsErr};
+ghost use Rattle.std.specs.Prelude.{◌≡◌, ◌≤◌, ◌↔◌, ◌⊎◌, true, false, Err, IsOk, IsErr, IfSome, OnOk, map, string_bytes};
+ghost use Rattle.std.specs.Arc.{arc_value};
+ghost use Rattle.std.specs.Io.KnownBytes.{Appends};
 ghost use Rattle.std.specs.Process.{exit_status};
-ghost use Rattle.lorawan_ns.specs.Status.{IsServed, IsStatusOf};
+ghost use Rattle.ns_replay.specs.Output.{output};
+ghost use Rattle.lorawan_ns.specs.Status.{IsServed, IsAskedFor, IsStatusOf, IsEnd, IsRun};
 
-use crate::fault::{Fault, of_reading, of_roster, of_run, of_serving, status_of};
-use crate::logging::{Logging, VARIABLE, filter_of};
+use crate::fault::{Fault, of_reading, of_replay, of_roster, of_serve, status_of};
+use crate::logging::{Logging, Timed, VARIABLE, filter_of};
 use crate::options::{Asked, BadWords, read_words};
+use crate::streams::Told;
+use clap::Error;
 use log::filter::{Filter, FilteredLog};
-use log::sink::Console;
-use ns_replay::replay;
-use ns_roster::Roster;
-use ns_serve::{ServeOptions, serve};
-use ns_types::OverStd;
-use std::alloc::AllocError;
+use log::{Log, error};
+use ns_replay::{ReplayFault, replay};
+use ns_roster::{Roster, RosterFault};
+use ns_roster_place::first_fault;
+use ns_serve::{ServeOptions, WaitingWriter, serve};
+use ns_types::{OverStd, Sink, Source};
+use std::alloc::{AllocError, Global};
 use std::env::{Env, VarError};
 use std::io::ErrorKind;
 use std::net::{Net, TcpListener, TcpStream};
@@ -37,34 +45,82 @@ use std::thread::Threads;
 use std::time::Clock;
 use std::{env, fs, io};
 
-// The roster of a file.
-fn read_roster<'a, R: Files + AllocGlobal>(rt: &R, path: &'a str) -> Result<Roster, Fault<'a>> {
-    let bytes = match fs::read(rt, path) {
-        Ok(bytes) => bytes,
-        Err(error) => return Err(of_reading(error.kind(), path)),
-    };
-    match Roster::read(rt.alloc(), bytes.as_slice()) {
-        Ok(roster) => Ok(roster),
-        Err(fault) => Err(of_roster(fault)),
+// Logs what the first fault of a roster's text is about.
+fn log_place<L: Log>(log: &L, alloc: Global, path: &str, bytes: &[u8], fault: RosterFault) {
+    if fault == RosterFault::NoMemory {
+        error!(log; "no memory for the roster {path}");
+        return;
+    }
+    match first_fault(alloc, bytes) {
+        Ok(Some(placed)) => error!(log; "roster {path}: {placed}"),
+        _ => error!(log; "roster {path}: {fault}"),
     }
 }
 
-// Reads the roster and then answers the steps of standard input, and writes the closing roster where it is asked for.
-fn run_replay<'a, R: Files + AllocGlobal + Input + Print>(
+// The roster of a file. Why there is none is logged.
+fn read_roster<'a, R: Files + AllocGlobal, L: Log>(
     rt: &R,
+    log: &L,
+    path: &'a str,
+) -> Result<Arc<Roster>, Fault<'a>> {
+    let bytes = match fs::read(rt, path) {
+        Ok(bytes) => bytes,
+        Err(error) => {
+            error!(log; "cannot read {path}: {error}");
+            return Err(of_reading(error.kind(), path));
+        }
+    };
+    let roster = match Roster::read(rt.alloc(), bytes.as_slice()) {
+        Ok(roster) => roster,
+        Err(fault) => {
+            log_place(log, rt.alloc(), path, bytes.as_slice(), fault);
+            return Err(of_roster(fault));
+        }
+    };
+    match Arc::new(rt.alloc(), roster) {
+        Ok(roster) => Ok(roster),
+        Err(_) => {
+            error!(log; "no memory for the roster {path}");
+            Err(Fault::NoMemory)
+        }
+    }
+}
+
+// Answers the steps of a reader, and writes the closing roster where it is asked for. That memory ran out is logged.
+fn answer<L: Log, S: Source, K: Sink>(
+    log: &L,
+    alloc: Global,
+    roster: Arc<Roster>,
+    closing: bool,
+    reader: &mut S,
+    writer: &mut K,
+) -> Result<(), ReplayFault>
+    requires reader_sound { S.Stream.has_failed reader.old ≡ false }
+    requires writer_sound { K.Stream.has_failed writer.old ≡ false }
+    ensures ok { OnOk result (IfSome (S.left reader.old)
+        (λ input. Appends (K.taken writer.old) (K.taken writer.new) (output closing (arc_value roster) input))) }
+    ensures sound { OnOk result ((S.Stream.has_failed reader.new ≡ false) × (K.Stream.has_failed writer.new ≡ false)) }
+    ensures io { (result ≡ Err ReplayFault.Io)
+        ↔ ((S.Stream.has_failed reader.new ≡ true) ⊎ (K.Stream.has_failed writer.new ≡ true)) }
+{
+    let outcome = replay(alloc, roster, closing, reader, writer);
+    if outcome == Err(ReplayFault::NoMemory) {
+        error!(log; "no memory for the steps and their answers");
+    }
+    outcome
+}
+
+// Reads the roster and then answers the steps of standard input.
+fn run_replay<'a, R: Files + AllocGlobal + Input + Print, L: Log>(
+    rt: &R,
+    log: &L,
     path: &'a str,
     closing: bool,
 ) -> Result<(), Fault<'a>> {
-    let roster = read_roster(rt, path)?;
-    let Ok(roster) = Arc::new(rt.alloc(), roster) else {
-        return Err(Fault::NoMemory);
-    };
-    let mut reader = OverStd::new(rt.reader());
-    let mut writer = OverStd::new(io::writer(rt));
-    match replay(rt.alloc(), roster, closing, &mut reader, &mut writer) {
-        Ok(()) => Ok(()),
-        Err(fault) => Err(of_run(fault)),
-    }
+    let roster = read_roster(rt, log, path)?;
+    let mut reader = OverStd::new(Told::new(log, "standard input", rt.reader()));
+    let mut writer = OverStd::new(Told::new(log, "standard output", io::writer(rt)));
+    of_replay(answer(log, rt.alloc(), roster, closing, &mut reader, &mut writer))
 }
 
 // The filter of log lines that the environment asks for.
@@ -77,25 +133,21 @@ fn read_filter<R: Env + AllocGlobal>(rt: &R) -> Result<Filter, AllocError> {
 }
 
 // Reads the roster and then serves gateways.
-fn run_serve<'a, R>(rt: &R, path: &'a str, options: &ServeOptions<'_>) -> Result<(), Fault<'a>>
+fn run_serve<'a, R, L>(
+    rt: &R,
+    log: &L,
+    path: &'a str,
+    options: &ServeOptions<'_>,
+) -> Result<(), Fault<'a>>
 where
-    R: Files + AllocGlobal + Print + Eprint + Env + Threads + Wait + Clock + Sync,
-    R: Net<Listener = TcpListener, Stream = TcpStream>,
+    R: Files + AllocGlobal + Print + Sync,
+    L: Threads + Wait + Clock + Log + Sync,
+    L: Net<Listener = TcpListener, Stream = TcpStream>,
     requires { IsServed options.now }
 {
-    let roster = read_roster(rt, path)?;
-    let Ok(roster) = Arc::new(rt.alloc(), roster) else {
-        return Err(Fault::NoMemory);
-    };
-    let Ok(filter) = read_filter(rt) else {
-        return Err(Fault::NoMemory);
-    };
-    let logging = Logging::new(rt, FilteredLog::new(Console(rt), filter));
-    let writer = OverStd::new(io::writer(rt));
-    match serve(&logging, rt.alloc(), roster, options, writer) {
-        Ok(_) => Ok(()),
-        Err(fault) => Err(of_serving(fault)),
-    }
+    let roster = read_roster(rt, log, path)?;
+    let writer = OverStd::new(WaitingWriter::new(log, io::writer(rt)));
+    of_serve(serve(log, rt.alloc(), roster, options, writer))
 }
 
 // The words of the command line, the program's name first.
@@ -118,41 +170,87 @@ fn ended<R: Eprint>(rt: &R, outcome: &Result<(), Fault>) -> ExitCode
     status_of(outcome)
 }
 
+// Prints a text that was asked for, or the text about bad words, and gives the exit status.
+fn shown<R: Eprint + Print, L: Log>(rt: &R, log: &L, error: &Error) -> ExitCode
+    ensures asked { IsAskedFor error.now → exit_status result ≤ 1 }
+    ensures bad { ¬ IsAskedFor error.now → exit_status result ≡ 2 }
+{
+    let printed = error.print(rt);
+    if error.use_stderr() {
+        return ExitCode::from(2);
+    }
+    match printed {
+        Ok(()) => ExitCode::SUCCESS,
+        Err(error) => {
+            error!(log; "standard output: {error}");
+            ended(rt, &Err(Fault::Io))
+        }
+    }
+}
+
 // Says why the words ask for nothing, and gives the exit status: 0 for help and the version, 2 for bad words.
-fn refused<R: Eprint + Print>(rt: &R, bad: &BadWords) -> ExitCode
+fn refused<R: Eprint + Print, L: Log>(rt: &R, log: &L, bad: &BadWords) -> ExitCode
     ensures { IsStatusOf bad.now (exit_status result) }
 {
     match bad {
-        BadWords::NoMemory => ended(rt, &Err(Fault::NoMemory)),
+        BadWords::NoMemory => {
+            error!(log; "no memory for the command line");
+            ended(rt, &Err(Fault::NoMemory))
+        }
         BadWords::NotText => {
             let _ = eprintln!(rt; "bad arguments");
             ExitCode::from(2)
         }
         BadWords::BadValue(name) => {
+            error!(log; "--{name} takes {}", name.takes());
             let _ = eprintln!(rt; "bad arguments: --{name}");
             ExitCode::from(2)
         }
-        BadWords::Shown(error) => {
-            let printed = error.print(rt);
-            if error.use_stderr() {
-                ExitCode::from(2)
-            } else if printed.is_ok() {
-                ExitCode::SUCCESS
-            } else {
-                ended(rt, &Err(Fault::Io))
-            }
-        }
+        BadWords::Shown(error) => shown(rt, log, error),
+    }
+}
+
+// How a run of the program ended.
+#[derive(Drop)]
+enum End<'a> {
+    // What was asked for was done, or failed.
+    Ran(Result<(), Fault<'a>>),
+    // Nothing was asked for that is to be done.
+    Refused(BadWords),
+}
+
+// Does what the words ask for.
+fn run<'a, R, L>(rt: &R, log: &L, words: &'a [String]) -> End<'a>
+where
+    R: Files + AllocGlobal + Input + Print + Sync,
+    L: Threads + Wait + Clock + Log + Sync,
+    L: Net<Listener = TcpListener, Stream = TcpStream>,
+    ensures { IsRun (map string_bytes words.now) result }
+{
+    match read_words(rt.alloc(), words) {
+        Ok(Asked::Replay(path, closing)) => End::Ran(run_replay(rt, log, path, closing)),
+        Ok(Asked::Serve(path, options)) => End::Ran(run_serve(rt, log, path, &options)),
+        Err(bad) => End::Refused(bad),
+    }
+}
+
+// Says why a run ended early, and gives the exit status.
+fn concluded<R: Eprint + Print, L: Log>(rt: &R, log: &L, end: &End<'_>) -> ExitCode
+    ensures { IsEnd end.now (exit_status result) }
+{
+    match end {
+        End::Ran(outcome) => ended(rt, outcome),
+        End::Refused(bad) => refused(rt, log, bad),
     }
 }
 
 fn main(rt: HostRuntime) -> ExitCode {
-    let words = match words(&rt) {
-        Ok(words) => words,
-        Err(bad) => return refused(&rt, &bad),
+    let Ok(filter) = read_filter(&rt) else {
+        return ended(&rt, &Err(Fault::NoMemory));
     };
-    match read_words(rt.alloc(), words.as_slice()) {
-        Ok(Asked::Replay(path, closing)) => ended(&rt, &run_replay(&rt, path, closing)),
-        Ok(Asked::Serve(path, options)) => ended(&rt, &run_serve(&rt, path, &options)),
-        Err(bad) => refused(&rt, &bad),
+    let log = Logging::new(&rt, FilteredLog::new(Timed(&rt), filter));
+    match words(&rt) {
+        Ok(words) => concluded(&rt, &log, &run(&rt, &log, words.as_slice())),
+        Err(bad) => concluded(&rt, &log, &End::Refused(bad)),
     }
 }

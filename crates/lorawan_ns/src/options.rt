@@ -1,25 +1,37 @@
 //! The command line.
 
-ghost use Rattle.std.specs.Prelude.{◌≡◌, ◌<◌, ◌≤◌, IfErr, IfOk, IfSome};
+ghost use Rattle.std.specs.Prelude.{◌≡◌, ◌<◌, ◌≤◌, codes, false, IfErr, IfOk, IfSome, Some, map, string_bytes};
+ghost use Rattle.ns_joinclient.specs.Request.{host_text};
+ghost use Rattle.clap.specs.Words.{app_of, first_of, found_of, new_app, rows_of, rule_of};
+ghost use Rattle.lorawan_ns.specs.Asked.{HasOptions, IsAddr, IsAsked, IsAskedBy, IsFlag, IsNumber, IsNumberIfGiven, IsNumberOrNever, command_of, name_of};
+ghost use Rattle.lorawan_ns.specs.Commands.{IsCommand, address_rules, closing_rule, limit_rules, number_rule, option_rule, program, replay_app, roster_rule, serve_app, with_rules, worker_rules};
 ghost use Rattle.lorawan_ns.specs.Status.{IsTold, IsServed, IsDoable};
 
 use clap::builder::ValueParser;
 use clap::error::ErrorKind;
-use clap::{Arg, ArgAction, ArgMatches, Command, Error};
+use clap::{Arg, ArgAction, ArgMatches, Command};
 use ns_joinclient::HostName;
 use ns_serve::ServeOptions;
 use std::alloc::{AllocError, Global};
 use std::net::SocketAddr;
+use thiserror::Error;
 
 /// What `--version` prints behind the program's name.
 pub const VERSION: &str = "0.1.0";
+
+// After how many entries a shard is trimmed where no word says so: sixteen shards then keep some 110 MB of entries, and up to 220 MB
+// while their lists grow.
+const TRIM: &str = "20000";
+
+// What asks for no trims.
+const NEVER: &str = "never";
 
 // What stands at the end of the help.
 const STREAMS: &str = "\
 Standard input (replay): step lines.
 Standard output: the lines of their answers (replay), the uplinks (serve); with
 --closing the last line is the roster from which the next run begins.
-Standard error: why the program ended early, and log lines (serve).
+Standard error: log lines, and in the last line why the program ended early.
 
 Status: 0 at a good end; 1 for a roster or a file that could not be read, for
 want of memory, and where a stream or the socket failed; 2 for a bad command line.
@@ -36,6 +48,60 @@ pub enum Asked<'a> {
     Serve(&'a str, ServeOptions<'a>),
 }
 
+/// The options of `serve` with a value, printed as they are written behind `--`.
+#[derive(Clone, Copy, Debug, PartialEq, Eq, Error)]
+pub enum OptionName {
+    #[error("join")]
+    Join,
+    #[error("host")]
+    Host,
+    #[error("listen")]
+    Listen,
+    #[error("workers")]
+    Workers,
+    #[error("join-workers")]
+    JoinWorkers,
+    #[error("window")]
+    Window,
+    #[error("stop-after")]
+    StopAfter,
+    #[error("trim")]
+    Trim,
+}
+
+impl OptionName {
+    /// The name.
+    pub fn as_str(self) -> &'static str
+        ensures { result.now ≡ name_of self }
+    {
+        match self {
+            OptionName::Join => "join",
+            OptionName::Host => "host",
+            OptionName::Listen => "listen",
+            OptionName::Workers => "workers",
+            OptionName::JoinWorkers => "join-workers",
+            OptionName::Window => "window",
+            OptionName::StopAfter => "stop-after",
+            OptionName::Trim => "trim",
+        }
+    }
+
+    /// What the option takes.
+    pub fn takes(self) -> &'static str {
+        match self {
+            OptionName::Join | OptionName::Listen => ADDR,
+            OptionName::Host => "a host's name of 1 to 255 visible characters of ASCII",
+            OptionName::Trim => "a number from 1 to 4294967295, or never",
+            OptionName::Workers | OptionName::JoinWorkers => "a number from 1 to 16",
+            OptionName::Window => "a number of milliseconds from 1 to 60000",
+            OptionName::StopAfter => "a number from 1 to 4294967295",
+        }
+    }
+}
+
+// What an address is.
+const ADDR: &str = "an IP address and a port, as 127.0.0.1:8080; no name, and no http:// before it";
+
 /// Why there is nothing to do.
 #[derive(Drop)]
 pub enum BadWords {
@@ -44,9 +110,9 @@ pub enum BadWords {
     /// A word is no UTF-8.
     NotText,
     /// The value of this option is none that it can have.
-    BadValue(&'static str),
+    BadValue(OptionName),
     /// Bad words, or a request for help or the version: the text to print, and whether it is an error.
-    Shown(Error),
+    Shown(clap::Error),
 }
 
 impl From<AllocError> for BadWords {
@@ -57,10 +123,10 @@ impl From<AllocError> for BadWords {
     }
 }
 
-impl From<Error> for BadWords {
+impl From<clap::Error> for BadWords {
     ghost from_gives = { λ _ bad. IsTold bad };
 
-    fn from(error: Error) -> BadWords {
+    fn from(error: clap::Error) -> BadWords {
         if error.kind() == ErrorKind::OutOfMemory {
             BadWords::NoMemory
         } else {
@@ -70,7 +136,10 @@ impl From<Error> for BadWords {
 }
 
 // The roster's file, which each command needs.
-fn roster<'a>(alloc: Global) -> Arg<'a> {
+fn roster<'a>(alloc: Global) -> Arg<'a>
+    ensures rule { rule_of result ≡ roster_rule }
+    ensures here { result.global ≡ false }
+{
     Arg::new(alloc, "ROSTER")
         .required(true)
         .action(ArgAction::Set)
@@ -78,7 +147,10 @@ fn roster<'a>(alloc: Global) -> Arg<'a> {
 }
 
 // An option with a text.
-fn option<'a>(alloc: Global, name: &'a str, value: &'a str, help: &'a str) -> Arg<'a> {
+fn option<'a>(alloc: Global, name: &'a str, value: &'a str, help: &'a str) -> Arg<'a>
+    ensures rule { rule_of result ≡ option_rule name.entry.now }
+    ensures here { result.global ≡ false }
+{
     Arg::new(alloc, name)
         .long(name)
         .value_name(value)
@@ -87,20 +159,35 @@ fn option<'a>(alloc: Global, name: &'a str, value: &'a str, help: &'a str) -> Ar
 }
 
 // An option with a number from 1 to this.
-fn number<'a>(alloc: Global, name: &'a str, value: &'a str, most: u64, help: &'a str) -> Arg<'a> {
+fn number<'a>(alloc: Global, name: &'a str, value: &'a str, most: u64, help: &'a str) -> Arg<'a>
+    ensures rule { rule_of result ≡ number_rule name.entry.now most }
+    ensures here { result.global ≡ false }
+{
     option(alloc, name, value, help).value_parser(ValueParser::unsigned(1, most))
 }
 
 // The option that asks for the closing roster.
-fn closing<'a>(alloc: Global) -> Arg<'a> {
+fn closing<'a>(alloc: Global) -> Arg<'a>
+    ensures rule { rule_of result ≡ closing_rule }
+    ensures here { result.global ≡ false }
+{
     Arg::new(alloc, "closing")
         .long("closing")
         .action(ArgAction::SetTrue)
         .help("Writes at the end the roster from which the next run begins")
 }
 
-// The command that serves gateways.
-fn serve_command<'a>(alloc: Global) -> Result<Command<'a>, AllocError> {
+// A command with nothing but its help.
+fn command<'a>(alloc: Global, name: &'a str, about: &'a str) -> Command<'a>
+    ensures { IsCommand (new_app name.entry.now) result }
+{
+    Command::new(alloc, name).about(about).after_help(STREAMS)
+}
+
+// A command, and behind its arguments these: the join server and where gateways are heard.
+fn with_addresses<'a>(alloc: Global, command: Command<'a>) -> Result<Command<'a>, AllocError>
+    ensures { (app : _) → IsCommand app command.entry → IfOk result (IsCommand (with_rules app address_rules)) }
+{
     let join = option(
         alloc,
         "join",
@@ -114,143 +201,208 @@ fn serve_command<'a>(alloc: Global) -> Result<Command<'a>, AllocError> {
         "ADDR",
         "The address at which gateways are heard",
     );
-    Command::new(alloc, "serve")
-        .about("Serves gateways over UDP, with a join server over HTTP")
-        .after_help(STREAMS)
-        .arg(roster(alloc))?
+    command
         .arg(join.required(true))?
         .arg(host.default_value("localhost"))?
-        .arg(listen.default_value("127.0.0.1:1700"))?
-        .arg(number(
-            alloc,
-            "workers",
-            "N",
-            16,
-            "How many threads hear gateways, 1 to 16",
-        )
-        .default_value("4"))?
-        .arg(number(
-            alloc,
-            "join-workers",
-            "N",
-            16,
-            "How many threads ask the join server, 1 to 16",
-        )
-        .default_value("1"))?
-        .arg(number(
-            alloc,
-            "window",
-            "MS",
-            60_000,
-            "How long copies of an uplink are gathered, 1 to 60000 ms",
-        )
-        .default_value("200"))?
-        .arg(number(
-            alloc,
-            "stop-after",
-            "N",
-            4_294_967_295,
-            "After how many datagrams to stop, 1 to 4294967295; without it, never",
-        ))?
-        .arg(number(
-            alloc,
-            "trim",
-            "N",
-            4_294_967_295,
-            "After how many entries a shard is trimmed, 1 to 4294967295; without it, never",
-        ))?
-        .arg(closing(alloc))
+        .arg(listen.default_value("127.0.0.1:1700"))
+}
+
+// A command, and behind its arguments these: how many threads there are.
+fn with_workers<'a>(alloc: Global, command: Command<'a>) -> Result<Command<'a>, AllocError>
+    ensures { (app : _) → IsCommand app command.entry → IfOk result (IsCommand (with_rules app worker_rules)) }
+{
+    let workers = number(
+        alloc,
+        "workers",
+        "N",
+        16,
+        "How many threads hear gateways, 1 to 16",
+    );
+    let join_workers = number(
+        alloc,
+        "join-workers",
+        "N",
+        16,
+        "How many threads ask the join server, 1 to 16",
+    );
+    command
+        .arg(workers.default_value("4"))?
+        .arg(join_workers.default_value("1"))
+}
+
+// A command, and behind its arguments these: when a window is closed, the server stops, and a shard is trimmed.
+fn with_limits<'a>(alloc: Global, command: Command<'a>) -> Result<Command<'a>, AllocError>
+    ensures { (app : _) → IsCommand app command.entry → IfOk result (IsCommand (with_rules app limit_rules)) }
+{
+    let window = number(
+        alloc,
+        "window",
+        "MS",
+        60_000,
+        "How long copies of an uplink are gathered, 1 to 60000 ms",
+    );
+    let stop_after = number(
+        alloc,
+        "stop-after",
+        "N",
+        4_294_967_295,
+        "After how many datagrams to stop, 1 to 4294967295; without it, never",
+    );
+    let trim = option(
+        alloc,
+        "trim",
+        "N",
+        "After how many entries a shard is trimmed, 1 to 4294967295, or never",
+    );
+    command
+        .arg(window.default_value("200"))?
+        .arg(stop_after)?
+        .arg(trim.default_value(TRIM))
+}
+
+// The command that serves gateways.
+fn serve_command<'a>(alloc: Global) -> Result<Command<'a>, AllocError>
+    ensures { IfOk result (IsCommand serve_app) }
+{
+    let about = "Serves gateways over UDP, with a join server over HTTP";
+    let serve = command(alloc, "serve", about).arg(roster(alloc))?;
+    let serve = with_addresses(alloc, serve)?;
+    let serve = with_workers(alloc, serve)?;
+    with_limits(alloc, serve)?.arg(closing(alloc))
 }
 
 // The command that answers recorded steps.
-fn replay_command<'a>(alloc: Global) -> Result<Command<'a>, AllocError> {
-    Command::new(alloc, "replay")
-        .about("Answers the step lines of standard input")
-        .after_help(STREAMS)
+fn replay_command<'a>(alloc: Global) -> Result<Command<'a>, AllocError>
+    ensures { IfOk result (IsCommand replay_app) }
+{
+    command(alloc, "replay", "Answers the step lines of standard input")
         .arg(roster(alloc))?
         .arg(closing(alloc))
 }
 
 // The program's commands.
-fn commands<'a>(alloc: Global) -> Result<Command<'a>, AllocError> {
+fn commands<'a>(alloc: Global) -> Result<Command<'a>, AllocError>
+    ensures { IfOk result (λ c. app_of c ≡ program) }
+{
     let serve = serve_command(alloc)?;
     let replay = replay_command(alloc)?;
-    Command::new(alloc, "lorawan_ns")
-        .about("A LoRaWAN network server")
+    command(alloc, "lorawan_ns", "A LoRaWAN network server")
         .version(VERSION)
-        .after_help(STREAMS)
         .subcommand_required(true)
         .subcommand(replay)?
         .subcommand(serve)
 }
 
-// The address that an option has.
-fn addr(found: &ArgMatches<'_>, name: &'static str) -> Result<SocketAddr, BadWords>
-    ensures { IfErr result IsTold }
+// The host that the option names.
+fn host<'a>(found: &ArgMatches<'a>) -> Result<HostName<'a>, BadWords>
+    ensures told { IfErr result IsTold }
+    ensures host { IfOk result (λ host. first_of (codes "host") (rows_of (found_of found.now)) ≡ Some (host_text host)) }
 {
-    let addr: Option<SocketAddr> = found.get_one(name);
+    let Some(text) = found.get_str("host") else {
+        return Err(BadWords::BadValue(OptionName::Host));
+    };
+    HostName::new(text).ok_or(BadWords::BadValue(OptionName::Host))
+}
+
+// The address that an option has.
+fn addr(found: &ArgMatches<'_>, name: OptionName) -> Result<SocketAddr, BadWords>
+    ensures told { IfErr result IsTold }
+    ensures addr { IfOk result (IsAddr (name_of name) (rows_of (found_of found.now))) }
+{
+    let addr: Option<SocketAddr> = found.get_one(name.as_str());
     addr.ok_or(BadWords::BadValue(name))
 }
 
 // The number that an option has, from 1 to this.
-fn count(found: &ArgMatches<'_>, name: &'static str, most: u32) -> Result<u32, BadWords>
+fn count(found: &ArgMatches<'_>, name: OptionName, most: u32) -> Result<u32, BadWords>
     ensures told { IfErr result IsTold }
     ensures count { IfOk result (λ n. (0 < n) × (n ≤ most)) }
+    ensures number { IfOk result (IsNumber (name_of name) (rows_of (found_of found.now))) }
 {
-    match found.get_one::<u32>(name) {
+    match found.get_one::<u32>(name.as_str()) {
         Some(n) if 0 < n && n <= most => Ok(n),
         _ => Err(BadWords::BadValue(name)),
     }
 }
 
-// The number that an option has, from 1 up, where it is given.
-fn given(found: &ArgMatches<'_>, name: &'static str) -> Result<Option<u32>, BadWords>
+// After how many entries a shard is trimmed, if at all.
+fn trim(found: &ArgMatches<'_>) -> Result<Option<u32>, BadWords>
     ensures told { IfErr result IsTold }
     ensures count { IfOk result (λ n. IfSome n (λ n. 0 < n)) }
+    ensures number { IfOk result (IsNumberOrNever (codes "trim") (rows_of (found_of found.now))) }
 {
-    if found.contains_id(name) {
+    match found.get_str("trim") {
+        Some(text) if text == NEVER => Ok(None),
+        _ => Ok(Some(count(found, OptionName::Trim, u32::MAX)?)),
+    }
+}
+
+// The number that an option has, from 1 up, where it is given.
+fn given(found: &ArgMatches<'_>, name: OptionName) -> Result<Option<u32>, BadWords>
+    ensures told { IfErr result IsTold }
+    ensures count { IfOk result (λ n. IfSome n (λ n. 0 < n)) }
+    ensures number { IfOk result (IsNumberIfGiven (name_of name) (rows_of (found_of found.now))) }
+{
+    if found.contains_id(name.as_str()) {
         Ok(Some(count(found, name, u32::MAX)?))
     } else {
         Ok(None)
     }
 }
 
+// Whether a flag was given.
+fn flag(found: &ArgMatches<'_>, name: &str) -> bool
+    ensures { IsFlag name.now (rows_of (found_of found.now)) result }
+{
+    found.get_one(name).unwrap_or(false)
+}
+
 // What the words after `serve` ask for.
 fn serve_options<'a>(found: &ArgMatches<'a>) -> Result<ServeOptions<'a>, BadWords>
     ensures told { IfErr result IsTold }
     ensures served { IfOk result IsServed }
+    ensures options { IfOk result (HasOptions (rows_of (found_of found.now))) }
 {
-    let Some(host) = found.get_str("host").and_then(HostName::new) else {
-        return Err(BadWords::BadValue("host"));
-    };
     Ok(ServeOptions {
-        join: addr(found, "join")?,
-        host,
-        listen: addr(found, "listen")?,
-        workers: count(found, "workers", 16)? as usize,
-        join_workers: count(found, "join-workers", 16)? as usize,
-        window_ms: count(found, "window", 60_000)?,
-        stop_after: given(found, "stop-after")?,
-        trim: given(found, "trim")?,
-        closing: found.get_flag("closing"),
+        join: addr(found, OptionName::Join)?,
+        host: host(found)?,
+        listen: addr(found, OptionName::Listen)?,
+        workers: count(found, OptionName::Workers, 16)? as usize,
+        join_workers: count(found, OptionName::JoinWorkers, 16)? as usize,
+        window_ms: count(found, OptionName::Window, 60_000)?,
+        stop_after: given(found, OptionName::StopAfter)?,
+        trim: trim(found)?,
+        closing: flag(found, "closing"),
     })
 }
 
-/// What the words ask for. Want of memory is told as such, and never as a text to print.
-pub fn read_words<'a>(alloc: Global, words: &'a [String]) -> Result<Asked<'a>, BadWords>
+// What the words behind the name of a command ask for.
+fn read_command<'a>(name: &str, found: &ArgMatches<'a>) -> Result<Asked<'a>, BadWords>
     ensures told { IfErr result IsTold }
-    ensures asked { IfOk result IsDoable }
+    ensures doable { IfOk result IsDoable }
+    ensures asked { IfOk result (λ asked. (name.now ≡ command_of asked) × IsAskedBy (rows_of (found_of found.now)) asked) }
 {
-    let matches = commands(alloc)?.try_get_matches_from(words)?;
-    let Some((name, found)) = matches.subcommand() else {
-        return Err(BadWords::NoMemory);
-    };
     let Some(path) = found.get_str("ROSTER") else {
         return Err(BadWords::NoMemory);
     };
     if name == "serve" {
         Ok(Asked::Serve(path, serve_options(found)?))
+    } else if name == "replay" {
+        Ok(Asked::Replay(path, flag(found, "closing")))
     } else {
-        Ok(Asked::Replay(path, found.get_flag("closing")))
+        Err(BadWords::NoMemory)
+    }
+}
+
+/// What the words ask for, each field by the option of its name. Want of memory is told as such, and never as a text to print.
+pub fn read_words<'a>(alloc: Global, words: &'a [String]) -> Result<Asked<'a>, BadWords>
+    ensures told { IfErr result IsTold }
+    ensures doable { IfOk result IsDoable }
+    ensures asked { IfOk result (IsAsked (map string_bytes words.now)) }
+{
+    let matches = commands(alloc)?.try_get_matches_from(words)?;
+    match matches.subcommand() {
+        Some((name, found)) => read_command(name, found),
+        None => Err(BadWords::NoMemory),
     }
 }

@@ -1,8 +1,9 @@
--- What a writer is told grows.
+-- What a writer and a sender are told grows.
 use Rattle.std.proofs.Common.{◌≡◌, ℕ, List, [], ◌++◌, Some, None, Option, refl, sym, ap, ◌∙◌, subst, append-nil}
 use Rattle.std.specs.Io.KnownBytes.{Appends, append_known}
 use Rattle.std.proofs.KnownBytes.{Appends-trans}
-use Rattle.ns_serve.specs.Output.{Grows, EndsIn}
+use Rattle.ns_calls.specs.declared.answer.Downlink.{Downlink}
+use Rattle.ns_serve.specs.Output.{Grows, EndsIn, Sends}
 
 appends_none : (a : Option (List ℕ)) → Appends a a []
 appends_none None = tt
@@ -29,3 +30,8 @@ nothing_waits (Some xs) lines none = ap (λ l. Some (xs ++ l)) none ∙ ap Some 
 pub ends_in_both : (a b c d : Option (List ℕ)) (lines one two : List ℕ) → Grows a b → Appends b c one → lines ≡ [] → Appends (append_known c lines) d two → EndsIn a d (one ++ two)
 ends_in_both a b c d lines one two before first none second =
     ends_in a b d (one ++ two) before (Appends-trans b c d one two first (subst (λ known. Appends known d two) (nothing_waits c lines none) second))
+
+-- a sender that is given nothing
+pub sends_none : (taken : Option (List Downlink)) → Sends taken taken None
+sends_none None = tt
+sends_none (Some xs) = ap (λ l. Some l) (sym (append-nil xs))

@@ -1,12 +1,10 @@
 -- How a server ends, by its workers' ends.
 use Rattle.std.specs.Prelude.{◌≡◌, ◌⊎◌, ◌↔◌, Option, Some, IsNone}
-use Rattle.ns_workers.specs.declared.outside.WorkerFault.{WorkerFault}
-use Rattle.ns_workers.specs.declared.outside.WorkerFault.TheVariants as worker
 use Rattle.ns_serve.specs.declared.options.ServeFault.{ServeFault}
 use Rattle.ns_serve.specs.declared.options.ServeFault.TheVariants as serve
 
 -- want of memory is told where any worker met it
-abbrev pub IsWorse : Option ServeFault → Option WorkerFault → Option ServeFault → Type 0
+abbrev pub IsWorse : Option ServeFault → Option ServeFault → Option ServeFault → Type 0
 IsWorse before fault after =
     (IsNone after ↔ (IsNone before × IsNone fault))
-    × ((after ≡ Some serve.NoMemory) ↔ ((before ≡ Some serve.NoMemory) ⊎ (fault ≡ Some worker.NoMemory)))
+    × ((after ≡ Some serve.NoMemory) ↔ ((before ≡ Some serve.NoMemory) ⊎ (fault ≡ Some serve.NoMemory)))

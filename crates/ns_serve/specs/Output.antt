@@ -1,6 +1,8 @@
 -- What an output has been told.
-use Rattle.std.specs.Prelude.{ℕ, List, [], ◌∷◌, ◌++◌, Option, codes, decimal}
+use Rattle.std.specs.Prelude.{ℕ, List, [], ◌∷◌, ◌++◌, Option, option_to_list, codes, decimal}
 use Rattle.std.specs.Io.KnownBytes.{Appends}
+use Rattle.ns_calls.specs.declared.answer.Downlink.{Downlink}
+use Rattle.ns_workers.specs.Grown as grown
 
 -- a line with its line feed
 abbrev pub line : List ℕ → List ℕ
@@ -20,3 +22,7 @@ Grows old new = (text : List ℕ) × Appends old new text
 
 abbrev pub EndsIn : Option (List ℕ) → Option (List ℕ) → List ℕ → Type 0
 EndsIn old new text = (before : List ℕ) × Appends old new (before ++ text)
+
+-- the downlinks that a sender was given have grown by one, if there is one
+abbrev pub Sends : Option (List Downlink) → Option (List Downlink) → Option Downlink → Type 0
+Sends old new downlink = grown.Grows old new (option_to_list downlink)

@@ -1,21 +1,18 @@
 //! The workers' clock.
 
-use crate::output::Output;
 use crate::state::State;
-use ns_types::Sink;
 use ns_workers::Timer;
-use std::sync::{Mutex, Wait};
+use std::sync::Wait;
 use std::thread;
 use std::time::{Clock, Duration};
 
-// How long the closer sleeps before it looks whether the gateway workers have ended.
+// How long a worker sleeps at most before it looks whether the gateway workers have ended.
 const NAP_MS: u64 = 100;
 
-/// The clock, in milliseconds since the server began. Who waits by it first has the output's lines written.
-#[derive(Drop)]
-pub(crate) struct SinceStart<'a, W> {
+/// The clock, in milliseconds since the server began.
+#[derive(Clone, Copy)]
+pub(crate) struct SinceStart<'a> {
     pub state: &'a State,
-    pub output: &'a Mutex<Output<W>>,
 }
 
 /// Milliseconds since the server began.
@@ -26,30 +23,19 @@ pub(crate) fn now_ms<R: Clock>(rt: &R, state: &State) -> u64 {
     }
 }
 
-impl<'a, R: Wait + Clock, W: Sink> Timer<R> for SinceStart<'a, W> {
+impl<'a, R: Wait + Clock> Timer<R> for SinceStart<'a> {
     fn now(&self, rt: &R) -> u64 {
         now_ms(rt, self.state)
     }
 
     // Waits no longer once no gateway worker is left, since no copy can come then.
     fn until(&self, rt: &R, due: u64) {
-        let mut has_flushed = false;
         for _turn in rt.forever() {
             let now = now_ms(rt, self.state);
             if now >= due || self.state.is_deaf() || self.state.is_broken() {
                 return;
             }
-            if !has_flushed {
-                flush(rt, self.output);
-                has_flushed = true;
-            }
             thread::sleep(rt, Duration::from_millis((due - now).min(NAP_MS)));
         }
     }
-}
-
-// Writes the output's lines. Whoever adds the next line meets a failure.
-fn flush<R: Wait, W: Sink>(rt: &R, output: &Mutex<Output<W>>) {
-    let mut guard = output.lock(rt);
-    let _ = guard.flush();
 }

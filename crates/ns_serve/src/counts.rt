@@ -1,20 +1,15 @@
-//! What the workers' monitor counts and logs.
-ghost use Rattle.std.specs.Prelude.{◌≡◌, ◌+◌, ◌<◌, ◌≤◌, ◌↔◌, IsTrue};
+//! How often each thing happened.
+ghost use Rattle.std.specs.Prelude.{◌≡◌, ◌+◌, ◌<◌};
 ghost use Rattle.ns_serve.specs.Counts.{reply_place, refusal_place};
 
-use log::{Log, debug, info, warn};
-use ns_calls::{Downlink, Reply};
-use ns_joinclient::AskFault;
-use ns_joinwire::AnsFault;
+use crate::seldom::is_minute_later;
+use log::{Log, info};
+use ns_calls::Reply;
 use ns_link::LinkFault;
-use ns_types::Ticket;
-use ns_workers::{JoinFault, Monitor, Refused};
+use ns_workers::Refused;
 use std::fmt;
 use std::fmt::{Display, Formatter};
 use std::sync::atomic::{AtomicU64, Ordering};
-
-// Between two log lines of the counts, in milliseconds.
-const MINUTE_MS: u64 = 60_000;
 
 // The refusals of datagrams and frames that a gateway worker meets, in the order of their places.
 const REFUSALS: [&str; 12] = [
@@ -51,9 +46,18 @@ pub(crate) struct Counts {
     logged_ms: AtomicU64,
     refusals: [AtomicU64; 12],
     replies: [AtomicU64; 19],
-    dropped: AtomicU64,
-    unanswered: AtomicU64,
-    unsent: AtomicU64,
+    /// Datagrams whose calls were refused memory.
+    pub dropped: AtomicU64,
+    /// Datagrams that were late copies.
+    pub late: AtomicU64,
+    /// Receives that failed.
+    pub unreceived: AtomicU64,
+    /// Tickets without an answer of the join server that can be used.
+    pub unanswered: AtomicU64,
+    /// Downlinks that were not sent.
+    pub unsent: AtomicU64,
+    /// Tickets that were too old to be asked about.
+    pub stale: AtomicU64,
 }
 
 // Counters with their names.
@@ -79,7 +83,8 @@ fn add(counters: &[AtomicU64], place: usize) {
     }
 }
 
-fn more(counter: &AtomicU64) {
+/// One more.
+pub(crate) fn more(counter: &AtomicU64) {
     counter.fetch_add(1, Ordering::SeqCst);
 }
 
@@ -126,13 +131,6 @@ fn place_of_refusal(why: Refused) -> usize
     }
 }
 
-// Whether a minute has passed.
-fn is_minute_later(last_ms: u64, now_ms: u64) -> bool
-    ensures { IsTrue result ↔ (last_ms + 60000 ≤ now_ms) }
-{
-    now_ms >= MINUTE_MS && now_ms - MINUTE_MS >= last_ms
-}
-
 impl Counts {
     /// Nothing has happened.
     pub fn new() -> Counts {
@@ -141,14 +139,22 @@ impl Counts {
             refusals: Default::default(),
             replies: Default::default(),
             dropped: AtomicU64::new(0),
+            late: AtomicU64::new(0),
+            unreceived: AtomicU64::new(0),
             unanswered: AtomicU64::new(0),
             unsent: AtomicU64::new(0),
+            stale: AtomicU64::new(0),
         }
     }
 
     /// Counts a reply.
     pub fn replied(&self, reply: &Reply) {
         add(&self.replies, place_of_reply(reply));
+    }
+
+    /// Counts a refusal.
+    pub fn refused(&self, why: Refused) {
+        add(&self.refusals, place_of_refusal(why));
     }
 
     /// Logs the counts once a minute, by whoever calls first.
@@ -175,48 +181,11 @@ impl Counts {
             names: &REPLIES,
             counters: &self.replies,
         };
-        let (dropped, unanswered, unsent) = (
-            value(&self.dropped),
-            value(&self.unanswered),
-            value(&self.unsent),
-        );
-        info!(rt; "datagrams: read {read} dropped {dropped}{refusals}");
-        info!(rt; "replies:{replies} unanswered {unanswered} unsent {unsent}");
-    }
-}
-
-impl<R: Log> Monitor<R> for Counts {
-    fn refused(&self, rt: &R, why: Refused) {
-        add(&self.refusals, place_of_refusal(why));
-        match why {
-            Refused::Link(fault) => debug!(rt; "datagram refused: G{}", fault.number()),
-            Refused::View(fault) => debug!(rt; "datagram refused: V{}", fault.number()),
-        }
-    }
-
-    fn replied(&self, _rt: &R, reply: &Reply) {
-        Counts::replied(self, reply);
-    }
-
-    fn dropped(&self, rt: &R) {
-        more(&self.dropped);
-        warn!(rt; "datagram dropped: no memory");
-    }
-
-    fn unanswered(&self, rt: &R, ticket: &Ticket, why: &JoinFault) {
-        more(&self.unanswered);
-        let eui = ticket.dev_eui().0;
-        match why {
-            // A device that the join server does not take is the device's matter.
-            JoinFault::Exchange(AskFault::Answer(AnsFault::Refused(code))) => {
-                debug!(rt; "join of {eui:016x} refused: H7 A4 {code:?}");
-            }
-            why => warn!(rt; "join of {eui:016x} not answered: {why}"),
-        }
-    }
-
-    fn unsent(&self, rt: &R, downlink: &Downlink) {
-        more(&self.unsent);
-        warn!(rt; "downlink to gateway {:016x} not sent", downlink.target.gateway.0);
+        let (dropped, late) = (value(&self.dropped), value(&self.late));
+        let unreceived = value(&self.unreceived);
+        info!(rt; "datagrams: read {read} dropped {dropped} late {late} failed receives {unreceived}{refusals}");
+        let (unanswered, unsent) = (value(&self.unanswered), value(&self.unsent));
+        let stale = value(&self.stale);
+        info!(rt; "replies:{replies} unanswered {unanswered} unsent {unsent} stale tickets {stale}");
     }
 }

@@ -1,8 +1,9 @@
-//! Connections to the join server, each with one limit for connecting and the whole exchange.
+//! Connections to the join server, each with one limit for connecting and the whole exchange, and read as plain responses.
 ghost use Rattle.std.specs.Prelude.{◌≡◌, ◌+◌, ◌<◌, ◌≤◌, ◌↔◌, None, IsNone, IfSome};
 ghost use Rattle.std.specs.Duration.{as_nanos};
 ghost use Rattle.std.specs.Io.{ReadsAtMost, WritesAtMost};
 
+use ns_responses::Responses;
 use ns_types::{Failed, Sink, Source, Stream};
 use ns_workers::Connections;
 use std::io;
@@ -10,13 +11,31 @@ use std::io::{ErrorKind, Read, Write};
 use std::net::{Net, SocketAddr, TcpListener, TcpStream};
 use std::time::{Clock, Duration, Instant};
 
+// How long connecting to the join server and the whole exchange take at most. A Join-Accept is of use within the 5 s of its receive
+// window.
+const EXCHANGE_MS: u64 = 4000;
+
 /// Connections to the join server.
 #[derive(Drop)]
 pub(crate) struct ToJoinServer<'a, R> {
-    pub rt: &'a R,
-    pub addr: SocketAddr,
-    /// How long connecting and the exchange take together at most.
-    pub limit: Duration,
+    rt: &'a R,
+    addr: SocketAddr,
+    // How long connecting and the exchange take together at most.
+    limit: Duration,
+}
+
+impl<'a, R> ToJoinServer<'a, R> {
+    /// Connections to this address, each for 4 s at most.
+    pub fn new(rt: &'a R, addr: SocketAddr) -> ToJoinServer<'a, R>
+        ensures addr { result.addr ≡ addr }
+        ensures limit { as_nanos result.limit ≡ 4_000_000_000 }
+    {
+        ToJoinServer {
+            rt,
+            addr,
+            limit: Duration::from_millis(EXCHANGE_MS),
+        }
+    }
 }
 
 /// A stream that fails once its time is up.
@@ -31,18 +50,21 @@ pub(crate) struct Within<'a, R> {
 
 impl<'a, R: Net<Listener = TcpListener, Stream = TcpStream> + Clock> Connections<R>
     for ToJoinServer<'a, R> {
-    type S = Within<'a, R>;
+    type S = Responses<Within<'a, R>>;
 
-    fn open(&self, _rt: &R) -> Option<Within<'a, R>> {
+    // It opened a connection with the limit of each.
+    ghost has_opened = { λ to s. s.stream.limit ≡ to.limit };
+
+    fn open(&self, _rt: &R) -> Option<Responses<Within<'a, R>>> {
         let start = Instant::now(self.rt).ok()?;
         let stream = TcpStream::connect_timeout(self.rt, &self.addr, self.limit).ok()?;
-        Some(Within {
+        Some(Responses::new(Within {
             rt: self.rt,
             stream,
             start,
             limit: self.limit,
             failed: false,
-        })
+        }))
     }
 }
 

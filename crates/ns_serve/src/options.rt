@@ -5,6 +5,7 @@ ghost use Rattle.ns_workers.specs.declared.outside.WorkerFault.TheVariants as wo
 
 use ns_joinclient::HostName;
 use ns_workers::WorkerFault;
+use std::alloc::AllocError;
 use std::net::SocketAddr;
 use thiserror::Error;
 
@@ -50,5 +51,13 @@ impl From<WorkerFault> for ServeFault {
             WorkerFault::NoMemory => ServeFault::NoMemory,
             WorkerFault::SourceFailed | WorkerFault::SinkFailed => ServeFault::Io,
         }
+    }
+}
+
+impl From<AllocError> for ServeFault {
+    ghost from_gives = { λ _ e. e ≡ serve.NoMemory };
+
+    fn from(_error: AllocError) -> ServeFault {
+        ServeFault::NoMemory
     }
 }

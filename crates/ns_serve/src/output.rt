@@ -49,6 +49,17 @@ impl<W: Sink> Output<W> {
         write_whole(&mut self.writer, lines)
     }
 
+    /// Adds whole lines, and writes all that there are.
+    pub fn put_at_once(&mut self, lines: &[u8]) -> Result<(), Failed>
+        ensures ok { OnOk result (Appends (append_known (W.taken self.old.writer) self.old.lines.items)
+            (W.taken self.new.writer) lines.now) }
+        ensures empty { OnOk result (self.new.lines.items ≡ []) }
+        ensures failed { OnErr result (W.has_failed self.new.writer ≡ true) }
+    {
+        self.put(lines)?;
+        self.flush()
+    }
+
     /// Writes the lines that are not written yet. Those that could not be written are lost.
     pub fn flush(&mut self) -> Result<(), Failed>
         ensures ok { OnOk result (Appends (W.taken self.old.writer) (W.taken self.new.writer) self.old.lines.items) }
@@ -132,25 +143,22 @@ fn write_whole<W: Sink>(writer: &mut W, bytes: &[u8]) -> Result<(), Failed>
     write_all(writer, bytes)
 }
 
-/// The output as a worker's sink: what is written in one call is taken whole, so that no line is torn.
+/// The output as a gateway worker's sink: what is written in one call is taken whole, so that no line is torn, and written at once.
 #[derive(Drop)]
 pub(crate) struct Lines<'a, R, W> {
     rt: &'a R,
     output: &'a Mutex<Output<W>>,
-    // Whether each line is written at once.
-    is_eager: bool,
     failed: bool,
 }
 
 impl<'a, R, W> Lines<'a, R, W> {
-    /// A sink that has not failed. An eager one writes each line at once.
-    pub fn new(rt: &'a R, output: &'a Mutex<Output<W>>, is_eager: bool) -> Self
+    /// A sink that has not failed.
+    pub fn new(rt: &'a R, output: &'a Mutex<Output<W>>) -> Self
         ensures { ⟦<Lines<'a, R, W> as Stream>⟧.has_failed result ≡ false }
     {
         Lines {
             rt,
             output,
-            is_eager,
             failed: false,
         }
     }
@@ -164,24 +172,21 @@ impl<'a, R, W> Stream for Lines<'a, R, W> {
     }
 }
 
-// Adds lines, and writes them at once if that is asked.
-fn put_lines<W: Sink>(output: &mut Output<W>, lines: &[u8], is_eager: bool) -> Result<(), Failed>
-    ensures ok { OnOk result (Appends (append_known (W.taken output.old.writer) output.old.lines.items)
-        (append_known (W.taken output.new.writer) output.new.lines.items) lines.now) }
-    ensures eager { OnOk result (is_eager ≡ true → output.new.lines.items ≡ []) }
-{
-    output.put(lines)?;
-    if is_eager { output.flush() } else { Ok(()) }
+/// Adds whole lines under the lock of the output, and writes them at once.
+pub(crate) fn put_under_lock<R: Wait, W: Sink>(
+    rt: &R,
+    output: &Mutex<Output<W>>,
+    lines: &[u8],
+) -> Result<(), Failed> {
+    let mut guard = output.lock(rt);
+    guard.put_at_once(lines)
 }
 
 impl<'a, R: Wait, W: Sink> Sink for Lines<'a, R, W> {
     ghost taken = { λ _. None };
 
     fn write(&mut self, bytes: &[u8]) -> Result<usize, Failed> {
-        let mut guard = self.output.lock(self.rt);
-        let put = put_lines(&mut *guard, bytes, self.is_eager);
-        drop(guard);
-        match put {
+        match put_under_lock(self.rt, self.output, bytes) {
             Ok(()) => Ok(bytes.len()),
             Err(_) => {
                 self.failed = true;

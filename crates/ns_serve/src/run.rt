@@ -1,37 +1,33 @@
 //! The threads: each worker from its start to its end.
-ghost use Rattle.std.specs.Prelude.{◌≡◌, ◌+◌, ◌≤◌, ◌⊎◌, ◌++◌, ◌∷◌, [], true, vec_len, Some, IsNone, IfOk};
+ghost use Rattle.std.specs.Prelude.{◌≡◌, ◌+◌, ◌≤◌, ◌⊎◌, ◌↔◌, ◌++◌, ◌∷◌, [], true, vec_len, Some, IsNone, IfOk};
 ghost use Rattle.ns_serve.specs.Ends.{IsWorse};
 
-use crate::channels::{ClosingsOf, FromChannel, IntoChannel};
+use crate::channels::IntoQueues;
 use crate::clock::SinceStart;
-use crate::counts::Counts;
+use crate::closer::{Closings, ROOM, Turn, close_and_write};
+use crate::events::Events;
+use crate::held::Held;
 use crate::join_server::ToJoinServer;
 use crate::options::{ServeFault, ServeOptions};
 use crate::output::{Lines, Output};
+use crate::queue::FromQueue;
 use crate::sockets::{FromSocket, ToSocket};
 use crate::state::State;
-use crate::trims::{Trims, trim_due};
+use crate::trims::{trim_due, trims_of};
 use crossbeam_channel::{Receiver, Sender, unbounded};
-use log::Log;
+use log::{Log, error};
 use ns_joinclient::HostName;
 use ns_roster::Roster;
 use ns_server::{Naming, Open, Pass, Server};
 use ns_types::Sink;
-use ns_workers::{AskJob, CloseJob, Shared, WorkerFault, run_closer, run_gateway, run_join};
+use ns_workers::{CloseJob, Shared, WorkerFault, run_gateway, run_join};
 use std::alloc::{AllocError, Global};
 use std::net::{Net, SocketAddr, TcpListener, TcpStream};
 use std::sync::atomic::Ordering;
 use std::sync::{Mutex, Wait};
 use std::thread;
 use std::thread::{JoinHandle, Scope, Threads};
-use std::time::{Clock, Duration};
-
-// After how many closings the closer looks whether shards are to be trimmed. It makes room for so many receipts at a time.
-const AT_A_TIME: u32 = 256;
-
-// How long connecting to the join server and the whole exchange take at most. A Join-Accept is of use within the 5 s of its receive
-// window.
-const EXCHANGE_MS: u64 = 4000;
+use std::time::Clock;
 
 // What the threads see. One reference to it goes into each.
 #[derive(Drop)]
@@ -40,25 +36,23 @@ struct Around<'a, B: Naming, R, W> {
     alloc: Global,
     server: &'a Server<B>,
     gate: Open,
-    down: ToSocket<'a>,
+    events: Events<'a>,
     roster: &'a Roster,
     host: HostName<'a>,
     join: SocketAddr,
     state: &'a State,
     output: &'a Mutex<Output<W>>,
-    window_ms: u32,
     trim: Option<u32>,
 }
 
 impl<'a, B: Naming, R, W> Around<'a, B, R, W> {
     // What a worker shares with the others.
-    fn shared(&self) -> Shared<'_, B, R, Open, ToSocket<'a>, Counts> {
+    fn shared(&self) -> Shared<'_, B, R, Open, Events<'a>> {
         Shared {
             rt: self.rt,
             server: self.server,
             gate: &self.gate,
-            down: &self.down,
-            monitor: &self.state.counts,
+            monitor: &self.events,
         }
     }
 }
@@ -68,14 +62,20 @@ impl<'a, B: Naming, R, W> Around<'a, B, R, W> {
 struct GatewayKit<B: Naming> {
     pass: Pass<B>,
     closes: Sender<CloseJob>,
-    asks: Sender<AskJob>,
 }
 
 // What a join worker takes along.
 #[derive(Drop)]
 struct JoinKit<B: Naming> {
     pass: Pass<B>,
-    asks: Receiver<AskJob>,
+}
+
+// What all workers take along.
+#[derive(Drop)]
+struct Kits<B: Naming> {
+    closer: Pass<B>,
+    joins: Vec<JoinKit<B>>,
+    gateways: Vec<GatewayKit<B>>,
 }
 
 // What a thread does with what it takes along, and what it brings back.
@@ -84,7 +84,7 @@ trait Work<K, O> {
 }
 
 // A pass that came back, and why its worker ended early.
-type Back<B> = (Pass<B>, Option<WorkerFault>);
+type Back<B> = (Pass<B>, Option<ServeFault>);
 
 impl<'a, B: Naming, R: Wait + Clock + Log, W: Sink> Work<GatewayKit<B>, Back<B>>
     for Around<'a, B, R, W> {
@@ -113,7 +113,7 @@ fn start_thread<'s, E, A: Work<K, O> + Sync, K: Send + Drop + 's, O: Send + Drop
     scope.spawn(move || around.work(kit)).ok()
 }
 
-// Starts a thread for each kit, and says whether all were made.
+// Starts a thread for each kit, and says whether all were made. The kits of those that were not made are dropped.
 fn start_all<'s, E, A: Work<K, O> + Sync, K: Send + Drop + 's, O: Send + Drop + 's>(
     scope: &Scope<'s, E>,
     around: &'s A,
@@ -133,11 +133,47 @@ fn start_all<'s, E, A: Work<K, O> + Sync, K: Send + Drop + 's, O: Send + Drop + 
     true
 }
 
-// Has all others stop, where a worker ended early.
-fn break_at(state: &State, fault: Option<WorkerFault>) {
-    if fault.is_some() {
-        state.break_off();
+// Starts all join workers and then all gateway workers, and says whether all were made. What those take along that were not made is
+// dropped: a sender among it would keep the closer's channel open.
+fn start_workers<
+    's,
+    E,
+    A: Work<J, O> + Work<G, O> + Sync,
+    J: Send + Drop + 's,
+    G: Send + Drop + 's,
+    O: Send + Drop + 's,
+>(
+    scope: &Scope<'s, E>,
+    around: &'s A,
+    join_kits: Vec<J>,
+    gateway_kits: Vec<G>,
+    joiners: &mut Vec<JoinHandle<O>>,
+    gateways: &mut Vec<JoinHandle<O>>,
+) -> bool
+    ensures joiners { result ≡ true → vec_len joiners.new ≡ vec_len joiners.old + vec_len join_kits }
+    ensures gateways { result ≡ true → vec_len gateways.new ≡ vec_len gateways.old + vec_len gateway_kits }
+{
+    start_all(scope, around, join_kits, joiners) && start_all(scope, around, gateway_kits, gateways)
+}
+
+// The fault of a worker. Where there is one, it is logged, and all others are to stop.
+fn fault_of<R: Log>(
+    rt: &R,
+    state: &State,
+    worker: &'static str,
+    fault: Option<WorkerFault>,
+) -> Option<ServeFault>
+    ensures none { IsNone result ↔ IsNone fault }
+    ensures memory { (result ≡ Some ServeFault.NoMemory) ↔ (fault ≡ Some WorkerFault.NoMemory) }
+{
+    let fault = fault?;
+    match fault {
+        WorkerFault::NoMemory => error!(rt; "{worker}: no memory for a call"),
+        WorkerFault::SourceFailed => error!(rt; "{worker}: no datagrams from {}", state.addr),
+        WorkerFault::SinkFailed => error!(rt; "{worker}: standard output failed"),
     }
+    state.break_off();
+    Some(ServeFault::from(fault))
 }
 
 // One gateway worker, from its start to its end.
@@ -145,31 +181,25 @@ fn gateway_thread<B: Naming, R: Wait + Clock + Log, W: Sink>(
     around: &Around<'_, B, R, W>,
     kit: GatewayKit<B>,
 ) -> Back<B> {
-    let GatewayKit {
-        mut pass,
-        closes,
-        asks,
-    } = kit;
-    let (rt, state, output) = (around.rt, around.state, around.output);
-    let mut datagrams = FromSocket { state };
-    let timer = SinceStart { state, output };
-    let closes = IntoChannel { sender: closes };
-    let asks = IntoChannel { sender: asks };
-    let mut sink = Lines::new(rt, output, true);
-    let shared = around.shared();
+    let GatewayKit { mut pass, closes } = kit;
+    let (rt, state) = (around.rt, around.state);
+    let mut datagrams = FromSocket::new(state);
+    let mut jobs = IntoQueues { closes, state };
+    let mut down = ToSocket { state };
+    let mut sink = Lines::new(rt, around.output);
     let served = run_gateway(
-        &shared,
+        &around.shared(),
         &mut pass,
         &mut datagrams,
-        &timer,
-        &closes,
-        &asks,
+        &SinceStart { state },
+        &mut jobs,
+        &mut down,
         &mut sink,
-        around.window_ms,
+        state.window_ms,
     );
-    break_at(state, served.fault);
+    let fault = fault_of(rt, state, "gateway worker", served.fault);
     state.gateways.fetch_sub(1, Ordering::SeqCst);
-    (pass, served.fault)
+    (pass, fault)
 }
 
 // One join worker, from its start to its end.
@@ -178,70 +208,79 @@ fn join_thread<
     R: Wait + Clock + Log + Net<Listener = TcpListener, Stream = TcpStream>,
     W: Sink,
 >(around: &Around<'_, B, R, W>, kit: JoinKit<B>) -> Back<B> {
-    let JoinKit { mut pass, asks } = kit;
+    let JoinKit { mut pass } = kit;
     let (rt, state) = (around.rt, around.state);
-    let mut jobs = FromChannel {
-        state,
-        receiver: asks,
-    };
-    let connections = ToJoinServer {
-        rt,
-        addr: around.join,
-        limit: Duration::from_millis(EXCHANGE_MS),
-    };
-    let shared = around.shared();
+    let mut jobs = FromQueue { state };
+    let mut down = ToSocket { state };
+    let connections = ToJoinServer::new(rt, around.join);
     let joined = run_join(
         around.alloc,
-        &shared,
+        &around.shared(),
         &mut pass,
         &connections,
+        &SinceStart { state },
         &mut jobs,
+        &mut down,
         around.roster,
         around.host,
     );
-    break_at(state, joined.fault);
-    (pass, joined.fault)
+    let fault = fault_of(rt, state, "join worker", joined.fault);
+    (pass, fault)
 }
 
-// The closer, from its start to its end. After each return of `run_closer` it trims the shards that are due.
+// The closer, from its start to its end.
 fn closer_thread<B: Naming, R: Wait + Clock + Log, W: Sink>(
     around: &Around<'_, B, R, W>,
     pass: Pass<B>,
     closes: Receiver<CloseJob>,
 ) -> Back<B> {
     let mut pass = pass;
-    let (rt, state, output) = (around.rt, around.state, around.output);
-    let mut jobs = ClosingsOf {
-        state,
-        receiver: closes,
-        output,
-    };
-    let timer = SinceStart { state, output };
+    let fault = close_to_end(around, &mut pass, closes);
+    if fault.is_some() {
+        around.state.break_off();
+    }
+    (pass, fault)
+}
+
+// Closes windows until the server stops, and trims the shards that are due.
+fn close_to_end<B: Naming, R: Wait + Clock + Log, W: Sink>(
+    around: &Around<'_, B, R, W>,
+    pass: &mut Pass<B>,
+    closes: Receiver<CloseJob>,
+) -> Option<ServeFault> {
+    let (rt, state, alloc) = (around.rt, around.state, around.alloc);
+    let mut closings = Closings::new(state, closes);
+    let mut trims = trims_of(around.trim);
     let shared = around.shared();
-    let mut trims = around.trim.map(Trims::new);
+    let Ok(mut held) = Held::new(alloc, ROOM) else {
+        error!(rt; "closer: no memory for lines");
+        return Some(ServeFault::NoMemory);
+    };
     for _turn in rt.forever() {
-        let mut sink = Lines::new(rt, output, false);
-        let ended = run_closer(
-            around.alloc,
-            &shared,
-            &mut pass,
-            &timer,
-            &mut jobs,
-            &mut sink,
-            AT_A_TIME,
-        );
-        break_at(state, ended.fault);
-        if let Some(trims) = &mut trims {
-            trim_due(
-                rt,
-                around.alloc,
-                around.server,
-                trims,
-                ended.receipts.as_slice(),
-            );
+        match closings.next(rt, alloc) {
+            Ok(Turn::Close(jobs)) => {
+                let fault = close_and_write(
+                    alloc,
+                    &shared,
+                    pass,
+                    state,
+                    around.output,
+                    jobs,
+                    &mut held,
+                );
+                if fault.is_some() {
+                    return fault;
+                }
+            }
+            Ok(Turn::Idle) => {}
+            Ok(Turn::End) => return None,
+            Err(_) => {
+                error!(rt; "closer: no memory for its jobs");
+                return Some(ServeFault::NoMemory);
+            }
         }
-        if ended.fault.is_some() || ended.receipts.len() < AT_A_TIME as usize {
-            return (pass, ended.fault);
+        if let Some(trims) = &mut trims {
+            let _told = trim_due(rt, alloc, around.server, trims, &state.made.all());
         }
     }
     unreachable!()
@@ -255,11 +294,11 @@ pub(crate) struct Ends<B: Naming> {
 }
 
 // The fault of a server, with that of one worker more. Want of memory is told before all else.
-fn worse(before: Option<ServeFault>, fault: Option<WorkerFault>) -> Option<ServeFault>
+fn worse(before: Option<ServeFault>, fault: Option<ServeFault>) -> Option<ServeFault>
     ensures { IsWorse before fault result }
 {
     match (before, fault) {
-        (Some(ServeFault::NoMemory), _) | (_, Some(WorkerFault::NoMemory)) => {
+        (Some(ServeFault::NoMemory), _) | (_, Some(ServeFault::NoMemory)) => {
             Some(ServeFault::NoMemory)
         }
         (Some(ServeFault::Io), _) | (_, Some(_)) => Some(ServeFault::Io),
@@ -270,7 +309,7 @@ fn worse(before: Option<ServeFault>, fault: Option<WorkerFault>) -> Option<Serve
 // Keeps a pass that came back, and the fault of its worker.
 fn keep<B: Naming>(ends: &mut Ends<B>, back: Back<B>)
     ensures none { IsNone ends.new.fault → IsNone ends.old.fault × IsNone back.1 }
-    ensures memory { (ends.old.fault ≡ Some ServeFault.NoMemory) ⊎ (back.1 ≡ Some WorkerFault.NoMemory)
+    ensures memory { (ends.old.fault ≡ Some ServeFault.NoMemory) ⊎ (back.1 ≡ Some ServeFault.NoMemory)
         → ends.new.fault ≡ Some ServeFault.NoMemory }
     ensures kept { IsNone ends.new.fault → ends.new.passes.items ≡ ends.old.passes.items ++ back.0 ∷ [] }
 {
@@ -286,20 +325,16 @@ fn join_kits<B: Naming>(
     alloc: Global,
     passes: &mut Vec<Pass<B>>,
     count: usize,
-    asks: &Receiver<AskJob>,
 ) -> Result<Vec<JoinKit<B>>, AllocError>
-    ensures { IfOk result (λ kits. count ≤ vec_len passes.old
-        → (vec_len kits ≡ count) × (vec_len passes.new + count ≡ vec_len passes.old)) }
+    requires { count ≤ vec_len passes.old }
+    ensures { IfOk result (λ kits. (vec_len kits ≡ count) × (vec_len passes.new + count ≡ vec_len passes.old)) }
 {
     let mut kits = Vec::new(alloc);
     while kits.len() < count {
         let Some(pass) = passes.pop() else {
             return Ok(kits);
         };
-        kits.push(JoinKit {
-            pass,
-            asks: asks.clone()?,
-        })?;
+        kits.push(JoinKit { pass })?;
     }
     Ok(kits)
 }
@@ -309,7 +344,6 @@ fn gateway_kits<B: Naming>(
     alloc: Global,
     mut passes: Vec<Pass<B>>,
     closes: Sender<CloseJob>,
-    asks: Sender<AskJob>,
 ) -> Result<Vec<GatewayKit<B>>, AllocError>
     ensures { IfOk result (λ kits. vec_len kits ≡ vec_len passes) }
 {
@@ -318,10 +352,32 @@ fn gateway_kits<B: Naming>(
         kits.push(GatewayKit {
             pass,
             closes: closes.clone()?,
-            asks: asks.clone()?,
         })?;
     }
     Ok(kits)
+}
+
+// Divides the passes: one for the closer, and one for each join worker and each gateway worker that is asked for.
+fn kits_of<B: Naming>(
+    alloc: Global,
+    mut passes: Vec<Pass<B>>,
+    closes: Sender<CloseJob>,
+    options: &ServeOptions<'_>,
+) -> Result<Kits<B>, AllocError>
+    requires { vec_len passes ≡ options.now.workers + options.now.join_workers + 1 }
+    ensures joins { IfOk result (λ kits. vec_len kits.joins ≡ options.now.join_workers) }
+    ensures gateways { IfOk result (λ kits. vec_len kits.gateways ≡ options.now.workers) }
+{
+    let Some(closer) = passes.pop() else {
+        return Err(AllocError);
+    };
+    let joins = join_kits(alloc, &mut passes, options.join_workers)?;
+    let gateways = gateway_kits(alloc, passes, closes)?;
+    Ok(Kits {
+        closer,
+        joins,
+        gateways,
+    })
 }
 
 /// Runs all workers to their ends. The closer runs in the thread of the caller.
@@ -333,25 +389,23 @@ pub(crate) fn run_all<
     rt: &R,
     alloc: Global,
     server: &Server<B>,
-    mut passes: Vec<Pass<B>>,
+    passes: Vec<Pass<B>>,
     roster: &Roster,
     state: &State,
     output: &Mutex<Output<W>>,
     options: &ServeOptions<'_>,
-) -> Result<Ends<B>, AllocError> {
+) -> Result<Ends<B>, AllocError>
+    requires { vec_len passes ≡ options.now.workers + options.now.join_workers + 1 }
+{
     let (close_sender, close_receiver) = unbounded::<CloseJob, Global>(alloc)?;
-    let (ask_sender, ask_receiver) = unbounded::<AskJob, Global>(alloc)?;
-    // Both channels stay open until the last gateway worker has ended: `ask_receiver` lives here, and so does this.
+    // The channel stays open until the last gateway worker has ended.
     let _close_open = close_receiver.clone()?;
-    let Some(close_pass) = passes.pop() else {
-        return Err(AllocError);
-    };
-    let join_kits = join_kits(alloc, &mut passes, options.join_workers, &ask_receiver)?;
-    let gateway_kits = gateway_kits(alloc, passes, close_sender, ask_sender)?;
-    let gateways: Vec<JoinHandle<Back<B>>> = Vec::with_capacity(alloc, gateway_kits.len())?;
-    let joiners: Vec<JoinHandle<Back<B>>> = Vec::with_capacity(alloc, join_kits.len())?;
+    let kits = kits_of(alloc, passes, close_sender, options)?;
+    let (heard_by, asked_by) = (kits.gateways.len(), kits.joins.len());
+    let gateways: Vec<JoinHandle<Back<B>>> = Vec::with_capacity(alloc, heard_by)?;
+    let joiners: Vec<JoinHandle<Back<B>>> = Vec::with_capacity(alloc, asked_by)?;
     let ends = Ends {
-        passes: Vec::with_capacity(alloc, gateway_kits.len() + join_kits.len() + 1)?,
+        passes: Vec::with_capacity(alloc, options.workers + options.join_workers + 1)?,
         fault: None,
     };
     let around = Around {
@@ -359,28 +413,30 @@ pub(crate) fn run_all<
         alloc,
         server,
         gate: Open,
-        down: ToSocket { state },
+        events: Events { state },
         roster,
         host: options.host,
         join: options.join,
         state,
         output,
-        window_ms: options.window_ms,
         trim: options.trim,
     };
     let around = &around;
-    state
-        .gateways
-        .store(gateway_kits.len() as u64, Ordering::SeqCst);
+    state.gateways.store(heard_by as u64, Ordering::SeqCst);
     let ends = thread::scope(thread::scope_env(), rt, |scope| {
         let (mut ends, mut gateways, mut joiners) = (ends, gateways, joiners);
-        let is_whole = start_all(scope, around, join_kits, &mut joiners)
-            && start_all(scope, around, gateway_kits, &mut gateways);
+        let Kits {
+            closer,
+            joins,
+            gateways: hearers,
+        } = kits;
+        let is_whole = start_workers(scope, around, joins, hearers, &mut joiners, &mut gateways);
         if !is_whole {
+            error!(rt; "a thread could not be made");
             ends.fault = Some(ServeFault::NoMemory);
             state.break_off();
         }
-        let back = closer_thread(around, close_pass, close_receiver);
+        let back = closer_thread(around, closer, close_receiver);
         keep(&mut ends, back);
         for handle in gateways {
             keep(&mut ends, handle.join(rt));

@@ -1,57 +1,56 @@
 //! A server from its start to what it settled.
-ghost use Rattle.std.specs.Prelude.{◌≡◌, ◌+◌, ◌≤◌, ◌<◌, false, true, sum_by, IfOk, OnOk, OnErr};
+ghost use Rattle.std.specs.Prelude.{◌≡◌, ◌+◌, ◌≤◌, ◌<◌, ◌⊎◌, [], false, true, sum_by, IfOk, IfSome, IsErr, OnOk, OnErr};
 ghost use Rattle.std.specs.Io.KnownBytes.{Appends, append_known};
 ghost use Rattle.std.specs.Arc.{arc_value};
 ghost use Rattle.ns_tally.specs.Tally.{AreNamed};
 ghost use Rattle.ns_server.specs.Drain.{NoneOpen, EachIsClosed};
 ghost use Rattle.ns_workers.specs.Lines.{uplink_line};
 ghost use Rattle.ns_serve.specs.Closing.{last_lines};
-ghost use Rattle.ns_serve.specs.Output.{Grows, EndsIn};
+ghost use Rattle.ns_serve.specs.Output.{Grows, EndsIn, Sends};
 
 use crate::closing::closing_text;
-use crate::counts::Counts;
+use crate::events::log_unsent;
 use crate::options::{ServeFault, ServeOptions};
 use crate::output::Output;
-use crate::peers::Peers;
 use crate::run::{Ends, run_all};
-use crate::sockets::send_down;
+use crate::sockets::ToSocket;
 use crate::state::State;
-use log::{Log, info};
+use log::{Log, error, info};
 use ns_calls::up_line;
 use ns_roster::Roster;
 use ns_server::{Naming, Receipt, Server, Settled};
 use ns_tally::Blanks;
 use ns_types::Sink;
-use ns_workers::Monitor;
+use ns_workers::Downlinks;
 use std::alloc::Global;
+use std::io;
 use std::marker::Brand;
 use std::net::{Net, SocketAddr, TcpListener, TcpStream, UdpSocket};
-use std::sync::atomic::{AtomicBool, AtomicU64, Ordering};
+use std::sync::atomic::Ordering;
 use std::sync::{Arc, Mutex, Wait};
 use std::thread::Threads;
-use std::time::{Clock, Duration, Instant};
+use std::time::{Clock, Duration};
 
 // How long a gateway worker waits for a datagram before it looks whether the server stops.
 const LISTEN_MS: u64 = 100;
 
-// Of how many gateways the addresses are kept.
-const MOST_PEERS: usize = 65_536;
+// A socket bound to an address, whose receives wait a while, and its address.
+fn bind<R: Net>(rt: &R, addr: SocketAddr) -> io::Result<(UdpSocket, SocketAddr)> {
+    let socket = UdpSocket::bind(rt, addr)?;
+    socket.set_read_timeout(Some(Duration::from_millis(LISTEN_MS)))?;
+    let bound = socket.local_addr()?;
+    Ok((socket, bound))
+}
 
 // The socket at which gateways are heard, and its address.
-fn listen<R: Net>(rt: &R, addr: SocketAddr) -> Result<(UdpSocket, SocketAddr), ServeFault> {
-    let Ok(socket) = UdpSocket::bind(rt, addr) else {
-        return Err(ServeFault::Io);
-    };
-    if socket
-        .set_read_timeout(Some(Duration::from_millis(LISTEN_MS)))
-        .is_err()
-    {
-        return Err(ServeFault::Io);
+fn listen<R: Net + Log>(rt: &R, addr: SocketAddr) -> Result<(UdpSocket, SocketAddr), ServeFault> {
+    match bind(rt, addr) {
+        Ok(bound) => Ok(bound),
+        Err(error) => {
+            error!(rt; "cannot listen at {addr}: {error}");
+            Err(ServeFault::Io)
+        }
     }
-    let Ok(bound) = socket.local_addr() else {
-        return Err(ServeFault::Io);
-    };
-    Ok((socket, bound))
 }
 
 // Logs what is served.
@@ -67,20 +66,23 @@ fn log_start<R: Log>(rt: &R, roster: &Roster, addr: SocketAddr, options: &ServeO
 }
 
 // Writes what goes up with the closing of a window, and sends what goes down.
-fn hand_out<R: Wait + Log, W: Sink>(
+#[tactic(auto, using(crate::proofs::OutputLemmas::sends_none))]
+fn hand_out<R: Wait + Log, W: Sink, D: Downlinks<R>>(
     rt: &R,
     state: &State,
     output: &mut Output<W>,
+    down: &mut D,
     receipt: &Receipt,
 ) -> Result<(), ServeFault>
+    ensures down { Sends (D.taken down.old) (D.taken down.new) receipt.now.downlink }
     ensures ok { OnOk result (Appends (append_known (W.taken output.old.writer) output.old.lines.items)
         (append_known (W.taken output.new.writer) output.new.lines.items) (uplink_line receipt.now.uplink)) }
     ensures failed { OnErr result (W.has_failed output.new.writer ≡ true) }
 {
     state.counts.replied(&receipt.entry.reply);
     if let Some(downlink) = &receipt.downlink {
-        if !send_down(rt, state, downlink) {
-            state.counts.unsent(rt, downlink);
+        if !down.send(rt, downlink) {
+            log_unsent(rt, state, downlink);
         }
     }
     match &receipt.uplink {
@@ -101,9 +103,10 @@ fn drain<B: Naming, R: Wait + Log, W: Sink>(
     ensures grows { OnOk result (Grows (append_known (W.taken output.old.writer) output.old.lines.items)
         (append_known (W.taken output.new.writer) output.new.lines.items)) }
 {
+    let mut down = ToSocket { state };
     for _turn in rt.forever() {
         match settled.drain_next() {
-            Some(receipt) => hand_out(rt, state, output, &receipt)?,
+            Some(receipt) => hand_out(rt, state, output, &mut down, &receipt)?,
             None => return Ok(()),
         }
     }
@@ -141,6 +144,46 @@ fn finish<B: Naming, R: Wait + Log, W: Sink>(
     Ok(total)
 }
 
+// What becomes of a server whose workers have ended: the fault of any of them, or how many entries there are.
+fn settled_of<B: Naming, R: Wait + Log, W: Sink>(
+    rt: &R,
+    alloc: Global,
+    roster: &Roster,
+    state: &State,
+    server: Server<B>,
+    ends: Ends<B>,
+    output: &mut Output<W>,
+    closing: bool,
+) -> Result<u128, ServeFault>
+    requires { roster.now ≡ B.roster }
+    ensures fault { IfSome ends.fault (λ f. result ≡ Err f) }
+{
+    let Ends { passes, fault } = ends;
+    if let Some(fault) = fault {
+        return Err(fault);
+    }
+    let Ok(mut settled) = server.settle(passes) else {
+        error!(rt; "no memory for what was settled");
+        return Err(ServeFault::NoMemory);
+    };
+    finish(rt, alloc, roster, state, &mut settled, output, closing)
+}
+
+// The outcome with which the server ends. After a fault too, what the output was told is written.
+fn written<R: Log, W: Sink>(
+    rt: &R,
+    output: &mut Output<W>,
+    outcome: Result<u128, ServeFault>,
+) -> Result<u128, ServeFault>
+    ensures same { result ≡ outcome }
+    ensures failed { IsErr outcome → (output.new.lines.items ≡ []) × (Appends (W.taken output.old.writer) (W.taken output.new.writer) output.old.lines.items ⊎ (W.has_failed output.new.writer ≡ true)) }
+{
+    if outcome.is_err() && output.flush().is_err() {
+        error!(rt; "standard output failed: lines are lost");
+    }
+    outcome
+}
+
 // A server of this many workers, from its start to what it settled.
 fn run_server<
     B: Naming + Send + Sync,
@@ -162,44 +205,26 @@ fn run_server<
     requires passes { B.workers ≡ options.now.workers + options.now.join_workers + 1 }
     requires roster { arc_value roster ≡ B.roster }
 {
-    let Ok(known) = roster.clone() else {
-        return Err(ServeFault::NoMemory);
-    };
+    let known = roster.clone()?;
     let count = options.workers + options.join_workers + 1;
-    let Ok((server, passes)) = Server::<B>::new(alloc, roster, count, blanks) else {
-        return Err(ServeFault::NoMemory);
-    };
+    let (server, passes) = Server::<B>::new(alloc, roster, count, blanks)?;
     let output = Mutex::new(output);
-    let Ok(ends) = run_all(rt, alloc, &server, passes, &known, state, &output, options) else {
-        return Err(ServeFault::NoMemory);
-    };
-    let Ends { passes, fault } = ends;
-    if let Some(fault) = fault {
-        return Err(fault);
-    }
+    let ends = run_all(rt, alloc, &server, passes, &known, state, &output, options)?;
     let mut output = output.into_inner();
-    let Ok(mut settled) = server.settle(passes) else {
-        return Err(ServeFault::NoMemory);
-    };
-    let total = finish(
-        rt,
-        alloc,
-        &known,
-        state,
-        &mut settled,
-        &mut output,
-        options.closing,
-    )?;
+    let closing = options.closing;
+    let outcome = settled_of(rt, alloc, &known, state, server, ends, &mut output, closing);
+    let outcome = written(rt, &mut output, outcome);
     let read = state.read.load(Ordering::SeqCst);
     state.counts.log_all(rt, read.min(state.most));
-    Ok(total)
+    outcome
 }
 
 /// Serves gateways over UDP, with a join server over TCP, until so many datagrams have come, if the options say how many. Writes
 /// `listening ADDR`, the `up` lines as windows close, those of the windows that are still open at the end, `settled T`, and the closing
 /// roster where the options ask for it, each with a line feed, and gives T, which is how many entries there are in all shards.
 ///
-/// `NoMemory` where a growth was refused, or a thread could not be made; `Io` where the socket or the writer failed.
+/// `NoMemory` where a growth was refused, or a thread could not be made; `Io` where the socket or the writer failed. Each is logged
+/// with where it was; the lines of what was closed before it are written all the same.
 pub fn serve<
     R: Threads + Wait + Clock + Net<Listener = TcpListener, Stream = TcpStream> + Log + Sync,
     W: Sink + Send + Drop,
@@ -214,22 +239,10 @@ pub fn serve<
     requires join_workers { (0 < options.now.join_workers) × (options.now.join_workers ≤ 16) }
 {
     let (socket, addr) = listen(rt, options.listen)?;
-    let Ok(start) = Instant::now(rt) else {
-        return Err(ServeFault::Io);
-    };
+    let state = State::new(rt, alloc, socket, addr, &roster, options)?;
     log_start(rt, &roster, addr, options);
     let mut output = Output::new(writer);
     output.put_listening(alloc, addr)?;
-    let state = State {
-        socket,
-        start,
-        read: AtomicU64::new(0),
-        most: options.stop_after.map_or(u64::MAX, u64::from),
-        broken: AtomicBool::new(false),
-        gateways: AtomicU64::new(0),
-        peers: Mutex::new(Peers::new(alloc, MOST_PEERS)),
-        counts: Counts::new(),
-    };
     let count = options.workers as u64 + options.join_workers as u64 + 1;
     let blanks = Blanks::new(count);
     run_server::<Brand, _, _>(rt, alloc, roster, blanks, &state, output, options)

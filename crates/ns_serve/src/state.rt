@@ -1,18 +1,39 @@
 //! What all threads of a server share.
 
+ghost use Rattle.std.specs.Prelude.{◌≡◌, IfOk};
+
+use crate::askers::Askers;
 use crate::counts::Counts;
+use crate::events::Seldoms;
+use crate::late::Lates;
+use crate::made::Made;
+use crate::options::{ServeFault, ServeOptions};
 use crate::peers::Peers;
-use std::net::UdpSocket;
+use crate::queue::AskQueue;
+use crate::seed::keys;
+use ns_roster::Roster;
+use std::alloc::Global;
+use std::net::{SocketAddr, UdpSocket};
 use std::sync::Mutex;
 use std::sync::atomic::{AtomicBool, AtomicU64, Ordering};
-use std::time::Instant;
+use std::time::{Clock, Instant};
+
+// For how long a copy is late, in milliseconds: RX1's delay and 1 s, since a device repeats a frame at the earliest after RX2, which
+// opens 1 s after RX1 (LoRaWAN L2 1.0.4, 3.3.2). A delay of 0 means 1 s.
+fn late_ms(roster: &Roster) -> u64 {
+    (u64::from(roster.rx_delay()).max(1) + 1) * 1000
+}
 
 /// What all threads share.
 #[derive(Drop)]
 pub(crate) struct State {
     pub socket: UdpSocket,
+    /// The address at which gateways are heard.
+    pub addr: SocketAddr,
     /// When the server began.
     pub start: Instant,
+    /// How long a window stays open, in milliseconds.
+    pub window_ms: u32,
     /// How many datagrams came.
     pub read: AtomicU64,
     /// The server stops after so many.
@@ -22,10 +43,49 @@ pub(crate) struct State {
     /// How many gateway workers are at work.
     pub gateways: AtomicU64,
     pub peers: Mutex<Peers>,
+    pub lates: Lates,
+    pub asks: AskQueue,
+    pub askers: Mutex<Askers>,
+    pub made: Made,
     pub counts: Counts,
+    pub seldoms: Seldoms,
 }
 
 impl State {
+    /// The state of a server that begins now.
+    pub fn new<R: Clock>(
+        rt: &R,
+        alloc: Global,
+        socket: UdpSocket,
+        addr: SocketAddr,
+        roster: &Roster,
+        options: &ServeOptions<'_>,
+    ) -> Result<State, ServeFault>
+        ensures window { IfOk result (λ s. s.window_ms ≡ options.now.window_ms) }
+        ensures addr { IfOk result (λ s. s.addr ≡ addr) }
+    {
+        let (Ok(start), Ok(keys)) = (Instant::now(rt), keys(rt)) else {
+            return Err(ServeFault::Io);
+        };
+        Ok(State {
+            socket,
+            addr,
+            start,
+            window_ms: options.window_ms,
+            read: AtomicU64::new(0),
+            most: options.stop_after.map_or(u64::MAX, u64::from),
+            broken: AtomicBool::new(false),
+            gateways: AtomicU64::new(0),
+            peers: Mutex::new(Peers::new(alloc, keys)?),
+            lates: Lates::new(alloc, keys, late_ms(roster))?,
+            asks: AskQueue::new(alloc),
+            askers: Mutex::new(Askers::new(alloc, keys)?),
+            made: Made::new(),
+            counts: Counts::new(),
+            seldoms: Seldoms::new(),
+        })
+    }
+
     /// Whether no further datagram or job is to be taken.
     pub fn is_over(&self) -> bool {
         self.is_broken() || self.read.load(Ordering::SeqCst) >= self.most

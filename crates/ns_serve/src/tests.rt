@@ -1,17 +1,24 @@
 //! A server over loopback, with a join server and a gateway in threads of their own; the table of addresses, and the log line of counts.
 
 use crate::counts::Counts;
+use crate::events::Events;
 use crate::peers::Peers;
+use crate::seed::keys;
+use crate::state::State;
 use crate::{ServeFault, ServeOptions, serve};
 use log::Log;
 use log::sink::Writer;
 use ns_calls::Reply;
 use ns_joinclient::HostName;
+use ns_link::LinkFault;
 use ns_roster::Roster;
 use ns_types::{DevEui, DevNonce, JoinEui, Key, OverStd};
+use ns_views::ViewFault;
+use ns_workers::{Monitor, Refused};
 use std::alloc::Global;
 use std::io::{ErrorKind, Read, Write};
 use std::net::{Net, SocketAddr, TcpListener, TcpStream, UdpSocket};
+use std::num::NonZeroUsize;
 use std::sync::{Arc, Wait};
 use std::test::*;
 use std::thread;
@@ -22,7 +29,7 @@ use test_device::{TestDevice, TestJoinServer};
 pub const ROSTER_A: &str =
     r#"{"version":1,"net_id":"000024","rx1_offset":0,"rx_delay":1,"devices":[{"dev_eui":"000000000000000d","join_eui":"0102030401020304","slot":1998321}]}"#;
 
-const APP_KEY: Key = Key([7; 16]);
+pub(crate) const APP_KEY: Key = Key([7; 16]);
 
 // Gateways a1 and a2, on 868.1 MHz at DR5; a2 hears 1 ms later, with the greater SNR.
 const H1: [u8; 27] = [
@@ -37,17 +44,17 @@ const H2: [u8; 27] = [
 
 // The log lines of two minutes, in which three calls were answered.
 const LOGGED: &[u8] =
-    b"[INFO  ns_serve::counts] datagrams: read 4 dropped 0 G1 0 G2 0 G3 0 G4 0 G5 0 G6 0 V1 0 V2 0 V3 0 V4 0 V5 0 V6 0\n[INFO  ns_serve::counts] replies: opened 0 copied 0 crowded 0 old 0 nosession 2 busy 0 ask 0 joincopied 0 joincrowded 0 nonceold 0 nodevice 0 joinbusy 1 accepted 0 joinrefused 0 joinstale 0 noticket 0 closed 0 nowindow 0 again 0 unanswered 0 unsent 0\n[INFO  ns_serve::counts] datagrams: read 6 dropped 0 G1 0 G2 0 G3 0 G4 0 G5 0 G6 0 V1 0 V2 0 V3 0 V4 0 V5 0 V6 0\n[INFO  ns_serve::counts] replies: opened 0 copied 0 crowded 0 old 0 nosession 2 busy 0 ask 0 joincopied 0 joincrowded 0 nonceold 0 nodevice 0 joinbusy 1 accepted 0 joinrefused 0 joinstale 0 noticket 0 closed 0 nowindow 0 again 0 unanswered 0 unsent 0\n";
+    b"[INFO  ns_serve::counts] datagrams: read 4 dropped 0 late 0 failed receives 0 G1 0 G2 0 G3 0 G4 0 G5 0 G6 0 V1 0 V2 0 V3 0 V4 0 V5 0 V6 0\n[INFO  ns_serve::counts] replies: opened 0 copied 0 crowded 0 old 0 nosession 2 busy 0 ask 0 joincopied 0 joincrowded 0 nonceold 0 nodevice 0 joinbusy 1 accepted 0 joinrefused 0 joinstale 0 noticket 0 closed 0 nowindow 0 again 0 unanswered 0 unsent 0 stale tickets 0\n[INFO  ns_serve::counts] datagrams: read 6 dropped 0 late 0 failed receives 0 G1 0 G2 0 G3 0 G4 0 G5 0 G6 0 V1 0 V2 0 V3 0 V4 0 V5 0 V6 0\n[INFO  ns_serve::counts] replies: opened 0 copied 0 crowded 0 old 0 nosession 2 busy 0 ask 0 joincopied 0 joincrowded 0 nonceold 0 nodevice 0 joinbusy 1 accepted 0 joinrefused 0 joinstale 0 noticket 0 closed 0 nowindow 0 again 0 unanswered 0 unsent 0 stale tickets 0\n";
 
 // How often a peer tries again, with a sleep of 10 ms before each time.
-const TRIES: u32 = 500;
+pub(crate) const TRIES: u32 = 500;
 
-fn nap<R: Clock>(rt: &R) {
+pub(crate) fn nap<R: Clock>(rt: &R) {
     let _ = thread::sleep(rt, Duration::from_millis(10));
 }
 
 // The connection that comes within five seconds.
-fn accepted<R: Clock>(rt: &R, listener: &TcpListener) -> Option<TcpStream> {
+pub(crate) fn accepted<R: Clock>(rt: &R, listener: &TcpListener) -> Option<TcpStream> {
     for _ in 0..TRIES {
         if let Ok((stream, _)) = listener.accept() {
             return Some(stream);
@@ -68,7 +75,7 @@ fn body_start(bytes: &[u8]) -> Option<usize> {
 }
 
 // Reads a JoinReq of 281 bytes behind its head, and answers it.
-fn answer(alloc: Global, stream: &TcpStream, server: &mut TestJoinServer) -> Option<()> {
+pub(crate) fn answer(alloc: Global, stream: &TcpStream, server: &mut TestJoinServer) -> Option<()> {
     let mut bytes: Vec<u8> = Vec::new(alloc);
     let mut buf = [0u8; 1024];
     for _ in 0..TRIES {
@@ -104,7 +111,7 @@ fn join_server<R: Clock>(rt: &R, alloc: Global, listener: &TcpListener) -> Optio
 }
 
 // The datagram of a frame behind the front of one.
-fn heard(alloc: Global, head: &[u8; 27], frame: &[u8]) -> Option<Vec<u8>> {
+pub(crate) fn heard(alloc: Global, head: &[u8; 27], frame: &[u8]) -> Option<Vec<u8>> {
     let mut bytes = Vec::from_slice(alloc, head).ok()?;
     bytes.push(u8::try_from(frame.len()).unwrap_or(0)).ok()?;
     bytes.extend_from_slice(frame).ok()?;
@@ -112,7 +119,12 @@ fn heard(alloc: Global, head: &[u8; 27], frame: &[u8]) -> Option<Vec<u8>> {
 }
 
 // Sends a datagram until the server is there, and gives what comes back within five seconds.
-fn asked<R: Clock>(rt: &R, socket: &UdpSocket, datagram: &[u8], buf: &mut [u8]) -> Option<usize> {
+pub(crate) fn asked<R: Clock>(
+    rt: &R,
+    socket: &UdpSocket,
+    datagram: &[u8],
+    buf: &mut [u8],
+) -> Option<usize> {
     socket
         .set_read_timeout(Some(Duration::from_millis(5000)))
         .ok()?;
@@ -229,16 +241,20 @@ fn one_device_over_loopback(rt: HostRuntime) -> Result<(), Fail> {
 
 /// Where a gateway is heard last is kept, also behind an address that another has; the one not heard for longest goes.
 #[test]
-fn addresses_are_kept(rt: HostRuntime) {
+fn addresses_are_kept(rt: HostRuntime) -> Result<(), Fail> {
     let first = SocketAddr::from(([127, 0, 0, 1], 5000));
     let second = SocketAddr::from(([127, 0, 0, 1], 5001));
-    let mut peers = Peers::new(rt.alloc(), 2);
+    let Some(most) = NonZeroUsize::new(2) else {
+        return Err(Fail::from("no number"));
+    };
+    let mut peers = Peers::of(rt.alloc(), keys(&rt)?, most)?;
     for (gateway, addr) in [(1, first), (2, first), (1, second), (3, second)] {
-        peers.heard(gateway, addr);
+        peers.hear(gateway, addr)?;
     }
     assert_eq!(rt; peers.addr(1), Some(second));
     assert_eq!(rt; peers.addr(2), None);
     assert_eq!(rt; peers.addr(3), Some(second));
+    Ok(())
 }
 
 /// The counts are logged once a minute has passed, and then not before another has, with their names.
@@ -254,5 +270,45 @@ fn counts_are_logged_each_minute(rt: HostRuntime) -> Result<(), Fail> {
     }
     let lines = log.into_inner();
     assert_eq!(rt; lines.as_slice(), LOGGED);
+    Ok(())
+}
+
+/// A refusal that a worker tells is counted under its number.
+#[test]
+fn refusals_are_counted(rt: HostRuntime) -> Result<(), Fail> {
+    let alloc: Global = rt.alloc();
+    let roster = Roster::read(alloc, ROSTER_A.as_bytes())?;
+    let Some(host) = HostName::new("js.local") else {
+        return Err(Fail::from("no host"));
+    };
+    let options = ServeOptions {
+        join: join_addr(),
+        host,
+        listen: listen_addr(),
+        workers: 1,
+        join_workers: 1,
+        window_ms: 2000,
+        stop_after: None,
+        trim: None,
+        closing: false,
+    };
+    let addr = SocketAddr::from(([127, 0, 0, 1], 0));
+    let Ok(socket) = UdpSocket::bind(&rt, addr) else {
+        return Err(Fail::from("no socket"));
+    };
+    let Ok(state) = State::new(&rt, alloc, socket, addr, &roster, &options) else {
+        return Err(Fail::from("no state"));
+    };
+    let events = Events { state: &state };
+    for fault in [LinkFault::Short, LinkFault::DataRate, LinkFault::Short] {
+        events.refused(&rt, Refused::Link(fault));
+    }
+    events.refused(&rt, Refused::View(ViewFault::Options));
+    let log = Writer::new(Vec::new(alloc));
+    state.counts.log_all(&log, 4);
+    let lines = log.into_inner();
+    let want =
+        b"[INFO  ns_serve::counts] datagrams: read 4 dropped 0 late 0 failed receives 0 G1 2 G2 0 G3 0 G4 0 G5 0 G6 1 V1 0 V2 0 V3 0 V4 1 V5 0 V6 0\n";
+    assert_eq!(rt; lines.as_slice().starts_with(want), true);
     Ok(())
 }

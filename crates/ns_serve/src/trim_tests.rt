@@ -4,6 +4,7 @@ ghost use Rattle.std.specs.Prelude.{◌≡◌};
 ghost use Rattle.std.specs.Arc.{arc_value};
 ghost use Rattle.ns_tally.specs.Tally.{AreNamed};
 
+use crate::made::Made;
 use crate::tests::ROSTER_A;
 use crate::trims::{Trims, trim_due};
 use log::Log;
@@ -22,26 +23,26 @@ fn roster_a(alloc: Global) -> Result<Arc<Roster>, Fail> {
     Ok(Arc::new(alloc, Roster::read(alloc, ROSTER_A.as_bytes())?)?)
 }
 
-// The receipts of so many closings of a window that is not open, in this shard.
+// Makes so many closings of a window that is not open, in this shard.
 fn closings<B: Naming, R: Wait>(
     rt: &R,
-    alloc: Global,
     server: &Server<B>,
     pass: &mut Pass<B>,
+    made: &Made,
     shard: u8,
     count: u32,
-) -> Result<Vec<Receipt>, AllocError> {
+) -> Result<(), AllocError> {
     let window = WindowName {
         eui: DevEui(u64::from(shard)),
         session: 1,
         fcnt: 2,
         round: 1,
     };
-    let mut receipts = Vec::new(alloc);
     for _ in 0..count {
-        receipts.push(server.call(rt, pass, Call::Close { window }, &Open)?)?;
+        let receipt = server.call(rt, pass, Call::Close { window }, &Open)?;
+        made.add_one(receipt.shard);
     }
-    Ok(receipts)
+    Ok(())
 }
 
 // Makes so many entries in two shards by turns, and looks after each turn whether a trim is due, with 4 entries between two trims.
@@ -52,15 +53,16 @@ fn trim_by_turns<B: Naming, R: Wait + Log>(
     pass: &mut Pass<B>,
 ) -> Result<(), AllocError> {
     let mut trims = Trims::new(4);
-    for (shard, count) in [(13, 4), (12, 3), (13, 1), (13, 3), (12, 1)] {
-        let receipts = closings(rt, alloc, server, pass, shard, count)?;
-        trim_due(rt, alloc, server, &mut trims, receipts.as_slice());
+    let made = Made::new();
+    for (shard, count) in [(13, 3), (13, 1), (12, 3), (13, 3)] {
+        closings(rt, server, pass, &made, shard, count)?;
+        let _ = trim_due(rt, alloc, server, &mut trims, &made.all());
     }
     Ok(())
 }
 
-/// A shard is trimmed once a receipt is numbered so far above the mark of its last trim, not one entry earlier or later, and no other
-/// shard with it. All entries are counted.
+/// A shard is trimmed once so many entries were made since its last trim, not one entry earlier or later, and no other shard with it.
+/// All entries are counted.
 #[test]
 fn shard_is_trimmed(rt: HostRuntime) -> Result<(), Fail> {
     let alloc: Global = rt.alloc();
@@ -84,10 +86,10 @@ fn trimmed_when_due<B: Naming, R: Wait + Log + Abort>(
     let Ok(settled) = server.settle(passes) else {
         return Err(Fail::from("a pass is missing"));
     };
-    assert_eq!(rt; (settled.mark(13), settled.dropped(13)), (5, 5));
+    assert_eq!(rt; (settled.mark(13), settled.dropped(13)), (4, 4));
     assert_eq!(rt; (settled.mark(12), settled.dropped(12)), (0, 0));
     assert_eq!(rt; settled.history(13).len(), 3);
-    assert_eq!(rt; settled.total(), 12);
+    assert_eq!(rt; settled.total(), 10);
     Ok(())
 }
 
@@ -121,13 +123,15 @@ fn trim_without_memory<B: Naming, R: Wait + Log>(
 ) -> Result<(), AllocError> {
     let mut held = Vec::with_capacity(alloc, BLOCKS)?;
     let mut trims = Trims::new(1);
-    let _asked = ask(rt, server, pass)?;
-    let receipts = closings(rt, alloc, server, pass, 13, 3)?;
+    let made = Made::new();
+    let asked = ask(rt, server, pass)?;
+    made.add_one(asked.shard);
+    closings(rt, server, pass, &made, 13, 3)?;
     take_all(alloc, &mut held)?;
-    trim_due(rt, alloc, server, &mut trims, receipts.as_slice());
+    let _ = trim_due(rt, alloc, server, &mut trims, &made.all());
     held.clear();
     for _ in 0..times {
-        trim_due(rt, alloc, server, &mut trims, receipts.as_slice());
+        let _ = trim_due(rt, alloc, server, &mut trims, &made.all());
     }
     Ok(())
 }

@@ -1,20 +1,22 @@
 //! When the shards of a running server are trimmed.
 
-ghost use Rattle.std.specs.Prelude.{◌≡◌, ◌<◌, ℕ, false, slice_index};
+ghost use Rattle.std.specs.Prelude.{◌≡◌, ◌<◌, ℕ, get_or, slice_index, IfSome};
+ghost use Rattle.std.specs.Option.{option_map};
 ghost use Rattle.ns_types.specs.Identity.{shard_count};
-ghost use Rattle.ns_serve.specs.Trims.{is_past, is_due};
+ghost use Rattle.ns_serve.specs.Trims.{is_due, IsTold, IsToldBy, mark_after};
 
 use log::{Log, debug, warn};
-use ns_server::{Naming, Receipt, Server};
+use ns_server::{Naming, Server};
+use ns_shard::TrimFault;
 use ns_types::SHARDS;
 use std::alloc::Global;
 use std::sync::Wait;
 
-// How many places a list of one thing for each shard has.
-const PLACES: usize = SHARDS as usize;
+/// How many places a list of one thing for each shard has.
+pub(crate) const PLACES: usize = SHARDS as usize;
 
 /// After how many further entries a shard is trimmed, and the marks of the shards' last trims, 0 where there was none.
-#[derive(Drop)]
+#[derive(Clone, Copy)]
 pub(crate) struct Trims {
     every: u32,
     marks: [u64; PLACES],
@@ -33,63 +35,106 @@ impl Trims {
     }
 }
 
-// Whether a receipt is of this shard and numbered so far above this mark.
-fn is_past(receipt: &Receipt, shard: u8, mark: u64, every: u32) -> bool
-    ensures { result ≡ is_past shard mark every receipt.now }
+/// The trims that are asked for, if any are.
+pub(crate) fn trims_of(trim: Option<u32>) -> Option<Trims>
+    ensures every { option_map (λ t. t.every) result ≡ trim }
+    ensures marks { IfSome result (λ t. (k : ℕ) → slice_index t.marks k ≡ 0) }
 {
-    let number = receipt.entry.number;
-    receipt.shard == shard && number >= mark && number - mark >= u64::from(every)
+    let every = trim?;
+    Some(Trims::new(every))
 }
 
-// Whether a shard is to be trimmed: one of the receipts is numbered so far above the mark of its last trim.
-fn is_due(trims: &Trims, receipts: &[Receipt], shard: u8) -> bool
+/// What became of a shard that was looked at.
+#[derive(Clone, Copy, Debug, PartialEq, Eq)]
+pub(crate) enum Trimmed {
+    /// It was not due.
+    NotDue,
+    /// It was trimmed, and this is the mark.
+    At(u64),
+    /// The trim was refused.
+    Refused(TrimFault),
+}
+
+// Whether a shard of which so many entries were made is to be trimmed.
+fn is_due(trims: &Trims, made: &[u64; PLACES], shard: u8) -> bool
     requires { shard < shard_count }
-    ensures { result ≡ is_due trims.now receipts.now shard }
+    ensures { result ≡ is_due trims.now made.now shard }
 {
-    let mark = trims.marks[usize::from(shard)];
-    receipts
-        .iter()
-        .any(|receipt| is_past(receipt, shard, mark, trims.every))
+    let place = usize::from(shard);
+    made[place] >= trims.marks[place] && made[place] - trims.marks[place] >= u64::from(trims.every)
 }
 
-// Trims a shard, and gives the mark of its last trim: the one before, where the trim was refused.
+// Trims a shard.
 fn trim_shard<B: Naming, R: Wait + Log>(
     rt: &R,
     alloc: Global,
     server: &Server<B>,
     shard: u8,
-    before: u64,
-) -> u64
+) -> Trimmed
     requires { shard < shard_count }
+    ensures { IsToldBy B.roster shard result }
 {
     match server.trim(rt, alloc, shard) {
         Ok(dropped) => {
             debug!(rt; "shard {shard} trimmed: {} entries dropped", dropped.entries.len());
-            dropped.mark
+            Trimmed::At(dropped.mark)
         }
         Err(fault) => {
             warn!(rt; "shard {shard} not trimmed: {fault}");
-            before
+            Trimmed::Refused(fault)
         }
     }
 }
 
-/// Trims each shard that is due by these receipts, under its lock, and drops what comes out. A refused trim is logged, and the shard
-/// stays due.
+// Trims a shard where it is due.
+fn trim_if_due<B: Naming, R: Wait + Log>(
+    rt: &R,
+    alloc: Global,
+    server: &Server<B>,
+    trims: &Trims,
+    made: &[u64; PLACES],
+    shard: u8,
+) -> Trimmed
+    requires { shard < shard_count }
+    ensures { IsTold B.roster trims.now made.now shard result }
+{
+    if is_due(trims, made, shard) {
+        trim_shard(rt, alloc, server, shard)
+    } else {
+        Trimmed::NotDue
+    }
+}
+
+// The mark of a shard after what became of it.
+fn mark_after(mark: u64, trimmed: Trimmed) -> u64
+    ensures { result ≡ mark_after mark trimmed }
+{
+    match trimmed {
+        Trimmed::At(mark) => mark,
+        Trimmed::NotDue | Trimmed::Refused(_) => mark,
+    }
+}
+
+/// Trims each shard that is due with so many entries made, under its lock, and drops what comes out. A refused trim is logged, and the
+/// shard stays due.
 pub(crate) fn trim_due<B: Naming, R: Wait + Log>(
     rt: &R,
     alloc: Global,
     server: &Server<B>,
     trims: &mut Trims,
-    receipts: &[Receipt],
-)
+    made: &[u64; PLACES],
+) -> [Trimmed; PLACES]
     ensures every { trims.new.every ≡ trims.old.every }
-    ensures others { (k : ℕ) → is_due trims.old receipts.now k ≡ false → slice_index trims.new.marks k ≡ slice_index trims.old.marks k }
+    ensures told { (k : ℕ) → k < shard_count → IsTold B.roster trims.old made.now k (get_or result k Trimmed.NotDue) }
+    ensures marks { (k : ℕ) → k < shard_count → slice_index trims.new.marks k ≡ mark_after (slice_index trims.old.marks k) (get_or result k Trimmed.NotDue) }
 {
+    let before = *trims;
+    let mut told = [Trimmed::NotDue; PLACES];
     for shard in 0..SHARDS {
-        if is_due(trims, receipts, shard) {
-            let place = usize::from(shard);
-            trims.marks[place] = trim_shard(rt, alloc, server, shard, trims.marks[place]);
-        }
+        let place = usize::from(shard);
+        let trimmed = trim_if_due(rt, alloc, server, &before, made, shard);
+        trims.marks[place] = mark_after(before.marks[place], trimmed);
+        told[place] = trimmed;
     }
+    told
 }

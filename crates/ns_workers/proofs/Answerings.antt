@@ -1,69 +1,119 @@
--- What a join worker knows of its source, turn by turn.
-use Rattle.std.proofs.Common.{◌≡◌, ℕ, ◌+◌, ◌^◌, List, [], ◌∷◌, ◌++◌, length, Option, None, Some, Ok, inl, inr, refl, sym, ap, ◌∙◌, subst, length-append}
-use Rattle.std.specs.Prelude.{IfSome}
+-- What a join worker has done, turn by turn.
+use Rattle.std.proofs.Common.{◌≡◌, ℕ, ◌+◌, ◌^◌, List, [], ◌∷◌, ◌++◌, length, Option, None, Some, inl, inr, refl, sym, ap, ◌∙◌, subst, length-append}
+use Rattle.std.specs.List.{AllZip}
 use Rattle.ns_types.specs.declared.ticket.Ticket.{Ticket}
-use Rattle.ns_types.specs.Ticket.{dev_eui, transaction}
-use Rattle.ns_roster.specs.declared.Device.{Device}
-use Rattle.ns_roster.specs.Network.{Network, device}
-use Rattle.ns_calls.specs.declared.call.JoinAns.{JoinAns}
-use Rattle.ns_joinwire.specs.JoinReq.{joinreq}
-use Rattle.ns_joinclient.specs.Request.{request}
-use Rattle.ns_joinclient.specs.Asked.{Exchanges, IsAnswer}
-use Rattle.ns_workers.specs.declared.outside.AskJob.{AskJob}
+use Rattle.ns_roster.specs.Network.{Network}
+use Rattle.ns_calls.specs.declared.answer.Downlink.{Downlink}
+use Rattle.ns_calls.specs.declared.call.Call.TheVariants.{JoinReply}
+use Rattle.ns_calls.specs.declared.call.Outcome.{Outcome}
+use Rattle.ns_calls.specs.declared.call.Outcome.TheVariants as outcome
+use Rattle.ns_server.specs.declared.kept.Receipt.{Receipt}
+use Rattle.ns_workers.specs.declared.job.AskJob.{AskJob}
+use Rattle.ns_workers.specs.declared.join.Joined.{Joined}
 use Rattle.ns_workers.specs.declared.outside.Next.TheVariants.{Job, End, Failed}
 use Rattle.ns_workers.specs.declared.outside.WorkerFault.TheVariants.{NoMemory, SourceFailed}
-use Rattle.ns_workers.specs.Given.{Given, with_jobs, Takes}
-use Rattle.ns_workers.specs.Asking.{IsAskedFor}
-use Rattle.ns_workers.specs.Answering.{Answers}
-use Rattle.ns_workers.proofs.Closings.{with_none, with_more, taken_then}
+use Rattle.ns_workers.specs.Given.{Given, Takes}
+use Rattle.ns_workers.specs.Answering.{IsOutcome, IsReply, Answers}
+use Rattle.ns_workers.specs.Job.{IsTooOld}
+use Rattle.ns_workers.specs.Effects.{Effects, Does, effects}
+use Rattle.ns_workers.specs.Notice.{Notice, ticket_stale}
+use Rattle.ns_workers.proofs.Doings.{zip_more, does_none, does_both, does_with}
+use Rattle.ns_workers.proofs.Sources.{Holds, holds_none, holds_more, gave_end, gave_full, gave_broken}
 
--- an exchange about a ticket of a device that the roster has
-pub asked_for : {S : Type 0} (taken left : S → Option (List ℕ)) (net : Network) (host : List ℕ) (t : Ticket) (d : Device) (opened ended : S)
-    (text : List ℕ) (n : ℕ) (answer : JoinAns) → Some d ≡ device net (dev_eui t) → text ≡ joinreq net d t → n ≡ transaction t
-    → Exchanges taken left opened ended (request host text) (λ bytes. IsAnswer bytes (left ended) n (Ok answer))
-    → IsAskedFor taken left net host t answer
-asked_for taken left net host t d opened ended text n answer found written numbered exchange =
-    let sent = subst (λ k. Exchanges taken left opened ended (request host text) (λ bytes. IsAnswer bytes (left ended) k (Ok answer))) numbered exchange in
-    record {
-      asks = d;
-      found = sym found;
-      opened = opened;
-      ended = ended;
-      exchange = subst (λ out. Exchanges taken left opened ended (request host out) (λ bytes. IsAnswer bytes (left ended) (transaction t) (Ok answer))) written sent;
-    }
+-- the outcome for a ticket that is too old, and for one that is not
+pub outcome_stale : (h : Notice → Type 0) (t : ℕ → Type 0) (o : Ticket → Outcome → Type 0) (j : AskJob) (now : ℕ)
+    → t now → IsTooOld j now → h (ticket_stale j.ticket) → IsOutcome h t o j outcome.Failed
+outcome_stale h t o j now told old heard = (now, told, inl (old, refl, heard))
 
--- so many jobs were taken
-abbrev pub Took : Option (Given AskJob) → Option (Given AskJob) → ℕ → Type 0
-Took old now n = IfSome old (λ g. (taken : List AskJob) × (length taken ≡ n) × (now ≡ Some (with_jobs g taken)))
+pub outcome_asked : (h : Notice → Type 0) (t : ℕ → Type 0) (o : Ticket → Outcome → Type 0) (j : AskJob) (now : ℕ) (outcome : Outcome)
+    → t now → ¬ (IsTooOld j now) → o j.ticket outcome → IsOutcome h t o j outcome
+outcome_asked h t o j now outcome told young asked = (now, told, inr (young, asked))
 
-pub took_first : (old : Option (Given AskJob)) → Took old old 0
-took_first None = tt
-took_first (Some g) = ([], refl, ap Some (sym (with_none g)))
+pub reply_of : (o : AskJob → Outcome → Type 0) (j : AskJob) (r : Receipt) (outcome : Outcome) → r.entry.call ≡ JoinReply j.ticket outcome → o j outcome → IsReply o j r
+reply_of o j r outcome call is = (outcome, call, is)
 
-pub took_more : (old now new : Option (Given AskJob)) (n : ℕ) (j : AskJob) → Took old now n → Takes now new (Job j) → Took old new (n + 1)
-took_more None now new n j h takes = tt
-took_more (Some g) now new n j h takes =
-    let (taken, long, is) = h in (
-      taken ++ j ∷ [],
-      length-append taken (j ∷ []) ∙ ap (λ k. k + 1) long,
-      taken_then now new (with_jobs g taken) (Job j) is takes ∙ ap Some (with_more g taken (j ∷ [])),
-    )
+-- so far these tickets were answered
+pub record Answered (net : Network) (h : Notice → Type 0) (is_outcome : AskJob → Outcome → Type 0)
+    (old now : Option (Given AskJob)) (before after : Effects) (answered : ℕ) : Type 0 where
+  pub taken : List AskJob
+  pub receipts : List Receipt
+  pub holds : Holds old now taken
+  pub count : answered ≡ length receipts
+  pub replies : AllZip (IsReply is_outcome) taken receipts
+  pub does : Does net h None before after receipts receipts []
 
-pub answers_to_end : (old now new : Option (Given AskJob)) (n : ℕ) → Took old now n → Takes now new End → Answers old new n None
-answers_to_end None now new n h takes = tt
-answers_to_end (Some g) now new n h takes = let (taken, long, is) = h in (taken, (long, inr (taken_then now new (with_jobs g taken) End is takes)))
+pub answered_first : (net : Network) (h : Notice → Type 0) (o : AskJob → Outcome → Type 0) (old : Option (Given AskJob)) (e : Effects) → Answered net h o old old e e 0
+answered_first net h o old e = record {
+  taken = [];
+  receipts = [];
+  holds = holds_none old;
+  count = refl;
+  replies = tt;
+  does = does_none net h None e;
+}
 
-pub answers_broken : (old now new : Option (Given AskJob)) (n : ℕ) → Took old now n → Takes now new Failed → Answers old new n (Some SourceFailed)
-answers_broken None now new n h takes = tt
-answers_broken (Some g) now new n h takes = let (taken, long, is) = h in (taken, (long, taken_then now new (with_jobs g taken) Failed is takes))
+pub answered_next : (net : Network) (h : Notice → Type 0) (o : AskJob → Outcome → Type 0) (old now new : Option (Given AskJob)) (e f g : Effects) (n : ℕ) (j : AskJob) (r : Receipt)
+    → Answered net h o old now e f n → Takes now new (Job j) → IsReply o j r → Does net h None f g (r ∷ []) (r ∷ []) [] → Answered net h o old new e g (n + 1)
+answered_next net h o old now new e f g n j r so takes reply did = record {
+  taken = so.taken ++ j ∷ [];
+  receipts = so.receipts ++ r ∷ [];
+  holds = holds_more old now new so.taken j so.holds takes;
+  count = ap (λ k. k + 1) so.count ∙ sym (length-append so.receipts (r ∷ []));
+  replies = zip_more (IsReply o) so.taken so.receipts j r so.replies reply;
+  does = does_both net h None e f g so.receipts (r ∷ []) so.receipts (r ∷ []) [] [] so.does did;
+}
 
-pub answers_refused : (old now new : Option (Given AskJob)) (n : ℕ) (j : AskJob) → Took old now n → Takes now new (Job j) → Answers old new n (Some NoMemory)
-answers_refused old now new n j h takes = refused old new n (took_more old now new n j h takes)
-  where
-    refused : (old new : Option (Given AskJob)) (n : ℕ) → Took old new (n + 1) → Answers old new n (Some NoMemory)
-    refused None new n h = tt
-    refused (Some g) new n h = let (taken, long, is) = h in (taken, (long, is))
+pub answers_end : (net : Network) (h : Notice → Type 0) (o : AskJob → Outcome → Type 0) (old now new : Option (Given AskJob)) (e f : Effects) (n : ℕ)
+    → Answered net h o old now e f n → Takes now new End → Answers net h o old new e f (record { answered = n; fault = None })
+answers_end net h o old now new e f n so takes = record {
+  taken = so.taken;
+  receipts = so.receipts;
+  gave = gave_end (n ≡ 2 ^ 63) old now new so.taken so.holds takes;
+  count = so.count;
+  replies = so.replies;
+  does = so.does;
+}
 
-pub answers_full : (old now : Option (Given AskJob)) (n : ℕ) → Took old now n → n ≡ 2 ^ 63 → Answers old now n None
-answers_full None now n h full = tt
-answers_full (Some g) now n h full = let (taken, long, is) = h in (taken, (long, inl (full, is)))
+pub answers_full : (net : Network) (h : Notice → Type 0) (o : AskJob → Outcome → Type 0) (old now : Option (Given AskJob)) (e f : Effects) (n : ℕ)
+    → Answered net h o old now e f n → n ≡ 2 ^ 63 → Answers net h o old now e f (record { answered = n; fault = None })
+answers_full net h o old now e f n so full = record {
+  taken = so.taken;
+  receipts = so.receipts;
+  gave = gave_full (n ≡ 2 ^ 63) old now so.taken so.holds full;
+  count = so.count;
+  replies = so.replies;
+  does = so.does;
+}
+
+pub answers_broken : (net : Network) (h : Notice → Type 0) (o : AskJob → Outcome → Type 0) (old now new : Option (Given AskJob)) (e f : Effects) (n : ℕ)
+    → Answered net h o old now e f n → Takes now new Failed → Answers net h o old new e f (record { answered = n; fault = Some SourceFailed })
+answers_broken net h o old now new e f n so takes = record {
+  taken = so.taken;
+  receipts = so.receipts;
+  gave = gave_broken (n ≡ 2 ^ 63) old now new so.taken so.holds takes;
+  count = so.count;
+  replies = so.replies;
+  does = does_with net h (Some SourceFailed) e f so.receipts so.receipts [] so.does;
+}
+
+pub answers_refused : (net : Network) (h : Notice → Type 0) (o : AskJob → Outcome → Type 0) (old now new : Option (Given AskJob)) (e f : Effects) (n : ℕ) (j : AskJob)
+    → Answered net h o old now e f n → Takes now new (Job j) → Answers net h o old new e f (record { answered = n; fault = Some NoMemory })
+answers_refused net h o old now new e f n j so takes = record {
+  taken = so.taken ++ j ∷ [];
+  receipts = so.receipts;
+  gave = holds_more old now new so.taken j so.holds takes;
+  count = so.count;
+  replies = (so.taken, j, refl, so.replies);
+  does = does_with net h (Some NoMemory) e f so.receipts so.receipts [] so.does;
+}
+
+-- the same of a call that has changed nothing
+pub answers_unchanged : (net : Network) (h : Notice → Type 0) (o : AskJob → Outcome → Type 0) (old now new : Option (Given AskJob)) (e : Effects)
+    (pass pass' : List ℕ) (down down' : Option (List Downlink)) (n : ℕ) (j : AskJob)
+    → Answered net h o old now e (effects pass None down None) n → Takes now new (Job j) → pass' ≡ pass → down' ≡ down
+    → Answers net h o old new e (effects pass' None down' None) (record { answered = n; fault = Some NoMemory })
+answers_unchanged net h o old now new e pass pass' down down' n j so takes same same' =
+    let end : Joined = record { answered = n; fault = Some NoMemory } in
+    subst (λ p. Answers net h o old new e (effects p None down' None) end) (sym same)
+    (subst (λ d. Answers net h o old new e (effects pass None d None) end) (sym same')
+    (answers_refused net h o old now new e (effects pass None down None) n j so takes))

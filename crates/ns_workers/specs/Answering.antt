@@ -1,21 +1,45 @@
--- What a join worker has done.
-use Rattle.std.specs.Prelude.{ℕ, ◌≡◌, ◌+◌, ◌^◌, ◌⊎◌, List, length, Option, None, Some, IfSome}
-use Rattle.ns_workers.specs.declared.outside.AskJob.{AskJob}
+-- What a join worker does.
+use Rattle.std.specs.Prelude.{ℕ, ◌≡◌, ◌^◌, ◌⊎◌, List, [], ◌∷◌, ◌++◌, length, Option, Some}
+use Rattle.std.specs.List.{AllZip}
+use Rattle.ns_types.specs.declared.ticket.Ticket.{Ticket}
+use Rattle.ns_calls.specs.declared.call.Call.TheVariants.{JoinReply}
+use Rattle.ns_calls.specs.declared.call.Outcome.{Outcome}
+use Rattle.ns_calls.specs.declared.call.Outcome.TheVariants.{Failed}
+use Rattle.ns_roster.specs.Network.{Network}
+use Rattle.ns_server.specs.declared.kept.Receipt.{Receipt}
+use Rattle.ns_workers.specs.declared.job.AskJob.{AskJob}
+use Rattle.ns_workers.specs.declared.join.Joined.{Joined}
 use Rattle.ns_workers.specs.declared.outside.WorkerFault.{WorkerFault}
-use Rattle.ns_workers.specs.declared.outside.WorkerFault.TheVariants.{NoMemory, SourceFailed, SinkFailed}
-use Rattle.ns_workers.specs.Given.{Given, with_jobs, with_end, with_failure}
+use Rattle.ns_workers.specs.declared.outside.WorkerFault.TheVariants.{NoMemory}
+use Rattle.ns_workers.specs.Effects.{Effects, Does}
+use Rattle.ns_workers.specs.Given.{Given, Gave}
+use Rattle.ns_workers.specs.Job.{IsTooOld}
+use Rattle.ns_workers.specs.Notice.{Notice, ticket_stale}
 
--- how a join worker that took these jobs has ended, and how many it answered. Without a fault its source has
--- ended, or it counted 2^63
-abbrev pub AnsweredAs : Given AskJob → List AskJob → Option (Given AskJob) → ℕ → Option WorkerFault → Type 0
-AnsweredAs g taken new answered None =
-    (length taken ≡ answered)
-    × (((answered ≡ 2 ^ 63) × (new ≡ Some (with_jobs g taken))) ⊎ (new ≡ Some (with_end (with_jobs g taken))))
-AnsweredAs g taken new answered (Some NoMemory) = (length taken ≡ answered + 1) × (new ≡ Some (with_jobs g taken))
-AnsweredAs g taken new answered (Some SourceFailed) =
-    (length taken ≡ answered) × (new ≡ Some (with_failure (with_jobs g taken)))
-AnsweredAs g taken new answered (Some SinkFailed) = ⊥
+-- at a time that the timer told, a ticket that was too old was answered as failed, and the monitor was told; another one by
+-- an outcome of asking about it
+abbrev pub IsOutcome : (Notice → Type 0) → (ℕ → Type 0) → (Ticket → Outcome → Type 0) → AskJob → Outcome → Type 0
+IsOutcome has_heard has_told HasOutcome job outcome =
+    (now : ℕ) × has_told now
+    × ((IsTooOld job now × (outcome ≡ Failed) × has_heard (ticket_stale job.ticket))
+    ⊎ ((¬ (IsTooOld job now)) × HasOutcome job.ticket outcome))
 
--- the same with the jobs that it took, where its source tells them
-abbrev pub Answers : Option (Given AskJob) → Option (Given AskJob) → ℕ → Option WorkerFault → Type 0
-Answers old new answered fault = IfSome old (λ g. (taken : List AskJob) × AnsweredAs g taken new answered fault)
+-- the receipt is of the answer to the job's ticket
+abbrev pub IsReply : (AskJob → Outcome → Type 0) → AskJob → Receipt → Type 0
+IsReply IsOutcome job r = (outcome : Outcome) × (r.entry.call ≡ JoinReply job.ticket outcome) × IsOutcome job outcome
+
+-- the receipts are of the answers to the jobs' tickets, in order; after K1 of all but the last job's
+abbrev pub AreReplies : (AskJob → Receipt → Type 0) → Option WorkerFault → List AskJob → List Receipt → Type 0
+AreReplies IsReply (Some NoMemory) jobs receipts =
+    (before : List AskJob) × (last : AskJob) × (jobs ≡ before ++ last ∷ []) × AllZip IsReply before receipts
+AreReplies IsReply _ jobs receipts = AllZip IsReply jobs receipts
+
+-- what a join worker did with the jobs that it took
+pub record Answers (net : Network) (has_heard : Notice → Type 0) (IsOutcome : AskJob → Outcome → Type 0)
+    (old new : Option (Given AskJob)) (before after : Effects) (joined : Joined) : Type 0 where
+  pub taken : List AskJob
+  pub receipts : List Receipt
+  pub gave : Gave (joined.answered ≡ 2 ^ 63) old new taken joined.fault
+  pub count : joined.answered ≡ length receipts
+  pub replies : AreReplies (IsReply IsOutcome) joined.fault taken receipts
+  pub does : Does net has_heard joined.fault before after receipts receipts []

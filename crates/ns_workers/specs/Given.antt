@@ -1,7 +1,9 @@
 -- What a source has given, and how it has ended.
-use Rattle.std.specs.Prelude.{◌≡◌, Bool, true, List, [], ◌∷◌, ◌++◌, Option, Some, IfSome}
+use Rattle.std.specs.Prelude.{◌≡◌, ◌⊎◌, Bool, true, List, [], ◌∷◌, ◌++◌, Option, None, Some, IfSome}
 use Rattle.ns_workers.specs.declared.outside.Next.{Next}
 use Rattle.ns_workers.specs.declared.outside.Next.TheVariants.{Job, End, Failed}
+use Rattle.ns_workers.specs.declared.outside.WorkerFault.{WorkerFault}
+use Rattle.ns_workers.specs.declared.outside.WorkerFault.TheVariants.{SourceFailed}
 
 -- the jobs given so far, and whether it has answered that there are no more, or that it failed
 pub record Given (J : Type 0) : Type 0 where
@@ -28,3 +30,11 @@ after_next g Failed = with_failure g
 -- what is told grows by an answer
 abbrev pub Takes : {J : Type 0} → Option (Given J) → Option (Given J) → Next J → Type 0
 Takes old new next = IfSome old (λ g. new ≡ Some (after_next g next))
+
+-- what a source that gave these jobs tells once its worker has ended. Without a fault the source has ended, or the worker
+-- had done all that it may; with K2 the source has failed
+abbrev pub Gave : {J : Type 0} → Type 0 → Option (Given J) → Option (Given J) → List J → Option WorkerFault → Type 0
+Gave IsFull old new jobs None =
+    IfSome old (λ g. (IsFull × (new ≡ Some (with_jobs g jobs))) ⊎ (new ≡ Some (with_end (with_jobs g jobs))))
+Gave IsFull old new jobs (Some SourceFailed) = IfSome old (λ g. new ≡ Some (with_failure (with_jobs g jobs)))
+Gave IsFull old new jobs (Some _) = IfSome old (λ g. new ≡ Some (with_jobs g jobs))

@@ -1,7 +1,11 @@
 pub mod Given
 pub mod Datagrams
+pub mod Grown
+pub mod Notice
+pub mod Job
 pub mod Lines
 pub mod Closing
+pub mod Effects
 pub mod Asking
 pub mod Answering
 pub mod Serving

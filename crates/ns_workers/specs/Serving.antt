@@ -1,32 +1,136 @@
--- What a gateway worker has done.
-use Rattle.std.specs.Prelude.{ℕ, ◌≡◌, ◌^◌, ◌⊎◌, Bool, List, length, count_by, Option, None, Some, IfSome, Result, Ok, Err, is_err}
+-- What a gateway worker does.
+use Rattle.std.specs.Prelude.{ℕ, ◌≡◌, ◌+◌, ◌^◌, Bool, true, false, List, [], ◌∷◌, length, count_by, flat_map, if◌then◌else◌, Option, None, Some, Result, Ok, Err}
+use Rattle.std.specs.List.{AllZip}
+use Rattle.ns_roster.specs.Network.{Network}
 use Rattle.ns_calls.specs.declared.call.Call.{Call}
 use Rattle.ns_calls.specs.Steps.{Refusal, link, view, datagram_call}
+use Rattle.ns_server.specs.declared.kept.Receipt.{Receipt}
 use Rattle.ns_workers.specs.declared.datagram.Refused.{Refused}
 use Rattle.ns_workers.specs.declared.datagram.Refused.TheVariants.{Link, View}
+use Rattle.ns_workers.specs.declared.gateway.Served.{Served}
+use Rattle.ns_workers.specs.declared.job.Job.{Job}
 use Rattle.ns_workers.specs.declared.outside.WorkerFault.{WorkerFault}
-use Rattle.ns_workers.specs.declared.outside.WorkerFault.TheVariants.{NoMemory, SourceFailed, SinkFailed}
-use Rattle.ns_workers.specs.Given.{Given, with_jobs, with_end, with_failure}
+use Rattle.ns_workers.specs.declared.outside.WorkerFault.TheVariants.{NoMemory}
+use Rattle.ns_workers.specs.Effects.{Effects, Does}
+use Rattle.ns_workers.specs.Given.{Given, Gave}
+use Rattle.ns_workers.specs.Job.{job_of, call_at_once}
+use Rattle.ns_workers.specs.Notice.{Notice, datagram_refused, call_dropped}
 
--- a datagram makes no call
-unfoldable pub is_refused : List ℕ → Bool
-is_refused bytes = is_err (datagram_call bytes)
-
--- the call of a datagram, or why it makes none; for private clauses
+-- the call of a datagram, or why it makes none
 abbrev pub refused_as : Result Call Refusal → Result Call Refused
 refused_as (Ok c) = Ok c
 refused_as (Err (link fault)) = Err (Link fault)
 refused_as (Err (view fault)) = Err (View fault)
 
--- how a gateway worker that read this many datagrams has ended
-abbrev pub StoppedAs : Given (List ℕ) → Option (Given (List ℕ)) → ℕ → Option WorkerFault → Type 0
-StoppedAs g new read None = ((read ≡ 2 ^ 63) × (new ≡ Some g)) ⊎ (new ≡ Some (with_end g))
-StoppedAs g new read (Some NoMemory) = new ≡ Some g
-StoppedAs g new read (Some SourceFailed) = new ≡ Some (with_failure g)
-StoppedAs g new read (Some SinkFailed) = new ≡ Some g
+abbrev pub call_in : List ℕ → Result Call Refused
+call_in bytes = refused_as (datagram_call bytes)
 
--- the datagrams that it was given, where its source tells them: how many, and how many of them are refused
-abbrev pub Reads : Option (Given (List ℕ)) → Option (Given (List ℕ)) → ℕ → ℕ → Option WorkerFault → Type 0
-Reads old new read refused fault =
-    IfSome old (λ g. (heard : List (List ℕ)) × (length heard ≡ read) × (count_by is_refused heard ≡ refused)
-    × StoppedAs (with_jobs g heard) new read fault)
+-- what followed a call: no job, one that was put, one that the worker did itself since it could not be put, with the receipt
+-- of its call, or one that could neither be put nor done
+pub data Followed : Type 0 where
+  nothing : Followed
+  put : Job → Followed
+  done_itself : Job → Receipt → Followed
+  undone : Job → Followed
+
+-- what became of a datagram: it was refused, dropped for want of memory, or called, with its receipt, the time then, and
+-- what followed
+pub data Turn : Type 0 where
+  refused : Refused → Turn
+  dropped : Turn
+  called : Receipt → ℕ → Followed → Turn
+
+abbrev pub job_in : Followed → Option Job
+job_in nothing = None
+job_in (put job) = Some job
+job_in (done_itself job own) = Some job
+job_in (undone job) = Some job
+
+-- the job that was put, and the receipt of a call that the worker made to do the job itself
+abbrev pub put_in : Followed → List Job
+put_in (put job) = job ∷ []
+put_in _ = []
+
+abbrev pub own_in : Followed → List Receipt
+own_in (done_itself job own) = own ∷ []
+own_in _ = []
+
+-- a call by which the worker did a job itself is the job's
+abbrev pub IsRight : Followed → Type 0
+IsRight (done_itself job own) = own.entry.call ≡ call_at_once job
+IsRight _ = Unit {0}
+
+abbrev pub was_undone : Followed → Bool
+was_undone (undone job) = true
+was_undone _ = false
+
+-- a turn is right for its datagram: why it was refused; or the call was the datagram's, the time was told by the timer, and
+-- what followed is the job of the reply at that time
+abbrev pub IsTurn : (Notice → Type 0) → (ℕ → Type 0) → ℕ → List ℕ → Turn → Type 0
+IsTurn has_heard has_told window_ms bytes (refused why) =
+    (call_in bytes ≡ Err why) × has_heard (datagram_refused why)
+IsTurn has_heard has_told window_ms bytes dropped = ((call : Call) × (call_in bytes ≡ Ok call)) × has_heard call_dropped
+IsTurn has_heard has_told window_ms bytes (called r now followed) =
+    (call_in bytes ≡ Ok r.entry.call) × has_told now
+    × (job_of r.entry.reply now window_ms ≡ job_in followed) × IsRight followed
+
+abbrev pub was_refused : Turn → Bool
+was_refused (refused why) = true
+was_refused _ = false
+
+abbrev pub was_dropped : Turn → Bool
+was_dropped dropped = true
+was_dropped _ = false
+
+abbrev pub left_undone : Turn → Bool
+left_undone (called r now followed) = was_undone followed
+left_undone _ = false
+
+-- the receipts of a turn's calls; those of the calls that did a job; and the jobs that were put
+abbrev pub receipts_of : Turn → List Receipt
+receipts_of (called r now followed) = r ∷ own_in followed
+receipts_of _ = []
+
+abbrev pub own_of : Turn → List Receipt
+own_of (called r now followed) = own_in followed
+own_of _ = []
+
+abbrev pub put_by : Turn → List Job
+put_by (called r now followed) = put_in followed
+put_by _ = []
+
+-- how many turns left a job undone: with K1 one, else none
+abbrev pub undone_at : Option WorkerFault → ℕ
+undone_at (Some NoMemory) = 1
+undone_at _ = 0
+
+-- what a worker did with the job that follows a reply
+pub record Follows (net : Network) (has_heard : Notice → Type 0) (job : Job) (fault : Option WorkerFault) (before after : Effects) : Type 0 where
+  pub followed : Followed
+  pub job_is : job_in followed ≡ Some job
+  pub right : IsRight followed
+  pub undone : (if was_undone followed then 1 else 0) ≡ undone_at fault
+  pub does : Does net has_heard fault before after (own_in followed) (own_in followed) (put_in followed)
+
+-- Each of these datagrams has had its turn, in order: the counts rise by what became of them, and what was called, put and
+-- handed out is the turns'.
+pub record Serves (net : Network) (has_heard : Notice → Type 0) (has_told : ℕ → Type 0) (window_ms : ℕ)
+    (old new : Served) (before after : Effects) (datagrams : List (List ℕ)) : Type 0 where
+  pub turns : List Turn
+  pub each : AllZip (IsTurn has_heard has_told window_ms) datagrams turns
+  pub read : new.read ≡ old.read + length datagrams
+  pub refused : new.refused ≡ old.refused + count_by was_refused turns
+  pub dropped : new.dropped ≡ old.dropped + count_by was_dropped turns
+  pub undone : count_by left_undone turns ≡ undone_at new.fault
+  pub does : Does net has_heard new.fault before after (flat_map receipts_of turns) (flat_map own_of turns) (flat_map put_by turns)
+
+-- the counts of a worker at its start
+abbrev pub none_served : Served
+none_served = record { read = 0; refused = 0; dropped = 0; fault = None }
+
+-- the same with the datagrams that its source gave
+pub record ServesAll (net : Network) (has_heard : Notice → Type 0) (has_told : ℕ → Type 0) (window_ms : ℕ)
+    (old new : Option (Given (List ℕ))) (before after : Effects) (result : Served) : Type 0 where
+  pub datagrams : List (List ℕ)
+  pub gave : Gave (result.read ≡ 2 ^ 63) old new datagrams result.fault
+  pub serves : Serves net has_heard has_told window_ms none_served result before after datagrams

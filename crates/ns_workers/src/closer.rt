@@ -1,15 +1,18 @@
 //! Closes windows as they become due.
-ghost use Rattle.std.specs.Prelude.{◌≡◌, ◌≢◌, Some, false, true, IfOk, OnOk, OnErr};
+ghost use Rattle.std.specs.Prelude.{◌≡◌, ◌≢◌, Some, false, true, option_to_list, All, IfOk, OnOk, OnErr};
 ghost use Rattle.std.specs.Io.KnownBytes.{Appends};
 ghost use Rattle.ns_types.specs.Streams.{AppendsFront};
 ghost use Rattle.ns_server.specs.Receipts.{RisesAt};
 ghost use Rattle.ns_workers.specs.Closing.{Closes, AreAnswered, HasAnswer, closing};
 ghost use Rattle.ns_workers.specs.Counts.{RisesByReceipts};
-ghost use Rattle.ns_workers.specs.Lines.{uplink_line, up_lines};
+ghost use Rattle.ns_workers.specs.Grown.{Grows};
+ghost use Rattle.ns_workers.specs.Lines.{uplink_line, up_lines, downlinks_of};
+ghost use Rattle.ns_workers.specs.Notice.{call_replied};
 
 use crate::counted::{make_call, send_down};
+use crate::job::CloseJob;
 use crate::line::write_uplink;
-use crate::outside::{CloseJob, Downlinks, JobSource, Monitor, Next, Shared, Timer, WorkerFault};
+use crate::outside::{Downlinks, JobSource, Monitor, Next, Shared, Timer, WorkerFault};
 use ns_calls::Call;
 use ns_server::{Gate, Naming, Pass, Receipt};
 use ns_types::{Failed, Sink};
@@ -24,15 +27,17 @@ pub struct Ended {
 }
 
 // Waits until the job is due, and closes its window.
-fn close_due<B: Naming, R: Wait, G: Gate<R>, D, M: Monitor<R>, T: Timer<R>>(
-    shared: &Shared<'_, B, R, G, D, M>,
+fn close_due<B: Naming, R: Wait, G: Gate<R>, M: Monitor<R>, T: Timer<R>>(
+    shared: &Shared<'_, B, R, G, M>,
     pass: &mut Pass<B>,
     timer: &T,
     job: CloseJob,
 ) -> Result<Receipt, AllocError>
+    ensures waited { T.has_come timer.now job.due }
     ensures call { IfOk result (λ r. r.entry.call ≡ closing job) }
     ensures answered { IfOk result (λ r. HasAnswer B.roster r) }
     ensures counted { IfOk result (λ r. RisesAt r.shard pass.old pass.new) }
+    ensures told { IfOk result (λ r. M.has_heard shared.now.monitor.now (call_replied r)) }
     ensures err { OnErr result (pass.new ≡ pass.old) }
 {
     timer.until(shared.rt, job.due);
@@ -42,27 +47,30 @@ fn close_due<B: Naming, R: Wait, G: Gate<R>, D, M: Monitor<R>, T: Timer<R>>(
 
 // Sends what goes down, and writes the line of what goes up.
 pub(crate) fn hand_out<B: Naming, R, G, D: Downlinks<R>, M: Monitor<R>, W: Sink>(
-    shared: &Shared<'_, B, R, G, D, M>,
+    shared: &Shared<'_, B, R, G, M>,
+    down: &mut D,
     sink: &mut W,
     receipt: &Receipt,
 ) -> Result<(), Failed>
     requires { W.has_failed sink.old ≡ false }
+    ensures down { Grows (D.taken down.old) (D.taken down.new) (option_to_list receipt.now.downlink) }
     ensures ok { OnOk result (Appends (W.taken sink.old) (W.taken sink.new) (uplink_line receipt.now.uplink)) }
     ensures sound { OnOk result (W.has_failed sink.new ≡ false) }
     ensures front { AppendsFront (W.taken sink.old) (W.taken sink.new) (uplink_line receipt.now.uplink) }
     ensures failed { OnErr result (W.has_failed sink.new ≡ true) }
 {
-    send_down(shared, receipt);
+    send_down(shared, down, receipt);
     write_uplink(sink, &receipt.uplink)
 }
 
-/// Closes the windows of at most `limit` jobs, each as it becomes due, and writes the `up` line of each that was open, with a line
-/// feed. Room for the receipts is taken first. Each receipt tells the plain server's answer after a history of its shard.
+/// Closes the windows of at most `limit` jobs, each as it becomes due, sends what goes down, and writes the `up` line of each that was
+/// open, with a line feed. Room for the receipts is taken first. Each receipt tells the plain server's answer after a history of its
+/// shard.
 ///
 /// With no fault and fewer receipts than `limit` the source has ended. K1 where a growth was refused: then nothing was done with the
 /// job taken last, whose window was not open. K2 where the source failed. K3 where the sink failed: then it has a beginning of the
 /// lines.
-#[tactic(auto, using(crate::proofs::Counting::rises_more, crate::proofs::Closings::holds_first, crate::proofs::Closings::holds_more, crate::proofs::Closings::answered_none, crate::proofs::Closings::ends_at_end, crate::proofs::Closings::ends_broken, crate::proofs::Closings::ends_refused, crate::proofs::Closings::ends_before, crate::proofs::Closings::ends_unsent, crate::proofs::Closings::ends_full, crate::proofs::Closings::lines_more, crate::proofs::Closings::lines_front, crate::proofs::Closings::lines_whole,))]
+#[tactic(auto, using(crate::proofs::Counting::rises_none, crate::proofs::Counting::rises_more, crate::proofs::Closings::closed_none, crate::proofs::Closings::closed_more, crate::proofs::Closings::closes_end, crate::proofs::Closings::closes_full, crate::proofs::Closings::closes_broken, crate::proofs::Closings::closes_before, crate::proofs::Closings::closes_refused, crate::proofs::Closings::closes_unsent, crate::proofs::Doings::answered_none, crate::proofs::Doings::grows_none, crate::proofs::Doings::downlinks_more, crate::proofs::Doings::lines_more, crate::proofs::Doings::lines_front, crate::proofs::Doings::lines_whole,))]
 pub fn run_closer<
     B: Naming,
     R: Wait,
@@ -74,17 +82,20 @@ pub fn run_closer<
     W: Sink,
 >(
     alloc: Global,
-    shared: &Shared<'_, B, R, G, D, M>,
+    shared: &Shared<'_, B, R, G, M>,
     pass: &mut Pass<B>,
     timer: &T,
     jobs: &mut J,
+    down: &mut D,
     sink: &mut W,
     limit: u32,
 ) -> Ended
     requires { W.has_failed sink.old ≡ false }
-    ensures jobs { Closes limit (J.given jobs.old) (J.given jobs.new) result.receipts.items result.fault }
+    ensures jobs { Closes (T.has_come timer.now) limit (J.given jobs.old) (J.given jobs.new) result.receipts.items result.fault }
     ensures answered { AreAnswered B.roster result.receipts.items }
+    ensures told { All (λ r. M.has_heard shared.now.monitor.now (call_replied r)) result.receipts.items }
     ensures counted { RisesByReceipts pass.old pass.new result.receipts.items }
+    ensures down { Grows (D.taken down.old) (D.taken down.new) (downlinks_of result.receipts.items) }
     ensures text { result.fault ≢ Some WorkerFault.SinkFailed
         → Appends (W.taken sink.old) (W.taken sink.new) (up_lines result.receipts.items) }
     ensures front { AppendsFront (W.taken sink.old) (W.taken sink.new) (up_lines result.receipts.items) }
@@ -119,7 +130,7 @@ pub fn run_closer<
                 fault: Some(WorkerFault::NoMemory),
             };
         };
-        let handed = hand_out(shared, sink, &receipt);
+        let handed = hand_out(shared, down, sink, &receipt);
         receipts.push_reserved(receipt);
         if handed.is_err() {
             return Ended {

@@ -1,7 +1,6 @@
 //! The call of a datagram.
-ghost use Rattle.std.specs.Prelude.{◌≡◌, is_err};
-ghost use Rattle.ns_calls.specs.Steps.{datagram_call};
-ghost use Rattle.ns_workers.specs.Serving.{is_refused, refused_as};
+ghost use Rattle.std.specs.Prelude.{◌≡◌};
+ghost use Rattle.ns_workers.specs.Serving.{call_in};
 
 use ns_calls::{Call, DataFrame};
 use ns_link::{LinkFault, read_datagram};
@@ -17,10 +16,8 @@ pub enum Refused {
 }
 
 // The call of a datagram, or why it makes none.
-#[tactic(auto, unfolding(crate::specs::Serving::is_refused))]
 pub(crate) fn call_of(bytes: &[u8]) -> Result<Call, Refused>
-    ensures is { result ≡ refused_as (datagram_call bytes.now) }
-    ensures refused { is_err result ≡ is_refused bytes.now }
+    ensures { result ≡ call_in bytes.now }
 {
     let datagram = match read_datagram(bytes) {
         Ok(datagram) => datagram,

@@ -1,19 +1,15 @@
 //! Reads the datagrams of gateways, makes their calls and puts the jobs that follow.
-ghost use Rattle.std.specs.Prelude.{◌≡◌, ◌≢◌, ◌+◌, ◌-◌, ◌*◌, ◌^◌, ◌<◌, ◌≤◌, if◌then◌else◌, false, true, Some, Ok, Err, min, IfSome, IfNone, IsSome};
-ghost use Rattle.ns_calls.specs.Steps.{datagram_call};
-ghost use Rattle.ns_workers.specs.Serving.{Reads, is_refused, refused_as};
-ghost use Rattle.ns_workers.specs.Closing.{Writes, WritesFront};
-ghost use Rattle.ns_workers.specs.Counts.{made_in_all};
+ghost use Rattle.std.specs.Prelude.{◌≡◌, ◌≢◌, ◌+◌, ◌^◌, ◌<◌, ◌≤◌, [], ◌∷◌, false, true, None, Some};
+ghost use Rattle.ns_workers.specs.Effects.{effects};
+ghost use Rattle.ns_workers.specs.Serving.{Follows, Serves, ServesAll};
 
 use crate::closer::hand_out;
-use crate::counted::{make_call, send_down};
+use crate::counted::make_call;
 use crate::datagram::call_of;
-use crate::outside::{
-    AskJob, CloseJob, Datagrams, Downlinks, Jobs, Monitor, Received, Shared, Timer, WorkerFault,
-};
-use ns_calls::{Call, Outcome, Reply};
-use ns_server::{Gate, Naming, Pass, Receipt};
-use ns_types::{Sink, Ticket, WindowName};
+use crate::job::{Job, call_at_once, job_of};
+use crate::outside::{Datagrams, Downlinks, Jobs, Monitor, Received, Shared, Timer, WorkerFault};
+use ns_server::{Gate, Naming, Pass};
+use ns_types::Sink;
 use std::sync::Wait;
 
 /// What a gateway worker has done: how many datagrams it read, how many of them were refused, how many were dropped for want of
@@ -29,125 +25,77 @@ pub struct Served {
 // A worker whose count is this ends.
 const MOST: u64 = 1 << 63;
 
-// Closes a window whose job could not be put.
-#[tactic(auto, using(crate::proofs::Closings::writes_none, crate::proofs::Closings::writes_all, crate::proofs::Closings::writes_line, crate::proofs::Closings::writes_front,))]
-fn close_itself<B: Naming, R: Wait, G: Gate<R>, D: Downlinks<R>, M: Monitor<R>, W: Sink>(
-    shared: &Shared<'_, B, R, G, D, M>,
-    pass: &mut Pass<B>,
-    sink: &mut W,
-    window: WindowName,
-) -> Result<(), WorkerFault>
-    requires { W.has_failed sink.old ≡ false }
-    ensures sum { made_in_all pass.old ≤ made_in_all pass.new }
-    ensures most { made_in_all pass.new ≤ made_in_all pass.old + 1 }
-    ensures text { result ≢ Err WorkerFault.SinkFailed → Writes B.roster (W.taken sink.old) (W.taken sink.new) }
-    ensures front { WritesFront B.roster (W.taken sink.old) (W.taken sink.new) }
-    ensures sound { result ≢ Err WorkerFault.SinkFailed → W.has_failed sink.new ≡ false }
-    ensures failed { result ≡ Err WorkerFault.SinkFailed → W.has_failed sink.new ≡ true }
-    ensures fault { result ≢ Err WorkerFault.SourceFailed }
-{
-    let Ok(receipt) = make_call(shared, pass, Call::Close { window }) else {
-        return Err(WorkerFault::NoMemory);
-    };
-    match hand_out(shared, sink, &receipt) {
-        Ok(()) => Ok(()),
-        Err(_) => Err(WorkerFault::SinkFailed),
-    }
-}
-
-// Answers a ticket whose job could not be put.
-fn answer_itself<B: Naming, R: Wait, G: Gate<R>, D: Downlinks<R>, M: Monitor<R>>(
-    shared: &Shared<'_, B, R, G, D, M>,
-    pass: &mut Pass<B>,
-    ticket: Ticket,
-) -> Result<(), WorkerFault>
-    ensures sum { made_in_all pass.old ≤ made_in_all pass.new }
-    ensures most { made_in_all pass.new ≤ made_in_all pass.old + 1 }
-    ensures fault { result ≢ Err WorkerFault.SourceFailed }
-    ensures sink { result ≢ Err WorkerFault.SinkFailed }
-{
-    let outcome = Outcome::Failed;
-    let Ok(receipt) = make_call(shared, pass, Call::JoinReply { ticket, outcome }) else {
-        return Err(WorkerFault::NoMemory);
-    };
-    send_down(shared, &receipt);
-    Ok(())
-}
-
-// The job of a window that is opened now.
-fn close_job(name: WindowName, now: u64, window_ms: u32) -> CloseJob
-    ensures { result ≡ record { name = name; due = min (now + window_ms) (2 ^ 64 - 1) } }
-{
-    CloseJob {
-        name,
-        due: now.saturating_add(u64::from(window_ms)),
-    }
-}
-
-// Puts the job that follows a reply, if one does; where it cannot be put, the worker does what the job asks itself.
-#[tactic(auto, using(crate::proofs::Closings::writes_none, crate::proofs::Closings::writes_all,))]
+// Puts a job; where it cannot be put, the worker does at once what it asks, and hands out what comes of that. Gives the fault where
+// that could not be done.
+#[tactic(auto, using(crate::proofs::Servings::follows_put, crate::proofs::Servings::follows_itself, crate::proofs::Servings::follows_unsent, crate::proofs::Servings::follows_undone, crate::proofs::Doings::does_own, crate::proofs::Doings::does_put,))]
 fn put_job<
     B: Naming,
     R: Wait,
     G: Gate<R>,
-    D: Downlinks<R>,
     M: Monitor<R>,
-    T: Timer<R>,
-    C: Jobs<R, CloseJob>,
-    A: Jobs<R, AskJob>,
+    P: Jobs<R, Job>,
+    D: Downlinks<R>,
     W: Sink,
 >(
-    shared: &Shared<'_, B, R, G, D, M>,
+    shared: &Shared<'_, B, R, G, M>,
     pass: &mut Pass<B>,
-    timer: &T,
-    close_jobs: &C,
-    ask_jobs: &A,
+    jobs: &mut P,
+    down: &mut D,
     sink: &mut W,
-    window_ms: u32,
-    reply: &Reply,
-) -> Result<(), WorkerFault>
+    job: Job,
+) -> Option<WorkerFault>
     requires { W.has_failed sink.old ≡ false }
-    ensures sum { made_in_all pass.old ≤ made_in_all pass.new }
-    ensures most { made_in_all pass.new ≤ made_in_all pass.old + 1 }
-    ensures text { result ≢ Err WorkerFault.SinkFailed → Writes B.roster (W.taken sink.old) (W.taken sink.new) }
-    ensures front { WritesFront B.roster (W.taken sink.old) (W.taken sink.new) }
-    ensures sound { result ≢ Err WorkerFault.SinkFailed → W.has_failed sink.new ≡ false }
-    ensures failed { result ≡ Err WorkerFault.SinkFailed → W.has_failed sink.new ≡ true }
-    ensures fault { result ≢ Err WorkerFault.SourceFailed }
+    ensures follows { let before = effects pass.old (P.taken jobs.old) (D.taken down.old) (W.taken sink.old) in
+        let after = effects pass.new (P.taken jobs.new) (D.taken down.new) (W.taken sink.new) in
+        Follows B.roster (M.has_heard shared.now.monitor.now) job result before after }
+    ensures sound { result ≢ Some WorkerFault.SinkFailed → W.has_failed sink.new ≡ false }
+    ensures failed { result ≡ Some WorkerFault.SinkFailed → W.has_failed sink.new ≡ true }
+    ensures source { result ≢ Some WorkerFault.SourceFailed }
 {
-    match reply {
-        Reply::Opened { window } | Reply::Again { window } => {
-            let job = close_job(*window, timer.now(shared.rt), window_ms);
-            match close_jobs.put(shared.rt, job) {
-                Ok(()) => Ok(()),
-                Err(job) => close_itself(shared, pass, sink, job.name),
-            }
-        }
-        Reply::Ask { ticket } => match ask_jobs.put(shared.rt, AskJob { ticket: *ticket }) {
-            Ok(()) => Ok(()),
-            Err(job) => answer_itself(shared, pass, job.ticket),
-        },
-        _ => Ok(()),
+    let Err(job) = jobs.put(shared.rt, job) else {
+        return None;
+    };
+    let Ok(receipt) = make_call(shared, pass, call_at_once(&job)) else {
+        return Some(WorkerFault::NoMemory);
+    };
+    match hand_out(shared, down, sink, &receipt) {
+        Ok(()) => None,
+        Err(_) => Some(WorkerFault::SinkFailed),
     }
 }
 
-// Makes the call of a datagram that is not refused.
-fn serve_one<B: Naming, R: Wait, G: Gate<R>, D, M: Monitor<R>>(
-    shared: &Shared<'_, B, R, G, D, M>,
+// Makes the call of a datagram that is not refused, and puts the job that follows, if one does.
+#[tactic(auto, using(crate::proofs::Servings::serves_refused, crate::proofs::Servings::serves_dropped, crate::proofs::Servings::serves_called, crate::proofs::Servings::serves_followed, crate::proofs::Doings::does_call,))]
+fn serve_one<
+    B: Naming,
+    R: Wait,
+    G: Gate<R>,
+    M: Monitor<R>,
+    T: Timer<R>,
+    P: Jobs<R, Job>,
+    D: Downlinks<R>,
+    W: Sink,
+>(
+    shared: &Shared<'_, B, R, G, M>,
     pass: &mut Pass<B>,
+    timer: &T,
+    jobs: &mut P,
+    down: &mut D,
+    sink: &mut W,
+    window_ms: u32,
     served: &mut Served,
     bytes: &[u8],
-) -> Option<Receipt>
-    requires { (served.old.read < 2 ^ 63) × (served.old.refused < 2 ^ 63) × (served.old.dropped < 2 ^ 63) }
-    ensures call { IfSome result (λ r. refused_as (datagram_call bytes.now) ≡ Ok r.entry.call) }
-    ensures read { served.new.read ≡ served.old.read + 1 }
-    ensures refused { served.new.refused ≡ served.old.refused + (if is_refused bytes.now then 1 else 0) }
-    ensures dropped { served.new.dropped ≤ served.old.dropped + 1 }
-    ensures same { served.new.fault ≡ served.old.fault }
-    ensures sum { made_in_all pass.new + (served.new.refused + served.new.dropped)
-        ≡ made_in_all pass.old + 1 + (served.old.refused + served.old.dropped) }
-    ensures called { IsSome result → made_in_all pass.new ≡ made_in_all pass.old + 1 }
-    ensures none { IfNone result (pass.new ≡ pass.old) }
+)
+    requires sound { W.has_failed sink.old ≡ false }
+    requires counts { (served.old.read < 2 ^ 63) × (served.old.refused < 2 ^ 63) × (served.old.dropped < 2 ^ 63) }
+    requires fault { served.old.fault ≡ None }
+    ensures serves { let before = effects pass.old (P.taken jobs.old) (D.taken down.old) (W.taken sink.old) in
+        let after = effects pass.new (P.taken jobs.new) (D.taken down.new) (W.taken sink.new) in
+        Serves B.roster (M.has_heard shared.now.monitor.now) (T.has_told timer.now) window_ms served.old served.new before after (bytes.now ∷ []) }
+    ensures few { (served.new.refused ≤ served.old.refused + 1) × (served.new.dropped ≤ served.old.dropped + 1) }
+    ensures sound { served.new.fault ≢ Some WorkerFault.SinkFailed → W.has_failed sink.new ≡ false }
+    ensures failed { served.new.fault ≡ Some WorkerFault.SinkFailed → W.has_failed sink.new ≡ true }
+    ensures source { served.new.fault ≢ Some WorkerFault.SourceFailed }
 {
     served.read += 1;
     let call = match call_of(bytes) {
@@ -155,53 +103,53 @@ fn serve_one<B: Naming, R: Wait, G: Gate<R>, D, M: Monitor<R>>(
         Err(why) => {
             shared.monitor.refused(shared.rt, why);
             served.refused += 1;
-            return None;
+            return;
         }
     };
     let Ok(receipt) = make_call(shared, pass, call) else {
         shared.monitor.dropped(shared.rt);
         served.dropped += 1;
-        return None;
+        return;
     };
-    Some(receipt)
+    let now = timer.now(shared.rt);
+    if let Some(job) = job_of(&receipt.entry.reply, now, window_ms) {
+        served.fault = put_job(shared, pass, jobs, down, sink, job);
+    }
 }
 
-/// Reads datagrams, makes the call of each that is not refused, and puts the job that follows: a window that was opened, in any round,
-/// is due `window_ms` milliseconds from then, and a ticket that was asked for goes to the join worker. Where a job cannot be put, the
-/// worker closes the window itself and writes its `up` line, where it has one, or answers the ticket as failed.
+/// Reads datagrams, makes the call of each that is not refused, and puts the job that follows (`job_of`, with the time at which the call
+/// was answered). Where a job cannot be put, the worker closes the window itself, sends its acknowledgement and writes its `up` line,
+/// or answers the ticket as failed.
 ///
-/// A call that is refused for want of memory is dropped and counted: each datagram is refused, dropped or called, and a call makes one
-/// entry, or two where the worker did the job itself. With no fault the source has ended. K1 where a job could not be
-/// put and its call was refused memory, which never comes where its window or ticket is still open; K2 where the source failed; K3 where
-/// the sink failed.
-#[tactic(auto, using(crate::proofs::Servings::heard_first, crate::proofs::Servings::heard_idle, crate::proofs::Servings::heard_more, crate::proofs::Servings::reads_to_end, crate::proofs::Servings::reads_broken, crate::proofs::Servings::reads_fault, crate::proofs::Servings::reads_full, crate::proofs::Closings::writes_none, crate::proofs::Closings::writes_all, crate::proofs::Closings::writes_more, crate::proofs::Closings::writes_front_more,))]
+/// A call that is refused for want of memory is dropped and counted. With no fault the source has ended. K1 where a job could not be
+/// put and its call was refused memory, which never comes where its window or ticket is still open; K2 where the source failed; K3
+/// where the sink failed.
+#[tactic(auto, using(crate::proofs::Servings::heard_first, crate::proofs::Servings::heard_idle, crate::proofs::Servings::heard_more, crate::proofs::Servings::serves_to_end, crate::proofs::Servings::serves_broken, crate::proofs::Servings::serves_fault,))]
 pub fn run_gateway<
     B: Naming,
     R: Wait,
     G: Gate<R>,
-    D: Downlinks<R>,
     M: Monitor<R>,
     I: Datagrams<R>,
     T: Timer<R>,
-    C: Jobs<R, CloseJob>,
-    A: Jobs<R, AskJob>,
+    P: Jobs<R, Job>,
+    D: Downlinks<R>,
     W: Sink,
 >(
-    shared: &Shared<'_, B, R, G, D, M>,
+    shared: &Shared<'_, B, R, G, M>,
     pass: &mut Pass<B>,
     datagrams: &mut I,
     timer: &T,
-    close_jobs: &C,
-    ask_jobs: &A,
+    jobs: &mut P,
+    down: &mut D,
     sink: &mut W,
     window_ms: u32,
 ) -> Served
     requires { W.has_failed sink.old ≡ false }
-    ensures read { Reads (I.given datagrams.old) (I.given datagrams.new) result.read result.refused result.fault }
-    ensures sum { made_in_all pass.old + result.read ≤ made_in_all pass.new + (result.refused + result.dropped) }
-    ensures most { made_in_all pass.new + 2 * (result.refused + result.dropped) ≤ made_in_all pass.old + 2 * result.read }
-    ensures text { result.fault ≢ Some WorkerFault.SinkFailed → Writes B.roster (W.taken sink.old) (W.taken sink.new) }
-    ensures front { WritesFront B.roster (W.taken sink.old) (W.taken sink.new) }
+    ensures serves { let before = effects pass.old (P.taken jobs.old) (D.taken down.old) (W.taken sink.old) in
+        let after = effects pass.new (P.taken jobs.new) (D.taken down.new) (W.taken sink.new) in
+        ServesAll B.roster (M.has_heard shared.now.monitor.now) (T.has_told timer.now) window_ms
+        (I.given datagrams.old) (I.given datagrams.new) before after result }
     ensures sound { result.fault ≢ Some WorkerFault.SinkFailed → W.has_failed sink.new ≡ false }
     ensures failed { result.fault ≡ Some WorkerFault.SinkFailed → W.has_failed sink.new ≡ true }
 {
@@ -223,17 +171,18 @@ pub fn run_gateway<
                 return served;
             }
         };
-        if let Some(receipt) = serve_one(shared, pass, &mut served, &buf[..n]) {
-            let reply = &receipt.entry.reply;
-            let put = put_job(
-                shared, pass, timer, close_jobs, ask_jobs, sink, window_ms, reply,
-            );
-            if let Err(fault) = put {
-                served.fault = Some(fault);
-                return served;
-            }
-        }
-        if served.read >= MOST {
+        serve_one(
+            shared,
+            pass,
+            timer,
+            jobs,
+            down,
+            sink,
+            window_ms,
+            &mut served,
+            &buf[..n],
+        );
+        if served.fault.is_some() || served.read >= MOST {
             return served;
         }
     }

@@ -1,21 +1,22 @@
 //! Asks the join server about tickets, and answers them.
-ghost use Rattle.std.specs.Prelude.{◌≡◌, ◌+◌, IfOk};
+ghost use Rattle.std.specs.Prelude.{◌≡◌, ◌≢◌, [], ◌∷◌, None, Some, IfOk, IfErr, OnErr};
 ghost use Rattle.ns_joinclient.specs.Request.{host_text};
-ghost use Rattle.ns_workers.specs.Asking.{IsAskedFor, HasOutcome};
-ghost use Rattle.ns_workers.specs.Answering.{Answers};
-ghost use Rattle.ns_workers.specs.Counts.{made_in_all};
+ghost use Rattle.ns_workers.specs.Asking.{IsAnswered, IsUnanswered, HasOutcome};
+ghost use Rattle.ns_workers.specs.Answering.{IsOutcome, IsReply, Answers};
+ghost use Rattle.ns_workers.specs.Effects.{Does, effects};
 
 use crate::counted::{make_call, send_down};
+use crate::job::{AskJob, is_too_old};
 use crate::outside::{
-    AskJob, Connections, Downlinks, JobSource, Monitor, Next, Shared, WorkerFault,
+    Connections, Downlinks, JobSource, Monitor, Next, Shared, Timer, WorkerFault,
 };
 use ns_calls::{Call, JoinAns, Outcome};
 use ns_joinclient::{AskFault, HostName, ask};
 use ns_joinwire::join_req;
 use ns_roster::Roster;
-use ns_server::{Gate, Naming, Pass};
+use ns_server::{Gate, Naming, Pass, Receipt};
 use ns_types::Ticket;
-use std::alloc::Global;
+use std::alloc::{AllocError, Global};
 use std::sync::Wait;
 use thiserror::Error;
 
@@ -55,7 +56,11 @@ fn ask_server<R, C: Connections<R>>(
     connections: &C,
     ticket: &Ticket,
 ) -> Result<JoinAns, JoinFault>
-    ensures { IfOk result (λ answer. IsAskedFor C.S.taken C.S.left roster.now (host_text host.entry) ticket.now answer) }
+    ensures answer { let has_opened = C.has_opened connections.now in
+        IfOk result (λ answer. IsAnswered C.S.taken C.S.left has_opened roster.now (host_text host.entry) ticket.now answer) }
+    ensures why { let has_opened = C.has_opened connections.now in
+        let has_none = C.has_none connections.now in
+        IfErr result (λ why. IsUnanswered C.S.taken C.S.left C.S.has_failed has_opened has_none roster.now (host_text host.entry) ticket.now why) }
 {
     let Some(device) = roster.find(ticket.dev_eui()) else {
         return Err(JoinFault::NoDevice);
@@ -88,7 +93,10 @@ fn outcome_of<R, C: Connections<R>, M: Monitor<R>>(
     monitor: &M,
     ticket: &Ticket,
 ) -> Outcome
-    ensures { HasOutcome C.S.taken C.S.left roster.now (host_text host.entry) ticket.now result }
+    ensures { let has_opened = C.has_opened connections.now in
+        let has_none = C.has_none connections.now in
+        let has_heard = M.has_heard monitor.now in
+        HasOutcome C.S.taken C.S.left C.S.has_failed has_opened has_none has_heard roster.now (host_text host.entry) ticket.now result }
 {
     match ask_server(rt, alloc, roster, host, connections, ticket) {
         Ok(answer) => Outcome::Success(answer),
@@ -99,70 +107,147 @@ fn outcome_of<R, C: Connections<R>, M: Monitor<R>>(
     }
 }
 
+// The outcome for the ticket of a job: of asking about it, or Failed where it is too old to be asked about.
+#[tactic(auto, using(crate::proofs::Answerings::outcome_stale, crate::proofs::Answerings::outcome_asked,))]
+fn outcome_for<R, C: Connections<R>, T: Timer<R>, M: Monitor<R>>(
+    rt: &R,
+    alloc: Global,
+    roster: &Roster,
+    host: HostName<'_>,
+    connections: &C,
+    timer: &T,
+    monitor: &M,
+    job: &AskJob,
+) -> Outcome
+    ensures { let has_opened = C.has_opened connections.now in
+        let has_none = C.has_none connections.now in
+        let has_heard = M.has_heard monitor.now in
+        let has_outcome = HasOutcome C.S.taken C.S.left C.S.has_failed has_opened has_none has_heard roster.now (host_text host.entry) in
+        IsOutcome has_heard (T.has_told timer.now) has_outcome job.now result }
+{
+    if is_too_old(job, timer.now(rt)) {
+        monitor.stale(rt, &job.ticket);
+        return Outcome::Failed;
+    }
+    outcome_of(rt, alloc, roster, host, connections, monitor, &job.ticket)
+}
+
+// Answers the ticket of a job: by what the join server answers, or as failed where it is too old to be asked about. Sends what goes
+// down.
+#[tactic(auto, using(crate::proofs::Answerings::reply_of, crate::proofs::Doings::does_own, crate::proofs::Doings::grows_none,))]
+fn answer_job<
+    B: Naming,
+    R: Wait,
+    G: Gate<R>,
+    M: Monitor<R>,
+    C: Connections<R>,
+    T: Timer<R>,
+    D: Downlinks<R>,
+>(
+    alloc: Global,
+    shared: &Shared<'_, B, R, G, M>,
+    pass: &mut Pass<B>,
+    connections: &C,
+    timer: &T,
+    down: &mut D,
+    roster: &Roster,
+    host: HostName<'_>,
+    job: &AskJob,
+) -> Result<Receipt, AllocError>
+    ensures reply { let has_opened = C.has_opened connections.now in
+        let has_none = C.has_none connections.now in
+        let has_heard = M.has_heard shared.now.monitor.now in
+        let has_outcome = HasOutcome C.S.taken C.S.left C.S.has_failed has_opened has_none has_heard roster.now (host_text host.entry) in
+        IfOk result (λ r. IsReply (IsOutcome has_heard (T.has_told timer.now) has_outcome) job.now r) }
+    ensures does { let before = effects pass.old None (D.taken down.old) None in
+        let after = effects pass.new None (D.taken down.new) None in
+        IfOk result (λ r. Does B.roster (M.has_heard shared.now.monitor.now) None before after (r ∷ []) (r ∷ []) []) }
+    ensures err { OnErr result ((pass.new ≡ pass.old) × (down.new ≡ down.old)) }
+{
+    let outcome = outcome_for(
+        shared.rt,
+        alloc,
+        roster,
+        host,
+        connections,
+        timer,
+        shared.monitor,
+        job,
+    );
+    let call = Call::JoinReply {
+        ticket: job.ticket,
+        outcome,
+    };
+    let receipt = make_call(shared, pass, call)?;
+    send_down(shared, down, &receipt);
+    Ok(receipt)
+}
+
 /// Asks the join server about each ticket, and answers it: with what the join server answered, or, where there was no answer that
-/// can be used, as failed.
+/// can be used, as failed. About a ticket that is older than `MOST_AGE_MS` when its turn comes it is not asked. In which order the
+/// tickets come is the source's business.
 ///
 /// With no fault the source has ended. K1 where the call was refused for want of memory: then the ticket taken last was not open. K2
 /// where the source failed. K3 never comes.
-#[tactic(auto, using(crate::proofs::Answerings::took_first, crate::proofs::Answerings::took_more, crate::proofs::Answerings::answers_to_end, crate::proofs::Answerings::answers_broken, crate::proofs::Answerings::answers_refused, crate::proofs::Answerings::answers_full,))]
+#[tactic(auto, using(crate::proofs::Answerings::answered_first, crate::proofs::Answerings::answered_next, crate::proofs::Answerings::answers_end, crate::proofs::Answerings::answers_full, crate::proofs::Answerings::answers_broken, crate::proofs::Answerings::answers_refused,))]
 pub fn run_join<
     B: Naming,
     R: Wait,
     G: Gate<R>,
-    D: Downlinks<R>,
     M: Monitor<R>,
     C: Connections<R>,
+    T: Timer<R>,
     J: JobSource<R, AskJob>,
+    D: Downlinks<R>,
 >(
     alloc: Global,
-    shared: &Shared<'_, B, R, G, D, M>,
+    shared: &Shared<'_, B, R, G, M>,
     pass: &mut Pass<B>,
     connections: &C,
+    timer: &T,
     jobs: &mut J,
+    down: &mut D,
     roster: &Roster,
     host: HostName<'_>,
 ) -> Joined
-    ensures jobs { Answers (J.given jobs.old) (J.given jobs.new) result.answered result.fault }
-    ensures sum { made_in_all pass.new ≡ made_in_all pass.old + result.answered }
+    ensures answers { let has_opened = C.has_opened connections.now in
+        let has_none = C.has_none connections.now in
+        let has_heard = M.has_heard shared.now.monitor.now in
+        let has_outcome = HasOutcome C.S.taken C.S.left C.S.has_failed has_opened has_none has_heard roster.now (host_text host.entry) in
+        let before = effects pass.old None (D.taken down.old) None in
+        let after = effects pass.new None (D.taken down.new) None in
+        Answers B.roster has_heard (IsOutcome has_heard (T.has_told timer.now) has_outcome) (J.given jobs.old) (J.given jobs.new) before after result }
+    ensures fault { result.fault ≢ Some WorkerFault.SinkFailed }
 {
-    let mut answered = 0u64;
-    while answered < MOST {
+    let mut joined = Joined {
+        answered: 0,
+        fault: None,
+    };
+    while joined.answered < MOST {
         let job = match jobs.take(shared.rt) {
             Next::Job(job) => job,
-            Next::End => {
-                return Joined {
-                    answered,
-                    fault: None,
-                };
-            }
+            Next::End => return joined,
             Next::Failed => {
-                return Joined {
-                    answered,
-                    fault: Some(WorkerFault::SourceFailed),
-                };
+                joined.fault = Some(WorkerFault::SourceFailed);
+                return joined;
             }
         };
-        let ticket = job.ticket;
-        let outcome = outcome_of(
-            shared.rt,
+        let answered = answer_job(
             alloc,
+            shared,
+            pass,
+            connections,
+            timer,
+            down,
             roster,
             host,
-            connections,
-            shared.monitor,
-            &ticket,
+            &job,
         );
-        let Ok(receipt) = make_call(shared, pass, Call::JoinReply { ticket, outcome }) else {
-            return Joined {
-                answered,
-                fault: Some(WorkerFault::NoMemory),
-            };
-        };
-        answered += 1;
-        send_down(shared, &receipt);
+        if answered.is_err() {
+            joined.fault = Some(WorkerFault::NoMemory);
+            return joined;
+        }
+        joined.answered += 1;
     }
-    Joined {
-        answered,
-        fault: None,
-    }
+    joined
 }

@@ -5,8 +5,10 @@
 //! did is counted in it. What is around them (sockets, channels, a clock) stands behind small traits, so that the same workers run in
 //! the program, in a test and in a program that embeds them.
 //!
-//! Promised where a source tells what it gave: a closer's receipts are the closings of the jobs that it took, in order, and its sink
-//! has their lines; a join worker made one call for each job; a gateway worker counted each datagram as refused, dropped or called.
+//! Promised where a source tells what it gave: a closer waited for the time of each job that it took, its receipts are of their
+//! closings, in order, and its sink has their lines; a join worker's receipts are of the answers to its tickets, in order, each as the
+//! join server answered; a gateway worker counted each datagram as refused, dropped or called, and put the job that follows each reply
+//! once, or did it. What goes down is that of the receipts.
 //! The crate stands on `ns_server` for the calls, on `ns_link`, `ns_views` and `ns_calls` for datagrams and lines, and on
 //! `ns_joinwire` and `ns_joinclient` for the exchange with a join server.
 #![tactic(auto)]
@@ -15,6 +17,7 @@ mod closer;
 mod counted;
 mod datagram;
 mod gateway;
+mod job;
 mod join;
 mod line;
 mod listed;
@@ -23,14 +26,10 @@ mod outside;
 pub use closer::{Ended, run_closer};
 pub use datagram::Refused;
 pub use gateway::{Served, run_gateway};
+pub use job::{AskJob, COPIES_MS, CloseJob, Job, MOST_AGE_MS, job_of};
 pub use join::{JoinFault, Joined, run_join};
 pub use listed::{ListedDatagrams, ListedJobs};
 pub use outside::{
-    AskJob, CloseJob, Connections, Datagrams, Downlinks, JobSource, Jobs, Monitor, Next, Received,
-    Shared, Timer, WorkerFault,
+    Connections, Datagrams, Downlinks, JobSource, Jobs, Monitor, Next, Received, Shared, Timer,
+    WorkerFault,
 };
-
-#[cfg(test)]
-mod growth_tests;
-#[cfg(test)]
-mod tests;

@@ -1,13 +1,17 @@
-//! What a worker is given: datagrams, jobs, connections, a clock, a way out, and who is told.
-ghost use Rattle.std.specs.Prelude.{◌≡◌, ℕ, List, Option, false, IfErr, IfSome};
+//! What a worker is given: datagrams, jobs, connections, a clock, a way out, and who is told. A ghost member of a trait says what its
+//! value was given or told; where a type keeps none, the contracts say nothing of it.
+ghost use Rattle.std.specs.Prelude.{◌≡◌, ℕ, List, [], ◌∷◌, Option, None, false, OnOk, OnErr, IfErr, IfSome, IfNone};
+ghost use Rattle.ns_calls.specs.declared.answer.Downlink.{Downlink};
 ghost use Rattle.ns_workers.specs.Given.{Given, Takes};
+ghost use Rattle.ns_workers.specs.Grown.{Grows};
+ghost use Rattle.ns_workers.specs.Notice.{Notice, datagram_refused, call_replied, call_dropped, ticket_unanswered, ticket_stale, downlink_unsent};
 ghost use Rattle.ns_workers.specs.Datagrams.{FitsBuffer, TakesDatagram};
 
 use crate::datagram::Refused;
 use crate::join::JoinFault;
-use ns_calls::{Downlink, Reply};
-use ns_server::{Naming, Server};
-use ns_types::{Sink, Source, Ticket, WindowName};
+use ns_calls::Downlink;
+use ns_server::{Naming, Receipt, Server};
+use ns_types::{Sink, Source, Ticket};
 use thiserror::Error;
 
 /// Why a worker ended before its source did, printed as its number.
@@ -22,19 +26,6 @@ pub enum WorkerFault {
     /// K3: the sink failed.
     #[error("K3")]
     SinkFailed,
-}
-
-/// A window that is to be closed once it is due, in milliseconds of the workers' clock.
-#[derive(Clone, Copy, Debug, PartialEq, Eq)]
-pub struct CloseJob {
-    pub name: WindowName,
-    pub due: u64,
-}
-
-/// A ticket that the join server is to be asked about.
-#[derive(Clone, Copy, Debug, PartialEq, Eq)]
-pub struct AskJob {
-    pub ticket: Ticket,
 }
 
 /// What a source of jobs answers.
@@ -68,11 +59,16 @@ pub trait JobSource<R, J> {
         ensures { Takes (given self.old) (given self.new) result };
 }
 
-/// Takes jobs from any worker.
+/// Takes jobs from one worker.
 pub trait Jobs<R, J> {
+    // The jobs that it has taken, where it tells them.
+    ghost taken: { Self → Option (List J) } = { λ _. None };
+
     /// Puts a job, or hands it back where it cannot be put.
-    fn put(&self, rt: &R, job: J) -> Result<(), J>
-        ensures { IfErr result (λ back. back ≡ job) };
+    fn put(&mut self, rt: &R, job: J) -> Result<(), J>
+        ensures put { OnOk result (Grows (taken self.old) (taken self.new) (job ∷ [])) }
+        ensures back { IfErr result (λ back. back ≡ job) }
+        ensures kept { OnErr result (Grows (taken self.old) (taken self.new) []) };
 }
 
 /// Gives datagrams to one worker.
@@ -88,51 +84,80 @@ pub trait Datagrams<R> {
 
 /// Tells the time in milliseconds.
 pub trait Timer<R> {
-    fn now(&self, rt: &R) -> u64;
+    // That it told this time, and that it was waited for this one.
+    ghost has_told: { Self → ℕ → Type 0 } = { λ _ _. Unit {0} };
+
+    ghost has_come: { Self → ℕ → Type 0 } = { λ _ _. Unit {0} };
+
+    fn now(&self, rt: &R) -> u64
+        ensures { has_told self.now result };
 
     /// Waits until this time.
-    fn until(&self, rt: &R, due: u64);
+    fn until(&self, rt: &R, due: u64)
+        ensures { has_come self.now due };
 }
 
 /// Opens connections to the join server.
 pub trait Connections<R> {
     type S: Source + Sink + Drop;
 
+    // That it opened this connection, and that it could open none.
+    ghost has_opened: { Self → Self.S → Type 0 } = { λ _ _. Unit {0} };
+
+    ghost has_none: { Self → Type 0 } = { λ _. Unit {0} };
+
     /// A connection that has not failed, where one could be opened.
     fn open(&self, rt: &R) -> Option<Self::S>
-        ensures { IfSome result (λ s. Self.S.has_failed s ≡ false) };
+        ensures sound { IfSome result (λ s. Self.S.has_failed s ≡ false) }
+        ensures opened { IfSome result (λ s. has_opened self.now s) }
+        ensures none { IfNone result (has_none self.now) };
 }
 
-/// Sends downlinks to gateways.
+/// Sends downlinks of one worker to gateways.
 pub trait Downlinks<R> {
+    // The downlinks that it was given, sent or not, where it tells them.
+    ghost taken: { Self → Option (List Downlink) } = { λ _. None };
+
     /// Whether it was sent.
-    fn send(&self, rt: &R, downlink: &Downlink) -> bool;
+    fn send(&mut self, rt: &R, downlink: &Downlink) -> bool
+        ensures { Grows (taken self.old) (taken self.new) (downlink.now ∷ []) };
 }
 
 /// Is told what happens in a worker, to count or to log it.
 pub trait Monitor<R> {
-    /// A datagram was refused, and made no call.
-    fn refused(&self, rt: &R, why: Refused);
+    // That it was told this.
+    ghost has_heard: { Self → Notice → Type 0 } = { λ _ _. Unit {0} };
 
-    /// A call of the worker got this reply.
-    fn replied(&self, rt: &R, reply: &Reply);
+    /// A datagram was refused, and made no call.
+    fn refused(&self, rt: &R, why: Refused)
+        ensures { has_heard self.now (datagram_refused why) };
+
+    /// A call of the worker got this receipt.
+    fn replied(&self, rt: &R, receipt: &Receipt)
+        ensures { has_heard self.now (call_replied receipt.now) };
 
     /// A datagram's call was refused for want of memory, and made no entry.
-    fn dropped(&self, rt: &R);
+    fn dropped(&self, rt: &R)
+        ensures { has_heard self.now call_dropped };
 
     /// The join server gave no answer that can be used for a ticket.
-    fn unanswered(&self, rt: &R, ticket: &Ticket, why: &JoinFault);
+    fn unanswered(&self, rt: &R, ticket: &Ticket, why: &JoinFault)
+        ensures { has_heard self.now (ticket_unanswered ticket.now why.now) };
+
+    /// A ticket was too old to be asked about.
+    fn stale(&self, rt: &R, ticket: &Ticket)
+        ensures { has_heard self.now (ticket_stale ticket.now) };
 
     /// A downlink was not sent.
-    fn unsent(&self, rt: &R, downlink: &Downlink);
+    fn unsent(&self, rt: &R, downlink: &Downlink)
+        ensures { has_heard self.now (downlink_unsent downlink.now) };
 }
 
 /// What the workers of a server share.
 #[derive(Drop)]
-pub struct Shared<'a, B: Naming, R, G, D, M> {
+pub struct Shared<'a, B: Naming, R, G, M> {
     pub rt: &'a R,
     pub server: &'a Server<B>,
     pub gate: &'a G,
-    pub down: &'a D,
     pub monitor: &'a M,
 }

@@ -104,7 +104,7 @@ fn run_refused<B: Naming, R: Wait>(
 
 /// A refused call leaves the pass as it was, and the sum counts only what succeeded.
 #[test]
-fn each_growth_of_calls_refused(rt: HostRuntime) -> Result<(), Fail> {
+fn calls_refused_until_memory_is_back(rt: HostRuntime) -> Result<(), Fail> {
     let alloc: Global = rt.alloc();
     let roster = shared_roster(alloc, 16)?;
     calls_refused::<Brand, _>(&rt, alloc, roster, Blanks::new(1))
@@ -143,7 +143,7 @@ fn is_made<B: Naming>(alloc: Global, roster: Arc<Roster>, blanks: Blanks) -> boo
 
 /// A new server is refused memory more than once, and then made.
 #[test]
-fn each_growth_of_a_server_refused(rt: HostRuntime) -> Result<(), Fail> {
+fn server_refused_until_memory_is_back(rt: HostRuntime) -> Result<(), Fail> {
     let alloc: Global = rt.alloc();
     let roster = shared_roster(alloc, 40)?;
     let mut held: Vec<Vec<u8>> = Vec::with_capacity(alloc, BLOCKS)?;
@@ -285,7 +285,7 @@ fn trim_refusals<B: Naming, R: Wait>(
 /// With eight windows and four tickets of one device open, a trim is refused memory (Z2, and never Z1); then it hands out the one entry
 /// that it would have handed out at first, and the windows and tickets are still open.
 #[test]
-fn each_growth_of_a_trim_refused(rt: HostRuntime) -> Result<(), Fail> {
+fn trim_refused_until_memory_is_back(rt: HostRuntime) -> Result<(), Fail> {
     let alloc: Global = rt.alloc();
     let roster = shared_roster(alloc, 16)?;
     trim_refused::<Brand, _>(&rt, alloc, roster, Blanks::new(1))

@@ -1,11 +1,25 @@
 //! What each worker of a server does with a call, and what comes of all workers.
 
 use ns_calls::Call;
-use ns_server::{Naming, Open, Pass, Receipt, Server};
+use ns_server::{Gate, Naming, Pass, Receipt, Server};
 use std::alloc::{AllocError, Global};
 use std::sync::Wait;
+use std::sync::atomic::{AtomicU64, Ordering};
 
-/// Makes a call, and keeps its receipt where there is memory for it.
+// Keeps the number of the last visit.
+#[derive(Drop)]
+struct Numbered {
+    number: AtomicU64,
+}
+
+impl<R> Gate<R> for Numbered {
+    fn visit(&self, _rt: &R, _shard: u8, number: u64) {
+        self.number.store(number, Ordering::SeqCst);
+    }
+}
+
+/// Makes a call, and keeps its receipt where there is memory for it, and where its entry has the number that was told at the gate: no
+/// other call of its shard came between.
 pub fn make<B: Naming, R: Wait>(
     rt: &R,
     server: &Server<B>,
@@ -13,7 +27,13 @@ pub fn make<B: Naming, R: Wait>(
     call: Call,
     receipts: &mut Vec<Receipt>,
 ) -> Result<(), AllocError> {
-    let receipt = server.call(rt, pass, call, &Open)?;
+    let gate = Numbered {
+        number: AtomicU64::new(u64::MAX),
+    };
+    let receipt = server.call(rt, pass, call, &gate)?;
+    if receipt.entry.number != gate.number.load(Ordering::SeqCst) {
+        return Err(AllocError);
+    }
     receipts.push(receipt)?;
     Ok(())
 }

@@ -1,0 +1,15 @@
+use Rattle.std.proofs.Common.{sym, subst, Result}
+use Rattle.std.specs.Prelude.{IfOk}
+use Rattle.std.specs.declared.net.socket_addr.SocketAddr.{SocketAddr}
+use Rattle.clap.specs.Words.{found_of, rows_of}
+use Rattle.lorawan_ns.specs.declared.options.BadWords.{BadWords}
+use Rattle.lorawan_ns.specs.Asked.{IsAddr, name_of}
+use Rattle.lorawan_ns.proofs.OptionLemmas.{IsAddr-read, IfOk-ok_or}
+use Rattle.lorawan_ns.proofs.options.addr.Goals as goal
+
+pub returns-clause-addr : goal.returns-clause-addr
+returns-clause-addr c =
+    let found = found_of c.args.found.now in
+    let given = c.get_one-addr in
+    subst (λ (r : Result SocketAddr BadWords). IfOk r (IsAddr (name_of c.args.name) (rows_of found))) (sym c.ok_or.ensures.value)
+    (IfOk-ok_or given.result _ _ (λ addr is. subst (λ id. IsAddr id (rows_of found) addr) c.as_str.ensures (IsAddr-read _ found c.as_str.result.now given.result addr given.ensures.none given.ensures.value is)))

@@ -1,0 +1,12 @@
+use Rattle.std.proofs.Common.{rules, codes}
+use Rattle.std.proofs.lemmas.Result.{IfOk-weaker}
+use Rattle.lorawan_ns.specs.Commands.{IsCommand, named_app, program}
+use Rattle.lorawan_ns.proofs.CommandLemmas.{IsCommand-subcommand}
+use Rattle.lorawan_ns.proofs.options.commands.Goals as goal
+
+pub returns : goal.returns
+unfolding program
+returns c =
+    let start : IsCommand named_app c.subcommand_required.result = (search rules, search rules) in
+    let first = IsCommand-subcommand _ _ _ _ _ start c.in_ok-replay.ensures c.in_ok-subcommand.ensures in
+    IfOk-weaker c.subcommand-2.result _ _ (λ new added. (IsCommand-subcommand _ _ _ _ new first c.in_ok-serve.ensures added).0) c.subcommand-2.ensures

@@ -1,0 +1,12 @@
+use Rattle.std.proofs.lemmas.Result.{IfOk-weaker}
+use Rattle.lorawan_ns.proofs.CommandLemmas.{IsArg-needed, IsArg-else_value, IsCommand-arg}
+use Rattle.lorawan_ns.proofs.options.with_addresses.Goals as goal
+
+pub returns : goal.returns
+returns c = λ app is.
+    let needed = IsArg-needed _ c.option-join.result c.required.result c.option-join.ensures.rule c.option-join.ensures.here c.required.ensures in
+    let join = IsCommand-arg app _ c.args.command c.in_ok-arg.field-0 c.required.result is needed c.in_ok-arg.ensures in
+    let usual = IsArg-else_value _ _ c.option-host.result c.default_value.result c.option-host.ensures.rule c.option-host.ensures.here c.default_value.ensures in
+    let host = IsCommand-arg _ _ c.in_ok-arg.field-0 c.in_ok-arg-2.field-0 c.default_value.result join usual c.in_ok-arg-2.ensures in
+    let heard = IsArg-else_value _ _ c.option-listen.result c.default_value-2.result c.option-listen.ensures.rule c.option-listen.ensures.here c.default_value-2.ensures in
+    IfOk-weaker c.arg-3.result _ _ (λ new added. IsCommand-arg _ _ c.in_ok-arg-2.field-0 new c.default_value-2.result host heard added) c.arg-3.ensures

@@ -1,0 +1,73 @@
+-- What the words of the command line ask for: each field by the option of its name.
+use Rattle.std.specs.Prelude.{◌≡◌, ◌≢◌, ◌<◌, ◌≤◌, ℕ, List, Bool, true, false, Option, None, Some, codes}
+use Rattle.std.specs.Str.Parse.{IsNumeral, digits_value, without_leading_plus}
+use Rattle.std.specs.Net.Grammar.{IsSocketText}
+use Rattle.std.specs.declared.net.socket_addr.SocketAddr.{SocketAddr}
+use Rattle.clap.specs.Words.{Row, Text, first_of, one_of, subcommand_of}
+use Rattle.ns_joinclient.specs.Request.{host_text}
+use Rattle.ns_serve.specs.declared.options.ServeOptions.{ServeOptions}
+use Rattle.lorawan_ns.specs.declared.options.Asked.{Asked}
+use Rattle.lorawan_ns.specs.declared.options.Asked.TheVariants.{Replay, Serve}
+use Rattle.lorawan_ns.specs.declared.options.OptionName.{OptionName}
+use Rattle.lorawan_ns.specs.declared.options.OptionName.TheVariants.{Join, Host, Listen, Workers, JoinWorkers, Window, StopAfter, Trim}
+use Rattle.lorawan_ns.specs.Commands.{program}
+
+-- the name of an option
+abbrev pub name_of : OptionName → Text
+name_of Join = codes "join"
+name_of Host = codes "host"
+name_of Listen = codes "listen"
+name_of Workers = codes "workers"
+name_of JoinWorkers = codes "join-workers"
+name_of Window = codes "window"
+name_of StopAfter = codes "stop-after"
+name_of Trim = codes "trim"
+
+-- the option's value is this number in decimal digits
+abbrev pub IsNumber : Text → List Row → ℕ → Type 0
+IsNumber id rows n = (text : Text) × (one_of id rows ≡ Some text) × IsNumeral 10 (without_leading_plus text) × (n ≡ digits_value 10 (without_leading_plus text))
+
+-- the option's value is this address of an IP address and a port
+abbrev pub IsAddr : Text → List Row → SocketAddr → Type 0
+IsAddr id rows addr = (text : Text) × (one_of id rows ≡ Some text) × IsSocketText text addr
+
+-- a number where the option is given, and else none
+abbrev pub IsNumberIfGiven : Text → List Row → Option ℕ → Type 0
+IsNumberIfGiven id rows None = one_of id rows ≡ None
+IsNumberIfGiven id rows (Some n) = IsNumber id rows n
+
+-- a number, and none for `never`
+abbrev pub IsNumberOrNever : Text → List Row → Option ℕ → Type 0
+IsNumberOrNever id rows None = first_of id rows ≡ Some (codes "never")
+IsNumberOrNever id rows (Some n) = IsNumber id rows n
+
+-- whether a flag was given
+abbrev pub IsFlag : Text → List Row → Bool → Type 0
+IsFlag id rows true = one_of id rows ≡ Some (codes "true")
+IsFlag id rows false = one_of id rows ≢ Some (codes "true")
+
+-- what is to be served is what the options behind `serve` say
+pub record HasOptions (rows : List Row) (o : ServeOptions) : Type 0 where
+  pub join : IsAddr (codes "join") rows o.join
+  pub host : first_of (codes "host") rows ≡ Some (host_text o.host)
+  pub listen : IsAddr (codes "listen") rows o.listen
+  pub workers : IsNumber (codes "workers") rows o.workers
+  pub join_workers : IsNumber (codes "join-workers") rows o.join_workers
+  pub window_ms : IsNumber (codes "window") rows o.window_ms
+  pub stop_after : IsNumberIfGiven (codes "stop-after") rows o.stop_after
+  pub trim : IsNumberOrNever (codes "trim") rows o.trim
+  pub closing : IsFlag (codes "closing") rows o.closing
+
+-- what was found behind a command's name
+abbrev pub IsAskedBy : List Row → Asked → Type 0
+IsAskedBy rows (Replay path closing) = (first_of (codes "ROSTER") rows ≡ Some path.now) × IsFlag (codes "closing") rows closing
+IsAskedBy rows (Serve path options) = (first_of (codes "ROSTER") rows ≡ Some path.now) × HasOptions rows options
+
+-- the command that is asked for
+abbrev pub command_of : Asked → Text
+command_of (Replay path closing) = codes "replay"
+command_of (Serve path options) = codes "serve"
+
+-- the words name the command, and what stands behind it asks for this
+abbrev pub IsAsked : List Text → Asked → Type 0
+IsAsked words asked = (rows : List Row) × (subcommand_of program words ≡ Some (command_of asked, rows)) × IsAskedBy rows asked

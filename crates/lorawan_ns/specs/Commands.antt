@@ -1,0 +1,74 @@
+-- The program's command line, as clap reads it: its commands, their options, and what stands where a word leaves an option out.
+use Rattle.std.specs.Prelude.{◌≡◌, ℕ, List, [], ◌∷◌, Some, true, false, codes, fold}
+use Rattle.clap.specs.Words.{App, Rule, Text, app_of, new_app, new_rule, with_rule, with_subcommand}
+use Rattle.clap.specs.declared.builder.command.Command.{Command}
+use Rattle.clap.specs.declared.builder.command.Command.TheViews.{out-Command}
+use Rattle.clap.specs.declared.builder.action.ArgAction.TheVariants.{Set, SetTrue}
+use Rattle.clap.specs.declared.builder.value_parser.ValueParser.TheVariants.{Unsigned}
+
+-- the roster's file, which each command needs
+abbrev pub roster_rule : Rule
+roster_rule = record (new_rule (codes "ROSTER")) { required = true; action = Some Set }
+
+-- an option with a text
+abbrev pub option_rule : Text → Rule
+option_rule name = record (new_rule name) { long = Some name; action = Some Set; value_names = 1 }
+
+-- an option with a number from 1 to this
+abbrev pub number_rule : Text → ℕ → Rule
+number_rule name most = record (option_rule name) { parser = Some (Unsigned 1 most) }
+
+-- the option that asks for the closing roster
+abbrev pub closing_rule : Rule
+closing_rule = record (new_rule (codes "closing")) { long = Some (codes "closing"); action = Some SetTrue }
+
+-- an option that each use of the command needs
+abbrev pub needed : Rule → Rule
+needed rule = record rule { required = true }
+
+-- an option with the value that it has where it is left out
+abbrev pub else_value : Text → Rule → Rule
+else_value text rule = record rule { defaults = text ∷ [] }
+
+-- the options of `serve` about the join server, and about where gateways are heard
+abbrev pub address_rules : List Rule
+address_rules =
+    needed (option_rule (codes "join"))
+    ∷ else_value (codes "localhost") (option_rule (codes "host"))
+    ∷ else_value (codes "127.0.0.1:1700") (option_rule (codes "listen"))
+    ∷ []
+
+-- those about how many threads there are
+abbrev pub worker_rules : List Rule
+worker_rules = else_value (codes "4") (number_rule (codes "workers") 16) ∷ else_value (codes "1") (number_rule (codes "join-workers") 16) ∷ []
+
+-- those about when a window is closed, the server stops, and a shard is trimmed
+abbrev pub limit_rules : List Rule
+limit_rules =
+    else_value (codes "200") (number_rule (codes "window") 60000)
+    ∷ number_rule (codes "stop-after") 4294967295
+    ∷ else_value (codes "20000") (option_rule (codes "trim"))
+    ∷ []
+
+-- a command with these arguments behind its own
+abbrev pub with_rules : App → List Rule → App
+with_rules = fold with_rule
+
+unfoldable pub serve_app : App
+serve_app =
+    let heard = with_rules (with_rule (new_app (codes "serve")) roster_rule) address_rules in
+    with_rule (with_rules (with_rules heard worker_rules) limit_rules) closing_rule
+
+unfoldable pub replay_app : App
+replay_app = with_rule (with_rule (new_app (codes "replay")) roster_rule) closing_rule
+
+-- the program, with a version
+abbrev pub named_app : App
+named_app = let app = new_app (codes "lorawan_ns") in record app { top = record app.top { has_version = true; subcommand_required = true } }
+
+unfoldable pub program : App
+program = with_subcommand (with_subcommand named_app replay_app.top) serve_app.top
+
+-- the command is this one, with no argument that holds for the commands below it
+abbrev pub IsCommand : App → Command → Type 0
+IsCommand app c = (app_of c ≡ app) × ((out-Command c).has_globals ≡ false)

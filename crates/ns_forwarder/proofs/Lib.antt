@@ -1,0 +1,5 @@
+pub mod MessageLemmas
+pub mod PushLemmas
+pub mod HertzLemmas
+pub mod UplinkLemmas
+pub mod TxpkLemmas

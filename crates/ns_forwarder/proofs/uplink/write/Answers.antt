@@ -1,0 +1,6 @@
+use Rattle.std.proofs.Common.{rules}
+use Rattle.ns_link.proofs.Parts.{AreBytes-slice}
+use Rattle.ns_forwarder.proofs.uplink.write.Goals as goal
+
+pub returns : goal.returns
+returns c = (search rules, AreBytes-slice c.args.frame.now (λ i. search rules))

@@ -1,0 +1,10 @@
+pub mod Faults
+pub mod Message
+pub mod Clock
+pub mod Laws
+pub mod Rxpk
+pub mod Push
+pub mod Held
+pub mod Uplink
+pub mod Txpk
+pub mod TxAck

@@ -1,0 +1,4 @@
+pub mod Outer
+pub mod Device
+pub mod Place
+pub mod Wrong

@@ -1,0 +1,181 @@
+//! The closer: windows are closed as they become due, their lines written, and the shards trimmed.
+ghost use Rattle.std.specs.Prelude.{◌≡◌, ◌≢◌, ◌++◌, Some, false, IsNone, ◌↔◌};
+ghost use Rattle.ns_types.specs.Streams.{AppendsFront};
+ghost use Rattle.ns_workers.specs.Closing.{AreAnswered};
+ghost use Rattle.ns_workers.specs.Counts.{RisesByReceipts};
+ghost use Rattle.ns_workers.specs.Lines.{up_lines};
+
+use crate::clock::{SinceStart, now_ms};
+use crate::events::Events;
+use crate::held::Held;
+use crate::options::ServeFault;
+use crate::output::{Output, put_under_lock};
+use crate::sockets::ToSocket;
+use crate::state::State;
+use crossbeam_channel::{Receiver, RecvTimeoutError};
+use log::{Log, error};
+use ns_server::{Naming, Open, Pass};
+use ns_types::Sink;
+use ns_workers::{CloseJob, Ended, ListedJobs, Shared, WorkerFault, run_closer};
+use std::alloc::{AllocError, Global};
+use std::sync::{Mutex, Wait};
+use std::thread;
+use std::time::{Clock, Duration};
+
+/// How many windows are closed at a time, at most.
+pub(crate) const AT_A_TIME: usize = 64;
+
+/// The room for the lines of so many windows.
+pub(crate) const ROOM: usize = AT_A_TIME * 1025;
+
+// How long the closer waits at most before it looks whether the server stops and whether shards are to be trimmed.
+const NAP_MS: u64 = 100;
+
+/// The windows that are to be closed, in the order in which they were opened.
+#[derive(Drop)]
+pub(crate) struct Closings<'a> {
+    state: &'a State,
+    receiver: Receiver<CloseJob>,
+    // One that is not due yet.
+    held: Option<CloseJob>,
+}
+
+/// What the closer is to do.
+#[derive(Drop)]
+pub(crate) enum Turn {
+    /// To close the windows of these jobs, which are due.
+    Close(Vec<CloseJob>),
+    /// Nothing is due.
+    Idle,
+    /// The server stops.
+    End,
+}
+
+impl<'a> Closings<'a> {
+    /// The windows that come by a channel.
+    pub fn new(state: &'a State, receiver: Receiver<CloseJob>) -> Closings<'a> {
+        Closings {
+            state,
+            receiver,
+            held: None,
+        }
+    }
+
+    /// What is to be done next: it is waited for a while.
+    pub fn next<R: Wait + Clock>(&mut self, rt: &R, alloc: Global) -> Result<Turn, AllocError> {
+        if self.state.is_over() {
+            return Ok(Turn::End);
+        }
+        let first = match self.held.take() {
+            Some(job) => job,
+            None => match self
+                .receiver
+                .recv_timeout(rt, Duration::from_millis(NAP_MS))
+            {
+                Ok(job) => job,
+                Err(RecvTimeoutError::Timeout) => return Ok(Turn::Idle),
+                Err(RecvTimeoutError::Disconnected) => return Ok(Turn::End),
+            },
+        };
+        if !self.comes(rt, first.due) {
+            self.held = Some(first);
+            return Ok(Turn::Idle);
+        }
+        self.batch(rt, alloc, first)
+    }
+
+    // Waits a while for a time, and says whether it has come. Once no gateway worker is left every time has, since no copy can come then.
+    fn comes<R: Clock>(&self, rt: &R, due: u64) -> bool {
+        let now = now_ms(rt, self.state);
+        if due > now && !self.state.is_deaf() {
+            thread::sleep(rt, Duration::from_millis((due - now).min(NAP_MS)));
+        }
+        self.is_due(rt, due)
+    }
+
+    // Whether a time has come.
+    fn is_due<R: Clock>(&self, rt: &R, due: u64) -> bool {
+        due <= now_ms(rt, self.state) || self.state.is_deaf()
+    }
+
+    // This job, which is due, and those behind it that are.
+    fn batch<R: Wait + Clock>(
+        &mut self,
+        rt: &R,
+        alloc: Global,
+        first: CloseJob,
+    ) -> Result<Turn, AllocError> {
+        let mut jobs = Vec::with_capacity(alloc, AT_A_TIME)?;
+        jobs.push_reserved(first);
+        while jobs.len() < AT_A_TIME {
+            let Ok(job) = self.receiver.try_recv(rt) else {
+                break;
+            };
+            if !self.is_due(rt, job.due) {
+                self.held = Some(job);
+                break;
+            }
+            jobs.push_reserved(job);
+        }
+        Ok(Turn::Close(jobs))
+    }
+}
+
+/// Closes the windows of these jobs, and puts their lines to those that are held.
+pub(crate) fn close_all<B: Naming, R: Wait + Clock + Log>(
+    alloc: Global,
+    shared: &Shared<'_, B, R, Open, Events<'_>>,
+    pass: &mut Pass<B>,
+    timer: &SinceStart<'_>,
+    down: &mut ToSocket<'_>,
+    jobs: Vec<CloseJob>,
+    held: &mut Held,
+) -> Ended
+    requires { held.old.failed ≡ false }
+    ensures lines { result.fault ≢ Some WorkerFault.SinkFailed → held.new.lines.items ≡ held.old.lines.items ++ up_lines result.receipts.items }
+    ensures front { AppendsFront (Some held.old.lines.items) (Some held.new.lines.items) (up_lines result.receipts.items) }
+    ensures answered { AreAnswered B.roster result.receipts.items }
+    ensures counted { RisesByReceipts pass.old pass.new result.receipts.items }
+{
+    let limit = u32::try_from(jobs.len()).unwrap_or(u32::MAX);
+    let mut jobs = ListedJobs::new(jobs, false);
+    run_closer(alloc, shared, pass, timer, &mut jobs, down, held, limit)
+}
+
+// The fault of a closer whose lines are held in memory: it is want of memory.
+fn fault_of(fault: Option<WorkerFault>) -> Option<ServeFault>
+    ensures { IsNone result ↔ IsNone fault }
+{
+    match fault {
+        None => None,
+        Some(_) => Some(ServeFault::NoMemory),
+    }
+}
+
+/// Closes the windows of these jobs and writes their lines, also where it meets a fault, which it gives.
+pub(crate) fn close_and_write<B: Naming, R: Wait + Clock + Log, W: Sink>(
+    alloc: Global,
+    shared: &Shared<'_, B, R, Open, Events<'_>>,
+    pass: &mut Pass<B>,
+    state: &State,
+    output: &Mutex<Output<W>>,
+    jobs: Vec<CloseJob>,
+    held: &mut Held,
+) -> Option<ServeFault>
+    requires { held.old.failed ≡ false }
+    ensures { held.new.failed ≡ false }
+{
+    let (timer, mut down) = (SinceStart { state }, ToSocket { state });
+    let ended = close_all(alloc, shared, pass, &timer, &mut down, jobs, held);
+    let written = put_under_lock(shared.rt, output, held.lines());
+    held.clear();
+    if ended.fault.is_some() {
+        error!(shared.rt; "closer: no memory to close a window");
+        return fault_of(ended.fault);
+    }
+    if written.is_err() {
+        error!(shared.rt; "closer: standard output failed");
+        return Some(ServeFault::Io);
+    }
+    None
+}

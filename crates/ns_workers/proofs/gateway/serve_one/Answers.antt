@@ -1,0 +1,60 @@
+use Rattle.std.proofs.Common.{[], ◌∷◌, ◌+◌, Ok, sym, ap, ◌∙◌, subst, arith}
+use Rattle.ns_workers.specs.declared.gateway.Served.{Served}
+use Rattle.ns_workers.specs.Effects.{effects}
+use Rattle.ns_workers.specs.Serving.{Serves}
+use Rattle.ns_workers.proofs.Doings.{does_call}
+use Rattle.ns_workers.proofs.Servings.{serves_refused, serves_dropped, serves_called, serves_followed}
+use Rattle.ns_workers.proofs.gateway.serve_one.Goals as goal
+
+pub returns-in-Err-clause-serves : goal.returns-in-Err-clause-serves
+returns-in-Err-clause-serves g c =
+    let s : Served = c.args.served.now in
+    let s' : Served = record { read = s.read + 1; refused = s.refused + 1; dropped = s.dropped; fault = s.fault } in
+    serves_refused g.B.Naming.roster (g.M.Monitor.has_heard c.args.shared.now.monitor.now) (g.T.Timer.has_told c.args.timer.now) c.args.window_ms s s' _ c.args.bytes.now c.in-Err.why
+    (omega arith, omega arith, omega arith) c.requires.fault (sym c.in-Err.ensures) c.refused.ensures
+
+pub returns-in_default-clause-serves : goal.returns-in_default-clause-serves
+returns-in_default-clause-serves g c =
+    let s : Served = c.args.served.now in
+    let s' : Served = record { read = s.read + 1; refused = s.refused; dropped = s.dropped + 1; fault = s.fault } in
+    let net = g.B.Naming.roster in
+    let h = g.M.Monitor.has_heard c.args.shared.now.monitor.now in
+    let t = g.T.Timer.has_told c.args.timer.now in
+    let jobs = g.P.Jobs.taken c.args.jobs.now in
+    let down = g.D.Downlinks.taken c.args.down.now in
+    let text = g.W.Sink.taken c.args.sink.now in
+    subst (λ p. Serves net h t c.args.window_ms s s' (effects c.args.pass.now jobs down text) (effects p jobs down text) (c.args.bytes.now ∷ []))
+    (sym c.in_default.ensures.err)
+    (serves_dropped net h t c.args.window_ms s s' (effects c.args.pass.now jobs down text) c.args.bytes.now c.in-Ok.call
+    (omega arith, omega arith, omega arith) c.requires.fault (sym c.in-Ok.ensures) c.dropped.ensures)
+
+pub returns-in-Some-clause-serves : goal.returns-in-Some-clause-serves
+returns-in-Some-clause-serves g c =
+    let s : Served = c.args.served.now in
+    let s' : Served = record { read = s.read + 1; refused = s.refused; dropped = s.dropped; fault = c.put_job-served.result } in
+    let net = g.B.Naming.roster in
+    let h = g.M.Monitor.has_heard c.args.shared.now.monitor.now in
+    let jobs = g.P.Jobs.taken c.args.jobs.now in
+    let down = g.D.Downlinks.taken c.args.down.now in
+    let text = g.W.Sink.taken c.args.sink.now in
+    let r = c.in-Ok-make_call.receipt in
+    serves_followed net h (g.T.Timer.has_told c.args.timer.now) c.args.window_ms s s' (effects c.args.pass.now jobs down text) (effects c.make_call.new.pass jobs down text)
+    _ c.args.bytes.now r c.now-now.result c.in-Some.job (omega arith, omega arith, omega arith)
+    (sym c.in-Ok.ensures ∙ ap Ok (sym c.in-Ok-make_call.ensures.call)) c.now-now.ensures (sym c.in-Some.ensures)
+    (does_call net h c.args.pass.now c.make_call.new.pass jobs down text r c.in-Ok-make_call.ensures.answered c.in-Ok-make_call.ensures.counted c.in-Ok-make_call.ensures.told)
+    c.put_job-served.ensures.follows
+
+pub returns-in_default-job_of-clause-serves : goal.returns-in_default-job_of-clause-serves
+returns-in_default-job_of-clause-serves g c =
+    let s : Served = c.args.served.now in
+    let s' : Served = record { read = s.read + 1; refused = s.refused; dropped = s.dropped; fault = s.fault } in
+    let net = g.B.Naming.roster in
+    let h = g.M.Monitor.has_heard c.args.shared.now.monitor.now in
+    let jobs = g.P.Jobs.taken c.args.jobs.now in
+    let down = g.D.Downlinks.taken c.args.down.now in
+    let text = g.W.Sink.taken c.args.sink.now in
+    let r = c.in-Ok-make_call.receipt in
+    serves_called net h (g.T.Timer.has_told c.args.timer.now) c.args.window_ms s s' (effects c.args.pass.now jobs down text) (effects c.make_call.new.pass jobs down text)
+    c.args.bytes.now r c.now-now.result (omega arith, omega arith, omega arith) c.requires.fault
+    (sym c.in-Ok.ensures ∙ ap Ok (sym c.in-Ok-make_call.ensures.call)) c.now-now.ensures (sym c.in_default-job_of.ensures)
+    (does_call net h c.args.pass.now c.make_call.new.pass jobs down text r c.in-Ok-make_call.ensures.answered c.in-Ok-make_call.ensures.counted c.in-Ok-make_call.ensures.told)

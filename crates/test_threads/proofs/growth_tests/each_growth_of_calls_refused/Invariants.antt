@@ -1,9 +1,0 @@
-use Rattle.std.specs.Prelude.{slice_index}
-use Rattle.std.specs.Arc.{arc_value}
-use Rattle.test_threads.proofs.growth_tests.each_growth_of_calls_refused.Given as goal
-
-abbrev pub ghosts-calls_refused-B-Naming : goal.ghosts-calls_refused-B-Naming
-ghosts-calls_refused-B-Naming g a = record { roster = arc_value a.roster }
-
-abbrev pub ghosts-calls_refused-B-Ledgers : goal.ghosts-calls_refused-B-Ledgers
-ghosts-calls_refused-B-Ledgers g a = record { ledger = λ k. slice_index a.blanks.names k; workers = a.blanks.parts }

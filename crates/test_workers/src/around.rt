@@ -1,0 +1,214 @@
+//! What is around the workers: a clock, a monitor, a join server, ways out, and memory that goes and comes.
+
+ghost use Rattle.std.specs.Prelude.{None};
+
+use ns_calls::Downlink;
+use ns_server::Receipt;
+use ns_types::{BLOCKS, Fuse, Ticket, take_all};
+use ns_workers::{
+    Connections, Datagrams, Downlinks, Job, JobSource, Jobs, JoinFault, Monitor, Next, Received,
+    Refused, Timer,
+};
+use std::alloc::Global;
+use std::sync::atomic::{AtomicU64, Ordering};
+
+/// A clock that goes on by a step with each look, and to the time that is waited for. It is a monitor too, and a join server that gives
+/// one response after the other, where an empty one is no connection.
+///
+/// Its numbers count datagrams refused, replied to and dropped, tickets without an answer, downlinks not sent, stale tickets, and
+/// connections asked for; the last three are the times of the first replies.
+#[derive(Drop)]
+pub struct Around {
+    alloc: Global,
+    time: AtomicU64,
+    step: u64,
+    responses: Vec<Vec<u8>>,
+    numbers: [AtomicU64; 10],
+}
+
+impl Around {
+    /// A clock at this time, which goes on by a step each time it is read, and a join server with these responses, one a connection.
+    pub fn new(alloc: Global, time: u64, step: u64, responses: Vec<Vec<u8>>) -> Around {
+        Around {
+            alloc,
+            time: AtomicU64::new(time),
+            step,
+            responses,
+            numbers: Default::default(),
+        }
+    }
+
+    // One more at a place, and how many there were.
+    fn more(&self, place: usize) -> u64 {
+        match self.numbers.get(place) {
+            Some(number) => number.fetch_add(1, Ordering::SeqCst),
+            None => 0,
+        }
+    }
+
+    /// The numbers from a place on.
+    pub fn told(&self, from: usize) -> [u64; 10] {
+        let mut told = [0; 10];
+        for (number, place) in self.numbers.iter().skip(from).zip(told.iter_mut()) {
+            *place = number.load(Ordering::SeqCst);
+        }
+        told
+    }
+}
+
+impl<R> Timer<R> for Around {
+    fn now(&self, _rt: &R) -> u64 {
+        self.time.fetch_add(self.step, Ordering::SeqCst)
+    }
+
+    fn until(&self, _rt: &R, due: u64) {
+        if self.time.load(Ordering::SeqCst) < due {
+            self.time.store(due, Ordering::SeqCst);
+        }
+    }
+}
+
+impl<R> Monitor<R> for Around {
+    fn refused(&self, _rt: &R, _why: Refused) {
+        self.more(0);
+    }
+
+    fn replied(&self, _rt: &R, _receipt: &Receipt) {
+        let at = self.more(1);
+        if let Some(noted) = self.numbers.get((at as usize).wrapping_add(7)) {
+            noted.store(self.time.load(Ordering::SeqCst), Ordering::SeqCst);
+        }
+    }
+
+    fn dropped(&self, _rt: &R) {
+        self.more(2);
+    }
+
+    fn unanswered(&self, _rt: &R, _ticket: &Ticket, _why: &JoinFault) {
+        self.more(3);
+    }
+
+    fn stale(&self, _rt: &R, _ticket: &Ticket) {
+        self.more(5);
+    }
+
+    fn unsent(&self, _rt: &R, _downlink: &Downlink) {
+        self.more(4);
+    }
+}
+
+impl<R> Connections<R> for Around {
+    type S = Fuse;
+
+    fn open(&self, _rt: &R) -> Option<Fuse> {
+        let at = self.more(6);
+        let response = self.responses.get(at as usize)?;
+        if response.is_empty() {
+            return None;
+        }
+        let bytes = Vec::from_slice(self.alloc, response.as_slice()).ok()?;
+        Some(Fuse::new(self.alloc, bytes, 100, None, None))
+    }
+}
+
+/// Records downlinks, and sends them or not. It has room for the first four of them.
+#[derive(Drop)]
+pub struct Sent {
+    pub sends: bool,
+    pub sent: Vec<Downlink>,
+}
+
+impl Sent {
+    /// Nothing was sent yet; what is to be sent is, or is not.
+    pub fn new(alloc: Global, sends: bool) -> Option<Sent> {
+        let sent = Vec::with_capacity(alloc, 4).ok()?;
+        Some(Sent { sends, sent })
+    }
+}
+
+impl<R> Downlinks<R> for Sent {
+    fn send(&mut self, _rt: &R, downlink: &Downlink) -> bool {
+        self.sent.push(*downlink).is_ok() && self.sends
+    }
+}
+
+/// Records jobs while it has room for them.
+#[derive(Drop)]
+pub struct Put {
+    pub room: usize,
+    pub jobs: Vec<Job>,
+}
+
+impl<R> Jobs<R, Job> for Put {
+    fn put(&mut self, _rt: &R, job: Job) -> Result<(), Job> {
+        if self.jobs.len() >= self.room || self.jobs.push(job).is_err() {
+            return Err(job);
+        }
+        Ok(())
+    }
+}
+
+/// A source behind which memory goes and comes: before the turn of the first number all of it is taken but this many blocks, and before
+/// that of the second it is given back.
+#[derive(Drop)]
+pub struct Scarce<S> {
+    alloc: Global,
+    source: S,
+    held: Vec<Vec<u8>>,
+    turn: u32,
+    from: u32,
+    to: u32,
+    blocks: u32,
+}
+
+impl<S: Drop> Scarce<S> {
+    /// A source from one of whose turns to another there is no memory but so many blocks.
+    pub fn new(alloc: Global, source: S, from: u32, to: u32, blocks: u32) -> Option<Scarce<S>> {
+        Some(Scarce {
+            alloc,
+            source,
+            held: Vec::with_capacity(alloc, BLOCKS).ok()?,
+            turn: 0,
+            from,
+            to,
+            blocks,
+        })
+    }
+
+    // The next turn.
+    fn turn(&mut self) {
+        if self.turn == self.from {
+            let _ = take_all(self.alloc, &mut self.held);
+            for _ in 0..self.blocks {
+                let _ = self.held.pop();
+            }
+        }
+        if self.turn == self.to {
+            self.held.clear();
+        }
+        self.turn = self.turn.wrapping_add(1);
+    }
+
+    /// Gives all memory back.
+    pub fn give_back(&mut self) {
+        self.held.clear();
+    }
+}
+
+impl<R, S: Datagrams<R> + Drop> Datagrams<R> for Scarce<S> {
+    ghost given = { λ _. None };
+
+    fn next(&mut self, rt: &R, buf: &mut [u8; 512]) -> Received {
+        self.turn();
+        self.source.next(rt, buf)
+    }
+}
+
+impl<R, J, S: JobSource<R, J> + Drop> JobSource<R, J> for Scarce<S> {
+    ghost given = { λ _. None };
+
+    fn take(&mut self, rt: &R) -> Next<J> {
+        self.turn();
+        self.source.take(rt)
+    }
+}
