@@ -1,5 +1,5 @@
 -- The copies of an open window are the first 16 hearings of its frame since it was opened.
-use Rattle.std.proofs.Common.{◌≡◌, ◌⊎◌, ℕ, zero, suc, ◌+◌, ◌<◌, ◌≤◌, Bool, true, false, not, cond, nat_le, List, [], ◌∷◌, ◌++◌, filter, filter_map, find, map, length, take, min, length-append, Option, None, Some, IfSome, option_map, option_to_list, bytes_eq, refl, sym, ap, subst, ◌∙◌, arith, inl, inr}
+use Rattle.std.proofs.Common.{◌≡◌, ◌⊎◌, ℕ, zero, suc, ◌+◌, ◌<◌, ◌≤◌, Bool, true, false, not, cond, nat_lt, List, [], ◌∷◌, ◌++◌, filter, filter_map, find, map, length, take, min, length-append, Option, None, Some, IfSome, option_map, option_to_list, bytes_eq, refl, sym, ap, subst, ◌∙◌, arith, inl, inr}
 use Rattle.std.specs.List.{AllByRecursion}
 use Rattle.std.specs.Option.{option_or, option_and_then}
 use Rattle.std.proofs.lemmas.List.{append_assoc, append-nil, take-append-le, length-take}
@@ -21,17 +21,16 @@ use Rattle.ns_calls.specs.declared.call.Call.TheVariants as call
 use Rattle.ns_calls.specs.declared.call.Reply.{Reply}
 use Rattle.ns_calls.specs.declared.call.Reply.TheVariants as reply
 use Rattle.ns_calls.specs.declared.call.Entry.{Entry}
-use Rattle.ns_calls.specs.History.{Opening, window_in, window_copy_in, closes, open_windows, open_window, window_copies, window_count}
-use Rattle.ns_calls.specs.Reply.{most_copies, most_windows, window_with, Fit, window_of, in_round, first_fit, copy_reply, open_reply, old_reply, reply_to, ack_number}
+use Rattle.ns_calls.specs.History.{Opening, window_in, window_copy_in, closes, open_windows, open_window, window_copies}
+use Rattle.ns_calls.specs.Reply.{most_copies, window_with, window_of, in_round, first_fit, copy_reply, uplink_rule, reply_to, ack_number}
 use Rattle.ns_calls.specs.Out.{uplink_of, first_uplink_of, uplink_out, answer}
 use Rattle.ns_calls.specs.Legal.{IsLegal}
 use Rattle.ns_calls.specs.Open.{IsOpenWindow, hearing_in, hearings, HasJustItsCopies}
 use Rattle.ns_calls.proofs.LocalLemmas.{bool_tells}
-use Rattle.ns_calls.proofs.Lists.{one_more, All-append, All-filter, All-weaker, find-has, find-none}
+use Rattle.ns_calls.proofs.Lists.{one_more, All-append, All-filter, All-weaker, find-has, find-none, at_some}
 use Rattle.ns_calls.proofs.PushLemmas.{open_windows-push, window_copies-push}
-use Rattle.ns_calls.proofs.PartLemmas.{case-has, map-has}
 use Rattle.ns_calls.proofs.Induction.{legal-front, legal-next}
-use Rattle.ns_calls.proofs.UplinkLemmas.{uplink_reply_by, old-has, opening_of}
+use Rattle.ns_calls.proofs.UplinkLemmas.{facts_by, uplink-has, opening_of}
 use Rattle.ns_calls.proofs.NameLemmas.{same_window-refl, same_window-eq}
 use Rattle.ns_calls.proofs.FreshLemmas.{windows-apart}
 use Rattle.ns_calls.proofs.OpenLemmas.{find-contained, open_window-is}
@@ -130,45 +129,23 @@ hearings-push frame es e =
 abbrev Elsewhere : WindowName → List ℕ → Heard → Reply → Type 0
 Elsewhere w frame heard r = ((v : WindowName) × (window_in (call.Uplink frame heard) r ≡ Some (opening_of v frame heard)) × (window_copy_in (call.Uplink frame heard) r ≡ Some (v, heard))) ⊎ IfSome (window_copy_in (call.Uplink frame heard) r) (λ x. same_window x.0 w ≡ false)
 
-copied-elsewhere : (w : WindowName) (frame : List ℕ) (heard : Heard) (h : List Entry) (v : WindowName) → same_window v w ≡ false → Elsewhere w frame heard (copy_reply h v)
-copied-elsewhere w frame heard h v apart = step (nat_le (length (window_copies h v) + 1) most_copies)
-  where
-    step : (b : Bool) → Elsewhere w frame heard (cond b (reply.Copied v (length (window_copies h v) + 1)) (reply.Crowded v))
-    step true = inr apart
-    step false = inr tt
-
-opened-elsewhere : (w : WindowName) (frame : List ℕ) (heard : Heard) (h : List Entry) (v : WindowName) → Elsewhere w frame heard (open_reply h v)
-opened-elsewhere w frame heard h v = step (nat_le most_windows (window_count h v.eui))
-  where
-    step : (b : Bool) → Elsewhere w frame heard (cond b (reply.Busy v.eui) (reply.Opened v))
-    step true = inr tt
-    step false = inl (v, refl, refl)
-
 -- a frame that no open window of the name has adds no copy to it
 other_frame : (net : Network) (h : List Entry) (frame : List ℕ) (heard : Heard) (w : WindowName) → AllByRecursion (λ o. same_window o.window w ≡ true → bytes_eq o.frame frame ≡ false) (open_windows h)
     → Elsewhere w frame heard (reply_to net h (call.Uplink frame heard))
-other_frame net h frame heard w apart =
-    let Apart : Opening → Type 0 = λ o. same_window o.window w ≡ true → bytes_eq o.frame frame ≡ false in
-    let P : Reply → Type 0 = Elsewhere w frame heard in
-    case-has P (
-    option_map (λ (o : Opening). copy_reply h o.window) (window_with h frame)
-    ∷ option_map (λ (f : Fit). open_reply h (window_of f)) (first_fit above net h frame)
-    ∷ option_map (old_reply h frame) (first_fit below net h frame) ∷ []
-    ) reply.NoSession (
-      map-has P (λ (o : Opening). Apart o × (bytes_eq o.frame frame ≡ true)) (λ (o : Opening). copy_reply h o.window) (window_with h frame)
-          (find-has Apart (λ (o : Opening). bytes_eq o.frame frame) (open_windows h) apart)
-          (λ o both. copied-elsewhere w frame heard h o.window (differs o both)),
-      (
-        map-has P (λ _. Unit {0}) (λ (f : Fit). open_reply h (window_of f)) (first_fit above net h frame) (some-any (first_fit above net h frame)) (λ f _. opened-elsewhere w frame heard h (window_of f)),
-        (map-has P (λ _. Unit {0}) (old_reply h frame) (first_fit below net h frame) (some-any (first_fit below net h frame)) (λ f _. old-has P h frame f (inr tt) (inr tt) (λ round is room. inl (in_round f round, refl, refl))), tt),
-      ),
-    ) (inr tt)
+other_frame net h frame heard w apart = uplink-has (Elsewhere w frame heard) net h frame (record {
+  copied = λ o is room. inr (differs o (at_some (λ (x : Opening). Apart x × (bytes_eq x.frame frame ≡ true)) (window_with h frame) o is (find-has Apart (λ (x : Opening). bytes_eq x.frame frame) (open_windows h) apart)));
+  crowded = λ o is full. inr tt;
+  opened = λ f none is room. inl (window_of f, refl, refl);
+  again = λ f round none is confirmed next room. inl (in_round f round, refl, refl);
+  busy = λ recover f is. inr tt;
+  old = λ f is. inr tt;
+  none = inr tt;
+})
   where
-    some-any : {X : Type 0} (o : Option X) → IfSome o (λ _. Unit {0})
-    some-any None = tt
-    some-any (Some x) = tt
+    Apart : Opening → Type 0
+    Apart o = same_window o.window w ≡ true → bytes_eq o.frame frame ≡ false
 
-    differs : (o : Opening) → (same_window o.window w ≡ true → bytes_eq o.frame frame ≡ false) × (bytes_eq o.frame frame ≡ true) → same_window o.window w ≡ false
+    differs : (o : Opening) → Apart o × (bytes_eq o.frame frame ≡ true) → same_window o.window w ≡ false
     differs o both = elim (bool_tells (same_window o.window w)) [
       | inl same ↦ absurd (false≢true (sym (both.0 same) ∙ both.1))
       | inr other ↦ other
@@ -220,20 +197,22 @@ same_frame net o g since inv frame heard same =
     let c : Call = call.Uplink frame heard in
     let is : o.frame ≡ frame = (bytes_eq-Decides o.frame frame).0 same in
     let found : window_with g frame ≡ Some o = subst (λ bytes. window_with g bytes ≡ Some o) is inv.found in
-    let copied : reply_to net g c ≡ copy_reply g o.window = ap (λ (p : Option Opening). uplink_reply_by g frame p (first_fit above net g frame) (first_fit below net g frame)) found in
+    let copied : reply_to net g c ≡ copy_reply o.window (length (window_copies g o.window)) = ap (λ (p : Option Opening). uplink_rule (facts_by g frame p (first_fit above net g frame) (first_fit below net g frame))) found in
     let heard_it : hearing_in o.frame c ≡ Some heard = ap (λ b. when b heard) same in
     ap (λ r. window_copies g o.window ++ added o.window c r) copied
-    ∙ (step (nat_le (length (window_copies g o.window) + 1) most_copies) refl
+    ∙ (step (nat_lt (length (window_copies g o.window)) most_copies) refl
     ∙ ap (λ (p : Option Heard). take most_copies (hearings o.frame since ++ option_to_list p)) (sym heard_it))
   where
-    step : (b : Bool) → nat_le (length (window_copies g o.window) + 1) most_copies ≡ b →
+    step : (b : Bool) → nat_lt (length (window_copies g o.window)) most_copies ≡ b →
         window_copies g o.window ++ added o.window (call.Uplink frame heard) (cond b (reply.Copied o.window (length (window_copies g o.window) + 1)) (reply.Crowded o.window)) ≡ take most_copies (hearings o.frame since ++ heard ∷ [])
     step true fits =
-        let room : length (window_copies g o.window) + 1 ≤ most_copies = grind (arith, nat_tests, fits) in
+        let less : length (window_copies g o.window) < most_copies = grind (arith, nat_tests, fits) in
+        let room : length (window_copies g o.window) + 1 ≤ most_copies = omega (arith, less) in
         ap (λ b. window_copies g o.window ++ map (λ (x : WindowName × Heard). x.1) (cond {A = List (WindowName × Heard)} b ((o.window, heard) ∷ []) [])) (same_window-refl o.window)
         ∙ take-room most_copies (hearings o.frame since) (window_copies g o.window) heard inv.copies room
     step false full =
-        let more : most_copies < length (window_copies g o.window) + 1 = grind (arith, nat_tests, full) in
+        let least : most_copies ≤ length (window_copies g o.window) = grind (arith, nat_tests, full) in
+        let more : most_copies < length (window_copies g o.window) + 1 = omega (arith, least) in
         append-nil (window_copies g o.window) ∙ take-full most_copies (hearings o.frame since) (window_copies g o.window) heard inv.copies more
 
 another_frame : (net : Network) (o : Opening) (g since : List Entry) → IsLegal net g → Inv o g since → (frame : List ℕ) (heard : Heard) → bytes_eq o.frame frame ≡ false →

@@ -1,5 +1,5 @@
 -- A window that is opened is new.
-use Rattle.std.proofs.Common.{◌≡◌, ◌⊎◌, ℕ, ◌+◌, ◌≤◌, ◌==◌, Bool, true, false, ◌||◌, cond, List, [], ◌∷◌, ◌++◌, filter, map, find, count_by, length, nat_le, Option, None, Some, IfSome, option_map, option_to_list, refl, sym, ap, subst, ◌∙◌, arith, inl, inr}
+use Rattle.std.proofs.Common.{◌≡◌, ◌⊎◌, ℕ, ◌+◌, ◌≤◌, ◌==◌, Bool, true, false, ◌||◌, cond, List, [], ◌∷◌, ◌++◌, filter, map, find, count_by, Option, None, Some, IfSome, option_map, option_to_list, refl, sym, ap, subst, ◌∙◌, arith, inl, inr}
 use Rattle.std.specs.Prelude.{is_some}
 use Rattle.std.specs.List.{AllByRecursion, list_any}
 use Rattle.std.specs.Option.{option_and_then}
@@ -10,7 +10,6 @@ use Rattle.ns_types.specs.declared.identity.WindowName.{WindowName}
 use Rattle.ns_types.specs.declared.heard.Heard.{Heard}
 use Rattle.ns_types.specs.Identity.{same_window}
 use Rattle.ns_views.specs.Frame.{data_fields}
-use Rattle.ns_secure.specs.Counter.{above, below}
 use Rattle.ns_roster.specs.declared.Device.{Device}
 use Rattle.ns_roster.specs.Network.{Network}
 use Rattle.ns_calls.specs.declared.call.JoinAns.{JoinAns}
@@ -19,15 +18,15 @@ use Rattle.ns_calls.specs.declared.call.Call.TheVariants as call
 use Rattle.ns_calls.specs.declared.call.Reply.{Reply}
 use Rattle.ns_calls.specs.declared.call.Reply.TheVariants as reply
 use Rattle.ns_calls.specs.declared.call.Entry.{Entry}
-use Rattle.ns_calls.specs.History.{Opening, opening_in, window_in, window_copy_in, last_round, live, is_live, session_join, greatest_counter, open_windows, open_window, window_copies, window_count}
-use Rattle.ns_calls.specs.Reply.{Fit, fit_of, window_of, fitting_counter, session_fit, device_fit, devices_at, first_fit, window_with, in_round, most_copies, most_windows, reply_to}
+use Rattle.ns_calls.specs.History.{Opening, opening_in, window_in, window_copy_in, last_round, live, is_live, session_join, greatest_counter, open_windows, open_window, window_copies}
+use Rattle.ns_calls.specs.Reply.{Fit, fit_of, window_of, fitting_counter, session_fit, device_fit, devices_at, first_fit, window_with, in_round, reply_to, reply_to_uplink}
 use Rattle.ns_calls.specs.Legal.{IsLegal, entry_for, with_call}
 use Rattle.ns_calls.specs.Headline.{opening_count, open_count, WindowsOpenOnce, IsNewWindow, IsNextRound}
 use Rattle.ns_calls.proofs.LocalLemmas.{bool_tells}
 use Rattle.ns_calls.proofs.Lists.{All-weaker, first-gives, first-gives_of, count-cons, count-found, IfSome-weaker, at_some}
 use Rattle.ns_calls.proofs.PushLemmas.{window_copies-push}
 use Rattle.ns_calls.proofs.Induction.{legal_induction}
-use Rattle.ns_calls.proofs.UplinkLemmas.{IsNewOpening, IsNextOpening, IsOpened, uplink_reply_by, old-has, opening_of, opening-new, window-new, opened-cases}
+use Rattle.ns_calls.proofs.UplinkLemmas.{IsNewOpening, IsNextOpening, IsOpened, uplink-has, opening_of, opening-new, window-new, FitsAt, window-fits}
 use Rattle.ns_calls.proofs.RoundLemmas.{windows-fresh, session-has_round}
 use Rattle.ns_calls.proofs.ShardLemmas.{device_fit-names}
 use Rattle.ns_calls.proofs.WindowLemmas.{openings-added, windows_open_once}
@@ -56,19 +55,16 @@ AddsTo frame heard copied r =
     ⊎ (((o : Opening) × (copied ≡ Some o) × (window_copy_in (call.Uplink frame heard) r ≡ Some (o.window, heard)))
     ⊎ ((w : WindowName) × (window_in (call.Uplink frame heard) r ≡ Some (opening_of w frame heard)) × (window_copy_in (call.Uplink frame heard) r ≡ Some (w, heard))))
 
-copied-cases : (h : List Entry) (frame : List ℕ) (heard : Heard) (copied : Option Opening) (fresh stale : Option Fit) → AddsTo frame heard copied (uplink_reply_by h frame copied fresh stale)
-copied-cases h frame heard (Some o) fresh stale = step (nat_le (length (window_copies h o.window) + 1) most_copies)
-  where
-    step : (b : Bool) → AddsTo frame heard (Some o) (cond b (reply.Copied o.window (length (window_copies h o.window) + 1)) (reply.Crowded o.window))
-    step true = inr (inl (o, refl, refl))
-    step false = inl refl
-copied-cases h frame heard None (Some f) stale = step (nat_le most_windows (window_count h f.eui))
-  where
-    step : (b : Bool) → AddsTo frame heard None (cond b (reply.Busy f.eui) (reply.Opened (window_of f)))
-    step true = inl refl
-    step false = inr (inr (window_of f, refl, refl))
-copied-cases h frame heard None None (Some f) = old-has (AddsTo frame heard None) h frame f (inl refl) (inl refl) (λ round is room. inr (inr (in_round f round, refl, refl)))
-copied-cases h frame heard None None None = inl refl
+copied-cases : (net : Network) (h : List Entry) (frame : List ℕ) (heard : Heard) → AddsTo frame heard (window_with h frame) (reply_to_uplink net h frame)
+copied-cases net h frame heard = uplink-has (AddsTo frame heard (window_with h frame)) net h frame (record {
+  copied = λ o is room. inr (inl (o, is, refl));
+  crowded = λ o is full. inl refl;
+  opened = λ f none is room. inr (inr (window_of f, refl, refl));
+  again = λ f round none is confirmed next room. inr (inr (in_round f round, refl, refl));
+  busy = λ recover f is. inl refl;
+  old = λ f is. inl refl;
+  none = inl refl;
+})
 
 NoCopiesBefore : List Entry → Type 0
 NoCopiesBefore h = (w : WindowName) → opening_count h w ≡ 0 → window_copies h w ≡ []
@@ -93,7 +89,7 @@ nothing_added net h once (call.Close v) w none new = refl
 nothing_added net h once (call.Uplink frame heard) w none new =
     let c : Call = call.Uplink frame heard in
     let r : Reply = reply_to net h c in
-    elim (copied-cases h frame heard (window_with h frame) (first_fit above net h frame) (first_fit below net h frame)) [
+    elim (copied-cases net h frame heard) [
       | inl nothing ↦ added-none c r w nothing
       | inr added ↦
           elim added [
@@ -201,15 +197,14 @@ none_found h w once none = step (open_window h w) refl
         absurd (omega (arith, least, sum, none))
 
 -- the device and the session of a window that is opened where a frame fits
-known_at : (net : Network) (h : List Entry) (frame : List ℕ) (fit : Option Fit) (f : Fit) → fit ≡ Some f → (w : WindowName) → f.eui ≡ w.eui
-    → IfSome fit (λ f. list_any (λ d. d.eui.0 == f.eui.0) (devices_at net (data_fields frame).addr) ≡ true) → list_any (λ d. d.eui.0 == w.eui.0) (devices_at net (data_fields frame).addr) ≡ true
-known_at net h frame fit f is w eui known =
-    subst (λ (x : DevEui). list_any (λ d. d.eui.0 == x.0) (devices_at net (data_fields frame).addr) ≡ true) eui
-    (at_some (λ (x : Fit). list_any (λ d. d.eui.0 == x.eui.0) (devices_at net (data_fields frame).addr) ≡ true) fit f is known)
+known_at : (net : Network) (h : List Entry) (frame : List ℕ) (w : WindowName) → FitsAt net h frame w → list_any (λ d. d.eui.0 == w.eui.0) (devices_at net (data_fields frame).addr) ≡ true
+known_at net h frame w at =
+    subst (λ (x : DevEui). list_any (λ d. d.eui.0 == x.0) (devices_at net (data_fields frame).addr) ≡ true) at.eui
+    (at_some (λ (x : Fit). list_any (λ d. d.eui.0 == x.eui.0) (devices_at net (data_fields frame).addr) ≡ true) (first_fit at.recover net h frame) at.fit at.is (first_fit-device at.recover net h frame))
 
-lives_at : (h : List Entry) (fit : Option Fit) (f : Fit) → fit ≡ Some f → (w : WindowName) → f.eui ≡ w.eui → f.session ≡ w.session → IfSome fit (Lives h) → is_live h w.eui w.session ≡ true
-lives_at h fit f is w eui session lives =
-    subst (λ s. is_live h w.eui s ≡ true) session (subst (λ (x : DevEui). is_live h x f.session ≡ true) eui (at_some (Lives h) fit f is lives))
+lives_at : (net : Network) (h : List Entry) (frame : List ℕ) (w : WindowName) → FitsAt net h frame w → is_live h w.eui w.session ≡ true
+lives_at net h frame w at =
+    subst (λ s. is_live h w.eui s ≡ true) at.session (subst (λ (x : DevEui). is_live h x at.fit.session ≡ true) at.eui (at_some (Lives h) (first_fit at.recover net h frame) at.fit at.is (first_fit-live at.recover net h frame)))
 
 -- what is opened was never opened
 never : (net : Network) (h : List Entry) → IsLegal net h → (frame : List ℕ) (heard : Heard) (w : WindowName) → window_in (call.Uplink frame heard) (reply_to net h (call.Uplink frame heard)) ≡ Some (opening_of w frame heard) → opening_count h w ≡ 0
@@ -239,48 +234,19 @@ pub opened-new : (net : Network) (h : List Entry) → IsLegal net h → (frame :
 opened-new net h legal frame heard w is =
     let c : Call = call.Uplink frame heard in
     let o : Opening = opening_of w frame heard in
-    let says : opening_in c (reply_to net h c) ≡ Some o = ap (opening_in c) is in
-    let new : IsNewOpening h o = at_some (IsNewOpening h) (opening_in c (reply_to net h c)) o says (opening-new net h c) in
+    let new : IsNewOpening h o = at_some (IsNewOpening h) (opening_in c (reply_to net h c)) o (ap (opening_in c) is) (opening-new net h c) in
+    let fits = window-fits net h frame heard w (ap (window_in c) is) in
     let apart = windows-apart net h legal frame heard w (ap (window_in c) is) in
-    elim (opened-cases h frame heard (window_with h frame) (first_fit above net h frame) (first_fit below net h frame)) [
-      | inl nothing ↦ absurd (cc (nothing, says))
-      | inr found ↦
-          (let same : opening_of (window_of found.0) frame heard ≡ o = same_Some _ o (sym found.3 ∙ says) in
-          let window : window_of found.0 ≡ w = ap (λ (x : Opening). x.window) same in
-          let eui : found.0.eui ≡ w.eui = ap (λ (v : WindowName). v.eui) window in
-          let session : found.0.session ≡ w.session = ap (λ (v : WindowName). v.session) window in
-          record {
-            device = known_at net h frame (first_fit above net h frame) found.0 found.2 w eui (first_fit-device above net h frame);
-            mic = new.fresh.mic;
-            session = lives_at h (first_fit above net h frame) found.0 found.2 w eui session (first_fit-live above net h frame);
-            counter = new.fresh.counter;
-            round = new.first;
-            name = apart.name;
-            copies = apart.copies;
-            frame_apart = apart.frame_apart;
-          })
-    ]
-
--- where a window is opened again, the frame fits at or below the greatest counter
-pub again-fits : (h : List Entry) (frame : List ℕ) (heard : Heard) (copied : Option Opening) (fresh stale : Option Fit) (w : WindowName) → uplink_reply_by h frame copied fresh stale ≡ reply.Again w →
-    (f : Fit) × (stale ≡ Some f) × (round : ℕ) × (in_round f round ≡ w)
-again-fits h frame heard (Some o) fresh stale w is = step (nat_le (length (window_copies h o.window) + 1) most_copies) is
-  where
-    step : (b : Bool) → cond b (reply.Copied o.window (length (window_copies h o.window) + 1)) (reply.Crowded o.window) ≡ reply.Again w → (f : Fit) × (stale ≡ Some f) × (round : ℕ) × (in_round f round ≡ w)
-    step true same = absurd (cc same)
-    step false same = absurd (cc same)
-again-fits h frame heard None (Some g) stale w is = step (nat_le most_windows (window_count h g.eui)) is
-  where
-    step : (b : Bool) → cond b (reply.Busy g.eui) (reply.Opened (window_of g)) ≡ reply.Again w → (f : Fit) × (stale ≡ Some f) × (round : ℕ) × (in_round f round ≡ w)
-    step true same = absurd (cc same)
-    step false same = absurd (cc same)
-again-fits h frame heard None None (Some g) w is =
-    old-has (λ r. r ≡ reply.Again w → (f : Fit) × (Some g ≡ Some f) × (round : ℕ) × (in_round f round ≡ w)) h frame g (λ same. absurd (cc same)) (λ same. absurd (cc same))
-    (λ round found room same. (g, refl, round, named round same)) is
-  where
-    named : (round : ℕ) → reply.Again (in_round g round) ≡ reply.Again w → in_round g round ≡ w
-    named round same = ap (λ (o : Opening). o.window) (same_Some (opening_of (in_round g round) frame heard) (opening_of w frame heard) (ap (window_in (call.Uplink frame heard)) same))
-again-fits h frame heard None None None w is = absurd (cc is)
+    record {
+      device = known_at net h frame w fits;
+      mic = new.fresh.mic;
+      session = lives_at net h frame w fits;
+      counter = new.fresh.counter;
+      round = new.first;
+      name = apart.name;
+      copies = apart.copies;
+      frame_apart = apart.frame_apart;
+    }
 
 next-opening : (h : List Entry) (c : Call) (r : Reply) (o : Opening) → opening_in c r ≡ None → IsOpened h c r o → IsNextOpening h o
 next-opening h c r o none (inl first) = absurd (cc (none, first.0))
@@ -293,17 +259,14 @@ again-next net h legal frame heard w is =
     let says : window_in c (reply_to net h c) ≡ Some o = ap (window_in c) is in
     let opens = at_some (IsOpened h c (reply_to net h c)) (window_in c (reply_to net h c)) o says (window-new net h c) in
     let next = next-opening h c (reply_to net h c) o (ap (opening_in c) is) opens in
-    let found = again-fits h frame heard (window_with h frame) (first_fit above net h frame) (first_fit below net h frame) w is in
-    let window : in_round found.0 found.2 ≡ w = found.3 in
-    let eui : found.0.eui ≡ w.eui = ap (λ (v : WindowName). v.eui) window in
-    let session : found.0.session ≡ w.session = ap (λ (v : WindowName). v.session) window in
+    let fits = window-fits net h frame heard w says in
     let least : 1 ≤ last_round h w = session-has_round net h legal w next.counter in
     let round : w.round ≡ last_round h w + 1 = next.next in
     record {
-      device = known_at net h frame (first_fit below net h frame) found.0 found.1 w eui (first_fit-device below net h frame);
+      device = known_at net h frame w fits;
       confirmed = next.confirmed;
       mic = next.mic;
-      session = lives_at h (first_fit below net h frame) found.0 found.1 w eui session (first_fit-live below net h frame);
+      session = lives_at net h frame w fits;
       counter = next.counter;
       closed = next.closed;
       round = round;

@@ -10,7 +10,6 @@ use Rattle.ns_types.specs.declared.ticket.Ticket.{Ticket}
 use Rattle.ns_types.specs.Cases.{first_case, when}
 use Rattle.ns_types.specs.Identity.{same_window}
 use Rattle.ns_types.specs.Ticket.{dev_eui, join_eui}
-use Rattle.ns_secure.specs.Counter.{above, below}
 use Rattle.ns_roster.specs.Network.{Network, is_known}
 use Rattle.ns_calls.specs.declared.call.Call.{Call}
 use Rattle.ns_calls.specs.declared.call.Call.TheVariants as call
@@ -18,7 +17,7 @@ use Rattle.ns_calls.specs.declared.call.Reply.{Reply}
 use Rattle.ns_calls.specs.declared.call.Reply.TheVariants as reply
 use Rattle.ns_calls.specs.declared.call.Entry.{Entry}
 use Rattle.ns_calls.specs.History.{Opening, window_in, asking_in, window_copy_in, ticket_copy_in, same_device, same_ticket, is_ticket, closes, ends_ticket, asks_for, open_windows, open_tickets, window_count, window_copies, is_ticket_open, ticket_count, copies_of_ticket, ticket_copies}
-use Rattle.ns_calls.specs.Reply.{most_copies, most_windows, most_tickets, window_with, Fit, window_of, first_fit, copy_reply, open_reply, old_reply, nonce_at_or_above, join_copy_reply, reply_to}
+use Rattle.ns_calls.specs.Reply.{most_copies, most_windows, most_tickets, nonce_at_or_above, join_copy_reply, reply_to}
 use Rattle.ns_calls.specs.Legal.{IsLegal, entry_for, with_call}
 use Rattle.ns_calls.specs.Headline.{LimitsHold}
 use Rattle.ns_calls.proofs.LocalLemmas.{bool_tells}
@@ -27,9 +26,8 @@ use Rattle.ns_calls.proofs.PushLemmas.{open_windows-push, window_copies-push, op
 use Rattle.ns_calls.proofs.Induction.{legal_induction}
 use Rattle.ns_calls.proofs.JoinLemmas.{same_device-eq}
 use Rattle.ns_calls.proofs.TicketLemmas.{same_ticket-eq}
-use Rattle.ns_calls.proofs.PartLemmas.{case-has}
 use Rattle.ns_calls.proofs.NameLemmas.{same_window-eq}
-use Rattle.ns_calls.proofs.UplinkLemmas.{old-has}
+use Rattle.ns_calls.proofs.UplinkLemmas.{uplink-has}
 use Rattle.ns_calls.proofs.FreshLemmas.{opened-new, again-next}
 
 -- what holds of a reply to an uplink: where it opens a window there is room, and where it adds a copy there is room for that
@@ -40,38 +38,16 @@ HasRoom net h (reply.Copied w place) = length (window_copies h w) < most_copies
 HasRoom net h (reply.Ask t) = ticket_count h (dev_eui t) < most_tickets
 HasRoom net h _ = Unit {0}
 
-map-all : {X : Type 0} (P : Reply → Type 0) (f : X → Reply) (o : Option X) → ((x : X) → P (f x)) → IfSome (option_map f o) P
-map-all P f None each = tt
-map-all P f (Some x) each = each x
-
-copy-room : (net : Network) (h : List Entry) (w : WindowName) → HasRoom net h (copy_reply h w)
-copy-room net h w = step (nat_le (length (window_copies h w) + 1) most_copies) refl
-  where
-    step : (b : Bool) → nat_le (length (window_copies h w) + 1) most_copies ≡ b → HasRoom net h (cond b (reply.Copied w (length (window_copies h w) + 1)) (reply.Crowded w))
-    step true is = (let fits : length (window_copies h w) + 1 ≤ 16 = grind (arith, nat_tests, is) in omega (arith, fits))
-    step false is = tt
-
-open-room : (net : Network) (h : List Entry) (w : WindowName) → HasRoom net h (open_reply h w)
-open-room net h w = step (nat_le most_windows (window_count h w.eui)) refl
-  where
-    step : (b : Bool) → nat_le most_windows (window_count h w.eui) ≡ b → HasRoom net h (cond b (reply.Busy w.eui) (reply.Opened w))
-    step true is = tt
-    step false is = grind (arith, nat_tests, is)
-
 uplink-room : (net : Network) (h : List Entry) (frame : List ℕ) (heard : Heard) → HasRoom net h (reply_to net h (call.Uplink frame heard))
-uplink-room net h frame heard =
-    let P : Reply → Type 0 = HasRoom net h in
-    let cases : List (Option Reply) =
-    option_map (λ (o : Opening). copy_reply h o.window) (window_with h frame)
-    ∷ option_map (λ (f : Fit). open_reply h (window_of f)) (first_fit above net h frame)
-    ∷ option_map (old_reply h frame) (first_fit below net h frame) ∷ [] in
-    case-has P cases reply.NoSession (
-      map-all P (λ (o : Opening). copy_reply h o.window) (window_with h frame) (λ o. copy-room net h o.window),
-      (
-        map-all P (λ (f : Fit). open_reply h (window_of f)) (first_fit above net h frame) (λ f. open-room net h (window_of f)),
-        (map-all P (old_reply h frame) (first_fit below net h frame) (λ f. old-has P h frame f tt tt (λ round is room. grind (arith, nat_tests, room))), tt),
-      ),
-    ) tt
+uplink-room net h frame heard = uplink-has (HasRoom net h) net h frame (record {
+  copied = λ o is room. room;
+  crowded = λ o is full. tt;
+  opened = λ f none is room. room;
+  again = λ f round none is confirmed next room. room;
+  busy = λ recover f is. tt;
+  old = λ f is. tt;
+  none = tt;
+})
 
 -- ---- windows
 

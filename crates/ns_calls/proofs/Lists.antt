@@ -1,5 +1,5 @@
 -- Lists: what holds of each element, greatest numbers, rising numbers, and what is found.
-use Rattle.std.proofs.Common.{◌≡◌, ◌⊎◌, ℕ, ◌+◌, ◌<◌, ◌≤◌, Bool, true, false, cond, List, [], ◌∷◌, ◌++◌, filter, filter_map, map, find, count_by, zero-add, Option, None, Some, option_to_list, IfSome, refl, sym, ap, subst, ◌∙◌, arith, inl, inr}
+use Rattle.std.proofs.Common.{◌≡◌, ◌⊎◌, ℕ, ◌+◌, ◌<◌, ◌≤◌, Bool, true, false, cond, List, [], ◌∷◌, ◌++◌, filter, filter_map, map, find, count_by, zero-add, Option, None, Some, option_map, option_to_list, IfSome, refl, sym, ap, subst, ◌∙◌, arith, inl, inr}
 use Rattle.std.specs.List.{AllByRecursion, cons_option}
 use Rattle.std.specs.Option.{option_or, is_some}
 use Rattle.std.proofs.lemmas.List.{append-nil}
@@ -240,3 +240,11 @@ IfSome-weaker P Q (Some x) weaker holds = weaker x holds
 -- what holds of the value, if there is one, holds of the one that is there
 pub at_some : {X : Type 0} (P : X → Type 0) (o : Option X) (x : X) → o ≡ Some x → IfSome o P → P x
 at_some P o x is holds = subst (λ p. IfSome p P) is holds
+
+-- what a fact of two histories rests on: the same is found, and of what is found the same is said
+pub option_map-same : {X Y : Type 0} (f g : X → Y) (o p : Option X) → o ≡ p → IfSome p (λ x. f x ≡ g x) → option_map f o ≡ option_map g p
+option_map-same {X} f g o p is same = ap (option_map f) is ∙ step p same
+  where
+    step : (q : Option X) → IfSome q (λ x. f x ≡ g x) → option_map f q ≡ option_map g q
+    step None holds = refl
+    step (Some x) holds = ap Some holds

@@ -13,7 +13,6 @@ use Rattle.ns_types.specs.Identity.{same_window, is_first}
 use Rattle.ns_types.specs.Ticket.{dev_eui, join_eui}
 use Rattle.ns_types.specs.Heard.{best, rx1}
 use Rattle.ns_views.specs.Frame.{data_fields}
-use Rattle.ns_secure.specs.Counter.{above, below}
 use Rattle.ns_roster.specs.Network.{Network, is_known, ack_delay}
 use Rattle.ns_calls.specs.declared.call.JoinAns.{JoinAns}
 use Rattle.ns_calls.specs.declared.call.Outcome.{Outcome}
@@ -25,8 +24,8 @@ use Rattle.ns_calls.specs.declared.call.Reply.TheVariants as reply
 use Rattle.ns_calls.specs.declared.call.Entry.{Entry}
 use Rattle.ns_calls.specs.Accept.{accept_bytes}
 use Rattle.ns_calls.specs.Queries.{from_last}
-use Rattle.ns_calls.specs.History.{Opening, window_in, asking_in, window_copy_in, ticket_copy_in, closes, is_ticket, asks_for, ends_ticket, same_ticket, open_windows, open_window, window_copies, is_ticket_open, ticket_count, ticket_copies, copies_of_ticket, session_join, next_session, window_count}
-use Rattle.ns_calls.specs.Reply.{reply_to, window_with, Fit, window_of, first_fit, copy_reply, open_reply, old_reply, most_copies, most_windows, most_tickets, nonce_at_or_above, join_copy_reply, is_failed, address, ack_number}
+use Rattle.ns_calls.specs.History.{Opening, window_in, asking_in, window_copy_in, ticket_copy_in, closes, is_ticket, asks_for, ends_ticket, same_ticket, open_windows, open_window, window_copies, is_ticket_open, ticket_count, ticket_copies, copies_of_ticket, session_join, next_session}
+use Rattle.ns_calls.specs.Reply.{reply_to, reply_to_uplink, most_copies, most_tickets, nonce_at_or_above, join_copy_reply, is_failed, address, ack_number}
 use Rattle.ns_calls.specs.Out.{uplink_of, first_uplink_of, uplink_out, downlink_out, downlink_to, ack_frame, ack_downlink, join_accept_delay}
 use Rattle.ns_calls.specs.Legal.{IsLegal, entry_for, with_call}
 use Rattle.ns_calls.specs.Headline.{WindowsHaveCopies, hands_out_uplink, hands_out_downlink, GoesOut}
@@ -36,7 +35,7 @@ use Rattle.ns_calls.proofs.PushLemmas.{open_windows-push, window_copies-push}
 use Rattle.ns_calls.proofs.TicketLemmas.{is_ticket_open-cons}
 use Rattle.ns_calls.proofs.Induction.{legal_induction}
 use Rattle.ns_calls.proofs.JoinLemmas.{join_reply_by}
-use Rattle.ns_calls.proofs.UplinkLemmas.{uplink_reply_by, old-has}
+use Rattle.ns_calls.proofs.UplinkLemmas.{uplink-has}
 use Rattle.ns_calls.proofs.NameLemmas.{same_window-refl, same_window-eq}
 use Rattle.ns_calls.proofs.KeyLemmas.{sessions_have_joins}
 
@@ -167,17 +166,17 @@ quiet_when : (b : Bool) (r : Reply) → IsQuiet r → IfSome (when b r) IsQuiet
 quiet_when true r quiet = quiet
 quiet_when false r quiet = tt
 
-uplink-quiet : (h : List Entry) (frame : List ℕ) (copied : Option Opening) (fresh stale : Option Fit) → IsQuiet (uplink_reply_by h frame copied fresh stale)
+uplink-quiet : (net : Network) (h : List Entry) (frame : List ℕ) → IsQuiet (reply_to_uplink net h frame)
 unfolding IsQuiet
-uplink-quiet h frame copied fresh stale =
-    let cases : List (Option Reply) = option_map (λ (o : Opening). copy_reply h o.window) copied ∷ option_map (λ (f : Fit). open_reply h (window_of f)) fresh ∷ option_map (old_reply h frame) stale ∷ [] in
-    quiet_first cases reply.NoSession (
-      quiet_map (λ (o : Opening). copy_reply h o.window) copied (λ o. quiet_cond (nat_le (length (window_copies h o.window) + 1) most_copies) (reply.Copied o.window (length (window_copies h o.window) + 1)) (reply.Crowded o.window) (refl, refl) (refl, refl)),
-      (
-        quiet_map (λ (f : Fit). open_reply h (window_of f)) fresh (λ f. quiet_cond (nat_le most_windows (window_count h f.eui)) (reply.Busy f.eui) (reply.Opened (window_of f)) (refl, refl) (refl, refl)),
-        (quiet_map (old_reply h frame) stale (λ f. old-has IsQuiet h frame f (refl, refl) (refl, refl) (λ round is room. (refl, refl))), tt),
-      ),
-    ) (refl, refl)
+uplink-quiet net h frame = uplink-has IsQuiet net h frame (record {
+  copied = λ o is room. (refl, refl);
+  crowded = λ o is full. (refl, refl);
+  opened = λ f none is room. (refl, refl);
+  again = λ f round none is confirmed next room. (refl, refl);
+  busy = λ recover f is. (refl, refl);
+  old = λ f is. (refl, refl);
+  none = (refl, refl);
+})
 
 join-quiet : (net : Network) (h : List Entry) (t : Ticket) (heard : Heard) → IsQuiet (reply_to net h (call.Join t heard))
 unfolding IsQuiet
@@ -247,7 +246,7 @@ All-both P Q (x ∷ xs) all other = ((all.0, other.0), All-both P Q xs all.1 oth
 pub goes_out : (net : Network) (h : List Entry) (c : Call) → IsLegal net h → GoesOut net h c
 unfolding IsQuiet
 goes_out net h (call.Uplink frame heard) legal =
-    let quiet = uplink-quiet h frame (window_with h frame) (first_fit above net h frame) (first_fit below net h frame) in
+    let quiet = uplink-quiet net h frame in
     record { uplink = sym quiet.0; downlink = sym quiet.1 }
 goes_out net h (call.Join t heard) legal =
     let quiet = join-quiet net h t heard in

@@ -26,15 +26,15 @@ use Rattle.ns_calls.specs.declared.call.Entry.{Entry}
 use Rattle.ns_calls.specs.declared.answer.Uplink.{Uplink}
 use Rattle.ns_calls.specs.declared.answer.Downlink.{Downlink}
 use Rattle.ns_calls.specs.Queries.{last, maximum}
-use Rattle.ns_calls.specs.History.{Acceptance, Opening, Closing, acceptances, openings, closings, first_and_other, session_join, next_session, greatest_counter, last_round, is_uplink_open, open_windows, open_window, window_count, window_copies, ticket_copies, is_ticket_open, ticket_count}
-use Rattle.ns_calls.specs.Reply.{Fit, window_of, first_fit, window_with, copy_reply, open_reply, is_greatest, in_round, old_reply, most_copies, most_windows, most_tickets, reply_to, reply_to_uplink, nonce_at_or_above, join_copy_reply, is_failed, address, ack_number}
+use Rattle.ns_calls.specs.History.{Acceptance, Opening, Closing, acceptances, openings, closings, first_and_other, session_join, next_session, greatest_counter, open_windows, open_window, window_copies, ticket_copies, is_ticket_open, ticket_count}
+use Rattle.ns_calls.specs.Reply.{Fit, window_of, first_fit, window_with, is_greatest, round_of, most_copies, most_tickets, reply_to, reply_to_uplink, nonce_at_or_above, join_copy_reply, is_failed, address, ack_number}
 use Rattle.ns_calls.specs.Out.{payload_key, uplink_under, uplink_of, first_uplink_of, uplink_out, downlink_out, ack_at, ack_downlink, accept_at, out}
 use Rattle.ns_calls.specs.Legal.{IsLegal, entry_for}
 use Rattle.ns_calls.specs.Shards.{shard_of_call, of_shard, NamesOwnDevice}
-use Rattle.ns_calls.proofs.Lists.{All-push, find-has, IfSome-weaker}
+use Rattle.ns_calls.proofs.Lists.{All-push, find-has, IfSome-weaker, at_some}
 use Rattle.ns_calls.proofs.Induction.{legal_induction}
 use Rattle.ns_calls.proofs.LocalJoin.{acceptances-own, ticket_copies-own, reply_to_join-own, reply_to_join_reply-own}
-use Rattle.ns_calls.proofs.UplinkLemmas.{uplink_reply_by, old-has}
+use Rattle.ns_calls.proofs.UplinkLemmas.{uplink-has, SaysSame, uplink-same}
 use Rattle.ns_calls.proofs.JoinLemmas.{join_reply_by}
 use Rattle.ns_calls.proofs.NameLemmas.{same_window-eq}
 use Rattle.ns_calls.proofs.ShardLemmas.{Housed, AllHoused, IsOfItsFrame, InShard, shard_of_frame, openings-own, closings-own, window_copies-own, window_count-own, last_round-own, is_uplink_open-own, open_window-own, open_windows-framed, window_with-own, first_fit-own, first_fit-names}
@@ -79,22 +79,18 @@ window_with-names h housed frame =
 names-uplink : (net : Network) → AllByRecursion (InShard net) net.devices → (h : List Entry) → AllHoused h → (frame : List ℕ) (heard : Heard) → NamesOwnDevice (call.Uplink frame heard) (reply_to net h (call.Uplink frame heard))
 names-uplink net own h housed frame heard =
     let c : Call = call.Uplink frame heard in
-    let P : Reply → Type 0 = NamesOwnDevice c in
-    let Mine : WindowName → Type 0 = λ w. shard_of w.eui ≡ shard_of_frame frame in
-    let Fits : Fit → Type 0 = λ f. shard_of f.eui ≡ shard_of_frame frame in
-    let cases : List (Option Reply) =
-    option_map (λ (o : Opening). copy_reply h o.window) (window_with h frame)
-    ∷ option_map (λ (f : Fit). open_reply h (window_of f)) (first_fit above net h frame)
-    ∷ option_map (old_reply h frame) (first_fit below net h frame) ∷ [] in
-    case-has P cases reply.NoSession (
-      map-has P (λ (o : Opening). Mine o.window) (λ (o : Opening). copy_reply h o.window) (window_with h frame) (window_with-names h housed frame)
-          (λ o mine. either-has P (nat_le (length (window_copies h o.window) + 1) most_copies) (reply.Copied o.window (length (window_copies h o.window) + 1)) (reply.Crowded o.window) mine mine),
-      (
-        map-has P Fits (λ (f : Fit). open_reply h (window_of f)) (first_fit above net h frame) (first_fit-names above net own h frame)
-            (λ f mine. either-has P (nat_le most_windows (window_count h f.eui)) (reply.Busy f.eui) (reply.Opened (window_of f)) mine mine),
-        (map-has P Fits (old_reply h frame) (first_fit below net h frame) (first_fit-names below net own h frame) (λ f mine. old-has P h frame f mine mine (λ round is room. mine)), tt),
-      ),
-    ) tt
+    let Mine : Fit → Type 0 = λ f. shard_of f.eui ≡ shard_of_frame frame in
+    let mine : (recover : Option ℕ → ℕ → Option ℕ) (f : Fit) → first_fit recover net h frame ≡ Some f → Mine f = λ recover f is. at_some Mine (first_fit recover net h frame) f is (first_fit-names recover net own h frame) in
+    let framed : (o : Opening) → window_with h frame ≡ Some o → shard_of o.window.eui ≡ shard_of_frame frame = λ o is. at_some (λ (x : Opening). shard_of x.window.eui ≡ shard_of_frame frame) (window_with h frame) o is (window_with-names h housed frame) in
+    uplink-has (NamesOwnDevice c) net h frame (record {
+      copied = λ o is room. framed o is;
+      crowded = λ o is full. framed o is;
+      opened = λ f none is room. mine above f is;
+      again = λ f round none is confirmed next room. mine below f is;
+      busy = mine;
+      old = mine below;
+      none = tt;
+    })
 
 names-join : (net : Network) (h : List Entry) (t : Ticket) (heard : Heard) → NamesOwnDevice (call.Join t heard) (reply_to net h (call.Join t heard))
 names-join net h t heard =
@@ -143,47 +139,30 @@ legal-housed net own h legal = legal_induction net AllHoused tt (λ g number c o
 
 -- ---- the reply
 
-pub uplink_by-own : (g h : List Entry) (frame : List ℕ) (copied : Option Opening) (fresh stale : Option Fit) → IfSome copied (λ o. window_copies g o.window ≡ window_copies h o.window) → IfSome fresh (λ f. window_count g f.eui ≡ window_count h f.eui)
-    → IfSome stale (λ f. old_reply g frame f ≡ old_reply h frame f) → uplink_reply_by g frame copied fresh stale ≡ uplink_reply_by h frame copied fresh stale
-uplink_by-own g h frame (Some o) fresh stale copies counts olds =
-    ap (λ (hs : List Heard). cond (nat_le (length hs + 1) most_copies) (reply.Copied o.window (length hs + 1)) (reply.Crowded o.window)) copies
-uplink_by-own g h frame None (Some f) stale copies counts olds = ap (λ n. cond (nat_le most_windows n) (reply.Busy f.eui) (reply.Opened (window_of f))) counts
-uplink_by-own g h frame None None (Some f) copies counts olds = olds
-uplink_by-own g h frame None None None copies counts olds = refl
+-- the round in which an uplink is acknowledged again, by what is asked of the history
+abbrev pub round_by : Fit → Option ℕ → Bool → ℕ → Option ℕ
+round_by f greatest is_open last = cond is_open None (when (is_greatest greatest f.counter && nat_lt (last + 1) (2 ^ 32)) (last + 1))
 
--- the reply to a frame at or below the greatest counter, by what is asked of the history
-abbrev pub old_by : List ℕ → Fit → Option ℕ → Bool → ℕ → ℕ → Reply
-old_by frame f greatest is_open last windows =
-    first_case (
-    option_map (λ round. cond (nat_le most_windows windows) (reply.Busy f.eui) (reply.Again (in_round f round)))
-    (cond (is_confirmed frame && not is_open) (when (is_greatest greatest f.counter && nat_lt (last + 1) (2 ^ 32)) (last + 1)) None)
-    ∷ []) (reply.Old f.eui f.session f.counter)
-
-pub old-same : (g h : List Entry) (frame : List ℕ) (f : Fit) → greatest_counter g f.eui f.session ≡ greatest_counter h f.eui f.session → is_uplink_open g (window_of f) ≡ is_uplink_open h (window_of f)
-    → last_round g (window_of f) ≡ last_round h (window_of f) → window_count g f.eui ≡ window_count h f.eui → old_reply g frame f ≡ old_reply h frame f
-old-same g h frame f greatest is_open last windows =
-    λ i. old_by frame f (greatest i) (is_open i) (last i) (windows i)
-
-old-own : (k : ℕ) (h : List Entry) → AllHoused h → (frame : List ℕ) (f : Fit) → shard_of f.eui ≡ k → old_reply (of_shard k h) frame f ≡ old_reply h frame f
-old-own k h housed frame f mine =
-    old-same (of_shard k h) h frame f
-    (ap (λ opened. maximum (map (λ (o : Opening). o.window.fcnt) (filter (λ (o : Opening). o.window.session == f.session) opened))) (openings-own k f.eui mine h housed))
-    (is_uplink_open-own k (window_of f) mine h housed) (last_round-own k (window_of f) mine h housed) (window_count-own k f.eui mine h housed)
+round-own : (k : ℕ) (h : List Entry) → AllHoused h → (f : Fit) → shard_of f.eui ≡ k → round_of (of_shard k h) f ≡ round_of h f
+round-own k h housed f mine =
+    let greatest : greatest_counter (of_shard k h) f.eui f.session ≡ greatest_counter h f.eui f.session =
+    ap (λ opened. maximum (map (λ (o : Opening). o.window.fcnt) (filter (λ (o : Opening). o.window.session == f.session) opened))) (openings-own k f.eui mine h housed) in
+    let is_open = is_uplink_open-own k (window_of f) mine h housed in
+    let last = last_round-own k (window_of f) mine h housed in
+    λ i. round_by f (greatest i) (is_open i) (last i)
 
 uplink-own : (net : Network) → AllByRecursion (InShard net) net.devices → (h : List Entry) → AllHoused h → (frame : List ℕ) → reply_to_uplink net (of_shard (shard_of_frame frame) h) frame ≡ reply_to_uplink net h frame
 uplink-own net own h housed frame =
     let k : ℕ = shard_of_frame frame in
     let part : List Entry = of_shard k h in
-    let copied = window_with-own k frame refl h housed in
-    let fresh = first_fit-own above net own h housed frame in
-    let stale = first_fit-own below net own h housed frame in
-    ap (λ o. uplink_reply_by part frame o (first_fit above net part frame) (first_fit below net part frame)) copied
-    ∙ (ap (λ o. uplink_reply_by part frame (window_with h frame) o (first_fit below net part frame)) fresh
-    ∙ (ap (λ o. uplink_reply_by part frame (window_with h frame) (first_fit above net h frame) o) stale
-    ∙ uplink_by-own part h frame (window_with h frame) (first_fit above net h frame) (first_fit below net h frame)
-    (IfSome-weaker (λ (o : Opening). shard_of o.window.eui ≡ k) (λ (o : Opening). window_copies part o.window ≡ window_copies h o.window) (window_with h frame) (λ o mine. window_copies-own k o.window mine h housed) (window_with-names h housed frame))
-    (IfSome-weaker (λ (f : Fit). shard_of f.eui ≡ k) (λ (f : Fit). window_count part f.eui ≡ window_count h f.eui) (first_fit above net h frame) (λ f mine. window_count-own k f.eui mine h housed) (first_fit-names above net own h frame))
-    (IfSome-weaker (λ (f : Fit). shard_of f.eui ≡ k) (λ (f : Fit). old_reply part frame f ≡ old_reply h frame f) (first_fit below net h frame) (λ f mine. old-own k h housed frame f mine) (first_fit-names below net own h frame))))
+    uplink-same net part h frame (record {
+      window = window_with-own k frame refl h housed;
+      fit = λ recover. first_fit-own recover net own h housed frame;
+      copies =
+          IfSome-weaker (λ (o : Opening). shard_of o.window.eui ≡ k) (λ (o : Opening). window_copies part o.window ≡ window_copies h o.window) (window_with h frame) (λ o mine. window_copies-own k o.window mine h housed) (window_with-names h housed frame);
+      of_fit = λ recover. IfSome-weaker (λ (f : Fit). shard_of f.eui ≡ k) (SaysSame part h) (first_fit recover net h frame)
+          (λ f mine. record { windows = window_count-own k f.eui mine h housed; round = round-own k h housed f mine }) (first_fit-names recover net own h frame);
+    })
 
 -- whether a session is live, and its next acknowledgement number, by what is told of the device
 abbrev live_by : ℕ → List Acceptance → List Opening → Bool

@@ -1,5 +1,5 @@
 -- The uplinks that a legal history opens.
-use Rattle.std.proofs.Common.{◌≡◌, ◌⊎◌, ℕ, ◌+◌, ◌^◌, ◌<◌, Bool, true, false, not, ◌&&◌, ◌==◌, cond, List, [], ◌∷◌, ◌++◌, filter, map, nat_le, nat_lt, length, Option, None, Some, IfSome, option_map, refl, sym, ap, subst, ◌∙◌, arith, inl, inr}
+use Rattle.std.proofs.Common.{◌≡◌, ◌⊎◌, ℕ, ◌+◌, ◌^◌, ◌<◌, ◌≤◌, Bool, true, false, ◌&&◌, ◌==◌, cond, List, [], ◌∷◌, ◌++◌, filter, map, nat_le, nat_lt, length, Option, None, Some, IfSome, option_map, refl, sym, ap, ap₂, subst, ◌∙◌, arith, inl, inr}
 use Rattle.std.specs.Option.{option_and_then, option_map_or}
 use Rattle.std.proofs.lemmas.List.{append-nil, map-append}
 use Rattle.std.proofs.lemmas.List.Elements.{filter-append}
@@ -8,7 +8,7 @@ use Rattle.std.proofs.lemmas.Bool.Decides.{nat_tests}
 use Rattle.ns_types.specs.declared.identity.DevEui.{DevEui}
 use Rattle.ns_types.specs.declared.identity.WindowName.{WindowName}
 use Rattle.ns_types.specs.declared.heard.Heard.{Heard}
-use Rattle.ns_types.specs.Cases.{first_case, when}
+use Rattle.ns_types.specs.Cases.{when}
 use Rattle.ns_views.specs.Frame.{data_fields, is_confirmed}
 use Rattle.ns_secure.specs.Counter.{Exceeds, above, below, with_low}
 use Rattle.ns_secure.specs.Integrity.{mic_fits}
@@ -21,11 +21,11 @@ use Rattle.ns_calls.specs.declared.call.Reply.{Reply}
 use Rattle.ns_calls.specs.declared.call.Reply.TheVariants as reply
 use Rattle.ns_calls.specs.declared.call.Entry.{Entry}
 use Rattle.ns_calls.specs.History.{Opening, opening_in, window_in, openings, same_device, session_counters, greatest_counter, last_round, is_uplink_open, session_join, live, window_count, window_copies}
-use Rattle.ns_calls.specs.Reply.{fits, Fit, fit_of, window_of, fitting_counter, session_fit, device_fit, devices_at, first_fit, window_with, copy_reply, open_reply, is_greatest, next_round, round_of, in_round, again_reply, old_reply, most_copies, most_windows, reply_to}
+use Rattle.ns_calls.specs.Reply.{fits, Fit, fit_of, window_of, fitting_counter, session_fit, device_fit, devices_at, first_fit, window_with, is_greatest, next_round, round_of, in_round, old_reply, UplinkFacts, uplink_rule, uplink_facts, most_copies, most_windows, reply_to, reply_to_uplink}
 use Rattle.ns_calls.specs.Legal.{IsLegal, entry_for, with_call}
 use Rattle.ns_calls.specs.Headline.{Rises, CountersRise}
 use Rattle.ns_calls.proofs.LocalLemmas.{bool_tells}
-use Rattle.ns_calls.proofs.Lists.{said-adds, first-gives, Exceeds-each, Rises-push, at_some}
+use Rattle.ns_calls.proofs.Lists.{said-adds, first-gives, Exceeds-each, Rises-push, at_some, IfSome-weaker, option_map-same}
 use Rattle.ns_calls.proofs.Induction.{legal_induction}
 use Rattle.ns_calls.proofs.JoinLemmas.{same_device-eq}
 
@@ -84,37 +84,15 @@ first_fit-fresh net h frame =
 
 -- ---- what is opened
 
--- the reply to an uplink, by what is asked of the history
-abbrev pub uplink_reply_by : List Entry → List ℕ → Option Opening → Option Fit → Option Fit → Reply
-uplink_reply_by h frame copied fresh stale = first_case (
-    option_map (λ o. copy_reply h o.window) copied
-    ∷ option_map (λ f. open_reply h (window_of f)) fresh
-    ∷ option_map (old_reply h frame) stale
-    ∷ []) reply.NoSession
-
--- what holds of the reply to a frame at or below the greatest counter, which is old, or its device is busy, or a window is opened again
-pub old-has : (P : Reply → Type 0) (h : List Entry) (frame : List ℕ) (f : Fit) → P (reply.Old f.eui f.session f.counter) → P (reply.Busy f.eui)
-    → ((round : ℕ) → round_of h frame f ≡ Some round → nat_le most_windows (window_count h f.eui) ≡ false → P (reply.Again (in_round f round))) → P (old_reply h frame f)
-old-has P h frame f old busy again = step (round_of h frame f) refl
-  where
-    room : (round : ℕ) → round_of h frame f ≡ Some round → (b : Bool) → nat_le most_windows (window_count h f.eui) ≡ b → P (cond b (reply.Busy f.eui) (reply.Again (in_round f round)))
-    room round is true full = busy
-    room round is false fits = again round is fits
-
-    step : (o : Option ℕ) → round_of h frame f ≡ o → P (first_case (option_map (λ (round : ℕ). again_reply h (in_round f round)) o ∷ []) (reply.Old f.eui f.session f.counter))
-    step None is = old
-    step (Some round) is = room round is (nat_le most_windows (window_count h f.eui)) refl
-
 -- what the next round of an uplink is
-pub record IsRoundOf (h : List Entry) (frame : List ℕ) (f : Fit) (round : ℕ) : Type 0 where
-  pub confirmed : is_confirmed frame ≡ true
+pub record IsRoundOf (h : List Entry) (f : Fit) (round : ℕ) : Type 0 where
   pub counter : greatest_counter h f.eui f.session ≡ Some f.counter
   pub closed : is_uplink_open h (window_of f) ≡ false
   pub next : round ≡ last_round h (window_of f) + 1
   pub small : round < 2 ^ 32
 
-pub round_of-is : (h : List Entry) (frame : List ℕ) (f : Fit) (round : ℕ) → round_of h frame f ≡ Some round → IsRoundOf h frame f round
-round_of-is h frame f round is = by_type (is_confirmed frame) (is_uplink_open h (window_of f)) refl refl is
+pub round_of-is : (h : List Entry) (f : Fit) (round : ℕ) → round_of h f ≡ Some round → IsRoundOf h f round
+round_of-is h f round is = by_open (is_uplink_open h (window_of f)) refl is
   where
     next : ℕ
     next = last_round h (window_of f) + 1
@@ -123,40 +101,115 @@ round_of-is h frame f round is = by_type (is_confirmed frame) (is_uplink_open h 
     greatest-is None same = absurd (cc same)
     greatest-is (Some n) same = (let equal : n ≡ f.counter = grind (arith, nat_tests, same) in ap Some equal)
 
-    by_test : (a c : Bool) → is_confirmed frame ≡ true → is_uplink_open h (window_of f) ≡ false → is_greatest (greatest_counter h f.eui f.session) f.counter ≡ a → nat_lt next (2 ^ 32) ≡ c
-        → when (a && c) next ≡ Some round → IsRoundOf h frame f round
-    by_test true true confirmed closed counter small now =
+    by_test : (a c : Bool) → is_uplink_open h (window_of f) ≡ false → is_greatest (greatest_counter h f.eui f.session) f.counter ≡ a → nat_lt next (2 ^ 32) ≡ c → when (a && c) next ≡ Some round → IsRoundOf h f round
+    by_test true true closed counter small now =
         let same : next ≡ round = same_Some next round now in
         let below : next < 2 ^ 32 = grind (arith, nat_tests, small) in
-        record { confirmed = confirmed; counter = greatest-is (greatest_counter h f.eui f.session) counter; closed = closed; next = sym same; small = subst (λ n. n < 2 ^ 32) same below }
-    by_test true false confirmed closed counter small now = absurd (cc now)
-    by_test false c confirmed closed counter small now = absurd (cc now)
+        record { counter = greatest-is (greatest_counter h f.eui f.session) counter; closed = closed; next = sym same; small = subst (λ n. n < 2 ^ 32) same below }
+    by_test true false closed counter small now = absurd (cc now)
+    by_test false c closed counter small now = absurd (cc now)
 
-    by_type : (a b : Bool) → is_confirmed frame ≡ a → is_uplink_open h (window_of f) ≡ b → cond (a && not b) (next_round h f) None ≡ Some round → IsRoundOf h frame f round
-    by_type true false confirmed closed now = by_test (is_greatest (greatest_counter h f.eui f.session) f.counter) (nat_lt next (2 ^ 32)) confirmed closed refl refl now
-    by_type true true confirmed closed now = absurd (cc now)
-    by_type false b confirmed closed now = absurd (cc now)
+    by_open : (b : Bool) → is_uplink_open h (window_of f) ≡ b → cond b None (next_round h f) ≡ Some round → IsRoundOf h f round
+    by_open false closed now = by_test (is_greatest (greatest_counter h f.eui f.session) f.counter) (nat_lt next (2 ^ 32)) closed refl refl now
+    by_open true closed now = absurd (cc now)
+
+-- ---- the reply by its cases
+
+-- the facts of a history, by what is asked of it
+abbrev pub facts_by : List Entry → List ℕ → Option Opening → Option Fit → Option Fit → UplinkFacts
+facts_by h frame copied fresh stale = record {
+  confirmed = is_confirmed frame;
+  copied = option_map (λ o. (o.window, length (window_copies h o.window))) copied;
+  above = option_map (λ f. (f, window_count h f.eui)) fresh;
+  below = option_map (λ f. (f, window_count h f.eui, round_of h f)) stale;
+}
+
+-- what is to be shown of each reply to an uplink
+pub record UplinkCases (P : Reply → Type 0) (net : Network) (h : List Entry) (frame : List ℕ) : Type 0 where
+  pub copied : (o : Opening) → window_with h frame ≡ Some o → length (window_copies h o.window) < most_copies → P (reply.Copied o.window (length (window_copies h o.window) + 1))
+  pub crowded : (o : Opening) → window_with h frame ≡ Some o → most_copies ≤ length (window_copies h o.window) → P (reply.Crowded o.window)
+  pub opened : (f : Fit) → window_with h frame ≡ None → first_fit above net h frame ≡ Some f → window_count h f.eui < most_windows → P (reply.Opened (window_of f))
+  pub again : (f : Fit) (round : ℕ) → window_with h frame ≡ None → first_fit below net h frame ≡ Some f → is_confirmed frame ≡ true → IsRoundOf h f round → window_count h f.eui < most_windows → P (reply.Again (in_round f round))
+  pub busy : (recover : Option ℕ → ℕ → Option ℕ) (f : Fit) → first_fit recover net h frame ≡ Some f → P (reply.Busy f.eui)
+  pub old : (f : Fit) → first_fit below net h frame ≡ Some f → P (reply.Old f.eui f.session f.counter)
+  pub none : P reply.NoSession
+
+pub uplink-has : (P : Reply → Type 0) (net : Network) (h : List Entry) (frame : List ℕ) → UplinkCases P net h frame → P (reply_to_uplink net h frame)
+uplink-has P net h frame cases = step (window_with h frame) (first_fit above net h frame) (first_fit below net h frame) refl refl refl
+  where
+    copy : (o : Opening) → window_with h frame ≡ Some o → (b : Bool) → nat_lt (length (window_copies h o.window)) most_copies ≡ b → P (cond b (reply.Copied o.window (length (window_copies h o.window) + 1)) (reply.Crowded o.window))
+    copy o is true room = cases.copied o is (grind (arith, nat_tests, room))
+    copy o is false full = cases.crowded o is (grind (arith, nat_tests, full))
+
+    room : (f : Fit) (r : Reply) → P (reply.Busy f.eui) → (window_count h f.eui < most_windows → P r) → (b : Bool) → nat_le most_windows (window_count h f.eui) ≡ b → P (cond b (reply.Busy f.eui) r)
+    room f r busy opened true full = busy
+    room f r busy opened false fits = opened (grind (arith, nat_tests, fits))
+
+    old : (f : Fit) → window_with h frame ≡ None → first_fit below net h frame ≡ Some f → (b : Bool) → is_confirmed frame ≡ b → (o : Option ℕ) → round_of h f ≡ o → P (old_reply b f (window_count h f.eui) o)
+    old f none is false confirmed o found = cases.old f is
+    old f none is true confirmed None found = cases.old f is
+    old f none is true confirmed (Some round) found =
+        room f (reply.Again (in_round f round)) (cases.busy below f is) (cases.again f round none is confirmed (round_of-is h f round found)) (nat_le most_windows (window_count h f.eui)) refl
+
+    step : (o : Option Opening) (fresh stale : Option Fit) → window_with h frame ≡ o → first_fit above net h frame ≡ fresh → first_fit below net h frame ≡ stale → P (uplink_rule (facts_by h frame o fresh stale))
+    step (Some o) fresh stale found above_is below_is = copy o found (nat_lt (length (window_copies h o.window)) most_copies) refl
+    step None (Some f) stale none above_is below_is = room f (reply.Opened (window_of f)) (cases.busy above f above_is) (cases.opened f none above_is) (nat_le most_windows (window_count h f.eui)) refl
+    step None None (Some f) none above_is below_is = old f none below_is (is_confirmed frame) refl (round_of h f) refl
+    step None None None none above_is below_is = cases.none
+
+-- what two histories say of where a frame fits is the same
+pub record SaysSame (g h : List Entry) (f : Fit) : Type 0 where
+  pub windows : window_count g f.eui ≡ window_count h f.eui
+  pub round : round_of g f ≡ round_of h f
+
+-- the facts of two histories are the same
+pub record AreSame (net : Network) (g h : List Entry) (frame : List ℕ) : Type 0 where
+  pub window : window_with g frame ≡ window_with h frame
+  pub fit : (recover : Option ℕ → ℕ → Option ℕ) → first_fit recover net g frame ≡ first_fit recover net h frame
+  pub copies : IfSome (window_with h frame) (λ o. window_copies g o.window ≡ window_copies h o.window)
+  pub of_fit : (recover : Option ℕ → ℕ → Option ℕ) → IfSome (first_fit recover net h frame) (SaysSame g h)
+
+pub uplink-same : (net : Network) (g h : List Entry) (frame : List ℕ) → AreSame net g h frame → reply_to_uplink net g frame ≡ reply_to_uplink net h frame
+uplink-same net g h frame same = λ i. uplink_rule (record { confirmed = is_confirmed frame; copied = copied i; above = fresh i; below = stale i })
+  where
+    copied : (uplink_facts net g frame).copied ≡ (uplink_facts net h frame).copied
+    copied = option_map-same (λ (o : Opening). (o.window, length (window_copies g o.window))) (λ (o : Opening). (o.window, length (window_copies h o.window))) (window_with g frame) (window_with h frame) same.window
+        (IfSome-weaker (λ (o : Opening). window_copies g o.window ≡ window_copies h o.window) (λ (o : Opening). (o.window, length (window_copies g o.window)) ≡ (o.window, length (window_copies h o.window))) (window_with h frame) (λ o is. ap (λ (cs : List Heard). (o.window, length cs)) is) same.copies)
+
+    fresh : (uplink_facts net g frame).above ≡ (uplink_facts net h frame).above
+    fresh = option_map-same (λ (f : Fit). (f, window_count g f.eui)) (λ (f : Fit). (f, window_count h f.eui)) (first_fit above net g frame) (first_fit above net h frame) (same.fit above)
+        (IfSome-weaker (SaysSame g h) (λ (f : Fit). (f, window_count g f.eui) ≡ (f, window_count h f.eui)) (first_fit above net h frame) (λ f is. ap (λ n. (f, n)) is.windows) (same.of_fit above))
+
+    stale : (uplink_facts net g frame).below ≡ (uplink_facts net h frame).below
+    stale = option_map-same (λ (f : Fit). (f, window_count g f.eui, round_of g f)) (λ (f : Fit). (f, window_count h f.eui, round_of h f)) (first_fit below net g frame) (first_fit below net h frame) (same.fit below)
+        (IfSome-weaker (SaysSame g h) (λ (f : Fit). (f, window_count g f.eui, round_of g f) ≡ (f, window_count h f.eui, round_of h f)) (first_fit below net h frame) (λ f is. ap₂ (λ n r. (f, n, r)) is.windows is.round) (same.of_fit below))
 
 abbrev pub opening_of : WindowName → List ℕ → Heard → Opening
 opening_of w frame heard = record { window = w; frame = frame; heard = heard }
 
--- what is opened is the window that fits, of a frame that no open window has
-pub opened-cases : (h : List Entry) (frame : List ℕ) (heard : Heard) (copied : Option Opening) (fresh stale : Option Fit) →
-    let said_by : Option Opening = opening_in (call.Uplink frame heard) (uplink_reply_by h frame copied fresh stale) in
-    (said_by ≡ None) ⊎ ((f : Fit) × (copied ≡ None) × (fresh ≡ Some f) × (said_by ≡ Some (opening_of (window_of f) frame heard)))
-opened-cases h frame heard (Some o) fresh stale = inl (step (nat_le (length (window_copies h o.window) + 1) most_copies))
+-- a window that is opened, in any round, is of a device and a session where the frame fits
+pub record FitsAt (net : Network) (h : List Entry) (frame : List ℕ) (w : WindowName) : Type 0 where
+  pub recover : Option ℕ → ℕ → Option ℕ
+  pub fit : Fit
+  pub is : first_fit recover net h frame ≡ Some fit
+  pub eui : fit.eui ≡ w.eui
+  pub session : fit.session ≡ w.session
+
+pub window-fits : (net : Network) (h : List Entry) (frame : List ℕ) (heard : Heard) (w : WindowName) → window_in (call.Uplink frame heard) (reply_to_uplink net h frame) ≡ Some (opening_of w frame heard) → FitsAt net h frame w
+window-fits net h frame heard w = uplink-has (λ r. window_in (call.Uplink frame heard) r ≡ Some (opening_of w frame heard) → FitsAt net h frame w) net h frame (record {
+  copied = λ o is room says. absurd (cc says);
+  crowded = λ o is full says. absurd (cc says);
+  opened = λ f none is room says. at above f is (window_of f) says refl refl;
+  again = λ f round none is confirmed next room says. at below f is (in_round f round) says refl refl;
+  busy = λ recover f is says. absurd (cc says);
+  old = λ f is says. absurd (cc says);
+  none = λ says. absurd (cc says);
+})
   where
-    step : (b : Bool) → opening_in (call.Uplink frame heard) (cond b (reply.Copied o.window (length (window_copies h o.window) + 1)) (reply.Crowded o.window)) ≡ None
-    step true = refl
-    step false = refl
-opened-cases h frame heard None (Some f) stale =
-    let w : WindowName = window_of f in
-    elim (bool_tells (nat_le most_windows (window_count h w.eui))) [
-      | inl busy ↦ inl (ap (λ b. opening_in (call.Uplink frame heard) (cond b (reply.Busy w.eui) (reply.Opened w))) busy)
-      | inr room ↦ inr (f, refl, refl, ap (λ b. opening_in (call.Uplink frame heard) (cond b (reply.Busy w.eui) (reply.Opened w))) room)
-    ]
-opened-cases h frame heard None None (Some f) = inl (old-has (λ r. opening_in (call.Uplink frame heard) r ≡ None) h frame f refl refl (λ round is room. refl))
-opened-cases h frame heard None None None = inl refl
+    at : (recover : Option ℕ → ℕ → Option ℕ) (f : Fit) → first_fit recover net h frame ≡ Some f → (v : WindowName) → Some (opening_of v frame heard) ≡ Some (opening_of w frame heard) → f.eui ≡ v.eui → f.session ≡ v.session → FitsAt net h frame w
+    at recover f is v says eui session =
+        let name : v ≡ w = ap (λ (o : Opening). o.window) (same_Some (opening_of v frame heard) (opening_of w frame heard) says) in
+        record { recover = recover; fit = f; is = is; eui = eui ∙ ap (λ (x : WindowName). x.eui) name; session = session ∙ ap (λ (x : WindowName). x.session) name }
 
 -- an uplink with a new counter: its first window is fresh, and no open window has its frame
 pub record IsNewOpening (h : List Entry) (o : Opening) : Type 0 where
@@ -168,13 +221,15 @@ pub opening-new : (net : Network) (h : List Entry) (c : Call) → IfSome (openin
 opening-new net h (call.Join t heard) = tt
 opening-new net h (call.JoinReply t o) = tt
 opening-new net h (call.Close w) = tt
-opening-new net h (call.Uplink frame heard) =
-    elim (opened-cases h frame heard (window_with h frame) (first_fit above net h frame) _) [
-      | inl none ↦ subst (λ o. IfSome o (IsNewOpening h)) (sym none) tt
-      | inr found ↦
-          subst (λ o. IfSome o (IsNewOpening h)) (sym found.3)
-          (record { fresh = at_some (IsFreshFit h frame) (first_fit above net h frame) found.0 found.2 (first_fit-fresh net h frame); first = refl; apart = found.1 })
-    ]
+opening-new net h (call.Uplink frame heard) = uplink-has (λ r. IfSome (opening_in (call.Uplink frame heard) r) (IsNewOpening h)) net h frame (record {
+  copied = λ o is room. tt;
+  crowded = λ o is full. tt;
+  opened = λ f none is room. record { fresh = at_some (IsFreshFit h frame) (first_fit above net h frame) f is (first_fit-fresh net h frame); first = refl; apart = none };
+  again = λ f round none is confirmed next room. tt;
+  busy = λ recover f is. tt;
+  old = λ f is. tt;
+  none = tt;
+})
 
 -- ---- windows of any round
 
@@ -215,33 +270,32 @@ first_fit-mic recover net h frame =
     let Fits : Fit → Type 0 = λ f. fits h frame (window_of f) ≡ true in
     first-gives Fits (λ (d : Device). device_fit recover h frame d.eui) (λ d. first-gives Fits (session_fit recover h frame d.eui) (session_fit-mic recover h frame d.eui) (live h d.eui)) (devices_at net (data_fields frame).addr)
 
-uplink-window : (net : Network) (h : List Entry) (frame : List ℕ) (heard : Heard) (copied : Option Opening) (fresh stale : Option Fit)
-    → window_with h frame ≡ copied → IfSome fresh (IsFreshFit h frame) → IfSome stale (λ f. fits h frame (window_of f) ≡ true) →
-    let c : Call = call.Uplink frame heard in
-    let r : Reply = uplink_reply_by h frame copied fresh stale in
-    IfSome (window_in c r) (IsOpened h c r)
-uplink-window net h frame heard (Some o) fresh stale is new old = step (nat_le (length (window_copies h o.window) + 1) most_copies)
-  where
-    step : (b : Bool) → let r : Reply = cond b (reply.Copied o.window (length (window_copies h o.window) + 1)) (reply.Crowded o.window) in IfSome (window_in (call.Uplink frame heard) r) (IsOpened h (call.Uplink frame heard) r)
-    step true = tt
-    step false = tt
-uplink-window net h frame heard None (Some f) stale is new old = step (nat_le most_windows (window_count h f.eui))
-  where
-    step : (b : Bool) → let r : Reply = cond b (reply.Busy f.eui) (reply.Opened (window_of f)) in IfSome (window_in (call.Uplink frame heard) r) (IsOpened h (call.Uplink frame heard) r)
-    step true = tt
-    step false = inl (refl, record { fresh = new; first = refl; apart = is })
-uplink-window net h frame heard None None (Some f) is new old =
-    old-has (λ r. IfSome (window_in (call.Uplink frame heard) r) (IsOpened h (call.Uplink frame heard) r)) h frame f tt tt
-    (λ round found room. (let at = round_of-is h frame f round found in inr (refl, record { confirmed = at.confirmed; mic = old; counter = at.counter; closed = at.closed; next = at.next; apart = is })))
-uplink-window net h frame heard None None None is new old = tt
-
 -- each window that a call opens is the first of a fresh counter, or the next of the greatest one
 pub window-new : (net : Network) (h : List Entry) (c : Call) → IfSome (window_in c (reply_to net h c)) (IsOpened h c (reply_to net h c))
 window-new net h (call.Join t heard) = tt
 window-new net h (call.JoinReply t o) = tt
 window-new net h (call.Close w) = tt
 window-new net h (call.Uplink frame heard) =
-    uplink-window net h frame heard (window_with h frame) (first_fit above net h frame) (first_fit below net h frame) refl (first_fit-fresh net h frame) (first_fit-mic below net h frame)
+    let c : Call = call.Uplink frame heard in
+    uplink-has (λ r. IfSome (window_in c r) (IsOpened h c r)) net h frame (record {
+      copied = λ o is room. tt;
+      crowded = λ o is full. tt;
+      opened = λ f none is room. inl (refl, record { fresh = at_some (IsFreshFit h frame) (first_fit above net h frame) f is (first_fit-fresh net h frame); first = refl; apart = none });
+      again = λ f round none is confirmed next room. inr (
+        refl,
+        record {
+          confirmed = confirmed;
+          mic = at_some (λ (x : Fit). fits h frame (window_of x) ≡ true) (first_fit below net h frame) f is (first_fit-mic below net h frame);
+          counter = next.counter;
+          closed = next.closed;
+          next = next.next;
+          apart = none;
+        },
+      );
+      busy = λ recover f is. tt;
+      old = λ f is. tt;
+      none = tt;
+    })
 
 -- what a call adds to the openings of a device, with what holds of it
 pub record AddedOpening (Holds : Opening → Type 0) (h : List Entry) (eui : DevEui) (now : List Opening) : Type 0 where

@@ -75,28 +75,12 @@ first_fit recover net h frame = first (filter_map (λ d. device_fit recover h fr
 abbrev pub window_with : List Entry → List ℕ → Option Opening
 window_with h frame = find (λ o. bytes_eq o.frame frame) (open_windows h)
 
--- one more copy of an open window
-abbrev pub copy_reply : List Entry → WindowName → Reply
-copy_reply h w = let place = length (window_copies h w) + 1 in if nat_le place most_copies then Copied w place else Crowded w
-
 -- the name of the first window that is opened where a frame fits, and that of a later round
 abbrev pub window_of : Fit → WindowName
 window_of f = first_window f.eui f.session f.counter
 
 abbrev pub in_round : Fit → ℕ → WindowName
 in_round f round = record { eui = f.eui; session = f.session; fcnt = f.counter; round = round }
-
--- the reply with which a window is opened, where its device has room for it
-abbrev pub unless_busy : List Entry → WindowName → Reply → Reply
-unless_busy h w reply = if nat_le most_windows (window_count h w.eui) then Busy w.eui else reply
-
--- a window that is to be opened
-abbrev pub open_reply : List Entry → WindowName → Reply
-open_reply h w = unless_busy h w (Opened w)
-
--- a window that is to be opened for an uplink that was handed out
-abbrev pub again_reply : List Entry → WindowName → Reply
-again_reply h w = unless_busy h w (Again w)
 
 -- whether a counter is the greatest one
 abbrev pub is_greatest : Option ℕ → ℕ → Bool
@@ -108,20 +92,49 @@ abbrev pub next_round : List Entry → Fit → Option ℕ
 next_round h f =
     let round = last_round h (window_of f) + 1 in when (is_greatest (greatest_counter h f.eui f.session) f.counter && nat_lt round (2 ^ 32)) round
 
--- the round in which a frame is acknowledged again: it is a Confirmed Data Up, and no window of its uplink is open (4.3.1.2)
-abbrev pub round_of : List Entry → List ℕ → Fit → Option ℕ
-round_of h frame f = if is_confirmed frame && not (is_uplink_open h (window_of f)) then next_round h f else None
+-- the round in which an uplink is acknowledged again: the next one, where no window of it is open
+abbrev pub round_of : List Entry → Fit → Option ℕ
+round_of h f = if is_uplink_open h (window_of f) then None else next_round h f
 
--- a frame that fits at or below the greatest counter
-abbrev pub old_reply : List Entry → List ℕ → Fit → Reply
-old_reply h frame f = first_case (option_map (λ round. again_reply h (in_round f round)) (round_of h frame f) ∷ []) (Old f.eui f.session f.counter)
+-- What the reply to an uplink rests on: whether it is a Confirmed Data Up; the open window of an equal frame, with the number of its copies;
+-- where the frame fits first above the greatest counter of a session, and where at or below it, each with the number of open windows of
+-- its device, and the second with the round in which it is acknowledged again.
+pub record UplinkFacts : Type 0 where
+  pub confirmed : Bool
+  pub copied : Option (WindowName × ℕ)
+  pub above : Option (Fit × ℕ)
+  pub below : Option (Fit × ℕ × Option ℕ)
+
+-- one more copy of an open window
+abbrev pub copy_reply : WindowName → ℕ → Reply
+copy_reply w copies = if nat_lt copies most_copies then Copied w (copies + 1) else Crowded w
+
+-- the reply with which a window is opened, where its device has room for it
+abbrev pub unless_busy : DevEui → ℕ → Reply → Reply
+unless_busy eui windows reply = if nat_le most_windows windows then Busy eui else reply
+
+-- a frame at or below the greatest counter: where it is a Confirmed Data Up and has a round, it is acknowledged again (4.3.1.2)
+abbrev pub old_reply : Bool → Fit → ℕ → Option ℕ → Reply
+old_reply confirmed f windows round =
+    first_case (option_map (λ n. unless_busy f.eui windows (Again (in_round f n))) (if confirmed then round else None) ∷ []) (Old f.eui f.session f.counter)
+
+abbrev pub uplink_rule : UplinkFacts → Reply
+uplink_rule facts = first_case (
+    option_map (λ c. copy_reply c.0 c.1) facts.copied
+    ∷ option_map (λ a. unless_busy a.0.eui a.1 (Opened (window_of a.0))) facts.above
+    ∷ option_map (λ b. old_reply facts.confirmed b.0 b.1 b.2) facts.below
+    ∷ []) NoSession
+
+abbrev pub uplink_facts : Network → List Entry → List ℕ → UplinkFacts
+uplink_facts net h frame = record {
+  confirmed = is_confirmed frame;
+  copied = option_map (λ o. (o.window, length (window_copies h o.window))) (window_with h frame);
+  above = option_map (λ f. (f, window_count h f.eui)) (first_fit above net h frame);
+  below = option_map (λ f. (f, window_count h f.eui, round_of h f)) (first_fit below net h frame);
+}
 
 abbrev pub reply_to_uplink : Network → List Entry → List ℕ → Reply
-reply_to_uplink net h frame = first_case (
-    option_map (λ o. copy_reply h o.window) (window_with h frame)
-    ∷ option_map (λ f. open_reply h (window_of f)) (first_fit above net h frame)
-    ∷ option_map (old_reply h frame) (first_fit below net h frame)
-    ∷ []) NoSession
+reply_to_uplink net h frame = uplink_rule (uplink_facts net h frame)
 
 -- ---- a join
 

@@ -31,7 +31,7 @@ use Rattle.ns_calls.proofs.Lists.{said-adds, All-push, All-weaker, find-has, at_
 use Rattle.ns_calls.proofs.QueryLemmas.{last-push}
 use Rattle.ns_calls.proofs.Induction.{legal_induction}
 use Rattle.ns_calls.proofs.JoinLemmas.{acceptances-cases, same_device-eq}
-use Rattle.ns_calls.proofs.UplinkLemmas.{AddedOpening, openings-cases, opened-cases}
+use Rattle.ns_calls.proofs.UplinkLemmas.{AddedOpening, openings-cases, uplink-has}
 use Rattle.ns_calls.proofs.KeyLemmas.{has_join-stays, session_join-next, sessions_have_joins}
 use Rattle.ns_calls.proofs.NameLemmas.{same_window-eq}
 use Rattle.ns_sessions.proofs.Basics.{or_last, or_later}
@@ -83,13 +83,15 @@ opening-live : (net : Network) (h : List Entry) (c : Call) → IfSome (opening_i
 opening-live net h (call.Join t heard) = tt
 opening-live net h (call.JoinReply t o) = tt
 opening-live net h (call.Close w) = tt
-opening-live net h (call.Uplink frame heard) =
-    elim (opened-cases h frame heard (window_with h frame) (first_fit above net h frame) _) [
-      | inl none ↦ subst (λ o. IfSome o (λ x. IsLiveWindow h x.window)) (sym none) tt
-      | inr found ↦
-          (let fit = at_some (IsFit h) (first_fit above net h frame) found.0 found.2 (first_fit-live above net h frame) in
-          subst (λ o. IfSome o (λ x. IsLiveWindow h x.window)) (sym found.3) (record { lives = fit.lives; keyed = fit.keyed }))
-    ]
+opening-live net h (call.Uplink frame heard) = uplink-has (λ r. IfSome (opening_in (call.Uplink frame heard) r) (λ o. IsLiveWindow h o.window)) net h frame (record {
+  copied = λ o is room. tt;
+  crowded = λ o is full. tt;
+  opened = λ f none is room. (let fit = at_some (IsFit h) (first_fit above net h frame) f is (first_fit-live above net h frame) in record { lives = fit.lives; keyed = fit.keyed });
+  again = λ f round none is confirmed next room. tt;
+  busy = λ recover f is. tt;
+  old = λ f is. tt;
+  none = tt;
+})
 
 -- what a call closes was open
 closing-open : (net : Network) (h : List Entry) (c : Call) → IfSome (closing_in c (reply_to net h c)) (λ x. is_some (open_window h x.window) ≡ true)

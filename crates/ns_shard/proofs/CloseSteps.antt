@@ -33,7 +33,7 @@ use Rattle.ns_calls.proofs.Lists.{All-after, All-filter, All-weaker, find-has, f
 use Rattle.ns_calls.proofs.PushLemmas.{open_windows-push}
 use Rattle.ns_calls.proofs.LegalLemmas.{history_more}
 use Rattle.ns_calls.proofs.Induction.{legal_induction}
-use Rattle.ns_calls.proofs.UplinkLemmas.{uplink_reply_by, old-has}
+use Rattle.ns_calls.proofs.UplinkLemmas.{uplink-has}
 use Rattle.ns_calls.proofs.NameLemmas.{same_window-eq}
 use Rattle.ns_sessions.specs.declared.session.Session.{Session}
 use Rattle.ns_sessions.specs.Record.{DeviceRecord, device_record, ack_in, with_ack, session_ack, session_after_ack, change_session}
@@ -85,24 +85,15 @@ opened-known : (net : Network) (h : List Entry) → IsRoster net → (c : Call) 
 opened-known net h valid (call.Join t heard) = tt
 opened-known net h valid (call.JoinReply t o) = tt
 opened-known net h valid (call.Close w) = tt
-opened-known net h valid (call.Uplink frame heard) = step (window_with h frame) (first_fit above net h frame) (first_fit below net h frame) (fit-known above net h frame valid) (fit-known below net h frame valid)
-  where
-    Known : Reply → Type 0
-    Known r = IfSome (history.window_in (call.Uplink frame heard) r) (λ o. IsSome (device net o.window.eui))
-
-    copied : (o : Opening) (b : Bool) → Known (cond b (reply.Copied o.window (length (window_copies h o.window) + 1)) (reply.Crowded o.window))
-    copied o true = tt
-    copied o false = tt
-
-    opened : (f : Fit) → IsSome (device net f.eui) → (b : Bool) → Known (cond b (reply.Busy f.eui) (reply.Opened (window_of f)))
-    opened f known true = tt
-    opened f known false = known
-
-    step : (o : Option Opening) (fresh stale : Option Fit) → IfSome fresh (λ f. IsSome (device net f.eui)) → IfSome stale (λ f. IsSome (device net f.eui)) → Known (uplink_reply_by h frame o fresh stale)
-    step (Some o) fresh stale new old = copied o (nat_le (length (window_copies h o.window) + 1) most_copies)
-    step None (Some f) stale new old = opened f new (nat_le most_windows (window_count h f.eui))
-    step None None (Some f) new old = old-has Known h frame f tt tt (λ round is room. old)
-    step None None None new old = tt
+opened-known net h valid (call.Uplink frame heard) = uplink-has (λ r. IfSome (history.window_in (call.Uplink frame heard) r) (λ o. IsSome (device net o.window.eui))) net h frame (record {
+  copied = λ o is room. tt;
+  crowded = λ o is full. tt;
+  opened = λ f none is room. at_some (λ (x : Fit). IsSome (device net x.eui)) (first_fit above net h frame) f is (fit-known above net h frame valid);
+  again = λ f round none is confirmed next room. at_some (λ (x : Fit). IsSome (device net x.eui)) (first_fit below net h frame) f is (fit-known below net h frame valid);
+  busy = λ recover f is. tt;
+  old = λ f is. tt;
+  none = tt;
+})
 
 WindowsKnown : Network → List Entry → Type 0
 WindowsKnown net h = AllByRecursion (λ o. IsSome (device net o.window.eui)) (open_windows h)

@@ -9,7 +9,7 @@ use Rattle.ns_types.specs.declared.identity.DevEui.{DevEui}
 use Rattle.ns_types.specs.declared.identity.Key.{Key}
 use Rattle.ns_types.specs.declared.identity.WindowName.{WindowName}
 use Rattle.ns_types.specs.declared.heard.Heard.{Heard}
-use Rattle.ns_types.specs.Cases.{first_case, when}
+use Rattle.ns_types.specs.Cases.{when}
 use Rattle.ns_types.specs.Identity.{shard_of, shard_of_addr, same_uplink, same_window}
 use Rattle.ns_views.specs.Frame.{data_fields, is_confirmed}
 use Rattle.ns_secure.specs.Counter.{above, below, Exceeds}
@@ -27,27 +27,26 @@ use Rattle.ns_calls.specs.Queries.{maximum}
 use Rattle.ns_calls.specs.History as history
 use Rattle.ns_calls.specs.History.{Opening, opening_in, window_copy_in, open_windows, open_window, is_uplink_open, window_count, window_copies, session_join, live, is_live, greatest_counter, last_round, session_round, next_ack}
 use Rattle.ns_calls.specs.Reply as plain
-use Rattle.ns_calls.specs.Reply.{reply_to, reply_to_uplink, Fit, window_of, first_fit, devices_at, copy_reply, open_reply, most_windows, most_copies}
+use Rattle.ns_calls.specs.Reply.{reply_to_uplink, Fit, window_of, first_fit, devices_at, most_copies, uplink_rule}
 use Rattle.ns_calls.specs.Legal.{IsLegal, entry_for, with_call}
 use Rattle.ns_calls.proofs.LocalLemmas.{bool_tells}
-use Rattle.ns_calls.proofs.Lists.{All-weaker, IfSome-weaker, at_some, first-gives_of}
+use Rattle.ns_calls.proofs.Lists.{All-weaker, IfSome-weaker, at_some, first-gives_of, option_map-same}
 use Rattle.ns_calls.proofs.LegalLemmas.{history_more}
-use Rattle.ns_calls.proofs.UplinkLemmas.{uplink_reply_by, old-has, opening_of, opened-cases}
+use Rattle.ns_calls.proofs.UplinkLemmas.{uplink-has, window-fits, opening_of}
 use Rattle.ns_calls.proofs.RoundLemmas.{rounds-same, rounds_are_counted}
-use Rattle.ns_calls.proofs.FreshLemmas.{IsApart, windows-apart, opened-new, again-fits, again-next}
+use Rattle.ns_calls.proofs.FreshLemmas.{IsApart, windows-apart, opened-new, again-next}
 use Rattle.ns_sessions.specs.declared.session.Session.{Session}
 use Rattle.ns_sessions.specs.Record.{device_record, session_record, session_in, IsNewCounter, with_uplink, next_round_in, with_round}
 use Rattle.ns_sessions.specs.Laws.{OthersStay, UplinksAgree, concerns}
 use Rattle.ns_sessions.proofs.Sessions.{Numbered, found_by_number}
 use Rattle.ns_sessions.proofs.Facts.{IsFit, first_fit-live}
 use Rattle.ns_windows.specs.declared.window.Window.{Window}
-use Rattle.ns_windows.specs.declared.window.Addition.TheVariants as addition
-use Rattle.ns_windows.specs.Windows.{window_named, window_of_frame, addition}
+use Rattle.ns_windows.specs.Windows.{window_named, count}
 use Rattle.ns_devices.specs.declared.own.Own.{Own}
 use Rattle.ns_shard.specs.Private.Held.{window_of_opening, windows_in, nwk_of, app_of}
 use Rattle.ns_shard.specs.Private.Devices.{devices_in}
 use Rattle.ns_devices.specs.Devices as table
-use Rattle.ns_devices.specs.Devices.{keys_in}
+use Rattle.ns_devices.specs.Devices.{keys_in, first_own_fit}
 use Rattle.ns_shard.specs.Private.Reaction as kept
 use Rattle.ns_shard.specs.Private.Reaction.{uplink_reply, with_shard_uplink, with_copy_or_window, with_window, HasPlace, CanOpen}
 use Rattle.ns_shard.specs.Private.Parts.{Agrees}
@@ -67,19 +66,6 @@ none-found test (o ∷ os) is = step (none-found test os) (test o) refl is
     step later false here none = (here, later none)
 
 -- ---- the reply
-
-place-test : (n : ℕ) → nat_lt n 16 ≡ nat_le (n + 1) 16
-place-test n =
-    elim (bool_tells (nat_lt n 16)) [
-      | inl is ↦ (let less : n < 16 = grind (arith, nat_tests) in let within : nat_le (n + 1) 16 ≡ true = grind (arith, nat_tests) in is ∙ sym within)
-      | inr is ↦ (let past : 16 ≤ n = grind (arith, nat_tests) in let beyond : nat_le (n + 1) 16 ≡ false = grind (arith, nat_tests) in is ∙ sym beyond)
-    ]
-
-copied-same : (h : List Entry) (o : Opening) → kept.copy_reply (addition (window_of_opening h o)) ≡ copy_reply h o.window
-copied-same h o =
-    let len : ℕ = length (window_copies h o.window) in
-    ap (λ b. kept.copy_reply (cond b (addition.Copied o.window (len + 1)) (addition.Crowded o.window))) (place-test len)
-    ∙ elim (nat_le (len + 1) 16) as (λ b. kept.copy_reply (cond b (addition.Copied o.window (len + 1)) (addition.Crowded o.window)) ≡ cond b (reply.Copied o.window (len + 1)) (reply.Crowded o.window)) [ true ↦ refl | false ↦ refl ]
 
 -- ---- the reply to a frame at or below the greatest counter
 
@@ -126,8 +112,8 @@ last-open net h legal f =
       | inr other ↦ ap (λ b. b && (o.window.round == last_round h (window_of f))) other ∙ sym other
     ]
 
-round-same : (net : Network) (index : ℕ) (h : List Entry) (frame : List ℕ) (f : Fit) → IsLegal net h → UplinksAgree net h → IsPlaced net index h f → kept.round_of (devices_in net index h) (windows_in h) frame f ≡ plain.round_of h frame f
-round-same net index h frame f legal law placed = by_type (is_confirmed frame)
+round-same : (net : Network) (index : ℕ) (h : List Entry) (f : Fit) → IsLegal net h → UplinksAgree net h → IsPlaced net index h f → kept.round_of (devices_in net index h) (windows_in h) f ≡ plain.round_of h f
+round-same net index h f legal law placed = ap open_before next ∙ by_round (plain.next_round h f) refl
   where
     open_before : Option ℕ → Option ℕ
     open_before o = option_and_then (λ round. when (not (is_some (window_named (plain.in_round f (round - 1)) (windows_in h)))) round) o
@@ -142,8 +128,8 @@ round-same net index h frame f legal law placed = by_type (is_confirmed frame)
     some-map None = refl
     some-map (Some o) = refl
 
-    by_round : (o : Option ℕ) → plain.next_round h f ≡ o → open_before o ≡ cond (not (is_uplink_open h (window_of f))) o None
-    by_round None is = elim (not (is_uplink_open h (window_of f))) as (λ b. None ≡ cond {A = Option ℕ} b None None) [ true ↦ refl | false ↦ refl ]
+    by_round : (o : Option ℕ) → plain.next_round h f ≡ o → open_before o ≡ cond (is_uplink_open h (window_of f)) None o
+    by_round None is = elim (is_uplink_open h (window_of f)) as (λ b. None ≡ cond {A = Option ℕ} b None None) [ true ↦ refl | false ↦ refl ]
     by_round (Some round) is =
         let last : round ≡ last_round h (window_of f) + 1 = next-round h f round is in
         let before : round - 1 ≡ last_round h (window_of f) = omega (arith, last) in
@@ -151,17 +137,7 @@ round-same net index h frame f legal law placed = by_type (is_confirmed frame)
         ap (λ n. is_some (window_named (plain.in_round f n) (windows_in h))) before
         ∙ (ap (λ o. is_some o) (windows-named h (plain.in_round f (last_round h (window_of f))))
         ∙ (some-map (open_window h (plain.in_round f (last_round h (window_of f)))) ∙ last-open net h legal f)) in
-        ap (λ b. when (not b) round) opens
-
-    by_type : (b : Bool) → cond b (open_before (table.next_round (devices_in net index h) f)) None ≡ cond (b && not (is_uplink_open h (window_of f))) (plain.next_round h f) None
-    by_type true = ap open_before next ∙ by_round (plain.next_round h f) refl
-    by_type false = refl
-
-old-same : (net : Network) (index : ℕ) (h : List Entry) (frame : List ℕ) (f : Fit) → IsLegal net h → UplinksAgree net h → IsPlaced net index h f → kept.old_reply (devices_in net index h) (windows_in h) frame f ≡ plain.old_reply h frame f
-old-same net index h frame f legal law placed =
-    let rounds = round-same net index h frame f legal law placed in
-    let counts = windows-count h f.eui in
-    λ i. first_case (option_map (λ round. cond (nat_le most_windows (counts i)) (reply.Busy f.eui) (reply.Again (plain.in_round f round))) (rounds i) ∷ []) (reply.Old f.eui f.session f.counter)
+        ap (λ b. when (not b) round) opens ∙ elim (is_uplink_open h (window_of f)) as (λ b. when (not b) round ≡ cond {A = Option ℕ} b None (Some round)) [ true ↦ refl | false ↦ refl ]
 
 filter-passes : {X : Type 0} (P : X → Type 0) (test : X → Bool) (xs : List X) → AllByRecursion P xs → AllByRecursion (λ x. P x × (test x ≡ true)) (filter test xs)
 filter-passes P test [] all = tt
@@ -201,31 +177,23 @@ fits-placed recover net index h frame valid mine = step (first_fit recover net h
 pub uplink-replied : (net : Network) (index : ℕ) (h : List Entry) (devices : List Own) (windows : List Window) (frame : List ℕ) → Agrees net index h devices windows → UplinksAgree net h →
     shard_of_addr (record { 0 = (data_fields frame).addr }) ≡ index → uplink_reply devices windows frame ≡ reply_to_uplink net h frame
 uplink-replied net index h devices windows frame agrees law mine =
-    ap₂ (λ ds ws. uplink_reply ds ws frame) agrees.by_device agrees.by_window
-    ∙ (ap₂ (λ f s. first_case (option_map by_copy (window_of_frame frame (windows_in h)) ∷ option_map kept_open f ∷ option_map kept_old s ∷ []) reply.NoSession)
-    (fit-own above net index h frame agrees.valid (law.fits above frame) mine) (fit-own below net index h frame agrees.valid (law.fits below frame) mine)
-    ∙ (ap (λ x. first_case (option_map by_copy x ∷ option_map kept_open (first_fit above net h frame) ∷ option_map kept_old (first_fit below net h frame) ∷ []) reply.NoSession) (windows-framed h frame)
-    ∙ step (plain.window_with h frame) refl (first_fit above net h frame) (first_fit below net h frame) (fits-placed below net index h frame agrees.valid mine)))
+    ap₂ (λ ds ws. uplink_reply ds ws frame) agrees.by_device agrees.by_window ∙ (λ i. uplink_rule (record { confirmed = is_confirmed frame; copied = copied i; above = fresh i; below = stale i }))
   where
-    by_copy : Window → Reply
-    by_copy w = kept.copy_reply (addition w)
+    told : (o : Option Opening) → option_map {U = WindowName × ℕ} (λ (w : Window). (w.name, length w.copies.items)) (option_map (window_of_opening h) o) ≡ option_map {U = WindowName × ℕ} (λ (x : Opening). (x.window, length (window_copies h x.window))) o
+    told None = refl
+    told (Some o) = refl
 
-    kept_old : Fit → Reply
-    kept_old f = kept.old_reply (devices_in net index h) (windows_in h) frame f
+    copied : (kept.uplink_facts (devices_in net index h) (windows_in h) frame).copied ≡ (plain.uplink_facts net h frame).copied
+    copied = ap (option_map {U = WindowName × ℕ} (λ (w : Window). (w.name, length w.copies.items))) (windows-framed h frame) ∙ told (plain.window_with h frame)
 
-    kept_open : Fit → Reply
-    kept_open f = kept.open_reply (windows_in h) (window_of f)
+    fresh : (kept.uplink_facts (devices_in net index h) (windows_in h) frame).above ≡ (plain.uplink_facts net h frame).above
+    fresh = option_map-same (λ (f : Fit). (f, count f.eui (windows_in h))) (λ (f : Fit). (f, window_count h f.eui)) (first_own_fit above frame (devices_in net index h)) (first_fit above net h frame) (fit-own above net index h frame agrees.valid (law.fits above frame) mine)
+        (IfSome-weaker (IsPlaced net index h) (λ (f : Fit). (f, count f.eui (windows_in h)) ≡ (f, window_count h f.eui)) (first_fit above net h frame) (λ f placed. ap (λ n. (f, n)) (windows-count h f.eui)) (fits-placed above net index h frame agrees.valid mine))
 
-    opens : (w : WindowName) → kept.open_reply (windows_in h) w ≡ open_reply h w
-    opens w = ap (λ n. cond (nat_le most_windows n) (reply.Busy w.eui) (reply.Opened w)) (windows-count h w.eui)
-
-    step : (o : Option Opening) → plain.window_with h frame ≡ o → (f s : Option Fit) → IfSome s (IsPlaced net index h) →
-        first_case (option_map by_copy (option_map (window_of_opening h) o) ∷ option_map kept_open f ∷ option_map kept_old s ∷ []) reply.NoSession
-        ≡ first_case (option_map (λ (x : Opening). copy_reply h x.window) o ∷ option_map (λ (x : Fit). open_reply h (window_of x)) f ∷ option_map (plain.old_reply h frame) s ∷ []) reply.NoSession
-    step (Some o) is f s placed = copied-same h o
-    step None is (Some f) s placed = opens (window_of f)
-    step None is None (Some f) placed = old-same net index h frame f agrees.history.legal law placed
-    step None is None None placed = refl
+    stale : (kept.uplink_facts (devices_in net index h) (windows_in h) frame).below ≡ (plain.uplink_facts net h frame).below
+    stale = option_map-same (λ (f : Fit). (f, count f.eui (windows_in h), kept.round_of (devices_in net index h) (windows_in h) f)) (λ (f : Fit). (f, window_count h f.eui, plain.round_of h f)) (first_own_fit below frame (devices_in net index h)) (first_fit below net h frame) (fit-own below net index h frame agrees.valid (law.fits below frame) mine)
+        (IfSome-weaker (IsPlaced net index h) (λ (f : Fit). (f, count f.eui (windows_in h), kept.round_of (devices_in net index h) (windows_in h) f) ≡ (f, window_count h f.eui, plain.round_of h f)) (first_fit below net h frame)
+        (λ f placed. ap₂ (λ n r. (f, n, r)) (windows-count h f.eui) (round-same net index h f agrees.history.legal law placed)) (fits-placed below net index h frame agrees.valid mine))
 
 -- ---- an uplink that is opened
 
@@ -260,26 +228,11 @@ placed-opened net index h frame w f placed eui session apart = record {
   apart = apart;
 }
 
-is-opened : (net : Network) (index : ℕ) (h : List Entry) (frame : List ℕ) (heard : Heard) (w : WindowName) → IsRoster net → IsLegal net h → shard_of_addr (record { 0 = (data_fields frame).addr }) ≡ index → reply_to_uplink net h frame ≡ reply.Opened w → IsOpened net index h frame w
-is-opened net index h frame heard w valid legal mine is =
-    let c : Call = call.Uplink frame heard in
-    let says : opening_in c (reply_to net h c) ≡ Some (opening_of w frame heard) = ap (opening_in c) is in
-    elim (opened-cases h frame heard (plain.window_with h frame) (first_fit above net h frame) (first_fit below net h frame)) [
-      | inl none ↦ absurd (cc (sym none ∙ says))
-      | inr found ↦
-          (let same : opening_of (window_of found.0) frame heard ≡ opening_of w frame heard = same_Some _ _ (sym found.3 ∙ says) in
-          let name : window_of found.0 ≡ w = ap (λ (o : Opening). o.window) same in
-          placed-opened net index h frame w found.0 (at_some (IsPlaced net index h) (first_fit above net h frame) found.0 found.2 (fits-placed above net index h frame valid mine))
-          (ap (λ (v : WindowName). v.eui) name) (ap (λ (v : WindowName). v.session) name) (windows-apart net h legal frame heard w (ap (history.window_in c) is)))
-    ]
-
-is-again : (net : Network) (index : ℕ) (h : List Entry) (frame : List ℕ) (heard : Heard) (w : WindowName) → IsRoster net → IsLegal net h → shard_of_addr (record { 0 = (data_fields frame).addr }) ≡ index → reply_to_uplink net h frame ≡ reply.Again w → IsOpened net index h frame w
-is-again net index h frame heard w valid legal mine is =
-    let c : Call = call.Uplink frame heard in
-    let found = again-fits h frame heard (plain.window_with h frame) (first_fit above net h frame) (first_fit below net h frame) w is in
-    let name : plain.in_round found.0 found.2 ≡ w = found.3 in
-    placed-opened net index h frame w found.0 (at_some (IsPlaced net index h) (first_fit below net h frame) found.0 found.1 (fits-placed below net index h frame valid mine))
-    (ap (λ (v : WindowName). v.eui) name) (ap (λ (v : WindowName). v.session) name) (windows-apart net h legal frame heard w (ap (history.window_in c) is))
+is-opened : (net : Network) (index : ℕ) (h : List Entry) (frame : List ℕ) (heard : Heard) (w : WindowName) → IsRoster net → IsLegal net h → shard_of_addr (record { 0 = (data_fields frame).addr }) ≡ index
+    → history.window_in (call.Uplink frame heard) (reply_to_uplink net h frame) ≡ Some (opening_of w frame heard) → IsOpened net index h frame w
+is-opened net index h frame heard w valid legal mine says =
+    let at = window-fits net h frame heard w says in
+    placed-opened net index h frame w at.fit (at_some (IsPlaced net index h) (first_fit at.recover net h frame) at.fit at.is (fits-placed at.recover net index h frame valid mine)) at.eui at.session (windows-apart net h legal frame heard w says)
 
 -- the record has the session
 opened-session : (net : Network) (index : ℕ) (h : List Entry) (frame : List ℕ) (w : WindowName) → IsOpened net index h frame w → (join : JoinAns) → session_join h w.eui w.session ≡ Some join →
@@ -320,60 +273,46 @@ has-place net index h devices windows frame w agrees is = record {
 pub can_open : (net : Network) (index : ℕ) (h : List Entry) (devices : List Own) (windows : List Window) (frame : List ℕ) (heard : Heard) → Agrees net index h devices windows → UplinksAgree net h →
     shard_of_addr (record { 0 = (data_fields frame).addr }) ≡ index → CanOpen devices windows frame
 can_open net index h devices windows frame heard agrees law mine =
-    record { place = λ w said. has-place net index h devices windows frame w agrees (opens w (replied w said)); again = λ w said. has-place net index h devices windows frame w agrees (again w said) }
+    record { place = λ w said. placed w (reply.Opened w) said refl; again = λ w said. placed w (reply.Again w) said refl }
   where
-    same : uplink_reply devices windows frame ≡ reply_to_uplink net h frame
-    same = uplink-replied net index h devices windows frame agrees law mine
-
-    replied : (w : WindowName) → uplink_reply devices windows frame ≡ reply.Opened w → reply_to_uplink net h frame ≡ reply.Opened w
-    replied w said = sym (uplink-replied net index h devices windows frame agrees law mine) ∙ said
-
-    opens : (w : WindowName) → reply_to_uplink net h frame ≡ reply.Opened w → IsOpened net index h frame w
-    opens w is = is-opened net index h frame heard w agrees.valid agrees.history.legal mine is
-
-    again : (w : WindowName) → uplink_reply devices windows frame ≡ reply.Again w → IsOpened net index h frame w
-    again w said = is-again net index h frame heard w agrees.valid agrees.history.legal mine (sym (uplink-replied net index h devices windows frame agrees law mine) ∙ said)
+    placed : (w : WindowName) (r : Reply) → uplink_reply devices windows frame ≡ r → history.window_in (call.Uplink frame heard) r ≡ Some (opening_of w frame heard) → HasPlace devices windows w
+    placed w r said opens =
+        let replied : reply_to_uplink net h frame ≡ r = sym (uplink-replied net index h devices windows frame agrees law mine) ∙ said in
+        has-place net index h devices windows frame w agrees (is-opened net index h frame heard w agrees.valid agrees.history.legal mine (ap (history.window_in (call.Uplink frame heard)) replied ∙ opens))
 
 -- ---- after it
 
-room-of : (h : List Entry) (frame : List ℕ) (copied : Option Opening) (fresh stale : Option Fit) (w : WindowName) (place : ℕ) → uplink_reply_by h frame copied fresh stale ≡ reply.Copied w place → length (window_copies h w) < most_copies
-room-of h frame (Some o) fresh stale w place is = step (nat_le (length (window_copies h o.window) + 1) most_copies) refl is
+-- where a copy is added there is room for it, and none where the window is crowded
+room-of : (net : Network) (h : List Entry) (frame : List ℕ) (w : WindowName) (place : ℕ) → reply_to_uplink net h frame ≡ reply.Copied w place → length (window_copies h w) < most_copies
+room-of net h frame w place = uplink-has (λ r. r ≡ reply.Copied w place → length (window_copies h w) < most_copies) net h frame (record {
+  copied = λ o is room said. subst (λ (v : WindowName). length (window_copies h v) < most_copies) (same o.window (length (window_copies h o.window) + 1) said) room;
+  crowded = λ o is full said. absurd (cc said);
+  opened = λ f none is room said. absurd (cc said);
+  again = λ f round none is confirmed next room said. absurd (cc said);
+  busy = λ recover f is said. absurd (cc said);
+  old = λ f is said. absurd (cc said);
+  none = λ said. absurd (cc said);
+})
   where
-    step : (b : Bool) → nat_le (length (window_copies h o.window) + 1) most_copies ≡ b → cond b (reply.Copied o.window (length (window_copies h o.window) + 1)) (reply.Crowded o.window) ≡ reply.Copied w place → length (window_copies h w) < most_copies
-    step false fits said = absurd (cc said)
-    step true fits said =
-        let less : length (window_copies h o.window) < 16 = grind (arith, nat_tests) in
-        let same : o.window ≡ w = cc in
-        subst (λ (v : WindowName). length (window_copies h v) < 16) same less
-room-of h frame None (Some f) stale w place is = step (nat_le most_windows (window_count h f.eui)) is
-  where
-    v : WindowName
-    v = window_of f
+    same : (v : WindowName) (n : ℕ) → reply.Copied v n ≡ reply.Copied w place → v ≡ w
+    same v n said = cc
 
-    step : (b : Bool) → cond b (reply.Busy v.eui) (reply.Opened v) ≡ reply.Copied w place → length (window_copies h w) < most_copies
-    step true said = absurd (cc said)
-    step false said = absurd (cc said)
-room-of h frame None None (Some f) w place is = old-has (λ r. r ≡ reply.Copied w place → length (window_copies h w) < most_copies) h frame f (λ said. absurd (cc said)) (λ said. absurd (cc said)) (λ round found room said. absurd (cc said)) is
-room-of h frame None None None w place is = absurd (cc is)
-
-full-of : (h : List Entry) (frame : List ℕ) (copied : Option Opening) (fresh stale : Option Fit) (w : WindowName) → uplink_reply_by h frame copied fresh stale ≡ reply.Crowded w → nat_lt (length (window_copies h w)) most_copies ≡ false
-full-of h frame (Some o) fresh stale w is = step (nat_le (length (window_copies h o.window) + 1) most_copies) refl is
+full-of : (net : Network) (h : List Entry) (frame : List ℕ) (w : WindowName) → reply_to_uplink net h frame ≡ reply.Crowded w → nat_lt (length (window_copies h w)) most_copies ≡ false
+full-of net h frame w = uplink-has (λ r. r ≡ reply.Crowded w → nat_lt (length (window_copies h w)) most_copies ≡ false) net h frame (record {
+  copied = λ o is room said. absurd (cc said);
+  crowded = λ o is full said. subst (λ (v : WindowName). nat_lt (length (window_copies h v)) most_copies ≡ false) (same o.window said) (not_less (length (window_copies h o.window)) full);
+  opened = λ f none is room said. absurd (cc said);
+  again = λ f round none is confirmed next room said. absurd (cc said);
+  busy = λ recover f is said. absurd (cc said);
+  old = λ f is said. absurd (cc said);
+  none = λ said. absurd (cc said);
+})
   where
-    step : (b : Bool) → nat_le (length (window_copies h o.window) + 1) most_copies ≡ b → cond b (reply.Copied o.window (length (window_copies h o.window) + 1)) (reply.Crowded o.window) ≡ reply.Crowded w → nat_lt (length (window_copies h w)) most_copies ≡ false
-    step true fits said = absurd (cc said)
-    step false fits said =
-        let same : o.window ≡ w = cc in
-        ap (λ (v : WindowName). nat_lt (length (window_copies h v)) 16) (sym same) ∙ (place-test (length (window_copies h o.window)) ∙ fits)
-full-of h frame None (Some f) stale w is = step (nat_le most_windows (window_count h f.eui)) is
-  where
-    v : WindowName
-    v = window_of f
+    same : (v : WindowName) → reply.Crowded v ≡ reply.Crowded w → v ≡ w
+    same v said = cc
 
-    step : (b : Bool) → cond b (reply.Busy v.eui) (reply.Opened v) ≡ reply.Crowded w → nat_lt (length (window_copies h w)) most_copies ≡ false
-    step true said = absurd (cc said)
-    step false said = absurd (cc said)
-full-of h frame None None (Some f) w is = old-has (λ r. r ≡ reply.Crowded w → nat_lt (length (window_copies h w)) most_copies ≡ false) h frame f (λ said. absurd (cc said)) (λ said. absurd (cc said)) (λ round found room said. absurd (cc said)) is
-full-of h frame None None None w is = absurd (cc is)
+    not_less : (n : ℕ) → most_copies ≤ n → nat_lt n most_copies ≡ false
+    not_less n full = grind (arith, nat_tests, full)
 
 -- the devices and the windows after an uplink
 record After (net : Network) (index : ℕ) (h g : List Entry) (frame : List ℕ) (heard : Heard) (r : Reply) : Type 0 where
@@ -416,16 +355,16 @@ after-of net index h devices windows frame heard agrees stay law mine r is = ste
       devices_after = unconcerned (reply.Copied w place) said (λ eui. refl);
       windows_after =
           sym (windows-copied h e w heard (joined net index h devices windows agrees) refl (ap (history.window_in (call.Uplink frame heard)) said) (ap (window_copy_in (call.Uplink frame heard)) said)
-          (room-of h frame (plain.window_with h frame) (first_fit above net h frame) (first_fit below net h frame) w place said));
+          (room-of net h frame w place said));
     }
     step (reply.Crowded w) said = record {
       devices_after = unconcerned (reply.Crowded w) said (λ eui. refl);
       windows_after =
-          copied-full h w heard (full-of h frame (plain.window_with h frame) (first_fit above net h frame) (first_fit below net h frame) w said)
+          copied-full h w heard (full-of net h frame w said)
           ∙ quiet (reply.Crowded w) said refl refl;
     }
     step (reply.Opened w) said =
-        let opened = is-opened net index h frame heard w agrees.valid agrees.history.legal mine said in
+        let opened = is-opened net index h frame heard w agrees.valid agrees.history.legal mine (ap (history.window_in (call.Uplink frame heard)) said) in
         let new = opened-new net h agrees.history.legal frame heard w said in
         record {
           devices_after =
@@ -436,7 +375,7 @@ after-of net index h devices windows frame heard agrees stay law mine r is = ste
           windows_after = windows_opened w opened (ap (history.window_in (call.Uplink frame heard)) said) (ap (window_copy_in (call.Uplink frame heard)) said);
         }
     step (reply.Again w) said =
-        let opened = is-again net index h frame heard w agrees.valid agrees.history.legal mine said in
+        let opened = is-opened net index h frame heard w agrees.valid agrees.history.legal mine (ap (history.window_in (call.Uplink frame heard)) said) in
         let next = again-next net h agrees.history.legal frame heard w said in
         let round : w.round ≡ last_round h w + 1 = next.round in
         record {

@@ -1,14 +1,15 @@
 //! What comes of an uplink.
 
-ghost use Rattle.std.specs.Prelude.{◌≡◌, true, nat_le, IsSome, IfOk, OnOk, OnErr, None, Some, position};
+ghost use Rattle.std.specs.Prelude.{◌≡◌, true, nat_le, IsSome, IfOk, OnOk, OnErr, None, Some, position, if◌then◌else◌};
 ghost use Rattle.ns_types.specs.declared.identity.WindowName.{WindowName};
+ghost use Rattle.ns_views.specs.Frame.{is_confirmed};
 ghost use Rattle.ns_calls.specs.declared.call.Call.TheVariants.{Uplink};
 ghost use Rattle.ns_calls.specs.declared.call.Reply.TheVariants.{Opened, Again};
 ghost use Rattle.ns_calls.specs.Reply.{most_windows, window_of};
 ghost use Rattle.ns_windows.specs.Windows.{window_named, window_of_frame, count};
 ghost use Rattle.ns_shard.specs.Private.Room.{opens};
 ghost use Rattle.ns_devices.specs.Devices.{is_own, fit_at, IsNew, keys_in};
-ghost use Rattle.ns_shard.specs.Private.Reaction.{copy_reply, new_window, with_window, open_reply, round_of, old_reply, uplink_reply, with_shard_uplink, with_copy_or_window, HasPlace, CanOpen};
+ghost use Rattle.ns_shard.specs.Private.Reaction.{added_reply, new_window, with_window, open_reply, round_of, again_reply, uplink_reply, with_shard_uplink, with_copy_or_window, HasPlace, CanOpen};
 
 use arrayvec::ArrayVec;
 use ns_calls::{DataFrame, MOST_WINDOWS, Reply};
@@ -20,7 +21,7 @@ use std::alloc::AllocError;
 
 // The reply to one more copy of an open window.
 fn copy_reply(addition: Addition) -> Reply
-    ensures { result ≡ copy_reply addition }
+    ensures { result ≡ added_reply addition }
 {
     match addition {
         Addition::Copied { window, place } => Reply::Copied { window, place },
@@ -88,12 +89,12 @@ fn open(
 ) -> Result<Reply, AllocError>
     requires fit { position (is_own fit.now.eui) devices.old ≡ Some fit.now.place }
     requires new { IsNew devices.old (window_of (fit_at fit.now)) }
-    requires place { let name = window_of (fit_at fit.now) in open_reply windows.old name ≡ Opened name → HasPlace devices.old windows.old name }
+    requires place { let f = fit_at fit.now in open_reply windows.old f ≡ Opened (window_of f) → HasPlace devices.old windows.old (window_of f) }
     requires frame { window_of_frame frame.now windows.old ≡ None }
-    ensures reply { IfOk result (λ r. r ≡ open_reply windows.old (window_of (fit_at fit.now))) }
+    ensures reply { IfOk result (λ r. r ≡ open_reply windows.old (fit_at fit.now)) }
     ensures devices { IfOk result (λ r. devices.new ≡ with_shard_uplink r devices.old) }
     ensures windows { IfOk result (λ r. windows.new ≡ with_copy_or_window r frame.now heard.now devices.old windows.old) }
-    ensures memory { OnErr result (opens (Uplink frame.now heard.now) (open_reply windows.old (window_of (fit_at fit.now))) ≡ true) }
+    ensures memory { OnErr result (opens (Uplink frame.now heard.now) (open_reply windows.old (fit_at fit.now)) ≡ true) }
     ensures err_devices { OnErr result (devices.new ≡ devices.old) }
     ensures err_windows { OnErr result (windows.new ≡ windows.old) }
 {
@@ -110,7 +111,7 @@ fn open(
 // closed.
 fn round_of(devices: &Devices, windows: &Windows, fit: &Placed, frame: &DataFrame) -> Option<u32>
     requires { position (is_own fit.now.eui) devices.now ≡ Some fit.now.place }
-    ensures { result ≡ round_of devices.now windows.now frame.now (fit_at fit.now) }
+    ensures { result ≡ (if is_confirmed frame.now then round_of devices.now windows.now (fit_at fit.now) else None) }
 {
     if !frame.view().confirmed() {
         return None;
@@ -132,13 +133,13 @@ fn open_again(
     heard: &Heard,
 ) -> Result<Reply, AllocError>
     requires fit { position (is_own fit.now.eui) devices.old ≡ Some fit.now.place }
-    requires place { (name : WindowName) → old_reply devices.old windows.old frame.now (fit_at fit.now) ≡ Again name
+    requires place { (name : WindowName) → again_reply devices.old windows.old frame.now (fit_at fit.now) ≡ Again name
         → HasPlace devices.old windows.old name }
     requires frame { window_of_frame frame.now windows.old ≡ None }
-    ensures reply { IfOk result (λ r. r ≡ old_reply devices.old windows.old frame.now (fit_at fit.now)) }
+    ensures reply { IfOk result (λ r. r ≡ again_reply devices.old windows.old frame.now (fit_at fit.now)) }
     ensures devices { IfOk result (λ r. devices.new ≡ with_shard_uplink r devices.old) }
     ensures windows { IfOk result (λ r. windows.new ≡ with_copy_or_window r frame.now heard.now devices.old windows.old) }
-    ensures memory { OnErr result (opens (Uplink frame.now heard.now) (old_reply devices.old windows.old frame.now (fit_at fit.now)) ≡ true) }
+    ensures memory { OnErr result (opens (Uplink frame.now heard.now) (again_reply devices.old windows.old frame.now (fit_at fit.now)) ≡ true) }
     ensures err_devices { OnErr result (devices.new ≡ devices.old) }
     ensures err_windows { OnErr result (windows.new ≡ windows.old) }
 {

@@ -1,12 +1,12 @@
 -- What a call gives and leaves, told of the devices and windows that a shard keeps.
-use Rattle.std.specs.Prelude.{◌≡◌, IsSome, ℕ, ◌==◌, nat_le, List, [], ◌∷◌, ◌++◌, Option, None, Some, option_map, option_and_then, if◌then◌else◌, not, is_some, ◌-◌}
+use Rattle.std.specs.Prelude.{◌≡◌, IsSome, ℕ, ◌==◌, List, [], ◌∷◌, ◌++◌, length, Option, None, Some, option_map, option_and_then, if◌then◌else◌, not, is_some, ◌-◌}
 use Rattle.std.specs.Option.{option_map_or}
 use Rattle.ns_types.specs.declared.identity.DevAddr.{DevAddr}
 use Rattle.ns_types.specs.declared.identity.Key.{Key}
 use Rattle.ns_types.specs.declared.identity.WindowName.{WindowName}
 use Rattle.ns_types.specs.declared.heard.Heard.{Heard}
 use Rattle.ns_types.specs.declared.ticket.Ticket.{Ticket}
-use Rattle.ns_types.specs.Cases.{first_case, when}
+use Rattle.ns_types.specs.Cases.{when}
 use Rattle.ns_types.specs.Ticket.{dev_eui, join_eui}
 use Rattle.ns_views.specs.Frame.{is_confirmed}
 use Rattle.ns_secure.specs.Counter.{above, below}
@@ -17,7 +17,7 @@ use Rattle.ns_calls.specs.declared.call.Call.TheVariants as call
 use Rattle.ns_calls.specs.declared.call.Reply.{Reply}
 use Rattle.ns_calls.specs.declared.call.Reply.TheVariants as reply
 use Rattle.ns_calls.specs.declared.answer.Downlink.{Downlink}
-use Rattle.ns_calls.specs.Reply.{most_windows, Fit, window_of, in_round}
+use Rattle.ns_calls.specs.Reply.{Fit, window_of, in_round, UplinkFacts, unless_busy, old_reply, uplink_rule}
 use Rattle.ns_calls.specs.Out.{accept_at}
 use Rattle.ns_sessions.specs.declared.decision.AnswerDecision.{AnswerDecision}
 use Rattle.ns_sessions.specs.declared.decision.AnswerDecision.TheVariants as decision
@@ -81,37 +81,36 @@ with_closing (Some w) devices = with_shard_ack w devices
 
 -- ---- uplinks
 
-abbrev pub copy_reply : Addition → Reply
-copy_reply (addition.Copied name place) = reply.Copied name place
-copy_reply (addition.Crowded name) = reply.Crowded name
+-- the reply to one more copy
+abbrev pub added_reply : Addition → Reply
+added_reply (addition.Copied name place) = reply.Copied name place
+added_reply (addition.Crowded name) = reply.Crowded name
 
 -- a window with its first copy, and the keys of its session
 abbrev pub new_window : List ℕ → Heard → WindowName → Key × Option Key → Window
 new_window frame heard name keys = record { name = name; frame = frame; copies = record { items = heard ∷ [] }; nwk = keys.0; app = keys.1 }
 
--- the reply with which a window is opened, where its device has room for it
-abbrev pub unless_busy : List Window → WindowName → Reply → Reply
-unless_busy windows name opened = if nat_le most_windows (count name.eui windows) then reply.Busy name.eui else opened
+-- the round in which an uplink is acknowledged again: the next one, where the window of the round before it is closed
+abbrev pub round_of : List Own → List Window → Fit → Option ℕ
+round_of devices windows f = option_and_then (λ round. when (not (is_some (window_named (in_round f (round - 1)) windows))) round) (next_round devices f)
 
-abbrev pub open_reply : List Window → WindowName → Reply
-open_reply windows name = unless_busy windows name (reply.Opened name)
-
--- the round in which a frame is acknowledged again: the window of the round before it is closed
-abbrev pub round_of : List Own → List Window → List ℕ → Fit → Option ℕ
-round_of devices windows frame f =
-    if is_confirmed frame then option_and_then (λ round. when (not (is_some (window_named (in_round f (round - 1)) windows))) round) (next_round devices f) else None
-
-abbrev pub old_reply : List Own → List Window → List ℕ → Fit → Reply
-old_reply devices windows frame f = first_case (
-    option_map (λ round. unless_busy windows (in_round f round) (reply.Again (in_round f round))) (round_of devices windows frame f)
-    ∷ []) (reply.Old f.eui f.session f.counter)
+abbrev pub uplink_facts : List Own → List Window → List ℕ → UplinkFacts
+uplink_facts devices windows frame = record {
+  confirmed = is_confirmed frame;
+  copied = option_map (λ w. (w.name, length w.copies.items)) (window_of_frame frame windows);
+  above = option_map (λ f. (f, count f.eui windows)) (first_own_fit above frame devices);
+  below = option_map (λ f. (f, count f.eui windows, round_of devices windows f)) (first_own_fit below frame devices);
+}
 
 abbrev pub uplink_reply : List Own → List Window → List ℕ → Reply
-uplink_reply devices windows frame = first_case (
-    option_map (λ w. copy_reply (addition w)) (window_of_frame frame windows)
-    ∷ option_map (λ f. open_reply windows (window_of f)) (first_own_fit above frame devices)
-    ∷ option_map (old_reply devices windows frame) (first_own_fit below frame devices)
-    ∷ []) reply.NoSession
+uplink_reply devices windows frame = uplink_rule (uplink_facts devices windows frame)
+
+-- the reply where a frame fits above the greatest counter, and where at or below it
+abbrev pub open_reply : List Window → Fit → Reply
+open_reply windows f = unless_busy f.eui (count f.eui windows) (reply.Opened (window_of f))
+
+abbrev pub again_reply : List Own → List Window → List ℕ → Fit → Reply
+again_reply devices windows frame f = old_reply (is_confirmed frame) f (count f.eui windows) (round_of devices windows f)
 
 -- what an uplink of this reply leaves
 abbrev pub with_shard_uplink : Reply → List Own → List Own

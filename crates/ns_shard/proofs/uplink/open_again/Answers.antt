@@ -3,7 +3,7 @@ use Rattle.ns_calls.specs.declared.call.Call.TheVariants.{Uplink}
 use Rattle.ns_calls.specs.declared.call.Reply.TheVariants.{Again, Busy}
 use Rattle.ns_devices.specs.Devices.{fit_at}
 use Rattle.ns_shard.specs.Private.Room.{opens}
-use Rattle.ns_shard.specs.Private.Reaction.{old_reply}
+use Rattle.ns_shard.specs.Private.Reaction.{again_reply}
 use Rattle.ns_shard.proofs.Openings.{again-told, again-free}
 use Rattle.ns_shard.proofs.uplink.open_again.Goals as goal
 
@@ -23,7 +23,7 @@ pub returns-in_err-put-clause-memory : goal.returns-in_err-put-clause-memory
 returns-in_err-put-clause-memory c =
     let name = c.in_round-name.result in
     let free = again-free c.args.devices.now c.args.windows.now c.args.frame.now (fit_at c.args.fit.now) c.in-Some.round name c.is_busy.result c.in-Some.ensures c.in_round-name.ensures c.is_busy.ensures c.if-is_busy.false in
-    let opened : opens (Uplink c.args.frame.now c.args.heard.now) (old_reply c.args.devices.now c.args.windows.now c.args.frame.now (fit_at c.args.fit.now)) ≡ true =
+    let opened : opens (Uplink c.args.frame.now c.args.heard.now) (again_reply c.args.devices.now c.args.windows.now c.args.frame.now (fit_at c.args.fit.now)) ≡ true =
     ap (opens (Uplink c.args.frame.now c.args.heard.now)) free in
     search rules
 

@@ -17,5 +17,5 @@ open-requires-clause-place c opened =
     let kept : c.add_copy.new.self ≡ windows = none-copied c.bytes.result.now c.args.heard.now windows c.add_copy.new.self bare c.in_default.ensures.windows in
     let f = fit_at c.in-Some-fit.fit in
     let fits : first_own_fit above frame c.args.devices.now ≡ Some f = ap (λ (b : List ℕ). first_own_fit above b c.args.devices.now) (sym c.view-view.ensures) ∙ sym c.in-Some-fit.ensures.fit in
-    let told = sym (fresh-reply c.args.devices.now windows frame f none fits) ∙ (ap (λ (ws : List Window). open_reply ws (window_of f)) (sym kept) ∙ opened) in
+    let told = sym (fresh-reply c.args.devices.now windows frame f none fits) ∙ (ap (λ (ws : List Window). open_reply ws f) (sym kept) ∙ opened) in
     subst (λ (ws : List Window). HasPlace c.args.devices.now ws (window_of f)) (sym kept) (c.requires.open.place (window_of f) told)
