@@ -16,8 +16,6 @@ mod laws;
 mod part;
 mod responses;
 mod section;
-#[cfg(test)]
-mod tests;
 
 pub use laws::chunked_responses_are_given_plain;
 pub use responses::Responses;

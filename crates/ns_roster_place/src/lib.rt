@@ -11,8 +11,6 @@ mod find;
 pub mod laws;
 mod outer;
 mod place;
-#[cfg(test)]
-mod tests;
 
 pub use find::first_fault;
 pub use place::{DeviceField, OuterField, Place, PlacedFault};

@@ -1,7 +1,7 @@
 //! Texts with each fault, and the words for it. Faults and fields are by FORMATS, part 6.
 
-use crate::{DeviceField, OuterField, Place, first_fault};
 use ns_roster::RosterFault;
+use ns_roster_place::{DeviceField, OuterField, Place, first_fault};
 use std::test::Fail;
 
 // Outer fields that are right, and the front of the list of devices.

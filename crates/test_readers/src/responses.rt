@@ -2,7 +2,7 @@
 
 ghost use Rattle.std.specs.Prelude.{◌<◌};
 
-use crate::Responses;
+use ns_responses::Responses;
 use ns_types::{Fuse, ReadFault, read_all};
 use std::test::Fail;
 
