@@ -16,10 +16,12 @@ use Rattle.ns_calls.specs.declared.call.Call.TheVariants as call
 use Rattle.ns_calls.specs.declared.call.Reply.TheVariants as reply
 use Rattle.ns_calls.specs.declared.call.Entry.{Entry}
 use Rattle.ns_calls.specs.Queries.{maximum}
-use Rattle.ns_calls.specs.History.{Opening, Closing, closing_in, closings, same_device, session_acks, greatest_ack, next_ack, next_ack_number, open_windows, open_window, is_live}
+use Rattle.ns_calls.specs.Entries.{Opening, Closing, closing_in, same_device, open_windows}
+use Rattle.ns_calls.specs.History.{closings, session_acks, greatest_ack, next_ack, next_ack_number, open_window, is_live}
 use Rattle.ns_calls.specs.Reply.{ack_number, reply_to}
 use Rattle.ns_calls.specs.Legal.{IsLegal, entry_for, with_call}
-use Rattle.ns_calls.specs.Headline.{Rises, AcksRise}
+use Rattle.ns_calls.specs.Laws.{Rises}
+use Rattle.ns_calls.specs.Headline.{AcksRise}
 use Rattle.ns_calls.proofs.Lists.{said-adds, find-has, Exceeds-each, Rises-push, at_some}
 use Rattle.ns_calls.proofs.Induction.{legal_induction}
 use Rattle.ns_calls.proofs.JoinLemmas.{same_device-eq}

@@ -21,8 +21,9 @@ use Rattle.ns_calls.specs.declared.call.Call.TheVariants as call
 use Rattle.ns_calls.specs.declared.call.Reply.{Reply}
 use Rattle.ns_calls.specs.declared.call.Reply.TheVariants as reply
 use Rattle.ns_calls.specs.declared.call.Entry.{Entry}
-use Rattle.ns_calls.specs.History.{Opening, window_in, window_copy_in, closes, open_windows, open_window, window_copies}
-use Rattle.ns_calls.specs.Reply.{most_copies, window_with, window_of, in_round, first_fit, copy_reply, uplink_rule, reply_to, ack_number}
+use Rattle.ns_calls.specs.Entries.{Opening, window_in, closes, open_windows, most_copies}
+use Rattle.ns_calls.specs.History.{window_copy_in, open_window, window_copies}
+use Rattle.ns_calls.specs.Reply.{window_with, window_of, in_round, first_fit, copy_reply, uplink_rule, reply_to, ack_number}
 use Rattle.ns_calls.specs.Out.{uplink_of, first_uplink_of, uplink_out, answer}
 use Rattle.ns_calls.specs.Legal.{IsLegal}
 use Rattle.ns_calls.specs.Open.{IsOpenWindow, hearing_in, hearings, HasJustItsCopies}

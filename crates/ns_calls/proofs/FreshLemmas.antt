@@ -18,10 +18,12 @@ use Rattle.ns_calls.specs.declared.call.Call.TheVariants as call
 use Rattle.ns_calls.specs.declared.call.Reply.{Reply}
 use Rattle.ns_calls.specs.declared.call.Reply.TheVariants as reply
 use Rattle.ns_calls.specs.declared.call.Entry.{Entry}
-use Rattle.ns_calls.specs.History.{Opening, opening_in, window_in, window_copy_in, last_round, live, is_live, session_join, greatest_counter, open_windows, open_window, window_copies}
+use Rattle.ns_calls.specs.Entries.{Opening, opening_in, window_in, open_windows}
+use Rattle.ns_calls.specs.History.{window_copy_in, last_round, live, is_live, session_join, greatest_counter, open_window, window_copies}
 use Rattle.ns_calls.specs.Reply.{Fit, fit_of, window_of, fitting_counter, session_fit, device_fit, devices_at, first_fit, window_with, in_round, reply_to, reply_to_uplink}
 use Rattle.ns_calls.specs.Legal.{IsLegal, entry_for, with_call}
-use Rattle.ns_calls.specs.Headline.{opening_count, open_count, WindowsOpenOnce, IsNewWindow, IsNextRound}
+use Rattle.ns_calls.specs.Laws.{opening_count, open_count, WindowsOpenOnce}
+use Rattle.ns_calls.specs.Headline.{IsNewWindow, IsNextRound}
 use Rattle.ns_calls.proofs.LocalLemmas.{bool_tells}
 use Rattle.ns_calls.proofs.Lists.{All-weaker, first-gives, first-gives_of, count-cons, count-found, IfSome-weaker, at_some}
 use Rattle.ns_calls.proofs.PushLemmas.{window_copies-push}

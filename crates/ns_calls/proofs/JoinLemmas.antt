@@ -1,5 +1,5 @@
 -- The joins that a legal history accepts.
-use Rattle.std.proofs.Common.{◌≡◌, ◌⊎◌, ℕ, ◌+◌, ◌<◌, ◌≤◌, Bool, true, false, not, List, [], ◌∷◌, ◌++◌, map, nat_le, unwrap_or, Option, None, Some, option_map, refl, sym, ap, subst, ◌∙◌, arith, inl, inr}
+use Rattle.std.proofs.Common.{◌≡◌, ◌⊎◌, ℕ, ◌+◌, ◌<◌, ◌≤◌, Bool, true, false, not, cond, length, nat_lt, List, [], ◌∷◌, ◌++◌, map, nat_le, unwrap_or, Option, None, Some, option_map, refl, sym, ap, subst, ◌∙◌, arith, inl, inr}
 use Rattle.std.specs.List.{AllByRecursion}
 use Rattle.std.proofs.lemmas.List.{map-append}
 use Rattle.std.proofs.lemmas.Option.{none-some, same_Some}
@@ -8,9 +8,9 @@ use Rattle.ns_types.specs.declared.identity.DevEui.{DevEui}
 use Rattle.ns_types.specs.declared.identity.DevAddr.{DevAddr}
 use Rattle.ns_types.specs.declared.ticket.Ticket.{Ticket}
 use Rattle.ns_types.specs.Cases.{first_case, when}
-use Rattle.ns_types.specs.Ticket.{dev_eui, nonce}
+use Rattle.ns_types.specs.Ticket.{dev_eui, join_eui, nonce}
 use Rattle.ns_secure.specs.Counter.{Exceeds}
-use Rattle.ns_roster.specs.Network.{Network}
+use Rattle.ns_roster.specs.Network.{Network, is_known}
 use Rattle.ns_calls.specs.declared.call.JoinAns.{JoinAns}
 use Rattle.ns_calls.specs.declared.call.Outcome.{Outcome}
 use Rattle.ns_calls.specs.declared.call.Outcome.TheVariants as outcome
@@ -20,13 +20,43 @@ use Rattle.ns_calls.specs.declared.call.Reply.{Reply}
 use Rattle.ns_calls.specs.declared.call.Reply.TheVariants as reply
 use Rattle.ns_calls.specs.declared.call.Entry.{Entry}
 use Rattle.ns_calls.specs.Queries.{maximum, greater}
-use Rattle.ns_calls.specs.History.{Acceptance, acceptance_in, acceptances, same_device, last_nonce, greatest_nonce, next_session, is_ticket_open}
-use Rattle.ns_calls.specs.Reply.{at_or_above, nonce_at_or_above, is_failed, address}
+use Rattle.ns_calls.specs.Entries.{Acceptance, acceptance_in, acceptances, same_device, most_copies}
+use Rattle.ns_calls.specs.History.{last_nonce, greatest_nonce, next_session, is_ticket_open, ticket_count, ticket_copies}
+use Rattle.ns_calls.specs.Reply.{most_tickets, at_or_above, nonce_at_or_above, join_copy_reply, reply_to_join, is_failed, address}
 use Rattle.ns_calls.specs.Legal.{IsLegal, entry_for, with_call}
-use Rattle.ns_calls.specs.Headline.{Rises, NoncesRise, nonces_up_to, SessionsAreBounded, Reaches, nonces_of, NoncesAreWithin, AreBelow}
+use Rattle.ns_calls.specs.Laws.{Rises, NoncesRise, nonces_of}
+use Rattle.ns_calls.specs.Headline.{nonces_up_to, SessionsAreBounded, Reaches, NoncesAreWithin, AreBelow}
 use Rattle.ns_calls.proofs.Lists.{AddsOne, said-adds, All-push, Exceeds-greater, Exceeds-each, Rises-push, All-weaker}
 use Rattle.ns_calls.proofs.QueryLemmas.{greater-assoc, maximum-push}
 use Rattle.ns_calls.proofs.Induction.{legal_induction}
+
+-- ---- the reply to a Join-Request by its cases
+
+-- what is to be shown of each reply
+pub record JoinCases (P : Reply → Type 0) (net : Network) (h : List Entry) (t : Ticket) : Type 0 where
+  pub unknown : is_known net (dev_eui t) (join_eui t) ≡ false → P reply.NoDevice
+  pub old : is_known net (dev_eui t) (join_eui t) ≡ true → (greatest : ℕ) → P (reply.NonceOld (record { 0 = greatest }))
+  pub copied : is_known net (dev_eui t) (join_eui t) ≡ true → length (ticket_copies h t) < most_copies → P (reply.JoinCopied (length (ticket_copies h t) + 1))
+  pub crowded : P reply.JoinCrowded
+  pub busy : P reply.JoinBusy
+  pub ask : is_known net (dev_eui t) (join_eui t) ≡ true → is_ticket_open h t ≡ false → ticket_count h (dev_eui t) < most_tickets → P (reply.Ask t)
+
+pub join-has : (P : Reply → Type 0) (net : Network) (h : List Entry) (t : Ticket) → JoinCases P net h t → P (reply_to_join net h t)
+join-has P net h t cases = step (is_known net (dev_eui t) (join_eui t)) (nonce_at_or_above net h t) (is_ticket_open h t) (nat_le most_tickets (ticket_count h (dev_eui t))) refl refl refl
+  where
+    copy : is_known net (dev_eui t) (join_eui t) ≡ true → (b : Bool) → nat_lt (length (ticket_copies h t)) most_copies ≡ b → P (cond b (reply.JoinCopied (length (ticket_copies h t) + 1)) reply.JoinCrowded)
+    copy known true room = cases.copied known (grind (arith, nat_tests, room))
+    copy known false full = cases.crowded
+
+    step : (known : Bool) (stale : Option ℕ) (is_open busy : Bool) → is_known net (dev_eui t) (join_eui t) ≡ known → is_ticket_open h t ≡ is_open → nat_le most_tickets (ticket_count h (dev_eui t)) ≡ busy →
+        P (first_case (when (not known) reply.NoDevice ∷ option_map (λ g. reply.NonceOld (record { 0 = g })) stale ∷ option_map join_copy_reply (when is_open (length (ticket_copies h t))) ∷ when busy reply.JoinBusy ∷ []) (reply.Ask t))
+    step false stale is_open busy known opens full = cases.unknown known
+    step true (Some g) is_open busy known opens full = cases.old known g
+    step true None true busy known opens full = copy known (nat_lt (length (ticket_copies h t)) most_copies) refl
+    step true None false true known opens full = cases.busy
+    step true None false false known opens full = cases.ask known opens (grind (arith, nat_tests, full))
+
+-- ---- the answer to a join
 
 -- the reply to the answer to a join, by what is asked of the history
 abbrev pub join_reply_by : Bool → Bool → Option ℕ → Reply → Reply

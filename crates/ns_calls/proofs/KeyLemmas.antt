@@ -14,7 +14,8 @@ use Rattle.ns_calls.specs.declared.call.JoinAns.{JoinAns}
 use Rattle.ns_calls.specs.declared.call.Call.{Call}
 use Rattle.ns_calls.specs.declared.call.Entry.{Entry}
 use Rattle.ns_calls.specs.Queries.{last, maximum}
-use Rattle.ns_calls.specs.History.{Acceptance, Opening, acceptance_in, window_in, acceptances, openings, same_device, session_join, next_session, active_session, newest_session, first_and_other, open_windows, closes}
+use Rattle.ns_calls.specs.Entries.{Acceptance, Opening, acceptance_in, window_in, acceptances, openings, same_device, open_windows, closes}
+use Rattle.ns_calls.specs.History.{session_join, next_session, active_session, newest_session, first_and_other}
 use Rattle.ns_calls.specs.Reply.{fits, reply_to}
 use Rattle.ns_calls.specs.Legal.{IsLegal, entry_for, with_call}
 use Rattle.ns_calls.specs.Headline.{SessionsHaveJoins}

@@ -1,30 +1,29 @@
 -- The limits of a device, and of copies.
-use Rattle.std.proofs.Common.{◌≡◌, ℕ, ◌+◌, ◌<◌, ◌≤◌, Bool, true, false, not, cond, List, [], ◌∷◌, ◌++◌, filter, map, count_by, length, length-append, nat_le, Option, None, Some, IfSome, option_map, option_to_list, refl, sym, ap, subst, ◌∙◌, arith, inl, inr}
+use Rattle.std.proofs.Common.{◌≡◌, ℕ, ◌+◌, ◌<◌, ◌≤◌, Bool, true, false, not, cond, List, [], ◌∷◌, ◌++◌, filter, map, count_by, length, length-append, Option, None, Some, IfSome, option_to_list, refl, sym, ap, subst, ◌∙◌, arith, inl, inr}
 use Rattle.std.specs.List.{list_any}
 use Rattle.std.proofs.lemmas.Bool.{false≢true}
-use Rattle.std.proofs.lemmas.Bool.Decides.{nat_tests}
 use Rattle.ns_types.specs.declared.identity.DevEui.{DevEui}
 use Rattle.ns_types.specs.declared.identity.WindowName.{WindowName}
 use Rattle.ns_types.specs.declared.heard.Heard.{Heard}
 use Rattle.ns_types.specs.declared.ticket.Ticket.{Ticket}
-use Rattle.ns_types.specs.Cases.{first_case, when}
 use Rattle.ns_types.specs.Identity.{same_window}
-use Rattle.ns_types.specs.Ticket.{dev_eui, join_eui}
-use Rattle.ns_roster.specs.Network.{Network, is_known}
+use Rattle.ns_types.specs.Ticket.{dev_eui}
+use Rattle.ns_roster.specs.Network.{Network}
 use Rattle.ns_calls.specs.declared.call.Call.{Call}
 use Rattle.ns_calls.specs.declared.call.Call.TheVariants as call
 use Rattle.ns_calls.specs.declared.call.Reply.{Reply}
 use Rattle.ns_calls.specs.declared.call.Reply.TheVariants as reply
 use Rattle.ns_calls.specs.declared.call.Entry.{Entry}
-use Rattle.ns_calls.specs.History.{Opening, window_in, asking_in, window_copy_in, ticket_copy_in, same_device, same_ticket, is_ticket, closes, ends_ticket, asks_for, open_windows, open_tickets, window_count, window_copies, is_ticket_open, ticket_count, copies_of_ticket, ticket_copies}
-use Rattle.ns_calls.specs.Reply.{most_copies, most_windows, most_tickets, nonce_at_or_above, join_copy_reply, reply_to}
+use Rattle.ns_calls.specs.Entries.{Opening, window_in, same_device, closes, open_windows, most_copies}
+use Rattle.ns_calls.specs.History.{asking_in, window_copy_in, ticket_copy_in, same_ticket, is_ticket, ends_ticket, asks_for, open_tickets, window_count, window_copies, ticket_count, copies_of_ticket, ticket_copies}
+use Rattle.ns_calls.specs.Reply.{most_windows, most_tickets, reply_to}
 use Rattle.ns_calls.specs.Legal.{IsLegal, entry_for, with_call}
 use Rattle.ns_calls.specs.Headline.{LimitsHold}
 use Rattle.ns_calls.proofs.LocalLemmas.{bool_tells}
 use Rattle.ns_calls.proofs.Lists.{count-append, count-cons, IfSome-weaker}
 use Rattle.ns_calls.proofs.PushLemmas.{open_windows-push, window_copies-push, open_tickets-push, ticket_copies-push}
 use Rattle.ns_calls.proofs.Induction.{legal_induction}
-use Rattle.ns_calls.proofs.JoinLemmas.{same_device-eq}
+use Rattle.ns_calls.proofs.JoinLemmas.{same_device-eq, join-has}
 use Rattle.ns_calls.proofs.TicketLemmas.{same_ticket-eq}
 use Rattle.ns_calls.proofs.NameLemmas.{same_window-eq}
 use Rattle.ns_calls.proofs.UplinkLemmas.{uplink-has}
@@ -102,27 +101,14 @@ windows_step net h number c eui within =
 -- ---- tickets
 
 join-room : (net : Network) (h : List Entry) (t : Ticket) (heard : Heard) → IfSome (asking_in (call.Join t heard) (reply_to net h (call.Join t heard))) (λ u. ticket_count h (dev_eui u) < most_tickets)
-join-room net h t heard = step (is_known net (dev_eui t) (join_eui t)) (nonce_at_or_above net h t) (is_ticket_open h t) (nat_le most_tickets (ticket_count h (dev_eui t))) refl
-  where
-    copies : Bool → Reply
-    copies b = cond b (reply.JoinCopied (length (ticket_copies h t) + 1)) reply.JoinCrowded
-
-    never : (b : Bool) → IfSome (asking_in (call.Join t heard) (cond b (reply.JoinCopied (length (ticket_copies h t) + 1)) reply.JoinCrowded)) (λ u. ticket_count h (dev_eui u) < most_tickets)
-    never true = tt
-    never false = tt
-
-    step : (known : Bool) (stale : Option ℕ) (is_open busy : Bool) → nat_le most_tickets (ticket_count h (dev_eui t)) ≡ busy →
-        IfSome (asking_in (call.Join t heard) (first_case (
-        when (not known) reply.NoDevice
-        ∷ option_map (λ g. reply.NonceOld (record { 0 = g })) stale
-        ∷ when is_open (join_copy_reply h t)
-        ∷ when busy reply.JoinBusy
-        ∷ []) (reply.Ask t))) (λ u. ticket_count h (dev_eui u) < most_tickets)
-    step false stale is_open busy is = tt
-    step true (Some g) is_open busy is = tt
-    step true None true busy is = never (nat_le (length (ticket_copies h t) + 1) most_copies)
-    step true None false true is = tt
-    step true None false false is = grind (arith, nat_tests, is)
+join-room net h t heard = join-has (λ r. IfSome (asking_in (call.Join t heard) r) (λ u. ticket_count h (dev_eui u) < most_tickets)) net h t (record {
+  unknown = λ unknown. tt;
+  old = λ known greatest. tt;
+  copied = λ known room. tt;
+  crowded = tt;
+  busy = tt;
+  ask = λ known closed room. room;
+})
 
 ticket-room : (net : Network) (h : List Entry) (c : Call) → IfSome (asking_in c (reply_to net h c)) (λ u. ticket_count h (dev_eui u) < most_tickets)
 ticket-room net h (call.Join t heard) = join-room net h t heard
@@ -189,29 +175,14 @@ copies_step net h number c legal w within =
 -- where a Join-Request adds a copy to a ticket that it doesn't ask for, there is room for it
 join_copy-room : (net : Network) (h : List Entry) (u : Ticket) (heard : Heard) (t : Ticket) → is_ticket t (asking_in (call.Join u heard) (reply_to net h (call.Join u heard))) ≡ false
     → IfSome (ticket_copy_in (call.Join u heard) (reply_to net h (call.Join u heard))) (λ x. same_ticket t x.0 ≡ true → length (ticket_copies h t) < most_copies)
-join_copy-room net h u heard t = step (is_known net (dev_eui u) (join_eui u)) (nonce_at_or_above net h u) (is_ticket_open h u) (nat_le most_tickets (ticket_count h (dev_eui u)))
-  where
-    copied : (b : Bool) → nat_le (length (ticket_copies h u) + 1) most_copies ≡ b →
-        IfSome (ticket_copy_in (call.Join u heard) (cond b (reply.JoinCopied (length (ticket_copies h u) + 1)) reply.JoinCrowded)) (λ x. same_ticket t x.0 ≡ true → length (ticket_copies h t) < most_copies)
-    copied true is = λ same.
-        let fits : length (ticket_copies h u) + 1 ≤ 16 = grind (arith, nat_tests, is) in
-        let less : length (ticket_copies h u) < most_copies = omega (arith, fits) in
-        subst (λ (v : Ticket). length (ticket_copies h v) < most_copies) (sym (same_ticket-eq t u same)) less
-    copied false is = tt
-
-    step : (known : Bool) (stale : Option ℕ) (is_open busy : Bool) →
-        let r : Reply = first_case (
-        when (not known) reply.NoDevice
-        ∷ option_map (λ g. reply.NonceOld (record { 0 = g })) stale
-        ∷ when is_open (join_copy_reply h u)
-        ∷ when busy reply.JoinBusy
-        ∷ []) (reply.Ask u) in
-        is_ticket t (asking_in (call.Join u heard) r) ≡ false → IfSome (ticket_copy_in (call.Join u heard) r) (λ x. same_ticket t x.0 ≡ true → length (ticket_copies h t) < most_copies)
-    step false stale is_open busy other = tt
-    step true (Some g) is_open busy other = tt
-    step true None true busy other = copied (nat_le (length (ticket_copies h u) + 1) most_copies) refl
-    step true None false true other = tt
-    step true None false false other = λ same. absurd (false≢true (sym other ∙ same))
+join_copy-room net h u heard t = join-has (λ r. is_ticket t (asking_in (call.Join u heard) r) ≡ false → IfSome (ticket_copy_in (call.Join u heard) r) (λ x. same_ticket t x.0 ≡ true → length (ticket_copies h t) < most_copies)) net h u (record {
+  unknown = λ unknown other. tt;
+  old = λ known greatest other. tt;
+  copied = λ known room other same. subst (λ (v : Ticket). length (ticket_copies h v) < most_copies) (sym (same_ticket-eq t u same)) room;
+  crowded = λ other. tt;
+  busy = λ other. tt;
+  ask = λ known closed room other same. absurd (false≢true (sym other ∙ same));
+})
 
 -- the copies that one entry adds to a ticket
 one_entry : (e : Entry) (t : Ticket) (most before : ℕ) → before ≤ most → IfSome (ticket_copy_in e.call e.reply) (λ c. same_ticket t c.0 ≡ true → before < most) → before + length (copies_of_ticket (e ∷ []) t) ≤ most

@@ -8,7 +8,7 @@ use Rattle.std.proofs.lemmas.List.Sums.{sum_by-append, sum_by-cons}
 use Rattle.std.proofs.lemmas.Bool.{false≢true}
 use Rattle.ns_secure.specs.Counter.{Exceeds}
 use Rattle.ns_calls.specs.Queries.{first, last, greater, maximum}
-use Rattle.ns_calls.specs.Headline.{Rises}
+use Rattle.ns_calls.specs.Laws.{Rises}
 use Rattle.ns_calls.proofs.LocalLemmas.{bool_tells, All-each}
 
 pub All-append : {X : Type 0} (P : X → Type 0) (xs ys : List X) → AllByRecursion P xs → AllByRecursion P ys → AllByRecursion P (xs ++ ys)

@@ -1,8 +1,7 @@
 -- The reply to a join, and to its answer, rests on the entries of the device's shard alone.
-use Rattle.std.proofs.Common.{◌≡◌, ℕ, ◌+◌, ◌%◌, Bool, true, false, not, cond, eqb, List, [], ◌∷◌, filter, map, length, Option, option_map, option_to_list, count_by, unwrap_or, nat_le, refl, sym, ap, ◌∙◌, inl, inr}
+use Rattle.std.proofs.Common.{◌≡◌, ℕ, ◌+◌, ◌%◌, Bool, true, false, cond, eqb, List, [], ◌∷◌, filter, map, length, option_to_list, count_by, unwrap_or, refl, sym, ap, ◌∙◌, inl, inr}
 use Rattle.std.proofs.lemmas.Bool.{eq-eqb, false≢true}
 use Rattle.std.proofs.lemmas.Bool.Decides.{eqb_tells}
-use Rattle.std.specs.Option.{option_and_then}
 use Rattle.std.specs.List.{list_any}
 use Rattle.ns_types.specs.declared.identity.DevEui.{DevEui}
 use Rattle.ns_types.specs.declared.ticket.Ticket.{Ticket}
@@ -17,10 +16,11 @@ use Rattle.ns_calls.specs.declared.call.Outcome.TheVariants as outcome
 use Rattle.ns_calls.specs.declared.call.Reply.{Reply}
 use Rattle.ns_calls.specs.declared.call.Reply.TheVariants as reply
 use Rattle.ns_calls.specs.declared.call.Entry.{Entry}
-use Rattle.ns_types.specs.Cases.{first_case, when}
+use Rattle.ns_types.specs.Cases.{when}
 use Rattle.ns_calls.specs.Queries.{greater, maximum, from_last}
-use Rattle.ns_calls.specs.History.{Acceptance, same_device, same_ticket, acceptance_in, asking_in, ending_in, ticket_copy_in, is_ticket, asks_for, ends_ticket, acceptances, last_nonce, greatest_nonce, next_session, open_tickets, is_ticket_open, ticket_count, copies_of_ticket, ticket_copies}
-use Rattle.ns_calls.specs.Reply.{reply_to_join, reply_to_join_reply, address, is_failed, most_copies, most_tickets}
+use Rattle.ns_calls.specs.Entries.{Acceptance, same_device, acceptance_in, acceptances}
+use Rattle.ns_calls.specs.History.{same_ticket, asking_in, ending_in, ticket_copy_in, is_ticket, asks_for, ends_ticket, last_nonce, greatest_nonce, next_session, open_tickets, is_ticket_open, ticket_count, copies_of_ticket, ticket_copies}
+use Rattle.ns_calls.specs.Reply.{join_rule, answer_rule, reply_to_join, reply_to_join_reply, address, is_failed}
 use Rattle.ns_calls.specs.Shards.{shard_of_call, of_shard}
 use Rattle.ns_calls.proofs.TicketLemmas.{same_ticket-eq}
 use Rattle.ns_calls.proofs.LocalLemmas.{bool_tells, filter_map-own, list_any-own, count_by-own, still_open-own, from_last-own}
@@ -104,40 +104,23 @@ ticket_copies-own k t mine h =
 
 -- ---- the replies
 
--- the reply to a join, by what is asked of the history
-abbrev pub join_from : Network → Ticket → Option ℕ → Bool → ℕ → ℕ → Reply
-join_from net t greatest is_open copies count = first_case (
-    when (not (is_known net (dev_eui t) (join_eui t))) reply.NoDevice
-    ∷ option_map (λ g. reply.NonceOld (record { 0 = g })) (option_and_then (λ g. when (nat_le (nonce t).0 g) g) greatest)
-    ∷ when is_open (cond (nat_le (copies + 1) most_copies) (reply.JoinCopied (copies + 1)) reply.JoinCrowded)
-    ∷ when (nat_le most_tickets count) reply.JoinBusy
-    ∷ []) (reply.Ask t)
-
--- the reply to the answer of a join, in the same way
-abbrev pub join_reply_from : Network → Ticket → Outcome → Bool → Option ℕ → ℕ → Reply
-join_reply_from net t o is_open greatest session = first_case (
-    when (not is_open) reply.NoTicket
-    ∷ when (is_failed o) reply.JoinRefused
-    ∷ option_map (λ g. reply.JoinStale (record { 0 = g })) (option_and_then (λ g. when (nat_le (nonce t).0 g) g) greatest)
-    ∷ []) (reply.Accepted (dev_eui t) session (address net (dev_eui t)))
+greatest-own : (net : Network) (h : List Entry) (eui : DevEui) → greatest_nonce net (of_shard (shard_of eui) h) eui ≡ greatest_nonce net h eui
+greatest-own net h eui = ap (λ accepted. greater (last_nonce net eui) (maximum (map (λ a. (nonce a.ticket).0) accepted))) (acceptances-own (shard_of eui) eui refl h)
 
 pub reply_to_join-own : (net : Network) (h : List Entry) (t : Ticket) → reply_to_join net (of_shard (shard_of (dev_eui t)) h) t ≡ reply_to_join net h t
 reply_to_join-own net h t =
     let k : ℕ = shard_of (dev_eui t) in
-    let eui : DevEui = dev_eui t in
-    let part : List Entry = of_shard k h in
     let mine : own k t ≡ true = eq-eqb k k refl in
-    ap (λ g. join_from net t g (is_ticket_open part t) (length (ticket_copies part t)) (ticket_count part eui)) (ap (λ accepted. greater (last_nonce net eui) (maximum (map (λ a. (nonce a.ticket).0) accepted))) (acceptances-own k eui refl h))
-    ∙ (ap (λ b. join_from net t (greatest_nonce net h eui) b (length (ticket_copies part t)) (ticket_count part eui)) (is_ticket_open-own k t mine h)
-    ∙ (ap (λ hs. join_from net t (greatest_nonce net h eui) (is_ticket_open h t) (length hs) (ticket_count part eui)) (ticket_copies-own k t mine h)
-    ∙ ap (λ n. join_from net t (greatest_nonce net h eui) (is_ticket_open h t) (length (ticket_copies h t)) n) (ticket_count-own k eui refl h)))
+    let greatest = greatest-own net h (dev_eui t) in
+    let is_open = is_ticket_open-own k t mine h in
+    let copies = ticket_copies-own k t mine h in
+    let tickets = ticket_count-own k (dev_eui t) refl h in
+    λ i. join_rule t (record { known = is_known net (dev_eui t) (join_eui t); greatest = greatest i; copies = when (is_open i) (length (copies i)); tickets = tickets i })
 
 pub reply_to_join_reply-own : (net : Network) (h : List Entry) (t : Ticket) (o : Outcome) → reply_to_join_reply net (of_shard (shard_of (dev_eui t)) h) t o ≡ reply_to_join_reply net h t o
 reply_to_join_reply-own net h t o =
     let k : ℕ = shard_of (dev_eui t) in
-    let eui : DevEui = dev_eui t in
-    let part : List Entry = of_shard k h in
-    let mine : own k t ≡ true = eq-eqb k k refl in
-    let same = acceptances-own k eui refl h in
-    ap (λ b. join_reply_from net t o b (greatest_nonce net part eui) (next_session part eui)) (is_ticket_open-own k t mine h)
-    ∙ ap (λ accepted. join_reply_from net t o (is_ticket_open h t) (greater (last_nonce net eui) (maximum (map (λ a. (nonce a.ticket).0) accepted))) (unwrap_or (maximum (map (λ a. a.session) accepted)) 0 + 1)) same
+    let is_open = is_ticket_open-own k t (eq-eqb k k refl) h in
+    let greatest = greatest-own net h (dev_eui t) in
+    let session : next_session (of_shard k h) (dev_eui t) ≡ next_session h (dev_eui t) = ap (λ accepted. unwrap_or (maximum (map (λ a. a.session) accepted)) 0 + 1) (acceptances-own k (dev_eui t) refl h) in
+    λ i. answer_rule t (record { is_open = is_open i; failed = is_failed o; greatest = greatest i; session = session i; addr = address net (dev_eui t) })

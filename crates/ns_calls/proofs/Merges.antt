@@ -16,7 +16,8 @@ use Rattle.ns_calls.specs.Out.{Sent, out, uplink_out, downlink_out, answer}
 use Rattle.ns_calls.specs.Shards.{shard_of_call, of_shard, IsMerge, AreOfTheirShard, NamesOwnDevice}
 use Rattle.ns_calls.specs.Legal.{IsLegal, IsHistory}
 use Rattle.ns_calls.specs.Queries.{first}
-use Rattle.ns_calls.specs.History.{Opening, open_windows, oldest}
+use Rattle.ns_calls.specs.Entries.{Opening, open_windows}
+use Rattle.ns_calls.specs.History.{oldest}
 use Rattle.ns_calls.specs.Merges.{AreHistories, MergesAreLegal}
 use Rattle.ns_calls.proofs.MergeLemmas.{filter-merge, own_rest, slice_get-set_other}
 use Rattle.ns_calls.proofs.ShardLemmas.{Housed, AllHoused, InShard, IsOwn, open_windows-mine}

@@ -12,10 +12,12 @@ use Rattle.ns_calls.specs.declared.call.Call.TheVariants as call
 use Rattle.ns_calls.specs.declared.call.Reply.{Reply}
 use Rattle.ns_calls.specs.declared.call.Reply.TheVariants as reply
 use Rattle.ns_calls.specs.declared.call.Entry.{Entry}
-use Rattle.ns_calls.specs.History.{Opening, Closing, closing_in, open_windows, open_window}
+use Rattle.ns_calls.specs.Entries.{Opening, Closing, closing_in, open_windows}
+use Rattle.ns_calls.specs.History.{open_window}
 use Rattle.ns_calls.specs.Out.{uplink_of, first_uplink_of, uplink_out}
 use Rattle.ns_calls.specs.Legal.{IsLegal, entry_for}
-use Rattle.ns_calls.specs.Headline.{closing_count, uplinks_after, UplinksGoOutOnce}
+use Rattle.ns_calls.specs.Laws.{closing_count}
+use Rattle.ns_calls.specs.Headline.{uplinks_after, UplinksGoOutOnce}
 use Rattle.ns_calls.proofs.LocalLemmas.{bool_tells, All-each}
 use Rattle.ns_calls.proofs.Lists.{find-has, count-append, count-cons}
 use Rattle.ns_calls.proofs.Induction.{legal_induction}

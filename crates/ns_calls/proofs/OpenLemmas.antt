@@ -5,9 +5,10 @@ use Rattle.std.proofs.lemmas.List.Elements.{Contains-append_left, Contains-appen
 use Rattle.std.proofs.lemmas.Option.{same_Some}
 use Rattle.ns_types.specs.declared.ticket.Ticket.{Ticket}
 use Rattle.ns_calls.specs.declared.call.Entry.{Entry}
-use Rattle.ns_calls.specs.Queries.{is_ended, still_open}
-use Rattle.ns_calls.specs.History.{Opening, window_in, asking_in, closes, ends_ticket, open_windows, open_tickets}
-use Rattle.ns_calls.specs.Open.{IsOpenWindow, IsOpenTicket}
+use Rattle.ns_calls.specs.Entries.{is_ended, still_open, Opening, window_in, closes, open_windows}
+use Rattle.ns_calls.specs.History.{asking_in, ends_ticket, open_tickets}
+use Rattle.ns_calls.specs.Open.{IsOpenWindow}
+use Rattle.ns_calls.specs.Headline.{IsOpenTicket}
 
 -- an element opens x, and none after it ends it
 record Stands {E X : Type 0} (opens : E → Option X) (ends : X → E → Bool) (es : List E) (x : X) : Type 0 where

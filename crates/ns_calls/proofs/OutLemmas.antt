@@ -1,5 +1,5 @@
 -- What goes out, and with which replies.
-use Rattle.std.proofs.Common.{◌≡◌, ◌⊎◌, ℕ, ◌+◌, ◌<◌, Bool, true, false, not, ◌&&◌, ◌||◌, cond, List, [], ◌∷◌, ◌++◌, filter, filter_map, map, length, nat_le, Option, None, Some, IfSome, option_map, option_to_list, length-append, refl, sym, ap, subst, ◌∙◌, arith, inl, inr}
+use Rattle.std.proofs.Common.{◌≡◌, ◌⊎◌, ℕ, ◌+◌, ◌<◌, Bool, true, false, not, ◌&&◌, ◌||◌, cond, List, [], ◌∷◌, ◌++◌, filter, filter_map, map, length, Option, None, Some, IfSome, option_map, option_to_list, length-append, refl, sym, ap, subst, ◌∙◌, arith, inl, inr}
 use Rattle.std.specs.Prelude.{IsSome, is_some}
 use Rattle.std.specs.List.{AllByRecursion, list_any, cons_option}
 use Rattle.std.specs.Option.{option_and_then}
@@ -10,10 +10,10 @@ use Rattle.ns_types.specs.declared.heard.Heard.{Heard}
 use Rattle.ns_types.specs.declared.ticket.Ticket.{Ticket}
 use Rattle.ns_types.specs.Cases.{first_case, when}
 use Rattle.ns_types.specs.Identity.{same_window, is_first}
-use Rattle.ns_types.specs.Ticket.{dev_eui, join_eui}
+use Rattle.ns_types.specs.Ticket.{dev_eui}
 use Rattle.ns_types.specs.Heard.{best, rx1}
 use Rattle.ns_views.specs.Frame.{data_fields}
-use Rattle.ns_roster.specs.Network.{Network, is_known, ack_delay}
+use Rattle.ns_roster.specs.Network.{Network, ack_delay}
 use Rattle.ns_calls.specs.declared.call.JoinAns.{JoinAns}
 use Rattle.ns_calls.specs.declared.call.Outcome.{Outcome}
 use Rattle.ns_calls.specs.declared.call.Outcome.TheVariants as outcome
@@ -24,17 +24,19 @@ use Rattle.ns_calls.specs.declared.call.Reply.TheVariants as reply
 use Rattle.ns_calls.specs.declared.call.Entry.{Entry}
 use Rattle.ns_calls.specs.Accept.{accept_bytes}
 use Rattle.ns_calls.specs.Queries.{from_last}
-use Rattle.ns_calls.specs.History.{Opening, window_in, asking_in, window_copy_in, ticket_copy_in, closes, is_ticket, asks_for, ends_ticket, same_ticket, open_windows, open_window, window_copies, is_ticket_open, ticket_count, ticket_copies, copies_of_ticket, session_join, next_session}
-use Rattle.ns_calls.specs.Reply.{reply_to, reply_to_uplink, most_copies, most_tickets, nonce_at_or_above, join_copy_reply, is_failed, address, ack_number}
+use Rattle.ns_calls.specs.Entries.{Opening, window_in, closes, open_windows}
+use Rattle.ns_calls.specs.History.{asking_in, window_copy_in, ticket_copy_in, is_ticket, asks_for, ends_ticket, same_ticket, open_window, window_copies, is_ticket_open, ticket_copies, copies_of_ticket, session_join, next_session}
+use Rattle.ns_calls.specs.Reply.{reply_to, reply_to_uplink, nonce_at_or_above, is_failed, address, ack_number}
 use Rattle.ns_calls.specs.Out.{uplink_of, first_uplink_of, uplink_out, downlink_out, downlink_to, ack_frame, ack_downlink, join_accept_delay}
 use Rattle.ns_calls.specs.Legal.{IsLegal, entry_for, with_call}
-use Rattle.ns_calls.specs.Headline.{WindowsHaveCopies, hands_out_uplink, hands_out_downlink, GoesOut}
+use Rattle.ns_calls.specs.Headline.{WindowsHaveCopies, hands_out_downlink, GoesOut}
+use Rattle.ns_calls.specs.Laws.{hands_out_uplink}
 use Rattle.ns_calls.proofs.LocalLemmas.{bool_tells}
 use Rattle.ns_calls.proofs.Lists.{All-after, All-weaker, IfSome-weaker, find-has}
 use Rattle.ns_calls.proofs.PushLemmas.{open_windows-push, window_copies-push}
 use Rattle.ns_calls.proofs.TicketLemmas.{is_ticket_open-cons}
 use Rattle.ns_calls.proofs.Induction.{legal_induction}
-use Rattle.ns_calls.proofs.JoinLemmas.{join_reply_by}
+use Rattle.ns_calls.proofs.JoinLemmas.{join_reply_by, join-has}
 use Rattle.ns_calls.proofs.UplinkLemmas.{uplink-has}
 use Rattle.ns_calls.proofs.NameLemmas.{same_window-refl, same_window-eq}
 use Rattle.ns_calls.proofs.KeyLemmas.{sessions_have_joins}
@@ -149,23 +151,6 @@ open-heard h t is =
 IsQuiet : Reply → Type 0
 IsQuiet r = (hands_out_uplink r ≡ false) × (hands_out_downlink r ≡ false)
 
-quiet_cond : (b : Bool) (r s : Reply) → IsQuiet r → IsQuiet s → IsQuiet (cond b r s)
-quiet_cond true r s quiet other = quiet
-quiet_cond false r s quiet other = other
-
-quiet_first : (cases : List (Option Reply)) (otherwise : Reply) → AllByRecursion (λ o. IfSome o IsQuiet) cases → IsQuiet otherwise → IsQuiet (first_case cases otherwise)
-quiet_first [] otherwise all last = last
-quiet_first (None ∷ cases) otherwise all last = quiet_first cases otherwise all.1 last
-quiet_first (Some r ∷ cases) otherwise all last = all.0
-
-quiet_map : {X : Type 0} (f : X → Reply) (o : Option X) → ((x : X) → IsQuiet (f x)) → IfSome (option_map f o) IsQuiet
-quiet_map f None quiet = tt
-quiet_map f (Some x) quiet = quiet x
-
-quiet_when : (b : Bool) (r : Reply) → IsQuiet r → IfSome (when b r) IsQuiet
-quiet_when true r quiet = quiet
-quiet_when false r quiet = tt
-
 uplink-quiet : (net : Network) (h : List Entry) (frame : List ℕ) → IsQuiet (reply_to_uplink net h frame)
 unfolding IsQuiet
 uplink-quiet net h frame = uplink-has IsQuiet net h frame (record {
@@ -180,24 +165,14 @@ uplink-quiet net h frame = uplink-has IsQuiet net h frame (record {
 
 join-quiet : (net : Network) (h : List Entry) (t : Ticket) (heard : Heard) → IsQuiet (reply_to net h (call.Join t heard))
 unfolding IsQuiet
-join-quiet net h t heard =
-    let cases : List (Option Reply) =
-    when (not (is_known net (dev_eui t) (join_eui t))) reply.NoDevice
-    ∷ option_map (λ g. reply.NonceOld (record { 0 = g })) (nonce_at_or_above net h t)
-    ∷ when (is_ticket_open h t) (join_copy_reply h t)
-    ∷ when (nat_le most_tickets (ticket_count h (dev_eui t))) reply.JoinBusy
-    ∷ [] in
-    quiet_first cases (reply.Ask t) (
-      quiet_when (not (is_known net (dev_eui t) (join_eui t))) reply.NoDevice (refl, refl),
-      (
-        quiet_map (λ g. reply.NonceOld (record { 0 = g })) (nonce_at_or_above net h t) (λ g. (refl, refl)),
-        (
-          quiet_when (is_ticket_open h t) (join_copy_reply h t)
-              (quiet_cond (nat_le (length (ticket_copies h t) + 1) most_copies) (reply.JoinCopied (length (ticket_copies h t) + 1)) reply.JoinCrowded (refl, refl) (refl, refl)),
-          (quiet_when (nat_le most_tickets (ticket_count h (dev_eui t))) reply.JoinBusy (refl, refl), tt),
-        ),
-      ),
-    ) (refl, refl)
+join-quiet net h t heard = join-has IsQuiet net h t (record {
+  unknown = λ unknown. (refl, refl);
+  old = λ known greatest. (refl, refl);
+  copied = λ known room. (refl, refl);
+  crowded = (refl, refl);
+  busy = (refl, refl);
+  ask = λ known closed room. (refl, refl);
+})
 
 -- ---- what goes out
 

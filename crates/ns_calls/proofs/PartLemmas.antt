@@ -1,5 +1,5 @@
 -- The reply to a call, and what goes out, rest on the entries of the call's shard alone.
-use Rattle.std.proofs.Common.{◌≡◌, ℕ, ◌+◌, ◌==◌, Bool, true, false, not, ◌&&◌, cond, eqb, List, [], ◌∷◌, filter, filter_map, map, find, length, nat_le, nat_lt, ◌^◌, bytes_eq, unwrap_or, Option, None, Some, IfSome, option_map, refl, ap, ◌∙◌}
+use Rattle.std.proofs.Common.{◌≡◌, ℕ, ◌+◌, ◌==◌, Bool, true, false, ◌&&◌, cond, eqb, List, [], ◌∷◌, filter, filter_map, map, find, nat_lt, ◌^◌, bytes_eq, unwrap_or, Option, None, Some, IfSome, option_map, refl, ap, ◌∙◌}
 use Rattle.std.specs.List.{AllByRecursion, list_any}
 use Rattle.std.specs.Option.{option_and_then}
 use Rattle.std.proofs.lemmas.Bool.{eq-eqb}
@@ -10,11 +10,11 @@ use Rattle.ns_types.specs.declared.heard.Heard.{Heard}
 use Rattle.ns_types.specs.declared.ticket.Ticket.{Ticket}
 use Rattle.ns_types.specs.Cases.{first_case, when}
 use Rattle.ns_types.specs.Identity.{shard_of, same_window, is_first}
-use Rattle.ns_types.specs.Ticket.{dev_eui, join_eui}
+use Rattle.ns_types.specs.Ticket.{dev_eui}
 use Rattle.ns_types.specs.Heard.{best}
 use Rattle.ns_views.specs.Frame.{data_fields, is_confirmed}
 use Rattle.ns_secure.specs.Counter.{above, below}
-use Rattle.ns_roster.specs.Network.{Network, is_known}
+use Rattle.ns_roster.specs.Network.{Network}
 use Rattle.ns_calls.specs.declared.call.JoinAns.{JoinAns}
 use Rattle.ns_calls.specs.declared.call.Outcome.{Outcome}
 use Rattle.ns_calls.specs.declared.call.Outcome.TheVariants as outcome
@@ -26,8 +26,9 @@ use Rattle.ns_calls.specs.declared.call.Entry.{Entry}
 use Rattle.ns_calls.specs.declared.answer.Uplink.{Uplink}
 use Rattle.ns_calls.specs.declared.answer.Downlink.{Downlink}
 use Rattle.ns_calls.specs.Queries.{last, maximum}
-use Rattle.ns_calls.specs.History.{Acceptance, Opening, Closing, acceptances, openings, closings, first_and_other, session_join, next_session, greatest_counter, open_windows, open_window, window_copies, ticket_copies, is_ticket_open, ticket_count}
-use Rattle.ns_calls.specs.Reply.{Fit, window_of, first_fit, window_with, is_greatest, round_of, most_copies, most_tickets, reply_to, reply_to_uplink, nonce_at_or_above, join_copy_reply, is_failed, address, ack_number}
+use Rattle.ns_calls.specs.Entries.{Acceptance, Opening, Closing, acceptances, openings, open_windows}
+use Rattle.ns_calls.specs.History.{closings, first_and_other, session_join, next_session, greatest_counter, open_window, window_copies, is_ticket_open}
+use Rattle.ns_calls.specs.Reply.{Fit, window_of, first_fit, window_with, is_greatest, round_of, reply_to, reply_to_uplink, nonce_at_or_above, is_failed, address, ack_number}
 use Rattle.ns_calls.specs.Out.{payload_key, uplink_under, uplink_of, first_uplink_of, uplink_out, downlink_out, ack_at, ack_downlink, accept_at, out}
 use Rattle.ns_calls.specs.Legal.{IsLegal, entry_for}
 use Rattle.ns_calls.specs.Shards.{shard_of_call, of_shard, NamesOwnDevice}
@@ -35,32 +36,9 @@ use Rattle.ns_calls.proofs.Lists.{All-push, find-has, IfSome-weaker, at_some}
 use Rattle.ns_calls.proofs.Induction.{legal_induction}
 use Rattle.ns_calls.proofs.LocalJoin.{acceptances-own, ticket_copies-own, reply_to_join-own, reply_to_join_reply-own}
 use Rattle.ns_calls.proofs.UplinkLemmas.{uplink-has, SaysSame, uplink-same}
-use Rattle.ns_calls.proofs.JoinLemmas.{join_reply_by}
+use Rattle.ns_calls.proofs.JoinLemmas.{join_reply_by, join-has}
 use Rattle.ns_calls.proofs.NameLemmas.{same_window-eq}
 use Rattle.ns_calls.proofs.ShardLemmas.{Housed, AllHoused, IsOfItsFrame, InShard, shard_of_frame, openings-own, closings-own, window_copies-own, window_count-own, last_round-own, is_uplink_open-own, open_window-own, open_windows-framed, window_with-own, first_fit-own, first_fit-names}
-
--- ---- what holds of the reply by its cases
-
-pub case-has : (P : Reply → Type 0) (cases : List (Option Reply)) (otherwise : Reply) → AllByRecursion (λ o. IfSome o P) cases → P otherwise → P (first_case cases otherwise)
-case-has P [] otherwise all holds = holds
-case-has P (None ∷ cases) otherwise all holds = case-has P cases otherwise all.1 holds
-case-has P (Some r ∷ cases) otherwise all holds = all.0
-
-pub map-has : {X : Type 0} (P : Reply → Type 0) (Q : X → Type 0) (f : X → Reply) (o : Option X) → IfSome o Q → ((x : X) → Q x → P (f x)) → IfSome (option_map f o) P
-map-has P Q f None holds gives = tt
-map-has P Q f (Some x) holds gives = gives x holds
-
-when-has : (P : Reply → Type 0) (b : Bool) (r : Reply) → P r → IfSome (when b r) P
-when-has P true r holds = holds
-when-has P false r holds = tt
-
-either-has : (P : Reply → Type 0) (b : Bool) (r s : Reply) → P r → P s → P (cond b r s)
-either-has P true r s one other = one
-either-has P false r s one other = other
-
-always : {X : Type 0} (o : Option X) → IfSome o (λ _. Unit {0})
-always None = tt
-always (Some x) = tt
 
 -- ---- each reply names a device of its call's shard
 
@@ -93,24 +71,14 @@ names-uplink net own h housed frame heard =
     })
 
 names-join : (net : Network) (h : List Entry) (t : Ticket) (heard : Heard) → NamesOwnDevice (call.Join t heard) (reply_to net h (call.Join t heard))
-names-join net h t heard =
-    let P : Reply → Type 0 = NamesOwnDevice (call.Join t heard) in
-    let cases : List (Option Reply) =
-    when (not (is_known net (dev_eui t) (join_eui t))) reply.NoDevice
-    ∷ option_map (λ g. reply.NonceOld (record { 0 = g })) (nonce_at_or_above net h t)
-    ∷ when (is_ticket_open h t) (join_copy_reply h t)
-    ∷ when (nat_le most_tickets (ticket_count h (dev_eui t))) reply.JoinBusy ∷ [] in
-    case-has P cases (reply.Ask t) (
-      when-has P (not (is_known net (dev_eui t) (join_eui t))) reply.NoDevice tt,
-      (
-        map-has P (λ _. Unit {0}) (λ g. reply.NonceOld (record { 0 = g })) (nonce_at_or_above net h t) (always (nonce_at_or_above net h t)) (λ g _. tt),
-        (
-          when-has P (is_ticket_open h t) (join_copy_reply h t)
-              (either-has P (nat_le (length (ticket_copies h t) + 1) most_copies) (reply.JoinCopied (length (ticket_copies h t) + 1)) reply.JoinCrowded tt tt),
-          (when-has P (nat_le most_tickets (ticket_count h (dev_eui t))) reply.JoinBusy tt, tt),
-        ),
-      ),
-    ) refl
+names-join net h t heard = join-has (NamesOwnDevice (call.Join t heard)) net h t (record {
+  unknown = λ unknown. tt;
+  old = λ known greatest. tt;
+  copied = λ known room. tt;
+  crowded = tt;
+  busy = tt;
+  ask = λ known closed room. refl;
+})
 
 names-join_reply : (net : Network) (h : List Entry) (t : Ticket) (o : Outcome) → NamesOwnDevice (call.JoinReply t o) (reply_to net h (call.JoinReply t o))
 names-join_reply net h t o = step (is_ticket_open h t) (is_failed o) (nonce_at_or_above net h t)

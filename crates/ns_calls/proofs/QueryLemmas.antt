@@ -5,7 +5,8 @@ use Rattle.std.specs.Option.{option_or}
 use Rattle.std.proofs.lemmas.List.{append_assoc, append-nil}
 use Rattle.std.proofs.lemmas.List.Elements.{filter-append}
 use Rattle.std.proofs.lemmas.List.Folds.{list_any-append}
-use Rattle.ns_calls.specs.Queries.{last, greater, maximum, still_open, from_last}
+use Rattle.ns_calls.specs.Queries.{last, greater, maximum, from_last}
+use Rattle.ns_calls.specs.Entries.{still_open}
 
 pub last-push : {X : Type 0} (xs : List X) (x : X) → last (xs ++ x ∷ []) ≡ Some x
 last-push [] x = refl

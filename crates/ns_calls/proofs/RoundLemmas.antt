@@ -16,10 +16,12 @@ use Rattle.ns_calls.specs.declared.call.Reply.{Reply}
 use Rattle.ns_calls.specs.declared.call.Reply.TheVariants as reply
 use Rattle.ns_calls.specs.declared.call.Entry.{Entry}
 use Rattle.ns_calls.specs.Queries.{greater, maximum}
-use Rattle.ns_calls.specs.History.{Opening, opening_in, window_in, openings, same_device, session_counters, greatest_counter, rounds, last_round, closes, open_windows}
+use Rattle.ns_calls.specs.Entries.{Opening, opening_in, window_in, openings, same_device, session_counters, closes, open_windows}
+use Rattle.ns_calls.specs.History.{greatest_counter, rounds, last_round}
 use Rattle.ns_calls.specs.Reply.{reply_to}
 use Rattle.ns_calls.specs.Legal.{IsLegal, entry_for, with_call}
-use Rattle.ns_calls.specs.Headline.{Reaches, opening_count, RoundsAreCounted}
+use Rattle.ns_calls.specs.Headline.{Reaches, RoundsAreCounted}
+use Rattle.ns_calls.specs.Laws.{opening_count}
 use Rattle.ns_calls.proofs.LocalLemmas.{bool_tells, All-each}
 use Rattle.ns_calls.proofs.QueryLemmas.{maximum-push}
 use Rattle.ns_calls.proofs.Lists.{one_more, said, said-push, All-append, All-filter, All-passed, All-weaker, All-map, at_some, Exceeds-each, count-cons, count-kept}

@@ -19,7 +19,8 @@ use Rattle.ns_calls.specs.declared.call.Reply.{Reply}
 use Rattle.ns_calls.specs.declared.call.Reply.TheVariants as reply
 use Rattle.ns_calls.specs.declared.call.Entry.{Entry}
 use Rattle.ns_calls.specs.Queries.{first, last, maximum}
-use Rattle.ns_calls.specs.History.{Acceptance, Opening, Closing, opening_in, window_in, closing_in, window_copy_in, closes, same_device, acceptances, openings, closings, first_and_other, live, session_join, greatest_counter, last_round, open_windows, open_window, is_uplink_open, window_count, window_copies}
+use Rattle.ns_calls.specs.Entries.{Acceptance, Opening, Closing, opening_in, window_in, closing_in, closes, same_device, acceptances, openings, open_windows}
+use Rattle.ns_calls.specs.History.{window_copy_in, closings, first_and_other, live, session_join, greatest_counter, last_round, open_window, is_uplink_open, window_count, window_copies}
 use Rattle.ns_calls.specs.Reply.{Fit, fit_of, fitting_counter, session_fit, device_fit, devices_at, first_fit, window_with}
 use Rattle.ns_calls.specs.Shards.{shard_of_call, of_shard, NamesOwnDevice}
 use Rattle.ns_calls.proofs.LocalLemmas.{list_any-own, All-each, filter_map-own, filter_map-own_of, still_open-own_of, count_by-own}

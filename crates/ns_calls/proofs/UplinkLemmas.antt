@@ -20,10 +20,11 @@ use Rattle.ns_calls.specs.declared.call.Call.TheVariants as call
 use Rattle.ns_calls.specs.declared.call.Reply.{Reply}
 use Rattle.ns_calls.specs.declared.call.Reply.TheVariants as reply
 use Rattle.ns_calls.specs.declared.call.Entry.{Entry}
-use Rattle.ns_calls.specs.History.{Opening, opening_in, window_in, openings, same_device, session_counters, greatest_counter, last_round, is_uplink_open, session_join, live, window_count, window_copies}
-use Rattle.ns_calls.specs.Reply.{fits, Fit, fit_of, window_of, fitting_counter, session_fit, device_fit, devices_at, first_fit, window_with, is_greatest, next_round, round_of, in_round, old_reply, UplinkFacts, uplink_rule, uplink_facts, most_copies, most_windows, reply_to, reply_to_uplink}
+use Rattle.ns_calls.specs.Entries.{Opening, opening_in, window_in, openings, same_device, session_counters, most_copies}
+use Rattle.ns_calls.specs.History.{greatest_counter, last_round, is_uplink_open, session_join, live, window_count, window_copies}
+use Rattle.ns_calls.specs.Reply.{fits, Fit, fit_of, window_of, fitting_counter, session_fit, device_fit, devices_at, first_fit, window_with, is_greatest, next_round, round_of, in_round, old_reply, UplinkFacts, uplink_rule, uplink_facts, most_windows, reply_to, reply_to_uplink}
 use Rattle.ns_calls.specs.Legal.{IsLegal, entry_for, with_call}
-use Rattle.ns_calls.specs.Headline.{Rises, CountersRise}
+use Rattle.ns_calls.specs.Laws.{Rises, CountersRise}
 use Rattle.ns_calls.proofs.LocalLemmas.{bool_tells}
 use Rattle.ns_calls.proofs.Lists.{said-adds, first-gives, Exceeds-each, Rises-push, at_some, IfSome-weaker, option_map-same}
 use Rattle.ns_calls.proofs.Induction.{legal_induction}

@@ -12,10 +12,11 @@ use Rattle.ns_calls.specs.declared.call.Call.TheVariants as call
 use Rattle.ns_calls.specs.declared.call.Reply.{Reply}
 use Rattle.ns_calls.specs.declared.call.Reply.TheVariants as reply
 use Rattle.ns_calls.specs.declared.call.Entry.{Entry}
-use Rattle.ns_calls.specs.History.{Opening, Closing, window_in, closing_in, closes, open_windows, open_window}
+use Rattle.ns_calls.specs.Entries.{Opening, Closing, window_in, closing_in, closes, open_windows}
+use Rattle.ns_calls.specs.History.{open_window}
 use Rattle.ns_calls.specs.Reply.{ack_number}
 use Rattle.ns_calls.specs.Legal.{IsLegal, entry_for, with_call}
-use Rattle.ns_calls.specs.Headline.{opening_count, closing_count, open_count, WindowsOpenOnce}
+use Rattle.ns_calls.specs.Laws.{opening_count, closing_count, open_count, WindowsOpenOnce}
 use Rattle.ns_calls.proofs.LocalLemmas.{bool_tells}
 use Rattle.ns_calls.proofs.PushLemmas.{open_windows-push}
 use Rattle.ns_calls.proofs.Lists.{one_more, count-append, count-cons, count-kept, count-dropped, count-found, filter-all}

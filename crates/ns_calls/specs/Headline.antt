@@ -1,35 +1,24 @@
--- What is promised of the history of a run, in its own words.
-use Rattle.std.specs.Prelude.{◌≡◌, ◌==◌, ℕ, ◌+◌, ◌<◌, ◌≤◌, Bool, true, false, List, [], ◌∷◌, ◌++◌, length, map, filter_map, count_by, option_to_list, Option, None, Some, IsSome, is_some}
+-- Laws of legal histories beside those of Laws.
+use Rattle.std.specs.Prelude.{◌≡◌, ◌==◌, ℕ, ◌+◌, ◌<◌, ◌≤◌, Bool, true, false, List, [], ◌∷◌, ◌++◌, length, count_by, option_to_list, Option, None, Some, IsSome, is_some}
 use Rattle.std.specs.List.{AllByRecursion, list_any}
 use Rattle.ns_types.specs.declared.identity.DevEui.{DevEui}
 use Rattle.ns_types.specs.declared.identity.WindowName.{WindowName}
 use Rattle.ns_types.specs.declared.ticket.Ticket.{Ticket}
-use Rattle.ns_types.specs.Identity.{same_uplink, same_window, is_first}
+use Rattle.ns_types.specs.Identity.{same_uplink}
 use Rattle.ns_types.specs.Ticket.{dev_eui, join_eui, nonce}
 use Rattle.ns_views.specs.Frame.{data_fields, is_confirmed}
 use Rattle.ns_secure.specs.Counter.{Exceeds}
 use Rattle.ns_roster.specs.Network.{Network, is_known}
 use Rattle.ns_calls.specs.declared.call.Call.{Call}
 use Rattle.ns_calls.specs.declared.call.Reply.{Reply}
-use Rattle.ns_calls.specs.declared.call.Reply.TheVariants.{Opened, Copied, Crowded, Old, NoSession, Busy, Ask, JoinCopied, JoinCrowded, NonceOld, NoDevice, JoinBusy, Accepted, JoinRefused, JoinStale, NoTicket, Closed, NoWindow, Again}
+use Rattle.ns_calls.specs.declared.call.Reply.TheVariants.{Accepted, Closed}
 use Rattle.ns_calls.specs.declared.call.Entry.{Entry}
-use Rattle.ns_calls.specs.History.{acceptances, next_session, greatest_nonce, session_counters, session_acks, window_in, closing_in, open_windows, open_window, open_tickets, session_join, live, is_live, greatest_counter, last_round, is_uplink_open, window_count, ticket_count, window_copies, ticket_copies, last_nonce}
-use Rattle.ns_calls.specs.Reply.{devices_at, fits, window_with, most_windows, most_tickets, most_copies}
+use Rattle.ns_calls.specs.Entries.{acceptances, open_windows, most_copies}
+use Rattle.ns_calls.specs.Laws.{Rises, nonces_of, hands_out_uplink}
+use Rattle.ns_calls.specs.History.{asking_in, ends_ticket, next_session, greatest_nonce, session_acks, open_window, open_tickets, session_join, live, is_live, greatest_counter, last_round, is_uplink_open, window_count, ticket_count, window_copies, ticket_copies, last_nonce}
+use Rattle.ns_calls.specs.Reply.{devices_at, fits, window_with, most_windows, most_tickets}
 use Rattle.ns_calls.specs.Out.{uplink_out, answer}
 use Rattle.ns_calls.specs.declared.answer.Uplink.{Uplink}
-
--- each number is greater than all before it
-abbrev pub Rises : List ℕ → Type 0
-Rises [] = Unit {0}
-Rises (n ∷ ns) = AllByRecursion (λ m. n < m) ns × Rises ns
-
--- the nonces that are accepted of a device strictly rise, so none is accepted twice
-abbrev pub NoncesRise : List Entry → Type 0
-NoncesRise h = (eui : DevEui) → Rises (map (λ a. (nonce a.ticket).0) (acceptances h eui))
-
--- the nonces that are accepted of a device, in order
-abbrev pub nonces_of : List Entry → DevEui → List ℕ
-nonces_of h eui = map (λ a. (nonce a.ticket).0) (acceptances h eui)
 
 -- there is a greatest number, and n is at most that
 abbrev pub Reaches : Option ℕ → ℕ → Type 0
@@ -45,28 +34,9 @@ pub record NoncesAreWithin (net : Network) (h : List Entry) : Type 0 where
 abbrev pub AreBelow : List ℕ → List ℕ → Type 0
 AreBelow ms ns = AllByRecursion (λ m. AllByRecursion (λ n. m < n) ns) ms
 
--- the counters that are opened in a session of a device strictly rise
-abbrev pub CountersRise : List Entry → Type 0
-CountersRise h = (eui : DevEui) (session : ℕ) → Rises (session_counters h eui session)
-
 -- the acknowledgement numbers of a session strictly rise, so none is used twice
 abbrev pub AcksRise : List Entry → Type 0
 AcksRise h = (eui : DevEui) (session : ℕ) → Rises (session_acks h eui session)
-
--- how many entries open a window of this name, how many close it, and how many such windows are open
-abbrev pub opening_count : List Entry → WindowName → ℕ
-opening_count h w = count_by (λ o. same_window o.window w) (filter_map (λ e. window_in e.call e.reply) h)
-
-abbrev pub closing_count : List Entry → WindowName → ℕ
-closing_count h w = count_by (λ c. same_window c.window w) (filter_map (λ e. closing_in e.call e.reply) h)
-
-abbrev pub open_count : List Entry → WindowName → ℕ
-open_count h w = count_by (λ o. same_window o.window w) (open_windows h)
-
--- a name opens at most once, and closes at most once: it is open from its opening to its closing
-pub record WindowsOpenOnce (h : List Entry) : Type 0 where
-  pub opens : (w : WindowName) → opening_count h w ≤ 1
-  pub closes : (w : WindowName) → closing_count h w + open_count h w ≡ opening_count h w
 
 -- how many nonces there are up to the greatest one
 abbrev pub nonces_up_to : Option ℕ → ℕ
@@ -142,51 +112,22 @@ TicketsAreKnown net h = AllByRecursion (λ t. is_known net (dev_eui t) (join_eui
 abbrev pub WindowsHaveCopies : List Entry → Type 0
 WindowsHaveCopies h = AllByRecursion (λ o. 0 < length (window_copies h o.window)) (open_windows h)
 
--- with which replies an uplink goes out
-abbrev pub hands_out_uplink : Reply → Bool
-hands_out_uplink (Opened window) = false
-hands_out_uplink (Copied window place) = false
-hands_out_uplink (Crowded window) = false
-hands_out_uplink (Old eui session fcnt) = false
-hands_out_uplink NoSession = false
-hands_out_uplink (Busy eui) = false
-hands_out_uplink (Ask ticket) = false
-hands_out_uplink (JoinCopied place) = false
-hands_out_uplink JoinCrowded = false
-hands_out_uplink (NonceOld greatest) = false
-hands_out_uplink NoDevice = false
-hands_out_uplink JoinBusy = false
-hands_out_uplink (Accepted eui session addr) = false
-hands_out_uplink JoinRefused = false
-hands_out_uplink (JoinStale greatest) = false
-hands_out_uplink NoTicket = false
-hands_out_uplink (Closed window ack) = is_first window
-hands_out_uplink NoWindow = false
-hands_out_uplink (Again window) = false
-
 -- with which replies a downlink goes out
 abbrev pub hands_out_downlink : Reply → Bool
-hands_out_downlink (Opened window) = false
-hands_out_downlink (Copied window place) = false
-hands_out_downlink (Crowded window) = false
-hands_out_downlink (Old eui session fcnt) = false
-hands_out_downlink NoSession = false
-hands_out_downlink (Busy eui) = false
-hands_out_downlink (Ask ticket) = false
-hands_out_downlink (JoinCopied place) = false
-hands_out_downlink JoinCrowded = false
-hands_out_downlink (NonceOld greatest) = false
-hands_out_downlink NoDevice = false
-hands_out_downlink JoinBusy = false
 hands_out_downlink (Accepted eui session addr) = true
-hands_out_downlink JoinRefused = false
-hands_out_downlink (JoinStale greatest) = false
-hands_out_downlink NoTicket = false
 hands_out_downlink (Closed window ack) = is_some ack
-hands_out_downlink NoWindow = false
-hands_out_downlink (Again window) = false
+hands_out_downlink _ = false
 
 -- the answer to a call has an uplink and a downlink exactly where its reply says so
 pub record GoesOut (net : Network) (h : List Entry) (call : Call) : Type 0 where
   pub uplink : is_some (answer net h call).uplink ≡ hands_out_uplink (answer net h call).reply
   pub downlink : is_some (answer net h call).downlink ≡ hands_out_downlink (answer net h call).reply
+
+-- an entry asked for the ticket, and none after it ended it
+pub record IsOpenTicket (h : List Entry) (t : Ticket) : Type 0 where
+  pub before : List Entry
+  pub entry : Entry
+  pub after : List Entry
+  pub is : h ≡ before ++ entry ∷ after
+  pub asks : asking_in entry.call entry.reply ≡ Some t
+  pub not_ended : AllByRecursion (λ e. ends_ticket t e ≡ false) after

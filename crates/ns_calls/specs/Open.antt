@@ -1,15 +1,13 @@
--- Open windows, open tickets and copies in words of single entries.
+-- Open windows and their copies in words of single entries.
 use Rattle.std.specs.Prelude.{◌≡◌, ℕ, false, List, ◌∷◌, ◌++◌, take, filter_map, Option, None, Some, bytes_eq}
 use Rattle.std.specs.List.{AllByRecursion}
 use Rattle.ns_types.specs.Cases.{when}
 use Rattle.ns_types.specs.declared.heard.Heard.{Heard}
-use Rattle.ns_types.specs.declared.ticket.Ticket.{Ticket}
 use Rattle.ns_calls.specs.declared.answer.Uplink as answer
 use Rattle.ns_calls.specs.declared.call.Call.{Call}
 use Rattle.ns_calls.specs.declared.call.Call.TheVariants.{Uplink, Join, JoinReply, Close}
 use Rattle.ns_calls.specs.declared.call.Entry.{Entry}
-use Rattle.ns_calls.specs.History.{Opening, window_in, asking_in, closes, ends_ticket}
-use Rattle.ns_calls.specs.Reply.{most_copies}
+use Rattle.ns_calls.specs.Entries.{Opening, window_in, closes, most_copies}
 
 -- an entry opened the window, and none after it closed it
 pub record IsOpenWindow (h : List Entry) (o : Opening) : Type 0 where
@@ -19,15 +17,6 @@ pub record IsOpenWindow (h : List Entry) (o : Opening) : Type 0 where
   pub is : h ≡ before ++ entry ∷ after
   pub opens : window_in entry.call entry.reply ≡ Some o
   pub not_closed : AllByRecursion (λ e. closes o.window e ≡ false) after
-
--- an entry asked for the ticket, and none after it ended it
-pub record IsOpenTicket (h : List Entry) (t : Ticket) : Type 0 where
-  pub before : List Entry
-  pub entry : Entry
-  pub after : List Entry
-  pub is : h ≡ before ++ entry ∷ after
-  pub asks : asking_in entry.call entry.reply ≡ Some t
-  pub not_ended : AllByRecursion (λ e. ends_ticket t e ≡ false) after
 
 -- how a call heard a frame of these bytes, where it did
 abbrev pub hearing_in : List ℕ → Call → Option Heard

@@ -21,11 +21,8 @@ use Rattle.ns_calls.specs.declared.call.Reply.{Reply}
 use Rattle.ns_calls.specs.declared.call.Reply.TheVariants.{Opened, Copied, Crowded, Old, NoSession, Busy, Ask, JoinCopied, JoinCrowded, NonceOld, NoDevice, JoinBusy, Accepted, JoinRefused, JoinStale, NoTicket, Closed, NoWindow, Again}
 use Rattle.ns_calls.specs.declared.call.Entry.{Entry}
 use Rattle.ns_calls.specs.Queries.{first}
-use Rattle.ns_calls.specs.History.{Opening, greatest_nonce, next_session, session_join, live, is_live, greatest_counter, first_window, last_round, next_ack_number, open_windows, open_window, is_uplink_open, window_count, window_copies, is_ticket_open, ticket_count, ticket_copies}
-
--- how many copies a window or a ticket has at most
-abbrev pub most_copies : ℕ
-most_copies = 16
+use Rattle.ns_calls.specs.Entries.{Opening, open_windows, most_copies}
+use Rattle.ns_calls.specs.History.{greatest_nonce, next_session, session_join, live, is_live, greatest_counter, first_window, last_round, next_ack_number, open_window, is_uplink_open, window_count, window_copies, is_ticket_open, ticket_count, ticket_copies}
 
 -- how many windows and how many tickets of a device are open at most
 abbrev pub most_windows : ℕ
@@ -146,17 +143,36 @@ at_or_above greatest n = option_and_then (λ g. when (nat_le n g) g) greatest
 abbrev pub nonce_at_or_above : Network → List Entry → Ticket → Option ℕ
 nonce_at_or_above net h t = at_or_above (greatest_nonce net h (dev_eui t)) (nonce t).0
 
+-- What the reply to a Join-Request rests on: whether the network knows the device with its JoinEUI, the greatest nonce of the device, the
+-- number of copies of the ticket where it is open, and the number of open tickets of the device.
+pub record JoinFacts : Type 0 where
+  pub known : Bool
+  pub greatest : Option ℕ
+  pub copies : Option ℕ
+  pub tickets : ℕ
+
 -- one more copy of an open ticket
-abbrev pub join_copy_reply : List Entry → Ticket → Reply
-join_copy_reply h t = let place = length (ticket_copies h t) + 1 in if nat_le place most_copies then JoinCopied place else JoinCrowded
+abbrev pub join_copy_reply : ℕ → Reply
+join_copy_reply copies = if nat_lt copies most_copies then JoinCopied (copies + 1) else JoinCrowded
+
+abbrev pub join_rule : Ticket → JoinFacts → Reply
+join_rule t facts = first_case (
+    when (not facts.known) NoDevice
+    ∷ option_map (λ g. NonceOld (record { 0 = g })) (at_or_above facts.greatest (nonce t).0)
+    ∷ option_map join_copy_reply facts.copies
+    ∷ when (nat_le most_tickets facts.tickets) JoinBusy
+    ∷ []) (Ask t)
+
+abbrev pub join_facts : Network → List Entry → Ticket → JoinFacts
+join_facts net h t = record {
+  known = is_known net (dev_eui t) (join_eui t);
+  greatest = greatest_nonce net h (dev_eui t);
+  copies = when (is_ticket_open h t) (length (ticket_copies h t));
+  tickets = ticket_count h (dev_eui t);
+}
 
 abbrev pub reply_to_join : Network → List Entry → Ticket → Reply
-reply_to_join net h t = first_case (
-    when (not (is_known net (dev_eui t) (join_eui t))) NoDevice
-    ∷ option_map (λ g. NonceOld (record { 0 = g })) (nonce_at_or_above net h t)
-    ∷ when (is_ticket_open h t) (join_copy_reply h t)
-    ∷ when (nat_le most_tickets (ticket_count h (dev_eui t))) JoinBusy
-    ∷ []) (Ask t)
+reply_to_join net h t = join_rule t (join_facts net h t)
 
 -- ---- the answer to a join
 
@@ -168,12 +184,33 @@ abbrev pub is_failed : Outcome → Bool
 is_failed Failed = true
 is_failed (Success join_ans) = false
 
+-- What the reply to a join server's answer rests on: whether the ticket is open, whether asking failed, the greatest nonce of the device, the
+-- number of its next session, and its address.
+pub record AnswerFacts : Type 0 where
+  pub is_open : Bool
+  pub failed : Bool
+  pub greatest : Option ℕ
+  pub session : ℕ
+  pub addr : DevAddr
+
+abbrev pub answer_rule : Ticket → AnswerFacts → Reply
+answer_rule t facts = first_case (
+    when (not facts.is_open) NoTicket
+    ∷ when facts.failed JoinRefused
+    ∷ option_map (λ g. JoinStale (record { 0 = g })) (at_or_above facts.greatest (nonce t).0)
+    ∷ []) (Accepted (dev_eui t) facts.session facts.addr)
+
+abbrev pub answer_facts : Network → List Entry → Ticket → Outcome → AnswerFacts
+answer_facts net h t outcome = record {
+  is_open = is_ticket_open h t;
+  failed = is_failed outcome;
+  greatest = greatest_nonce net h (dev_eui t);
+  session = next_session h (dev_eui t);
+  addr = address net (dev_eui t);
+}
+
 abbrev pub reply_to_join_reply : Network → List Entry → Ticket → Outcome → Reply
-reply_to_join_reply net h t outcome = first_case (
-    when (not (is_ticket_open h t)) NoTicket
-    ∷ when (is_failed outcome) JoinRefused
-    ∷ option_map (λ g. JoinStale (record { 0 = g })) (nonce_at_or_above net h t)
-    ∷ []) (Accepted (dev_eui t) (next_session h (dev_eui t)) (address net (dev_eui t)))
+reply_to_join_reply net h t outcome = answer_rule t (answer_facts net h t outcome)
 
 -- ---- a closing
 

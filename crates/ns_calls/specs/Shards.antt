@@ -28,21 +28,12 @@ device_in (reply.Opened window) = Some window.eui
 device_in (reply.Copied window place) = Some window.eui
 device_in (reply.Crowded window) = Some window.eui
 device_in (reply.Old eui session fcnt) = Some eui
-device_in reply.NoSession = None
 device_in (reply.Busy eui) = Some eui
 device_in (reply.Ask ticket) = Some (dev_eui ticket)
-device_in (reply.JoinCopied place) = None
-device_in reply.JoinCrowded = None
-device_in (reply.NonceOld greatest) = None
-device_in reply.NoDevice = None
-device_in reply.JoinBusy = None
 device_in (reply.Accepted eui session addr) = Some eui
-device_in reply.JoinRefused = None
-device_in (reply.JoinStale greatest) = None
-device_in reply.NoTicket = None
 device_in (reply.Closed window ack) = Some window.eui
-device_in reply.NoWindow = None
 device_in (reply.Again window) = Some window.eui
+device_in _ = None
 
 -- the reply to a call names a device of the call's shard, or none
 abbrev pub NamesOwnDevice : Call → Reply → Type 0

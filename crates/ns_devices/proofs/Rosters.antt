@@ -9,7 +9,7 @@ use Rattle.ns_types.specs.Identity.{shard_of}
 use Rattle.ns_roster.specs.declared.Device.{Device}
 use Rattle.ns_roster.specs.Network.{Network}
 use Rattle.ns_roster.specs.Valid.{Differ}
-use Rattle.ns_calls.specs.History.{same_device}
+use Rattle.ns_calls.specs.Entries.{same_device}
 use Rattle.ns_devices.specs.declared.own.Own.{Own}
 use Rattle.ns_devices.specs.Devices.{joinless, own_of}
 

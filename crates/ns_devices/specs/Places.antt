@@ -7,7 +7,7 @@ use Rattle.smallvec.specs.SmallVec.{SmallVec}
 use Rattle.ns_types.specs.declared.identity.DevAddr.{DevAddr}
 use Rattle.ns_types.specs.declared.identity.DevEui.{DevEui}
 use Rattle.ns_calls.specs.Queries.{first}
-use Rattle.ns_calls.specs.History.{same_device}
+use Rattle.ns_calls.specs.Entries.{same_device}
 use Rattle.ns_calls.specs.Reply.{Fit}
 use Rattle.ns_devices.specs.declared.own.Own.{Own}
 use Rattle.ns_devices.specs.Devices.{own_fit}

@@ -12,7 +12,8 @@ use Rattle.ns_calls.specs.declared.call.Outcome.TheVariants as outcome
 use Rattle.ns_calls.specs.declared.call.Reply.{Reply}
 use Rattle.ns_calls.specs.declared.call.Reply.TheVariants as reply
 use Rattle.ns_calls.specs.declared.call.Entry.{Entry}
-use Rattle.ns_calls.specs.History.{Opening, opening_in, closing_in, same_device, is_live, is_ticket_open, asks_for, open_windows, open_window}
+use Rattle.ns_calls.specs.Entries.{Opening, opening_in, closing_in, same_device, open_windows}
+use Rattle.ns_calls.specs.History.{is_live, is_ticket_open, asks_for, open_window}
 use Rattle.ns_calls.specs.Legal.{entry_of}
 use Rattle.ns_calls.proofs.LocalLemmas.{bool_tells}
 use Rattle.ns_kept.specs.Kept.{repetition_in, is_kept, none_says, same_session}

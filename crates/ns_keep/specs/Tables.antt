@@ -4,7 +4,8 @@ use Rattle.ns_types.specs.declared.identity.DevEui.{DevEui}
 use Rattle.ns_types.specs.declared.identity.WindowName.{WindowName}
 use Rattle.ns_types.specs.declared.ticket.Ticket.{Ticket}
 use Rattle.ns_calls.specs.declared.call.Entry.{Entry}
-use Rattle.ns_calls.specs.History.{is_live, is_ticket_open, open_windows}
+use Rattle.ns_calls.specs.History.{is_live, is_ticket_open}
+use Rattle.ns_calls.specs.Entries.{open_windows}
 use Rattle.ns_kept.specs.Kept.{is_kept, filter_before}
 
 -- the live sessions, the open tickets and the names of the open windows are those of this history

@@ -19,7 +19,8 @@ use Rattle.ns_calls.specs.declared.call.Call.TheVariants as call
 use Rattle.ns_calls.specs.declared.call.Reply.{Reply}
 use Rattle.ns_calls.specs.declared.call.Reply.TheVariants as reply
 use Rattle.ns_calls.specs.declared.call.Entry.{Entry}
-use Rattle.ns_calls.specs.History.{Acceptance, Opening, Closing, acceptance_in, opening_in, closing_in, window_copy_in, ticket_copy_in, same_device, same_ticket, asks_for, acceptances, openings, first_and_other, active_session, newest_session, live, is_live, open_windows, window_copies, open_tickets, is_ticket_open, ticket_count, copies_of_ticket, ticket_copies}
+use Rattle.ns_calls.specs.Entries.{Acceptance, Opening, Closing, acceptance_in, opening_in, closing_in, same_device, acceptances, openings, open_windows}
+use Rattle.ns_calls.specs.History.{window_copy_in, ticket_copy_in, same_ticket, asks_for, first_and_other, active_session, newest_session, live, is_live, window_copies, open_tickets, is_ticket_open, ticket_count, copies_of_ticket, ticket_copies}
 use Rattle.ns_calls.specs.Queries.{last}
 use Rattle.ns_calls.specs.Legal.{IsLegal}
 use Rattle.ns_calls.proofs.LocalLemmas.{bool_tells, All-each}

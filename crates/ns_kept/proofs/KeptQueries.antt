@@ -12,9 +12,10 @@ use Rattle.ns_roster.specs.Network.{Network}
 use Rattle.ns_calls.specs.declared.call.Call.{Call}
 use Rattle.ns_calls.specs.declared.call.Entry.{Entry}
 use Rattle.ns_calls.specs.Queries.{last, greater, maximum}
-use Rattle.ns_calls.specs.History.{Acceptance, Opening, same_device, acceptances, openings, first_and_other, first_window, session_join, session_acks, open_windows, open_window, window_copies, open_tickets, last_nonce}
+use Rattle.ns_calls.specs.Entries.{Acceptance, Opening, same_device, acceptances, openings, open_windows}
+use Rattle.ns_calls.specs.History.{first_and_other, first_window, session_join, session_acks, open_window, window_copies, open_tickets, last_nonce}
 use Rattle.ns_calls.specs.Legal.{IsLegal, with_call}
-use Rattle.ns_calls.specs.Headline.{Rises}
+use Rattle.ns_calls.specs.Laws.{Rises}
 use Rattle.ns_calls.proofs.Lists.{All-weaker, Exceeds-each, Rises-push}
 use Rattle.ns_calls.proofs.Induction.{legal_induction}
 use Rattle.ns_calls.proofs.JoinLemmas.{acceptances-cases, nonces_rise}

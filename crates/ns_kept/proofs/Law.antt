@@ -14,14 +14,14 @@ use Rattle.ns_calls.specs.declared.call.Call.{Call}
 use Rattle.ns_calls.specs.declared.call.Reply.{Reply}
 use Rattle.ns_calls.specs.declared.call.Entry.{Entry}
 use Rattle.ns_calls.specs.declared.answer.Answer.{Answer}
-use Rattle.ns_calls.specs.Queries.{is_ended}
-use Rattle.ns_calls.specs.History.{Opening, window_in, closes, asking_in, ends_ticket, open_windows, open_tickets, greatest_nonce}
+use Rattle.ns_calls.specs.Entries.{is_ended, Opening, window_in, closes, open_windows}
+use Rattle.ns_calls.specs.History.{asking_in, ends_ticket, open_tickets, greatest_nonce}
 use Rattle.ns_calls.specs.Reply.{reply_to}
 use Rattle.ns_calls.specs.Legal.{IsLegal, IsNumbered, IsOfShard, entry_for}
 use Rattle.ns_calls.specs.Legal as calls
 use Rattle.ns_calls.specs.Out.{out, answer}
 use Rattle.ns_calls.specs.Runs.{answers_after}
-use Rattle.ns_calls.specs.Headline.{Rises, opening_count, closing_count, open_count}
+use Rattle.ns_calls.specs.Laws.{Rises, opening_count, closing_count, open_count}
 use Rattle.ns_calls.proofs.WindowLemmas.{windows_open_once}
 use Rattle.ns_calls.specs.Merges.{MergesAreLegal}
 use Rattle.ns_calls.proofs.LegalLemmas.{IsLegal-push, get_push}

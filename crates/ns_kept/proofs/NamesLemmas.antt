@@ -7,9 +7,8 @@ use Rattle.ns_types.specs.Cases.{when}
 use Rattle.ns_types.specs.declared.identity.WindowName.{WindowName}
 use Rattle.ns_types.specs.Identity.{same_window}
 use Rattle.ns_calls.specs.declared.call.Entry.{Entry}
-use Rattle.ns_calls.specs.Queries.{still_open}
-use Rattle.ns_calls.specs.History.{Opening, window_in, closes, open_windows}
-use Rattle.ns_calls.specs.Headline.{Rises}
+use Rattle.ns_calls.specs.Entries.{still_open, Opening, window_in, closes, open_windows}
+use Rattle.ns_calls.specs.Laws.{Rises}
 use Rattle.ns_calls.proofs.LocalLemmas.{bool_tells}
 use Rattle.ns_calls.proofs.Lists.{All-weaker, All-map}
 use Rattle.ns_calls.proofs.NameLemmas.{same_window-refl, same_window-eq}

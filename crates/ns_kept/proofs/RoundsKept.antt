@@ -16,10 +16,12 @@ use Rattle.ns_calls.specs.declared.call.Reply.{Reply}
 use Rattle.ns_calls.specs.declared.call.Reply.TheVariants as reply
 use Rattle.ns_calls.specs.declared.call.Entry.{Entry}
 use Rattle.ns_calls.specs.Queries.{maximum}
-use Rattle.ns_calls.specs.History.{Opening, opening_in, window_in, same_device, session_counters, greatest_counter, first_window, rounds, last_round, session_round, is_live}
+use Rattle.ns_calls.specs.Entries.{Opening, opening_in, window_in, same_device, session_counters}
+use Rattle.ns_calls.specs.History.{greatest_counter, first_window, rounds, last_round, session_round, is_live}
 use Rattle.ns_calls.specs.Reply.{reply_to}
 use Rattle.ns_calls.specs.Legal.{IsLegal, entry_for, with_call}
-use Rattle.ns_calls.specs.Headline.{Rises, Reaches}
+use Rattle.ns_calls.specs.Laws.{Rises}
+use Rattle.ns_calls.specs.Headline.{Reaches}
 use Rattle.ns_calls.proofs.LocalLemmas.{bool_tells}
 use Rattle.ns_calls.proofs.Lists.{All-push, All-weaker, Exceeds-each, Rises-push}
 use Rattle.ns_calls.proofs.Induction.{legal_induction}

@@ -1,5 +1,5 @@
 -- A trim of a shard's history keeps 208 entries for each of its devices at most.
-use Rattle.std.proofs.Common.{◌≡◌, ℕ, suc, ◌*◌, ◌≤◌, ◌==◌, Bool, true, false, not, ◌||◌, ◌&&◌, cond, List, [], ◌∷◌, length, filter, filter_map, count_by, nat_le, Option, None, Some, IfSome, option_map, slice_get, refl, sym, ap, subst, ◌∙◌, arith, inl, inr}
+use Rattle.std.proofs.Common.{◌≡◌, ℕ, suc, ◌*◌, ◌≤◌, ◌==◌, Bool, true, false, ◌||◌, ◌&&◌, cond, List, [], ◌∷◌, length, filter, filter_map, count_by, Option, None, Some, IfSome, option_map, slice_get, refl, sym, ap, subst, ◌∙◌, arith, inl, inr}
 use Rattle.std.specs.List.{AllByRecursion, list_any}
 use Rattle.std.specs.Option.{option_map_or}
 use Rattle.std.proofs.lemmas.Bool.{and_parts, eq-eqb}
@@ -8,7 +8,6 @@ use Rattle.ns_types.specs.declared.identity.DevEui.{DevEui}
 use Rattle.ns_types.specs.declared.identity.WindowName.{WindowName}
 use Rattle.ns_types.specs.declared.heard.Heard.{Heard}
 use Rattle.ns_types.specs.declared.ticket.Ticket.{Ticket}
-use Rattle.ns_types.specs.Cases.{first_case, when}
 use Rattle.ns_types.specs.Identity.{shard_of, same_window}
 use Rattle.ns_types.specs.Ticket.{dev_eui, join_eui}
 use Rattle.ns_views.specs.Frame.{data_fields}
@@ -18,17 +17,17 @@ use Rattle.ns_roster.specs.Valid.{IsRoster}
 use Rattle.ns_calls.specs.declared.call.Call.{Call}
 use Rattle.ns_calls.specs.declared.call.Call.TheVariants as call
 use Rattle.ns_calls.specs.declared.call.Reply.{Reply}
-use Rattle.ns_calls.specs.declared.call.Reply.TheVariants as reply
 use Rattle.ns_calls.specs.declared.call.Entry.{Entry}
-use Rattle.ns_calls.specs.History.{Acceptance, Opening, Closing, acceptance_in, opening_in, window_in, closing_in, window_copy_in, ticket_copy_in, same_device, same_ticket, next_session, open_tickets, is_ticket_open, ticket_count}
-use Rattle.ns_calls.specs.Reply.{reply_to, nonce_at_or_above, address, join_copy_reply, most_tickets}
+use Rattle.ns_calls.specs.Entries.{Acceptance, Opening, Closing, acceptance_in, opening_in, window_in, closing_in, same_device}
+use Rattle.ns_calls.specs.History.{window_copy_in, ticket_copy_in, same_ticket, next_session, open_tickets, is_ticket_open}
+use Rattle.ns_calls.specs.Reply.{reply_to, nonce_at_or_above, address}
 use Rattle.ns_calls.specs.Legal.{IsLegal, IsHistory, entry_for}
 use Rattle.ns_calls.specs.Shards.{shard_of_call, NamesOwnDevice, device_in}
-use Rattle.ns_calls.specs.Headline.{opening_count, closing_count, WindowsOpenOnce}
+use Rattle.ns_calls.specs.Laws.{opening_count, closing_count, WindowsOpenOnce}
 use Rattle.ns_calls.proofs.Lists.{All-weaker}
 use Rattle.ns_calls.proofs.LocalLemmas.{bool_tells, All-each}
 use Rattle.ns_calls.proofs.Induction.{legal_induction}
-use Rattle.ns_calls.proofs.JoinLemmas.{same_device-eq, accepted-cases}
+use Rattle.ns_calls.proofs.JoinLemmas.{same_device-eq, accepted-cases, join-has}
 use Rattle.ns_calls.proofs.KnownLemmas.{tickets_known}
 use Rattle.ns_calls.proofs.TicketLemmas.{same_ticket-eq}
 use Rattle.ns_calls.proofs.RoundLemmas.{opened}
@@ -101,24 +100,17 @@ opened-known net g legal c o says =
 
 -- a Join-Request of a device that the roster doesn't have is no copy
 asked-known : (net : Network) (g : List Entry) (c : Call) (x : Ticket × Heard) → ticket_copy_in c (reply_to net g c) ≡ Some x → has_device net (dev_eui x.0) ≡ true
-asked-known net g (call.Join t heard) x is =
-    elim (bool_tells (is_known net (dev_eui t) (join_eui t))) [
-      | inl known ↦ (let same : t ≡ x.0 = own t heard (reply_to net g (call.Join t heard)) x is in subst (λ (u : Ticket). has_device net (dev_eui u) ≡ true) same (known-device net t known))
-      | inr unknown ↦ absurd (cc (sym (ap by unknown) ∙ is))
-    ]
+asked-known net g (call.Join t heard) x is = join-has (λ r. ticket_copy_in (call.Join t heard) r ≡ Some x → has_device net (dev_eui x.0) ≡ true) net g t (record {
+  unknown = λ unknown says. absurd (cc says);
+  old = λ known greatest says. absurd (cc says);
+  copied = λ known room. own known;
+  crowded = λ says. absurd (cc says);
+  busy = λ says. absurd (cc says);
+  ask = λ known closed room. own known;
+}) is
   where
-    by : Bool → Option (Ticket × Heard)
-    by known = ticket_copy_in (call.Join t heard) (first_case (
-        when (not known) reply.NoDevice
-        ∷ option_map (λ g'. reply.NonceOld (record { 0 = g' })) (nonce_at_or_above net g t)
-        ∷ when (is_ticket_open g t) (join_copy_reply g t)
-        ∷ when (nat_le most_tickets (ticket_count g (dev_eui t))) reply.JoinBusy
-        ∷ []) (reply.Ask t))
-
-    own : (u : Ticket) (h : Heard) (r : Reply) (y : Ticket × Heard) → ticket_copy_in (call.Join u h) r ≡ Some y → u ≡ y.0
-    own u h (reply.Ask asked) y says = ap (λ (z : Ticket × Heard). z.0) (same_Some (u, h) y says)
-    own u h (reply.JoinCopied place) y says = ap (λ (z : Ticket × Heard). z.0) (same_Some (u, h) y says)
-    own u h _ y says = absurd (cc says)
+    own : is_known net (dev_eui t) (join_eui t) ≡ true → Some (t, heard) ≡ Some x → has_device net (dev_eui x.0) ≡ true
+    own known says = subst (λ (u : Ticket). has_device net (dev_eui u) ≡ true) (ap (λ (z : Ticket × Heard). z.0) (same_Some (t, heard) x says)) (known-device net t known)
 asked-known net g (call.Uplink frame heard) x is = absurd (cc is)
 asked-known net g (call.JoinReply t o) x is = absurd (cc is)
 asked-known net g (call.Close w) x is = absurd (cc is)

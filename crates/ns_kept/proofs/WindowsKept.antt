@@ -12,9 +12,10 @@ use Rattle.ns_calls.specs.declared.call.Call.TheVariants as call
 use Rattle.ns_calls.specs.declared.call.Reply.{Reply}
 use Rattle.ns_calls.specs.declared.call.Reply.TheVariants as reply
 use Rattle.ns_calls.specs.declared.call.Entry.{Entry}
-use Rattle.ns_calls.specs.History.{Opening, Closing, window_in, closing_in, window_copy_in, closes, open_windows, open_window}
+use Rattle.ns_calls.specs.Entries.{Opening, Closing, window_in, closing_in, closes, open_windows}
+use Rattle.ns_calls.specs.History.{window_copy_in, open_window}
 use Rattle.ns_calls.specs.Legal.{IsLegal}
-use Rattle.ns_calls.specs.Headline.{opening_count, closing_count, open_count, WindowsOpenOnce}
+use Rattle.ns_calls.specs.Laws.{opening_count, closing_count, open_count, WindowsOpenOnce}
 use Rattle.ns_calls.proofs.LocalLemmas.{bool_tells}
 use Rattle.ns_calls.proofs.Lists.{All-weaker, count-cons, count-found}
 use Rattle.ns_calls.proofs.NameLemmas.{same_window-refl, same_window-eq}

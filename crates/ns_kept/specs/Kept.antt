@@ -12,8 +12,8 @@ use Rattle.ns_calls.specs.declared.call.Call.TheVariants as call
 use Rattle.ns_calls.specs.declared.call.Reply.{Reply}
 use Rattle.ns_calls.specs.declared.call.Reply.TheVariants as reply
 use Rattle.ns_calls.specs.declared.call.Entry.{Entry}
-use Rattle.ns_calls.specs.Queries.{still_open}
-use Rattle.ns_calls.specs.History.{Acceptance, Opening, Closing, acceptance_in, opening_in, window_in, closing_in, window_copy_in, ticket_copy_in, asks_for, closes, same_device, is_live, open_windows, open_window, is_ticket_open}
+use Rattle.ns_calls.specs.Entries.{still_open, Acceptance, Opening, Closing, acceptance_in, opening_in, window_in, closing_in, closes, same_device, open_windows}
+use Rattle.ns_calls.specs.History.{window_copy_in, ticket_copy_in, asks_for, is_live, open_window, is_ticket_open}
 
 -- What a trim leaves, and the entries made since. The mark is the number of the first entry made since, and the windows are those that
 -- were open at the trim.

@@ -10,7 +10,7 @@ use Rattle.ns_roster.specs.Network.{Network}
 use Rattle.ns_roster.specs.Closing.{with_nonces, nonce_by, with_greatest}
 use Rattle.ns_shard.specs.State.{State}
 use Rattle.ns_shard.specs.declared.step.Step.{Step}
-use Rattle.ns_shard.specs.Steps.{greatest_among, greatest_after, closing_roster}
+use Rattle.ns_shard.specs.NextRun.{greatest_among, greatest_after, closing_roster}
 use Rattle.ns_replay.proofs.FrontLemmas.{front_behind}
 
 -- the nonces that the shards have are those after the steps

@@ -1,6 +1,6 @@
 -- A line is a step line exactly where it spells a step.
 use Rattle.std.proofs.Common.{◌≡◌, ◌⊎◌, ℕ, suc, ◌+◌, ◌-◌, ◌<◌, ◌==◌, Bool, true, false, not, ◌||◌, ◌&&◌, cond, List, [], ◌∷◌, ◌++◌, length, take, drop, Option, Some, None, option_map, refl, sym, ap, ◌∙◌, subst, arith, inl, inr, length-append, bytes_eq}
-use Rattle.std.specs.Prelude.{Result, Ok, Err, if◌then◌else◌, codes, option_and_then, slice_index, position, nat_lt, nat_le, ◌^◌, ◌%◌, ◌/◌}
+use Rattle.std.specs.Prelude.{Result, Ok, Err, if◌then◌else◌, codes, option_and_then, slice_index, position, nat_lt, ◌^◌, ◌%◌, ◌/◌}
 use Rattle.std.specs.List.{list_any, list_all, position_or_len}
 use Rattle.std.specs.Result.{result_ok}
 use Rattle.std.proofs.lemmas.Bool.{eqb-true, cases_Bool}

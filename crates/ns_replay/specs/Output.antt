@@ -9,7 +9,8 @@ use Rattle.ns_shard.specs.declared.step.Act.{Act}
 use Rattle.ns_shard.specs.declared.step.Step.{Step}
 use Rattle.ns_shard.specs.declared.run.Taken.{Taken}
 use Rattle.ns_shard.specs.declared.run.Taken.TheVariants.{Link, View, Made}
-use Rattle.ns_shard.specs.Steps.{step_taken, closing_roster}
+use Rattle.ns_shard.specs.Steps.{step_taken}
+use Rattle.ns_shard.specs.NextRun.{closing_roster}
 use Rattle.ns_replay.specs.StepLines.{steps}
 
 -- the step of a line, made by the one worker of a recorded run

@@ -3,7 +3,7 @@
 ghost use Rattle.std.specs.Prelude.{◌≡◌, map, IfOk, string_bytes};
 ghost use Rattle.ns_roster.specs.Closing.{network_text, nonce_by, with_greatest};
 ghost use Rattle.ns_replay.specs.Output.{ended};
-ghost use Rattle.ns_shard.specs.Steps.{greatest_among};
+ghost use Rattle.ns_shard.specs.NextRun.{greatest_among};
 
 use ns_roster::{Device, Roster};
 use ns_shard::Run;

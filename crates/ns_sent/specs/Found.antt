@@ -15,8 +15,8 @@ use Rattle.ns_calls.specs.declared.call.Reply.{Reply}
 use Rattle.ns_calls.specs.declared.call.Reply.TheVariants.{Accepted}
 use Rattle.ns_calls.specs.declared.call.Entry.{Entry}
 use Rattle.ns_calls.specs.declared.answer.Downlink.{Downlink}
-use Rattle.ns_calls.specs.History.{Opening, same_device, same_ticket, acceptance_in, window_copy_in, ticket_copy_in, window_copies, ticket_copies}
-use Rattle.ns_calls.specs.Reply.{most_copies}
+use Rattle.ns_calls.specs.Entries.{Opening, same_device, acceptance_in, most_copies}
+use Rattle.ns_calls.specs.History.{same_ticket, window_copy_in, ticket_copy_in, window_copies, ticket_copies}
 use Rattle.ns_calls.specs.Out.{accept_at}
 use Rattle.ns_sent.specs.declared.search.Opened.{Opened}
 

@@ -5,7 +5,7 @@ ghost use Rattle.ns_types.specs.declared.identity.WindowName.{WindowName};
 ghost use Rattle.ns_types.specs.declared.ticket.Ticket.{Ticket};
 ghost use Rattle.ns_calls.specs.History.{window_copies, ticket_copies};
 ghost use Rattle.ns_calls.specs.Out.{ack_downlink, downlink_out};
-ghost use Rattle.ns_calls.specs.Reply.{most_copies};
+ghost use Rattle.ns_calls.specs.Entries.{most_copies};
 ghost use Rattle.ns_sent.specs.Found.{CopiesFit, opening, accept_downlink};
 
 use crate::rx1::{accept_at, acknowledgement, best_copy};

@@ -4,8 +4,8 @@ ghost use Rattle.std.specs.Prelude.{◌≡◌, ◌≤◌, length, option_map};
 ghost use Rattle.std.specs.List.{list_any};
 ghost use Rattle.ns_types.specs.Identity.{same_window};
 ghost use Rattle.ns_calls.specs.Queries.{from_last};
-ghost use Rattle.ns_calls.specs.History.{window_in, closes, asks_for, window_copy_in, ticket_copy_in, open_window, session_join, window_copies, copies_of_ticket, ticket_copies};
-ghost use Rattle.ns_calls.specs.Reply.{most_copies};
+ghost use Rattle.ns_calls.specs.Entries.{window_in, closes, most_copies};
+ghost use Rattle.ns_calls.specs.History.{asks_for, window_copy_in, ticket_copy_in, open_window, session_join, window_copies, copies_of_ticket, ticket_copies};
 ghost use Rattle.ns_sent.specs.Found.{opening, session_answer, window_copy, ticket_copy};
 
 use arrayvec::ArrayVec;

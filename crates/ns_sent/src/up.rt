@@ -3,7 +3,7 @@
 ghost use Rattle.std.specs.Prelude.{◌≡◌, ◌≤◌, length};
 ghost use Rattle.ns_calls.specs.History.{window_copies};
 ghost use Rattle.ns_calls.specs.Out.{key_of, uplink_of, first_uplink_of, uplink_out};
-ghost use Rattle.ns_calls.specs.Reply.{most_copies};
+ghost use Rattle.ns_calls.specs.Entries.{most_copies};
 ghost use Rattle.ns_sent.specs.Found.{CopiesFit, opening};
 
 use crate::search::{Opened, open_window, session_join, window_copies};

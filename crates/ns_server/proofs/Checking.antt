@@ -1,16 +1,12 @@
 -- What the tests of a receipt say.
-use Rattle.std.proofs.Common.{◌≡◌, inl, inr, ℕ, zero, suc, [], ◌∷◌, ◌<◌, ◌≤◌, Bool, true, false, not, List, take, Some, length, refl, ap, sym, ◌∙◌, subst, arith}
+use Rattle.std.proofs.Common.{◌≡◌, inl, inr, ℕ, zero, suc, [], ◌∷◌, ◌<◌, ◌≤◌, Bool, true, false, not, List, take, Some, length, refl, ap, sym, subst, arith}
 use Rattle.std.specs.Prelude.{slice_get, ◌↔◌, IsTrue, nat_lt}
 use Rattle.std.proofs.lemmas.Bool.Decides.{nat_tests}
 use Rattle.std.proofs.lemmas.Option.{slice_get_within}
-use Rattle.ns_roster.specs.Network.{Network}
 use Rattle.ns_calls.proofs.LocalLemmas.{bool_tells}
 use Rattle.ns_calls.specs.declared.call.Entry.{Entry}
-use Rattle.ns_calls.specs.Reply.{reply_to}
-use Rattle.ns_calls.specs.Legal.{IsLegal}
 use Rattle.ns_shard.specs.State.{State}
 use Rattle.ns_server.specs.declared.kept.Receipt.{Receipt}
-use Rattle.ns_server.specs.Receipts.{Sends}
 use Rattle.ns_server.specs.Check.{StandsIn, Stands, IsPassed, IsRepeated, IsRight}
 
 -- the receipt is looked up in its shard

@@ -7,7 +7,8 @@ use Rattle.ns_types.specs.declared.identity.WindowName.{WindowName}
 use Rattle.ns_types.specs.Identity.{same_window}
 use Rattle.ns_calls.specs.declared.call.Entry.{Entry}
 use Rattle.ns_calls.specs.Queries.{first}
-use Rattle.ns_calls.specs.History.{Opening, window_in, open_windows, oldest}
+use Rattle.ns_calls.specs.Entries.{Opening, window_in, open_windows}
+use Rattle.ns_calls.specs.History.{oldest}
 use Rattle.ns_calls.specs.Legal.{IsLegal}
 use Rattle.ns_roster.specs.Network.{Network}
 use Rattle.ns_kept.specs.Kept.{Remains, reading}
@@ -16,7 +17,7 @@ use Rattle.ns_shard.specs.State.{State, remains, seen}
 use Rattle.ns_server.specs.Settled.{AreStates}
 use Rattle.ns_server.specs.Drain.{NoneOpen, EachIsClosed}
 use Rattle.ns_calls.proofs.NameLemmas.{same_window-refl}
-use Rattle.ns_calls.specs.Headline.{opening_count, closing_count, open_count, WindowsOpenOnce}
+use Rattle.ns_calls.specs.Laws.{opening_count, closing_count, WindowsOpenOnce}
 
 -- what an element counts
 abbrev the_count : Bool → ℕ

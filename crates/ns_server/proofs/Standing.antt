@@ -1,19 +1,19 @@
 -- Receipts of entries that were made since a trim.
-use Rattle.std.proofs.Common.{◌≡◌, ℕ, ◌+◌, ◌-◌, ◌<◌, ◌≤◌, Bool, false, List, length, take, Some, refl, sym, ap, subst, ◌∙◌, arith}
+use Rattle.std.proofs.Common.{◌≡◌, ℕ, ◌+◌, ◌-◌, ◌<◌, ◌≤◌, Bool, false, List, length, take, Some, sym, ap, subst, ◌∙◌, arith}
 use Rattle.std.specs.Prelude.{slice_get, ◌↔◌, IsTrue, get_or}
 use Rattle.std.proofs.lemmas.Option.{slice_get_within, slice_get-get_or}
 use Rattle.ns_roster.specs.Network.{Network}
 use Rattle.ns_calls.specs.declared.call.Entry.{Entry}
 use Rattle.ns_calls.specs.Legal.{IsLegal}
-use Rattle.ns_calls.specs.Headline.{WindowsOpenOnce, LimitsHold}
+use Rattle.ns_calls.specs.Laws.{WindowsOpenOnce}
+use Rattle.ns_calls.specs.Headline.{LimitsHold}
 use Rattle.ns_calls.specs.Out.{Sent, out}
-use Rattle.ns_calls.specs.Reply.{reply_to}
 use Rattle.ns_kept.specs.Left.{Leaves, first_entries}
 use Rattle.ns_sent.specs.Found.{CopiesFit}
 use Rattle.ns_shard.specs.State.{State, Keeps, IsState, remains}
 use Rattle.ns_server.specs.declared.kept.Receipt.{Receipt}
 use Rattle.ns_server.specs.Receipts.{Sends}
-use Rattle.ns_server.specs.Check.{StandsAt, StandsIn}
+use Rattle.ns_server.specs.Check.{StandsIn}
 use Rattle.ns_server.proofs.Unread.{kept_of, leaves_first, place_left, length_left, out_unread, copies_fit}
 
 -- what is known of the place of an entry since the trim

@@ -1,9 +1,8 @@
 -- What goes out at an entry, searched in what is kept of a history as it stands.
-use Rattle.std.proofs.Common.{◌≡◌, ◌⊎◌, inl, inr, ℕ, zero, suc, ◌+◌, ◌≤◌, ◌<◌, ◌==◌, Bool, true, false, not, ◌||◌, cond, List, [], ◌∷◌, ◌++◌, length, take, drop, filter, filter_map, find, map, count_by, Option, Some, None, option_map, option_to_list, refl, sym, ap, subst, ◌∙◌, arith, take-append-drop, length-append, append_assoc}
+use Rattle.std.proofs.Common.{◌≡◌, inl, inr, ℕ, zero, suc, ◌+◌, ◌≤◌, ◌==◌, Bool, true, false, not, ◌||◌, cond, List, [], ◌∷◌, ◌++◌, length, take, drop, filter, filter_map, find, count_by, Option, Some, None, option_map, option_to_list, refl, sym, ap, subst, ◌∙◌, arith, take-append-drop, length-append, append_assoc}
 use Rattle.std.specs.Prelude.{slice_get, is_some}
 use Rattle.std.specs.List.{list_any, cons_option}
 use Rattle.std.specs.Option.{option_and_then}
-use Rattle.std.proofs.lemmas.Option.{slice_get_within}
 use Rattle.std.proofs.lemmas.List.{length-take-le}
 use Rattle.std.proofs.lemmas.List.Elements.{filter_map-append}
 use Rattle.std.proofs.lemmas.List.Folds.{list_any-append}
@@ -14,7 +13,6 @@ use Rattle.ns_types.specs.Ticket.{dev_eui}
 use Rattle.ns_types.specs.declared.heard.Heard.{Heard}
 use Rattle.ns_types.specs.Identity.{same_window, is_first}
 use Rattle.ns_roster.specs.Network.{Network}
-use Rattle.ns_calls.specs.declared.call.JoinAns.{JoinAns}
 use Rattle.ns_calls.specs.declared.call.Outcome.TheVariants as outcome
 use Rattle.ns_calls.specs.declared.call.Call.{Call}
 use Rattle.ns_calls.specs.declared.call.Call.TheVariants as call
@@ -22,18 +20,20 @@ use Rattle.ns_calls.specs.declared.call.Reply.{Reply}
 use Rattle.ns_calls.specs.declared.call.Reply.TheVariants as reply
 use Rattle.ns_calls.specs.declared.call.Entry.{Entry}
 use Rattle.ns_calls.specs.declared.answer.Answer.{Answer}
-use Rattle.ns_calls.specs.History.{Acceptance, Opening, window_in, closes, acceptances, open_windows, open_window, session_join, next_session, window_copies, ticket_copies, is_ticket_open}
-use Rattle.ns_calls.specs.Reply.{reply_to, ack_number, nonce_at_or_above, address, most_copies}
+use Rattle.ns_calls.specs.Entries.{Acceptance, Opening, window_in, closes, open_windows, most_copies}
+use Rattle.ns_calls.specs.History.{open_window, session_join, next_session, window_copies, ticket_copies, is_ticket_open}
+use Rattle.ns_calls.specs.Reply.{reply_to, ack_number, nonce_at_or_above, address}
 use Rattle.ns_calls.specs.Out.{first_uplink_of, uplink_out, ack_downlink, accept_at, downlink_out, out}
 use Rattle.ns_types.specs.Heard.{best}
 use Rattle.ns_calls.proofs.PartLemmas.{uplink_of-same, ack_downlink-same}
 use Rattle.ns_calls.proofs.Induction.{legal-front}
-use Rattle.ns_calls.specs.Legal.{IsLegal, IsNumbered}
-use Rattle.ns_calls.specs.Headline.{opening_count, open_count, WindowsOpenOnce, LimitsHold}
+use Rattle.ns_calls.specs.Legal.{IsLegal}
+use Rattle.ns_calls.specs.Laws.{opening_count, open_count, WindowsOpenOnce}
+use Rattle.ns_calls.specs.Headline.{LimitsHold}
 use Rattle.ns_calls.proofs.LocalLemmas.{bool_tells}
 use Rattle.ns_calls.proofs.Lists.{count-append, count-cons, count-found}
 use Rattle.ns_kept.specs.Kept.{Remains, whole, reading, is_kept, filter_before, keep, with_closings, closing_of, closing_entry, counts}
-use Rattle.ns_kept.specs.Left.{Leaves, left_of, followed_by, first_entries}
+use Rattle.ns_kept.specs.Left.{Leaves, followed_by, first_entries}
 use Rattle.ns_kept.proofs.Alike.{out-alike}
 use Rattle.ns_kept.proofs.Law.{leaves-alike, leaves-answer}
 use Rattle.ns_kept.proofs.Within.{Within, Adds}

@@ -4,8 +4,8 @@ use Rattle.ns_types.specs.declared.identity.WindowName.{WindowName}
 use Rattle.ns_types.specs.Identity.{shard_of}
 use Rattle.ns_calls.specs.declared.call.Call.TheVariants.{Close}
 use Rattle.ns_calls.specs.declared.call.Entry.{Entry}
-use Rattle.ns_calls.specs.History.{Opening, window_in}
-use Rattle.ns_calls.specs.Headline.{closing_count}
+use Rattle.ns_calls.specs.Entries.{Opening, window_in}
+use Rattle.ns_calls.specs.Laws.{closing_count}
 use Rattle.ns_shard.specs.State.{State, remains, after_call, oldest_in, finds_open}
 use Rattle.ns_kept.specs.Left.{Leaves}
 use Rattle.ns_server.specs.declared.kept.Receipt.{Receipt}

@@ -1,24 +1,20 @@
 -- In a legal history no ticket is open twice.
-use Rattle.std.proofs.Common.{◌≡◌, ℕ, ◌+◌, Bool, true, false, not, ◌||◌, cond, List, [], ◌∷◌, ◌++◌, filter, nat_le, length, Option, None, Some, IfSome, option_map, option_to_list, refl, sym, ap, subst, ◌∙◌, inl, inr}
+use Rattle.std.proofs.Common.{◌≡◌, ℕ, Bool, true, false, not, ◌||◌, cond, List, [], ◌∷◌, ◌++◌, filter, Option, None, Some, IfSome, option_to_list, sym, ap, subst, ◌∙◌, inl, inr}
 use Rattle.std.specs.List.{AllByRecursion, list_any}
 use Rattle.std.proofs.lemmas.List.{append-nil}
 use Rattle.std.proofs.lemmas.Bool.{false≢true}
-use Rattle.ns_types.specs.declared.heard.Heard.{Heard}
 use Rattle.ns_types.specs.declared.ticket.Ticket.{Ticket}
-use Rattle.ns_types.specs.Cases.{first_case, when}
-use Rattle.ns_types.specs.Ticket.{dev_eui, join_eui}
-use Rattle.ns_roster.specs.Network.{Network, is_known}
+use Rattle.ns_roster.specs.Network.{Network}
 use Rattle.ns_calls.specs.declared.call.Call.{Call}
 use Rattle.ns_calls.specs.declared.call.Call.TheVariants as call
-use Rattle.ns_calls.specs.declared.call.Reply.{Reply}
-use Rattle.ns_calls.specs.declared.call.Reply.TheVariants as reply
 use Rattle.ns_calls.specs.declared.call.Entry.{Entry}
-use Rattle.ns_calls.specs.History.{same_ticket, asking_in, ends_ticket, open_tickets, is_ticket_open, ticket_count, ticket_copies}
-use Rattle.ns_calls.specs.Reply.{nonce_at_or_above, join_copy_reply, most_tickets, most_copies, reply_to}
+use Rattle.ns_calls.specs.History.{same_ticket, asking_in, ends_ticket, open_tickets, is_ticket_open}
+use Rattle.ns_calls.specs.Reply.{reply_to}
 use Rattle.ns_calls.specs.Legal.{IsLegal, entry_for, with_call}
 use Rattle.ns_calls.proofs.LocalLemmas.{bool_tells}
 use Rattle.ns_calls.proofs.Lists.{All-append, All-filter}
 use Rattle.ns_calls.proofs.Induction.{legal_induction}
+use Rattle.ns_calls.proofs.JoinLemmas.{join-has}
 use Rattle.ns_calls.proofs.PushLemmas.{open_tickets-push}
 use Rattle.ns_sessions.proofs.OpenTickets.{same_ticket-sym}
 
@@ -48,33 +44,18 @@ apart-push t [] new apart = (tt, tt)
 apart-push t (u ∷ ts) new apart = (All-append (λ v. same_ticket u v ≡ false) ts (t ∷ []) apart.0 (new.0, tt), apart-push t ts new.1 apart.1)
 
 -- what is asked for was not open
-asked_cases : (t : Ticket) (heard : Heard) (unknown : Bool) (stale : Option Reply) (is_open : Bool) (copied : Reply) (busy : Bool) → asking_in (call.Join t heard) copied ≡ None → IfSome stale (λ r. asking_in (call.Join t heard) r ≡ None) →
-    IfSome (asking_in (call.Join t heard) (first_case (when unknown reply.NoDevice ∷ stale ∷ when is_open copied ∷ when busy reply.JoinBusy ∷ []) (reply.Ask t))) (λ u. (u ≡ t) × (is_open ≡ false))
-asked_cases t heard true stale is_open copied busy none old = tt
-asked_cases t heard false (Some r) is_open copied busy none old = subst (λ o. IfSome o (λ u. (u ≡ t) × (is_open ≡ false))) (sym old) tt
-asked_cases t heard false None true copied busy none old = subst (λ o. IfSome o (λ u. (u ≡ t) × (true ≡ false))) (sym none) tt
-asked_cases t heard false None false copied true none old = tt
-asked_cases t heard false None false copied false none old = (refl, refl)
-
 asked_new : (net : Network) (h : List Entry) (c : Call) → IfSome (asking_in c (reply_to net h c)) (λ t. is_ticket_open h t ≡ false)
 asked_new net h (call.Uplink frame heard) = tt
 asked_new net h (call.JoinReply t o) = tt
 asked_new net h (call.Close w) = tt
-asked_new net h (call.Join t heard) = step (asking_in (call.Join t heard) (reply_to net h (call.Join t heard)))
-    (asked_cases t heard (not (is_known net (dev_eui t) (join_eui t))) (option_map (λ g. reply.NonceOld (record { 0 = g })) (nonce_at_or_above net h t)) (is_ticket_open h t) (join_copy_reply h t)
-    (nat_le most_tickets (ticket_count h (dev_eui t))) (copy_none (nat_le (length (ticket_copies h t) + 1) most_copies)) (old_none (nonce_at_or_above net h t)))
-  where
-    copy_none : (b : Bool) → asking_in (call.Join t heard) (cond b (reply.JoinCopied (length (ticket_copies h t) + 1)) reply.JoinCrowded) ≡ None
-    copy_none true = refl
-    copy_none false = refl
-
-    old_none : (o : Option ℕ) → IfSome (option_map (λ g. reply.NonceOld (record { 0 = g })) o) (λ r. asking_in (call.Join t heard) r ≡ None)
-    old_none None = tt
-    old_none (Some g) = refl
-
-    step : (o : Option Ticket) → IfSome o (λ u. (u ≡ t) × (is_ticket_open h t ≡ false)) → IfSome o (λ u. is_ticket_open h u ≡ false)
-    step None new = tt
-    step (Some u) new = ap (is_ticket_open h) new.0 ∙ new.1
+asked_new net h (call.Join t heard) = join-has (λ r. IfSome (asking_in (call.Join t heard) r) (λ u. is_ticket_open h u ≡ false)) net h t (record {
+  unknown = λ unknown. tt;
+  old = λ known greatest. tt;
+  copied = λ known room. tt;
+  crowded = tt;
+  busy = tt;
+  ask = λ known closed room. closed;
+})
 
 apart_step : (net : Network) (h : List Entry) (number : ℕ) (c : Call) → AreApart (open_tickets h) → AreApart (open_tickets (with_call net h number c))
 apart_step net h number c apart =

@@ -22,8 +22,9 @@ use Rattle.ns_calls.specs.declared.call.Call.TheVariants as call
 use Rattle.ns_calls.specs.declared.call.Reply.TheVariants as reply
 use Rattle.ns_calls.specs.declared.call.Entry.{Entry}
 use Rattle.ns_calls.specs.Queries.{last}
-use Rattle.ns_calls.specs.History.{Acceptance, Opening, Closing, first_and_other, opening_in, closing_in, acceptances, openings, closings, same_device, session_join, session_counters, active_session, newest_session, live, is_live, greatest_counter, open_windows, open_window}
-use Rattle.ns_calls.specs.Reply.{Fit, fit_of, fitting_counter, session_fit, device_fit, devices_at, first_fit, window_with, ack_number, reply_to}
+use Rattle.ns_calls.specs.Entries.{Acceptance, Opening, Closing, opening_in, closing_in, acceptances, openings, same_device, session_counters, open_windows}
+use Rattle.ns_calls.specs.History.{first_and_other, closings, session_join, active_session, newest_session, live, is_live, greatest_counter, open_window}
+use Rattle.ns_calls.specs.Reply.{Fit, fit_of, fitting_counter, session_fit, device_fit, devices_at, first_fit, ack_number, reply_to}
 use Rattle.ns_calls.specs.Legal.{IsLegal, entry_for, with_call}
 use Rattle.ns_calls.specs.Headline.{SessionsHaveJoins}
 use Rattle.ns_calls.proofs.LocalLemmas.{bool_tells}

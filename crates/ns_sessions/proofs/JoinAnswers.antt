@@ -21,7 +21,8 @@ use Rattle.ns_calls.specs.declared.call.Call.TheVariants as call
 use Rattle.ns_calls.specs.declared.call.Reply.TheVariants as reply
 use Rattle.ns_calls.specs.declared.call.Entry.{Entry}
 use Rattle.ns_calls.specs.Queries.{last, greater, maximum}
-use Rattle.ns_calls.specs.History.{window_in, first_window, last_round, session_round, Acceptance, Opening, Closing, acceptance_in, asks_for, open_tickets, is_ticket_open, ticket_copies, greatest_nonce, next_session, session_join, acceptances, openings, closings, same_device, active_session, first_and_other, session_counters, last_nonce, greatest_accepted}
+use Rattle.ns_calls.specs.Entries.{window_in, Acceptance, Opening, Closing, acceptance_in, acceptances, openings, same_device, session_counters}
+use Rattle.ns_calls.specs.History.{first_window, last_round, session_round, asks_for, open_tickets, is_ticket_open, ticket_copies, greatest_nonce, next_session, session_join, closings, active_session, first_and_other, last_nonce, greatest_accepted}
 use Rattle.ns_calls.specs.Reply.{nonce_at_or_above, is_failed, address, reply_to_join_reply}
 use Rattle.ns_calls.specs.Legal.{IsLegal, entry_of}
 use Rattle.ns_calls.proofs.LocalLemmas.{bool_tells}
@@ -32,7 +33,7 @@ use Rattle.ns_calls.proofs.KeyLemmas.{session_join-next}
 use Rattle.ns_sessions.specs.declared.ticket.OpenTicket.{OpenTicket}
 use Rattle.ns_sessions.specs.declared.decision.AnswerDecision.{AnswerDecision}
 use Rattle.ns_sessions.specs.declared.decision.AnswerDecision.TheVariants as answer
-use Rattle.ns_sessions.specs.Record.{device_record, ticket_record, ticket_in, answer_decision, with_reply, without, new_session}
+use Rattle.ns_sessions.specs.Record.{answer_decision_of, device_record, ticket_record, ticket_in, answer_decision, with_reply, without, new_session}
 use Rattle.ns_calls.proofs.JoinLemmas.{exceeds_all}
 use Rattle.ns_sessions.specs.Laws.{answer_decision_reply, AnswersAgree}
 use Rattle.ns_sessions.proofs.Rounds.{rounds-stay}
@@ -49,31 +50,28 @@ use Rattle.ns_sessions.proofs.Basics.{exceeds_greater}
 -- ---- replies
 
 -- the decision, by what is asked of the state
-abbrev pub answer_decision_by : Option OpenTicket → Bool → Option ℕ → ℕ → AnswerDecision
-answer_decision_by found failed stale next = first_case (
-    when (not (is_some found)) answer.NoTicket
-    ∷ when failed answer.Refused
-    ∷ option_map (λ g. answer.Stale (record { 0 = g })) stale
-    ∷ option_map (λ heard. answer.Accepted next heard) (option_and_then (λ (o : OpenTicket). o.copies.best) found)
-    ∷ []) answer.NoTicket
+abbrev pub answer_decision_by : Ticket → Option OpenTicket → Bool → Option ℕ → ℕ → AnswerDecision
+answer_decision_by t found failed stale next = answer_decision_of (
+    first_case (when (not (is_some found)) reply.NoTicket ∷ when failed reply.JoinRefused ∷ option_map (λ g. reply.JoinStale (record { 0 = g })) stale ∷ []) (reply.Accepted (dev_eui t) next (record { 0 = 0 }))
+    ) (option_and_then (λ (o : OpenTicket). o.copies.best) found)
 
 decision_said : (net : Network) (h : List Entry) (t : Ticket) (outcome : Outcome) →
-    answer_decision (device_record net h (dev_eui t)) t outcome ≡ answer_decision_by (cond (is_ticket_open h t) (Some (ticket_record h t)) None) (is_failed outcome) (nonce_at_or_above net h t) (next_session h (dev_eui t))
+    answer_decision (device_record net h (dev_eui t)) t outcome ≡ answer_decision_by t (cond (is_ticket_open h t) (Some (ticket_record h t)) None) (is_failed outcome) (nonce_at_or_above net h t) (next_session h (dev_eui t))
 decision_said net h t outcome =
-    ap (λ r. answer_decision r t outcome) (record_said net h (dev_eui t)) ∙ ap (λ o. answer_decision_by o (is_failed outcome) (nonce_at_or_above net h t) (next_session h (dev_eui t))) (ticket_said net h t)
+    ap (λ r. answer_decision r t outcome) (record_said net h (dev_eui t)) ∙ ap (λ o. answer_decision_by t o (is_failed outcome) (nonce_at_or_above net h t) (next_session h (dev_eui t))) (ticket_said net h t)
 
 -- an open ticket has a best copy
 open_best : (h : List Entry) (t : Ticket) → is_ticket_open h t ≡ true → (heard : Heard) × (best (ticket_copies h t) ≡ Some heard)
 open_best h t is = asked_copies h t (at_member (λ u. list_any (asks_for u) h ≡ true) t (open_tickets h) is (open_asked h))
 
 reply_cases : (net : Network) (h : List Entry) (t : Ticket) (is_open : Bool) → is_ticket_open h t ≡ is_open → (failed : Bool) (stale : Option ℕ) (next : ℕ) →
-    answer_decision_reply net t (answer_decision_by (cond is_open (Some (ticket_record h t)) None) failed stale next)
+    answer_decision_reply net t (answer_decision_by t (cond is_open (Some (ticket_record h t)) None) failed stale next)
     ≡ first_case (when (not is_open) reply.NoTicket ∷ when failed reply.JoinRefused ∷ option_map (λ g. reply.JoinStale (record { 0 = g })) stale ∷ []) (reply.Accepted (dev_eui t) next (address net (dev_eui t)))
 reply_cases net h t false is failed stale next = refl
 reply_cases net h t true is true stale next = refl
 reply_cases net h t true is false (Some g) next = refl
 reply_cases net h t true is false None next =
-    ap (λ o. answer_decision_reply net t (first_case (option_map (λ heard. answer.Accepted next heard) o ∷ []) answer.NoTicket)) (open_best h t is).1
+    ap (λ o. answer_decision_reply net t (option_map_or (λ heard. answer.Accepted next heard) o answer.NoTicket)) (open_best h t is).1
 
 answer_replies : (net : Network) (h : List Entry) (t : Ticket) (outcome : Outcome) → answer_decision_reply net t (answer_decision (device_record net h (dev_eui t)) t outcome) ≡ reply_to_join_reply net h t outcome
 answer_replies net h t outcome =
@@ -81,13 +79,13 @@ answer_replies net h t outcome =
 
 -- what is accepted has the best copy
 copies_cases : (h : List Entry) (t : Ticket) (is_open failed : Bool) (stale : Option ℕ) (next session : ℕ) (heard : Heard) →
-    answer_decision_by (cond is_open (Some (ticket_record h t)) None) failed stale next ≡ answer.Accepted session heard → best (ticket_copies h t) ≡ Some heard
+    answer_decision_by t (cond is_open (Some (ticket_record h t)) None) failed stale next ≡ answer.Accepted session heard → best (ticket_copies h t) ≡ Some heard
 copies_cases h t false failed stale next session heard is = absurd (cc is)
 copies_cases h t true true stale next session heard is = absurd (cc is)
 copies_cases h t true false (Some g) next session heard is = absurd (cc is)
 copies_cases h t true false None next session heard is = step (best (ticket_copies h t)) is
   where
-    step : (o : Option Heard) → first_case (option_map (λ x. answer.Accepted next x) o ∷ []) answer.NoTicket ≡ answer.Accepted session heard → o ≡ Some heard
+    step : (o : Option Heard) → option_map_or (λ x. answer.Accepted next x) o answer.NoTicket ≡ answer.Accepted session heard → o ≡ Some heard
     step None eq = absurd (cc eq)
     step (Some x) eq = cc
 
@@ -100,13 +98,13 @@ DecisionFits net h t outcome (answer.Accepted session heard) = (is_failed outcom
 DecisionFits net h t outcome _ = Unit {0}
 
 decision_fits : (net : Network) (h : List Entry) (t : Ticket) (outcome : Outcome) (is_open failed : Bool) (stale : Option ℕ) → is_ticket_open h t ≡ is_open → is_failed outcome ≡ failed → nonce_at_or_above net h t ≡ stale →
-    DecisionFits net h t outcome (answer_decision_by (cond is_open (Some (ticket_record h t)) None) failed stale (next_session h (dev_eui t)))
+    DecisionFits net h t outcome (answer_decision_by t (cond is_open (Some (ticket_record h t)) None) failed stale (next_session h (dev_eui t)))
 decision_fits net h t outcome false failed stale opens fails is = opens
 decision_fits net h t outcome true true stale opens fails is = tt
 decision_fits net h t outcome true false (Some g) opens fails is = tt
 decision_fits net h t outcome true false None opens fails is =
     let found = open_best h t opens in
-    subst (λ o. DecisionFits net h t outcome (first_case (option_map (λ heard. answer.Accepted (next_session h (dev_eui t)) heard) o ∷ []) answer.NoTicket)) (sym found.1)
+    subst (λ o. DecisionFits net h t outcome (option_map_or (λ heard. answer.Accepted (next_session h (dev_eui t)) heard) o answer.NoTicket)) (sym found.1)
     (fails, refl, exceeds_all (greatest_nonce net h (dev_eui t)) (nonce t).0 is)
 
 -- ---- a join that is refused

@@ -1,5 +1,5 @@
 -- Join-Requests and answers of join servers agree with the history.
-use Rattle.std.proofs.Common.{◌≡◌, ℕ, ◌+◌, Bool, true, false, not, cond, List, [], ◌∷◌, ◌++◌, length, nat_le, Option, None, Some, option_map, refl, sym, ap, ◌∙◌}
+use Rattle.std.proofs.Common.{◌≡◌, ℕ, ◌+◌, Bool, true, false, not, cond, List, [], ◌∷◌, ◌++◌, length, nat_le, nat_lt, Option, None, Some, option_map, refl, sym, ap, ap₂, ◌∙◌}
 use Rattle.std.proofs.lemmas.List.{append-nil, length-map}
 use Rattle.std.proofs.lemmas.List.Sums.{length-filter}
 use Rattle.ns_types.specs.declared.identity.DevEui.{DevEui}
@@ -12,14 +12,15 @@ use Rattle.ns_calls.specs.declared.call.Call.TheVariants as call
 use Rattle.ns_calls.specs.declared.call.Reply.{Reply}
 use Rattle.ns_calls.specs.declared.call.Reply.TheVariants as reply
 use Rattle.ns_calls.specs.declared.call.Entry.{Entry}
-use Rattle.ns_calls.specs.History.{session_round, open_tickets, is_ticket_open, ticket_count, acceptances, openings, closings, same_device, last_nonce}
-use Rattle.ns_calls.specs.Reply.{nonce_at_or_above, join_copy_reply, most_copies, most_tickets, reply_to_join}
+use Rattle.ns_calls.specs.History.{session_round, open_tickets, is_ticket_open, ticket_count, ticket_copies, closings, last_nonce}
+use Rattle.ns_calls.specs.Entries.{acceptances, openings, same_device, most_copies}
+use Rattle.ns_calls.specs.Reply.{nonce_at_or_above, join_copy_reply, most_tickets, JoinFacts, join_facts, join_rule, reply_to_join}
 use Rattle.ns_calls.specs.Legal.{IsLegal, entry_of}
 use Rattle.ns_calls.proofs.PushLemmas.{acceptances-push, openings-push, closings-push}
 use Rattle.ns_sessions.specs.declared.ticket.OpenTicket.{OpenTicket}
 use Rattle.ns_sessions.specs.declared.decision.JoinDecision.{JoinDecision}
 use Rattle.ns_sessions.specs.declared.decision.JoinDecision.TheVariants as join
-use Rattle.ns_sessions.specs.Record.{DeviceRecord, device_record, ticket_record, tickets_of, ticket_in, copy_decision, join_decision, with_join}
+use Rattle.ns_sessions.specs.Record.{DeviceRecord, device_record, ticket_record, tickets_of, ticket_in, decision_of, join_decision, with_join}
 use Rattle.ns_sessions.specs.Laws.{join_decision_reply, JoinsAgree}
 use Rattle.ns_sessions.proofs.Sessions.{sessions_by}
 use Rattle.ns_sessions.proofs.Rounds.{rounds-stay}
@@ -36,49 +37,49 @@ ticket_said net h t = among_said h t (open_tickets h)
 
 -- ---- Join-Requests
 
--- the decision, by what is asked of the state
-abbrev join_decision_by : Option ℕ → Option OpenTicket → Bool → JoinDecision
-join_decision_by stale found busy = first_case (option_map (λ g. join.Old (record { 0 = g })) stale ∷ option_map copy_decision found ∷ when busy join.Busy ∷ []) join.Ask
+-- the reply by its facts, where the device is known
+abbrev known_reply : Ticket → Option ℕ → Option ℕ → Bool → Reply
+known_reply t stale copies busy =
+    first_case (when (not true) reply.NoDevice ∷ option_map (λ g. reply.NonceOld (record { 0 = g })) stale ∷ option_map join_copy_reply copies ∷ when busy reply.JoinBusy ∷ []) (reply.Ask t)
 
-join_cases : (t : Ticket) (stale : Option ℕ) (is_open : Bool) (o : OpenTicket) (busy : Bool) →
-    join_decision_reply t (join_decision_by stale (cond is_open (Some o) None) busy)
-    ≡ first_case (when (not true) reply.NoDevice ∷ option_map (λ g. reply.NonceOld (record { 0 = g })) stale ∷ when is_open (let place = o.copies.count + 1 in cond (nat_le place most_copies) (reply.JoinCopied place) reply.JoinCrowded)
-    ∷ when busy reply.JoinBusy ∷ []) (reply.Ask t)
-join_cases t (Some g) is_open o busy = refl
-join_cases t None true o busy = step (nat_le (o.copies.count + 1) most_copies)
-  where
-    step : (b : Bool) → join_decision_reply t (cond b (join.Copied (o.copies.count + 1)) join.Crowded) ≡ cond b (reply.JoinCopied (o.copies.count + 1)) reply.JoinCrowded
-    step true = refl
-    step false = refl
-join_cases t None false o true = refl
-join_cases t None false o false = refl
+-- its decision stands for it
+told_back : (t : Ticket) (stale copies : Option ℕ) (busy : Bool) → join_decision_reply t (decision_of (known_reply t stale copies busy)) ≡ known_reply t stale copies busy
+told_back t (Some g) copies busy = refl
+told_back t None (Some n) busy =
+    elim (nat_lt n most_copies) as (λ b. join_decision_reply t (decision_of (cond b (reply.JoinCopied (n + 1)) reply.JoinCrowded)) ≡ cond b (reply.JoinCopied (n + 1)) reply.JoinCrowded) [ true ↦ refl | false ↦ refl ]
+told_back t None None true = refl
+told_back t None None false = refl
 
 count_said : (h : List Entry) (eui : DevEui) → length (tickets_said h eui) ≡ ticket_count h eui
 count_said h eui = length-map (tickets_of h eui) (ticket_record h) ∙ length-filter (λ u. same_device (dev_eui u) eui) (open_tickets h)
 
+copies_said : (net : Network) (h : List Entry) (t : Ticket) → option_map (λ (o : OpenTicket). o.copies.count) (ticket_in (said_of net h (dev_eui t)) t) ≡ when (is_ticket_open h t) (length (ticket_copies h t))
+copies_said net h t =
+    ap (option_map (λ (o : OpenTicket). o.copies.count)) (ticket_said net h t)
+    ∙ elim (is_ticket_open h t) as (λ b. option_map (λ (o : OpenTicket). o.copies.count) (cond b (Some (ticket_record h t)) None) ≡ when b (length (ticket_copies h t))) [ true ↦ refl | false ↦ refl ]
+
+-- the decision, by what the history says
 decision_said : (net : Network) (h : List Entry) (t : Ticket) →
-    join_decision (device_record net h (dev_eui t)) t ≡ join_decision_by (nonce_at_or_above net h t) (cond (is_ticket_open h t) (Some (ticket_record h t)) None) (nat_le most_tickets (ticket_count h (dev_eui t)))
+    join_decision (device_record net h (dev_eui t)) t ≡ decision_of (known_reply t (nonce_at_or_above net h t) (when (is_ticket_open h t) (length (ticket_copies h t))) (nat_le most_tickets (ticket_count h (dev_eui t))))
 decision_said net h t =
     ap (λ r. join_decision r t) (record_said net h (dev_eui t))
-    ∙ (ap (λ o. join_decision_by (nonce_at_or_above net h t) o (nat_le most_tickets (length (tickets_said h (dev_eui t))))) (ticket_said net h t)
-    ∙ ap (λ n. join_decision_by (nonce_at_or_above net h t) (cond (is_ticket_open h t) (Some (ticket_record h t)) None) (nat_le most_tickets n)) (count_said h (dev_eui t)))
+    ∙ ap₂ (λ copies n. decision_of (known_reply t (nonce_at_or_above net h t) copies (nat_le most_tickets n))) (copies_said net h t) (count_said h (dev_eui t))
 
 join_replies : (net : Network) (h : List Entry) (t : Ticket) → is_known net (dev_eui t) (join_eui t) ≡ true → join_decision_reply t (join_decision (device_record net h (dev_eui t)) t) ≡ reply_to_join net h t
 join_replies net h t known =
     ap (join_decision_reply t) (decision_said net h t)
-    ∙ (join_cases t (nonce_at_or_above net h t) (is_ticket_open h t) (ticket_record h t) (nat_le most_tickets (ticket_count h (dev_eui t)))
-    ∙ sym (ap (λ b. first_case (when (not b) reply.NoDevice ∷ option_map (λ g. reply.NonceOld (record { 0 = g })) (nonce_at_or_above net h t) ∷ when (is_ticket_open h t) (join_copy_reply h t)
-    ∷ when (nat_le most_tickets (ticket_count h (dev_eui t))) reply.JoinBusy ∷ []) (reply.Ask t)) known))
+    ∙ (told_back t (nonce_at_or_above net h t) (when (is_ticket_open h t) (length (ticket_copies h t))) (nat_le most_tickets (ticket_count h (dev_eui t)))
+    ∙ sym (ap (λ b. let facts : JoinFacts = record (join_facts net h t) { known = b } in join_rule t facts) known))
 
 -- what is asked for was not open
-asked_closed : (stale : Option ℕ) (is_open : Bool) (o : OpenTicket) (busy : Bool) → join_decision_by stale (cond is_open (Some o) None) busy ≡ join.Ask → is_open ≡ false
-asked_closed (Some g) is_open o busy is = absurd (cc is)
-asked_closed None true o busy is = absurd (step (nat_le (o.copies.count + 1) most_copies) is)
+asked_closed : (t : Ticket) (stale : Option ℕ) (is_open : Bool) (n : ℕ) (busy : Bool) → decision_of (known_reply t stale (when is_open n) busy) ≡ join.Ask → is_open ≡ false
+asked_closed t (Some g) is_open n busy is = absurd (cc is)
+asked_closed t None true n busy is = absurd (step (nat_lt n most_copies) is)
   where
-    step : (b : Bool) → cond b (join.Copied (o.copies.count + 1)) join.Crowded ≡ join.Ask → ⊥
+    step : (b : Bool) → decision_of (cond b (reply.JoinCopied (n + 1)) reply.JoinCrowded) ≡ join.Ask → ⊥
     step true eq = cc eq
     step false eq = cc eq
-asked_closed None false o busy is = refl
+asked_closed t None false n busy is = refl
 
 -- the sessions stay
 join_keeps : (net : Network) (h : List Entry) (number : ℕ) (t : Ticket) (heard : Heard) (r : Reply) → let e : Entry = entry_of number (call.Join t heard) r in
@@ -111,6 +112,6 @@ joins_agree net h = record {
   replies = λ t known. join_replies net h t known;
   records = λ legal number t heard known.
       (let decision = join_decision (device_record net h (dev_eui t)) t in
-      after_decision net h legal number t heard decision (λ is. asked_closed (nonce_at_or_above net h t) (is_ticket_open h t) (ticket_record h t) (nat_le most_tickets (ticket_count h (dev_eui t))) (sym (decision_said net h t) ∙ is))
+      after_decision net h legal number t heard decision (λ is. asked_closed t (nonce_at_or_above net h t) (is_ticket_open h t) (length (ticket_copies h t)) (nat_le most_tickets (ticket_count h (dev_eui t))) (sym (decision_said net h t) ∙ is))
       ∙ ap (λ r. device_record net (h ++ entry_of number (call.Join t heard) r ∷ []) (dev_eui t)) (join_replies net h t known));
 }

@@ -17,7 +17,8 @@ use Rattle.ns_calls.specs.declared.call.Reply.{Reply}
 use Rattle.ns_calls.specs.declared.call.Reply.TheVariants as reply
 use Rattle.ns_calls.specs.declared.call.Entry.{Entry}
 use Rattle.ns_calls.specs.Queries.{from_last}
-use Rattle.ns_calls.specs.History.{same_device, same_ticket, is_ticket, asking_in, ending_in, ticket_copy_in, asks_for, ends_ticket, open_tickets, copies_of_ticket, ticket_copies}
+use Rattle.ns_calls.specs.Entries.{same_device}
+use Rattle.ns_calls.specs.History.{same_ticket, is_ticket, asking_in, ending_in, ticket_copy_in, asks_for, ends_ticket, open_tickets, copies_of_ticket, ticket_copies}
 use Rattle.ns_calls.proofs.LocalLemmas.{bool_tells}
 use Rattle.ns_calls.proofs.LocalJoin.{none_single}
 use Rattle.ns_calls.proofs.Lists.{All-append, All-weaker, All-filter, said, said-push}

@@ -1,20 +1,18 @@
 -- The rounds of a device's sessions, with one more entry.
-use Rattle.std.proofs.Common.{◌≡◌, ℕ, ◌+◌, ◌^◌, ◌≤◌, ◌==◌, Bool, true, false, ◌&&◌, cond, List, [], ◌∷◌, ◌++◌, filter, map, nat_lt, Option, None, Some, IfSome, refl, sym, ap, subst, ◌∙◌, arith, inl, inr}
+use Rattle.std.proofs.Common.{◌≡◌, ℕ, ◌+◌, ◌^◌, ◌≤◌, ◌==◌, Bool, true, false, ◌&&◌, List, [], ◌∷◌, ◌++◌, filter, map, nat_lt, Option, None, Some, IfSome, refl, sym, ap, ◌∙◌, arith, inl, inr}
 use Rattle.std.specs.Option.{option_map_or}
 use Rattle.std.proofs.lemmas.Bool.Decides.{nat_tests}
 use Rattle.ns_types.specs.declared.identity.DevEui.{DevEui}
 use Rattle.ns_types.specs.declared.identity.WindowName.{WindowName}
-use Rattle.ns_types.specs.declared.heard.Heard.{Heard}
 use Rattle.ns_types.specs.Cases.{when}
 use Rattle.ns_types.specs.Identity.{same_uplink}
 use Rattle.ns_secure.specs.Counter.{Exceeds}
 use Rattle.ns_roster.specs.Network.{Network}
-use Rattle.ns_calls.specs.declared.call.Call.TheVariants as call
-use Rattle.ns_calls.specs.declared.call.Reply.TheVariants as reply
 use Rattle.ns_calls.specs.declared.call.Entry.{Entry}
-use Rattle.ns_calls.specs.Queries.{greater, maximum}
-use Rattle.ns_calls.specs.History.{Opening, window_in, openings, same_device, first_window, last_round, session_round, greatest_counter}
-use Rattle.ns_calls.specs.Reply.{Fit, window_of, is_greatest, next_round}
+use Rattle.ns_calls.specs.Queries.{maximum}
+use Rattle.ns_calls.specs.Entries.{Opening, window_in, openings, same_device}
+use Rattle.ns_calls.specs.History.{first_window, last_round, session_round, greatest_counter}
+use Rattle.ns_calls.specs.Reply.{Fit, window_of, is_greatest}
 use Rattle.ns_calls.specs.Legal.{IsLegal}
 use Rattle.ns_calls.proofs.LocalLemmas.{bool_tells}
 use Rattle.ns_calls.proofs.Lists.{IfSome-weaker}

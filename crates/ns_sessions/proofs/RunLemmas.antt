@@ -1,18 +1,18 @@
 -- Runs of calls on the state of one device.
-use Rattle.std.proofs.Common.{◌≡◌, ◌⊎◌, ℕ, ◌+◌, ◌<◌, ◌≤◌, Bool, true, false, ◌&&◌, cond, List, [], ◌∷◌, ◌++◌, count_by, Option, None, Some, option_map, option_to_list, refl, sym, ap, subst, ◌∙◌, arith, inl, inr}
+use Rattle.std.proofs.Common.{◌≡◌, ◌⊎◌, ℕ, ◌+◌, ◌<◌, ◌≤◌, Bool, true, false, ◌&&◌, cond, List, [], ◌∷◌, ◌++◌, count_by, Option, None, Some, option_to_list, refl, sym, ap, subst, ◌∙◌, arith, inl, inr}
 use Rattle.std.specs.Prelude.{is_some}
 use Rattle.std.specs.List.{AllByRecursion}
 use Rattle.std.proofs.lemmas.Option.{same_Some}
 use Rattle.ns_types.specs.declared.heard.Heard.{Heard}
 use Rattle.ns_types.specs.declared.ticket.Ticket.{Ticket}
-use Rattle.ns_types.specs.Cases.{first_case}
+use Rattle.std.specs.Option.{option_map_or}
 use Rattle.ns_types.specs.Ticket.{nonce}
 use Rattle.ns_secure.specs.Counter.{Exceeds}
 use Rattle.ns_calls.specs.declared.call.Outcome.{Outcome}
 use Rattle.ns_calls.specs.declared.call.Outcome.TheVariants as outcome
 use Rattle.ns_calls.specs.History.{same_ticket}
 use Rattle.ns_calls.specs.Reply.{is_failed}
-use Rattle.ns_calls.specs.Headline.{Rises}
+use Rattle.ns_calls.specs.Laws.{Rises}
 use Rattle.ns_calls.proofs.LocalLemmas.{bool_tells}
 use Rattle.ns_calls.proofs.Lists.{All-weaker, count-append, count-cons}
 use Rattle.ns_calls.proofs.TicketLemmas.{same_ticket-eq}
@@ -34,17 +34,14 @@ NextNonce : Option ℕ → Option ℕ → Option ℕ → Type 0
 NextNonce accepted before after = (accepted ≡ None) × (after ≡ before) ⊎ ((n : ℕ) × (accepted ≡ Some n) × (after ≡ Some n) × Exceeds before n)
 
 answer_nonce : (r : DeviceRecord) (t : Ticket) (o : Outcome) (found : Option OpenTicket) (stale : Option ℕ) → nonce_at_or_above r t ≡ stale →
-    NextNonce (nonce_in (answer_decision_by found (is_failed o) stale r.next_session) t) r.greatest_nonce (with_reply (answer_decision_by found (is_failed o) stale r.next_session) t o r).greatest_nonce
+    NextNonce (nonce_in (answer_decision_by t found (is_failed o) stale r.next_session) t) r.greatest_nonce (with_reply (answer_decision_by t found (is_failed o) stale r.next_session) t o r).greatest_nonce
 unfolding NextNonce
 answer_nonce r t o None stale is = inl (refl, refl)
 answer_nonce r t outcome.Failed (Some x) stale is = inl (refl, refl)
 answer_nonce r t (outcome.Success j) (Some x) (Some g) is = inl (refl, refl)
 answer_nonce r t (outcome.Success j) (Some x) None is = step x.copies.best
   where
-    decision_of : Option Heard → AnswerDecision
-    decision_of b = first_case (option_map (λ heard. answer.Accepted r.next_session heard) b ∷ []) answer.NoTicket
-
-    step : (b : Option Heard) → let decision : AnswerDecision = first_case (option_map (λ heard. answer.Accepted r.next_session heard) b ∷ []) answer.NoTicket in
+    step : (b : Option Heard) → let decision : AnswerDecision = option_map_or (λ heard. answer.Accepted r.next_session heard) b answer.NoTicket in
         (nonce_in decision t ≡ None) × ((with_reply decision t (outcome.Success j) r).greatest_nonce ≡ r.greatest_nonce)
         ⊎ ((n : ℕ) × (nonce_in decision t ≡ Some n) × ((with_reply decision t (outcome.Success j) r).greatest_nonce ≡ Some n) × Exceeds r.greatest_nonce n)
     step None = inl (refl, refl)
@@ -151,9 +148,9 @@ ask_in_step t u heard r (join.Old greatest) = omega arith
 ask_in_step t u heard r join.Busy = omega arith
 
 -- an answer other than NoTicket is to an open ticket
-answered_open : (found : Option OpenTicket) (o : Outcome) (stale : Option ℕ) (next : ℕ) → is_answered (answer_decision_by found (is_failed o) stale next) ≡ true → is_some found ≡ true
-answered_open None o stale next is = absurd (cc is)
-answered_open (Some x) o stale next is = refl
+answered_open : (t : Ticket) (found : Option OpenTicket) (o : Outcome) (stale : Option ℕ) (next : ℕ) → is_answered (answer_decision_by t found (is_failed o) stale next) ≡ true → is_some found ≡ true
+answered_open t None o stale next is = absurd (cc is)
+answered_open t (Some x) o stale next is = refl
 
 -- an answer takes its ticket out of the open tickets
 tickets_after : (decision : AnswerDecision) (t : Ticket) (o : Outcome) (r : DeviceRecord) → (with_reply decision t o r).tickets ≡ without t r.tickets
@@ -166,7 +163,7 @@ tickets_after (answer.Accepted session heard) t (outcome.Success j) r = refl
 answer_in_step : (t u : Ticket) (o : Outcome) (r : DeviceRecord) (b c : Bool) → same_ticket t u ≡ b → is_answered (answer_decision r u o) ≡ c →
     cond (b && c) 1 0 + open_count t (without u r.tickets) ≤ 0 + open_count t r.tickets
 answer_in_step t u o r true true same is =
-    let open_one : is_some (ticket_in r u) ≡ true = answered_open (ticket_in r u) o (nonce_at_or_above r u) r.next_session is in
+    let open_one : is_some (ticket_in r u) ≡ true = answered_open u (ticket_in r u) o (nonce_at_or_above r u) r.next_session is in
     let fewer = count_without t u r.tickets open_one in
     let one : cond {A = ℕ} (same_ticket t u) 1 0 ≡ 1 = ap (λ b. cond {A = ℕ} b 1 0) same in
     omega (arith, fewer, one)

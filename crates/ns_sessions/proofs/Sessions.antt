@@ -8,7 +8,8 @@ use Rattle.std.proofs.lemmas.List.Folds.{find-append}
 use Rattle.std.proofs.lemmas.Bool.Decides.{nat_tests}
 use Rattle.ns_calls.specs.declared.call.JoinAns.{JoinAns}
 use Rattle.ns_calls.specs.Queries.{last, greater, maximum}
-use Rattle.ns_calls.specs.History.{Acceptance, Opening, Closing, first_and_other}
+use Rattle.ns_calls.specs.Entries.{Acceptance, Opening, Closing}
+use Rattle.ns_calls.specs.History.{first_and_other}
 use Rattle.ns_calls.proofs.LocalLemmas.{bool_tells}
 use Rattle.ns_calls.proofs.QueryLemmas.{maximum-push}
 use Rattle.ns_sessions.specs.declared.session.Session.{Session}

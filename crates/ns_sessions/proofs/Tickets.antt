@@ -1,5 +1,5 @@
 -- The first ticket of equal bytes in a list.
-use Rattle.std.proofs.Common.{◌≡◌, ℕ, zero, suc, ◌+◌, ◌<◌, Bool, true, false, cond, List, [], ◌∷◌, nat_le, length, set, get_or, Option, None, Some, refl, sym, ap, subst, ◌∙◌, arith}
+use Rattle.std.proofs.Common.{◌≡◌, ℕ, zero, suc, ◌+◌, ◌<◌, Bool, true, false, cond, List, [], ◌∷◌, nat_lt, length, set, get_or, Option, None, Some, refl, sym, ap, subst, ◌∙◌, arith}
 use Rattle.std.specs.List.{position, position_from, remove}
 use Rattle.std.proofs.lemmas.List.Quantifiers.{position-Some}
 use Rattle.std.proofs.lemmas.Iterator.Adapters.{position_from-zero}
@@ -8,10 +8,10 @@ use Rattle.ns_types.specs.declared.ticket.Ticket.{Ticket}
 use Rattle.ns_calls.specs.History.{same_ticket}
 use Rattle.ns_sessions.specs.declared.ticket.OpenTicket.{OpenTicket}
 use Rattle.ns_sessions.specs.declared.decision.JoinDecision.{JoinDecision}
-use Rattle.ns_sessions.specs.declared.decision.JoinDecision.TheVariants as join
-use Rattle.ns_calls.specs.Reply.{most_copies}
+use Rattle.ns_calls.specs.declared.call.Reply.TheVariants as told
+use Rattle.ns_calls.specs.Entries.{most_copies}
 use Rattle.ns_sessions.specs.Copies.{with_one_more}
-use Rattle.ns_sessions.specs.Record.{ticket_among, copy_decision, with_copy, tickets_after_copy, tickets_after_join, without}
+use Rattle.ns_sessions.specs.Record.{ticket_among, decision_of, copy_decision, with_copy, tickets_after_copy, tickets_after_join, without}
 
 abbrev pub is_of : Ticket → OpenTicket → Bool
 is_of t o = same_ticket t o.ticket
@@ -69,9 +69,9 @@ same-first t (x ∷ xs) (suc i) o at = ap (λ ys. x ∷ ys) (same-first t xs i o
 -- what came of one more copy of the ticket that stands there
 pub asked-first : (decision : JoinDecision) (t : Ticket) (heard : Heard) (xs : List OpenTicket) (i : ℕ) (o : OpenTicket) → FirstAt t xs i o → decision ≡ copy_decision o →
     set xs i (with_copy decision heard o) ≡ tickets_after_join decision t heard xs
-asked-first decision t heard xs i o at is = subst (λ k. set xs i (with_copy k heard o) ≡ tickets_after_join k t heard xs) (sym is) (step (nat_le (o.copies.count + 1) most_copies))
+asked-first decision t heard xs i o at is = subst (λ k. set xs i (with_copy k heard o) ≡ tickets_after_join k t heard xs) (sym is) (step (nat_lt o.copies.count most_copies))
   where
-    step : (b : Bool) → let k : JoinDecision = cond b (join.Copied (o.copies.count + 1)) join.Crowded in set xs i (with_copy k heard o) ≡ tickets_after_join k t heard xs
+    step : (b : Bool) → let k : JoinDecision = decision_of (cond b (told.JoinCopied (o.copies.count + 1)) told.JoinCrowded) in set xs i (with_copy k heard o) ≡ tickets_after_join k t heard xs
     step true = copied-first t heard xs i o at
     step false = same-first t xs i o at
 

@@ -12,8 +12,7 @@ use Rattle.ns_types.specs.declared.identity.WindowName.{WindowName}
 use Rattle.ns_types.specs.declared.heard.Heard.{Heard}
 use Rattle.ns_types.specs.Cases.{when}
 use Rattle.ns_types.specs.Ticket.{dev_eui}
-use Rattle.ns_views.specs.Frame.{data_fields, is_confirmed}
-use Rattle.ns_secure.specs.Integrity.{mic_fits}
+use Rattle.ns_views.specs.Frame.{is_confirmed}
 use Rattle.ns_secure.specs.Counter.{Exceeds}
 use Rattle.ns_roster.specs.Network.{Network}
 use Rattle.ns_calls.specs.declared.call.JoinAns.{JoinAns}
@@ -23,7 +22,8 @@ use Rattle.ns_calls.specs.declared.call.Reply.{Reply}
 use Rattle.ns_calls.specs.declared.call.Reply.TheVariants as reply
 use Rattle.ns_calls.specs.declared.call.Entry.{Entry}
 use Rattle.ns_calls.specs.Queries.{first, greater}
-use Rattle.ns_calls.specs.History.{Acceptance, Opening, Closing, asking_in, ending_in, ticket_copy_in, acceptances, openings, closings, same_device, session_join, greatest_counter, last_round, session_round, next_ack_number, live, is_live, first_and_other, last_nonce}
+use Rattle.ns_calls.specs.Entries.{Acceptance, Opening, Closing, acceptances, openings, same_device}
+use Rattle.ns_calls.specs.History.{asking_in, ending_in, ticket_copy_in, closings, session_join, greatest_counter, last_round, session_round, next_ack_number, live, is_live, first_and_other, last_nonce}
 use Rattle.ns_calls.specs.Reply as plain
 use Rattle.ns_calls.specs.Reply.{Fit, fit_of, next_round, fitting_counter, ack_number}
 use Rattle.ns_calls.specs.Legal.{IsLegal, entry_of}

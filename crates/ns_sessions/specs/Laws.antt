@@ -15,7 +15,8 @@ use Rattle.ns_calls.specs.declared.call.Call.TheVariants as call
 use Rattle.ns_calls.specs.declared.call.Reply.{Reply}
 use Rattle.ns_calls.specs.declared.call.Reply.TheVariants as reply
 use Rattle.ns_calls.specs.declared.call.Entry.{Entry}
-use Rattle.ns_calls.specs.History.{Opening, same_device, is_live, greatest_counter, last_round, ticket_copies, last_nonce}
+use Rattle.ns_calls.specs.Entries.{Opening, same_device}
+use Rattle.ns_calls.specs.History.{is_live, greatest_counter, last_round, ticket_copies, last_nonce}
 use Rattle.ns_calls.specs.Reply as plain
 use Rattle.ns_calls.specs.Reply.{Fit, fit_of, next_round, address, ack_number, reply_to_join, reply_to_join_reply}
 use Rattle.ns_calls.specs.Legal.{IsLegal, entry_of, with_call}

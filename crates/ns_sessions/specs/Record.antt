@@ -1,10 +1,11 @@
 -- What the state of one device says, how each call changes it, and what a history says of the device.
 -- (LoRaWAN L2 1.0.4, 4.3.1.5 for counters and 6.2 for joins)
-use Rattle.std.specs.Prelude.{ℕ, ◌+◌, ◌^◌, not, ◌&&◌, ◌==◌, nat_le, nat_lt, List, [], ◌∷◌, ◌++◌, length, map, filter, filter_map, find, Option, None, Some, option_map, option_and_then, is_some, if◌then◌else◌}
+use Rattle.std.specs.Prelude.{ℕ, ◌+◌, ◌^◌, true, ◌&&◌, ◌==◌, nat_lt, List, [], ◌∷◌, ◌++◌, length, map, filter, filter_map, find, Option, None, Some, option_map, option_and_then, is_some, if◌then◌else◌}
+use Rattle.std.specs.Option.{option_map_or}
 use Rattle.ns_types.specs.declared.identity.DevEui.{DevEui}
 use Rattle.ns_types.specs.declared.heard.Heard.{Heard}
 use Rattle.ns_types.specs.declared.ticket.Ticket.{Ticket}
-use Rattle.ns_types.specs.Cases.{first_case, when}
+use Rattle.ns_types.specs.Cases.{when}
 use Rattle.ns_types.specs.Ticket.{dev_eui, nonce}
 use Rattle.ns_secure.specs.Counter.{Exceeds}
 use Rattle.ns_roster.specs.Network.{Network}
@@ -13,8 +14,11 @@ use Rattle.ns_calls.specs.declared.call.Outcome.{Outcome}
 use Rattle.ns_calls.specs.declared.call.Outcome.TheVariants.{Success}
 use Rattle.ns_calls.specs.declared.call.Entry.{Entry}
 use Rattle.ns_calls.specs.Queries.{first}
-use Rattle.ns_calls.specs.History.{same_device, same_ticket, greatest_nonce, next_session, session_join, live, greatest_counter, session_round, next_ack, open_tickets, ticket_copies}
-use Rattle.ns_calls.specs.Reply.{most_copies, most_tickets, at_or_above, is_failed, fitting_counter, is_greatest}
+use Rattle.ns_calls.specs.Entries.{same_device}
+use Rattle.ns_calls.specs.History.{same_ticket, greatest_nonce, next_session, session_join, live, greatest_counter, session_round, next_ack, open_tickets, ticket_copies}
+use Rattle.ns_calls.specs.declared.call.Reply.{Reply}
+use Rattle.ns_calls.specs.declared.call.Reply.TheVariants as told
+use Rattle.ns_calls.specs.Reply.{at_or_above, is_failed, fitting_counter, is_greatest, JoinFacts, join_copy_reply, join_rule, AnswerFacts, answer_rule}
 use Rattle.ns_sessions.specs.declared.session.Session.{Session}
 use Rattle.ns_sessions.specs.declared.ticket.OpenTicket.{OpenTicket}
 use Rattle.ns_sessions.specs.declared.decision.JoinDecision.{JoinDecision}
@@ -111,17 +115,24 @@ ticket_among t tickets = find (λ o. same_ticket t o.ticket) tickets
 abbrev pub ticket_in : DeviceRecord → Ticket → Option OpenTicket
 ticket_in r t = ticket_among t r.tickets
 
+-- what a reply to a Join-Request of the device decides
+abbrev pub decision_of : Reply → JoinDecision
+decision_of (told.NonceOld greatest) = join.Old greatest
+decision_of (told.JoinCopied place) = join.Copied place
+decision_of told.JoinCrowded = join.Crowded
+decision_of told.JoinBusy = join.Busy
+decision_of _ = join.Ask
+
 -- one more copy of an open ticket
 abbrev pub copy_decision : OpenTicket → JoinDecision
-copy_decision o = let place = o.copies.count + 1 in if nat_le place most_copies then join.Copied place else join.Crowded
+copy_decision o = decision_of (join_copy_reply o.copies.count)
 
 -- what comes of a Join-Request
+abbrev pub join_facts : DeviceRecord → Ticket → JoinFacts
+join_facts r t = record { known = true; greatest = r.greatest_nonce; copies = option_map (λ o. o.copies.count) (ticket_in r t); tickets = length r.tickets }
+
 abbrev pub join_decision : DeviceRecord → Ticket → JoinDecision
-join_decision r t = first_case (
-    option_map (λ g. join.Old (record { 0 = g })) (nonce_at_or_above r t)
-    ∷ option_map copy_decision (ticket_in r t)
-    ∷ when (nat_le most_tickets (length r.tickets)) join.Busy
-    ∷ []) join.Ask
+join_decision r t = decision_of (join_rule t (join_facts r t))
 
 abbrev pub one_copy : Ticket → Heard → OpenTicket
 one_copy t heard = record { ticket = t; copies = copies_record (heard ∷ []) }
@@ -150,14 +161,19 @@ with_join decision t heard r = record r { tickets = tickets_after_join decision 
 abbrev pub best_in : DeviceRecord → Ticket → Option Heard
 best_in r t = option_and_then (λ o. o.copies.best) (ticket_in r t)
 
--- what comes of the answer to a join. An open ticket has a copy
+-- what a reply to a join server's answer decides, with the best copy of its ticket. An open ticket has a copy
+abbrev pub answer_decision_of : Reply → Option Heard → AnswerDecision
+answer_decision_of told.JoinRefused best = reply.Refused
+answer_decision_of (told.JoinStale greatest) best = reply.Stale greatest
+answer_decision_of (told.Accepted eui session addr) best = option_map_or (λ heard. reply.Accepted session heard) best reply.NoTicket
+answer_decision_of _ best = reply.NoTicket
+
+-- what comes of the answer to a join: a record has no address, and a decision none
+abbrev pub answer_facts : DeviceRecord → Ticket → Outcome → AnswerFacts
+answer_facts r t outcome = record { is_open = is_some (ticket_in r t); failed = is_failed outcome; greatest = r.greatest_nonce; session = r.next_session; addr = record { 0 = 0 } }
+
 abbrev pub answer_decision : DeviceRecord → Ticket → Outcome → AnswerDecision
-answer_decision r t outcome = first_case (
-    when (not (is_some (ticket_in r t))) reply.NoTicket
-    ∷ when (is_failed outcome) reply.Refused
-    ∷ option_map (λ g. reply.Stale (record { 0 = g })) (nonce_at_or_above r t)
-    ∷ option_map (λ heard. reply.Accepted r.next_session heard) (best_in r t)
-    ∷ []) reply.NoTicket
+answer_decision r t outcome = answer_decision_of (answer_rule t (answer_facts r t outcome)) (best_in r t)
 
 abbrev pub without : Ticket → List OpenTicket → List OpenTicket
 without t [] = []

@@ -7,7 +7,7 @@ use Rattle.ns_types.specs.declared.ticket.Ticket.{Ticket}
 use Rattle.ns_types.specs.Ticket.{nonce}
 use Rattle.ns_calls.specs.declared.call.Outcome.{Outcome}
 use Rattle.ns_calls.specs.History.{same_ticket}
-use Rattle.ns_calls.specs.Headline.{Rises}
+use Rattle.ns_calls.specs.Laws.{Rises}
 use Rattle.ns_sessions.specs.declared.decision.JoinDecision.{JoinDecision}
 use Rattle.ns_sessions.specs.declared.decision.JoinDecision.TheVariants as join
 use Rattle.ns_sessions.specs.declared.decision.AnswerDecision.{AnswerDecision}

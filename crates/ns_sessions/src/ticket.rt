@@ -3,7 +3,7 @@
 ghost use Rattle.std.specs.Prelude.{◌≡◌, ◌<◌, ◌≤◌, [], ◌∷◌, Some, length, position, IfSome, IfNone, option_map};
 ghost use Rattle.std.specs.List.{list_any};
 ghost use Rattle.ns_calls.specs.History.{same_ticket};
-ghost use Rattle.ns_calls.specs.Reply.{most_copies};
+ghost use Rattle.ns_calls.specs.Entries.{most_copies};
 ghost use Rattle.ns_sessions.specs.Copies.{copies_record, with_one_more};
 ghost use Rattle.ns_sessions.specs.Record.{ticket_among, copy_decision, with_copy, tickets_after_join, without};
 
@@ -22,7 +22,7 @@ pub struct Copies {
 
 impl Model for Copies {
     ghost use Rattle.std.specs.Prelude.{◌<◌, ◌≤◌, Some};
-    ghost use Rattle.ns_calls.specs.Reply.{most_copies};
+    ghost use Rattle.ns_calls.specs.Entries.{most_copies};
     ghost use Rattle.ns_sessions.specs.Copies.{CopiesRecord};
 
     ghost Value = { CopiesRecord };

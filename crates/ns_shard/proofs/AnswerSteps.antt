@@ -12,7 +12,7 @@ use Rattle.ns_types.specs.Heard.{best, rx1}
 use Rattle.ns_types.specs.Identity.{shard_of}
 use Rattle.ns_types.specs.Ticket.{dev_eui, join_eui}
 use Rattle.ns_roster.specs.declared.Device.{Device}
-use Rattle.ns_roster.specs.Network.{Network, device, is_known, device_addr, has_join_eui}
+use Rattle.ns_roster.specs.Network.{Network, device, device_addr, has_join_eui}
 use Rattle.ns_roster.specs.Valid.{IsRoster}
 use Rattle.ns_roster.proofs.DeviceLemmas.{is_known-by_device, found-device}
 use Rattle.ns_calls.specs.declared.call.Outcome.{Outcome}
@@ -24,8 +24,9 @@ use Rattle.ns_calls.specs.declared.call.Reply.TheVariants as reply
 use Rattle.ns_calls.specs.declared.call.Entry.{Entry}
 use Rattle.ns_calls.specs.declared.answer.Answer.{Answer}
 use Rattle.ns_calls.specs.Accept.{accept_bytes}
-use Rattle.ns_calls.specs.History.{same_device, asking_in, ends_ticket, open_tickets, is_ticket_open, ticket_copies, next_session}
-use Rattle.ns_calls.specs.Reply.{reply_to, reply_to_join, reply_to_join_reply, address, nonce_at_or_above, is_failed}
+use Rattle.ns_calls.specs.Entries.{same_device}
+use Rattle.ns_calls.specs.History.{asking_in, ends_ticket, open_tickets, is_ticket_open, ticket_copies, next_session}
+use Rattle.ns_calls.specs.Reply.{reply_to, reply_to_join_reply, address, nonce_at_or_above, is_failed}
 use Rattle.ns_calls.specs.Out.{answer, uplink_out, downlink_out, downlink_to, join_accept_delay}
 use Rattle.ns_calls.specs.Legal.{IsLegal, entry_for, with_call}
 use Rattle.ns_calls.proofs.LocalLemmas.{bool_tells}
@@ -33,7 +34,7 @@ use Rattle.ns_calls.proofs.Lists.{All-after}
 use Rattle.ns_calls.proofs.PushLemmas.{open_tickets-push}
 use Rattle.ns_calls.proofs.LegalLemmas.{history_more}
 use Rattle.ns_calls.proofs.Induction.{legal_induction}
-use Rattle.ns_calls.proofs.JoinLemmas.{join_reply_by}
+use Rattle.ns_calls.proofs.JoinLemmas.{join_reply_by, join-has}
 use Rattle.ns_sessions.specs.declared.decision.AnswerDecision.{AnswerDecision}
 use Rattle.ns_sessions.specs.declared.decision.AnswerDecision.TheVariants as decision
 use Rattle.ns_sessions.specs.Record.{device_record, answer_decision}
@@ -51,16 +52,12 @@ use Rattle.ns_shard.specs.Private.Parts.{Agrees}
 use Rattle.ns_shard.proofs.Roster.{own-found}
 use Rattle.ns_shard.proofs.DeviceSteps.{devices-changed}
 use Rattle.ns_shard.proofs.WindowSteps.{windows-quiet}
-use Rattle.ns_shard.proofs.PartSteps.{joined, others-stay, join-unknown, same_device-false}
+use Rattle.ns_shard.proofs.PartSteps.{joined, others-stay, same_device-false}
 
 -- ---- the devices of open tickets are the roster's
 
 TicketsKnown : Network → List Entry → Type 0
 TicketsKnown net h = AllByRecursion (λ t. IsSome (device net (dev_eui t))) (open_tickets h)
-
-asking-is : (P : Ticket → Type 0) (t : Ticket) (heard : Heard) (r : Reply) → P t → IfSome (asking_in (call.Join t heard) r) P
-asking-is P t heard (reply.Ask asked) holds = holds
-asking-is P t heard _ holds = tt
 
 has-some : (j : JoinEui) (o : Option Device) → has_join_eui j o ≡ true → IsSome o
 has-some j None is = absurd (cc is)
@@ -71,11 +68,14 @@ asked-known net h valid (call.Uplink frame heard) = tt
 asked-known net h valid (call.JoinReply t o) = tt
 asked-known net h valid (call.Close w) = tt
 asked-known net h valid (call.Join t heard) =
-    let Known : Ticket → Type 0 = λ u. IsSome (device net (dev_eui u)) in
-    elim (bool_tells (is_known net (dev_eui t) (join_eui t))) [
-      | inl known ↦ asking-is Known t heard (reply_to_join net h t) (has-some (join_eui t) (device net (dev_eui t)) (sym (is_known-by_device net valid (dev_eui t) (join_eui t)) ∙ known))
-      | inr unknown ↦ subst (λ (r : Reply). IfSome (asking_in (call.Join t heard) r) Known) (sym (join-unknown net h t unknown)) tt
-    ]
+    join-has (λ r. IfSome (asking_in (call.Join t heard) r) (λ u. IsSome (device net (dev_eui u)))) net h t (record {
+      unknown = λ unknown. tt;
+      old = λ known greatest. tt;
+      copied = λ known room. tt;
+      crowded = tt;
+      busy = tt;
+      ask = λ known closed room. has-some (join_eui t) (device net (dev_eui t)) (sym (is_known-by_device net valid (dev_eui t) (join_eui t)) ∙ known);
+    })
 
 tickets_step : (net : Network) → IsRoster net → (h : List Entry) (number : ℕ) (c : Call) → TicketsKnown net h → TicketsKnown net (with_call net h number c)
 unfolding TicketsKnown

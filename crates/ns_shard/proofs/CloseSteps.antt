@@ -1,5 +1,5 @@
 -- What comes of a closing by the devices and windows that agree with the entries, and that they agree after it.
-use Rattle.std.proofs.Common.{◌≡◌, ℕ, ◌+◌, ◌^◌, ◌==◌, Bool, true, false, not, cond, nat_lt, nat_le, List, [], ◌∷◌, ◌++◌, length, find, Option, None, Some, IfSome, option_map, refl, sym, ap, ap₂, subst, ◌∙◌, inl, inr}
+use Rattle.std.proofs.Common.{◌≡◌, ℕ, ◌+◌, ◌^◌, ◌==◌, Bool, true, false, not, cond, nat_lt, List, [], ◌∷◌, ◌++◌, length, find, Option, None, Some, IfSome, option_map, refl, sym, ap, ap₂, subst, ◌∙◌, inl, inr}
 use Rattle.std.specs.Prelude.{IsSome, Contains}
 use Rattle.std.specs.List.{AllByRecursion}
 use Rattle.std.specs.Option.{option_and_then}
@@ -22,10 +22,11 @@ use Rattle.ns_calls.specs.declared.call.Entry.{Entry}
 use Rattle.ns_calls.specs.declared.answer.Answer.{Answer}
 use Rattle.ns_calls.specs.declared.answer.Uplink.{Uplink}
 use Rattle.ns_calls.specs.declared.answer.Downlink.{Downlink}
-use Rattle.ns_calls.specs.History as history
-use Rattle.ns_calls.specs.History.{Opening, window_count, same_device, closes, open_windows, open_window, window_copies, session_join, live, greatest_counter}
+use Rattle.ns_calls.specs.Entries as history
+use Rattle.ns_calls.specs.Entries.{Opening, same_device, closes, open_windows, most_copies}
+use Rattle.ns_calls.specs.History.{open_window, session_join, live, greatest_counter}
 use Rattle.ns_calls.specs.Reply as plain
-use Rattle.ns_calls.specs.Reply.{reply_to, reply_to_close, ack_number, Fit, fit_of, window_of, fitting_counter, devices_at, first_fit, window_with, most_copies, most_windows}
+use Rattle.ns_calls.specs.Reply.{reply_to, reply_to_close, ack_number, Fit, fit_of, window_of, fitting_counter, devices_at, first_fit, window_with, most_windows}
 use Rattle.ns_calls.specs.Out.{answer, uplink_of, first_uplink_of, uplink_out, downlink_out, ack_downlink}
 use Rattle.ns_calls.specs.Legal.{IsLegal, entry_for, with_call}
 use Rattle.ns_calls.proofs.LocalLemmas.{bool_tells}
@@ -281,7 +282,7 @@ agrees-close net index h devices windows w agrees stay law mine = record {
         windows-quiet h e (joined net index h devices windows agrees) (ap (closing_of w) reply_is) refl refl
         ∙ sym (Rattle.ns_windows.proofs.Places.filter-none (Rattle.ns_windows.specs.Windows.is_named w) (windows_in h) (Rattle.ns_windows.proofs.Places.none_found (Rattle.ns_windows.specs.Windows.is_named w) (windows_in h) (windows-named h w ∙ ap (option_map (window_of_opening h)) is)))
       where
-        closing_of : WindowName → Reply → Option Rattle.ns_calls.specs.History.Closing
-        closing_of v r = Rattle.ns_calls.specs.History.closing_in (call.Close v) r
+        closing_of : WindowName → Reply → Option Rattle.ns_calls.specs.Entries.Closing
+        closing_of v r = Rattle.ns_calls.specs.Entries.closing_in (call.Close v) r
     windows_after (Some o) is =
         windows-closed h (entry_for net h (length h) (call.Close w)) w (ack_number h o) (joined net index h devices windows agrees) refl (close-reply h w (Some o) is)

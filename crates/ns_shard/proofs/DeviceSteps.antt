@@ -5,7 +5,7 @@ use Rattle.ns_roster.specs.declared.Device.{Device}
 use Rattle.ns_roster.specs.Network.{Network}
 use Rattle.ns_roster.specs.Valid.{IsRoster}
 use Rattle.ns_calls.specs.declared.call.Entry.{Entry}
-use Rattle.ns_calls.specs.History.{same_device}
+use Rattle.ns_calls.specs.Entries.{same_device}
 use Rattle.ns_calls.proofs.LocalLemmas.{bool_tells}
 use Rattle.ns_calls.proofs.Lists.{All-weaker}
 use Rattle.ns_calls.proofs.JoinLemmas.{same_device-eq}

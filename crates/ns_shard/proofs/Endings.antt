@@ -19,7 +19,8 @@ use Rattle.ns_calls.specs.declared.call.Reply.{Reply}
 use Rattle.ns_calls.specs.declared.call.Reply.TheVariants as reply
 use Rattle.ns_calls.specs.declared.call.Entry.{Entry}
 use Rattle.ns_calls.specs.declared.answer.Answer.{Answer}
-use Rattle.ns_calls.specs.History.{Opening, same_device, asking_in, asks_for, is_ticket, open_windows, open_window, open_tickets, is_ticket_open}
+use Rattle.ns_calls.specs.Entries.{Opening, same_device, open_windows}
+use Rattle.ns_calls.specs.History.{asking_in, asks_for, is_ticket, open_window, open_tickets, is_ticket_open}
 use Rattle.ns_calls.specs.Shards.{shard_of_call}
 use Rattle.ns_calls.specs.Legal.{IsHistory, entry_for, with_call}
 use Rattle.ns_calls.proofs.LocalLemmas.{bool_tells}

@@ -20,7 +20,8 @@ use Rattle.ns_calls.specs.declared.call.JoinAns.{JoinAns}
 use Rattle.ns_calls.specs.declared.call.Reply.{Reply}
 use Rattle.ns_calls.specs.declared.call.Reply.TheVariants as reply
 use Rattle.ns_calls.specs.declared.call.Entry.{Entry}
-use Rattle.ns_calls.specs.History.{Acceptance, acceptance_in, acceptances, same_device, same_ticket, session_join, greatest_counter, session_round, next_ack, live, is_live, open_tickets, is_ticket_open}
+use Rattle.ns_calls.specs.Entries.{Acceptance, acceptance_in, acceptances, same_device}
+use Rattle.ns_calls.specs.History.{same_ticket, session_join, greatest_counter, session_round, next_ack, live, is_live, open_tickets, is_ticket_open}
 use Rattle.ns_calls.specs.Reply.{reply_to}
 use Rattle.ns_calls.specs.Shards.{shard_of_call}
 use Rattle.ns_calls.specs.Legal.{IsLegal, IsHistory, entry_for}

@@ -8,7 +8,8 @@ use Rattle.ns_views.specs.Frame.{is_confirmed}
 use Rattle.ns_secure.specs.Counter.{above, below}
 use Rattle.ns_calls.specs.declared.call.Reply.{Reply}
 use Rattle.ns_calls.specs.declared.call.Reply.TheVariants as reply
-use Rattle.ns_calls.specs.Reply.{Fit, window_of, in_round, most_copies, most_windows, copy_reply, unless_busy, uplink_rule}
+use Rattle.ns_calls.specs.Reply.{Fit, window_of, in_round, most_windows, copy_reply, unless_busy, uplink_rule}
+use Rattle.ns_calls.specs.Entries.{most_copies}
 use Rattle.ns_windows.specs.declared.window.Window.{Window}
 use Rattle.ns_windows.specs.declared.window.Addition.TheVariants as addition
 use Rattle.ns_windows.specs.Windows.{window_of_frame, addition, count, with_copy_in, with_copy_of}

@@ -1,5 +1,5 @@
 -- What comes of a call by the devices and windows that agree with the entries is what comes of it by the entries, and they agree after it.
-use Rattle.std.proofs.Common.{◌≡◌, ◌==◌, ℕ, zero, suc, All, Bool, false, not, cond, nat_le, List, [], ◌∷◌, length, map, Option, None, Some, option_map, refl, sym, ap, ap₂, ◌∙◌, arith, inl, inr}
+use Rattle.std.proofs.Common.{◌≡◌, ◌==◌, ℕ, zero, suc, All, Bool, false, cond, List, [], ◌∷◌, length, map, Option, None, Some, option_map, refl, sym, ap, ap₂, ◌∙◌, arith, inl, inr}
 use Rattle.std.specs.Prelude.{Contains}
 use Rattle.std.specs.Option.{option_map_or, option_and_then}
 use Rattle.std.proofs.lemmas.List.Elements.{All-filter}
@@ -8,7 +8,6 @@ use Rattle.ns_types.specs.declared.identity.DevEui.{DevEui}
 use Rattle.ns_types.specs.declared.identity.DevNonce.{DevNonce}
 use Rattle.ns_types.specs.declared.heard.Heard.{Heard}
 use Rattle.ns_types.specs.declared.ticket.Ticket.{Ticket}
-use Rattle.ns_types.specs.Cases.{first_case, when}
 use Rattle.ns_types.specs.Identity.{shard_of}
 use Rattle.ns_types.specs.Ticket.{dev_eui, join_eui}
 use Rattle.ns_roster.specs.declared.Device.{Device}
@@ -20,9 +19,9 @@ use Rattle.ns_calls.specs.declared.call.Call.TheVariants as call
 use Rattle.ns_calls.specs.declared.call.Reply.{Reply}
 use Rattle.ns_calls.specs.declared.call.Reply.TheVariants as reply
 use Rattle.ns_calls.specs.declared.call.Entry.{Entry}
-use Rattle.ns_calls.specs.History.{same_device}
-use Rattle.ns_calls.specs.History.{last_nonce, is_ticket_open, ticket_count}
-use Rattle.ns_calls.specs.Reply.{reply_to, reply_to_join, nonce_at_or_above, join_copy_reply, most_tickets}
+use Rattle.ns_calls.specs.Entries.{same_device}
+use Rattle.ns_calls.specs.History.{last_nonce}
+use Rattle.ns_calls.specs.Reply.{reply_to, reply_to_join, JoinFacts, join_facts, join_rule}
 use Rattle.ns_calls.specs.Legal.{entry_for, with_call}
 use Rattle.ns_calls.proofs.LocalLemmas.{bool_tells}
 use Rattle.ns_calls.proofs.LegalLemmas.{history_none, history_more}
@@ -79,18 +78,8 @@ others-stay net h number c eui stay apart other differs = stay.others net h (ent
 
 -- ---- joins
 
--- the reply to a Join-Request, by whether its device is known
-join_reply_by : Bool → Network → List Entry → Ticket → Reply
-join_reply_by known net h t = first_case (
-    when (not known) reply.NoDevice
-    ∷ option_map (λ g. reply.NonceOld (record { 0 = g })) (nonce_at_or_above net h t)
-    ∷ when (is_ticket_open h t) (join_copy_reply h t)
-    ∷ when (nat_le most_tickets (ticket_count h (dev_eui t))) reply.JoinBusy
-    ∷ []) (reply.Ask t)
-
 pub join-unknown : (net : Network) (h : List Entry) (t : Ticket) → is_known net (dev_eui t) (join_eui t) ≡ false → reply_to_join net h t ≡ reply.NoDevice
-unfolding join_reply_by
-join-unknown net h t unknown = ap (λ b. join_reply_by b net h t) unknown
+join-unknown net h t unknown = ap (λ b. let facts : JoinFacts = record (join_facts net h t) { known = b } in join_rule t facts) unknown
 
 pub join-replied : (net : Network) (index : ℕ) (h : List Entry) (devices : List Own) (windows : List Window) (t : Ticket) → Agrees net index h devices windows → JoinsAgree net h → shard_of (dev_eui t) ≡ index →
     shard_join_reply devices t ≡ reply_to_join net h t

@@ -16,7 +16,8 @@ use Rattle.ns_roster.specs.Valid.{IsRoster, Differ}
 use Rattle.ns_roster.proofs.DeviceLemmas.{shard_of_device, later_differ, rest_apart, found-device}
 use Rattle.ns_calls.specs.declared.call.Entry.{Entry}
 use Rattle.ns_calls.specs.Queries.{first}
-use Rattle.ns_calls.specs.History.{same_device, greatest_nonce}
+use Rattle.ns_calls.specs.Entries.{same_device}
+use Rattle.ns_calls.specs.History.{greatest_nonce}
 use Rattle.ns_calls.specs.Reply as plain
 use Rattle.ns_calls.specs.Reply.{fit_of, first_fit}
 use Rattle.ns_calls.proofs.LocalLemmas.{bool_tells}

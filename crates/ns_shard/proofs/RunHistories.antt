@@ -22,7 +22,8 @@ use Rattle.ns_calls.specs.Legal.{IsHistory, with_call}
 use Rattle.ns_calls.specs.Shards.{shard_of_call}
 use Rattle.ns_calls.specs.Steps.{Refusal, link, view}
 use Rattle.ns_calls.specs.Runs.{history_after}
-use Rattle.ns_calls.specs.Headline.{NoncesRise, CountersRise, AcksRise, WindowsOpenOnce, NoncesAreWithin, AreBelow}
+use Rattle.ns_calls.specs.Laws.{NoncesRise, CountersRise, WindowsOpenOnce}
+use Rattle.ns_calls.specs.Headline.{AcksRise, NoncesAreWithin, AreBelow}
 use Rattle.ns_calls.proofs.LegalLemmas.{history_none, history_more}
 use Rattle.ns_calls.proofs.JoinLemmas.{nonces_rise, nonces_within, later_above}
 use Rattle.ns_calls.proofs.UplinkLemmas.{counters_rise}
@@ -33,7 +34,9 @@ use Rattle.ns_kept.proofs.ReadLemmas.{reading-whole}
 use Rattle.ns_shard.specs.declared.step.Step.{Step}
 use Rattle.ns_shard.specs.declared.run.Taken.{Taken}
 use Rattle.ns_shard.specs.State.{State, known_greatest, greatest_in}
-use Rattle.ns_shard.specs.Steps.{call_of, calls_of, shard_history, call_taken, all_taken, state_after, AreAfter, OfEach, HandsOut, greatest_among, greatest_after, closing_roster, accepted_by}
+use Rattle.ns_shard.specs.Taken.{call_of, calls_of, OfEach, HandsOut}
+use Rattle.ns_shard.specs.Steps.{shard_history, call_taken, all_taken, state_after, AreAfter}
+use Rattle.ns_shard.specs.NextRun.{greatest_among, greatest_after, closing_roster, accepted_by}
 
 -- calls of one shard lengthen a history of it
 is_history : (net : Network) (shard : ℕ) (before : List Entry) (calls : List Call) → AllByRecursion (λ c. shard_of_call c ≡ shard) calls → IsHistory net shard before → IsHistory net shard (history_after net before calls)

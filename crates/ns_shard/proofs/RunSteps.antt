@@ -21,7 +21,8 @@ use Rattle.ns_shard.specs.declared.run.Taken.{Taken}
 use Rattle.ns_shard.specs.declared.run.Taken.TheVariants.{Made}
 use Rattle.ns_shard.specs.declared.step.Step.{Step}
 use Rattle.ns_shard.specs.State.{State, after_call}
-use Rattle.ns_shard.specs.Steps.{call_of, calls_of, shard_history, call_taken, step_taken, all_taken, state_after, AreAfter}
+use Rattle.ns_shard.specs.Taken.{call_of, calls_of}
+use Rattle.ns_shard.specs.Steps.{shard_history, call_taken, step_taken, all_taken, state_after, AreAfter}
 use Rattle.ns_shard.specs.Private.Run.{refused_as, AreInPlace, taken_in, states_after}
 
 -- the history of one call more

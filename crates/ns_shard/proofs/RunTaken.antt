@@ -16,8 +16,9 @@ use Rattle.ns_calls.specs.declared.call.Call.TheVariants as call
 use Rattle.ns_calls.specs.declared.call.Reply.{Reply}
 use Rattle.ns_calls.specs.declared.call.Reply.TheVariants as reply
 use Rattle.ns_calls.specs.declared.call.Entry.{Entry}
-use Rattle.ns_calls.specs.History.{Opening, Closing, closing_in, first_window, open_windows, open_window}
-use Rattle.ns_calls.specs.Headline.{closing_count, opening_count, open_count}
+use Rattle.ns_calls.specs.Entries.{Opening, Closing, closing_in, open_windows}
+use Rattle.ns_calls.specs.History.{first_window, open_window}
+use Rattle.ns_calls.specs.Laws.{closing_count, opening_count, open_count}
 use Rattle.ns_calls.specs.Legal.{entry_for, with_call}
 use Rattle.ns_calls.specs.Open.{HasJustItsCopies}
 use Rattle.ns_calls.specs.Out.{answer, uplink_of, first_uplink_of, uplink_out}
@@ -32,7 +33,8 @@ use Rattle.ns_calls.proofs.NameLemmas.{same_uplink-eq, same_window-eq}
 use Rattle.ns_calls.proofs.WindowLemmas.{windows_open_once}
 use Rattle.ns_shard.specs.declared.step.Step.{Step}
 use Rattle.ns_shard.specs.State.{State}
-use Rattle.ns_shard.specs.Steps.{call_of, calls_of, shard_history, call_taken, made, all_taken, state_after, AreAfter, HasCopiesAt, HasCopies, hands_out, AreHandedOutOnce}
+use Rattle.ns_shard.specs.Taken.{call_of, calls_of, HasCopiesAt, HasCopies, hands_out, AreHandedOutOnce}
+use Rattle.ns_shard.specs.Steps.{shard_history, call_taken, made, all_taken, state_after, AreAfter}
 use Rattle.ns_shard.proofs.RunHistories.{shard_history-is}
 use Rattle.ns_shard.proofs.RunSteps.{one_call, calls_of-joined, shard_history-other, shard_history-own, shard_small}
 

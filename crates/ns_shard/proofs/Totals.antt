@@ -15,9 +15,10 @@ use Rattle.ns_calls.specs.declared.call.Call.TheVariants as call
 use Rattle.ns_calls.specs.declared.call.Reply.{Reply}
 use Rattle.ns_calls.specs.declared.call.Reply.TheVariants as reply
 use Rattle.ns_calls.specs.declared.call.Entry.{Entry}
-use Rattle.ns_calls.specs.History.{Opening, Closing, window_in, closing_in, asking_in, ending_in, is_ticket, same_ticket, closes, ends_ticket, open_windows, open_window, open_tickets, is_ticket_open, next_session}
+use Rattle.ns_calls.specs.Entries.{Opening, Closing, window_in, closing_in, closes, open_windows}
+use Rattle.ns_calls.specs.History.{asking_in, ending_in, is_ticket, same_ticket, ends_ticket, open_window, open_tickets, is_ticket_open, next_session}
 use Rattle.ns_calls.specs.Reply.{reply_to, reply_to_close, reply_to_join_reply, ack_number, is_failed, nonce_at_or_above, address}
-use Rattle.ns_calls.specs.Headline.{open_count}
+use Rattle.ns_calls.specs.Laws.{open_count}
 use Rattle.ns_calls.specs.Legal.{IsLegal, entry_for, with_call}
 use Rattle.ns_calls.proofs.LocalLemmas.{bool_tells}
 use Rattle.ns_calls.proofs.Lists.{count-cons, count-found}

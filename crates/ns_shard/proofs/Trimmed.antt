@@ -8,8 +8,9 @@ use Rattle.ns_types.specs.Identity.{shard_count, shard_of}
 use Rattle.ns_types.specs.declared.identity.WindowName.{WindowName}
 use Rattle.ns_roster.specs.Network.{Network}
 use Rattle.ns_calls.specs.declared.call.Entry.{Entry}
-use Rattle.ns_calls.specs.History.{Opening, open_windows, same_ticket}
-use Rattle.ns_calls.specs.Headline.{Rises}
+use Rattle.ns_calls.specs.Entries.{Opening, open_windows}
+use Rattle.ns_calls.specs.History.{same_ticket}
+use Rattle.ns_calls.specs.Laws.{Rises}
 use Rattle.ns_kept.specs.Kept.{Remains, reading, is_kept, filter_before, keep}
 use Rattle.ns_kept.specs.Left.{Leaves}
 use Rattle.ns_kept.proofs.Law.{leaves-alike, leaves-rise, leaves-trim, keep-left}

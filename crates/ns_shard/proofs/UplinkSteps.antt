@@ -1,5 +1,5 @@
 -- What comes of an uplink by the devices and windows that agree with the entries, and that they agree after it.
-use Rattle.std.proofs.Common.{◌≡◌, ℕ, ◌+◌, ◌<◌, ◌≤◌, ◌==◌, Bool, true, false, cond, nat_lt, nat_le, List, [], ◌∷◌, ◌++◌, length, filter, Option, None, Some, IfSome, option_map, refl, sym, ap, ap₂, subst, ◌∙◌, arith, inl, inr}
+use Rattle.std.proofs.Common.{◌≡◌, ℕ, ◌+◌, ◌<◌, ◌≤◌, ◌==◌, Bool, true, false, cond, nat_lt, List, [], ◌∷◌, ◌++◌, length, filter, Option, None, Some, IfSome, option_map, refl, sym, ap, ap₂, subst, ◌∙◌, arith, inl, inr}
 use Rattle.std.specs.Prelude.{IsSome, is_some, Contains, ◌-◌, ◌^◌, ◌&&◌, ◌||◌, not, find, unwrap_or}
 use Rattle.std.specs.List.{AllByRecursion, list_any}
 use Rattle.std.specs.Option.{option_and_then}
@@ -24,10 +24,11 @@ use Rattle.ns_calls.specs.declared.call.Reply.{Reply}
 use Rattle.ns_calls.specs.declared.call.Reply.TheVariants as reply
 use Rattle.ns_calls.specs.declared.call.Entry.{Entry}
 use Rattle.ns_calls.specs.Queries.{maximum}
-use Rattle.ns_calls.specs.History as history
-use Rattle.ns_calls.specs.History.{Opening, opening_in, window_copy_in, open_windows, open_window, is_uplink_open, window_count, window_copies, session_join, live, is_live, greatest_counter, last_round, session_round, next_ack}
+use Rattle.ns_calls.specs.Entries as history
+use Rattle.ns_calls.specs.Entries.{Opening, opening_in, open_windows, most_copies}
+use Rattle.ns_calls.specs.History.{window_copy_in, open_window, is_uplink_open, window_count, window_copies, session_join, live, is_live, greatest_counter, last_round, session_round, next_ack}
 use Rattle.ns_calls.specs.Reply as plain
-use Rattle.ns_calls.specs.Reply.{reply_to_uplink, Fit, window_of, first_fit, devices_at, most_copies, uplink_rule}
+use Rattle.ns_calls.specs.Reply.{reply_to_uplink, Fit, window_of, first_fit, devices_at, uplink_rule}
 use Rattle.ns_calls.specs.Legal.{IsLegal, entry_for, with_call}
 use Rattle.ns_calls.proofs.LocalLemmas.{bool_tells}
 use Rattle.ns_calls.proofs.Lists.{All-weaker, IfSome-weaker, at_some, first-gives_of, option_map-same}

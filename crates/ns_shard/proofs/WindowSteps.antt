@@ -12,14 +12,14 @@ use Rattle.ns_calls.specs.declared.call.JoinAns.{JoinAns}
 use Rattle.ns_calls.specs.declared.call.Call.TheVariants as call
 use Rattle.ns_calls.specs.declared.call.Reply.TheVariants as reply
 use Rattle.ns_calls.specs.declared.call.Entry.{Entry}
-use Rattle.ns_calls.specs.History as history
-use Rattle.ns_calls.specs.History.{Opening, closing_in, window_copy_in, closes, open_windows, open_window, window_count, window_copies, session_join}
+use Rattle.ns_calls.specs.Entries as history
+use Rattle.ns_calls.specs.Entries.{Opening, closing_in, closes, open_windows, most_copies}
+use Rattle.ns_calls.specs.History.{window_copy_in, open_window, window_count, window_copies, session_join}
 use Rattle.ns_calls.proofs.LocalLemmas.{bool_tells}
 use Rattle.ns_calls.proofs.Lists.{All-filter, All-weaker, filter-all}
 use Rattle.ns_calls.proofs.PushLemmas.{open_windows-push, window_copies-push}
 use Rattle.ns_calls.proofs.KeyLemmas.{session_join-stays}
 use Rattle.ns_calls.proofs.NameLemmas.{same_window-refl, same_window-eq}
-use Rattle.ns_calls.specs.Reply.{most_copies}
 use Rattle.ns_windows.specs.declared.window.Window.{Window}
 use Rattle.ns_windows.specs.Windows.{with_copy, with_copy_in, without, is_named, is_of, window_named, window_of_frame, count}
 use Rattle.ns_types.specs.declared.identity.DevEui.{DevEui}

@@ -3,7 +3,7 @@
 ghost use Rattle.std.specs.Prelude.{◌≡◌, ◌≢◌, IfOk, OnOk, OnErr, Ok, Err};
 ghost use Rattle.ns_joinwire.specs.declared.fault.AnsFault.TheVariants.{NoMemory};
 ghost use Rattle.ns_shard.specs.declared.step.Act.TheVariants.{Answer};
-ghost use Rattle.ns_shard.specs.Steps.{call_of, outcome_of};
+ghost use Rattle.ns_shard.specs.Taken.{call_of, outcome_of};
 
 use ns_calls::{Call, JoinAns, Outcome};
 use ns_joinwire::{AnsFault, join_ans};

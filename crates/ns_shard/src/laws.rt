@@ -6,7 +6,7 @@ ghost use Rattle.ns_roster.specs.Network.{Network};
 ghost use Rattle.ns_roster.specs.Valid.{IsRoster};
 ghost use Rattle.ns_calls.specs.Headline.{AreBelow};
 ghost use Rattle.ns_shard.specs.declared.step.Step.{Step};
-ghost use Rattle.ns_shard.specs.Steps.{accepted_by, closing_roster};
+ghost use Rattle.ns_shard.specs.NextRun.{accepted_by, closing_roster};
 
 /// A run that begins from the closing roster of a run before it accepts of each device only nonces above all that the run before
 /// accepted.

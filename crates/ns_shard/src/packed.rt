@@ -26,7 +26,7 @@ pub struct PackedUplink {
 
 impl Model for PackedUplink {
     ghost use Rattle.std.specs.Prelude.{◌≤◌, length};
-    ghost use Rattle.ns_calls.specs.Reply.{most_copies};
+    ghost use Rattle.ns_calls.specs.Entries.{most_copies};
     ghost use Rattle.ns_calls.specs.declared.answer.Uplink.{Uplink};
 
     ghost Value = { Uplink };

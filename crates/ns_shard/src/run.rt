@@ -6,9 +6,12 @@ ghost use Rattle.std.specs.Arc.{arc_value};
 ghost use Rattle.std.specs.List.{AllByRecursion};
 ghost use Rattle.ns_types.specs.Identity.{shard_count};
 ghost use Rattle.ns_calls.specs.Legal.{IsHistory};
-ghost use Rattle.ns_calls.specs.Headline.{NoncesRise, CountersRise, AcksRise, WindowsOpenOnce, NoncesAreWithin};
+ghost use Rattle.ns_calls.specs.Laws.{NoncesRise, CountersRise, WindowsOpenOnce};
+ghost use Rattle.ns_calls.specs.Headline.{AcksRise, NoncesAreWithin};
 ghost use Rattle.ns_calls.specs.Steps.{datagram_call};
-ghost use Rattle.ns_shard.specs.Steps.{all_taken, call_of, calls_of, AreAfter, OfEach, HandsOut, HasCopies, AreHandedOutOnce, greatest_among, greatest_after};
+ghost use Rattle.ns_shard.specs.Steps.{all_taken, AreAfter};
+ghost use Rattle.ns_shard.specs.Taken.{call_of, calls_of, OfEach, HandsOut, HasCopies, AreHandedOutOnce};
+ghost use Rattle.ns_shard.specs.NextRun.{greatest_among, greatest_after};
 ghost use Rattle.ns_shard.specs.Private.Run.{taken_in, states_after, refused_as, AreInPlace};
 
 use crate::calls::answer_call;

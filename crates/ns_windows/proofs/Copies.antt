@@ -5,7 +5,7 @@ use Rattle.std.specs.Map.{lookup, values_of, set_value}
 use Rattle.ns_types.specs.declared.identity.WindowName.{WindowName}
 use Rattle.ns_types.specs.declared.heard.Heard.{Heard}
 use Rattle.ns_types.specs.Identity.{same_window}
-use Rattle.ns_calls.specs.Reply.{most_copies}
+use Rattle.ns_calls.specs.Entries.{most_copies}
 use Rattle.ns_windows.specs.declared.window.Window.{Window}
 use Rattle.ns_windows.specs.Windows.{is_named, with_copy_in, entries_with_copy, with_copy, AreApart, AreNamed}
 use Rattle.ns_windows.proofs.Names.{copied_none, copy-name}

@@ -7,7 +7,7 @@ use Rattle.ns_types.specs.declared.heard.Heard.{Heard}
 use Rattle.ns_types.specs.Identity.{same_window}
 use Rattle.ns_calls.proofs.LocalLemmas.{bool_tells}
 use Rattle.ns_calls.proofs.NameLemmas.{same_window-refl, same_window-eq}
-use Rattle.ns_calls.specs.Reply.{most_copies}
+use Rattle.ns_calls.specs.Entries.{most_copies}
 use Rattle.ns_windows.specs.declared.window.Window.{Window}
 use Rattle.ns_windows.specs.Windows.{is_named, with_copy, with_copy_in, AreApart}
 use Rattle.ns_windows.proofs.Places.{NonePasses, map-none}

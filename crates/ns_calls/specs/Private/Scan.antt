@@ -6,7 +6,8 @@ use Rattle.ns_types.specs.declared.ticket.Ticket.{Ticket}
 use Rattle.ns_types.specs.Ticket.{nonce}
 use Rattle.ns_calls.specs.declared.call.Entry.{Entry}
 use Rattle.ns_types.specs.Cases.{when}
-use Rattle.ns_calls.specs.History.{same_device, same_ticket, acceptance_in, ticket_copy_in}
+use Rattle.ns_calls.specs.Entries.{same_device, acceptance_in}
+use Rattle.ns_calls.specs.History.{same_ticket, ticket_copy_in}
 
 -- the nonce of a device's join that an entry accepts
 abbrev pub accepted_nonce : DevEui → Entry → Option ℕ

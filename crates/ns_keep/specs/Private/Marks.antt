@@ -11,7 +11,8 @@ use Rattle.ns_types.specs.declared.ticket.Ticket.{Ticket}
 use Rattle.ns_calls.specs.declared.call.Call.{Call}
 use Rattle.ns_calls.specs.declared.call.Reply.{Reply}
 use Rattle.ns_calls.specs.declared.call.Entry.{Entry}
-use Rattle.ns_calls.specs.History.{acceptance_in, opening_in, closing_in, asks_for}
+use Rattle.ns_calls.specs.Entries.{acceptance_in, opening_in, closing_in}
+use Rattle.ns_calls.specs.History.{asks_for}
 use Rattle.ns_kept.specs.Kept.{repetition_in}
 use Rattle.ns_keep.specs.declared.marks.Marks.{Marks}
 

@@ -4,7 +4,8 @@ use Rattle.ns_types.specs.declared.identity.Key.{Key}
 use Rattle.ns_types.specs.declared.heard.Heard.{Heard}
 use Rattle.ns_calls.specs.declared.call.JoinAns.{JoinAns}
 use Rattle.ns_calls.specs.declared.call.Entry.{Entry}
-use Rattle.ns_calls.specs.History.{Opening, session_join, open_windows, window_copies}
+use Rattle.ns_calls.specs.Entries.{Opening, open_windows}
+use Rattle.ns_calls.specs.History.{session_join, window_copies}
 use Rattle.ns_windows.specs.declared.window.Window.{Window}
 
 -- the keys that a join server's answer gives. Each open window's session has an answer

@@ -26,7 +26,7 @@ use Rattle.ns_sessions.specs.Laws.{join_decision_reply}
 use Rattle.ns_windows.specs.declared.window.Window.{Window}
 use Rattle.ns_windows.specs.declared.window.Addition.{Addition}
 use Rattle.ns_windows.specs.declared.window.Addition.TheVariants as addition
-use Rattle.ns_windows.specs.Windows.{with_copy_in, count, window_of_frame, window_named, addition, without}
+use Rattle.ns_windows.specs.Windows.{with_copy_in, count, window_of_frame, window_named, without}
 use Rattle.ns_devices.specs.declared.own.Own.{Own}
 use Rattle.ns_shard.specs.declared.event.Event.{Event}
 use Rattle.ns_shard.specs.declared.event.Event.TheVariants.{Quiet, Accepted, Closed}

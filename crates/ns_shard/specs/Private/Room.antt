@@ -5,7 +5,8 @@ use Rattle.ns_calls.specs.declared.call.Call.TheVariants as call
 use Rattle.ns_calls.specs.declared.call.Reply.{Reply}
 use Rattle.ns_calls.specs.declared.call.Reply.TheVariants as reply
 use Rattle.ns_calls.specs.declared.call.Entry.{Entry}
-use Rattle.ns_calls.specs.History.{window_in, closing_in, asking_in, ending_in, open_windows, open_tickets}
+use Rattle.ns_calls.specs.Entries.{window_in, closing_in, open_windows}
+use Rattle.ns_calls.specs.History.{asking_in, ending_in, open_tickets}
 
 -- whether the entry of a call and its reply opens a window, or asks for a ticket
 abbrev pub opens : Call → Reply → Bool

@@ -1,7 +1,7 @@
 use Rattle.std.proofs.Common.{◌≡◌, ◌++◌, ◌∷◌, [], None, ap, ◌∙◌}
 use Rattle.std.specs.Map.{lookup, values_of}
 use Rattle.indexmap.proofs.CallerLemmas.{insert_entry-new}
-use Rattle.ns_calls.specs.History.{same_device}
+use Rattle.ns_calls.specs.Entries.{same_device}
 use Rattle.ns_devices.specs.Devices.{own_of}
 use Rattle.ns_devices.proofs.Euis.{lookup-eui, values-push, euis-push, places-added}
 use Rattle.ns_devices.proofs.devices.Devices.add.Goals as goal

@@ -2,7 +2,7 @@ use Rattle.std.proofs.Common.{◌≡◌, position, slice_get, Option, Some, IfSo
 use Rattle.std.specs.List.{IsDistinct}
 use Rattle.std.specs.Map.{values_of}
 use Rattle.ns_types.specs.declared.identity.DevEui.{DevEui}
-use Rattle.ns_calls.specs.History.{same_device}
+use Rattle.ns_calls.specs.Entries.{same_device}
 use Rattle.ns_sessions.specs.Record.{IsNewCounter, session_in}
 use Rattle.ns_devices.specs.declared.own.Own.{Own}
 use Rattle.ns_devices.specs.Devices.{is_own, own_of}

@@ -1,7 +1,7 @@
 use Rattle.std.proofs.Common.{position, ap, ◌∙◌}
 use Rattle.std.specs.Map.{values_of}
 use Rattle.ns_types.specs.declared.identity.DevEui.{DevEui}
-use Rattle.ns_calls.specs.History.{same_device}
+use Rattle.ns_calls.specs.Entries.{same_device}
 use Rattle.ns_devices.proofs.Euis.{place-eui}
 use Rattle.ns_devices.proofs.devices.Devices.place.Goals as goal
 

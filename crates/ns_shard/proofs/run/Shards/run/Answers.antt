@@ -1,7 +1,8 @@
 use Rattle.std.proofs.Common.{sym, ap, ◌∙◌, ◌++◌, ◌+◌, take, drop, subst, []}
 use Rattle.std.specs.List.{AllByRecursion}
 use Rattle.std.specs.Arc.{arc_value}
-use Rattle.ns_shard.specs.Steps.{all_taken, HandsOut, HasCopies, AreHandedOutOnce}
+use Rattle.ns_shard.specs.Steps.{all_taken}
+use Rattle.ns_shard.specs.Taken.{HandsOut, HasCopies, AreHandedOutOnce}
 use Rattle.ns_shard.proofs.RunSteps.{step-after, step-taken, told-more}
 use Rattle.ns_shard.proofs.RunHistories.{histories-legal, histories-calls, histories-nonces, histories-counters, histories-acks, histories-windows, all-hand_out, after-all, told-all, histories-within, greatest-after}
 use Rattle.ns_shard.proofs.RunTaken.{taken-copies, taken-once}

@@ -4,7 +4,7 @@ use Rattle.std.specs.Option.{is_some}
 use Rattle.ns_calls.specs.History.{oldest, open_window}
 use Rattle.ns_calls.proofs.Merges.{oldest_own}
 use Rattle.ns_types.specs.Identity.{same_window}
-use Rattle.ns_calls.specs.History.{Opening}
+use Rattle.ns_calls.specs.Entries.{Opening}
 use Rattle.ns_kept.proofs.Law.{leaves-alike}
 use Rattle.ns_shard.specs.State.{State, remains, seen}
 use Rattle.ns_shard.specs.Private.Parts.{state_of}
