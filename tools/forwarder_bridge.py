@@ -28,9 +28,11 @@ listens); `forgotten` gateways; `unrecorded` lines of FILE; `faults` of this pro
 is looked at. Of these two the first between two lines of counts is told with its sender and its EUI.
 """
 import argparse
+import array
 import base64
 import binascii
 import collections
+import itertools
 import json
 import math
 import re
@@ -51,6 +53,10 @@ LOWEST, HIGHEST = 863_000_000, 870_000_000
 
 # A forwarder collects at most 255 frames at a time, and sends far fewer at once: one of 16 bytes takes some 200 bytes of JSON.
 MOST_BYTES, MOST_ITEMS = 16384, 255
+
+# In so many lists and objects a value of a message may stand.
+MOST_DEPTH = 127
+STEPS = str.maketrans('[{]}', '\x01\x01\xff\xff')       # one deeper, or back, as signed bytes
 
 # Bytes of messages that wait for this program, where the system allows as many (net.core.rmem_max).
 WAITING = 1 << 22
@@ -115,7 +121,7 @@ def data_rate(item):
     if modulation == 'LORA' and isinstance(rate, str):
         if rate in DATA_RATES:
             return DATA_RATES.index(rate)
-    elif modulation == 'FSK' and is_whole(rate, 0, WRAP):
+    elif modulation == 'FSK' and is_whole(rate, 0, 2 ** 64 - 1):
         if rate == FSK_BITS:
             return FSK_DATA_RATE
     elif modulation in ('LORA', 'FSK') or not isinstance(modulation, str):
@@ -124,16 +130,19 @@ def data_rate(item):
 
 
 def payload(item):
-    """The frame's bytes."""
+    """The frame's bytes: base64 (RFC 4648). Padding may be left out; last bits that are no bits of the frame are 0."""
     text, size = item.get('data'), item.get('size')
     if not isinstance(text, str) or not re.fullmatch('[A-Za-z0-9+/]*={0,2}', text):
         raise Dropped('malformed')
-    text = text.rstrip('=')
+    digits = text.rstrip('=')
+    missing = -len(digits) % 4
     try:
-        frame = base64.b64decode(text + '=' * (-len(text) % 4), validate=True)
+        frame = base64.b64decode(digits + '=' * missing, validate=True)
     except binascii.Error:
         raise Dropped('malformed') from None
-    if len(frame) > 255 or size is not None and (isinstance(size, bool) or size != len(frame)):
+    if len(text) - len(digits) > missing or base64.b64encode(frame).decode().rstrip('=') != digits:
+        raise Dropped('malformed')
+    if len(frame) > 255 or size is not None and not is_whole(size, len(frame), len(frame)):
         raise Dropped('malformed')
     return frame
 
@@ -156,7 +165,8 @@ def up_datagram(gateway, item, moments, now):
     if not LOWEST <= hertz <= HIGHEST:
         raise Dropped('outside')
     rssi = tenths(item.get('rssi'))
-    snr = tenths(item.get('lsnr', 0 if rate == FSK_DATA_RATE else None))
+    snr = item.get('lsnr')
+    snr = 0 if rate == FSK_DATA_RATE and snr is None else tenths(snr)
     frame, tmst = payload(item), item.get('tmst')
     if not is_whole(tmst, 0, WRAP - 1):
         raise Dropped('malformed')
@@ -167,10 +177,44 @@ def no_constant(name):
     raise ValueError(name)
 
 
+def fraction(text):
+    """A number of JSON that is no whole one, within the range of binary64. Raises ValueError."""
+    value = float(text)
+    if math.isinf(value):
+        raise ValueError(text)
+    return value
+
+
+# What may stand in a number that is no usual one: -0, many digits, a great exponent.
+ODD_NUMBER = re.compile('-0|[0-9]{20}|[eE][+]?[0-9]{3}')
+
+
+def integer(text):
+    """A whole number of JSON; -0, and one of many digits, is a fraction. Raises ValueError."""
+    return fraction(text) if text == '-0' or len(text) > 20 else int(text)
+
+
+def is_too_deep(text):
+    """Whether lists and objects of a JSON text stand in more than 127 of them: RFC 8259 (9) leaves the limit to the reader."""
+    steps = array.array('b', re.sub(r'[^][{}]+', '', re.sub(r'"(?:[^"\\]|\\.)*"', '', text)).translate(STEPS).encode('latin-1'))
+    return max(itertools.accumulate(steps), default=0) > MOST_DEPTH
+
+
+def of_text(members):
+    """An object of these members; half of a surrogate pair in one is no text. Raises ValueError."""
+    json.dumps(members, ensure_ascii=False).encode()
+    return dict(members)
+
+
 def message_of(body):
-    """The JSON object of a message. Raises Dropped."""
+    """The JSON object of a message, as `lorawan_ns serve --forwarders` reads it. Raises Dropped."""
     try:
-        value = json.loads(body.decode(), parse_constant=no_constant)
+        text = body.decode()
+        if text.count('[') + text.count('{') > MOST_DEPTH and is_too_deep(text):
+            raise ValueError
+        is_odd = ODD_NUMBER.search(text) is not None
+        value = json.loads(text, parse_constant=no_constant, parse_float=fraction if is_odd else None,
+                           parse_int=integer if is_odd else None, object_pairs_hook=of_text if '\\u' in text else None)
     except (ValueError, RecursionError):
         raise Dropped('malformed') from None
     if not isinstance(value, dict):
@@ -280,9 +324,6 @@ class Bridge:
     def heard(self, eui, body, peer, now, clock):
         """Hands on the frames of a PUSH_DATA."""
         try:
-            # More objects than the items, the message and its `stat` are. What is no object is counted once it is parsed.
-            if body.count(b'{') > MOST_ITEMS + 2:
-                raise Dropped('too_many')
             message = message_of(body)
             items = items_of(message)
         except Dropped as why:

@@ -4,9 +4,10 @@
     hostile.py PROGRAM READER [--kind KIND] [--count N] [--seed S] [--size N] [--keep DIR] [--own-aes]
 
     PROGRAM         `lorawan_ns`, for datagrams, lines, answers and files
-    READER          `worked_joins`, for rosters and responses
+    READER          `worked_joins`, for rosters and responses; with `--kind forwarders` it is `worked_forwarders`
     --kind KIND     one of datagrams, lines, answers (of join servers, in lines), rosters, responses (of join servers, with their
-                    heads) and files (rosters as the program reads them); default: each of them
+                    heads), files (rosters as the program reads them) and forwarders (messages of packet forwarders, whose model
+                    is forwarder_bridge.py); default: each of them but the last
     --count N       how many inputs of a kind (default 10000)
     --seed S        the first batch's seed (default 0); each batch adds one
     --size N        how many inputs a batch has (default 2000): a batch is one run of a program, but for files, of which each is one
@@ -28,10 +29,12 @@ import tempfile
 import time
 
 import compare
+import hostile_forwarders
 import model
 import model_http
 
 KINDS = 'datagrams', 'lines', 'answers', 'rosters', 'responses', 'files'
+FORWARDERS = 'forwarders'
 MOST_BYTES = 70000      # of one input: doubling again and again ends there
 
 
@@ -350,6 +353,31 @@ def text_batch(options, kind, seed, _, reached):
     return None
 
 
+# ---------------------------------------------------------------- messages of packet forwarders
+
+
+def forwarder_batch(options, seed, reached):
+    pick = random.Random('forwarders %d' % seed)
+    messages = [(number * 7919, message) for number, message in enumerate(
+        hostile_forwarders.message(pick, spoiled) for _ in range(options.size))]
+    model_of = hostile_forwarders.Model()
+    wanted = [model_of.line(now, message) for now, message in messages]
+    lines = b''.join(b'%d %s\n' % (now, message.hex().encode()) for now, message in messages)
+    for line in wanted:
+        reached.update([hostile_forwarders.word_of(line)])
+    try:
+        done = subprocess.run([options.reader], input=lines, capture_output=True, timeout=120)
+    except subprocess.TimeoutExpired:
+        return b'', lines, 'no end within 120 s'
+    got = done.stdout.decode(errors='replace').split('\n')[:-1]
+    if done.returncode or done.stderr or len(got) != len(wanted):
+        return b'', lines, 'status %d, %d lines, standard error %r' % (done.returncode, len(got), done.stderr[:300])
+    for (_, message), want, line in zip(messages, wanted, got):
+        if line != want:
+            return message, lines, 'message %s\n  want %s\n  got  %s' % (message.hex()[:3000], want[:700], line[:700])
+    return None
+
+
 # ---------------------------------------------------------------- the command
 
 
@@ -372,7 +400,7 @@ class Options:
             else:
                 programs.append(word)
         self.program, self.reader = programs
-        if not set(self.kinds) <= set(KINDS) or self.size < 1:
+        if not set(self.kinds) <= {*KINDS, FORWARDERS} or self.size < 1:
             raise ValueError('words')
 
 
@@ -386,6 +414,8 @@ def keep(options, found):
 def batch_of(options, kind, seed, folder, reached):
     if kind == 'files':
         return file_batch(options, seed, folder, reached)
+    if kind == FORWARDERS:
+        return forwarder_batch(options, seed, reached)
     made = text_batch if kind in ('rosters', 'responses') else batch
     return made(options, kind, seed, folder, reached)
 

@@ -102,8 +102,8 @@ class Heard(unittest.TestCase):
                                {'modu': None}, {'modu': 'FSK', 'datr': 'SF7BW125'}, {'rssi': None}, {'rssi': 4000},
                                {'rssi': -4000}, {'lsnr': None}, {'lsnr': []}, {'tmst': -1}, {'tmst': WRAP},
                                {'tmst': 1.5}, {'tmst': None}, {'tmst': True}, {'data': None}, {'data': 'A'},
-                               {'data': '%%%%'}, {'data': 'AA=A'}, {'data': 'AAAA\n'}, {'data': 'é'}, {'size': 22},
-                               {'size': '23'}, {'size': 256, 'data': base64.b64encode(bytes(256)).decode()}])):
+                               {'data': '%%%%'}, {'data': 'AA=A'}, {'data': 'AAAA='}, {'data': 'AB==', 'size': 1},
+                               {'data': 'AAAA\n'}, {'data': 'é'}, {'size': 22}, {'size': '23'}, {'size': 23.0}, {'size': 256, 'data': base64.b64encode(bytes(256)).decode()}])):
             for change in changes:
                 with self.subTest(change=change):
                     self.assertEqual(made(rxpk(JOIN, 1, **change)), count)
@@ -243,23 +243,37 @@ class Answering(unittest.TestCase):
         self.assertEqual((len(self.forwarders.sent), self.bridge.counts), (1, {'too_long': 8}))
 
     def test_numbers_of_items(self):
-        """255 items are looked at, of 256 none is; of objects it is told before the message is parsed."""
+        """255 items are looked at, of 256 none is, whatever else stands in the message."""
         many = {'push': 1, 'too_many': 1}
         for item in (b'0', b'""', b'[]', b'null'):
             self.assertEqual(self.push(b'{"rxpk":[%s]}' % b','.join([item] * 255)), {'push': 1, 'malformed': 255})
             self.assertEqual(self.push(b'{"rxpk":[%s]}' % b','.join([item] * 256)), many)
         self.assertEqual(self.push(b'{"stat":{},"rxpk":[%s]}' % b','.join([b'{}'] * 255)), {'push': 1, 'stat': 1, 'malformed': 255})
         self.assertEqual(self.push(b'{"rxpk":[%s]}' % b','.join([b'{}'] * 256)), many)
-        self.assertEqual(self.push(b'{' * 258), many)
-        self.assertEqual(self.push(b'{' * 257), {'push': 1, 'malformed': 1})
+        objects = b','.join([b'{}'] * 300)
+        self.assertEqual(self.push(b'{"other":[%s],"rxpk":[]}' % objects), {'push': 1})
+        self.assertEqual(self.push(b'{' * 258), {'push': 1, 'malformed': 1})
         self.assertEqual(self.server.sent, [])
+
+    def test_json_as_serve_reads_it(self):
+        """Nesting, numbers out of range, halves of surrogate pairs and keys that come twice."""
+        for depth, counts in ((126, {'push': 1}), (127, {'push': 1, 'malformed': 1})):
+            self.assertEqual(self.push(b'{"a":%s%s}' % (b'[' * depth, b']' * depth)), counts)
+        self.assertEqual(self.push(b'{"a":"%s"}' % (b'[' * 200)), {'push': 1})
+        for value in (b'1e999', b'-1e999', b'1' * 400, rb'"\ud800"', rb'{"\udc00":1}', b'NaN'):
+            self.assertEqual(self.push(b'{"a":%s}' % value), {'push': 1, 'malformed': 1})
+        for value in (b'1e300', b'1' * 300, rb'"\ud83d\ude00"', b'-0'):
+            self.assertEqual(self.push(b'{"a":%s}' % value), {'push': 1})
+        text = json.dumps({'rxpk': [rxpk(JOIN, 1_000_000)]})
+        self.assertEqual(self.push(text.replace('"tmst": 1000000', '"tmst": -0').encode()), {'push': 1, 'malformed': 1})
+        self.assertEqual(self.push(text.replace('{"tmst"', '{"tmst":-1,"tmst"', 1).encode()), {'push': 1, 'frames': 1})
 
     def test_first_of_what_is_dropped_is_told(self):
         """With its sender and its EUI; the next is told once the counts were."""
         for _ in range(2):
             for _ in range(3):
                 self.push(b'x' * bridge.MOST_BYTES)
-                self.push(b'{' * 300)
+                self.push(b'{"rxpk":[%s]}' % b','.join([b'{}'] * 256))
             self.bridge.line()
         self.assertEqual(self.told, 2 * ['too_long: a message of 16396 bytes from 10.0.0.9:1700 as gateway 00000000000000a1',
                                     'too_many: a message of more than 255 items from 10.0.0.9:1700 as gateway 00000000000000a1'])

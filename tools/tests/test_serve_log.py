@@ -103,8 +103,8 @@ class Events(Served):
         for turn in range(3):
             self.each(turn)
         for who in self.WHO:
-            self.server.log.wait(who, 3)
-            self.assertEqual(self.count('DEBUG', who), 3)
+            self.server.log.wait(who, 4)        # one of them at the level info
+            self.assertEqual([self.count('DEBUG', who), self.count('INFO', who)], [3, 1])
 
     def test_at_info_one(self):
         """Of many the first is told, and then none for a minute."""

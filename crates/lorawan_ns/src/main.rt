@@ -3,9 +3,11 @@
 //! `lorawan_ns replay ROSTER` reads step lines from standard input and writes the lines of their answers to standard output. The
 //! contract of `replay` in `ns_replay` says what is written. `lorawan_ns serve ROSTER --join ADDR` hears gateways over UDP and writes
 //! their uplinks: `serve` of `ns_serve` does it, with threads and sockets. Here are the command line, the texts of faults, log lines and
-//! the exit statuses: what the words ask for, which fault each refusal is and which status follows stand in contracts; the texts are shown
-//! by tests. Before a run ends early, a log line of level error says where and why. The program stands on `ns_roster`, which reads the
-//! roster, on `ns_roster_place`, which names the place of its fault, on `ns_replay` and `ns_serve`, and on `log` and `jiff` of the kit.
+//! the exit statuses. What the words ask for, when a value of an option is refused, which fault each refusal is, and which status follows
+//! stand in contracts; the texts are shown by tests. Before a run ends early, a log line of level error says where and why. The program
+//! stands on `ns_roster`, which reads the roster, on `ns_roster_place`, which names the place of its fault, on `ns_joinclient` for a host's
+//! name, on `ns_types` for streams, on `ns_replay` and `ns_serve`, and on `arrayvec`, `clap`, `jiff_core`, `jiff_fmt`, `log` and
+//! `thiserror` of the kit.
 #![tactic(auto)]
 
 mod fault;
@@ -188,7 +190,8 @@ fn shown<R: Eprint + Print, L: Log>(rt: &R, log: &L, error: &Error) -> ExitCode
     }
 }
 
-// Says why the words ask for nothing, and gives the exit status: 0 for help and the version, 2 for bad words.
+// Says why the words ask for nothing, and gives the exit status: 0 for help and the version, and 1 where they could not be printed; 1 for
+// want of memory; 2 for bad words.
 fn refused<R: Eprint + Print, L: Log>(rt: &R, log: &L, bad: &BadWords) -> ExitCode
     ensures { IsStatusOf bad.now (exit_status result) }
 {
@@ -246,6 +249,7 @@ fn concluded<R: Eprint + Print, L: Log>(rt: &R, log: &L, end: &End<'_>) -> ExitC
 
 fn main(rt: HostRuntime) -> ExitCode {
     let Ok(filter) = read_filter(&rt) else {
+        error!(Timed(&rt); "no memory for the value of {VARIABLE}");
         return ended(&rt, &Err(Fault::NoMemory));
     };
     let log = Logging::new(&rt, FilteredLog::new(Timed(&rt), filter));

@@ -239,7 +239,7 @@ fn with_limits<'a>(alloc: Global, command: Command<'a>) -> Result<Command<'a>, A
         "window",
         "MS",
         60_000,
-        "How long copies of an uplink are gathered, 1 to 60000 ms",
+        "How long copies are gathered, 1 to 60000 ms; those of a join 1000 at most",
     );
     let stop_after = number(
         alloc,

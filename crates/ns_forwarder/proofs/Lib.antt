@@ -2,4 +2,5 @@ pub mod MessageLemmas
 pub mod PushLemmas
 pub mod HertzLemmas
 pub mod UplinkLemmas
+pub mod HandedLemmas
 pub mod TxpkLemmas

@@ -8,3 +8,4 @@ pub mod Held
 pub mod Uplink
 pub mod Txpk
 pub mod TxAck
+pub mod Handed

@@ -1,8 +1,8 @@
 //! The messages of packet forwarders (Semtech UDP protocol, versions 1 and 2; EU868), read and written.
 //!
-//! `read_message` reads a message's head and lends its body, and `Head::ack` is what acknowledges it. `read_push` gives the frames of a
-//! PUSH_DATA that are handed on, and why each of its other items is left out; `Item::datagram` writes the gateways' datagram of such a
-//! frame, at the moment that a `Clock` gives to its gateway's 32-bit counter. `pull_resp` writes the message that asks a forwarder to
+//! `read_message` reads a message's head and lends its body, and `Head::ack` is what acknowledges it. `hand_on` gives the gateways'
+//! datagrams that the body of a PUSH_DATA becomes, each at the moment that a `Clock` gives to its gateway's 32-bit counter, and why each of
+//! its other items is left out; `read_push` and `Push::datagrams` are its two halves. `pull_resp` writes the message that asks a forwarder to
 //! send a frame, and `read_tx_ack` reads what came of it.
 //!
 //! Each call gives exactly what `specs/` defines, or the first fault by its number, or NoMemory. A datagram is read back to what its item
@@ -13,6 +13,7 @@
 mod clock;
 mod downlink;
 mod fault;
+mod handed;
 mod head;
 mod item;
 mod laws;
@@ -23,11 +24,9 @@ mod uplink;
 pub use crate::clock::{Clock, Reading};
 pub use crate::downlink::pull_resp;
 pub use crate::fault::ForwarderFault;
+pub use crate::handed::{Handed, hand_on};
 pub use crate::head::{Head, Kind, Message, read_message};
 pub use crate::item::{Item, read_item};
 pub use crate::laws::{clocks_follow, hertz_exact, messages_exactly};
 pub use crate::outcome::{Outcome, read_tx_ack};
 pub use crate::push::{Push, read_push};
-
-#[cfg(test)]
-mod tests;

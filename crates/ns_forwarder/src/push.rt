@@ -7,6 +7,7 @@ ghost use Rattle.ns_forwarder.specs.Faults.{Gives};
 ghost use Rattle.ns_forwarder.specs.Rxpk.{item_of};
 ghost use Rattle.ns_forwarder.specs.Push.{push_from, with_result, values_of, push_of};
 ghost use Rattle.ns_forwarder.specs.Held.{push_view};
+ghost use Rattle.ns_forwarder.specs.Handed.{AreOfBand};
 
 use crate::ForwarderFault;
 use crate::item::{Item, read_item};
@@ -43,7 +44,9 @@ fn values_of(root: &Value) -> Result<&[Value], ForwarderFault>
 
 // Puts in what one more item says, or why it is left out.
 fn put(alloc: Global, push: &mut Push, value: &Value) -> Result<(), ForwarderFault>
+    requires { AreOfBand push.old.items.items }
     ensures put { OnOk result (push_view push.new ≡ with_result (push_view push.old) (item_of (view value.now))) }
+    ensures band { OnOk result (AreOfBand push.new.items.items) }
     ensures memory { IfErr result (λ e. e ≡ NoMemory) }
 {
     match read_item(alloc, value) {
@@ -57,6 +60,7 @@ fn put(alloc: Global, push: &mut Push, value: &Value) -> Result<(), ForwarderFau
 // What the items say, in order.
 fn read_items(alloc: Global, values: &[Value]) -> Result<Push, ForwarderFault>
     ensures read { IfOk result (λ p. push_view p ≡ push_from (map view values.now)) }
+    ensures band { IfOk result (λ p. AreOfBand p.items.items) }
     ensures memory { IfErr result (λ e. e ≡ NoMemory) }
 {
     let mut push = Push {
@@ -74,7 +78,8 @@ fn read_items(alloc: Global, values: &[Value]) -> Result<Push, ForwarderFault>
 /// NoMemory where memory ran out before the answer was known.
 #[tactic(auto, unfolding(crate::specs::Push::push_of))]
 pub fn read_push(alloc: Global, body: &[u8]) -> Result<Push, ForwarderFault>
-    ensures { Gives push_view result (push_of body.now) }
+    ensures gives { Gives push_view result (push_of body.now) }
+    ensures band { IfOk result (λ p. AreOfBand p.items.items) }
 {
     let root = value_of(alloc, body)?.ok_or(ForwarderFault::Body)?;
     let values = values_of(&root)?;

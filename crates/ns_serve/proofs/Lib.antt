@@ -1,1 +1,3 @@
 mod OutputLemmas
+mod ReceiptLemmas
+mod TurnLemmas

@@ -1,9 +1,11 @@
 -- What a writer and a sender are told grows.
-use Rattle.std.proofs.Common.{◌≡◌, ℕ, List, [], ◌++◌, Some, None, Option, refl, sym, ap, ◌∙◌, subst, append-nil}
+use Rattle.std.proofs.Common.{◌≡◌, ℕ, List, [], ◌++◌, Some, None, Option, Result, Ok, Err, refl, sym, ap, ◌∙◌, subst, append-nil}
+use Rattle.std.specs.Prelude.{OnOk}
 use Rattle.std.specs.Io.KnownBytes.{Appends, append_known}
 use Rattle.std.proofs.KnownBytes.{Appends-trans}
 use Rattle.ns_calls.specs.declared.answer.Downlink.{Downlink}
-use Rattle.ns_serve.specs.Output.{Grows, EndsIn, Sends}
+use Rattle.ns_serve.specs.declared.output.Output.{Output}
+use Rattle.ns_serve.specs.Output.{Grows, EndsIn, Sends, IsPut}
 
 appends_none : (a : Option (List ℕ)) → Appends a a []
 appends_none None = tt
@@ -35,3 +37,9 @@ ends_in_both a b c d lines one two before first none second =
 pub sends_none : (taken : Option (List Downlink)) → Sends taken taken None
 sends_none None = tt
 sends_none (Some xs) = ap (λ l. Some l) (sym (append-nil xs))
+
+-- an output that was told lines, and whose writer has them
+pub is_put : {W A E : Type 0} (taken : W → Option (List ℕ)) (before after : Output W) (lines : List ℕ) (r : Result A E)
+    → OnOk r (Appends (append_known (taken before.writer) before.lines.items) (taken after.writer) lines) → OnOk r (after.lines.items ≡ []) → OnOk r (IsPut taken lines)
+is_put taken before after lines (Ok x) written empty = record { before = before; after = after; written = written; empty = empty }
+is_put taken before after lines (Err x) written empty = tt

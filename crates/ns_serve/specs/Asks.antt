@@ -1,5 +1,5 @@
 -- Which ticket is answered next.
-use Rattle.std.specs.Prelude.{ℕ, zero, suc, ◌+◌, nat_le, nat_lt, cond, List, [], ◌∷◌, Option, None, Some}
+use Rattle.std.specs.Prelude.{ℕ, zero, suc, ◌+◌, ◌-◌, ◌^◌, min, nat_le, nat_lt, cond, List, [], ◌∷◌, Option, None, Some}
 use Rattle.ns_workers.specs.declared.job.AskJob.{AskJob}
 
 -- the join server is not asked about a ticket of more than 4,500 ms
@@ -20,3 +20,7 @@ place_before (suc place) = Some place
 abbrev pub next_place : ℕ → List AskJob → Option ℕ
 next_place now [] = None
 next_place now (job ∷ jobs) = cond (nat_lt (job.since + most_age) now) (Some 0) (place_before (due_front now (job ∷ jobs)))
+
+-- in how many milliseconds a ticket is due, or too old to be asked about; no time is above 2^64 - 1
+abbrev pub wait_ms : ℕ → AskJob → ℕ
+wait_ms now job = min job.due (min (job.since + most_age + 1) (2 ^ 64 - 1)) - now

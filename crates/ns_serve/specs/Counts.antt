@@ -7,7 +7,7 @@ use Rattle.ns_views.specs.Faults.{number}
 use Rattle.ns_workers.specs.declared.datagram.Refused.{Refused}
 use Rattle.ns_workers.specs.declared.datagram.Refused.TheVariants.{Link, View}
 
--- the place of a reply's counter, in the order of the table of answer lines
+-- the place of a reply's counter, in the order of the log line of counts
 abbrev pub reply_place : Reply → ℕ
 reply_place (Opened window) = 0
 reply_place (Copied window place) = 1

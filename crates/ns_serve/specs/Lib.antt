@@ -4,5 +4,6 @@ pub mod Peers
 pub mod Late
 pub mod Asks
 pub mod Ends
+pub mod Turns
 pub mod Closing
 pub mod Trims

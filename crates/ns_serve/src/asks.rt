@@ -20,9 +20,9 @@ fn is_stale(job: &AskJob, now: u64) -> bool
 
 impl Asks {
     ghost use Rattle.std.specs.Prelude.{◌≡◌, ◌++◌, ◌∷◌, [], slice_get, IfErr, OnOk, OnErr};
-    ghost use Rattle.std.specs.Option.{option_and_then, option_map_or};
+    ghost use Rattle.std.specs.Option.{option_and_then, option_map, option_map_or};
     ghost use Rattle.std.specs.List.{remove};
-    ghost use Rattle.ns_serve.specs.Asks.{due_front, next_place};
+    ghost use Rattle.ns_serve.specs.Asks.{due_front, next_place, wait_ms};
 
     /// No ticket waits.
     pub fn new(alloc: Global) -> Asks
@@ -34,7 +34,9 @@ impl Asks {
     }
 
     /// Whether no ticket waits.
-    pub fn is_empty(&self) -> bool {
+    pub fn is_empty(&self) -> bool
+        ensures { IsTrue result ↔ (self.now.jobs.items ≡ []) }
+    {
         self.jobs.is_empty()
     }
 
@@ -71,7 +73,9 @@ impl Asks {
     }
 
     /// In how many milliseconds a ticket is to be answered, if one waits, where none is at this time.
-    pub fn wait_ms(&self, now: u64) -> Option<u64> {
+    pub fn wait_ms(&self, now: u64) -> Option<u64>
+        ensures { result ≡ option_map (wait_ms now) (slice_get self.now.jobs.items 0) }
+    {
         let job = self.jobs.front()?;
         let stale = job.since.saturating_add(MOST_AGE_MS + 1);
         Some(job.due.min(stale).saturating_sub(now))

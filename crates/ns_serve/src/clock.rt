@@ -1,4 +1,5 @@
 //! The workers' clock.
+ghost use Rattle.std.specs.Prelude.{◌≡◌, ◌-◌, min};
 
 use crate::state::State;
 use ns_workers::Timer;
@@ -8,6 +9,13 @@ use std::time::{Clock, Duration};
 
 // How long a worker sleeps at most before it looks whether the gateway workers have ended.
 const NAP_MS: u64 = 100;
+
+/// How long to sleep before it is looked whether a time has come, in milliseconds: until then, but 100 ms at most.
+pub(crate) fn nap_ms(due: u64, now: u64) -> u64
+    ensures { result ≡ min (due - now) 100 }
+{
+    due.saturating_sub(now).min(NAP_MS)
+}
 
 /// The clock, in milliseconds since the server began.
 #[derive(Clone, Copy)]
@@ -35,7 +43,7 @@ impl<'a, R: Wait + Clock> Timer<R> for SinceStart<'a> {
             if now >= due || self.state.is_deaf() || self.state.is_broken() {
                 return;
             }
-            thread::sleep(rt, Duration::from_millis((due - now).min(NAP_MS)));
+            thread::sleep(rt, Duration::from_millis(nap_ms(due, now)));
         }
     }
 }

@@ -1,11 +1,14 @@
 //! The closer: windows are closed as they become due, their lines written, and the shards trimmed.
-ghost use Rattle.std.specs.Prelude.{◌≡◌, ◌≢◌, ◌++◌, Some, false, IsNone, ◌↔◌};
+ghost use Rattle.std.specs.Prelude.{◌≡◌, ◌≢◌, ◌+◌, ◌<◌, ◌≤◌, ◌⊎◌, ◌↔◌, ◌++◌, List, Some, None, true, false, IsNone, IsTrue, IfOk, slice_get, vec_len};
 ghost use Rattle.ns_types.specs.Streams.{AppendsFront};
-ghost use Rattle.ns_workers.specs.Closing.{AreAnswered};
+ghost use Rattle.ns_server.specs.declared.kept.Receipt.{Receipt as receipt};
+ghost use Rattle.ns_workers.specs.declared.job.CloseJob.{CloseJob as close_job};
+ghost use Rattle.ns_workers.specs.Closing.{AreAnswered, AreClosed};
 ghost use Rattle.ns_workers.specs.Counts.{RisesByReceipts};
 ghost use Rattle.ns_workers.specs.Lines.{up_lines};
+ghost use Rattle.ns_serve.specs.Turns.{HasReceipts, IsTurn, IsTurnWith};
 
-use crate::clock::{SinceStart, now_ms};
+use crate::clock::{SinceStart, nap_ms, now_ms};
 use crate::events::Events;
 use crate::held::Held;
 use crate::options::ServeFault;
@@ -31,6 +34,13 @@ pub(crate) const ROOM: usize = AT_A_TIME * 1025;
 // How long the closer waits at most before it looks whether the server stops and whether shards are to be trimmed.
 const NAP_MS: u64 = 100;
 
+// Whether a time has come. Once no gateway worker is left every time has, since no copy can come then.
+fn has_come(due: u64, now: u64, is_deaf: bool) -> bool
+    ensures { IsTrue result ↔ ((due ≤ now) ⊎ (is_deaf ≡ true)) }
+{
+    due <= now || is_deaf
+}
+
 /// The windows that are to be closed, in the order in which they were opened.
 #[derive(Drop)]
 pub(crate) struct Closings<'a> {
@@ -53,7 +63,9 @@ pub(crate) enum Turn {
 
 impl<'a> Closings<'a> {
     /// The windows that come by a channel.
-    pub fn new(state: &'a State, receiver: Receiver<CloseJob>) -> Closings<'a> {
+    pub fn new(state: &'a State, receiver: Receiver<CloseJob>) -> Closings<'a>
+        ensures { result.held ≡ None }
+    {
         Closings {
             state,
             receiver,
@@ -62,49 +74,69 @@ impl<'a> Closings<'a> {
     }
 
     /// What is to be done next: it is waited for a while.
-    pub fn next<R: Wait + Clock>(&mut self, rt: &R, alloc: Global) -> Result<Turn, AllocError> {
+    #[tactic(auto, using(crate::proofs::TurnLemmas::turn_held, crate::proofs::TurnLemmas::turn_new))]
+    pub fn next<R: Wait + Clock>(&mut self, rt: &R, alloc: Global) -> Result<Turn, AllocError>
+        ensures { IfOk result (IsTurn self.old.held self.new.held) }
+    {
         if self.state.is_over() {
             return Ok(Turn::End);
         }
-        let first = match self.held.take() {
-            Some(job) => job,
-            None => match self
-                .receiver
-                .recv_timeout(rt, Duration::from_millis(NAP_MS))
-            {
-                Ok(job) => job,
-                Err(RecvTimeoutError::Timeout) => return Ok(Turn::Idle),
-                Err(RecvTimeoutError::Disconnected) => return Ok(Turn::End),
-            },
-        };
+        if let Some(first) = self.held.take() {
+            return self.turn_with(rt, alloc, first);
+        }
+        match self
+            .receiver
+            .recv_timeout(rt, Duration::from_millis(NAP_MS))
+        {
+            Ok(first) => self.turn_with(rt, alloc, first),
+            Err(RecvTimeoutError::Timeout) => Ok(Turn::Idle),
+            Err(RecvTimeoutError::Disconnected) => Ok(Turn::End),
+        }
+    }
+
+    // What is to be done where this job is the next one.
+    fn turn_with<R: Wait + Clock>(
+        &mut self,
+        rt: &R,
+        alloc: Global,
+        first: CloseJob,
+    ) -> Result<Turn, AllocError>
+        requires { self.old.held ≡ None }
+        ensures { IfOk result (IsTurnWith first self.new.held) }
+    {
         if !self.comes(rt, first.due) {
             self.held = Some(first);
             return Ok(Turn::Idle);
         }
-        self.batch(rt, alloc, first)
+        Ok(Turn::Close(self.batch(rt, alloc, first)?))
     }
 
-    // Waits a while for a time, and says whether it has come. Once no gateway worker is left every time has, since no copy can come then.
+    // Waits a while for a time, and says whether it has come.
     fn comes<R: Clock>(&self, rt: &R, due: u64) -> bool {
         let now = now_ms(rt, self.state);
-        if due > now && !self.state.is_deaf() {
-            thread::sleep(rt, Duration::from_millis((due - now).min(NAP_MS)));
+        if !has_come(due, now, self.state.is_deaf()) {
+            thread::sleep(rt, Duration::from_millis(nap_ms(due, now)));
         }
         self.is_due(rt, due)
     }
 
     // Whether a time has come.
     fn is_due<R: Clock>(&self, rt: &R, due: u64) -> bool {
-        due <= now_ms(rt, self.state) || self.state.is_deaf()
+        has_come(due, now_ms(rt, self.state), self.state.is_deaf())
     }
 
     // This job, which is due, and those behind it that are.
+    #[tactic(auto, using(crate::proofs::TurnLemmas::first_stays))]
     fn batch<R: Wait + Clock>(
         &mut self,
         rt: &R,
         alloc: Global,
         first: CloseJob,
-    ) -> Result<Turn, AllocError> {
+    ) -> Result<Vec<CloseJob>, AllocError>
+        requires { self.old.held ≡ None }
+        ensures count { IfOk result (λ jobs. (0 < vec_len jobs) × (vec_len jobs ≤ 64)) }
+        ensures first { IfOk result (λ jobs. slice_get jobs.items 0 ≡ Some first) }
+    {
         let mut jobs = Vec::with_capacity(alloc, AT_A_TIME)?;
         jobs.push_reserved(first);
         while jobs.len() < AT_A_TIME {
@@ -117,7 +149,7 @@ impl<'a> Closings<'a> {
             }
             jobs.push_reserved(job);
         }
-        Ok(Turn::Close(jobs))
+        Ok(jobs)
     }
 }
 
@@ -134,6 +166,7 @@ pub(crate) fn close_all<B: Naming, R: Wait + Clock + Log>(
     requires { held.old.failed ≡ false }
     ensures lines { result.fault ≢ Some WorkerFault.SinkFailed → held.new.lines.items ≡ held.old.lines.items ++ up_lines result.receipts.items }
     ensures front { AppendsFront (Some held.old.lines.items) (Some held.new.lines.items) (up_lines result.receipts.items) }
+    ensures closed { (taken : List close_job) × AreClosed result.fault result.receipts.items taken }
     ensures answered { AreAnswered B.roster result.receipts.items }
     ensures counted { RisesByReceipts pass.old pass.new result.receipts.items }
 {
@@ -144,7 +177,8 @@ pub(crate) fn close_all<B: Naming, R: Wait + Clock + Log>(
 
 // The fault of a closer whose lines are held in memory: it is want of memory.
 fn fault_of(fault: Option<WorkerFault>) -> Option<ServeFault>
-    ensures { IsNone result ↔ IsNone fault }
+    ensures none { IsNone result ↔ IsNone fault }
+    ensures memory { result ≢ Some ServeFault.Io }
 {
     match fault {
         None => None,
@@ -163,7 +197,8 @@ pub(crate) fn close_and_write<B: Naming, R: Wait + Clock + Log, W: Sink>(
     held: &mut Held,
 ) -> Option<ServeFault>
     requires { held.old.failed ≡ false }
-    ensures { held.new.failed ≡ false }
+    ensures sound { held.new.failed ≡ false }
+    ensures receipts { HasReceipts B.roster pass.old pass.new }
 {
     let (timer, mut down) = (SinceStart { state }, ToSocket { state });
     let ended = close_all(alloc, shared, pass, &timer, &mut down, jobs, held);

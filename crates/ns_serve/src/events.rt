@@ -17,7 +17,7 @@ use std::fmt::Display;
 use std::sync::Wait;
 use std::time::Clock;
 
-/// The replies that are logged with who got them, at the level info once a minute at most.
+/// What is logged once a minute at most: who got each of these replies, at the level info, and receives that failed, at warn.
 #[derive(Drop)]
 pub(crate) struct Seldoms {
     nosession: Seldom,

@@ -1,7 +1,7 @@
 //! What is to be served, and why serving ended.
-ghost use Rattle.std.specs.Prelude.{◌≡◌, ◌↔◌};
+ghost use Rattle.std.specs.Prelude.{◌≡◌};
 ghost use Rattle.ns_serve.specs.declared.options.ServeFault.TheVariants as serve;
-ghost use Rattle.ns_workers.specs.declared.outside.WorkerFault.TheVariants as worker;
+ghost use Rattle.ns_serve.specs.Ends.{serve_fault};
 
 use ns_joinclient::HostName;
 use ns_workers::WorkerFault;
@@ -22,7 +22,7 @@ pub struct ServeOptions<'a> {
     pub workers: usize,
     /// How many workers ask the join server, 1 to 16.
     pub join_workers: usize,
-    /// How long a window stays open, in milliseconds.
+    /// How long a window stays open, in milliseconds. The copies of a Join-Request are waited for as long, but 1 s at most.
     pub window_ms: u32,
     /// After how many datagrams the server stops, if it does.
     pub stop_after: Option<u32>,
@@ -44,7 +44,7 @@ pub enum ServeFault {
 }
 
 impl From<WorkerFault> for ServeFault {
-    ghost from_gives = { λ fault e. (e ≡ serve.NoMemory) ↔ (fault ≡ worker.NoMemory) };
+    ghost from_gives = { λ fault e. e ≡ serve_fault fault };
 
     fn from(fault: WorkerFault) -> ServeFault {
         match fault {

@@ -3,7 +3,7 @@ ghost use Rattle.std.specs.Prelude.{◌≡◌, ◌≢◌, [], false, true, None,
 ghost use Rattle.std.specs.Io.KnownBytes.{Appends, append_known};
 ghost use Rattle.std.specs.Net.Text.{socket_text};
 ghost use Rattle.ns_types.specs.Streams.{AppendsFront};
-ghost use Rattle.ns_serve.specs.Output.{line, settled_line, listening_line};
+ghost use Rattle.ns_serve.specs.Output.{line, settled_line, listening_line, IsPut};
 
 use crate::options::ServeFault;
 use arrayvec::ArrayVec;
@@ -172,12 +172,17 @@ impl<'a, R, W> Stream for Lines<'a, R, W> {
     }
 }
 
-/// Adds whole lines under the lock of the output, and writes them at once.
+/// Adds whole lines under the lock of the output, and writes them at once. The contract has no name for the output under its lock: it
+/// says of some output that it was told these lines, and that its writer has all that it was told.
+#[tactic(auto, using(crate::proofs::OutputLemmas::is_put))]
 pub(crate) fn put_under_lock<R: Wait, W: Sink>(
     rt: &R,
     output: &Mutex<Output<W>>,
     lines: &[u8],
-) -> Result<(), Failed> {
+) -> Result<(), Failed>
+    ensures ok { OnOk result (IsPut W.taken lines.now) }
+    ensures failed { OnErr result ((writer : W) × (W.has_failed writer ≡ true)) }
+{
     let mut guard = output.lock(rt);
     guard.put_at_once(lines)
 }

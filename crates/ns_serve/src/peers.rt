@@ -15,7 +15,7 @@ const MOST: usize = 65_536;
 /// The addresses of at most so many gateways, by their numbers, which are not authenticated. When it is full, the gateway not heard for
 /// longest goes.
 #[derive(Drop)]
-pub(crate) struct Peers {
+pub struct Peers {
     heard: LruCache<u64, SocketAddr, RandomState>,
 }
 

@@ -1,13 +1,20 @@
 //! The threads: each worker from its start to its end.
-ghost use Rattle.std.specs.Prelude.{◌≡◌, ◌+◌, ◌≤◌, ◌⊎◌, ◌↔◌, ◌++◌, ◌∷◌, [], true, vec_len, Some, IsNone, IfOk};
-ghost use Rattle.ns_serve.specs.Ends.{IsWorse};
+ghost use Rattle.std.specs.Prelude.{◌≡◌, ◌+◌, ◌≤◌, ◌⊎◌, ◌++◌, ◌∷◌, [], true, All, vec_len, Some, IsNone, IfOk, IfSome};
+ghost use Rattle.std.specs.Duration.{as_nanos};
+ghost use Rattle.std.specs.Option.{option_map};
+ghost use Rattle.ns_joinclient.specs.Request.{host_text};
+ghost use Rattle.ns_tally.specs.Tally.{none_made};
+ghost use Rattle.ns_workers.specs.Asking.{HasOutcome};
+ghost use Rattle.ns_serve.specs.declared.join_server.ToJoinServer.{ToJoinServer as to_join_server};
+ghost use Rattle.ns_serve.specs.Ends.{serve_fault, IsWorse};
+ghost use Rattle.ns_serve.specs.Turns.{Anything, HasReceipts, IsServed, IsAnswered};
 
 use crate::channels::IntoQueues;
 use crate::clock::SinceStart;
 use crate::closer::{Closings, ROOM, Turn, close_and_write};
 use crate::events::Events;
 use crate::held::Held;
-use crate::join_server::ToJoinServer;
+use crate::join_server::{ToJoinServer, Within};
 use crate::options::{ServeFault, ServeOptions};
 use crate::output::{Lines, Output};
 use crate::queue::FromQueue;
@@ -17,10 +24,11 @@ use crate::trims::{trim_due, trims_of};
 use crossbeam_channel::{Receiver, Sender, unbounded};
 use log::{Log, error};
 use ns_joinclient::HostName;
+use ns_responses::Responses;
 use ns_roster::Roster;
 use ns_server::{Naming, Open, Pass, Server};
-use ns_types::Sink;
-use ns_workers::{CloseJob, Shared, WorkerFault, run_gateway, run_join};
+use ns_types::{Sink, Source, Stream};
+use ns_workers::{CloseJob, Connections, Shared, WorkerFault, run_gateway, run_join};
 use std::alloc::{AllocError, Global};
 use std::net::{Net, SocketAddr, TcpListener, TcpStream};
 use std::sync::atomic::Ordering;
@@ -62,18 +70,27 @@ impl<'a, B: Naming, R, W> Around<'a, B, R, W> {
 struct GatewayKit<B: Naming> {
     pass: Pass<B>,
     closes: Sender<CloseJob>,
+    ghost unused: { pass ≡ none_made },
 }
 
 // What a join worker takes along.
 #[derive(Drop)]
 struct JoinKit<B: Naming> {
     pass: Pass<B>,
+    ghost unused: { pass ≡ none_made },
+}
+
+// What the closer takes along.
+#[derive(Drop)]
+struct CloserKit<B: Naming> {
+    pass: Pass<B>,
+    ghost unused: { pass ≡ none_made },
 }
 
 // What all workers take along.
 #[derive(Drop)]
 struct Kits<B: Naming> {
-    closer: Pass<B>,
+    closer: CloserKit<B>,
     joins: Vec<JoinKit<B>>,
     gateways: Vec<GatewayKit<B>>,
 }
@@ -83,8 +100,13 @@ trait Work<K, O> {
     fn work(&self, kit: K) -> O;
 }
 
-// A pass that came back, and why its worker ended early.
-type Back<B> = (Pass<B>, Option<ServeFault>);
+// A pass that came back, which rose by receipts, and why its worker ended early.
+#[derive(Drop)]
+struct Back<B: Naming> {
+    pass: Pass<B>,
+    fault: Option<ServeFault>,
+    ghost receipts: { ∥ HasReceipts B.roster none_made pass ∥₁ },
+}
 
 impl<'a, B: Naming, R: Wait + Clock + Log, W: Sink> Work<GatewayKit<B>, Back<B>>
     for Around<'a, B, R, W> {
@@ -163,8 +185,7 @@ fn fault_of<R: Log>(
     worker: &'static str,
     fault: Option<WorkerFault>,
 ) -> Option<ServeFault>
-    ensures none { IsNone result ↔ IsNone fault }
-    ensures memory { (result ≡ Some ServeFault.NoMemory) ↔ (fault ≡ Some WorkerFault.NoMemory) }
+    ensures { result ≡ option_map serve_fault fault }
 {
     let fault = fault?;
     match fault {
@@ -177,10 +198,13 @@ fn fault_of<R: Log>(
 }
 
 // One gateway worker, from its start to its end.
+#[tactic(auto, using(crate::proofs::ReceiptLemmas::receipts_served))]
 fn gateway_thread<B: Naming, R: Wait + Clock + Log, W: Sink>(
     around: &Around<'_, B, R, W>,
     kit: GatewayKit<B>,
-) -> Back<B> {
+) -> Back<B>
+    ensures { IsServed B.roster around.now.state.now.window_ms result.pass result.fault }
+{
     let GatewayKit { mut pass, closes } = kit;
     let (rt, state) = (around.rt, around.state);
     let mut datagrams = FromSocket::new(state);
@@ -199,15 +223,25 @@ fn gateway_thread<B: Naming, R: Wait + Clock + Log, W: Sink>(
     );
     let fault = fault_of(rt, state, "gateway worker", served.fault);
     state.gateways.fetch_sub(1, Ordering::SeqCst);
-    (pass, fault)
+    Back { pass, fault }
 }
 
 // One join worker, from its start to its end.
+#[tactic(auto, using(crate::proofs::ReceiptLemmas::receipts_answered))]
 fn join_thread<
+    'a,
     B: Naming,
     R: Wait + Clock + Log + Net<Listener = TcpListener, Stream = TcpStream>,
     W: Sink,
->(around: &Around<'_, B, R, W>, kit: JoinKit<B>) -> Back<B> {
+>(around: &Around<'a, B, R, W>, kit: JoinKit<B>) -> Back<B>
+    ensures { let has_opened = ⟦<ToJoinServer<'a, R> as Connections<R>>⟧.has_opened in
+        let has_none = ⟦<ToJoinServer<'a, R> as Connections<R>>⟧.has_none in
+        let taken = ⟦<Responses<Within<'a, R>> as Sink>⟧.taken in
+        let left = ⟦<Responses<Within<'a, R>> as Source>⟧.left in
+        let has_failed = ⟦<Responses<Within<'a, R>> as Stream>⟧.has_failed in
+        (to : to_join_server R) × (to.addr ≡ around.now.join) × (as_nanos to.limit ≡ 4_000_000_000)
+        × IsAnswered B.roster (HasOutcome taken left has_failed (has_opened to) (has_none to) Anything around.now.roster.now (host_text around.now.host)) result.pass result.fault }
+{
     let JoinKit { mut pass } = kit;
     let (rt, state) = (around.rt, around.state);
     let mut jobs = FromQueue { state };
@@ -225,29 +259,32 @@ fn join_thread<
         around.host,
     );
     let fault = fault_of(rt, state, "join worker", joined.fault);
-    (pass, fault)
+    Back { pass, fault }
 }
 
 // The closer, from its start to its end.
 fn closer_thread<B: Naming, R: Wait + Clock + Log, W: Sink>(
     around: &Around<'_, B, R, W>,
-    pass: Pass<B>,
+    kit: CloserKit<B>,
     closes: Receiver<CloseJob>,
 ) -> Back<B> {
-    let mut pass = pass;
+    let CloserKit { mut pass } = kit;
     let fault = close_to_end(around, &mut pass, closes);
     if fault.is_some() {
         around.state.break_off();
     }
-    (pass, fault)
+    Back { pass, fault }
 }
 
 // Closes windows until the server stops, and trims the shards that are due.
+#[tactic(auto, using(crate::proofs::ReceiptLemmas::receipts_none, crate::proofs::ReceiptLemmas::receipts_both))]
 fn close_to_end<B: Naming, R: Wait + Clock + Log, W: Sink>(
     around: &Around<'_, B, R, W>,
     pass: &mut Pass<B>,
     closes: Receiver<CloseJob>,
-) -> Option<ServeFault> {
+) -> Option<ServeFault>
+    ensures { HasReceipts B.roster pass.old pass.new }
+{
     let (rt, state, alloc) = (around.rt, around.state, around.alloc);
     let mut closings = Closings::new(state, closes);
     let mut trims = trims_of(around.trim);
@@ -291,6 +328,8 @@ fn close_to_end<B: Naming, R: Wait + Clock + Log, W: Sink>(
 pub(crate) struct Ends<B: Naming> {
     pub passes: Vec<Pass<B>>,
     pub fault: Option<ServeFault>,
+    // Each pass rose by receipts.
+    ghost receipts: { All (λ p. ∥ HasReceipts B.roster none_made p ∥₁) passes.items },
 }
 
 // The fault of a server, with that of one worker more. Want of memory is told before all else.
@@ -308,15 +347,26 @@ fn worse(before: Option<ServeFault>, fault: Option<ServeFault>) -> Option<ServeF
 
 // Keeps a pass that came back, and the fault of its worker.
 fn keep<B: Naming>(ends: &mut Ends<B>, back: Back<B>)
-    ensures none { IsNone ends.new.fault → IsNone ends.old.fault × IsNone back.1 }
-    ensures memory { (ends.old.fault ≡ Some ServeFault.NoMemory) ⊎ (back.1 ≡ Some ServeFault.NoMemory)
+    ensures none { IsNone ends.new.fault → IsNone ends.old.fault × IsNone back.fault }
+    ensures memory { (ends.old.fault ≡ Some ServeFault.NoMemory) ⊎ (back.fault ≡ Some ServeFault.NoMemory)
         → ends.new.fault ≡ Some ServeFault.NoMemory }
-    ensures kept { IsNone ends.new.fault → ends.new.passes.items ≡ ends.old.passes.items ++ back.0 ∷ [] }
+    ensures kept { IsNone ends.new.fault → ends.new.passes.items ≡ ends.old.passes.items ++ back.pass ∷ [] }
 {
-    let (pass, fault) = back;
+    let Back { pass, fault } = back;
     ends.fault = worse(ends.fault, fault);
     if ends.passes.push(pass).is_err() {
         ends.fault = Some(ServeFault::NoMemory);
+    }
+}
+
+// Waits for the ends of these workers, and keeps what they bring back.
+fn join_all<B: Naming, R: Threads + Wait>(
+    rt: &R,
+    ends: &mut Ends<B>,
+    workers: Vec<JoinHandle<Back<B>>>,
+) {
+    for worker in workers {
+        keep(ends, worker.join(rt));
     }
 }
 
@@ -326,8 +376,10 @@ fn join_kits<B: Naming>(
     passes: &mut Vec<Pass<B>>,
     count: usize,
 ) -> Result<Vec<JoinKit<B>>, AllocError>
-    requires { count ≤ vec_len passes.old }
-    ensures { IfOk result (λ kits. (vec_len kits ≡ count) × (vec_len passes.new + count ≡ vec_len passes.old)) }
+    requires count { count ≤ vec_len passes.old }
+    requires unused { All (λ p. p ≡ none_made) passes.old.items }
+    ensures count { IfOk result (λ kits. (vec_len kits ≡ count) × (vec_len passes.new + count ≡ vec_len passes.old)) }
+    ensures unused { All (λ p. p ≡ none_made) passes.new.items }
 {
     let mut kits = Vec::new(alloc);
     while kits.len() < count {
@@ -345,6 +397,7 @@ fn gateway_kits<B: Naming>(
     mut passes: Vec<Pass<B>>,
     closes: Sender<CloseJob>,
 ) -> Result<Vec<GatewayKit<B>>, AllocError>
+    requires { All (λ p. p ≡ none_made) passes.items }
     ensures { IfOk result (λ kits. vec_len kits ≡ vec_len passes) }
 {
     let mut kits = Vec::new(alloc);
@@ -364,13 +417,15 @@ fn kits_of<B: Naming>(
     closes: Sender<CloseJob>,
     options: &ServeOptions<'_>,
 ) -> Result<Kits<B>, AllocError>
-    requires { vec_len passes ≡ options.now.workers + options.now.join_workers + 1 }
+    requires count { vec_len passes ≡ options.now.workers + options.now.join_workers + 1 }
+    requires unused { All (λ p. p ≡ none_made) passes.items }
     ensures joins { IfOk result (λ kits. vec_len kits.joins ≡ options.now.join_workers) }
     ensures gateways { IfOk result (λ kits. vec_len kits.gateways ≡ options.now.workers) }
 {
-    let Some(closer) = passes.pop() else {
+    let Some(pass) = passes.pop() else {
         return Err(AllocError);
     };
+    let closer = CloserKit { pass };
     let joins = join_kits(alloc, &mut passes, options.join_workers)?;
     let gateways = gateway_kits(alloc, passes, closes)?;
     Ok(Kits {
@@ -395,7 +450,9 @@ pub(crate) fn run_all<
     output: &Mutex<Output<W>>,
     options: &ServeOptions<'_>,
 ) -> Result<Ends<B>, AllocError>
-    requires { vec_len passes ≡ options.now.workers + options.now.join_workers + 1 }
+    requires count { vec_len passes ≡ options.now.workers + options.now.join_workers + 1 }
+    requires unused { All (λ p. p ≡ none_made) passes.items }
+    ensures { IfOk result (λ ends. All (λ p. ∥ HasReceipts B.roster none_made p ∥₁) ends.passes.items) }
 {
     let (close_sender, close_receiver) = unbounded::<CloseJob, Global>(alloc)?;
     // The channel stays open until the last gateway worker has ended.
@@ -438,12 +495,8 @@ pub(crate) fn run_all<
         }
         let back = closer_thread(around, closer, close_receiver);
         keep(&mut ends, back);
-        for handle in gateways {
-            keep(&mut ends, handle.join(rt));
-        }
-        for handle in joiners {
-            keep(&mut ends, handle.join(rt));
-        }
+        join_all(rt, &mut ends, gateways);
+        join_all(rt, &mut ends, joiners);
         ends
     });
     Ok(ends)

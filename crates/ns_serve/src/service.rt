@@ -184,6 +184,14 @@ fn written<R: Log, W: Sink>(
     outcome
 }
 
+// Want of memory for something, which is logged.
+fn no_memory<R: Log>(rt: &R, what: &str) -> ServeFault
+    ensures { result ≡ ServeFault.NoMemory }
+{
+    error!(rt; "no memory for {what}");
+    ServeFault::NoMemory
+}
+
 // A server of this many workers, from its start to what it settled.
 fn run_server<
     B: Naming + Send + Sync,
@@ -205,11 +213,17 @@ fn run_server<
     requires passes { B.workers ≡ options.now.workers + options.now.join_workers + 1 }
     requires roster { arc_value roster ≡ B.roster }
 {
-    let known = roster.clone()?;
+    let Ok(known) = roster.clone() else {
+        return Err(no_memory(rt, "the roster"));
+    };
     let count = options.workers + options.join_workers + 1;
-    let (server, passes) = Server::<B>::new(alloc, roster, count, blanks)?;
+    let Ok((server, passes)) = Server::<B>::new(alloc, roster, count, blanks) else {
+        return Err(no_memory(rt, "the shards"));
+    };
     let output = Mutex::new(output);
-    let ends = run_all(rt, alloc, &server, passes, &known, state, &output, options)?;
+    let Ok(ends) = run_all(rt, alloc, &server, passes, &known, state, &output, options) else {
+        return Err(no_memory(rt, "the workers"));
+    };
     let mut output = output.into_inner();
     let closing = options.closing;
     let outcome = settled_of(rt, alloc, &known, state, server, ends, &mut output, closing);
@@ -239,10 +253,19 @@ pub fn serve<
     requires join_workers { (0 < options.now.join_workers) × (options.now.join_workers ≤ 16) }
 {
     let (socket, addr) = listen(rt, options.listen)?;
-    let state = State::new(rt, alloc, socket, addr, &roster, options)?;
+    let state = match State::new(rt, alloc, socket, addr, &roster, options) {
+        Ok(state) => state,
+        Err(why) => {
+            error!(rt; "what all threads share: {why}");
+            return Err(why);
+        }
+    };
     log_start(rt, &roster, addr, options);
     let mut output = Output::new(writer);
-    output.put_listening(alloc, addr)?;
+    if let Err(why) = output.put_listening(alloc, addr) {
+        error!(rt; "the first line: {why}");
+        return Err(why);
+    }
     let count = options.workers as u64 + options.join_workers as u64 + 1;
     let blanks = Blanks::new(count);
     run_server::<Brand, _, _>(rt, alloc, roster, blanks, &state, output, options)

@@ -25,7 +25,7 @@ const BETWEEN_LOOKS: u64 = 64;
 // How long a receive that failed is waited out.
 const FAILURE_MS: u64 = 100;
 
-// After how many failures in a row a worker takes the socket for lost.
+// How many failures in a row a worker waits out. With the next one it takes the socket for lost.
 const MOST_FAILURES: u32 = 100;
 
 /// The datagrams of the socket.
@@ -88,7 +88,7 @@ impl<'a> FromSocket<'a> {
                 Received::Idle
             }
             Without::Lost => {
-                error!(rt; "receiving at {} failed {MOST_FAILURES} times in a row: {error}", state.addr);
+                error!(rt; "receiving at {} failed more than {MOST_FAILURES} times in a row: {error}", state.addr);
                 Received::Failed
             }
         }

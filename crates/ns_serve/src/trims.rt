@@ -13,13 +13,13 @@ use std::alloc::Global;
 use std::sync::Wait;
 
 /// How many places a list of one thing for each shard has.
-pub(crate) const PLACES: usize = SHARDS as usize;
+pub const PLACES: usize = SHARDS as usize;
 
 /// After how many further entries a shard is trimmed, and the marks of the shards' last trims, 0 where there was none.
 #[derive(Clone, Copy)]
-pub(crate) struct Trims {
-    every: u32,
-    marks: [u64; PLACES],
+pub struct Trims {
+    pub every: u32,
+    pub marks: [u64; PLACES],
 }
 
 impl Trims {
@@ -46,7 +46,7 @@ pub(crate) fn trims_of(trim: Option<u32>) -> Option<Trims>
 
 /// What became of a shard that was looked at.
 #[derive(Clone, Copy, Debug, PartialEq, Eq)]
-pub(crate) enum Trimmed {
+pub enum Trimmed {
     /// It was not due.
     NotDue,
     /// It was trimmed, and this is the mark.
@@ -115,9 +115,9 @@ fn mark_after(mark: u64, trimmed: Trimmed) -> u64
     }
 }
 
-/// Trims each shard that is due with so many entries made, under its lock, and drops what comes out. A refused trim is logged, and the
-/// shard stays due.
-pub(crate) fn trim_due<B: Naming, R: Wait + Log>(
+/// Trims each shard that is due with so many entries made in each, under its lock, and drops what comes out. What became of each shard
+/// comes back, and the marks are those of the trims that were made. A refused trim is logged, and the shard stays due.
+pub fn trim_due<B: Naming, R: Wait + Log>(
     rt: &R,
     alloc: Global,
     server: &Server<B>,

@@ -1,0 +1,298 @@
+//! Messages as forwarders send them; expected values are those of the protocol's text and of tools/tests/test_forwarder_bridge.py.
+
+use ns_forwarder::{
+    Clock, ForwarderFault, Kind, Outcome, hand_on, pull_resp, read_item, read_message, read_push,
+    read_tx_ack,
+};
+use ns_link::read_datagram;
+use ns_types::{GatewayId, Target};
+use serde_json::Value;
+use std::test::Fail;
+
+const PUSH: [u8; 14] = [2, 7, 8, 0, 0, 0, 0, 0, 0, 0, 0, 0xa1, b'{', b'}'];
+
+const WRAP: u64 = 1 << 32;
+
+#[test]
+fn a_push_is_read_and_acknowledged(rt: HostRuntime) -> Result<(), Fail> {
+    let message = read_message(&PUSH)?;
+    let head = message.head();
+    assert!(rt; head.kind == Kind::PushData);
+    assert_eq!(rt; head.gateway.0, GatewayId(0xa1).0);
+    assert_eq!(rt; message.body().len(), 2);
+    let ack = head.ack().ok_or("no acknowledgement")?;
+    assert_eq!(rt; ack.as_slice(), [2, 7, 8, 1].as_slice());
+    Ok(())
+}
+
+#[test]
+fn a_pull_of_version_1_is_acknowledged(rt: HostRuntime) -> Result<(), Fail> {
+    let message = read_message(&[1, 9, 10, 2, 0, 0, 0, 0, 0, 0, 0, 0xa2])?;
+    let ack = message.head().ack().ok_or("no acknowledgement")?;
+    assert_eq!(rt; ack.as_slice(), [1, 9, 10, 4].as_slice());
+    Ok(())
+}
+
+#[test]
+fn other_messages_are_refused(rt: HostRuntime) {
+    assert!(rt; matches!(read_message(&[]), Err(ForwarderFault::Short)));
+    assert!(rt;
+        matches!(
+            read_message(&[3, 0, 0, 0, 0, 0, 0, 0, 0, 0, 0, 0]),
+            Err(ForwarderFault::Version)
+        )
+    );
+    assert!(rt;
+        matches!(
+            read_message(&[2, 0, 0, 1, 0, 0, 0, 0, 0, 0, 0, 0]),
+            Err(ForwarderFault::Kind)
+        )
+    );
+    assert!(rt; matches!(read_message(&[0; 16_385]), Err(ForwarderFault::TooLong)));
+}
+
+#[test]
+fn a_counter_is_followed_over_its_wraps(rt: HostRuntime) {
+    let mut clock = Clock::default();
+    assert_eq!(rt; clock.read(4_294_967_286, 0), WRAP - 10);
+    assert_eq!(rt; clock.read(5, 15), WRAP + 5);
+    assert_eq!(rt; clock.read(4_294_967_295, WRAP + 9), 2 * WRAP - 1);
+    assert_eq!(rt; clock.read(0, WRAP + 10), 2 * WRAP);
+}
+
+#[test]
+fn counters_may_come_out_of_order(rt: HostRuntime) {
+    let mut clock = Clock::default();
+    assert_eq!(rt; clock.read(4_294_966_296, 0), WRAP - 1000);
+    assert_eq!(rt; clock.read(500, 2000), WRAP + 500);
+    assert_eq!(rt; clock.read(4_294_966_396, 2100), WRAP - 900);
+    assert_eq!(rt; clock.read(600, 2200), WRAP + 600);
+}
+
+// An item as a forwarder writes it.
+const ITEM: &str =
+    r#"{"tmst":1000000,"chan":0,"rfch":0,"freq":868.1,"stat":1,"modu":"LORA","datr":"SF7BW125","codr":"4/5","rssi":-95,"lsnr":7.5,"size":23,"data":"AAQDAgEEAwIBDQAAAAAAAAABAAEAAAA="}"#;
+
+#[test]
+fn an_item_is_read(rt: HostRuntime) -> Result<(), Fail> {
+    let item = read_item(rt.alloc(), &Value::from_str(rt.alloc(), ITEM)?)?;
+    assert_eq!(rt;
+        (item.counter, item.freq, item.dr),
+        (1_000_000, 868_100_000, 5)
+    );
+    assert_eq!(rt; (item.rssi, item.snr, item.frame.len()), (-950, 75, 23));
+    Ok(())
+}
+
+// A body with the item, and of each kind one that is left out.
+const BODY: &[u8] =
+    br#"{"rxpk":[{"stat":-1},{"tmst":1000000,"freq":868.1,"stat":1,"modu":"LORA","datr":"SF7BW125","rssi":-95,"lsnr":7.5,"data":"AAQDAgEEAwIBDQAAAAAAAAABAAEAAAA="},{"stat":0},{"stat":1,"freq":868.1,"modu":"LORA","datr":"SF7BW500"},7],"stat":{"rxnb":2}}"#;
+
+// The numbers of the faults, two digits each.
+fn numbers(faults: &[ForwarderFault]) -> u64 {
+    let mut told = 0u64;
+    for fault in faults {
+        told = told
+            .wrapping_mul(100)
+            .wrapping_add(u64::from(fault.number()));
+    }
+    told
+}
+
+#[test]
+fn a_push_says_its_frames_and_what_is_left_out(rt: HostRuntime) -> Result<(), Fail> {
+    let push = read_push(rt.alloc(), BODY)?;
+    assert_eq!(rt; push.items.len(), 1);
+    assert_eq!(rt; (push.items[0].freq, push.items[0].dr), (868_100_000, 5));
+    assert_eq!(rt; numbers(push.left_out.as_slice()), 8_09_10_07);
+    Ok(())
+}
+
+#[test]
+fn a_push_without_frames_has_none(rt: HostRuntime) -> Result<(), Fail> {
+    let push = read_push(rt.alloc(), br#"{"stat":{"rxnb":2}}"#)?;
+    assert_eq!(rt; (push.items.len(), push.left_out.len()), (0, 0));
+    Ok(())
+}
+
+#[test]
+fn other_bodies_are_refused(rt: HostRuntime) {
+    for body in [
+        b"".as_slice(),
+        b"[]",
+        b"{",
+        b"{\"rxpk\":7}",
+        b"{\"rxpk\":null}",
+        b"\xff",
+    ] {
+        assert!(rt; matches!(read_push(rt.alloc(), body), Err(ForwarderFault::Body)));
+    }
+}
+
+#[test]
+fn a_list_of_more_than_255_items_is_refused(rt: HostRuntime) -> Result<(), Fail> {
+    for (count, taken) in [(255, true), (256, false)] {
+        let mut body = Vec::new(rt.alloc());
+        body.extend_from_slice(b"{\"rxpk\":[0")?;
+        for _ in 1..count {
+            body.extend_from_slice(b",0")?;
+        }
+        body.extend_from_slice(b"]}")?;
+        match read_push(rt.alloc(), body.as_slice()) {
+            Ok(push) => assert!(rt; taken && push.left_out.len() == 255),
+            Err(fault) => assert!(rt; !taken && fault == ForwarderFault::TooMany),
+        }
+    }
+    Ok(())
+}
+
+#[test]
+fn the_datagram_of_an_item_is_read_back(rt: HostRuntime) -> Result<(), Fail> {
+    let item = read_item(rt.alloc(), &Value::from_str(rt.alloc(), ITEM)?)?;
+    let bytes = item.datagram(rt.alloc(), GatewayId(0xa1), 0x1_0000_0005)?;
+    let datagram = read_datagram(bytes.as_slice())?;
+    assert!(rt; datagram.heard() == item.heard(GatewayId(0xa1), 0x1_0000_0005));
+    assert_eq!(rt; datagram.frame(), item.frame.as_slice());
+    assert_eq!(rt;
+        &bytes.as_slice()[..10],
+        [1, 1, 0, 0, 0, 0, 0, 0, 0, 0xa1].as_slice()
+    );
+    assert_eq!(rt;
+        &bytes.as_slice()[10..28],
+        [
+            0, 0, 0, 1, 0, 0, 0, 5, 0x33, 0xbe, 0x27, 0xa0, 5, 0xfc, 0x4a, 0, 75, 23
+        ]
+        .as_slice()
+    );
+    Ok(())
+}
+
+// Two frames across a wrap of the counter, and an item without a CRC between them.
+const TWO: &[u8] =
+    br#"{"rxpk":[{"tmst":4294967290,"freq":868.1,"stat":1,"modu":"LORA","datr":"SF7BW125","rssi":-95,"lsnr":7.5,"data":"AQ=="},{"stat":0},{"tmst":4,"freq":868.3,"stat":1,"modu":"LORA","datr":"SF9BW125","rssi":-100,"lsnr":-3,"data":"AgM="}]}"#;
+
+#[test]
+fn a_body_becomes_datagrams_that_follow_the_clock(rt: HostRuntime) -> Result<(), Fail> {
+    let mut clock = Clock::default();
+    let handed = hand_on(rt.alloc(), GatewayId(0xa1), TWO, &mut clock, 1000)?;
+    assert_eq!(rt; numbers(handed.left_out.as_slice()), 9);
+    assert_eq!(rt; handed.datagrams.len(), 2);
+    let first = read_datagram(handed.datagrams[0].as_slice())?;
+    assert_eq!(rt;
+        (first.heard().moment, first.heard().freq),
+        (WRAP - 6, 868_100_000)
+    );
+    let second = read_datagram(handed.datagrams[1].as_slice())?;
+    assert_eq!(rt; (second.heard().moment, second.heard().dr), (WRAP + 4, 3));
+    assert_eq!(rt; second.frame(), [2, 3].as_slice());
+    assert_eq!(rt; clock.read(5, 1001), WRAP + 5);
+    Ok(())
+}
+
+#[test]
+fn a_frequency_is_read_from_each_spelling(rt: HostRuntime) -> Result<(), Fail> {
+    for (freq, hertz) in [
+        ("868.1", 868_100_000),
+        ("868.100000", 868_100_000),
+        ("8681e-1", 868_100_000),
+        ("868", 868_000_000),
+        ("867.899999", 867_899_999),
+        ("869.525", 869_525_000),
+    ] {
+        let mut text = String::new(rt.alloc());
+        text.push_str(
+            "{\"tmst\":0,\"stat\":1,\"modu\":\"FSK\",\"datr\":50000,\"rssi\":-7,\"data\":\"AA\",\"freq\":",
+        )?;
+        text.push_str(freq)?;
+        text.push_str("}")?;
+        let item = read_item(rt.alloc(), &Value::from_str(rt.alloc(), text.as_str())?)?;
+        assert_eq!(rt;
+            (item.freq, item.dr, item.snr, item.frame.len()),
+            (hertz, 7, 0, 1)
+        );
+    }
+    Ok(())
+}
+
+const TARGET: Target = Target {
+    gateway: GatewayId(0xa1),
+    moment: 6_001_000,
+    freq: 868_100_000,
+    dr: 5,
+};
+
+#[test]
+fn a_downlink_is_a_pull_resp(rt: HostRuntime) -> Result<(), Fail> {
+    let bytes = pull_resp(rt.alloc(), 2, [7, 8], &TARGET, 14, &[0x60, 4, 3, 2, 1])?;
+    let (head, body) = bytes.as_slice().split_at(4);
+    assert_eq!(rt; head, [2, 7, 8, 3].as_slice());
+    assert_eq!(rt;
+        body,
+        br#"{"txpk":{"codr":"4/5","data":"YAQDAgE=","datr":"SF7BW125","freq":868.1,"imme":false,"ipol":true,"modu":"LORA","ncrc":true,"powe":14,"rfch":0,"size":5,"tmst":6001000}}"#.as_slice()
+    );
+    Ok(())
+}
+
+#[test]
+fn a_downlink_of_fsk_has_a_deviation(rt: HostRuntime) -> Result<(), Fail> {
+    let target = Target {
+        moment: 0x1_0000_0007,
+        dr: 7,
+        ..TARGET
+    };
+    let bytes = pull_resp(rt.alloc(), 1, [0, 0], &target, 27, &[])?;
+    assert_eq!(rt;
+        &bytes.as_slice()[4..],
+        br#"{"txpk":{"data":"","datr":50000,"fdev":25000,"freq":868.1,"imme":false,"modu":"FSK","powe":27,"rfch":0,"size":0,"tmst":7}}"#.as_slice()
+    );
+    Ok(())
+}
+
+#[test]
+fn a_downlink_outside_the_band_is_refused(rt: HostRuntime) {
+    for (freq, dr) in [(862_999_999, 5), (870_000_001, 5), (868_100_000, 8)] {
+        let target = Target { freq, dr, ..TARGET };
+        let refused = pull_resp(rt.alloc(), 2, [0, 0], &target, 14, &[]);
+        assert!(rt; matches!(refused, Err(ForwarderFault::Downlink)));
+    }
+}
+
+#[test]
+fn a_tx_ack_says_what_came_of_a_downlink(rt: HostRuntime) -> Result<(), Fail> {
+    for (body, outcome) in [
+        (b"".as_slice(), Outcome::Sent),
+        (b"\0", Outcome::Sent),
+        (b" \r\n", Outcome::Sent),
+        (br#"{"txpk_ack":{"error":"NONE"}}"#, Outcome::Sent),
+        (br#"{"txpk_ack":{}}"#, Outcome::Sent),
+        (
+            br#"{"txpk_ack":{"warn":"TX_POWER","value":14}}"#,
+            Outcome::Sent,
+        ),
+        (br#"{"txpk_ack":{"error":"TOO_LATE"}}"#, Outcome::TooLate),
+        (br#"{"txpk_ack":{"error":"TOO_EARLY"}}"#, Outcome::TooEarly),
+        (
+            br#"{"txpk_ack":{"error":"COLLISION_PACKET"}}"#,
+            Outcome::CollisionPacket,
+        ),
+        (
+            br#"{"txpk_ack":{"error":"COLLISION_BEACON"}}"#,
+            Outcome::CollisionBeacon,
+        ),
+        (br#"{"txpk_ack":{"error":"TX_FREQ"}}"#, Outcome::TxFreq),
+        (br#"{"txpk_ack":{"error":"TX_POWER"}}"#, Outcome::TxPower),
+        (
+            br#"{"txpk_ack":{"error":"GPS_UNLOCKED"}}"#,
+            Outcome::GpsUnlocked,
+        ),
+        (br#"{"txpk_ack":{"error":"made up"}}"#, Outcome::Other),
+        (br#"{"txpk_ack":{"error":[]}}"#, Outcome::Other),
+        (br#"{"txpk_ack":3}"#, Outcome::Other),
+    ] {
+        assert!(rt; read_tx_ack(rt.alloc(), body)? == outcome);
+    }
+    for body in [b"{".as_slice(), b"[]", b"\xff"] {
+        assert!(rt; matches!(read_tx_ack(rt.alloc(), body), Err(ForwarderFault::Body)));
+    }
+    Ok(())
+}

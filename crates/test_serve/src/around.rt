@@ -1,0 +1,114 @@
+//! A runtime with a logger of its own, and with a clock that a test may hold.
+
+use log::kv::Source;
+use log::span::Spans;
+use log::{Log, Metadata, Record};
+use std::fmt::Display;
+use std::io;
+use std::net::{Net, SocketAddr, UdpSocket};
+use std::sync::Wait;
+use std::sync::atomic::{AtomicU64, Ordering};
+use std::thread::Threads;
+use std::time::{Clock, Duration};
+
+/// A runtime that logs by this logger. Its clock is the runtime's, or stands at a time.
+#[derive(Drop)]
+pub struct Around<R, L> {
+    rt: R,
+    log: L,
+    // The time at which the clock stands, in milliseconds; 0 where it goes on.
+    stands_ms: AtomicU64,
+}
+
+impl<R, L> Around<R, L> {
+    /// This runtime with this logger. The clock stands at this time in milliseconds, or goes on where it is 0.
+    pub fn new(rt: R, log: L, stands_ms: u64) -> Around<R, L> {
+        Around {
+            rt,
+            log,
+            stands_ms: AtomicU64::new(stands_ms),
+        }
+    }
+
+    /// The clock stands at another time.
+    pub fn stand_at(&self, ms: u64) {
+        self.stands_ms.store(ms, Ordering::SeqCst);
+    }
+}
+
+impl<R: Drop, L> Around<R, L> {
+    /// The logger again.
+    pub fn into_log(self) -> L {
+        let Around {
+            rt: _,
+            log,
+            stands_ms: _,
+        } = self;
+        log
+    }
+}
+
+impl<R: Wait, L> Wait for Around<R, L> {}
+
+impl<R: Threads, L> Threads for Around<R, L> {}
+
+impl<R: Clock, L> Clock for Around<R, L> {
+    fn monotonic(&self) -> io::Result<Duration> {
+        match self.stands_ms.load(Ordering::SeqCst) {
+            0 => self.rt.monotonic(),
+            ms => Ok(Duration::from_millis(ms)),
+        }
+    }
+
+    fn since_1970(&self) -> io::Result<Duration> {
+        self.rt.since_1970()
+    }
+
+    fn sleep(&self, duration: Duration) {
+        self.rt.sleep(duration)
+    }
+}
+
+impl<R: Net, L> Net for Around<R, L> {
+    type Stream = R::Stream;
+
+    type Listener = R::Listener;
+
+    fn bind(&self, addr: SocketAddr) -> io::Result<R::Listener> {
+        self.rt.bind(addr)
+    }
+
+    fn connect(&self, addr: SocketAddr) -> io::Result<R::Stream> {
+        self.rt.connect(addr)
+    }
+
+    fn connect_timeout(&self, addr: SocketAddr, timeout: Duration) -> io::Result<R::Stream> {
+        self.rt.connect_timeout(addr, timeout)
+    }
+
+    fn bind_udp(&self, addr: SocketAddr) -> io::Result<UdpSocket> {
+        self.rt.bind_udp(addr)
+    }
+}
+
+impl<R, L: Log> Log for Around<R, L> {
+    ghost enables = { λ s level target. L.enables s.log level target };
+
+    ghost target_of = { λ s. L.target_of s.log };
+
+    fn enabled(&self, metadata: &Metadata<'_>) -> bool {
+        self.log.enabled(metadata)
+    }
+
+    fn log<D: Display, K: Source, S: Spans>(&self, record: &Record<'_, D, K, S>) {
+        self.log.log(record);
+    }
+
+    fn flush(&self) {
+        self.log.flush();
+    }
+
+    fn target(&self) -> &str {
+        self.log.target()
+    }
+}

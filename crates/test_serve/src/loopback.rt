@@ -1,0 +1,263 @@
+//! Servers over loopback: a join and an uplink, the longest datagram and line, a gateway that moves, windows drained at the end, two join
+//! workers, and an output that fails.
+ghost use Rattle.std.specs.Prelude.{None};
+
+use crate::parties::{
+    ROSTER_A, ROSTER_B, asked, device_of, front, front_later, heard, joined, sent, socket_to,
+};
+use crate::trial::{Play, Trial, tried};
+use ns_serve::ServeFault;
+use ns_types::{DevEui, DevNonce, Failed, OverStd, Sink, Stream};
+use std::alloc::Global;
+use std::net::Net;
+use std::test::*;
+use std::time::{Clock, Duration, Instant};
+
+// A device behind two gateways joins and sends one uplink; then comes one byte. How many bytes the Join-Accept's datagram had.
+#[derive(Clone, Copy)]
+struct OneDevice;
+
+impl<R: Clock + Net> Play<R> for OneDevice {
+    fn play(&self, rt: &R, alloc: Global, port: u16) -> Option<usize> {
+        let socket = socket_to(rt, port)?;
+        let (near, far) = (front(0xa1), front_later(0xa2));
+        let mut device = device_of(DevEui(13));
+        let request = heard(alloc, &near, &device.join_request(DevNonce(1)))?;
+        let mut buf = [0u8; 512];
+        let n = asked(rt, &socket, request.as_slice(), &mut buf)?;
+        device.accept(DevNonce(1), buf.get(28..n)?).ok()?;
+        let mut room = [0u8; 64];
+        let frame = device.uplink(0, false, Some(1), b"test", &mut room).ok()?;
+        for head in [&near, &far] {
+            let datagram = heard(alloc, head, frame)?;
+            socket.send(datagram.as_slice()).ok()?;
+        }
+        socket.send(&[0]).ok()?;
+        Some(n)
+    }
+}
+
+/// A join is answered, an uplink that two gateways hear goes out with two copies, all entries are counted, and the closing roster has
+/// the nonce of the join.
+#[test]
+fn one_device_over_loopback(rt: HostRuntime) -> Result<(), Fail> {
+    let alloc: Global = rt.alloc();
+    let trial = Trial {
+        roster: ROSTER_A,
+        port: 17001,
+        join_workers: 1,
+        window_ms: 2000,
+        stop_after: Some(4),
+        joins: 1,
+        closing: true,
+    };
+    let mut output: Vec<u8> = Vec::new(alloc);
+    let (total, bytes) = tried(&rt, alloc, &trial, OverStd::new(&mut output), &OneDevice)?;
+    assert_eq!(rt; (total, bytes), (Ok(5), Some(45)));
+    let want =
+        b"listening 127.0.0.1:17001\nup 000000000000000d 1 0 1 plain - 74657374 2 00000000000000a1,00000000000000a2\nsettled 5\n{\"devices\":[{\"dev_eui\":\"000000000000000d\",\"join_eui\":\"0102030401020304\",\"last_nonce\":1,\"slot\":1998321}],\"net_id\":\"000024\",\"rx1_offset\":0,\"rx_delay\":1,\"version\":2}\n";
+    assert_eq!(rt; output.as_slice(), want.as_slice());
+    Ok(())
+}
+
+// A device joins, and sixteen gateways hear an uplink with the longest payload.
+#[derive(Clone, Copy)]
+struct Longest;
+
+impl<R: Clock + Net> Play<R> for Longest {
+    fn play(&self, rt: &R, alloc: Global, port: u16) -> Option<usize> {
+        let socket = socket_to(rt, port)?;
+        let device = joined(rt, alloc, &socket, DevEui(13), 0xa0)?;
+        let mut room = [0u8; 256];
+        let frame = device
+            .uplink(65_535, false, Some(223), &[0x5a; 242], &mut room)
+            .ok()?;
+        let mut longest = 0;
+        for gateway in 0xa0..0xb0 {
+            let datagram = heard(alloc, &front(gateway), frame)?;
+            longest = datagram.len();
+            socket.send(datagram.as_slice()).ok()?;
+        }
+        socket.send(&[0]).ok()?;
+        Some(longest)
+    }
+}
+
+/// A datagram of 283 bytes is read whole, and its line of 800 bytes is written whole.
+#[test]
+fn longest_datagram_and_line(rt: HostRuntime) -> Result<(), Fail> {
+    let alloc: Global = rt.alloc();
+    let trial = Trial {
+        roster: ROSTER_A,
+        port: 17011,
+        join_workers: 1,
+        window_ms: 1000,
+        stop_after: Some(18),
+        joins: 1,
+        closing: false,
+    };
+    let mut output: Vec<u8> = Vec::new(alloc);
+    let (total, bytes) = tried(&rt, alloc, &trial, OverStd::new(&mut output), &Longest)?;
+    assert_eq!(rt; (total, bytes), (Ok(19), Some(283)));
+    let mut want: Vec<u8> = Vec::new(alloc);
+    want.extend_from_slice(b"listening 127.0.0.1:17011\nup 000000000000000d 1 65535 223 plain - ")?;
+    for _ in 0..242 {
+        want.extend_from_slice(b"5a")?;
+    }
+    want.extend_from_slice(
+        b" 16 00000000000000a0,00000000000000a1,00000000000000a2,00000000000000a3,00000000000000a4,00000000000000a5,00000000000000a6,00000000000000a7,00000000000000a8,00000000000000a9,00000000000000aa,00000000000000ab,00000000000000ac,00000000000000ad,00000000000000ae,00000000000000af\nsettled 19\n",
+    )?;
+    assert_eq!(rt; want.len(), 26 + 800 + 11);
+    assert_eq!(rt; output.as_slice(), want.as_slice());
+    Ok(())
+}
+
+// A device joins by one socket of a gateway, and sends a confirmed uplink by another. How many bytes come back by that.
+#[derive(Clone, Copy)]
+struct Moved;
+
+impl<R: Clock + Net> Play<R> for Moved {
+    fn play(&self, rt: &R, alloc: Global, port: u16) -> Option<usize> {
+        let first = socket_to(rt, port)?;
+        let second = socket_to(rt, port)?;
+        let device = joined(rt, alloc, &first, DevEui(13), 0xa1)?;
+        let mut room = [0u8; 64];
+        let frame = device.uplink(0, true, Some(1), b"test", &mut room).ok()?;
+        let datagram = heard(alloc, &front(0xa1), frame)?;
+        second.send(datagram.as_slice()).ok()?;
+        let mut buf = [0u8; 512];
+        second.recv(&mut buf).ok()
+    }
+}
+
+/// A window that is open at the end is closed: its acknowledgement goes to where its gateway was heard last, and its line is written.
+#[test]
+fn last_window_is_acknowledged(rt: HostRuntime) -> Result<(), Fail> {
+    let alloc: Global = rt.alloc();
+    let trial = Trial {
+        roster: ROSTER_A,
+        port: 17013,
+        join_workers: 1,
+        window_ms: 1000,
+        stop_after: Some(2),
+        joins: 1,
+        closing: false,
+    };
+    let mut output: Vec<u8> = Vec::new(alloc);
+    let (total, bytes) = tried(&rt, alloc, &trial, OverStd::new(&mut output), &Moved)?;
+    assert_eq!(rt; (total, bytes), (Ok(4), Some(40)));
+    let want =
+        b"listening 127.0.0.1:17013\nup 000000000000000d 1 0 1 plain - 74657374 1 00000000000000a1\nsettled 4\n";
+    assert_eq!(rt; output.as_slice(), want.as_slice());
+    Ok(())
+}
+
+// Two devices ask to join at a time. How many bytes the two Join-Accepts have.
+#[derive(Clone, Copy)]
+struct TwoJoins;
+
+impl<R: Clock + Net> Play<R> for TwoJoins {
+    fn play(&self, rt: &R, alloc: Global, port: u16) -> Option<usize> {
+        let near = socket_to(rt, port)?;
+        let far = socket_to(rt, port)?;
+        let devices = [(&near, 13, 0xa1), (&far, 14, 0xa2)];
+        for (socket, eui, gateway) in devices {
+            let device = device_of(DevEui(eui));
+            let request = heard(alloc, &front(gateway), &device.join_request(DevNonce(1)))?;
+            sent(rt, socket, request.as_slice())?;
+        }
+        let mut buf = [0u8; 512];
+        let bytes = near.recv(&mut buf).ok()? + far.recv(&mut buf).ok()?;
+        near.send(&[0]).ok()?;
+        Some(bytes)
+    }
+}
+
+/// Two join workers ask the join server at the same time.
+#[test]
+fn two_are_asked_about_at_a_time(rt: HostRuntime) -> Result<(), Fail> {
+    let alloc: Global = rt.alloc();
+    let trial = Trial {
+        roster: ROSTER_B,
+        port: 17015,
+        join_workers: 2,
+        window_ms: 500,
+        stop_after: Some(3),
+        joins: 2,
+        closing: false,
+    };
+    let mut output: Vec<u8> = Vec::new(alloc);
+    let (total, bytes) = tried(&rt, alloc, &trial, OverStd::new(&mut output), &TwoJoins)?;
+    assert_eq!(rt; (total, bytes), (Ok(4), Some(90)));
+    Ok(())
+}
+
+// A writer that takes so many texts, and then fails.
+#[derive(Drop)]
+struct Failing {
+    texts: u32,
+    failed: bool,
+}
+
+impl Stream for Failing {
+    ghost has_failed = { λ s. s.failed };
+
+    fn failed(&self) -> bool {
+        self.failed
+    }
+}
+
+impl Sink for Failing {
+    ghost taken = { λ _. None };
+
+    fn write(&mut self, bytes: &[u8]) -> Result<usize, Failed> {
+        if self.texts == 0 || bytes.is_empty() {
+            self.failed = true;
+            return Err(Failed);
+        }
+        self.texts -= 1;
+        Ok(bytes.len())
+    }
+}
+
+// A device joins within 1,000 ms, which a longer window than that of 100 ms does not allow, and sends an uplink.
+#[derive(Clone, Copy)]
+struct OneUplink;
+
+impl<R: Clock + Net> Play<R> for OneUplink {
+    fn play(&self, rt: &R, alloc: Global, port: u16) -> Option<usize> {
+        let socket = socket_to(rt, port)?;
+        let start = Instant::now(rt).ok()?;
+        let device = joined(rt, alloc, &socket, DevEui(13), 0xa1)?;
+        if start.elapsed(rt).ok()? >= Duration::from_millis(1000) {
+            return None;
+        }
+        let mut room = [0u8; 64];
+        let frame = device.uplink(0, false, Some(1), b"test", &mut room).ok()?;
+        socket
+            .send(heard(alloc, &front(0xa1), frame)?.as_slice())
+            .ok()
+    }
+}
+
+/// A server that is not told when to stop ends with `Io` where its output fails.
+#[test]
+fn failed_output_ends_the_server(rt: HostRuntime) -> Result<(), Fail> {
+    let alloc: Global = rt.alloc();
+    let trial = Trial {
+        roster: ROSTER_A,
+        port: 17017,
+        join_workers: 1,
+        window_ms: 100,
+        stop_after: None,
+        joins: 1,
+        closing: false,
+    };
+    let writer = Failing {
+        texts: 1,
+        failed: false,
+    };
+    let (total, bytes) = tried(&rt, alloc, &trial, writer, &OneUplink)?;
+    assert_eq!(rt; (total, bytes), (Err(ServeFault::Io), Some(45)));
+    Ok(())
+}

@@ -1,0 +1,203 @@
+//! Those around a server over loopback: gateways, devices and a join server.
+
+use ns_types::{DevEui, DevNonce, JoinEui, Key};
+use std::alloc::Global;
+use std::io::{ErrorKind, Read, Write};
+use std::net::{Net, SocketAddr, TcpListener, TcpStream, UdpSocket};
+use std::thread;
+use std::time::{Clock, Duration};
+use test_device::{TestDevice, TestJoinServer};
+
+/// A roster with the device 13.
+pub const ROSTER_A: &str =
+    r#"{"version":1,"net_id":"000024","rx1_offset":0,"rx_delay":1,"devices":[{"dev_eui":"000000000000000d","join_eui":"0102030401020304","slot":1998321}]}"#;
+
+/// A roster with the devices 13 and 14.
+pub const ROSTER_B: &str =
+    r#"{"version":1,"net_id":"000024","rx1_offset":0,"rx_delay":1,"devices":[{"dev_eui":"000000000000000d","join_eui":"0102030401020304","slot":1998321},{"dev_eui":"000000000000000e","join_eui":"0102030401020304","slot":1998322}]}"#;
+
+/// The AppKey of both.
+const APP_KEY: Key = Key([7; 16]);
+
+// How often a peer tries again, with a sleep of 10 ms before each time.
+const TRIES: u32 = 500;
+
+/// Sleeps for 10 ms.
+pub fn nap<R: Clock>(rt: &R) {
+    let _ = thread::sleep(rt, Duration::from_millis(10));
+}
+
+/// A device that has not joined.
+pub fn device_of(eui: DevEui) -> TestDevice {
+    TestDevice::new(eui, JoinEui(0x0102_0304_0102_0304), APP_KEY)
+}
+
+/// What a gateway of this number hears at 868.1 MHz, DR5, before the frame.
+pub fn front(gateway: u8) -> [u8; 27] {
+    [
+        1, 1, 0, 0, 0, 0, 0, 0, 0, gateway, 0, 0, 0, 0, 0, 0x0f, 0x42, 0x40, 0x33, 0xbe, 0x27,
+        0xa0, 5, 0xfc, 0x4a, 0, 0x4b,
+    ]
+}
+
+/// The same 1 ms later, with a greater SNR.
+pub fn front_later(gateway: u8) -> [u8; 27] {
+    [
+        1, 1, 0, 0, 0, 0, 0, 0, 0, gateway, 0, 0, 0, 0, 0, 0x0f, 0x46, 0x28, 0x33, 0xbe, 0x27,
+        0xa0, 5, 0xfc, 0x18, 0, 0x50,
+    ]
+}
+
+/// An address of this host.
+pub fn local(port: u16) -> SocketAddr {
+    SocketAddr::from(([127, 0, 0, 1], port))
+}
+
+/// A socket of a gateway, whose receives wait five seconds.
+pub fn socket_to<R: Net>(rt: &R, port: u16) -> Option<UdpSocket> {
+    let socket = UdpSocket::bind(rt, local(0)).ok()?;
+    socket.connect(local(port)).ok()?;
+    socket
+        .set_read_timeout(Some(Duration::from_millis(5000)))
+        .ok()?;
+    Some(socket)
+}
+
+// The connection that comes within five seconds.
+fn accepted<R: Clock>(rt: &R, listener: &TcpListener) -> Option<TcpStream> {
+    for _ in 0..TRIES {
+        if let Ok((stream, _)) = listener.accept() {
+            return Some(stream);
+        }
+        nap(rt);
+    }
+    None
+}
+
+// Where the body of a request begins.
+fn body_start(bytes: &[u8]) -> Option<usize> {
+    for i in 0..bytes.len() {
+        if bytes[i..].starts_with(b"\r\n\r\n") {
+            return Some(i + 4);
+        }
+    }
+    None
+}
+
+// Reads a JoinReq of 281 bytes behind its head, and answers it.
+fn answer(alloc: Global, stream: &TcpStream, server: &mut TestJoinServer) -> Option<()> {
+    let mut bytes: Vec<u8> = Vec::new(alloc);
+    let mut buf = [0u8; 1024];
+    for _ in 0..TRIES {
+        let n = { stream }.read(&mut buf).ok()?;
+        bytes.extend_from_slice(&buf[..n]).ok()?;
+        let Some(start) = body_start(bytes.as_slice()) else {
+            continue;
+        };
+        let Some(body) = bytes.as_slice().get(start..) else {
+            continue;
+        };
+        if body.len() >= 281 {
+            let text = server.reply(alloc, body).ok()?;
+            let head = format!(in alloc;
+                "HTTP/1.1 200 OK\r\nContent-Length: {}\r\n\r\n",
+                text.len()
+            ).ok()?;
+            { stream }.write_all(head.as_bytes()).ok()?;
+            { stream }.write_all(text.as_bytes()).ok()?;
+            return Some(());
+        }
+    }
+    None
+}
+
+/// A join server that answers so many connections once all of them have come.
+pub fn join_server<R: Clock>(
+    rt: &R,
+    alloc: Global,
+    listener: &TcpListener,
+    count: usize,
+) -> Option<()> {
+    listener.set_nonblocking(true).ok()?;
+    let mut server = TestJoinServer::new(alloc);
+    server.add(DevEui(13), APP_KEY).ok()?;
+    server.add(DevEui(14), APP_KEY).ok()?;
+    let mut streams: Vec<TcpStream> = Vec::new(alloc);
+    for _connection in 0..count {
+        streams.push(accepted(rt, listener)?).ok()?;
+    }
+    for stream in &streams {
+        answer(alloc, stream, &mut server)?;
+    }
+    Some(())
+}
+
+/// The datagram of a frame behind the front of one.
+pub fn heard(alloc: Global, head: &[u8; 27], frame: &[u8]) -> Option<Vec<u8>> {
+    let mut bytes = Vec::from_slice(alloc, head).ok()?;
+    bytes.push(u8::try_from(frame.len()).unwrap_or(0)).ok()?;
+    bytes.extend_from_slice(frame).ok()?;
+    Some(bytes)
+}
+
+/// Sends a datagram until the server is there, and gives what comes back within five seconds.
+pub fn asked<R: Clock>(
+    rt: &R,
+    socket: &UdpSocket,
+    datagram: &[u8],
+    buf: &mut [u8],
+) -> Option<usize> {
+    socket
+        .set_read_timeout(Some(Duration::from_millis(5000)))
+        .ok()?;
+    for _ in 0..TRIES {
+        let _ = socket.send(datagram);
+        match socket.recv(buf) {
+            Ok(n) => return Some(n),
+            Err(error) => {
+                if error.kind() != ErrorKind::ConnectionRefused {
+                    return None;
+                }
+            }
+        }
+        nap(rt);
+    }
+    None
+}
+
+/// A device that has joined by this gateway.
+pub fn joined<R: Clock>(
+    rt: &R,
+    alloc: Global,
+    socket: &UdpSocket,
+    eui: DevEui,
+    gateway: u8,
+) -> Option<TestDevice> {
+    let mut device = device_of(eui);
+    let request = heard(alloc, &front(gateway), &device.join_request(DevNonce(1)))?;
+    let mut buf = [0u8; 512];
+    let n = asked(rt, socket, request.as_slice(), &mut buf)?;
+    device.accept(DevNonce(1), buf.get(28..n)?).ok()?;
+    Some(device)
+}
+
+/// Sends a datagram until the server is there to take it.
+pub fn sent<R: Clock>(rt: &R, socket: &UdpSocket, datagram: &[u8]) -> Option<()> {
+    let mut buf = [0u8; 1];
+    for _ in 0..TRIES {
+        socket
+            .set_read_timeout(Some(Duration::from_millis(20)))
+            .ok()?;
+        let _ = socket.send(datagram);
+        if let Err(error) = socket.recv(&mut buf) {
+            if error.kind() != ErrorKind::ConnectionRefused {
+                socket
+                    .set_read_timeout(Some(Duration::from_millis(5000)))
+                    .ok()?;
+                return Some(());
+            }
+        }
+        nap(rt);
+    }
+    None
+}

@@ -1,0 +1,102 @@
+//! A server of one gateway worker, with those around it.
+
+use crate::parties::{join_server, local};
+use log::Log;
+use ns_joinclient::HostName;
+use ns_roster::Roster;
+use ns_serve::{ServeFault, ServeOptions, serve};
+use ns_types::Sink;
+use std::alloc::Global;
+use std::net::{Net, SocketAddr, TcpListener, TcpStream};
+use std::sync::{Arc, Wait};
+use std::test::*;
+use std::thread;
+use std::thread::Threads;
+use std::time::Clock;
+
+/// What a server and the join server do.
+#[derive(Clone, Copy)]
+pub struct Trial {
+    pub roster: &'static str,
+    /// The gateways' port.
+    pub port: u16,
+    pub join_workers: usize,
+    pub window_ms: u32,
+    pub stop_after: Option<u32>,
+    /// How many devices ask to join at a time.
+    pub joins: usize,
+    pub closing: bool,
+}
+
+// Where the join server of a trial listens: behind the gateways' port.
+fn join_addr(trial: &Trial) -> SocketAddr {
+    local(trial.port.saturating_add(1))
+}
+
+/// The roster of a trial.
+pub fn roster_of(alloc: Global, trial: &Trial) -> Result<Arc<Roster>, Fail> {
+    Ok(Arc::new(alloc, Roster::read(alloc, trial.roster.as_bytes())?)?)
+}
+
+/// Serves a trial with this writer.
+pub fn served<
+    R: Threads + Wait + Clock + Net<Listener = TcpListener, Stream = TcpStream> + Log + Sync,
+    W: Sink + Send + Drop,
+>(
+    rt: &R,
+    alloc: Global,
+    trial: &Trial,
+    roster: Arc<Roster>,
+    writer: W,
+) -> Result<u128, ServeFault> {
+    let Some(host) = HostName::new("js.local") else {
+        return Err(ServeFault::Io);
+    };
+    let options = ServeOptions {
+        join: join_addr(trial),
+        host,
+        listen: local(trial.port),
+        workers: 1,
+        join_workers: trial.join_workers.max(1).min(16),
+        window_ms: trial.window_ms,
+        stop_after: trial.stop_after,
+        trim: Some(1),
+        closing: trial.closing,
+    };
+    serve(rt, alloc, roster, &options, writer)
+}
+
+/// What gateways and devices do while a server runs, at this port. How many bytes came of it.
+pub trait Play<R> {
+    fn play(&self, rt: &R, alloc: Global, port: u16) -> Option<usize>;
+}
+
+/// Runs a trial, with a join server and these gateways beside the server.
+pub fn tried<
+    R: Threads + Wait + Clock + Net<Listener = TcpListener, Stream = TcpStream> + Log + Sync,
+    W: Sink + Send + Drop,
+    P: Play<R> + Sync,
+>(
+    rt: &R,
+    alloc: Global,
+    trial: &Trial,
+    writer: W,
+    play: &P,
+) -> Result<(Result<u128, ServeFault>, Option<usize>), Fail> {
+    let roster = roster_of(alloc, trial)?;
+    let Ok(listener) = TcpListener::bind(rt, join_addr(trial)) else {
+        return Err(Fail::from("no listener"));
+    };
+    let (total, (_, bytes)) = thread::join(
+        rt,
+        || served(rt, alloc, trial, roster, writer),
+        || {
+            thread::join(
+                rt,
+                || join_server(rt, alloc, &listener, trial.joins),
+                || play.play(rt, alloc, trial.port),
+            )
+        },
+    );
+    Ok((total, bytes))
+}

@@ -1,0 +1,180 @@
+//! Trims of a running server: when they come, and what a refused one leaves.
+
+ghost use Rattle.std.specs.Prelude.{◌≡◌};
+ghost use Rattle.std.specs.Arc.{arc_value};
+ghost use Rattle.ns_tally.specs.Tally.{AreNamed};
+
+use crate::parties::ROSTER_A;
+use log::Log;
+use ns_calls::Call;
+use ns_roster::Roster;
+use ns_serve::{PLACES, Trims, trim_due};
+use ns_server::{Naming, Open, Pass, Receipt, Server};
+use ns_tally::Blanks;
+use ns_types::{BLOCKS, DevEui, GatewayId, Heard, Ticket, WindowName, take_all};
+use std::alloc::{AllocError, Global};
+use std::marker::Brand;
+use std::process::Abort;
+use std::sync::{Arc, Wait};
+use std::test::*;
+
+fn roster_a(alloc: Global) -> Result<Arc<Roster>, Fail> {
+    Ok(Arc::new(alloc, Roster::read(alloc, ROSTER_A.as_bytes())?)?)
+}
+
+// One entry more in a shard.
+fn add_one(made: &mut [u64; PLACES], shard: u8) {
+    if let Some(count) = made.get_mut(usize::from(shard)) {
+        *count = count.saturating_add(1);
+    }
+}
+
+// Makes so many closings of a window that is not open, in this shard.
+fn closings<B: Naming, R: Wait>(
+    rt: &R,
+    server: &Server<B>,
+    pass: &mut Pass<B>,
+    made: &mut [u64; PLACES],
+    shard: u8,
+    count: u32,
+) -> Result<(), AllocError> {
+    let window = WindowName {
+        eui: DevEui(u64::from(shard)),
+        session: 1,
+        fcnt: 2,
+        round: 1,
+    };
+    for _ in 0..count {
+        let receipt = server.call(rt, pass, Call::Close { window }, &Open)?;
+        add_one(made, receipt.shard);
+    }
+    Ok(())
+}
+
+// Makes so many entries in two shards by turns, and looks after each turn whether a trim is due, with 4 entries between two trims.
+fn trim_by_turns<B: Naming, R: Wait + Log>(
+    rt: &R,
+    alloc: Global,
+    server: &Server<B>,
+    pass: &mut Pass<B>,
+) -> Result<(), AllocError> {
+    let mut trims = Trims::new(4);
+    let mut made = [0; PLACES];
+    for (shard, count) in [(13, 3), (13, 1), (12, 3), (13, 3)] {
+        closings(rt, server, pass, &mut made, shard, count)?;
+        let _ = trim_due(rt, alloc, server, &mut trims, &made);
+    }
+    Ok(())
+}
+
+/// A shard is trimmed once so many entries were made since its last trim, not one entry earlier or later, and no other shard with it.
+/// All entries are counted.
+#[test]
+fn shard_is_trimmed(rt: HostRuntime) -> Result<(), Fail> {
+    let alloc: Global = rt.alloc();
+    trimmed_when_due::<Brand, _>(&rt, alloc, roster_a(alloc)?, Blanks::new(1))
+}
+
+fn trimmed_when_due<B: Naming, R: Wait + Log + Abort>(
+    rt: &R,
+    alloc: Global,
+    roster: Arc<Roster>,
+    blanks: Blanks,
+) -> Result<(), Fail>
+    requires names { AreNamed B.ledger blanks.names }
+    requires parts { (blanks.parts ≡ 1) × (B.workers ≡ 1) }
+    requires roster { arc_value roster ≡ B.roster }
+{
+    let (server, mut passes) = Server::<B>::new(alloc, roster, 1, blanks)?;
+    if let Some(pass) = passes.last_mut() {
+        trim_by_turns(rt, alloc, &server, pass)?;
+    }
+    let Ok(settled) = server.settle(passes) else {
+        return Err(Fail::from("a pass is missing"));
+    };
+    assert_eq!(rt; (settled.mark(13), settled.dropped(13)), (4, 4));
+    assert_eq!(rt; (settled.mark(12), settled.dropped(12)), (0, 0));
+    assert_eq!(rt; settled.history(13).len(), 3);
+    assert_eq!(rt; settled.total(), 10);
+    Ok(())
+}
+
+// Has the device ask to join: its ticket is open from then on, and its entry stays.
+fn ask<B: Naming, R: Wait>(
+    rt: &R,
+    server: &Server<B>,
+    pass: &mut Pass<B>,
+) -> Result<Receipt, AllocError> {
+    let ticket = Ticket([
+        0, 4, 3, 2, 1, 4, 3, 2, 1, 13, 0, 0, 0, 0, 0, 0, 0, 1, 0, 1, 0, 0, 0,
+    ]);
+    let heard = Heard {
+        gateway: GatewayId(0xa1),
+        moment: 1_000_000,
+        freq: 868_100_000,
+        dr: 5,
+        rssi: -400,
+        snr: 75,
+    };
+    server.call(rt, pass, Call::Join { ticket, heard }, &Open)
+}
+
+// Looks whether a trim is due while there is no memory, and then so many times with it.
+fn trim_without_memory<B: Naming, R: Wait + Log>(
+    rt: &R,
+    alloc: Global,
+    server: &Server<B>,
+    pass: &mut Pass<B>,
+    times: u32,
+) -> Result<(), AllocError> {
+    let mut held = Vec::with_capacity(alloc, BLOCKS)?;
+    let mut trims = Trims::new(1);
+    let mut made = [0; PLACES];
+    let asked = ask(rt, server, pass)?;
+    add_one(&mut made, asked.shard);
+    closings(rt, server, pass, &mut made, 13, 3)?;
+    take_all(alloc, &mut held)?;
+    let _ = trim_due(rt, alloc, server, &mut trims, &made);
+    held.clear();
+    for _ in 0..times {
+        let _ = trim_due(rt, alloc, server, &mut trims, &made);
+    }
+    Ok(())
+}
+
+/// A trim that is refused memory drops nothing.
+#[test]
+fn refused_trim_drops_nothing(rt: HostRuntime) -> Result<(), Fail> {
+    let alloc: Global = rt.alloc();
+    trimmed_later::<Brand, _>(&rt, alloc, roster_a(alloc)?, Blanks::new(1), 0, 0)
+}
+
+/// A trim that was refused memory comes when it is looked for next.
+#[test]
+fn refused_trim_comes_later(rt: HostRuntime) -> Result<(), Fail> {
+    let alloc: Global = rt.alloc();
+    trimmed_later::<Brand, _>(&rt, alloc, roster_a(alloc)?, Blanks::new(1), 1, 3)
+}
+
+fn trimmed_later<B: Naming, R: Wait + Log + Abort>(
+    rt: &R,
+    alloc: Global,
+    roster: Arc<Roster>,
+    blanks: Blanks,
+    times: u32,
+    dropped: u64,
+) -> Result<(), Fail>
+    requires names { AreNamed B.ledger blanks.names }
+    requires parts { (blanks.parts ≡ 1) × (B.workers ≡ 1) }
+    requires roster { arc_value roster ≡ B.roster }
+{
+    let (server, mut passes) = Server::<B>::new(alloc, roster, 1, blanks)?;
+    if let Some(pass) = passes.last_mut() {
+        trim_without_memory(rt, alloc, &server, pass, times)?;
+    }
+    let Ok(settled) = server.settle(passes) else {
+        return Err(Fail::from("a pass is missing"));
+    };
+    assert_eq!(rt; (settled.dropped(13), settled.total()), (dropped, 4));
+    Ok(())
+}
