@@ -57,6 +57,30 @@ class Growths(Served):
             self.assertIn(text, places)
         self.assertGreater(wanting, 20)
 
+    def closed(self, **environment):
+        """A run with a closing roster, of a device that joins and sends two uplinks, the last of which ends it."""
+        server = self.serve(self.roster([13]), self.joins([13]).where, '--window', '200', '--stop-after', '3', '--closing',
+                            environment={'LD_PRELOAD': self.wrapper, **environment})
+        gateway, device = self.gateway(0xa1, server), self.device(13)
+        gateway.join(device, 1)
+        for counter in range(2):
+            gateway.heard(device.uplink(counter, 1, b'a'))
+        return server, server.status()
+
+    def test_closing_roster(self):
+        """One of the last growths is the closing roster's: it is missing, an error says so, and the lines of both uplinks stand."""
+        counted = os.path.join(self.folder, 'growths')
+        server, status = self.closed(GROWTHS=counted)
+        self.assertEqual((status, [line.split()[0] for line in server.out.all][:3]), (0, ['up', 'up', 'settled']))
+        with open(counted, 'rb') as file:
+            growths = struct.unpack('=Q', file.read(8))[0]
+        for growth in range(growths, growths - 50, -1):
+            server, status = self.closed(REFUSED=str(growth))
+            if server.log.count('no memory for the closing roster'):
+                break
+        self.assertEqual((status, server.log.all[-1]), (1, 'no memory'))
+        self.assertEqual([line.split()[:4] for line in server.out.all], [['up', '000000000000000d', '1', str(n)] for n in range(2)])
+
 
 if __name__ == '__main__':
     unittest.main()

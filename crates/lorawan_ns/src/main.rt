@@ -201,6 +201,7 @@ fn refused<R: Eprint + Print, L: Log>(rt: &R, log: &L, bad: &BadWords) -> ExitCo
             ended(rt, &Err(Fault::NoMemory))
         }
         BadWords::NotText => {
+            error!(log; "the command line is no text in UTF-8");
             let _ = eprintln!(rt; "bad arguments");
             ExitCode::from(2)
         }

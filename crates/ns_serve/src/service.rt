@@ -113,6 +113,14 @@ fn drain<B: Naming, R: Wait + Log, W: Sink>(
     unreachable!()
 }
 
+// Want of memory for something, which is logged.
+fn no_memory<R: Log>(rt: &R, what: &str) -> ServeFault
+    ensures { result ≡ ServeFault.NoMemory }
+{
+    error!(rt; "no memory for {what}");
+    ServeFault::NoMemory
+}
+
 // Closes what is still open, and writes the last lines: how many entries there are, which it gives, and the closing roster where it
 // is asked for.
 fn finish<B: Naming, R: Wait + Log, W: Sink>(
@@ -137,7 +145,7 @@ fn finish<B: Naming, R: Wait + Log, W: Sink>(
         return Ok(total);
     }
     let Ok(text) = closing_text(alloc, roster, settled) else {
-        return Err(ServeFault::NoMemory);
+        return Err(no_memory(rt, "the closing roster"));
     };
     output.put_settled(total)?;
     output.put_closing(text.as_str())?;
@@ -182,14 +190,6 @@ fn written<R: Log, W: Sink>(
         error!(rt; "standard output failed: lines are lost");
     }
     outcome
-}
-
-// Want of memory for something, which is logged.
-fn no_memory<R: Log>(rt: &R, what: &str) -> ServeFault
-    ensures { result ≡ ServeFault.NoMemory }
-{
-    error!(rt; "no memory for {what}");
-    ServeFault::NoMemory
 }
 
 // A server of this many workers, from its start to what it settled.
