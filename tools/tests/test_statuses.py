@@ -91,7 +91,7 @@ class Statuses(unittest.TestCase):
                 words = ['serve', ROSTER, '--join', value]
             with self.subTest(option=option, value=value):
                 self.fails(words, 'bad arguments: --' + option, '--%s.*(%s)' % (option, why), status=2)
-        self.assertEqual(self.ran('replay', b'\xff'), (2, '', 'bad arguments\n'))
+        self.fails(['replay', b'\xff'], 'bad arguments', 'no text in UTF-8', status=2)
 
 
 if __name__ == '__main__':
