@@ -28,7 +28,7 @@ calls =
 abbrev pub closed : Answer
 closed = record {
   reply = Closed (name 1 2) None;
-  uplink = Some (record { window = name 1 2; addr = address; port = Some 1; fopts = []; sealed = false; payload = (0x74 ∷ 0x65 ∷ 0x73 ∷ 0x74 ∷ []); copies = record { items = heard_1 ∷ heard_2 ∷ [] } });
+  uplink = Some (record { window = name 1 2; addr = address; confirmed = false; fctrl = 0; port = Some 1; fopts = []; sealed = false; payload = (0x74 ∷ 0x65 ∷ 0x73 ∷ 0x74 ∷ []); copies = record { items = heard_1 ∷ heard_2 ∷ [] } });
   downlink = None;
 }
 

@@ -41,7 +41,7 @@ calls = call.Uplink last_frame heard_1 ∷ call.Close (name 1 last) ∷ call.Upl
 abbrev pub closed : Answer
 closed = record {
   reply = Closed (name 1 last) None;
-  uplink = Some (record { window = name 1 last; addr = address; port = Some 1; fopts = []; sealed = false; payload = (0x65 ∷ 0x6e ∷ 0x64 ∷ []); copies = record { items = heard_1 ∷ [] } });
+  uplink = Some (record { window = name 1 last; addr = address; confirmed = false; fctrl = 0; port = Some 1; fopts = []; sealed = false; payload = (0x65 ∷ 0x6e ∷ 0x64 ∷ []); copies = record { items = heard_1 ∷ [] } });
   downlink = None;
 }
 

@@ -1,6 +1,6 @@
 -- A device joins again while it has a session. Acknowledgements are numbered in the order of closing; both sessions live until the
 -- first uplink of the new one; a payload whose key isn't known stays sealed; a counter passes 65535. The frames were made by OpenSSL.
-use Rattle.std.specs.Prelude.{◌≡◌, ℕ, List, Option, Bool, [], ◌∷◌, None, Some, true, false}
+use Rattle.std.specs.Prelude.{◌≡◌, ℕ, List, [], ◌∷◌, None, Some, true, false}
 use Rattle.ns_types.specs.declared.identity.WindowName.{WindowName}
 use Rattle.ns_calls.specs.declared.call.Call.{Call}
 use Rattle.ns_calls.specs.declared.answer.Answer.{Answer}
@@ -46,32 +46,37 @@ calls =
     ∷ call.Close (name 1 6) ∷ call.Uplink second_65536 heard_1 ∷ call.Close (name 2 65536)
     ∷ call.Uplink second_65536 heard_1 ∷ call.Uplink second_65535 heard_1 ∷ []
 
--- an uplink that one gateway heard
-abbrev pub uplink : WindowName → Option ℕ → List ℕ → Bool → List ℕ → Uplink
-uplink window port fopts sealed payload = record { window = window; addr = address; port = port; fopts = fopts; sealed = sealed; payload = payload; copies = record { items = heard_1 ∷ [] } }
+-- an uplink that one gateway heard: a confirmed one without options under the AppSKey or the NwkSKey
+abbrev pub uplink : WindowName → ℕ → List ℕ → Uplink
+uplink window port payload =
+    record { window = window; addr = address; confirmed = true; fctrl = 0; port = Some port; fopts = []; sealed = false; payload = payload; copies = record { items = heard_1 ∷ [] } }
 
 -- the uplink of counter 5 is closed first, so it gets the acknowledgement 0; and that of counter 4 gets 1
 abbrev pub closed_5 : Answer
 closed_5 = record {
   reply = Closed (name 1 5) (Some 0);
-  uplink = Some (uplink (name 1 5) (Some 0) [] false (0x02 ∷ []));
+  uplink = Some (uplink (name 1 5) 0 (0x02 ∷ []));
   downlink = Some (sent_by heard_1.gateway 2000000 (0x60 ∷ 0xf1 ∷ 0x7d ∷ 0xbe ∷ 0x49 ∷ 0x20 ∷ 0x00 ∷ 0x00 ∷ 0x1c ∷ 0x02 ∷ 0x17 ∷ 0xfb ∷ []));
 }
 
 abbrev pub closed_4 : Answer
 closed_4 = record {
   reply = Closed (name 1 4) (Some 1);
-  uplink = Some (uplink (name 1 4) (Some 1) [] false (0x68 ∷ 0x69 ∷ []));
+  uplink = Some (uplink (name 1 4) 1 (0x68 ∷ 0x69 ∷ []));
   downlink = Some (sent_by heard_1.gateway 2000000 (0x60 ∷ 0xf1 ∷ 0x7d ∷ 0xbe ∷ 0x49 ∷ 0x20 ∷ 0x01 ∷ 0x00 ∷ 0x32 ∷ 0x72 ∷ 0xb7 ∷ 0x6e ∷ []));
 }
 
 -- session 1 has ended, so there is no acknowledgement; its keys still decipher
 abbrev pub closed_6 : Answer
-closed_6 = record { reply = Closed (name 1 6) None; uplink = Some (uplink (name 1 6) (Some 7) [] false (0x6c ∷ 0x61 ∷ 0x74 ∷ 0x65 ∷ 0x72 ∷ [])); downlink = None }
+closed_6 = record { reply = Closed (name 1 6) None; uplink = Some (uplink (name 1 6) 7 (0x6c ∷ 0x61 ∷ 0x74 ∷ 0x65 ∷ 0x72 ∷ [])); downlink = None }
 
 -- session 2 has no AppSKey
 abbrev pub closed_65536 : Answer
-closed_65536 = record { reply = Closed (name 2 65536) None; uplink = Some (uplink (name 2 65536) (Some 1) (0x02 ∷ []) true (0xac ∷ 0x94 ∷ 0xc6 ∷ [])); downlink = None }
+closed_65536 = record {
+  reply = Closed (name 2 65536) None;
+  uplink = Some (record { window = name 2 65536; addr = address; confirmed = false; fctrl = 1; port = Some 1; fopts = (0x02 ∷ []); sealed = true; payload = (0xac ∷ 0x94 ∷ 0xc6 ∷ []); copies = record { items = heard_1 ∷ [] } });
+  downlink = None;
+}
 
 abbrev pub answers : List Answer
 answers =

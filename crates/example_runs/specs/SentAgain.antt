@@ -1,7 +1,7 @@
 -- A device sends a confirmed uplink again, since it heard no acknowledgement: each round is acknowledged with the next number, and the
 -- uplink is handed out once. A frame of other bytes at that counter is acknowledged too; once a higher counter is opened, nothing is. The
 -- frames were made in Python.
-use Rattle.std.specs.Prelude.{◌≡◌, ℕ, List, Option, [], ◌∷◌, None, Some, false, flat_map, codes}
+use Rattle.std.specs.Prelude.{◌≡◌, ℕ, List, Option, [], ◌∷◌, None, Some, false, true, flat_map, codes}
 use Rattle.ns_types.specs.declared.heard.Heard.{Heard}
 use Rattle.ns_types.specs.declared.identity.WindowName.{WindowName}
 use Rattle.ns_calls.specs.declared.call.Call.{Call}
@@ -39,7 +39,7 @@ calls =
     ∷ call.Uplink other_2 heard_1 ∷ call.Uplink confirmed_3 heard_1 ∷ call.Uplink confirmed_2 heard_1 ∷ []
 
 abbrev pub uplink : Uplink
-uplink = record { window = in_round 1; addr = address; port = Some 1; fopts = []; sealed = false; payload = (0x74 ∷ 0x65 ∷ 0x73 ∷ 0x74 ∷ []); copies = record { items = heard_1 ∷ [] } }
+uplink = record { window = in_round 1; addr = address; confirmed = true; fctrl = 0; port = Some 1; fopts = []; sealed = false; payload = (0x74 ∷ 0x65 ∷ 0x73 ∷ 0x74 ∷ []); copies = record { items = heard_1 ∷ [] } }
 
 -- a closing with the acknowledgement of this number, at a gateway and a moment; the first one hands out the uplink
 abbrev pub closed : ℕ → ℕ → Option Uplink → Heard → ℕ → List ℕ → Answer

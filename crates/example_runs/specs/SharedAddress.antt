@@ -28,14 +28,14 @@ calls =
 abbrev pub closed_0d : Answer
 closed_0d = record {
   reply = Closed (name eui_0d 65535) (Some 0);
-  uplink = Some (record { window = name eui_0d 65535; addr = address; port = None; fopts = []; sealed = false; payload = []; copies = record { items = copy_c ∷ copy_d ∷ [] } });
+  uplink = Some (record { window = name eui_0d 65535; addr = address; confirmed = true; fctrl = 0; port = None; fopts = []; sealed = false; payload = []; copies = record { items = copy_c ∷ copy_d ∷ [] } });
   downlink = Some (record { target = record { gateway = copy_d.gateway; moment = 999999; freq = 868100003; dr = 0 }; frame = (0x60 ∷ 0xf1 ∷ 0x7d ∷ 0xbe ∷ 0x49 ∷ 0x20 ∷ 0x00 ∷ 0x00 ∷ 0x2f ∷ 0xe4 ∷ 0xe1 ∷ 0x08 ∷ []) });
 }
 
 abbrev pub closed_1d : Answer
 closed_1d = record {
   reply = Closed (name eui_1d 0) None;
-  uplink = Some (record { window = name eui_1d 0; addr = address; port = Some 3; fopts = []; sealed = true; payload = (0x73 ∷ 0x72 ∷ 0x05 ∷ []); copies = record { items = copy_f ∷ [] } });
+  uplink = Some (record { window = name eui_1d 0; addr = address; confirmed = false; fctrl = 0; port = Some 3; fopts = []; sealed = true; payload = (0x73 ∷ 0x72 ∷ 0x05 ∷ []); copies = record { items = copy_f ∷ [] } });
   downlink = None;
 }
 

@@ -16,7 +16,8 @@ use Rattle.ns_calls.specs.declared.call.Call.TheVariants as call
 use Rattle.ns_calls.specs.declared.call.Reply.TheVariants as reply
 use Rattle.ns_calls.specs.declared.call.Entry.{Entry}
 use Rattle.ns_calls.specs.Queries.{maximum}
-use Rattle.ns_calls.specs.Entries.{Opening, Closing, closing_in, same_device, open_windows}
+use Rattle.ns_calls.specs.Entries.{Opening, Closing, same_device, open_windows, closed}
+use Rattle.ns_calls.proofs.Says.{closing_in, uplink-says, join-says, answer-says}
 use Rattle.ns_calls.specs.History.{closings, session_acks, greatest_ack, next_ack, next_ack_number, open_window, is_live}
 use Rattle.ns_calls.specs.Reply.{ack_number, reply_to}
 use Rattle.ns_calls.specs.Legal.{IsLegal, entry_for, with_call}
@@ -55,9 +56,9 @@ ack-next h w o same =
     step P x false holds = tt
 
 closing-new : (net : Network) (h : List Entry) (c : Call) → IfSome (closing_in c (reply_to net h c)) (λ x. IsNextAck h x.window x.ack)
-closing-new net h (call.Uplink frame heard) = tt
-closing-new net h (call.Join ticket heard) = tt
-closing-new net h (call.JoinReply ticket outcome) = tt
+closing-new net h (call.Uplink frame heard) = uplink-says (λ s. IfSome (closed s) (λ x. IsNextAck h x.window x.ack)) frame heard (λ w. tt) (λ w. tt) (λ w. tt) tt (reply_to net h (call.Uplink frame heard))
+closing-new net h (call.Join t heard) = join-says (λ s. IfSome (closed s) (λ x. IsNextAck h x.window x.ack)) t heard tt tt tt (reply_to net h (call.Join t heard))
+closing-new net h (call.JoinReply t o) = answer-says (λ s. IfSome (closed s) (λ x. IsNextAck h x.window x.ack)) t o (λ n. tt) tt tt (reply_to net h (call.JoinReply t o))
 closing-new net h (call.Close w) = by (open_window h w) (find-has (λ _. Unit {0}) (λ o. same_window o.window w) (open_windows h) (each (open_windows h)))
   where
     each : (os : List Opening) → AllByRecursion (λ _. Unit {0}) os

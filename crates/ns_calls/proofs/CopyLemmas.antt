@@ -21,8 +21,9 @@ use Rattle.ns_calls.specs.declared.call.Call.TheVariants as call
 use Rattle.ns_calls.specs.declared.call.Reply.{Reply}
 use Rattle.ns_calls.specs.declared.call.Reply.TheVariants as reply
 use Rattle.ns_calls.specs.declared.call.Entry.{Entry}
-use Rattle.ns_calls.specs.Entries.{Opening, window_in, closes, open_windows, most_copies}
-use Rattle.ns_calls.specs.History.{window_copy_in, open_window, window_copies}
+use Rattle.ns_calls.specs.Entries.{Opening, closes, open_windows, most_copies}
+use Rattle.ns_calls.specs.History.{open_window, window_copies, copied}
+use Rattle.ns_calls.proofs.Says.{window_in, window_copy_in, opening_of, join-says, answer-says, close-says, opened-is, opening-copy}
 use Rattle.ns_calls.specs.Reply.{window_with, window_of, in_round, first_fit, copy_reply, uplink_rule, reply_to, ack_number}
 use Rattle.ns_calls.specs.Out.{uplink_of, first_uplink_of, uplink_out, answer}
 use Rattle.ns_calls.specs.Legal.{IsLegal}
@@ -31,7 +32,7 @@ use Rattle.ns_calls.proofs.LocalLemmas.{bool_tells}
 use Rattle.ns_calls.proofs.Lists.{one_more, All-append, All-filter, All-weaker, find-has, find-none, at_some}
 use Rattle.ns_calls.proofs.PushLemmas.{open_windows-push, window_copies-push}
 use Rattle.ns_calls.proofs.Induction.{legal-front, legal-next}
-use Rattle.ns_calls.proofs.UplinkLemmas.{facts_by, uplink-has, opening_of}
+use Rattle.ns_calls.proofs.UplinkLemmas.{facts_by, uplink-has}
 use Rattle.ns_calls.proofs.NameLemmas.{same_window-refl, same_window-eq}
 use Rattle.ns_calls.proofs.FreshLemmas.{windows-apart}
 use Rattle.ns_calls.proofs.OpenLemmas.{find-contained, open_window-is}
@@ -98,19 +99,11 @@ found-otherwise {X} test other (y ∷ ys) x is passes none = step (λ found noth
 
 -- ---- an opening
 
-uplink_opening : (w : WindowName) (frame : List ℕ) (heard : Heard) (o : Opening) → Some (opening_of w frame heard) ≡ Some o →
-    (call.Uplink frame heard ≡ call.Uplink o.frame o.heard) × ◌≡◌ {A = Option (WindowName × Heard)} (Some (w, heard)) (Some (o.window, o.heard))
-uplink_opening w frame heard o is =
-    let same = same_Some (opening_of w frame heard) o is in
-    ((λ i. call.Uplink (same i).frame (same i).heard), ap (λ (p : Opening). Some (p.window, p.heard)) same)
-
 pub opening_is : (c : Call) (r : Reply) (o : Opening) → window_in c r ≡ Some o → (c ≡ call.Uplink o.frame o.heard) × (window_copy_in c r ≡ Some (o.window, o.heard))
-opening_is (call.Uplink frame heard) (reply.Opened w) o is = uplink_opening w frame heard o is
-opening_is (call.Uplink frame heard) (reply.Again w) o is = uplink_opening w frame heard o is
-opening_is (call.Uplink frame heard) _ o is = absurd (cc is)
-opening_is (call.Join t heard) r o is = absurd (cc is)
-opening_is (call.JoinReply t x) r o is = absurd (cc is)
-opening_is (call.Close w) r o is = absurd (cc is)
+opening_is c r o is = (
+  at_some (λ (p : Opening). c ≡ call.Uplink p.frame p.heard) (window_in c r) o is (opened-is c r),
+  at_some (λ (p : Opening). window_copy_in c r ≡ Some (p.window, p.heard)) (window_in c r) o is (opening-copy c r),
+)
 
 same_bytes : (bytes : List ℕ) → bytes_eq bytes bytes ≡ true
 same_bytes bytes = (bytes_eq-Decides bytes bytes).1 refl
@@ -120,6 +113,9 @@ same_bytes bytes = (bytes_eq-Decides bytes bytes).1 refl
 -- the copies that a call adds to a window
 abbrev added : WindowName → Call → Reply → List Heard
 added w c r = map (λ (x : WindowName × Heard). x.1) (filter (λ (x : WindowName × Heard). same_window x.0 w) (option_to_list (window_copy_in c r)))
+
+none_added : (w : WindowName) (c : Call) (r : Reply) → window_copy_in c r ≡ None → added w c r ≡ []
+none_added w c r is = ap (λ p. map (λ (x : WindowName × Heard). x.1) (filter (λ (x : WindowName × Heard). same_window x.0 w) (option_to_list p))) is
 
 hearings-push : (frame : List ℕ) (es : List Entry) (e : Entry) → hearings frame (es ++ e ∷ []) ≡ hearings frame es ++ option_to_list (hearing_in frame e.call)
 hearings-push frame es e =
@@ -235,9 +231,9 @@ another_frame net o g since legal inv frame heard differs =
 
 copies_now : (net : Network) (o : Opening) (g since : List Entry) → IsLegal net g → Inv o g since → (c : Call) →
     window_copies g o.window ++ added o.window c (reply_to net g c) ≡ take most_copies (hearings o.frame since ++ option_to_list (hearing_in o.frame c))
-copies_now net o g since legal inv (call.Join t heard) = unchanged o g since inv [] None refl refl
-copies_now net o g since legal inv (call.JoinReply t x) = unchanged o g since inv [] None refl refl
-copies_now net o g since legal inv (call.Close w) = unchanged o g since inv [] None refl refl
+copies_now net o g since legal inv (call.Join t heard) = let c = call.Join t heard in unchanged o g since inv (added o.window c (reply_to net g c)) None (none_added o.window c (reply_to net g c) (join-says (λ s. copied s ≡ None) t heard refl refl refl (reply_to net g c))) refl
+copies_now net o g since legal inv (call.JoinReply t x) = let c = call.JoinReply t x in unchanged o g since inv (added o.window c (reply_to net g c)) None (none_added o.window c (reply_to net g c) (answer-says (λ s. copied s ≡ None) t x (λ n. refl) refl refl (reply_to net g c))) refl
+copies_now net o g since legal inv (call.Close w) = let c = call.Close w in unchanged o g since inv (added o.window c (reply_to net g c)) None (none_added o.window c (reply_to net g c) (close-says (λ s. copied s ≡ None) w (λ ack. refl) refl (reply_to net g c))) refl
 copies_now net o g since legal inv (call.Uplink frame heard) =
     elim (bool_tells (bytes_eq o.frame frame)) [
       | inl same ↦ same_frame net o g since inv frame heard same

@@ -8,7 +8,8 @@ use Rattle.ns_calls.specs.declared.call.Reply.{Reply}
 use Rattle.ns_calls.specs.declared.call.Reply.TheVariants.{Opened, Copied, Crowded, Old, NoSession, Busy, Ask, JoinCopied, JoinCrowded, NonceOld, NoDevice, JoinBusy, Accepted, JoinRefused, JoinStale, NoTicket, Closed, NoWindow, Again}
 use Rattle.ns_calls.specs.declared.call.Entry.{Entry}
 use Rattle.ns_calls.specs.Reply.{reply_to}
-use Rattle.ns_calls.specs.Legal.{IsLegal, IsLegalAfter}
+use Rattle.ns_calls.specs.Legal.{IsLegal}
+use Rattle.ns_calls.specs.Headline.{IsLegalAfter}
 use Rattle.ns_calls.specs.Decided.{same_number, same_reply, is_legal_after, is_legal}
 use Rattle.ns_calls.proofs.LegalLemmas.{after-by_place, by_place-after}
 use Rattle.ns_calls.proofs.JoinLemmas.{same_device-eq}

@@ -18,8 +18,9 @@ use Rattle.ns_calls.specs.declared.call.Call.TheVariants as call
 use Rattle.ns_calls.specs.declared.call.Reply.{Reply}
 use Rattle.ns_calls.specs.declared.call.Reply.TheVariants as reply
 use Rattle.ns_calls.specs.declared.call.Entry.{Entry}
-use Rattle.ns_calls.specs.Entries.{Opening, opening_in, window_in, open_windows}
-use Rattle.ns_calls.specs.History.{window_copy_in, last_round, live, is_live, session_join, greatest_counter, open_window, window_copies}
+use Rattle.ns_calls.specs.Entries.{Opening, open_windows}
+use Rattle.ns_calls.specs.History.{last_round, live, is_live, session_join, greatest_counter, open_window, window_copies, copied}
+use Rattle.ns_calls.proofs.Says.{opening_in, window_in, window_copy_in, opening_of, join-says, answer-says, close-says}
 use Rattle.ns_calls.specs.Reply.{Fit, fit_of, window_of, fitting_counter, session_fit, device_fit, devices_at, first_fit, window_with, in_round, reply_to, reply_to_uplink}
 use Rattle.ns_calls.specs.Legal.{IsLegal, entry_for, with_call}
 use Rattle.ns_calls.specs.Laws.{opening_count, open_count, WindowsOpenOnce}
@@ -28,7 +29,7 @@ use Rattle.ns_calls.proofs.LocalLemmas.{bool_tells}
 use Rattle.ns_calls.proofs.Lists.{All-weaker, first-gives, first-gives_of, count-cons, count-found, IfSome-weaker, at_some}
 use Rattle.ns_calls.proofs.PushLemmas.{window_copies-push}
 use Rattle.ns_calls.proofs.Induction.{legal_induction}
-use Rattle.ns_calls.proofs.UplinkLemmas.{IsNewOpening, IsNextOpening, IsOpened, uplink-has, opening_of, opening-new, window-new, FitsAt, window-fits}
+use Rattle.ns_calls.proofs.UplinkLemmas.{IsNewOpening, IsNextOpening, IsOpened, uplink-has, opening-new, window-new, FitsAt, window-fits}
 use Rattle.ns_calls.proofs.RoundLemmas.{windows-fresh, session-has_round}
 use Rattle.ns_calls.proofs.ShardLemmas.{device_fit-names}
 use Rattle.ns_calls.proofs.WindowLemmas.{openings-added, windows_open_once}
@@ -85,9 +86,9 @@ added-none c r w is = ap (λ o. map (λ (x : WindowName × Heard). x.1) (filter 
 
 -- no copy is added to a window that was never opened and isn't opened by the call
 nothing_added : (net : Network) (h : List Entry) → WindowsOpenOnce h → (c : Call) (w : WindowName) → opening_count h w ≡ 0 → count_by (λ o. same_window o.window w) (option_to_list (window_in c (reply_to net h c))) ≡ 0 → copies_added c (reply_to net h c) w ≡ []
-nothing_added net h once (call.Join t heard) w none new = refl
-nothing_added net h once (call.JoinReply t o) w none new = refl
-nothing_added net h once (call.Close v) w none new = refl
+nothing_added net h once (call.Join t heard) w none new = added-none (call.Join t heard) (reply_to net h (call.Join t heard)) w (join-says (λ s. copied s ≡ None) t heard refl refl refl (reply_to net h (call.Join t heard)))
+nothing_added net h once (call.JoinReply t o) w none new = added-none (call.JoinReply t o) (reply_to net h (call.JoinReply t o)) w (answer-says (λ s. copied s ≡ None) t o (λ n. refl) refl refl (reply_to net h (call.JoinReply t o)))
+nothing_added net h once (call.Close v) w none new = added-none (call.Close v) (reply_to net h (call.Close v)) w (close-says (λ s. copied s ≡ None) v (λ ack. refl) refl (reply_to net h (call.Close v)))
 nothing_added net h once (call.Uplink frame heard) w none new =
     let c : Call = call.Uplink frame heard in
     let r : Reply = reply_to net h c in

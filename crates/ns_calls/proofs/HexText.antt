@@ -18,3 +18,9 @@ pub encode_more : (t old xs : List ℕ) (i : ℕ) (line next : List ℕ) → i <
 encode_more t old xs i line next within now step =
     step ∙ ap (λ l. l ++ encode_with t (get_or xs i 0 ∷ [])) now ∙ append_assoc old _ _
     ∙ ap (λ l. old ++ l) (sym (encode_append t (take i xs) (get_or xs i 0 ∷ [])) ∙ ap (encode_with t) (sym (take_more xs i 0 within)))
+
+-- some bytes more, and what is left
+pub encode_on : (t line next front rest whole : List ℕ) → next ≡ line ++ encode_with t front → front ++ rest ≡ whole → next ++ encode_with t rest ≡ line ++ encode_with t whole
+encode_on t line next front rest whole step cut =
+    ap (λ l. l ++ encode_with t rest) step ∙ append_assoc line (encode_with t front) (encode_with t rest)
+    ∙ ap (λ l. line ++ l) (sym (encode_append t front rest) ∙ ap (encode_with t) cut)

@@ -20,12 +20,13 @@ use Rattle.ns_calls.specs.declared.call.Reply.{Reply}
 use Rattle.ns_calls.specs.declared.call.Reply.TheVariants as reply
 use Rattle.ns_calls.specs.declared.call.Entry.{Entry}
 use Rattle.ns_calls.specs.Queries.{maximum, greater}
-use Rattle.ns_calls.specs.Entries.{Acceptance, acceptance_in, acceptances, same_device, most_copies}
+use Rattle.ns_calls.specs.Entries.{Acceptance, acceptances, same_device, most_copies, accepted}
+use Rattle.ns_calls.proofs.Says.{acceptance_in, uplink-says, join-says, close-says}
 use Rattle.ns_calls.specs.History.{last_nonce, greatest_nonce, next_session, is_ticket_open, ticket_count, ticket_copies}
-use Rattle.ns_calls.specs.Reply.{most_tickets, at_or_above, nonce_at_or_above, join_copy_reply, reply_to_join, is_failed, address}
+use Rattle.ns_calls.specs.Reply.{most_tickets, at_or_above, join_copy_reply, reply_to_join, reply_to, is_failed, address}
 use Rattle.ns_calls.specs.Legal.{IsLegal, entry_for, with_call}
 use Rattle.ns_calls.specs.Laws.{Rises, NoncesRise, nonces_of}
-use Rattle.ns_calls.specs.Headline.{nonces_up_to, SessionsAreBounded, Reaches, NoncesAreWithin, AreBelow}
+use Rattle.ns_calls.specs.Headline.{nonces_up_to, SessionsAreBounded, Reaches, NoncesAreWithin, AreBelow, nonce_at_or_above}
 use Rattle.ns_calls.proofs.Lists.{AddsOne, said-adds, All-push, Exceeds-greater, Exceeds-each, Rises-push, All-weaker}
 use Rattle.ns_calls.proofs.QueryLemmas.{greater-assoc, maximum-push}
 use Rattle.ns_calls.proofs.Induction.{legal_induction}
@@ -118,9 +119,9 @@ acceptances-cases net h number c eui =
         let test : Acceptance → Bool = λ a. same_device a.eui eui in
         let tells : Entry → Option Acceptance = λ y. acceptance_in y.call y.reply in
         AddsOne tells test h x → NewAcceptance net h eui (acceptances (with_call net h number d) eui)
-    new (call.Uplink frame heard) one = absurd (cc one.says)
-    new (call.Join t heard) one = absurd (cc one.says)
-    new (call.Close w) one = absurd (cc one.says)
+    new (call.Uplink frame heard) one = absurd (none-some one.thing (sym (uplink-says (λ s. accepted s ≡ None) frame heard (λ w. refl) (λ w. refl) (λ w. refl) refl (reply_to net h (call.Uplink frame heard))) ∙ one.says))
+    new (call.Join t heard) one = absurd (none-some one.thing (sym (join-says (λ s. accepted s ≡ None) t heard refl refl refl (reply_to net h (call.Join t heard))) ∙ one.says))
+    new (call.Close w) one = absurd (none-some one.thing (sym (close-says (λ s. accepted s ≡ None) w (λ ack. refl) refl (reply_to net h (call.Close w))) ∙ one.says))
     new (call.JoinReply t o) one =
         elim (accepted-cases t o (is_ticket_open h t) (nonce_at_or_above net h t) (dev_eui t) (next_session h (dev_eui t)) (address net (dev_eui t))) [
           | inl none ↦ absurd (none-some one.thing (sym none ∙ one.says))

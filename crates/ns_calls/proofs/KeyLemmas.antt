@@ -14,11 +14,12 @@ use Rattle.ns_calls.specs.declared.call.JoinAns.{JoinAns}
 use Rattle.ns_calls.specs.declared.call.Call.{Call}
 use Rattle.ns_calls.specs.declared.call.Entry.{Entry}
 use Rattle.ns_calls.specs.Queries.{last, maximum}
-use Rattle.ns_calls.specs.Entries.{Acceptance, Opening, acceptance_in, window_in, acceptances, openings, same_device, open_windows, closes}
+use Rattle.ns_calls.specs.Entries.{Acceptance, Opening, acceptances, openings, same_device, open_windows, closes}
+use Rattle.ns_calls.proofs.Says.{acceptance_in, window_in}
 use Rattle.ns_calls.specs.History.{session_join, next_session, active_session, newest_session, first_and_other}
-use Rattle.ns_calls.specs.Reply.{fits, reply_to}
+use Rattle.ns_calls.specs.Reply.{reply_to}
 use Rattle.ns_calls.specs.Legal.{IsLegal, entry_for, with_call}
-use Rattle.ns_calls.specs.Headline.{SessionsHaveJoins}
+use Rattle.ns_calls.specs.Headline.{SessionsHaveJoins, fits}
 use Rattle.ns_calls.proofs.QueryLemmas.{still_open-push}
 use Rattle.ns_calls.proofs.Lists.{said, said-push, All-push, All-after, All-weaker, All-map, IfSome-weaker, last-has, find-none, Exceeds-each}
 use Rattle.ns_calls.proofs.Induction.{legal_induction}
@@ -48,7 +49,7 @@ has_join-stays h e eui session has = step (session_join h eui session) refl has
     step (Some join) is some = ap is_some (session_join-stays h e eui session join is)
 
 -- a join that is accepted makes a session of its own
-below_next : (sessions : Option ℕ) → Exceeds sessions (unwrap_or sessions 0 + 1)
+pub below_next : (sessions : Option ℕ) → Exceeds sessions (unwrap_or sessions 0 + 1)
 below_next None = tt
 below_next (Some s) = omega arith
 
@@ -146,7 +147,7 @@ live-All P (Some x) (Some y) one other = step (x == y)
     step true = (one, tt)
     step false = (one, (other, tt))
 
-IfSome-map : {X Y : Type 0} (P : Y → Type 0) (f : X → Y) (o : Option X) → IfSome o (λ x. P (f x)) → IfSome (option_map f o) P
+pub IfSome-map : {X Y : Type 0} (P : Y → Type 0) (f : X → Y) (o : Option X) → IfSome o (λ x. P (f x)) → IfSome (option_map f o) P
 IfSome-map P f None holds = tt
 IfSome-map P f (Some x) holds = holds
 

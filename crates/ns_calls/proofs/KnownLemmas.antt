@@ -7,7 +7,8 @@ use Rattle.ns_roster.specs.Network.{Network, is_known}
 use Rattle.ns_calls.specs.declared.call.Call.{Call}
 use Rattle.ns_calls.specs.declared.call.Call.TheVariants as call
 use Rattle.ns_calls.specs.declared.call.Entry.{Entry}
-use Rattle.ns_calls.specs.History.{asking_in, ends_ticket, open_tickets}
+use Rattle.ns_calls.specs.History.{ends_ticket, open_tickets, asked}
+use Rattle.ns_calls.proofs.Says.{asking_in, uplink-says, answer-says, close-says}
 use Rattle.ns_calls.specs.Reply.{reply_to}
 use Rattle.ns_calls.specs.Legal.{IsLegal, entry_for, with_call}
 use Rattle.ns_calls.specs.Headline.{TicketsAreKnown}
@@ -18,9 +19,9 @@ use Rattle.ns_calls.proofs.Induction.{legal_induction}
 
 -- what a Join-Request asks for is its own ticket
 pub asking-known : (net : Network) (h : List Entry) (c : Call) → IfSome (asking_in c (reply_to net h c)) (λ t. is_known net (dev_eui t) (join_eui t) ≡ true)
-asking-known net h (call.Uplink frame heard) = tt
-asking-known net h (call.JoinReply t o) = tt
-asking-known net h (call.Close w) = tt
+asking-known net h (call.Uplink frame heard) = uplink-says (λ s. IfSome (asked s) (λ t. is_known net (dev_eui t) (join_eui t) ≡ true)) frame heard (λ w. tt) (λ w. tt) (λ w. tt) tt (reply_to net h (call.Uplink frame heard))
+asking-known net h (call.JoinReply u o) = answer-says (λ s. IfSome (asked s) (λ t. is_known net (dev_eui t) (join_eui t) ≡ true)) u o (λ n. tt) tt tt (reply_to net h (call.JoinReply u o))
+asking-known net h (call.Close w) = close-says (λ s. IfSome (asked s) (λ t. is_known net (dev_eui t) (join_eui t) ≡ true)) w (λ ack. tt) tt (reply_to net h (call.Close w))
 asking-known net h (call.Join t heard) = join-has (λ r. IfSome (asking_in (call.Join t heard) r) (λ u. is_known net (dev_eui u) (join_eui u) ≡ true)) net h t (record {
   unknown = λ unknown. tt;
   old = λ known greatest. tt;

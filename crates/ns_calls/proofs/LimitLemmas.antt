@@ -14,8 +14,9 @@ use Rattle.ns_calls.specs.declared.call.Call.TheVariants as call
 use Rattle.ns_calls.specs.declared.call.Reply.{Reply}
 use Rattle.ns_calls.specs.declared.call.Reply.TheVariants as reply
 use Rattle.ns_calls.specs.declared.call.Entry.{Entry}
-use Rattle.ns_calls.specs.Entries.{Opening, window_in, same_device, closes, open_windows, most_copies}
-use Rattle.ns_calls.specs.History.{asking_in, window_copy_in, ticket_copy_in, same_ticket, is_ticket, ends_ticket, asks_for, open_tickets, window_count, window_copies, ticket_count, copies_of_ticket, ticket_copies}
+use Rattle.ns_calls.specs.Entries.{Opening, same_device, closes, open_windows, most_copies, opened}
+use Rattle.ns_calls.specs.History.{same_ticket, ends_ticket, asks_for, open_tickets, window_count, window_copies, ticket_count, copies_of_ticket, ticket_copies, asked, copied, join_copied}
+use Rattle.ns_calls.proofs.Says.{window_in, asking_in, window_copy_in, ticket_copy_in, is_ticket, uplink-says, join-says, answer-says, close-says}
 use Rattle.ns_calls.specs.Reply.{most_windows, most_tickets, reply_to}
 use Rattle.ns_calls.specs.Legal.{IsLegal, entry_for, with_call}
 use Rattle.ns_calls.specs.Headline.{LimitsHold}
@@ -74,16 +75,16 @@ one_more_fits {X} test before most (Some x) within room kept fewer =
       | inr other ↦ (let is : count_by test (x ∷ []) ≡ 0 + 0 = one ∙ ap (λ b. cond {A = ℕ} b 1 0 + 0) other in omega (arith, within, fewer, is))
     ]
 
-opening-room : (net : Network) (h : List Entry) (c : Call) (r : Reply) → HasRoom net h r → IfSome (window_in c r) (λ o. window_count h o.window.eui < most_windows)
-opening-room net h (call.Uplink frame heard) (reply.Opened w) room = room
-opening-room net h (call.Uplink frame heard) (reply.Again w) room = room
-opening-room net h _ _ room = tt
+opening-room : (net : Network) (h : List Entry) (frame : List ℕ) (heard : Heard) (r : Reply) → HasRoom net h r → IfSome (window_in (call.Uplink frame heard) r) (λ o. window_count h o.window.eui < most_windows)
+opening-room net h frame heard (reply.Opened w) room = room
+opening-room net h frame heard (reply.Again w) room = room
+opening-room net h frame heard _ room = tt
 
 reply-room : (net : Network) (h : List Entry) (c : Call) → IfSome (window_in c (reply_to net h c)) (λ o. window_count h o.window.eui < most_windows)
-reply-room net h (call.Uplink frame heard) = opening-room net h (call.Uplink frame heard) (reply_to net h (call.Uplink frame heard)) (uplink-room net h frame heard)
-reply-room net h (call.Join t heard) = tt
-reply-room net h (call.JoinReply t o) = tt
-reply-room net h (call.Close w) = tt
+reply-room net h (call.Uplink frame heard) = opening-room net h frame heard (reply_to net h (call.Uplink frame heard)) (uplink-room net h frame heard)
+reply-room net h (call.Join t heard) = join-says (λ s. IfSome (opened s) (λ o. window_count h o.window.eui < most_windows)) t heard tt tt tt (reply_to net h (call.Join t heard))
+reply-room net h (call.JoinReply t x) = answer-says (λ s. IfSome (opened s) (λ o. window_count h o.window.eui < most_windows)) t x (λ n. tt) tt tt (reply_to net h (call.JoinReply t x))
+reply-room net h (call.Close w) = close-says (λ s. IfSome (opened s) (λ o. window_count h o.window.eui < most_windows)) w (λ ack. tt) tt (reply_to net h (call.Close w))
 
 windows_step : (net : Network) (h : List Entry) (number : ℕ) (c : Call) (eui : DevEui) → window_count h eui ≤ most_windows → window_count (with_call net h number c) eui ≤ most_windows
 windows_step net h number c eui within =
@@ -112,9 +113,9 @@ join-room net h t heard = join-has (λ r. IfSome (asking_in (call.Join t heard) 
 
 ticket-room : (net : Network) (h : List Entry) (c : Call) → IfSome (asking_in c (reply_to net h c)) (λ u. ticket_count h (dev_eui u) < most_tickets)
 ticket-room net h (call.Join t heard) = join-room net h t heard
-ticket-room net h (call.Uplink frame heard) = tt
-ticket-room net h (call.JoinReply t o) = tt
-ticket-room net h (call.Close w) = tt
+ticket-room net h (call.Uplink frame heard) = uplink-says (λ s. IfSome (asked s) (λ u. ticket_count h (dev_eui u) < most_tickets)) frame heard (λ w. tt) (λ w. tt) (λ w. tt) tt (reply_to net h (call.Uplink frame heard))
+ticket-room net h (call.JoinReply t o) = answer-says (λ s. IfSome (asked s) (λ u. ticket_count h (dev_eui u) < most_tickets)) t o (λ n. tt) tt tt (reply_to net h (call.JoinReply t o))
+ticket-room net h (call.Close w) = close-says (λ s. IfSome (asked s) (λ u. ticket_count h (dev_eui u) < most_tickets)) w (λ ack. tt) tt (reply_to net h (call.Close w))
 
 tickets_step : (net : Network) (h : List Entry) (number : ℕ) (c : Call) (eui : DevEui) → ticket_count h eui ≤ most_tickets → ticket_count (with_call net h number c) eui ≤ most_tickets
 tickets_step net h number c eui within =
@@ -155,9 +156,9 @@ copy-fits net h legal frame heard _ is room = tt
 
 copies-room : (net : Network) (h : List Entry) → IsLegal net h → (c : Call) → IfSome (window_copy_in c (reply_to net h c)) (λ x. length (window_copies h x.0) < most_copies)
 copies-room net h legal (call.Uplink frame heard) = copy-fits net h legal frame heard (reply_to net h (call.Uplink frame heard)) refl (uplink-room net h frame heard)
-copies-room net h legal (call.Join t heard) = tt
-copies-room net h legal (call.JoinReply t o) = tt
-copies-room net h legal (call.Close w) = tt
+copies-room net h legal (call.Join t heard) = join-says (λ s. IfSome (copied s) (λ x. length (window_copies h x.0) < most_copies)) t heard tt tt tt (reply_to net h (call.Join t heard))
+copies-room net h legal (call.JoinReply t o) = answer-says (λ s. IfSome (copied s) (λ x. length (window_copies h x.0) < most_copies)) t o (λ n. tt) tt tt (reply_to net h (call.JoinReply t o))
+copies-room net h legal (call.Close w) = close-says (λ s. IfSome (copied s) (λ x. length (window_copies h x.0) < most_copies)) w (λ ack. tt) tt (reply_to net h (call.Close w))
 
 copies_step : (net : Network) (h : List Entry) (number : ℕ) (c : Call) → IsLegal net h → (w : WindowName) → length (window_copies h w) ≤ most_copies → length (window_copies (with_call net h number c) w) ≤ most_copies
 copies_step net h number c legal w within =
@@ -202,9 +203,12 @@ some-any P (Some x) each = each x
 
 -- room for the copy of one's own ticket
 own-room : (net : Network) (h : List Entry) (number : ℕ) (c : Call) (t : Ticket) → asks_for t (entry_for net h number c) ≡ false → IfSome (ticket_copy_in c (reply_to net h c)) (λ x. same_ticket t x.0 ≡ true → length (ticket_copies h t) < most_copies)
-own-room net h number (call.Uplink frame heard) t other = tt
-own-room net h number (call.JoinReply u o) t other = tt
-own-room net h number (call.Close w) t other = tt
+own-room net h number (call.Uplink frame heard) t other =
+    uplink-says (λ s. IfSome (join_copied s) (λ x. same_ticket t x.0 ≡ true → length (ticket_copies h t) < most_copies)) frame heard (λ w. tt) (λ w. tt) (λ w. tt) tt (reply_to net h (call.Uplink frame heard))
+own-room net h number (call.JoinReply u o) t other =
+    answer-says (λ s. IfSome (join_copied s) (λ x. same_ticket t x.0 ≡ true → length (ticket_copies h t) < most_copies)) u o (λ n. tt) tt tt (reply_to net h (call.JoinReply u o))
+own-room net h number (call.Close w) t other =
+    close-says (λ s. IfSome (join_copied s) (λ x. same_ticket t x.0 ≡ true → length (ticket_copies h t) < most_copies)) w (λ ack. tt) tt (reply_to net h (call.Close w))
 own-room net h number (call.Join u heard) t other = join_copy-room net h u heard t other
 
 ticket_copies_step : (net : Network) (h : List Entry) (number : ℕ) (c : Call) (t : Ticket) → length (ticket_copies h t) ≤ most_copies → length (ticket_copies (with_call net h number c) t) ≤ most_copies

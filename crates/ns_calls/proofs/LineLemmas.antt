@@ -19,10 +19,10 @@ use Rattle.ns_calls.proofs.Lists.{All-append}
 use Rattle.ns_calls.specs.Text.{wide, address_text, number_text, id_text, round_text, window_text, optional_text, reply_text, bytes_text, gateways_text, kind_text, up_text, down_text, text, has_line_feed}
 
 -- two texts one after the other
-joined : (xs ys : List ℕ) → has_line_feed xs ≡ false → has_line_feed ys ≡ false → has_line_feed (xs ++ ys) ≡ false
+pub joined : (xs ys : List ℕ) → has_line_feed xs ≡ false → has_line_feed ys ≡ false → has_line_feed (xs ++ ys) ≡ false
 joined xs ys first second = list_any-append (λ b. b == 10) xs ys ∙ (ap (λ b. b || has_line_feed ys) first ∙ second)
 
-at_any : (xs : List ℕ) → has_line_feed xs ≡ false → (i : ℕ) → (slice_index xs i == 10) ≡ false
+pub at_any : (xs : List ℕ) → has_line_feed xs ≡ false → (i : ℕ) → (slice_index xs i == 10) ≡ false
 at_any [] none i = refl
 at_any (x ∷ xs) none zero = first (x == 10) none
   where
@@ -35,7 +35,7 @@ at_any (x ∷ xs) none (suc i) = at_any xs (later (x == 10) none) i
     later true is = absurd (cc is)
     later false is = is
 
-hex-line : (bytes : List ℕ) → has_line_feed (encode_lower bytes) ≡ false
+pub hex-line : (bytes : List ℕ) → has_line_feed (encode_lower bytes) ≡ false
 unfolding encode_with
 hex-line [] = refl
 hex-line (b ∷ bs) =
@@ -60,18 +60,18 @@ digits-line (suc k) n acc none = step (digits-line k (n / 10) (digit_glyph false
     step later true = more
     step later false = later more
 
-decimal-line : (n : ℕ) → has_line_feed (decimal n) ≡ false
+pub decimal-line : (n : ℕ) → has_line_feed (decimal n) ≡ false
 unfolding digits
 decimal-line n = digits-line 64 n [] refl
 
 number-line : (n : ℕ) → has_line_feed (number_text n) ≡ false
 number-line n = joined (codes " ") (decimal n) refl (decimal-line n)
 
-wide-line : (n : ℕ) → has_line_feed (wide n) ≡ false
+pub wide-line : (n : ℕ) → has_line_feed (wide n) ≡ false
 unfolding wide
 wide-line n = hex-line (to_be_bytes w64 n)
 
-address-line : (n : ℕ) → has_line_feed (address_text n) ≡ false
+pub address-line : (n : ℕ) → has_line_feed (address_text n) ≡ false
 unfolding address_text
 address-line n = hex-line (to_be_bytes w32 n)
 

@@ -10,16 +10,14 @@ use Rattle.ns_types.specs.Identity.{shard_of}
 use Rattle.ns_types.specs.Ticket.{dev_eui, join_eui, nonce}
 use Rattle.ns_roster.specs.Network.{Network, is_known}
 use Rattle.ns_calls.specs.declared.call.Call.{Call}
-use Rattle.ns_calls.specs.declared.call.Call.TheVariants as call
 use Rattle.ns_calls.specs.declared.call.Outcome.{Outcome}
-use Rattle.ns_calls.specs.declared.call.Outcome.TheVariants as outcome
 use Rattle.ns_calls.specs.declared.call.Reply.{Reply}
-use Rattle.ns_calls.specs.declared.call.Reply.TheVariants as reply
 use Rattle.ns_calls.specs.declared.call.Entry.{Entry}
 use Rattle.ns_types.specs.Cases.{when}
 use Rattle.ns_calls.specs.Queries.{greater, maximum, from_last}
-use Rattle.ns_calls.specs.Entries.{Acceptance, same_device, acceptance_in, acceptances}
-use Rattle.ns_calls.specs.History.{same_ticket, asking_in, ending_in, ticket_copy_in, is_ticket, asks_for, ends_ticket, last_nonce, greatest_nonce, next_session, open_tickets, is_ticket_open, ticket_count, copies_of_ticket, ticket_copies}
+use Rattle.ns_calls.specs.Entries.{Acceptance, same_device, acceptances}
+use Rattle.ns_calls.specs.History.{same_ticket, asks_for, ends_ticket, last_nonce, greatest_nonce, next_session, open_tickets, is_ticket_open, ticket_count, copies_of_ticket, ticket_copies}
+use Rattle.ns_calls.proofs.Says.{acceptance_in, asking_in, ending_in, ticket_copy_in, is_ticket, accepted-by, asked-by, ended-by, join_copied-by}
 use Rattle.ns_calls.specs.Reply.{join_rule, answer_rule, reply_to_join, reply_to_join_reply, address, is_failed}
 use Rattle.ns_calls.specs.Shards.{shard_of_call, of_shard}
 use Rattle.ns_calls.proofs.TicketLemmas.{same_ticket-eq}
@@ -52,29 +50,23 @@ none_single {X} q x h = ap (λ b. cond {A = List X} b (x ∷ []) []) h
 -- ---- what entries of other shards don't say
 
 acceptance-other : (k : ℕ) (eui : DevEui) → shard_of eui ≡ k → (c : Call) (r : Reply) → eqb (shard_of_call c) k ≡ false → filter (λ a. same_device a.eui eui) (option_to_list (acceptance_in c r)) ≡ []
-acceptance-other k eui h (call.JoinReply ticket (outcome.Success join_ans)) (reply.Accepted device session addr) n =
-    let a : Acceptance = record { eui = dev_eui ticket; session = session; ticket = ticket; join_ans = join_ans } in
-    none_single (λ (b : Acceptance). same_device b.eui eui) a (other_device k (dev_eui ticket).0 eui.0 h n)
-acceptance-other k eui h _ _ n = refl
+acceptance-other k eui h =
+    accepted-by (λ d p. eqb (shard_of_call d) k ≡ false → filter (λ (a : Acceptance). same_device a.eui eui) (option_to_list p) ≡ []) (λ d n. refl)
+    (λ t join session n. none_single (λ (b : Acceptance). same_device b.eui eui) (record { eui = dev_eui t; session = session; ticket = t; join_ans = join }) (other_device k (dev_eui t).0 eui.0 h n))
 
 asking-other : (k : ℕ) (c : Call) (r : Reply) → eqb (shard_of_call c) k ≡ false → filter (own k) (option_to_list (asking_in c r)) ≡ []
-asking-other k (call.Join ticket heard) (reply.Ask asked) n = ap (λ b. cond b (ticket ∷ []) []) n
-asking-other k _ _ n = refl
+asking-other k = asked-by (λ d p. eqb (shard_of_call d) k ≡ false → filter (own k) (option_to_list p) ≡ []) (λ d n. refl) (λ t heard n. ap (λ b. cond b (t ∷ []) []) n)
 
 asks-other : (k : ℕ) (t : Ticket) → own k t ≡ true → (c : Call) (r : Reply) → eqb (shard_of_call c) k ≡ false → is_ticket t (asking_in c r) ≡ false
-asks-other k t mine (call.Join ticket heard) (reply.Ask asked) n = other_ticket k t ticket mine n
-asks-other k t mine _ _ n = refl
+asks-other k t mine = asked-by (λ d p. eqb (shard_of_call d) k ≡ false → is_ticket t p ≡ false) (λ d n. refl) (λ u heard n. other_ticket k t u mine n)
 
 ends-other : (k : ℕ) (t : Ticket) → own k t ≡ true → (c : Call) (r : Reply) → eqb (shard_of_call c) k ≡ false → is_ticket t (ending_in c r) ≡ false
-ends-other k t mine (call.JoinReply ticket outcome) (reply.Accepted eui session addr) n = other_ticket k t ticket mine n
-ends-other k t mine (call.JoinReply ticket outcome) reply.JoinRefused n = other_ticket k t ticket mine n
-ends-other k t mine (call.JoinReply ticket outcome) (reply.JoinStale greatest) n = other_ticket k t ticket mine n
-ends-other k t mine _ _ n = refl
+ends-other k t mine = ended-by (λ d p. eqb (shard_of_call d) k ≡ false → is_ticket t p ≡ false) (λ d n. refl) (λ u o n. other_ticket k t u mine n)
 
 copy-other : (k : ℕ) (t : Ticket) → own k t ≡ true → (c : Call) (r : Reply) → eqb (shard_of_call c) k ≡ false → filter (λ x. same_ticket t x.0) (option_to_list (ticket_copy_in c r)) ≡ []
-copy-other k t mine (call.Join ticket heard) (reply.Ask asked) n = none_single (λ (x : Ticket × Heard). same_ticket t x.0) (ticket, heard) (other_ticket k t ticket mine n)
-copy-other k t mine (call.Join ticket heard) (reply.JoinCopied place) n = none_single (λ (x : Ticket × Heard). same_ticket t x.0) (ticket, heard) (other_ticket k t ticket mine n)
-copy-other k t mine _ _ n = refl
+copy-other k t mine =
+    join_copied-by (λ d p. eqb (shard_of_call d) k ≡ false → filter (λ (x : Ticket × Heard). same_ticket t x.0) (option_to_list p) ≡ []) (λ d n. refl)
+    (λ u heard n. none_single (λ (x : Ticket × Heard). same_ticket t x.0) (u, heard) (other_ticket k t u mine n))
 
 -- ---- what a shard's entries say of its devices and tickets
 

@@ -5,7 +5,7 @@ use Rattle.std.proofs.lemmas.Bool.Decides.{eqb_tells}
 use Rattle.ns_calls.specs.declared.call.Entry.{Entry}
 use Rattle.ns_calls.specs.Shards.{shard_of_call, of_shard, IsMerge, AreOfTheirShard}
 use Rattle.ns_calls.specs.Merges.{IsMadeOf}
-use Rattle.ns_calls.proofs.MergeLemmas.{slice_get-set_other, slice_get-set_same, filter-merge, own_rest}
+use Rattle.ns_calls.proofs.MergeLemmas.{slice_get-set_other, slice_get-set_same, filter-merge, own_rest, some_same}
 
 within : {X : Type 0} (xs : List X) (k : ℕ) (x : X) → slice_get xs k ≡ Some x → k < length xs
 within [] k x at = absurd (cc at)
@@ -21,9 +21,6 @@ length-set : {X : Type 0} (xs : List X) (k : ℕ) (x : X) → length (slice_set 
 length-set [] k x = refl
 length-set (y ∷ ys) zero x = refl
 length-set (y ∷ ys) (suc k) x = ap suc (length-set ys k x)
-
-some_same : {X : Type 0} (x y : X) → Some x ≡ Some y → x ≡ y
-some_same x y e = cc
 
 -- each element of a merge is of a shard that has a part
 merge-within : (whole : List Entry) (parts : List (List Entry)) → IsMerge parts whole → AreOfTheirShard (λ (e : Entry). shard_of_call e.call) parts → AllByRecursion (λ e. shard_of_call e.call < length parts) whole

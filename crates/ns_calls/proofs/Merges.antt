@@ -12,13 +12,13 @@ use Rattle.ns_calls.specs.declared.call.Reply.{Reply}
 use Rattle.ns_calls.specs.declared.answer.Answer.{Answer}
 use Rattle.ns_calls.specs.declared.call.Entry.{Entry}
 use Rattle.ns_calls.specs.Reply.{reply_to}
-use Rattle.ns_calls.specs.Out.{Sent, out, uplink_out, downlink_out, answer}
+use Rattle.ns_calls.specs.Out.{uplink_out, downlink_out, answer}
 use Rattle.ns_calls.specs.Shards.{shard_of_call, of_shard, IsMerge, AreOfTheirShard, NamesOwnDevice}
 use Rattle.ns_calls.specs.Legal.{IsLegal, IsHistory}
 use Rattle.ns_calls.specs.Queries.{first}
 use Rattle.ns_calls.specs.Entries.{Opening, open_windows}
-use Rattle.ns_calls.specs.History.{oldest}
-use Rattle.ns_calls.specs.Merges.{AreHistories, MergesAreLegal}
+use Rattle.ns_calls.specs.Headline.{oldest}
+use Rattle.ns_calls.specs.Merges.{AreHistories, MergesAreLegal, Sent, out}
 use Rattle.ns_calls.proofs.MergeLemmas.{filter-merge, own_rest, slice_get-set_other}
 use Rattle.ns_calls.proofs.ShardLemmas.{Housed, AllHoused, InShard, IsOwn, open_windows-mine}
 use Rattle.ns_calls.proofs.PartLemmas.{legal-housed, reply-own, out-own}
@@ -37,16 +37,16 @@ take_seam [] ys = refl
 take_seam (x ∷ xs) ys = ap (λ l. x ∷ l) (take_seam xs ys)
 
 -- of a list by its places
-by_place : (P : Entry → Type 0) (xs : List Entry) → ((n : ℕ) (e : Entry) → slice_get xs n ≡ Some e → P e) → AllByRecursion P xs
+pub by_place : (P : Entry → Type 0) (xs : List Entry) → ((n : ℕ) (e : Entry) → slice_get xs n ≡ Some e → P e) → AllByRecursion P xs
 by_place P [] each = tt
 by_place P (x ∷ xs) each = (each zero x refl, by_place P xs (λ n e at. each (suc n) e at))
 
-at_place : (P : Entry → Type 0) (xs : List Entry) → AllByRecursion P xs → (n : ℕ) (e : Entry) → slice_get xs n ≡ Some e → P e
+pub at_place : (P : Entry → Type 0) (xs : List Entry) → AllByRecursion P xs → (n : ℕ) (e : Entry) → slice_get xs n ≡ Some e → P e
 at_place P [] all n e at = absurd (cc at)
 at_place P (x ∷ xs) all zero e at = (let same : x ≡ e = cc in subst P same all.0)
 at_place P (x ∷ xs) all (suc n) e at = at_place P xs all.1 n e at
 
-All-take : (P : Entry → Type 0) (n : ℕ) (xs : List Entry) → AllByRecursion P xs → AllByRecursion P (take n xs)
+pub All-take : (P : Entry → Type 0) (n : ℕ) (xs : List Entry) → AllByRecursion P xs → AllByRecursion P (take n xs)
 All-take P zero xs all = tt
 All-take P (suc n) [] all = tt
 All-take P (suc n) (x ∷ xs) all = (all.0, All-take P n xs all.1)

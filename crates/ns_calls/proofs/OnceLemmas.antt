@@ -12,7 +12,8 @@ use Rattle.ns_calls.specs.declared.call.Call.TheVariants as call
 use Rattle.ns_calls.specs.declared.call.Reply.{Reply}
 use Rattle.ns_calls.specs.declared.call.Reply.TheVariants as reply
 use Rattle.ns_calls.specs.declared.call.Entry.{Entry}
-use Rattle.ns_calls.specs.Entries.{Opening, Closing, closing_in, open_windows}
+use Rattle.ns_calls.specs.Entries.{Opening, Closing, open_windows}
+use Rattle.ns_calls.proofs.Says.{closing_in}
 use Rattle.ns_calls.specs.History.{open_window}
 use Rattle.ns_calls.specs.Out.{uplink_of, first_uplink_of, uplink_out}
 use Rattle.ns_calls.specs.Legal.{IsLegal, entry_for}

@@ -5,8 +5,9 @@ use Rattle.std.proofs.lemmas.List.Elements.{Contains-append_left, Contains-appen
 use Rattle.std.proofs.lemmas.Option.{same_Some}
 use Rattle.ns_types.specs.declared.ticket.Ticket.{Ticket}
 use Rattle.ns_calls.specs.declared.call.Entry.{Entry}
-use Rattle.ns_calls.specs.Entries.{is_ended, still_open, Opening, window_in, closes, open_windows}
-use Rattle.ns_calls.specs.History.{asking_in, ends_ticket, open_tickets}
+use Rattle.ns_calls.specs.Entries.{is_ended, still_open, Opening, closes, open_windows}
+use Rattle.ns_calls.specs.History.{ends_ticket, open_tickets}
+use Rattle.ns_calls.proofs.Says.{window_in, asking_in}
 use Rattle.ns_calls.specs.Open.{IsOpenWindow}
 use Rattle.ns_calls.specs.Headline.{IsOpenTicket}
 
@@ -47,7 +48,7 @@ kept_one {X} keep (Some y) x has = step (keep y) refl has
     step true kept there = (let same : y ≡ x = the_element y x there in (ap Some same, subst (λ z. keep z ≡ true) same kept))
     step false gone there = absurd (no_element x there)
 
-not_false : (b : Bool) → not b ≡ true → b ≡ false
+pub not_false : (b : Bool) → not b ≡ true → b ≡ false
 not_false true is = absurd (cc is)
 not_false false is = refl
 

@@ -24,12 +24,13 @@ use Rattle.ns_calls.specs.declared.call.Reply.TheVariants as reply
 use Rattle.ns_calls.specs.declared.call.Entry.{Entry}
 use Rattle.ns_calls.specs.Accept.{accept_bytes}
 use Rattle.ns_calls.specs.Queries.{from_last}
-use Rattle.ns_calls.specs.Entries.{Opening, window_in, closes, open_windows}
-use Rattle.ns_calls.specs.History.{asking_in, window_copy_in, ticket_copy_in, is_ticket, asks_for, ends_ticket, same_ticket, open_window, window_copies, is_ticket_open, ticket_copies, copies_of_ticket, session_join, next_session}
-use Rattle.ns_calls.specs.Reply.{reply_to, reply_to_uplink, nonce_at_or_above, is_failed, address, ack_number}
+use Rattle.ns_calls.specs.Entries.{Opening, closes, open_windows}
+use Rattle.ns_calls.specs.History.{asks_for, ends_ticket, same_ticket, open_window, window_copies, is_ticket_open, ticket_copies, copies_of_ticket, session_join, next_session}
+use Rattle.ns_calls.proofs.Says.{window_in, window_copy_in, ticket_copy_in, opening-copy, asking-copy}
+use Rattle.ns_calls.specs.Reply.{reply_to, reply_to_uplink, is_failed, address, ack_number}
 use Rattle.ns_calls.specs.Out.{uplink_of, first_uplink_of, uplink_out, downlink_out, downlink_to, ack_frame, ack_downlink, join_accept_delay}
 use Rattle.ns_calls.specs.Legal.{IsLegal, entry_for, with_call}
-use Rattle.ns_calls.specs.Headline.{WindowsHaveCopies, hands_out_downlink, GoesOut}
+use Rattle.ns_calls.specs.Headline.{WindowsHaveCopies, hands_out_downlink, GoesOut, nonce_at_or_above}
 use Rattle.ns_calls.specs.Laws.{hands_out_uplink}
 use Rattle.ns_calls.proofs.LocalLemmas.{bool_tells}
 use Rattle.ns_calls.proofs.Lists.{All-after, All-weaker, IfSome-weaker, find-has}
@@ -42,11 +43,6 @@ use Rattle.ns_calls.proofs.NameLemmas.{same_window-refl, same_window-eq}
 use Rattle.ns_calls.proofs.KeyLemmas.{sessions_have_joins}
 
 -- ---- an open window has a copy
-
-opening-copy : (c : Call) (r : Reply) → IfSome (window_in c r) (λ o. window_copy_in c r ≡ Some (o.window, o.heard))
-opening-copy (call.Uplink frame heard) (reply.Opened w) = refl
-opening-copy (call.Uplink frame heard) (reply.Again w) = refl
-opening-copy _ _ = tt
 
 copies-stay : (h : List Entry) (e : Entry) (w : WindowName) → 0 < length (window_copies h w) → 0 < length (window_copies (h ++ e ∷ []) w)
 copies-stay h e w some =
@@ -86,7 +82,7 @@ best-some (c ∷ cs) some = refl
 
 -- ---- an open ticket has a copy
 
-or_true : (a b : Bool) → (a || b) ≡ true → (a ≡ true) ⊎ (b ≡ true)
+pub or_true : (a b : Bool) → (a || b) ≡ true → (a ≡ true) ⊎ (b ≡ true)
 or_true true b is = inl refl
 or_true false b is = inr is
 
@@ -124,11 +120,6 @@ from_last-first {E} test (e ∷ es) is =
     or_none : (a : Bool) → (a || false) ≡ a
     or_none true = refl
     or_none false = refl
-
--- an entry that asks for a ticket adds a copy to it
-asking-copy : (t : Ticket) (c : Call) (r : Reply) → is_ticket t (asking_in c r) ≡ true → (u : Ticket) × (heard : Heard) × (ticket_copy_in c r ≡ Some (u, heard)) × (same_ticket t u ≡ true)
-asking-copy t (call.Join u heard) (reply.Ask asked) is = (u, heard, refl, is)
-asking-copy t _ _ is = absurd (cc is)
 
 asked-copies : (t : Ticket) (x : Entry) (rest : List Entry) → asks_for t x ≡ true → 0 < length (copies_of_ticket (x ∷ rest) t)
 asked-copies t x rest is =

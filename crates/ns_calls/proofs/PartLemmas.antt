@@ -28,8 +28,10 @@ use Rattle.ns_calls.specs.declared.answer.Downlink.{Downlink}
 use Rattle.ns_calls.specs.Queries.{last, maximum}
 use Rattle.ns_calls.specs.Entries.{Acceptance, Opening, Closing, acceptances, openings, open_windows}
 use Rattle.ns_calls.specs.History.{closings, first_and_other, session_join, next_session, greatest_counter, open_window, window_copies, is_ticket_open}
-use Rattle.ns_calls.specs.Reply.{Fit, window_of, first_fit, window_with, is_greatest, round_of, reply_to, reply_to_uplink, nonce_at_or_above, is_failed, address, ack_number}
-use Rattle.ns_calls.specs.Out.{payload_key, uplink_under, uplink_of, first_uplink_of, uplink_out, downlink_out, ack_at, ack_downlink, accept_at, out}
+use Rattle.ns_calls.specs.Reply.{Fit, window_of, first_fit, window_with, is_greatest, round_of, reply_to, reply_to_uplink, is_failed, address, ack_number}
+use Rattle.ns_calls.specs.Headline.{nonce_at_or_above}
+use Rattle.ns_calls.specs.Out.{payload_key, uplink_under, uplink_of, first_uplink_of, uplink_out, downlink_out, ack_at, ack_downlink, accept_at}
+use Rattle.ns_calls.specs.Merges.{out}
 use Rattle.ns_calls.specs.Legal.{IsLegal, entry_for}
 use Rattle.ns_calls.specs.Shards.{shard_of_call, of_shard, NamesOwnDevice}
 use Rattle.ns_calls.proofs.Lists.{All-push, find-has, IfSome-weaker, at_some}
@@ -164,7 +166,7 @@ named h w = weaker (open_window h w) (find-has (λ _. Unit {0}) (λ (o : Opening
     weaker None holds = tt
     weaker (Some x) holds = ap (λ (v : WindowName). shard_of v.eui) (same_window-eq x.window w holds.1)
 
-map-same : {X Y : Type 0} (f g : X → Y) (o : Option X) → IfSome o (λ x. f x ≡ g x) → option_map f o ≡ option_map g o
+pub map-same : {X Y : Type 0} (f g : X → Y) (o : Option X) → IfSome o (λ x. f x ≡ g x) → option_map f o ≡ option_map g o
 map-same f g None same = refl
 map-same f g (Some x) same = ap Some same
 

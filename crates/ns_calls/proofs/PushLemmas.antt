@@ -9,8 +9,9 @@ use Rattle.ns_types.specs.declared.ticket.Ticket.{Ticket}
 use Rattle.ns_types.specs.Identity.{same_window}
 use Rattle.ns_calls.specs.declared.call.Entry.{Entry}
 use Rattle.ns_calls.specs.Queries.{from_last}
-use Rattle.ns_calls.specs.Entries.{Acceptance, Opening, Closing, acceptance_in, opening_in, window_in, closing_in, acceptances, openings, same_device, closes, open_windows}
-use Rattle.ns_calls.specs.History.{asking_in, window_copy_in, ticket_copy_in, closings, same_ticket, ends_ticket, asks_for, window_copies, open_tickets, ticket_copies, copies_of_ticket}
+use Rattle.ns_calls.specs.Entries.{Acceptance, Opening, Closing, acceptances, openings, same_device, closes, open_windows}
+use Rattle.ns_calls.specs.History.{closings, same_ticket, ends_ticket, asks_for, window_copies, open_tickets, ticket_copies, copies_of_ticket}
+use Rattle.ns_calls.proofs.Says.{acceptance_in, opening_in, window_in, closing_in, asking_in, window_copy_in, ticket_copy_in}
 use Rattle.ns_calls.proofs.QueryLemmas.{still_open-push, from_last-push}
 use Rattle.ns_calls.proofs.Lists.{said, said-push}
 

@@ -11,12 +11,11 @@ use Rattle.ns_types.specs.Identity.{same_uplink, same_window}
 use Rattle.ns_secure.specs.Counter.{Exceeds}
 use Rattle.ns_roster.specs.Network.{Network}
 use Rattle.ns_calls.specs.declared.call.Call.{Call}
-use Rattle.ns_calls.specs.declared.call.Call.TheVariants as call
 use Rattle.ns_calls.specs.declared.call.Reply.{Reply}
-use Rattle.ns_calls.specs.declared.call.Reply.TheVariants as reply
 use Rattle.ns_calls.specs.declared.call.Entry.{Entry}
 use Rattle.ns_calls.specs.Queries.{greater, maximum}
-use Rattle.ns_calls.specs.Entries.{Opening, opening_in, window_in, openings, same_device, session_counters, closes, open_windows}
+use Rattle.ns_calls.specs.Entries.{Opening, openings, same_device, session_counters, closes, open_windows}
+use Rattle.ns_calls.proofs.Says.{opening_in, window_in, opening-window}
 use Rattle.ns_calls.specs.History.{greatest_counter, rounds, last_round}
 use Rattle.ns_calls.specs.Reply.{reply_to}
 use Rattle.ns_calls.specs.Legal.{IsLegal, entry_for, with_call}
@@ -112,7 +111,7 @@ counters_reach net h legal = legal_induction net CountersReach tt (λ g number c
 
 -- ---- a window that is opened has a name of its own
 
-count-none : {X : Type 0} (test : X → Bool) (xs : List X) → AllByRecursion (λ x. test x ≡ false) xs → count_by test xs ≡ 0
+pub count-none : {X : Type 0} (test : X → Bool) (xs : List X) → AllByRecursion (λ x. test x ≡ false) xs → count_by test xs ≡ 0
 count-none test [] none = refl
 count-none test (x ∷ xs) none = count-cons test x xs ∙ (ap (λ b. cond {A = ℕ} b 1 0 + count_by test xs) none.0 ∙ (zero-add (count_by test xs) ∙ count-none test xs none.1))
 
@@ -245,12 +244,8 @@ last-grows (n ∷ ns) ms = step (maximum ns) (maximum (ns ++ ms)) (last-grows ns
 last_round-grows : (h : List Entry) (e : Entry) (w : WindowName) → last_round h w ≤ last_round (h ++ e ∷ []) w
 last_round-grows h e w = subst (λ ns. last_round h w ≤ unwrap_or (maximum ns) 0) (sym (rounds-push h e w)) (last-grows (rounds h w) (map (λ (o : Opening). o.window.round) (filter (λ (o : Opening). same_uplink o.window w) (option_to_list (window_in e.call e.reply)))))
 
-opening-window : (c : Call) (r : Reply) → IfSome (opening_in c r) (λ o. window_in c r ≡ Some o)
-opening-window (call.Uplink frame heard) (reply.Opened w) = refl
-opening-window _ _ = tt
-
 -- no element passes
-filter-none : {X : Type 0} (test : X → Bool) (xs : List X) → AllByRecursion (λ x. test x ≡ false) xs → filter test xs ≡ []
+pub filter-none : {X : Type 0} (test : X → Bool) (xs : List X) → AllByRecursion (λ x. test x ≡ false) xs → filter test xs ≡ []
 filter-none test [] none = refl
 filter-none {X} test (x ∷ xs) none = ap (λ b. cond {A = List X} b (x ∷ filter test xs) (filter test xs)) none.0 ∙ filter-none test xs none.1
 

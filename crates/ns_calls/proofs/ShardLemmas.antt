@@ -19,8 +19,10 @@ use Rattle.ns_calls.specs.declared.call.Reply.{Reply}
 use Rattle.ns_calls.specs.declared.call.Reply.TheVariants as reply
 use Rattle.ns_calls.specs.declared.call.Entry.{Entry}
 use Rattle.ns_calls.specs.Queries.{first, last, maximum}
-use Rattle.ns_calls.specs.Entries.{Acceptance, Opening, Closing, opening_in, window_in, closing_in, closes, same_device, acceptances, openings, open_windows}
-use Rattle.ns_calls.specs.History.{window_copy_in, closings, first_and_other, live, session_join, greatest_counter, last_round, open_window, is_uplink_open, window_count, window_copies}
+use Rattle.ns_calls.specs.Entries as entries
+use Rattle.ns_calls.specs.Entries.{Acceptance, Opening, Closing, Said, said, first_opened, opened, closes, same_device, acceptances, openings, open_windows}
+use Rattle.ns_calls.specs.History.{copied, closings, first_and_other, live, session_join, greatest_counter, last_round, open_window, is_uplink_open, window_count, window_copies}
+use Rattle.ns_calls.proofs.Says.{opening_in, window_in, closing_in, window_copy_in, join-says, answer-says, close-says, closed-by, opened-is}
 use Rattle.ns_calls.specs.Reply.{Fit, fit_of, fitting_counter, session_fit, device_fit, devices_at, first_fit, window_with}
 use Rattle.ns_calls.specs.Shards.{shard_of_call, of_shard, NamesOwnDevice}
 use Rattle.ns_calls.proofs.LocalLemmas.{list_any-own, All-each, filter_map-own, filter_map-own_of, still_open-own_of, count_by-own}
@@ -50,39 +52,54 @@ other_window k v w mine other = ap (λ b. b && (v.round == w.round)) (other_upli
 
 -- ---- what entries of other shards don't say
 
-opening-other : (k : ℕ) (eui : DevEui) → shard_of eui ≡ k → (c : Call) (r : Reply) → NamesOwnDevice c r → eqb (shard_of_call c) k ≡ false → filter (λ o. same_device o.window.eui eui) (option_to_list (opening_in c r)) ≡ []
-opening-other k eui mine (call.Uplink frame heard) (reply.Opened w) housed n =
-    let o : Opening = record { window = w; frame = frame; heard = heard } in
-    none_single (λ (x : Opening). same_device x.window.eui eui) o (other_device k w.eui.0 eui.0 mine (elsewhere k w.eui (call.Uplink frame heard) housed n))
-opening-other k eui mine _ _ housed n = refl
+-- the device of a window of which an entry says something is of the call's shard
+abbrev IsOfCall : Call → Said → Type 0
+IsOfCall c (entries.Opens o) = shard_of o.window.eui ≡ shard_of_call c
+IsOfCall c (entries.OpensAgain o) = shard_of o.window.eui ≡ shard_of_call c
+IsOfCall c (entries.Copies w heard) = shard_of w.eui ≡ shard_of_call c
+IsOfCall c _ = Unit {0}
+
+own-said : (c : Call) (r : Reply) → NamesOwnDevice c r → IsOfCall c (said c r)
+own-said (call.Uplink frame heard) (reply.Opened w) housed = housed
+own-said (call.Uplink frame heard) (reply.Again w) housed = housed
+own-said (call.Uplink frame heard) (reply.Copied w place) housed = housed
+own-said (call.Uplink frame heard) _ housed = tt
+own-said (call.Join t heard) r housed = join-says (IsOfCall (call.Join t heard)) t heard tt tt tt r
+own-said (call.JoinReply t o) r housed = answer-says (IsOfCall (call.JoinReply t o)) t o (λ n. tt) tt tt r
+own-said (call.Close w) r housed = close-says (IsOfCall (call.Close w)) w (λ ack. tt) tt r
+
+-- what an entry says
+abbrev says_of : Entry → Said
+says_of e = said e.call e.reply
+
+own_entry : (e : Entry) → Housed e → IsOfCall e.call (says_of e)
+own_entry e housed = own-said e.call e.reply housed
+
+opening-other : (k : ℕ) (eui : DevEui) → shard_of eui ≡ k → (c : Call) (s : Said) → IsOfCall c s → eqb (shard_of_call c) k ≡ false → filter (λ o. same_device o.window.eui eui) (option_to_list (first_opened s)) ≡ []
+opening-other k eui mine c (entries.Opens o) own n = none_single (λ (x : Opening). same_device x.window.eui eui) o (other_device k o.window.eui.0 eui.0 mine (elsewhere k o.window.eui c own n))
+opening-other k eui mine c _ own n = refl
 
 closing-other : (k : ℕ) (eui : DevEui) → shard_of eui ≡ k → (c : Call) (r : Reply) → eqb (shard_of_call c) k ≡ false → filter (λ x. same_device x.window.eui eui) (option_to_list (closing_in c r)) ≡ []
-closing-other k eui mine (call.Close w) (reply.Closed closed ack) n =
-    let c : Closing = record { window = w; ack = ack } in
-    none_single (λ (x : Closing). same_device x.window.eui eui) c (other_device k w.eui.0 eui.0 mine n)
-closing-other k eui mine _ _ n = refl
+closing-other k eui mine =
+    closed-by (λ d p. eqb (shard_of_call d) k ≡ false → filter (λ (x : Closing). same_device x.window.eui eui) (option_to_list p) ≡ []) (λ d n. refl)
+    (λ w ack n. none_single (λ (x : Closing). same_device x.window.eui eui) (record { window = w; ack = ack }) (other_device k w.eui.0 eui.0 mine n))
 
-copy-other : (k : ℕ) (w : WindowName) → shard_of w.eui ≡ k → (c : Call) (r : Reply) → NamesOwnDevice c r → eqb (shard_of_call c) k ≡ false → filter (λ x. same_window x.0 w) (option_to_list (window_copy_in c r)) ≡ []
-copy-other k w mine (call.Uplink frame heard) (reply.Opened v) housed n =
-    none_single (λ (x : WindowName × Heard). same_window x.0 w) (v, heard) (other_window k v w mine (elsewhere k v.eui (call.Uplink frame heard) housed n))
-copy-other k w mine (call.Uplink frame heard) (reply.Again v) housed n =
-    none_single (λ (x : WindowName × Heard). same_window x.0 w) (v, heard) (other_window k v w mine (elsewhere k v.eui (call.Uplink frame heard) housed n))
-copy-other k w mine (call.Uplink frame heard) (reply.Copied v place) housed n =
-    none_single (λ (x : WindowName × Heard). same_window x.0 w) (v, heard) (other_window k v w mine (elsewhere k v.eui (call.Uplink frame heard) housed n))
-copy-other k w mine _ _ housed n = refl
+copy-other : (k : ℕ) (w : WindowName) → shard_of w.eui ≡ k → (c : Call) (s : Said) → IsOfCall c s → eqb (shard_of_call c) k ≡ false → filter (λ x. same_window x.0 w) (option_to_list (copied s)) ≡ []
+copy-other k w mine c (entries.Opens o) own n = none_single (λ (x : WindowName × Heard). same_window x.0 w) (o.window, o.heard) (other_window k o.window w mine (elsewhere k o.window.eui c own n))
+copy-other k w mine c (entries.OpensAgain o) own n = none_single (λ (x : WindowName × Heard). same_window x.0 w) (o.window, o.heard) (other_window k o.window w mine (elsewhere k o.window.eui c own n))
+copy-other k w mine c (entries.Copies v heard) own n = none_single (λ (x : WindowName × Heard). same_window x.0 w) (v, heard) (other_window k v w mine (elsewhere k v.eui c own n))
+copy-other k w mine c _ own n = refl
 
-opens-other : (k : ℕ) (c : Call) (r : Reply) → NamesOwnDevice c r → eqb (shard_of_call c) k ≡ false → filter (λ o. own_window k o.window) (option_to_list (window_in c r)) ≡ []
-opens-other k (call.Uplink frame heard) (reply.Again w) housed n =
-    let o : Opening = record { window = w; frame = frame; heard = heard } in
-    none_single (λ (x : Opening). own_window k x.window) o (elsewhere k w.eui (call.Uplink frame heard) housed n)
-opens-other k (call.Uplink frame heard) (reply.Opened w) housed n =
-    let o : Opening = record { window = w; frame = frame; heard = heard } in
-    none_single (λ (x : Opening). own_window k x.window) o (elsewhere k w.eui (call.Uplink frame heard) housed n)
-opens-other k _ _ housed n = refl
+-- where an entry opens a window, its device is of another shard too
+opens-other : (k : ℕ) (test : Opening → Bool) → ((o : Opening) → own_window k o.window ≡ false → test o ≡ false) → (c : Call) (s : Said) → IsOfCall c s → eqb (shard_of_call c) k ≡ false → filter test (option_to_list (opened s)) ≡ []
+opens-other k test outside c (entries.Opens o) own n = none_single test o (outside o (elsewhere k o.window.eui c own n))
+opens-other k test outside c (entries.OpensAgain o) own n = none_single test o (outside o (elsewhere k o.window.eui c own n))
+opens-other k test outside c _ own n = refl
 
 closes-other : (k : ℕ) (w : WindowName) → own_window k w ≡ true → (c : Call) (r : Reply) → eqb (shard_of_call c) k ≡ false → option_map_or (λ (x : Closing). same_window x.window w) (closing_in c r) false ≡ false
-closes-other k w mine (call.Close v) (reply.Closed closed ack) n = other_window k v w (grind (arith, nat_tests, mine)) n
-closes-other k w mine _ _ n = refl
+closes-other k w mine =
+    closed-by (λ d p. eqb (shard_of_call d) k ≡ false → option_map_or (λ (x : Closing). same_window x.window w) p false ≡ false) (λ d n. refl)
+    (λ v ack n. other_window k v w (grind (arith, nat_tests, mine)) n)
 
 -- ---- what a shard's entries say of its devices and windows
 
@@ -92,7 +109,7 @@ housed_each Q k tells h housed = All-weaker Housed (λ e. here k e ≡ false →
 pub openings-own : (k : ℕ) (eui : DevEui) → shard_of eui ≡ k → (h : List Entry) → AllHoused h → openings (of_shard k h) eui ≡ openings h eui
 openings-own k eui mine h housed =
     filter_map-own_of (here k) (λ e. opening_in e.call e.reply) (λ o. same_device o.window.eui eui) h
-    (housed_each (λ e. filter (λ (o : Opening). same_device o.window.eui eui) (option_to_list (opening_in e.call e.reply)) ≡ []) k (λ e is n. opening-other k eui mine e.call e.reply is n) h housed)
+    (housed_each (λ e. filter (λ (o : Opening). same_device o.window.eui eui) (option_to_list (opening_in e.call e.reply)) ≡ []) k (λ e is n. opening-other k eui mine e.call (says_of e) (own_entry e is) n) h housed)
 
 pub closings-own : (k : ℕ) (eui : DevEui) → shard_of eui ≡ k → (h : List Entry) → closings (of_shard k h) eui ≡ closings h eui
 closings-own k eui mine h = filter_map-own (here k) (λ e. closing_in e.call e.reply) (λ c. same_device c.window.eui eui) (λ e n. closing-other k eui mine e.call e.reply n) h
@@ -101,12 +118,12 @@ pub window_copies-own : (k : ℕ) (w : WindowName) → shard_of w.eui ≡ k → 
 window_copies-own k w mine h housed =
     ap (map (λ (c : WindowName × Heard). c.1))
     (filter_map-own_of (here k) (λ e. window_copy_in e.call e.reply) (λ c. same_window c.0 w) h
-    (housed_each (λ e. filter (λ (c : WindowName × Heard). same_window c.0 w) (option_to_list (window_copy_in e.call e.reply)) ≡ []) k (λ e is n. copy-other k w mine e.call e.reply is n) h housed))
+    (housed_each (λ e. filter (λ (c : WindowName × Heard). same_window c.0 w) (option_to_list (window_copy_in e.call e.reply)) ≡ []) k (λ e is n. copy-other k w mine e.call (says_of e) (own_entry e is) n) h housed))
 
 pub open_windows-own : (k : ℕ) (h : List Entry) → AllHoused h → filter (λ o. own_window k o.window) (open_windows (of_shard k h)) ≡ filter (λ o. own_window k o.window) (open_windows h)
 open_windows-own k h housed =
     still_open-own_of (λ e. window_in e.call e.reply) (λ o e. closes o.window e) (here k) (λ o. own_window k o.window) (λ o e mine n. closes-other k o.window mine e.call e.reply n) h
-    (housed_each (λ e. filter (λ (o : Opening). own_window k o.window) (option_to_list (window_in e.call e.reply)) ≡ []) k (λ e is n. opens-other k e.call e.reply is n) h housed)
+    (housed_each (λ e. filter (λ (o : Opening). own_window k o.window) (option_to_list (window_in e.call e.reply)) ≡ []) k (λ e is n. opens-other k (λ (o : Opening). own_window k o.window) (λ o apart. apart) e.call (says_of e) (own_entry e is) n) h housed)
 
 pub window_count-own : (k : ℕ) (eui : DevEui) → shard_of eui ≡ k → (h : List Entry) → AllHoused h → window_count (of_shard k h) eui ≡ window_count h eui
 window_count-own k eui mine h housed =
@@ -133,20 +150,11 @@ open_window-own k w mine h housed =
     found-own k h housed test (All-each Own (named-own k w mine) (open_windows (of_shard k h))) (All-each Own (named-own k w mine) (open_windows h))
 
 -- the rounds of an uplink, and whether a window of it is open
-rounds-other : (k : ℕ) (w : WindowName) → shard_of w.eui ≡ k → (c : Call) (r : Reply) → NamesOwnDevice c r → eqb (shard_of_call c) k ≡ false → filter (λ o. same_uplink o.window w) (option_to_list (window_in c r)) ≡ []
-rounds-other k w mine (call.Uplink frame heard) (reply.Opened v) housed n =
-    let o : Opening = record { window = v; frame = frame; heard = heard } in
-    none_single (λ (x : Opening). same_uplink x.window w) o (other_uplink k v w mine (elsewhere k v.eui (call.Uplink frame heard) housed n))
-rounds-other k w mine (call.Uplink frame heard) (reply.Again v) housed n =
-    let o : Opening = record { window = v; frame = frame; heard = heard } in
-    none_single (λ (x : Opening). same_uplink x.window w) o (other_uplink k v w mine (elsewhere k v.eui (call.Uplink frame heard) housed n))
-rounds-other k w mine _ _ housed n = refl
-
 pub last_round-own : (k : ℕ) (w : WindowName) → shard_of w.eui ≡ k → (h : List Entry) → AllHoused h → last_round (of_shard k h) w ≡ last_round h w
 last_round-own k w mine h housed =
     ap (λ os. unwrap_or (maximum (map (λ (o : Opening). o.window.round) os)) 0)
     (filter_map-own_of (here k) (λ e. window_in e.call e.reply) (λ o. same_uplink o.window w) h
-    (housed_each (λ e. filter (λ (o : Opening). same_uplink o.window w) (option_to_list (window_in e.call e.reply)) ≡ []) k (λ e is n. rounds-other k w mine e.call e.reply is n) h housed))
+    (housed_each (λ e. filter (λ (o : Opening). same_uplink o.window w) (option_to_list (window_in e.call e.reply)) ≡ []) k (λ e is n. opens-other k (λ (o : Opening). same_uplink o.window w) (λ o apart. other_uplink k o.window w mine apart) e.call (says_of e) (own_entry e is) n) h housed))
 
 pub is_uplink_open-own : (k : ℕ) (w : WindowName) → shard_of w.eui ≡ k → (h : List Entry) → AllHoused h → is_uplink_open (of_shard k h) w ≡ is_uplink_open h w
 is_uplink_open-own k w mine h housed =
@@ -172,25 +180,25 @@ open_windows-all P (e ∷ es) all =
 abbrev pub IsOfItsFrame : Opening → Type 0
 IsOfItsFrame o = shard_of o.window.eui ≡ shard_of_addr (record { 0 = (data_fields o.frame).addr })
 
-opening-framed : (c : Call) (r : Reply) → NamesOwnDevice c r → AllByRecursion IsOfItsFrame (option_to_list (window_in c r))
-opening-framed (call.Uplink frame heard) (reply.Again w) housed = (housed, tt)
-opening-framed (call.Uplink frame heard) (reply.Opened w) housed = (housed, tt)
-opening-framed _ _ housed = tt
+opening-framed : (c : Call) (s : Said) → IsOfCall c s → IfSome (opened s) (λ o. c ≡ call.Uplink o.frame o.heard) → AllByRecursion IsOfItsFrame (option_to_list (opened s))
+opening-framed c (entries.Opens o) own is = (own ∙ ap shard_of_call is, tt)
+opening-framed c (entries.OpensAgain o) own is = (own ∙ ap shard_of_call is, tt)
+opening-framed c _ own is = tt
 
 pub open_windows-framed : (h : List Entry) → AllHoused h → AllByRecursion IsOfItsFrame (open_windows h)
-open_windows-framed h housed = open_windows-all IsOfItsFrame h (All-weaker Housed (Opens IsOfItsFrame) (λ e. opening-framed e.call e.reply) h housed)
+open_windows-framed h housed = open_windows-all IsOfItsFrame h (All-weaker Housed (Opens IsOfItsFrame) (λ e is. opening-framed e.call (says_of e) (own_entry e is) (opened-is e.call e.reply)) h housed)
 
 -- the windows that the entries of one shard opened are of that shard
 abbrev pub IsOwn : ℕ → Opening → Type 0
 IsOwn k o = shard_of o.window.eui ≡ k
 
-opening-mine : (k : ℕ) (c : Call) (r : Reply) → NamesOwnDevice c r → shard_of_call c ≡ k → AllByRecursion (IsOwn k) (option_to_list (window_in c r))
-opening-mine k (call.Uplink frame heard) (reply.Again w) housed mine = (housed ∙ mine, tt)
-opening-mine k (call.Uplink frame heard) (reply.Opened w) housed mine = (housed ∙ mine, tt)
-opening-mine k _ _ housed mine = tt
+opening-mine : (k : ℕ) (c : Call) (s : Said) → IsOfCall c s → shard_of_call c ≡ k → AllByRecursion (IsOwn k) (option_to_list (opened s))
+opening-mine k c (entries.Opens o) own mine = (own ∙ mine, tt)
+opening-mine k c (entries.OpensAgain o) own mine = (own ∙ mine, tt)
+opening-mine k c _ own mine = tt
 
 pub open_windows-mine : (k : ℕ) (h : List Entry) → AllByRecursion (λ e. Housed e × (shard_of_call e.call ≡ k)) h → AllByRecursion (IsOwn k) (open_windows h)
-open_windows-mine k h mine = open_windows-all (IsOwn k) h (All-weaker (λ e. Housed e × (shard_of_call e.call ≡ k)) (Opens (IsOwn k)) (λ e own. opening-mine k e.call e.reply own.0 own.1) h mine)
+open_windows-mine k h mine = open_windows-all (IsOwn k) h (All-weaker (λ e. Housed e × (shard_of_call e.call ≡ k)) (Opens (IsOwn k)) (λ e own. opening-mine k e.call (says_of e) (own_entry e own.0) own.1) h mine)
 
 abbrev pub shard_of_frame : List ℕ → ℕ
 shard_of_frame frame = shard_of_addr (record { 0 = (data_fields frame).addr })

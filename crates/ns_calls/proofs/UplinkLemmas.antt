@@ -20,9 +20,11 @@ use Rattle.ns_calls.specs.declared.call.Call.TheVariants as call
 use Rattle.ns_calls.specs.declared.call.Reply.{Reply}
 use Rattle.ns_calls.specs.declared.call.Reply.TheVariants as reply
 use Rattle.ns_calls.specs.declared.call.Entry.{Entry}
-use Rattle.ns_calls.specs.Entries.{Opening, opening_in, window_in, openings, same_device, session_counters, most_copies}
+use Rattle.ns_calls.specs.Entries.{Opening, openings, same_device, session_counters, most_copies, first_opened, opened}
+use Rattle.ns_calls.proofs.Says.{opening_in, window_in, opening_of, join-says, answer-says, close-says}
 use Rattle.ns_calls.specs.History.{greatest_counter, last_round, is_uplink_open, session_join, live, window_count, window_copies}
-use Rattle.ns_calls.specs.Reply.{fits, Fit, fit_of, window_of, fitting_counter, session_fit, device_fit, devices_at, first_fit, window_with, is_greatest, next_round, round_of, in_round, old_reply, UplinkFacts, uplink_rule, uplink_facts, most_windows, reply_to, reply_to_uplink}
+use Rattle.ns_calls.specs.Reply.{Fit, fit_of, window_of, fitting_counter, session_fit, device_fit, devices_at, first_fit, window_with, is_greatest, next_round, round_of, in_round, old_reply, UplinkFacts, uplink_rule, uplink_facts, most_windows, reply_to, reply_to_uplink}
+use Rattle.ns_calls.specs.Headline.{fits}
 use Rattle.ns_calls.specs.Legal.{IsLegal, entry_for, with_call}
 use Rattle.ns_calls.specs.Laws.{Rises, CountersRise}
 use Rattle.ns_calls.proofs.LocalLemmas.{bool_tells}
@@ -185,9 +187,6 @@ uplink-same net g h frame same = λ i. uplink_rule (record { confirmed = is_conf
     stale = option_map-same (λ (f : Fit). (f, window_count g f.eui, round_of g f)) (λ (f : Fit). (f, window_count h f.eui, round_of h f)) (first_fit below net g frame) (first_fit below net h frame) (same.fit below)
         (IfSome-weaker (SaysSame g h) (λ (f : Fit). (f, window_count g f.eui, round_of g f) ≡ (f, window_count h f.eui, round_of h f)) (first_fit below net h frame) (λ f is. ap₂ (λ n r. (f, n, r)) is.windows is.round) (same.of_fit below))
 
-abbrev pub opening_of : WindowName → List ℕ → Heard → Opening
-opening_of w frame heard = record { window = w; frame = frame; heard = heard }
-
 -- a window that is opened, in any round, is of a device and a session where the frame fits
 pub record FitsAt (net : Network) (h : List Entry) (frame : List ℕ) (w : WindowName) : Type 0 where
   pub recover : Option ℕ → ℕ → Option ℕ
@@ -219,9 +218,9 @@ pub record IsNewOpening (h : List Entry) (o : Opening) : Type 0 where
   pub apart : window_with h o.frame ≡ None
 
 pub opening-new : (net : Network) (h : List Entry) (c : Call) → IfSome (opening_in c (reply_to net h c)) (IsNewOpening h)
-opening-new net h (call.Join t heard) = tt
-opening-new net h (call.JoinReply t o) = tt
-opening-new net h (call.Close w) = tt
+opening-new net h (call.Join t heard) = join-says (λ s. IfSome (first_opened s) (IsNewOpening h)) t heard tt tt tt (reply_to net h (call.Join t heard))
+opening-new net h (call.JoinReply t o) = answer-says (λ s. IfSome (first_opened s) (IsNewOpening h)) t o (λ n. tt) tt tt (reply_to net h (call.JoinReply t o))
+opening-new net h (call.Close w) = close-says (λ s. IfSome (first_opened s) (IsNewOpening h)) w (λ ack. tt) tt (reply_to net h (call.Close w))
 opening-new net h (call.Uplink frame heard) = uplink-has (λ r. IfSome (opening_in (call.Uplink frame heard) r) (IsNewOpening h)) net h frame (record {
   copied = λ o is room. tt;
   crowded = λ o is full. tt;
@@ -273,9 +272,9 @@ first_fit-mic recover net h frame =
 
 -- each window that a call opens is the first of a fresh counter, or the next of the greatest one
 pub window-new : (net : Network) (h : List Entry) (c : Call) → IfSome (window_in c (reply_to net h c)) (IsOpened h c (reply_to net h c))
-window-new net h (call.Join t heard) = tt
-window-new net h (call.JoinReply t o) = tt
-window-new net h (call.Close w) = tt
+window-new net h (call.Join t heard) = let c = call.Join t heard in join-says (λ s. IfSome (opened s) (IsOpened h c (reply_to net h c))) t heard tt tt tt (reply_to net h c)
+window-new net h (call.JoinReply t o) = let c = call.JoinReply t o in answer-says (λ s. IfSome (opened s) (IsOpened h c (reply_to net h c))) t o (λ n. tt) tt tt (reply_to net h c)
+window-new net h (call.Close w) = let c = call.Close w in close-says (λ s. IfSome (opened s) (IsOpened h c (reply_to net h c))) w (λ ack. tt) tt (reply_to net h c)
 window-new net h (call.Uplink frame heard) =
     let c : Call = call.Uplink frame heard in
     uplink-has (λ r. IfSome (window_in c r) (IsOpened h c r)) net h frame (record {

@@ -12,9 +12,10 @@ use Rattle.ns_calls.specs.declared.call.Call.TheVariants as call
 use Rattle.ns_calls.specs.declared.call.Reply.{Reply}
 use Rattle.ns_calls.specs.declared.call.Reply.TheVariants as reply
 use Rattle.ns_calls.specs.declared.call.Entry.{Entry}
-use Rattle.ns_calls.specs.Entries.{Opening, Closing, window_in, closing_in, closes, open_windows}
+use Rattle.ns_calls.specs.Entries.{opened, Opening, Closing, closes, open_windows, closed}
+use Rattle.ns_calls.proofs.Says.{window_in, closing_in, uplink-says, join-says, answer-says, close-says}
 use Rattle.ns_calls.specs.History.{open_window}
-use Rattle.ns_calls.specs.Reply.{ack_number}
+use Rattle.ns_calls.specs.Reply.{ack_number, reply_to}
 use Rattle.ns_calls.specs.Legal.{IsLegal, entry_for, with_call}
 use Rattle.ns_calls.specs.Laws.{opening_count, closing_count, open_count, WindowsOpenOnce}
 use Rattle.ns_calls.proofs.LocalLemmas.{bool_tells}
@@ -121,9 +122,9 @@ closing h e c once is opens_none found = record {
         ]
 
 windows_step : (net : Network) (h : List Entry) (number : ℕ) (c : Call) → IsLegal net h → WindowsOpenOnce h → WindowsOpenOnce (with_call net h number c)
-windows_step net h number (call.Uplink frame heard) legal once = not_closing h (entry_for net h number (call.Uplink frame heard)) once refl (windows-fresh net h legal (call.Uplink frame heard))
-windows_step net h number (call.Join t heard) legal once = not_closing h (entry_for net h number (call.Join t heard)) once refl tt
-windows_step net h number (call.JoinReply t o) legal once = not_closing h (entry_for net h number (call.JoinReply t o)) once refl tt
+windows_step net h number (call.Uplink frame heard) legal once = not_closing h (entry_for net h number (call.Uplink frame heard)) once (uplink-says (λ s. closed s ≡ None) frame heard (λ w. refl) (λ w. refl) (λ w. refl) refl (reply_to net h (call.Uplink frame heard))) (windows-fresh net h legal (call.Uplink frame heard))
+windows_step net h number (call.Join t heard) legal once = not_closing h (entry_for net h number (call.Join t heard)) once (join-says (λ s. closed s ≡ None) t heard refl refl refl (reply_to net h (call.Join t heard))) (windows-fresh net h legal (call.Join t heard))
+windows_step net h number (call.JoinReply t o) legal once = not_closing h (entry_for net h number (call.JoinReply t o)) once (answer-says (λ s. closed s ≡ None) t o (λ n. refl) refl refl (reply_to net h (call.JoinReply t o))) (windows-fresh net h legal (call.JoinReply t o))
 windows_step net h number (call.Close w) legal once = step (open_window h w) refl
   where
     e : Entry
@@ -133,9 +134,9 @@ windows_step net h number (call.Close w) legal once = step (open_window h w) ref
     replied found = first_case (option_map (λ o. reply.Closed w (ack_number h o)) found ∷ []) reply.NoWindow
 
     step : (found : Option Opening) → open_window h w ≡ found → WindowsOpenOnce (h ++ e ∷ [])
-    step None is = not_closing h e once (ap (λ o. closing_in (call.Close w) (first_case (option_map (λ (x : Opening). reply.Closed w (ack_number h x)) o ∷ []) reply.NoWindow)) is) tt
+    step None is = not_closing h e once (ap (λ o. closing_in (call.Close w) (first_case (option_map (λ (x : Opening). reply.Closed w (ack_number h x)) o ∷ []) reply.NoWindow)) is) (windows-fresh net h legal (call.Close w))
     step (Some o) is =
-        closing h e (record { window = w; ack = ack_number h o }) once (ap (λ x. closing_in (call.Close w) (first_case (option_map (λ (y : Opening). reply.Closed w (ack_number h y)) x ∷ []) reply.NoWindow)) is) refl (ap is_some is)
+        closing h e (record { window = w; ack = ack_number h o }) once (ap (λ x. closing_in (call.Close w) (first_case (option_map (λ (y : Opening). reply.Closed w (ack_number h y)) x ∷ []) reply.NoWindow)) is) (close-says (λ s. opened s ≡ None) w (λ ack. refl) refl (reply_to net h (call.Close w))) (ap is_some is)
 
 pub windows_open_once : (net : Network) (h : List Entry) → IsLegal net h → WindowsOpenOnce h
 windows_open_once net h legal = legal_induction net WindowsOpenOnce (record { opens = λ w. omega arith; closes = λ w. refl }) (λ g number c ok once. windows_step net g number c ok once) h legal

@@ -10,7 +10,8 @@ use Rattle.ns_types.specs.declared.ticket.Ticket.{Ticket}
 use Rattle.ns_types.specs.Identity.{same_window}
 use Rattle.ns_types.specs.Ticket.{dev_eui}
 use Rattle.ns_calls.specs.declared.call.JoinAns.{JoinAns}
-use Rattle.ns_calls.specs.declared.call.Outcome.TheVariants as outcome
+use Rattle.ns_calls.specs.declared.call.Outcome.{Outcome}
+use Rattle.ns_calls.specs.declared.call.Outcome.TheVariants.{Success}
 use Rattle.ns_calls.specs.declared.call.Call.{Call}
 use Rattle.ns_calls.specs.declared.call.Call.TheVariants as call
 use Rattle.ns_calls.specs.declared.call.Reply.{Reply}
@@ -21,8 +22,7 @@ use Rattle.ns_calls.specs.declared.call.Entry.{Entry}
 abbrev pub most_copies : ℕ
 most_copies = 16
 
--- ---- what single entries say. Where the call names a device, a ticket or a window, it is read there and not in the reply: in a legal
--- history the two agree, and what an entry says is then its own shard's, whatever its reply.
+-- ---- what single entries say
 
 -- a join that was accepted
 pub record Acceptance : Type 0 where
@@ -31,39 +31,69 @@ pub record Acceptance : Type 0 where
   pub ticket : Ticket
   pub join_ans : JoinAns
 
-abbrev pub acceptance_in : Call → Reply → Option Acceptance
-acceptance_in (call.JoinReply ticket (outcome.Success join_ans)) (reply.Accepted eui session addr) = Some (record { eui = dev_eui ticket; session = session; ticket = ticket; join_ans = join_ans })
-acceptance_in _ _ = None
-
 -- an uplink, and the window that is opened for it
 pub record Opening : Type 0 where
   pub window : WindowName
   pub frame : List ℕ
   pub heard : Heard
 
--- an uplink with a new counter, and its first window: counters and live sessions look at these
-abbrev pub opening_in : Call → Reply → Option Opening
-opening_in (call.Uplink frame heard) (reply.Opened window) = Some (record { window = window; frame = frame; heard = heard })
-opening_in _ _ = None
-
--- the window that an entry opens, in any round: open windows look at these
-abbrev pub window_in : Call → Reply → Option Opening
-window_in (call.Uplink frame heard) (reply.Opened window) = Some (record { window = window; frame = frame; heard = heard })
-window_in (call.Uplink frame heard) (reply.Again window) = Some (record { window = window; frame = frame; heard = heard })
-window_in _ _ = None
-
 -- a window that was closed, with its acknowledgement number
 pub record Closing : Type 0 where
   pub window : WindowName
   pub ack : Option ℕ
 
-abbrev pub closing_in : Call → Reply → Option Closing
-closing_in (call.Close window) (reply.Closed closed ack) = Some (record { window = window; ack = ack })
-closing_in _ _ = None
+-- what an entry says: of a window, which is opened for a new counter or again in a later round, or of a ticket
+pub data Said : Type 0 where
+  Opens : Opening → Said
+  OpensAgain : Opening → Said
+  Copies : WindowName → Heard → Said
+  Closes : Closing → Said
+  Asks : Ticket → Heard → Said
+  CopiesJoin : Ticket → Heard → Said
+  Accepts : Ticket → ℕ → Outcome → Said
+  Refuses : Ticket → Said
+  Nothing : Said
+
+-- A device, a ticket or a window that the call names is read there and not in the reply: in a legal history the two agree, and what an
+-- entry says is its own shard's, whatever its reply.
+abbrev pub said : Call → Reply → Said
+said (call.Uplink frame heard) (reply.Opened window) = Opens (record { window = window; frame = frame; heard = heard })
+said (call.Uplink frame heard) (reply.Again window) = OpensAgain (record { window = window; frame = frame; heard = heard })
+said (call.Uplink frame heard) (reply.Copied window place) = Copies window heard
+said (call.Close window) (reply.Closed closed ack) = Closes (record { window = window; ack = ack })
+said (call.Join ticket heard) (reply.Ask asked) = Asks ticket heard
+said (call.Join ticket heard) (reply.JoinCopied place) = CopiesJoin ticket heard
+said (call.JoinReply ticket outcome) (reply.Accepted eui session addr) = Accepts ticket session outcome
+said (call.JoinReply ticket outcome) reply.JoinRefused = Refuses ticket
+said (call.JoinReply ticket outcome) (reply.JoinStale greatest) = Refuses ticket
+said _ _ = Nothing
+
+-- a part of what an entry says
+abbrev pub says : {Y : Type 0} → (Said → Option Y) → Entry → Option Y
+says part e = part (said e.call e.reply)
+
+abbrev pub accepted : Said → Option Acceptance
+accepted (Accepts ticket session (Success join_ans)) = Some (record { eui = dev_eui ticket; session = session; ticket = ticket; join_ans = join_ans })
+accepted _ = None
+
+-- the first window of an uplink with a new counter: counters and live sessions look at these
+abbrev pub first_opened : Said → Option Opening
+first_opened (Opens o) = Some o
+first_opened _ = None
+
+-- the window of any round: open windows look at these
+abbrev pub opened : Said → Option Opening
+opened (Opens o) = Some o
+opened (OpensAgain o) = Some o
+opened _ = None
+
+abbrev pub closed : Said → Option Closing
+closed (Closes c) = Some c
+closed _ = None
 
 -- whether an entry closes a window
 abbrev pub closes : WindowName → Entry → Bool
-closes w e = option_map_or (λ c. same_window c.window w) (closing_in e.call e.reply) false
+closes w e = option_map_or (λ c. same_window c.window w) (says closed e) false
 
 -- ---- what a history lists
 
@@ -72,10 +102,10 @@ same_device d e = d.0 == e.0
 
 -- the joins of a device that were accepted and its openings, in order
 abbrev pub acceptances : List Entry → DevEui → List Acceptance
-acceptances h eui = filter (λ a. same_device a.eui eui) (filter_map (λ e. acceptance_in e.call e.reply) h)
+acceptances h eui = filter (λ a. same_device a.eui eui) (filter_map (says accepted) h)
 
 abbrev pub openings : List Entry → DevEui → List Opening
-openings h eui = filter (λ o. same_device o.window.eui eui) (filter_map (λ e. opening_in e.call e.reply) h)
+openings h eui = filter (λ o. same_device o.window.eui eui) (filter_map (says first_opened) h)
 
 -- the counters opened in a session, in order
 abbrev pub session_counters : List Entry → DevEui → ℕ → List ℕ
@@ -93,4 +123,4 @@ still_open opens ends (entry ∷ after) = filter (λ x. not (is_ended ends after
 
 -- the windows that an entry opened and none after it closed, in order of opening
 abbrev pub open_windows : List Entry → List Opening
-open_windows h = still_open (λ e. window_in e.call e.reply) (λ o e. closes o.window e) h
+open_windows h = still_open (says opened) (λ o e. closes o.window e) h

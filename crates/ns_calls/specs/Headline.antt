@@ -1,5 +1,5 @@
--- Laws of legal histories beside those of Laws.
-use Rattle.std.specs.Prelude.{◌≡◌, ◌==◌, ℕ, ◌+◌, ◌<◌, ◌≤◌, Bool, true, false, List, [], ◌∷◌, ◌++◌, length, count_by, option_to_list, Option, None, Some, IsSome, is_some}
+-- Laws of legal histories beside those of Laws, and words that no reply rests on.
+use Rattle.std.specs.Prelude.{◌≡◌, ◌==◌, ℕ, ◌+◌, ◌<◌, ◌≤◌, Bool, true, false, List, [], ◌∷◌, ◌++◌, length, count_by, option_to_list, Option, None, Some, IsSome, is_some, option_map}
 use Rattle.std.specs.List.{AllByRecursion, list_any}
 use Rattle.ns_types.specs.declared.identity.DevEui.{DevEui}
 use Rattle.ns_types.specs.declared.identity.WindowName.{WindowName}
@@ -13,12 +13,46 @@ use Rattle.ns_calls.specs.declared.call.Call.{Call}
 use Rattle.ns_calls.specs.declared.call.Reply.{Reply}
 use Rattle.ns_calls.specs.declared.call.Reply.TheVariants.{Accepted, Closed}
 use Rattle.ns_calls.specs.declared.call.Entry.{Entry}
-use Rattle.ns_calls.specs.Entries.{acceptances, open_windows, most_copies}
+use Rattle.ns_calls.specs.Entries.{acceptances, says, open_windows, most_copies}
 use Rattle.ns_calls.specs.Laws.{Rises, nonces_of, hands_out_uplink}
-use Rattle.ns_calls.specs.History.{asking_in, ends_ticket, next_session, greatest_nonce, session_acks, open_window, open_tickets, session_join, live, is_live, greatest_counter, last_round, is_uplink_open, window_count, ticket_count, window_copies, ticket_copies, last_nonce}
-use Rattle.ns_calls.specs.Reply.{devices_at, fits, window_with, most_windows, most_tickets}
-use Rattle.ns_calls.specs.Out.{uplink_out, answer}
+use Rattle.ns_calls.specs.History.{asked, ends_ticket, next_session, greatest_nonce, session_acks, open_window, open_tickets, session_join, live, is_live, greatest_counter, last_round, is_uplink_open, window_count, ticket_count, window_copies, ticket_copies, last_nonce, first_window}
+use Rattle.ns_calls.specs.Reply.{at_or_above, devices_at, window_with, reply_to, most_windows, most_tickets}
+use Rattle.ns_calls.specs.Out.{uplink_out, answer, plain_payload}
 use Rattle.ns_calls.specs.declared.answer.Uplink.{Uplink}
+use Rattle.std.specs.Option.{option_map_or}
+use Rattle.ns_types.specs.declared.identity.Key.{Key}
+use Rattle.ns_views.specs.Parts.{with_payload}
+use Rattle.ns_secure.specs.Integrity.{mic_fits}
+use Rattle.ns_calls.specs.Queries.{first}
+
+-- the last round of a session's greatest counter
+abbrev pub session_round : List Entry → DevEui → ℕ → ℕ
+session_round h eui session = option_map_or (λ n. last_round h (first_window eui session n)) (greatest_counter h eui session) 0
+
+-- the name of the open window that was opened first
+abbrev pub oldest : List Entry → Option WindowName
+oldest h = option_map (λ o. o.window) (first (open_windows h))
+
+-- the greatest nonce of the device, where the ticket's is at most that
+abbrev pub nonce_at_or_above : Network → List Entry → Ticket → Option ℕ
+nonce_at_or_above net h t = at_or_above (greatest_nonce net h (dev_eui t)) (nonce t).0
+
+-- whether the frame's MIC is that of the window's session at the window's counter (LoRaWAN L2 1.0.4, 4.4)
+abbrev pub fits : List Entry → List ℕ → WindowName → Bool
+fits h frame w = option_map_or (λ join. mic_fits frame join.nwk.0 w.fcnt) (session_join h w.eui w.session) false
+
+-- the frame with its payload deciphered
+abbrev pub deciphered : Key → ℕ → List ℕ → List ℕ
+deciphered key fcnt frame = with_payload frame (plain_payload key fcnt frame)
+
+-- the same, or the frame as received where the key is not known
+abbrev pub frame_under : Option Key → ℕ → List ℕ → List ℕ
+frame_under key fcnt frame = option_map_or (λ k. deciphered k fcnt frame) key frame
+
+-- the same as legality, entry by entry: before are the entries before these
+abbrev pub IsLegalAfter : Network → List Entry → List Entry → Type 0
+IsLegalAfter net before [] = Unit {0}
+IsLegalAfter net before (e ∷ es) = (e.reply ≡ reply_to net before e.call) × IsLegalAfter net (before ++ e ∷ []) es
 
 -- there is a greatest number, and n is at most that
 abbrev pub Reaches : Option ℕ → ℕ → Type 0
@@ -129,5 +163,5 @@ pub record IsOpenTicket (h : List Entry) (t : Ticket) : Type 0 where
   pub entry : Entry
   pub after : List Entry
   pub is : h ≡ before ++ entry ∷ after
-  pub asks : asking_in entry.call entry.reply ≡ Some t
+  pub asks : says asked entry ≡ Some t
   pub not_ended : AllByRecursion (λ e. ends_ticket t e ≡ false) after

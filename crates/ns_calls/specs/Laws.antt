@@ -8,7 +8,7 @@ use Rattle.ns_types.specs.Ticket.{nonce}
 use Rattle.ns_calls.specs.declared.call.Reply.{Reply}
 use Rattle.ns_calls.specs.declared.call.Reply.TheVariants.{Closed}
 use Rattle.ns_calls.specs.declared.call.Entry.{Entry}
-use Rattle.ns_calls.specs.Entries.{acceptances, session_counters, window_in, closing_in, open_windows}
+use Rattle.ns_calls.specs.Entries.{acceptances, session_counters, says, opened, closed, open_windows}
 
 -- each number is greater than all before it
 abbrev pub Rises : List ℕ → Type 0
@@ -29,10 +29,10 @@ CountersRise h = (eui : DevEui) (session : ℕ) → Rises (session_counters h eu
 
 -- how many entries open a window of this name, how many close it, and how many such windows are open
 abbrev pub opening_count : List Entry → WindowName → ℕ
-opening_count h w = count_by (λ o. same_window o.window w) (filter_map (λ e. window_in e.call e.reply) h)
+opening_count h w = count_by (λ o. same_window o.window w) (filter_map (says opened) h)
 
 abbrev pub closing_count : List Entry → WindowName → ℕ
-closing_count h w = count_by (λ c. same_window c.window w) (filter_map (λ e. closing_in e.call e.reply) h)
+closing_count h w = count_by (λ c. same_window c.window w) (filter_map (says closed) h)
 
 abbrev pub open_count : List Entry → WindowName → ℕ
 open_count h w = count_by (λ o. same_window o.window w) (open_windows h)

@@ -1,15 +1,25 @@
 -- Merges of the shards' histories.
-use Rattle.std.specs.Prelude.{ℕ, ◌≡◌, ◌<◌, List, length, take, Some, slice_get}
+use Rattle.std.specs.Prelude.{ℕ, ◌≡◌, ◌<◌, List, length, take, Some, slice_get, Option}
 use Rattle.std.specs.List.{AllByRecursion}
 use Rattle.ns_roster.specs.Network.{Network}
 use Rattle.ns_calls.specs.declared.call.Entry.{Entry}
 use Rattle.ns_calls.specs.Shards.{shard_of_call, of_shard, IsMerge}
-use Rattle.ns_calls.specs.Out.{out}
+use Rattle.ns_calls.specs.Out.{uplink_out, downlink_out}
 use Rattle.ns_calls.specs.Legal.{IsLegal, IsHistory}
+use Rattle.ns_calls.specs.declared.answer.Uplink.{Uplink}
+use Rattle.ns_calls.specs.declared.answer.Downlink.{Downlink}
 
 -- each list is a history of the shard of its place
 abbrev pub AreHistories : Network → List (List Entry) → Type 0
 AreHistories net lists = (k : ℕ) (h : List Entry) → slice_get lists k ≡ Some h → IsHistory net k h
+
+-- what goes out at an entry
+pub record Sent : Type 0 where
+  pub uplink : Option Uplink
+  pub downlink : Option Downlink
+
+abbrev pub out : Network → List Entry → Entry → Sent
+out net h e = record { uplink = uplink_out h e.call e.reply; downlink = downlink_out net h e.call e.reply }
 
 -- what goes out at an entry of the merged list is what goes out at it in its own shard
 abbrev pub SendsAlike : Network → List (List Entry) → List Entry → Type 0

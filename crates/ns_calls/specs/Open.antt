@@ -5,9 +5,9 @@ use Rattle.ns_types.specs.Cases.{when}
 use Rattle.ns_types.specs.declared.heard.Heard.{Heard}
 use Rattle.ns_calls.specs.declared.answer.Uplink as answer
 use Rattle.ns_calls.specs.declared.call.Call.{Call}
-use Rattle.ns_calls.specs.declared.call.Call.TheVariants.{Uplink, Join, JoinReply, Close}
+use Rattle.ns_calls.specs.declared.call.Call.TheVariants.{Uplink}
 use Rattle.ns_calls.specs.declared.call.Entry.{Entry}
-use Rattle.ns_calls.specs.Entries.{Opening, window_in, closes, most_copies}
+use Rattle.ns_calls.specs.Entries.{Opening, says, opened, closes, most_copies}
 
 -- an entry opened the window, and none after it closed it
 pub record IsOpenWindow (h : List Entry) (o : Opening) : Type 0 where
@@ -15,15 +15,13 @@ pub record IsOpenWindow (h : List Entry) (o : Opening) : Type 0 where
   pub entry : Entry
   pub after : List Entry
   pub is : h ≡ before ++ entry ∷ after
-  pub opens : window_in entry.call entry.reply ≡ Some o
+  pub opens : says opened entry ≡ Some o
   pub not_closed : AllByRecursion (λ e. closes o.window e ≡ false) after
 
 -- how a call heard a frame of these bytes, where it did
 abbrev pub hearing_in : List ℕ → Call → Option Heard
 hearing_in frame (Uplink bytes heard) = when (bytes_eq frame bytes) heard
-hearing_in frame (Join ticket heard) = None
-hearing_in frame (JoinReply ticket outcome) = None
-hearing_in frame (Close window) = None
+hearing_in frame _ = None
 
 -- how a frame of these bytes was heard, in order, whatever came of it
 abbrev pub hearings : List ℕ → List Entry → List Heard

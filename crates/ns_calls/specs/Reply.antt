@@ -1,6 +1,5 @@
 -- The plain server: the reply to a call, from the roster and the entries before it.
 use Rattle.std.specs.Prelude.{ℕ, ◌+◌, ◌^◌, Bool, true, false, not, ◌&&◌, ◌==◌, nat_le, nat_lt, List, [], ◌∷◌, length, filter, filter_map, find, Option, None, Some, option_map, option_and_then, unwrap_or, bytes_eq, if◌then◌else◌}
-use Rattle.std.specs.Option.{option_map_or}
 use Rattle.ns_types.specs.declared.identity.DevEui.{DevEui}
 use Rattle.ns_types.specs.declared.identity.DevAddr.{DevAddr}
 use Rattle.ns_types.specs.declared.identity.WindowName.{WindowName}
@@ -33,11 +32,7 @@ most_tickets = 4
 
 -- ---- an uplink
 
--- whether the frame's MIC is that of the window's session at the window's counter (LoRaWAN L2 1.0.4, 4.4)
-abbrev pub fits : List Entry → List ℕ → WindowName → Bool
-fits h frame w = option_map_or (λ join. mic_fits frame join.nwk.0 w.fcnt) (session_join h w.eui w.session) false
-
--- a session of a device, and a counter of it: where a frame's MIC fits
+-- where a frame's MIC fits (LoRaWAN L2 1.0.4, 4.4)
 pub record Fit : Type 0 where
   pub eui : DevEui
   pub session : ℕ
@@ -46,7 +41,7 @@ pub record Fit : Type 0 where
 abbrev pub fit_of : DevEui → ℕ → ℕ → Fit
 fit_of eui session counter = record { eui = eui; session = session; counter = counter }
 
--- the counter that recover gives after the greatest one of a session, where the frame's MIC fits there under the session's NwkSKey (4.4)
+-- the counter that recover gives after the greatest one, where the MIC fits there under the session's NwkSKey
 abbrev pub fitting_counter : (Option ℕ → ℕ → Option ℕ) → List ℕ → Key → Option ℕ → Option ℕ
 fitting_counter recover frame nwk greatest = option_and_then (λ counter. when (mic_fits frame nwk.0 counter) counter) (recover greatest (data_fields frame).fcnt16)
 
@@ -72,7 +67,7 @@ first_fit recover net h frame = first (filter_map (λ d. device_fit recover h fr
 abbrev pub window_with : List Entry → List ℕ → Option Opening
 window_with h frame = find (λ o. bytes_eq o.frame frame) (open_windows h)
 
--- the name of the first window that is opened where a frame fits, and that of a later round
+-- the first window where a frame fits, and that of a later round
 abbrev pub window_of : Fit → WindowName
 window_of f = first_window f.eui f.session f.counter
 
@@ -93,9 +88,8 @@ next_round h f =
 abbrev pub round_of : List Entry → Fit → Option ℕ
 round_of h f = if is_uplink_open h (window_of f) then None else next_round h f
 
--- What the reply to an uplink rests on: whether it is a Confirmed Data Up; the open window of an equal frame, with the number of its copies;
--- where the frame fits first above the greatest counter of a session, and where at or below it, each with the number of open windows of
--- its device, and the second with the round in which it is acknowledged again.
+-- What the reply to an uplink rests on: the open window of an equal frame, with the number of its copies; where the frame fits first above
+-- a session's greatest counter, and where at or below one, with the number of open windows of its device, and below with the round.
 pub record UplinkFacts : Type 0 where
   pub confirmed : Bool
   pub copied : Option (WindowName × ℕ)
@@ -139,12 +133,7 @@ reply_to_uplink net h frame = uplink_rule (uplink_facts net h frame)
 abbrev pub at_or_above : Option ℕ → ℕ → Option ℕ
 at_or_above greatest n = option_and_then (λ g. when (nat_le n g) g) greatest
 
--- the greatest nonce of the device, where the ticket's is at most that
-abbrev pub nonce_at_or_above : Network → List Entry → Ticket → Option ℕ
-nonce_at_or_above net h t = at_or_above (greatest_nonce net h (dev_eui t)) (nonce t).0
-
--- What the reply to a Join-Request rests on: whether the network knows the device with its JoinEUI, the greatest nonce of the device, the
--- number of copies of the ticket where it is open, and the number of open tickets of the device.
+-- what the reply to a Join-Request rests on: copies are those of the ticket, where it is open, and tickets the open ones of the device
 pub record JoinFacts : Type 0 where
   pub known : Bool
   pub greatest : Option ℕ
@@ -184,8 +173,7 @@ abbrev pub is_failed : Outcome → Bool
 is_failed Failed = true
 is_failed (Success join_ans) = false
 
--- What the reply to a join server's answer rests on: whether the ticket is open, whether asking failed, the greatest nonce of the device, the
--- number of its next session, and its address.
+-- what the reply to a join server's answer rests on: session is the number of the device's next one, and addr its address
 pub record AnswerFacts : Type 0 where
   pub is_open : Bool
   pub failed : Bool

@@ -31,6 +31,7 @@ impl<const N: usize> Model for Bytes<N> {
 
 impl<const N: usize> Bytes<N> {
     /// These bytes.
+    #[inline(always)]
     pub fn of(bytes: &[u8]) -> Self
         requires fits { length bytes.now ≤ N }
         requires short { length bytes.now ≤ 255 }

@@ -1,49 +1,65 @@
 //! Numbers and bytes at the end of a line.
-ghost use Rattle.std.specs.Prelude.{◌≡◌, ◌+◌, ◌*◌, ◌≤◌, ◌++◌, ◌∷◌, [], ◌<◌, length, decimal, slice_index};
+ghost use Rattle.std.specs.Prelude.{◌≡◌, ◌+◌, ◌*◌, ◌≤◌, ◌++◌, ◌∷◌, [], length, decimal, IsAscii};
 ghost use Rattle.std.specs.Int.{w32, w64, to_be_bytes};
 ghost use Rattle.arrayvec.specs.ArrayString.{array_string_len};
-ghost use Rattle.hex.specs.Hex.{encode_lower, lower_digits};
+ghost use Rattle.hex.specs.Hex.{encode_lower};
 
+use crate::digits::{digits_of_byte, digits_of_eight};
 use arrayvec::ArrayString;
 use itoa::Buffer;
 
 /// The text of one line, without its line feed.
 pub type Line = ArrayString<1024>;
 
-const DIGITS: [u8; 16] = *b"0123456789abcdef";
+// Puts a text of a fixed length, which is copied by a move or two.
+#[inline(always)]
+fn put_text<const N: usize>(line: &mut Line, text: &[u8; N])
+    requires ascii { IsAscii text.now }
+    requires room { array_string_len line.old + N ≤ 1024 }
+    ensures bytes { line.new.bytes ≡ line.old.bytes ++ text.now }
+    ensures len { array_string_len line.new ≡ array_string_len line.old + N }
+{
+    line.push_str(unsafe { str::from_utf8_unchecked(text) });
+}
 
-// Puts a number in decimal.
-pub(crate) fn put_decimal(line: &mut Line, n: u64)
+/// Puts a number in decimal, at most 20 digits, at the end of a line.
+pub fn put_decimal(line: &mut Line, n: u64)
     requires { array_string_len line.old + 20 ≤ 1024 }
     ensures bytes { line.new.bytes ≡ line.old.bytes ++ decimal n }
     ensures len { array_string_len line.new ≤ array_string_len line.old + 20 }
 {
+    if n < 10 {
+        put_text(line, &[b'0' + n as u8]);
+        return;
+    }
     let mut digits = Buffer::new();
     line.push_str(digits.format(n));
 }
 
-// A digit's character.
-fn digit(n: u8) -> char
-    requires { n < 16 }
-    ensures value { result ≡ slice_index lower_digits n }
-    ensures ascii { result < 128 }
+// Puts eight bytes in hex.
+#[inline(always)]
+fn put_eight(line: &mut Line, bytes: &[u8])
+    requires room { array_string_len line.old + 16 ≤ 1024 }
+    requires eight { length bytes.now ≡ 8 }
+    ensures bytes { line.new.bytes ≡ line.old.bytes ++ encode_lower bytes.now }
+    ensures len { array_string_len line.new ≡ array_string_len line.old + 16 }
 {
-    char::from(DIGITS[n as usize])
+    put_text(line, &digits_of_eight(bytes));
 }
 
 // Puts a byte in hex.
-#[tactic(auto, unfolding(hex::specs::Hex::encode_with))]
+#[inline(always)]
 fn put_byte(line: &mut Line, byte: u8)
     requires { array_string_len line.old + 2 ≤ 1024 }
     ensures bytes { line.new.bytes ≡ line.old.bytes ++ encode_lower (byte ∷ []) }
     ensures len { array_string_len line.new ≡ array_string_len line.old + 2 }
 {
-    line.push(digit(byte / 16));
-    line.push(digit(byte % 16));
+    put_text(line, &digits_of_byte(byte));
 }
 
-// Puts bytes in lower-case hex.
-pub(crate) fn put_hex(line: &mut Line, bytes: &[u8])
+// Puts fewer than eight bytes, or more, in hex.
+#[inline(always)]
+fn put_few(line: &mut Line, bytes: &[u8])
     requires { array_string_len line.old + 2 * length bytes.now ≤ 1024 }
     ensures bytes { line.new.bytes ≡ line.old.bytes ++ encode_lower bytes.now }
     ensures len { array_string_len line.new ≡ array_string_len line.old + 2 * length bytes.now }
@@ -53,13 +69,27 @@ pub(crate) fn put_hex(line: &mut Line, bytes: &[u8])
     }
 }
 
+/// Puts bytes in lower-case hex at the end of a line.
+pub fn put_hex(line: &mut Line, bytes: &[u8])
+    requires { array_string_len line.old + 2 * length bytes.now ≤ 1024 }
+    ensures bytes { line.new.bytes ≡ line.old.bytes ++ encode_lower bytes.now }
+    ensures len { array_string_len line.new ≡ array_string_len line.old + 2 * length bytes.now }
+{
+    let mut rest = bytes;
+    'eights: while rest.len() >= 8 {
+        put_eight(line, &rest[..8]);
+        rest = &rest[8..];
+    }
+    put_few(line, rest);
+}
+
 // Puts an identity of eight bytes in hex, the highest first.
 pub(crate) fn put_identity(line: &mut Line, n: u64)
     requires { array_string_len line.old + 16 ≤ 1024 }
     ensures bytes { line.new.bytes ≡ line.old.bytes ++ encode_lower (to_be_bytes w64 n) }
     ensures len { array_string_len line.new ≡ array_string_len line.old + 16 }
 {
-    put_hex(line, &n.to_be_bytes());
+    put_eight(line, &n.to_be_bytes());
 }
 
 // Puts an address in hex, the highest byte first.
@@ -68,5 +98,5 @@ pub(crate) fn put_address(line: &mut Line, n: u32)
     ensures bytes { line.new.bytes ≡ line.old.bytes ++ encode_lower (to_be_bytes w32 n) }
     ensures len { array_string_len line.new ≡ array_string_len line.old + 8 }
 {
-    put_hex(line, &n.to_be_bytes());
+    put_few(line, &n.to_be_bytes());
 }

@@ -44,9 +44,9 @@ fn put_round(line: &mut Line, round: u32)
     }
 }
 
-// A window's name.
+/// Puts a space and a window's name, at most 80 bytes, at the end of a line.
 #[tactic(auto, unfolding(crate::specs::Text::window_text))]
-fn put_window(line: &mut Line, name: &WindowName)
+pub fn put_window(line: &mut Line, name: &WindowName)
     requires { array_string_len line.old + 80 ≤ 1024 }
     ensures bytes { line.new.bytes ≡ line.old.bytes ++ window_text name.now }
     ensures len { array_string_len line.new ≤ array_string_len line.old + 80 }

@@ -1,7 +1,8 @@
 //! The uplink of a window's frame.
 
 ghost use Rattle.std.specs.Prelude.{◌≡◌};
-ghost use Rattle.ns_calls.specs.Out.{payload_key, uplink_under, frame_under};
+ghost use Rattle.ns_calls.specs.Out.{payload_key, uplink_under};
+ghost use Rattle.ns_calls.specs.Headline.{frame_under};
 
 use crate::answer::Uplink;
 use crate::bytes::Bytes;
@@ -23,6 +24,7 @@ pub fn payload_key(port: Option<u8>, nwk: Key, app: Option<Key>) -> Option<Key>
 impl Uplink {
     /// The uplink of a window's frame with its copies, under the key of its payload: deciphered, in the frame itself, or as received and
     /// marked sealed where the key is not known.
+    #[inline(always)]
     pub fn under(
         window: WindowName,
         frame: &mut DataFrame,
@@ -32,6 +34,7 @@ impl Uplink {
         ensures uplink { result ≡ uplink_under window frame.old copies.items key }
         ensures frame { frame.new ≡ frame_under key window.fcnt frame.old }
     {
+        let confirmed = frame.view().confirmed();
         if let Some(key) = &key {
             frame.decipher_payload(key, window.fcnt);
         }
@@ -39,6 +42,8 @@ impl Uplink {
         Uplink {
             window,
             addr: view.dev_addr(),
+            confirmed,
+            fctrl: view.fctrl(),
             port: view.fport(),
             fopts: Bytes::of(view.fopts()),
             sealed: key.is_none(),

@@ -60,6 +60,7 @@ impl Journal {
 
     /// Makes room for `n` more entries beside the reserved ones. Where it has to grow, there is then room for as many entries as there
     /// are, so that entries are moved seldom. Where the growth is refused, nothing has changed.
+    #[inline(always)]
     pub fn room(&mut self, n: usize) -> Result<(), AllocError>
         ensures made { self.new.made ≡ self.old.made }
         ensures entries { self.new.entries ≡ self.old.entries }
@@ -80,6 +81,7 @@ impl Journal {
     }
 
     /// Adds the entry of a call and its reply, and answers its number. It takes no memory.
+    #[inline(always)]
     pub fn push(&mut self, call: Call, reply: Reply) -> u64
         requires { self.old.reserved < self.old.room }
         ensures number { result ≡ self.old.made }
@@ -94,6 +96,7 @@ impl Journal {
     }
 
     /// Adds an entry, and reserves room for one more. It takes no memory.
+    #[inline(always)]
     pub fn push_reserving(&mut self, call: Call, reply: Reply) -> u64
         requires { self.old.reserved + 2 ≤ self.old.room }
         ensures number { result ≡ self.old.made }
@@ -108,6 +111,7 @@ impl Journal {
     }
 
     /// Adds an entry in the room of a reserved one. It takes no memory, and no other room is made before.
+    #[inline(always)]
     pub fn push_reserved(&mut self, call: Call, reply: Reply) -> u64
         requires { 0 < self.old.reserved }
         ensures number { result ≡ self.old.made }
@@ -140,6 +144,7 @@ impl Journal {
 }
 
 // Adds an entry where there is room for it.
+#[inline(always)]
 fn add(entries: &mut Vec<Entry>, number: u64, call: Call, reply: Reply)
     requires { vec_len entries.old < vec_capacity entries.old }
     ensures items { entries.new.items ≡ entries.old.items ++ entry_of number call reply ∷ [] }

@@ -1,26 +1,23 @@
 -- What the walk keeps of an entry is what a trim keeps.
-use Rattle.std.proofs.Common.{◌≡◌, ℕ, Bool, true, false, not, ◌||◌, ◌&&◌, ◌==◌, List, [], ◌∷◌, map, find, cond, Option, Some, is_some, refl, sym, ap, ◌∙◌, inl, inr}
+use Rattle.std.proofs.Common.{◌≡◌, ℕ, Bool, true, false, not, ◌||◌, ◌&&◌, ◌==◌, List, [], ◌∷◌, map, find, cond, Option, Some, is_some, refl, sym, ap, ◌∙◌, inl, inr, None}
 use Rattle.std.specs.List.{list_any}
 use Rattle.ns_types.specs.declared.identity.DevEui.{DevEui}
 use Rattle.ns_types.specs.declared.identity.WindowName.{WindowName}
 use Rattle.ns_types.specs.declared.ticket.Ticket.{Ticket}
 use Rattle.ns_types.specs.Identity.{same_window}
 use Rattle.ns_types.specs.Ticket.{dev_eui}
-use Rattle.ns_calls.specs.declared.call.Call.{Call}
-use Rattle.ns_calls.specs.declared.call.Call.TheVariants as call
 use Rattle.ns_calls.specs.declared.call.Outcome.TheVariants as outcome
-use Rattle.ns_calls.specs.declared.call.Reply.{Reply}
-use Rattle.ns_calls.specs.declared.call.Reply.TheVariants as reply
 use Rattle.ns_calls.specs.declared.call.Entry.{Entry}
-use Rattle.ns_calls.specs.Entries.{Opening, opening_in, closing_in, same_device, open_windows}
+use Rattle.ns_calls.specs.Entries as entries
+use Rattle.ns_calls.specs.Entries.{Opening, same_device, open_windows, closed, first_opened}
 use Rattle.ns_calls.specs.History.{is_live, is_ticket_open, asks_for, open_window}
-use Rattle.ns_calls.specs.Legal.{entry_of}
 use Rattle.ns_calls.proofs.LocalLemmas.{bool_tells}
-use Rattle.ns_kept.specs.Kept.{repetition_in, is_kept, none_says, same_session}
+use Rattle.ns_kept.specs.Kept as kept
+use Rattle.ns_kept.specs.Kept.{none_says, same_session, repeated}
 use Rattle.ns_keep.specs.declared.marks.Marks.{Marks}
 use Rattle.ns_keep.specs.declared.windows.OpenWindows.{OpenWindows}
 use Rattle.ns_keep.specs.Tables.{AreOf}
-use Rattle.ns_keep.specs.Private.Said.{said_in}
+use Rattle.ns_keep.specs.Private.Said.{looked_at}
 use Rattle.ns_keep.specs.Private.Open.{is_named, has_session, IsOf}
 use Rattle.ns_keep.specs.Private.Marks.{key_of, is_of, is_opened, is_opened_in, is_repeated_in, is_acknowledged, is_asked, AreMarks}
 use Rattle.ns_keep.specs.Private.Keeps.{keeps_said}
@@ -80,35 +77,37 @@ module _ (h : List Entry) (lives : DevEui → ℕ → Bool) (has_ticket : Ticket
       ]
 
   last_opened : (w : WindowName) → (not (is_opened m w.eui) || (not (is_opened_in m w) && lives w.eui w.session)) ≡
-      (none_says opening_in (λ p. same_device p.window.eui w.eui) after || (is_live h w.eui w.session && none_says opening_in (λ p. same_session p.window w) after))
+      (none_says first_opened (λ p. same_device p.window.eui w.eui) after || (is_live h w.eui w.session && none_says first_opened (λ p. same_session p.window w) after))
   last_opened w =
       ors (ap not (marks.opened w.eui.0))
       (ands (ap not (marks.opened_in (key_of w))) (table.sessions w.eui w.session)
-      ∙ and_swap (none_says opening_in (λ p. same_session p.window w) after) (is_live h w.eui w.session))
+      ∙ and_swap (none_says first_opened (λ p. same_session p.window w) after) (is_live h w.eui w.session))
 
   last_repeated : (w : WindowName) → (not (is_repeated_in m w) && lives w.eui w.session) ≡
-      (is_live h w.eui w.session && none_says repetition_in (λ p. same_session p.window w) after)
+      (is_live h w.eui w.session && none_says repeated (λ p. same_session p.window w) after)
   last_repeated w =
       ands (ap not (marks.repeated_in (key_of w))) (table.sessions w.eui w.session)
-      ∙ and_swap (none_says repetition_in (λ p. same_session p.window w) after) (is_live h w.eui w.session)
+      ∙ and_swap (none_says repeated (λ p. same_session p.window w) after) (is_live h w.eui w.session)
 
   last_acknowledged : (w : WindowName) → (not (is_acknowledged m w) && lives w.eui w.session) ≡
-      (is_live h w.eui w.session && none_says closing_in (λ d. is_some d.ack && same_session d.window w) after)
+      (is_live h w.eui w.session && none_says closed (λ d. is_some d.ack && same_session d.window w) after)
   last_acknowledged w =
       ands (ap not (marks.acknowledged (key_of w))) (table.sessions w.eui w.session)
-      ∙ and_swap (none_says closing_in (λ d. is_some d.ack && same_session d.window w) after) (is_live h w.eui w.session)
+      ∙ and_swap (none_says closed (λ d. is_some d.ack && same_session d.window w) after) (is_live h w.eui w.session)
+
+  closing_kept : (w : WindowName) (ack : Option ℕ) → keeps_said lives has_ticket o m (looked_at (entries.Closes (record { window = w; ack = ack }))) ≡ kept.keeps_said h (entries.Closes (record { window = w; ack = ack })) after
+  closing_kept w (Some ack) = last_acknowledged w ∙ sym (or_false _ ∙ or_false _)
+  closing_kept w None = refl
 
   -- the walk's test of an entry is that of a trim
-  pub kept_here : (number : ℕ) (c : Call) (r : Reply) → keeps_said lives has_ticket o m (said_in c r) ≡ is_kept h (entry_of number c r) after
-  kept_here number (call.JoinReply ticket (outcome.Success join)) (reply.Accepted eui session addr) =
+  pub kept_here : (s : entries.Said) → keeps_said lives has_ticket o m (looked_at s) ≡ kept.keeps_said h s after
+  kept_here (entries.Accepts ticket session (outcome.Success join)) =
       ors (ors (ap not (marks.accepted (dev_eui ticket).0)) (table.sessions (dev_eui ticket) session)) (of_session (dev_eui ticket) session)
       ∙ sym (or_false _ ∙ (or_false _ ∙ (or_false _ ∙ (or_false _ ∙ or_false _))))
-  kept_here number (call.Uplink frame heard) (reply.Opened w) =
-      ors (last_opened w) (named w) ∙ sym (or_false _ ∙ ap (λ b. b || is_some (open_window h w)) (or_false _ ∙ or_false _))
-  kept_here number (call.Uplink frame heard) (reply.Again w) =
-      ors (last_repeated w) (named w) ∙ sym (or_false _ ∙ ap (λ b. b || is_some (open_window h w)) (or_false _))
-  kept_here number (call.Uplink frame heard) (reply.Copied w place) = named w ∙ sym (or_false _)
-  kept_here number (call.Close w) (reply.Closed closed (Some ack)) = last_acknowledged w ∙ sym (or_false _ ∙ or_false _)
-  kept_here number (call.Join ticket heard) (reply.Ask asked) = last_asked ticket
-  kept_here number (call.Join ticket heard) (reply.JoinCopied place) = last_asked ticket
-  kept_here number c r = refl
+  kept_here (entries.Opens p) = ors (last_opened p.window) (named p.window) ∙ sym (or_false _ ∙ ap (λ b. b || is_some (open_window h p.window)) (or_false _ ∙ or_false _))
+  kept_here (entries.OpensAgain p) = ors (last_repeated p.window) (named p.window) ∙ sym (or_false _ ∙ ap (λ b. b || is_some (open_window h p.window)) (or_false _))
+  kept_here (entries.Copies w heard) = named w ∙ sym (or_false _)
+  kept_here (entries.Closes c) = closing_kept c.window c.ack
+  kept_here (entries.Asks ticket heard) = last_asked ticket
+  kept_here (entries.CopiesJoin ticket heard) = last_asked ticket
+  kept_here _ = refl

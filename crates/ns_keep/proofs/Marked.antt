@@ -130,6 +130,9 @@ marked_more has_ticket m n after are number (call.Join ticket heard) (reply.Ask 
           | inl opened ↦ ap read (step.0 opened).1 ∙ apart n.asked
           | inr closed ↦ ap read (step.1 closed)
         ]
+marked_more has_ticket m n after are number (call.JoinReply ticket outcome.Failed) (reply.Accepted eui session addr) step =
+    subst (λ (x : Marks). AreMarks has_ticket x (entry_of number (call.JoinReply ticket outcome.Failed) (reply.Accepted eui session addr) ∷ after)) (sym step)
+    (record { accepted = are.accepted; opened = are.opened; opened_in = are.opened_in; repeated_in = are.repeated_in; acknowledged = are.acknowledged; asked = are.asked })
 marked_more has_ticket m n after are number c r step =
     subst (λ (x : Marks). AreMarks has_ticket x (entry_of number c r ∷ after)) (sym step)
     (record { accepted = are.accepted; opened = are.opened; opened_in = are.opened_in; repeated_in = are.repeated_in; acknowledged = are.acknowledged; asked = are.asked })

@@ -1,5 +1,5 @@
 -- A trim of a legal history keeps 208 entries of a device at most.
-use Rattle.std.proofs.Common.{◌≡◌, ◌⊎◌, ℕ, ◌+◌, ◌*◌, ◌≤◌, ◌==◌, Bool, true, false, not, ◌||◌, ◌&&◌, cond, List, [], ◌∷◌, length, length-append, filter, filter_map, map, count_by, Option, None, Some, option_map, refl, sym, ap, subst, ◌∙◌, arith, inl, inr}
+use Rattle.std.proofs.Common.{◌≡◌, ◌⊎◌, ℕ, ◌+◌, ◌*◌, ◌≤◌, ◌==◌, Bool, true, false, not, ◌||◌, ◌&&◌, cond, List, [], ◌∷◌, length, length-append, filter, filter_map, map, count_by, Option, None, Some, option_map, refl, sym, ap, subst, ◌∙◌, arith, inl, inr, IfSome}
 use Rattle.std.specs.Prelude.{is_some}
 use Rattle.std.specs.List.{AllByRecursion, list_any, cons_option}
 use Rattle.std.specs.Option.{option_map_or, option_or}
@@ -13,55 +13,43 @@ use Rattle.ns_types.specs.declared.ticket.Ticket.{Ticket}
 use Rattle.ns_types.specs.Identity.{same_window}
 use Rattle.ns_types.specs.Ticket.{dev_eui}
 use Rattle.ns_roster.specs.Network.{Network}
-use Rattle.ns_calls.specs.declared.call.Outcome.TheVariants as outcome
 use Rattle.ns_calls.specs.declared.call.Call.{Call}
 use Rattle.ns_calls.specs.declared.call.Call.TheVariants as call
 use Rattle.ns_calls.specs.declared.call.Reply.{Reply}
 use Rattle.ns_calls.specs.declared.call.Reply.TheVariants as reply
 use Rattle.ns_calls.specs.declared.call.Entry.{Entry}
-use Rattle.ns_calls.specs.Entries.{Acceptance, Opening, Closing, acceptance_in, opening_in, closing_in, same_device, acceptances, openings, open_windows}
-use Rattle.ns_calls.specs.History.{window_copy_in, ticket_copy_in, same_ticket, asks_for, first_and_other, active_session, newest_session, live, is_live, window_copies, open_tickets, is_ticket_open, ticket_count, copies_of_ticket, ticket_copies}
+use Rattle.ns_calls.specs.Entries.{Acceptance, Opening, Closing, same_device, acceptances, openings, open_windows, accepted, closed, first_opened, Said, said}
+use Rattle.ns_calls.specs.History.{same_ticket, asks_for, first_and_other, active_session, newest_session, live, is_live, window_copies, open_tickets, is_ticket_open, ticket_count, copies_of_ticket, ticket_copies, copied, join_copied}
+use Rattle.ns_calls.proofs.Says.{acceptance_in, opening_in, closing_in, window_copy_in, ticket_copy_in, window_in, accepted-by, closed-by, join_copied-by, join-says, answer-says, close-says, opening-copy}
 use Rattle.ns_calls.specs.Queries.{last}
 use Rattle.ns_calls.specs.Legal.{IsLegal}
 use Rattle.ns_calls.proofs.LocalLemmas.{bool_tells, All-each}
-use Rattle.ns_calls.proofs.Lists.{All-weaker, All-filter}
+use Rattle.ns_calls.proofs.Lists.{All-weaker, All-filter, at_some}
 use Rattle.ns_calls.proofs.JoinLemmas.{same_device-eq}
 use Rattle.ns_calls.proofs.NameLemmas.{same_window-refl, same_window-eq}
 use Rattle.ns_calls.proofs.TicketLemmas.{same_ticket-eq}
 use Rattle.ns_calls.proofs.LimitLemmas.{limits}
 use Rattle.ns_calls.proofs.OutLemmas.{open-asked}
-use Rattle.ns_kept.specs.Kept.{whole, same_session, repetition_in, none_says, keeps_acceptance, keeps_opening, keeps_repetition, keeps_closing, keeps_window_copy, keeps_ticket_copy, is_kept, filter_before, keep}
+use Rattle.ns_kept.specs.Kept.{whole, same_session, none_says, keeps_acceptance, keeps_opening, keeps_repetition, keeps_closing, keeps_window_copy, keeps_ticket_copy, is_kept, filter_before, keep, repeated}
 use Rattle.ns_kept.specs.Bound.{device_of, is_of, most_kept}
 use Rattle.ns_kept.proofs.Within.{Adds, Adds-filter, AllEnds, last-append}
 use Rattle.ns_kept.proofs.Asked.{acceptances-adds, openings-adds, window_copies-adds, copies_of_ticket-adds, ticket_copies-cons}
 use Rattle.ns_kept.proofs.ReadLemmas.{reading-whole}
-use Rattle.ns_kept.proofs.Dropped.{or_false, has_window}
+use Rattle.ns_kept.proofs.Dropped.{or_false, has_window, and_both}
 use Rattle.ns_kept.proofs.KeptQueries.{sessions_rise}
-use Rattle.ns_kept.proofs.Later.{first_one, first_other, find-any}
+use Rattle.ns_kept.proofs.Later.{first_one, first_other, find-any, equal_here}
 use Rattle.ns_kept.proofs.NamesLemmas.{or_true, or_right}
 use Rattle.ns_kept.proofs.Tally.{tally, count-tally, tally-either, tally-either-at, tally-at, times, times-one, times-sixteen, tally-keys, tally-last, tally-adds, any-weaker, any-filter, length-filter, rises-once}
+use Rattle.ns_kept.proofs.Says.{repetition_in, opening-window, repetition-window, clash}
+use Rattle.ns_calls.proofs.OpenLemmas.{not_false}
 
 -- ---- booleans
-
-and_both : (a b : Bool) → a ≡ true → b ≡ true → (a && b) ≡ true
-and_both a b yes_a yes_b = ap (λ c. c && b) yes_a ∙ yes_b
 
 three_true : (a b c : Bool) → (a && b && c) ≡ true → (a ≡ true) × (b ≡ true) × (c ≡ true)
 three_true true true true is = (refl, refl, refl)
 three_true true true false is = absurd (cc is)
 three_true true false c is = absurd (cc is)
 three_true false b c is = absurd (cc is)
-
-not_true : (b : Bool) → not b ≡ true → b ≡ false
-not_true true is = absurd (cc is)
-not_true false is = refl
-
-clash : (b : Bool) → b ≡ true → b ≡ false → ⊥
-clash true is isnt = absurd (cc isnt)
-clash false is isnt = absurd (cc is)
-
-equal_here : (x s : ℕ) → x ≡ s → (x == s) ≡ true
-equal_here x s is = grind (arith, nat_tests)
 
 -- what an entry that passes says
 pub said_one : {Y : Type 0} (test : Y → Bool) (o : Option Y) → option_map_or test o false ≡ true → (y : Y) × (o ≡ Some y) × (test y ≡ true)
@@ -73,29 +61,29 @@ says_so test o y is passes = ap (λ p. option_map_or test p false) is ∙ passes
 
 -- ---- the last of a kind
 
-abbrev in_class : {Y : Type 0} → (Call → Reply → Option Y) → (Y → Bool) → Entry → Bool
-in_class says mine x = option_map_or mine (says x.call x.reply) false
+abbrev in_class : {Y : Type 0} → (Said → Option Y) → (Y → Bool) → Entry → Bool
+in_class says mine x = option_map_or mine (says (said x.call x.reply)) false
 
-any-said : {Y : Type 0} (says : Call → Reply → Option Y) (mine : Y → Bool) (xs : List Entry) → list_any (in_class says mine) xs ≡ list_any mine (filter_map (λ e. says e.call e.reply) xs)
+any-said : {Y : Type 0} (says : Said → Option Y) (mine : Y → Bool) (xs : List Entry) → list_any (in_class says mine) xs ≡ list_any mine (filter_map (λ e. says (said e.call e.reply)) xs)
 any-said says mine [] = refl
-any-said {Y} says mine (x ∷ xs) = step (says x.call x.reply) (any-said says mine xs)
+any-said {Y} says mine (x ∷ xs) = step (says (said x.call x.reply)) (any-said says mine xs)
   where
-    step : (o : Option Y) → list_any (in_class says mine) xs ≡ list_any mine (filter_map (λ (e : Entry). says e.call e.reply) xs) → (option_map_or mine o false || list_any (in_class says mine) xs) ≡ list_any mine (cons_option o (filter_map (λ (e : Entry). says e.call e.reply) xs))
+    step : (o : Option Y) → list_any (in_class says mine) xs ≡ list_any mine (filter_map (λ (e : Entry). says (said e.call e.reply)) xs) → (option_map_or mine o false || list_any (in_class says mine) xs) ≡ list_any mine (cons_option o (filter_map (λ (e : Entry). says (said e.call e.reply)) xs))
     step None later = later
     step (Some y) later = ap (λ b. mine y || b) later
 
-abbrev last_of : {Y : Type 0} → (Call → Reply → Option Y) → (Y → Bool) → (Y → Y → Bool) → Entry → List Entry → Bool
-last_of says mine same x xs = option_map_or (λ y. mine y && none_says says (same y) xs) (says x.call x.reply) false
+abbrev last_of : {Y : Type 0} → (Said → Option Y) → (Y → Bool) → (Y → Y → Bool) → Entry → List Entry → Bool
+last_of says mine same x xs = option_map_or (λ y. mine y && none_says says (same y) xs) (says (said x.call x.reply)) false
 
-tally-last_of : {Y : Type 0} (says : Call → Reply → Option Y) (mine : Y → Bool) (same : Y → Y → Bool) → ((y z : Y) → mine y ≡ true → mine z ≡ true → same y z ≡ true) → (es : List Entry) → tally (last_of says mine same) es ≤ 1
+tally-last_of : {Y : Type 0} (says : Said → Option Y) (mine : Y → Bool) (same : Y → Y → Bool) → ((y z : Y) → mine y ≡ true → mine z ≡ true → same y z ≡ true) → (es : List Entry) → tally (last_of says mine same) es ≤ 1
 tally-last_of {Y} says mine same alike es =
     tally-last (last_of says mine same) (in_class says mine)
     (λ x xs is.
-    let one = said_one (λ (y : Y). mine y && none_says says (same y) xs) (says x.call x.reply) is in
+    let one = said_one (λ (y : Y). mine y && none_says says (same y) xs) (says (said x.call x.reply)) is in
     let y : Y = one.0 in
     let parts = and_parts (mine y) (none_says says (same y) xs) one.2 in
-    let none : list_any (same y) (filter_map (λ (e : Entry). says e.call e.reply) xs) ≡ false = not_true _ parts.1 in
-    (says_so mine (says x.call x.reply) y one.1 parts.0, any-said says mine xs ∙ quiet y parts.0 (filter_map (λ (e : Entry). says e.call e.reply) xs) none)) es
+    let none : list_any (same y) (filter_map (λ (e : Entry). says (said e.call e.reply)) xs) ≡ false = not_false _ parts.1 in
+    (says_so mine (says (said x.call x.reply)) y one.1 parts.0, any-said says mine xs ∙ quiet y parts.0 (filter_map (λ (e : Entry). says (said e.call e.reply)) xs) none)) es
   where
     quiet : (y : Y) → mine y ≡ true → (zs : List Y) → list_any (same y) zs ≡ false → list_any mine zs ≡ false
     quiet y is zs none =
@@ -130,7 +118,7 @@ times-two h eui = (let is = times-one (live h eui) in let two = live-two h eui i
 -- ---- acceptances
 
 abbrev accepts_in : DevEui → ℕ → Entry → Bool
-accepts_in eui s x = in_class acceptance_in (λ a. same_device a.eui eui && (a.session == s)) x
+accepts_in eui s x = in_class accepted (λ a. same_device a.eui eui && (a.session == s)) x
 
 one-session : (eui : DevEui) (s : ℕ) (x : Entry) → length (filter (λ (a : Acceptance). a.session == s) (acceptances (x ∷ []) eui)) ≡ cond (accepts_in eui s x) 1 0
 one-session eui s x = step (acceptance_in x.call x.reply)
@@ -172,13 +160,13 @@ eight : (net : Network) (h : List Entry) → IsLegal net h → (eui : DevEui) �
 eight net h legal eui = (let is = length-filter (λ (o : Opening). same_device o.window.eui eui) (open_windows h) in let most = (limits net h legal).windows eui in omega (arith, is, most))
 
 abbrev a_test : DevEui → List Entry → Entry → List Entry → Bool
-a_test eui h x xs = in_class acceptance_in (λ a. same_device a.eui eui && keeps_acceptance h xs a) x
+a_test eui h x xs = in_class accepted (λ a. same_device a.eui eui && keeps_acceptance h xs a) x
 
 abbrev a_live : DevEui → List Entry → Entry → List Entry → Bool
-a_live eui h x xs = in_class acceptance_in (λ a. same_device a.eui eui && is_live h a.eui a.session) x
+a_live eui h x xs = in_class accepted (λ a. same_device a.eui eui && is_live h a.eui a.session) x
 
 abbrev a_window : DevEui → List Entry → Entry → List Entry → Bool
-a_window eui h x xs = in_class acceptance_in (λ a. same_device a.eui eui && has_window h a.eui a.session) x
+a_window eui h x xs = in_class accepted (λ a. same_device a.eui eui && has_window h a.eui a.session) x
 
 three_ways : (a b c : Bool) → (a || b || c) ≡ true → (a ≡ true) ⊎ ((b ≡ true) ⊎ (c ≡ true))
 three_ways true b c is = inl refl
@@ -194,15 +182,15 @@ lasts-rest : {Y : Type 0} (told : List Entry → List Y) → Adds told → (h : 
 lasts-rest {Y} told adds h x xs lasts y is = lasts y (ap last (adds.more x xs) ∙ (last-append (told (x ∷ [])) (told xs) ∙ ap (λ o. option_or o (last (told (x ∷ [])))) is))
 
 -- what one's own entry says, where none after it says so
-lasts-here : {Y : Type 0} (says : Call → Reply → Option Y) (mine : Y → Bool) (x : Entry) (xs : List Entry) (y : Y) → says x.call x.reply ≡ Some y → mine y ≡ true → list_any mine (filter_map (λ e. says e.call e.reply) xs) ≡ false →
-    last (filter mine (filter_map (λ e. says e.call e.reply) (x ∷ xs))) ≡ Some y
+lasts-here : {Y : Type 0} (says : Said → Option Y) (mine : Y → Bool) (x : Entry) (xs : List Entry) (y : Y) → says (said x.call x.reply) ≡ Some y → mine y ≡ true → list_any mine (filter_map (λ e. says (said e.call e.reply)) xs) ≡ false →
+    last (filter mine (filter_map (λ e. says (said e.call e.reply)) (x ∷ xs))) ≡ Some y
 lasts-here {Y} says mine x xs y is passes none =
     ap (λ o. last (filter mine (cons_option o rest))) is
     ∙ (ap (λ b. last (cond {A = List Y} b (y ∷ filter mine rest) (filter mine rest))) passes
     ∙ ap (λ ys. last (y ∷ ys)) (empty rest none))
   where
     rest : List Y
-    rest = filter_map (λ (e : Entry). says e.call e.reply) xs
+    rest = filter_map (λ (e : Entry). says (said e.call e.reply)) xs
 
     empty : (ys : List Y) → list_any mine ys ≡ false → filter mine ys ≡ []
     empty [] nothing = refl
@@ -219,11 +207,11 @@ acceptances-at h eui (x ∷ xs) lasts = (
       let a : Acceptance = one.0 in
       let parts = and_parts (same_device a.eui eui) (keeps_acceptance h xs a) one.2 in
       let device : a.eui ≡ eui = same_device-eq a.eui eui parts.0 in
-      elim (three_ways (none_says acceptance_in (λ (b : Acceptance). same_device b.eui a.eui) xs) (is_live h a.eui a.session) (has_window h a.eui a.session) parts.1) [
+      elim (three_ways (none_says accepted (λ (b : Acceptance). same_device b.eui a.eui) xs) (is_live h a.eui a.session) (has_window h a.eui a.session) parts.1) [
         | inl newest ↦
             (let none : list_any (λ (b : Acceptance). same_device b.eui eui) (filter_map (λ (e : Entry). acceptance_in e.call e.reply) xs) ≡ false =
-            subst (λ (d : DevEui). list_any (λ (b : Acceptance). same_device b.eui d) (filter_map (λ (e : Entry). acceptance_in e.call e.reply) xs) ≡ false) device (not_true _ newest) in
-            let here : last (acceptances h eui) ≡ Some a = lasts a (lasts-here acceptance_in (λ (b : Acceptance). same_device b.eui eui) x xs a one.1 parts.0 none) in
+            subst (λ (d : DevEui). list_any (λ (b : Acceptance). same_device b.eui d) (filter_map (λ (e : Entry). acceptance_in e.call e.reply) xs) ≡ false) device (not_false _ newest) in
+            let here : last (acceptances h eui) ≡ Some a = lasts a (lasts-here accepted (λ (b : Acceptance). same_device b.eui eui) x xs a one.1 parts.0 none) in
             let lives : is_live h eui a.session ≡ true = first_other (active_session h eui) (newest_session h eui) a.session (ap (option_map (λ (b : Acceptance). b.session)) here) in
             inl (says_so (λ (b : Acceptance). same_device b.eui eui && is_live h b.eui b.session) (acceptance_in x.call x.reply) a one.1 (and_both _ _ parts.0 (subst (λ (d : DevEui). is_live h d a.session ≡ true) (sym device) lives))))
         | inr rest ↦
@@ -270,16 +258,16 @@ most-acceptances net h legal eui =
 -- ---- openings
 
 abbrev o_test : DevEui → List Entry → Entry → List Entry → Bool
-o_test eui h x xs = in_class opening_in (λ o. same_device o.window.eui eui && keeps_opening h xs o) x
+o_test eui h x xs = in_class first_opened (λ o. same_device o.window.eui eui && keeps_opening h xs o) x
 
 -- the last window that entries open so, of each live session
-abbrev last_live : (Call → Reply → Option Opening) → DevEui → List Entry → Entry → List Entry → Bool
+abbrev last_live : (Said → Option Opening) → DevEui → List Entry → Entry → List Entry → Bool
 last_live says eui h x xs = in_class says (λ o. same_device o.window.eui eui && (is_live h o.window.eui o.window.session && none_says says (λ p. same_session p.window o.window) xs)) x
 
 abbrev o_live : DevEui → List Entry → Entry → List Entry → Bool
-o_live eui h x xs = last_live opening_in eui h x xs
+o_live eui h x xs = last_live first_opened eui h x xs
 
-abbrev last_in : (Call → Reply → Option Opening) → DevEui → ℕ → Entry → List Entry → Bool
+abbrev last_in : (Said → Option Opening) → DevEui → ℕ → Entry → List Entry → Bool
 last_in says eui s x xs = last_of says (λ o. same_device o.window.eui eui && (o.window.session == s)) (λ o p. same_session p.window o.window) x xs
 
 session-of-both : (v w : WindowName) (eui : DevEui) (s : ℕ) → (same_device v.eui eui && (v.session == s)) ≡ true → (same_device w.eui eui && (w.session == s)) ≡ true → same_session w v ≡ true
@@ -288,17 +276,17 @@ session-of-both v w eui s mine yours =
     let two = and_parts (same_device w.eui eui) (w.session == s) yours in
     and_both _ _ (subst (λ (d : DevEui). same_device w.eui d ≡ true) (sym (same_device-eq v.eui eui one.0)) two.0) (subst (λ n. (w.session == n) ≡ true) (sym (eqb-true v.session s one.1)) two.1)
 
-most-last : (says : Call → Reply → Option Opening) (h : List Entry) (eui : DevEui) → tally (last_live says eui h) h ≤ 2
+most-last : (says : Said → Option Opening) (h : List Entry) (eui : DevEui) → tally (last_live says eui h) h ≤ 2
 most-last says h eui =
     let of_live : tally (last_live says eui h) h ≤ times 1 (live h eui) =
     tally-keys (last_in says eui) 1 h (live h eui) (last_live says eui h)
     (λ x xs is.
-    let one = said_one (λ (o : Opening). same_device o.window.eui eui && (is_live h o.window.eui o.window.session && none_says says (λ (p : Opening). same_session p.window o.window) xs)) (says x.call x.reply) is in
+    let one = said_one (λ (o : Opening). same_device o.window.eui eui && (is_live h o.window.eui o.window.session && none_says says (λ (p : Opening). same_session p.window o.window) xs)) (says (said x.call x.reply)) is in
     let o : Opening = one.0 in
     let parts = and_parts (same_device o.window.eui eui) (is_live h o.window.eui o.window.session && none_says says (λ (p : Opening). same_session p.window o.window) xs) one.2 in
     let two = and_parts (is_live h o.window.eui o.window.session) (none_says says (λ (p : Opening). same_session p.window o.window) xs) parts.1 in
     any-weaker (λ s. same_device o.window.eui eui && (o.window.session == s)) (λ s. last_in says eui s x xs)
-    (λ s passes. says_so (λ (b : Opening). (same_device b.window.eui eui && (b.window.session == s)) && none_says says (λ (p : Opening). same_session p.window b.window) xs) (says x.call x.reply) o one.1 (and_both _ _ passes two.1))
+    (λ s passes. says_so (λ (b : Opening). (same_device b.window.eui eui && (b.window.session == s)) && none_says says (λ (p : Opening). same_session p.window b.window) xs) (says (said x.call x.reply)) o one.1 (and_both _ _ passes two.1))
     (live h eui) (live-key h eui o.window.eui o.window.session parts.0 two.0))
     (All-each (λ s. tally (last_in says eui s) h ≤ 1)
     (λ s. tally-last_of says (λ (o : Opening). same_device o.window.eui eui && (o.window.session == s)) (λ (o : Opening) (p : Opening). same_session p.window o.window) (λ o p mine yours. session-of-both o.window p.window eui s mine yours) h) (live h eui)) in
@@ -315,18 +303,18 @@ openings-at h eui (x ∷ xs) lasts = (
       let parts = and_parts (same_device o.window.eui eui) (keeps_opening h xs o) one.2 in
       let device : o.window.eui ≡ eui = same_device-eq o.window.eui eui parts.0 in
       let later : List Opening = filter_map (λ (e : Entry). opening_in e.call e.reply) xs in
-      elim (or_true (none_says opening_in (λ (p : Opening). same_device p.window.eui o.window.eui) xs) (is_live h o.window.eui o.window.session && none_says opening_in (λ (p : Opening). same_session p.window o.window) xs) parts.1) [
-        | inr lives ↦ says_so (λ (b : Opening). same_device b.window.eui eui && (is_live h b.window.eui b.window.session && none_says opening_in (λ (p : Opening). same_session p.window b.window) xs)) (opening_in x.call x.reply) o one.1 (and_both _ _ parts.0 lives)
+      elim (or_true (none_says first_opened (λ (p : Opening). same_device p.window.eui o.window.eui) xs) (is_live h o.window.eui o.window.session && none_says first_opened (λ (p : Opening). same_session p.window o.window) xs) parts.1) [
+        | inr lives ↦ says_so (λ (b : Opening). same_device b.window.eui eui && (is_live h b.window.eui b.window.session && none_says first_opened (λ (p : Opening). same_session p.window b.window) xs)) (opening_in x.call x.reply) o one.1 (and_both _ _ parts.0 lives)
         | inl newest ↦
-            (let quiet : list_any (λ (p : Opening). same_device p.window.eui o.window.eui) later ≡ false = not_true _ newest in
+            (let quiet : list_any (λ (p : Opening). same_device p.window.eui o.window.eui) later ≡ false = not_false _ newest in
             let none : list_any (λ (p : Opening). same_device p.window.eui eui) later ≡ false = subst (λ (d : DevEui). list_any (λ (p : Opening). same_device p.window.eui d) later ≡ false) device quiet in
-            let here : last (openings h eui) ≡ Some o = lasts o (lasts-here opening_in (λ (p : Opening). same_device p.window.eui eui) x xs o one.1 parts.0 none) in
+            let here : last (openings h eui) ≡ Some o = lasts o (lasts-here first_opened (λ (p : Opening). same_device p.window.eui eui) x xs o one.1 parts.0 none) in
             let lives : is_live h eui o.window.session ≡ true = first_one (active_session h eui) (newest_session h eui) o.window.session (ap (option_map (λ (p : Opening). p.window.session)) here) in
             let of_session : list_any (λ (p : Opening). same_session p.window o.window) later ≡ false = elim (bool_tells (list_any (λ (p : Opening). same_session p.window o.window) later)) [
               | inr fine ↦ fine
               | inl some ↦ absurd (clash _ (any-weaker (λ (p : Opening). same_session p.window o.window) (λ (p : Opening). same_device p.window.eui o.window.eui) (λ p both. (and_parts (same_device p.window.eui o.window.eui) (p.window.session == o.window.session) both).0) later some) quiet)
             ] in
-            says_so (λ (b : Opening). same_device b.window.eui eui && (is_live h b.window.eui b.window.session && none_says opening_in (λ (p : Opening). same_session p.window b.window) xs)) (opening_in x.call x.reply) o one.1
+            says_so (λ (b : Opening). same_device b.window.eui eui && (is_live h b.window.eui b.window.session && none_says first_opened (λ (p : Opening). same_session p.window b.window) xs)) (opening_in x.call x.reply) o one.1
             (and_both _ _ parts.0 (and_both _ _ (subst (λ (d : DevEui). is_live h d o.window.session ≡ true) (sym device) lives) (ap not of_session))))
       ])),
   openings-at h eui xs (lasts-rest (λ es. openings es eui) (openings-adds eui) h x xs lasts),
@@ -335,24 +323,24 @@ openings-at h eui (x ∷ xs) lasts = (
 most-openings : (h : List Entry) (eui : DevEui) → tally (o_test eui h) h ≤ 2
 most-openings h eui =
     let split : tally (o_test eui h) h ≤ tally (o_live eui h) h = tally-at (o_test eui h) (o_live eui h) h (openings-at h eui h (λ y is. is)) in
-    let of_live = most-last opening_in h eui in
+    let of_live = most-last first_opened h eui in
     omega (arith, split, of_live)
 
 -- ---- windows that were opened again
 
 abbrev r_test : DevEui → List Entry → Entry → List Entry → Bool
-r_test eui h x xs = in_class repetition_in (λ o. same_device o.window.eui eui && keeps_repetition h xs o) x
+r_test eui h x xs = in_class repeated (λ o. same_device o.window.eui eui && keeps_repetition h xs o) x
 
 most-repetitions : (h : List Entry) (eui : DevEui) → tally (r_test eui h) h ≤ 2
-most-repetitions h eui = most-last repetition_in h eui
+most-repetitions h eui = most-last repeated h eui
 
 -- ---- acknowledging closings
 
 abbrev c_test : DevEui → List Entry → Entry → List Entry → Bool
-c_test eui h x xs = in_class closing_in (λ c. same_device c.window.eui eui && keeps_closing h xs c) x
+c_test eui h x xs = in_class closed (λ c. same_device c.window.eui eui && keeps_closing h xs c) x
 
 abbrev c_session : DevEui → ℕ → Entry → List Entry → Bool
-c_session eui s x xs = last_of closing_in (λ c. is_some c.ack && (same_device c.window.eui eui && (c.window.session == s))) (λ c d. is_some d.ack && same_session d.window c.window) x xs
+c_session eui s x xs = last_of closed (λ c. is_some c.ack && (same_device c.window.eui eui && (c.window.session == s))) (λ c d. is_some d.ack && same_session d.window c.window) x xs
 
 most-closings : (h : List Entry) (eui : DevEui) → tally (c_test eui h) h ≤ 2
 most-closings h eui =
@@ -362,13 +350,13 @@ most-closings h eui =
     let one = said_one (λ (c : Closing). same_device c.window.eui eui && keeps_closing h xs c) (closing_in x.call x.reply) is in
     let c : Closing = one.0 in
     let parts = and_parts (same_device c.window.eui eui) (keeps_closing h xs c) one.2 in
-    let three = three_true (is_some c.ack) (is_live h c.window.eui c.window.session) (none_says closing_in (λ (d : Closing). is_some d.ack && same_session d.window c.window) xs) parts.1 in
+    let three = three_true (is_some c.ack) (is_live h c.window.eui c.window.session) (none_says closed (λ (d : Closing). is_some d.ack && same_session d.window c.window) xs) parts.1 in
     any-weaker (λ s. same_device c.window.eui eui && (c.window.session == s)) (λ s. c_session eui s x xs)
-    (λ s passes. says_so (λ (b : Closing). (is_some b.ack && (same_device b.window.eui eui && (b.window.session == s))) && none_says closing_in (λ (d : Closing). is_some d.ack && same_session d.window b.window) xs) (closing_in x.call x.reply) c one.1
+    (λ s passes. says_so (λ (b : Closing). (is_some b.ack && (same_device b.window.eui eui && (b.window.session == s))) && none_says closed (λ (d : Closing). is_some d.ack && same_session d.window b.window) xs) (closing_in x.call x.reply) c one.1
     (and_both _ _ (and_both _ _ three.0 passes) three.2))
     (live h eui) (live-key h eui c.window.eui c.window.session parts.0 three.1))
     (All-each (λ s. tally (c_session eui s) h ≤ 1)
-    (λ s. tally-last_of closing_in (λ (c : Closing). is_some c.ack && (same_device c.window.eui eui && (c.window.session == s))) (λ (c : Closing) (d : Closing). is_some d.ack && same_session d.window c.window)
+    (λ s. tally-last_of closed (λ (c : Closing). is_some c.ack && (same_device c.window.eui eui && (c.window.session == s))) (λ (c : Closing) (d : Closing). is_some d.ack && same_session d.window c.window)
     (λ c d mine yours.
     let one = and_parts (is_some c.ack) (same_device c.window.eui eui && (c.window.session == s)) mine in
     let two = and_parts (is_some d.ack) (same_device d.window.eui eui && (d.window.session == s)) yours in
@@ -379,10 +367,10 @@ most-closings h eui =
 -- ---- copies of open windows
 
 abbrev w_test : DevEui → List Entry → Entry → List Entry → Bool
-w_test eui h x xs = in_class window_copy_in (λ c. same_device c.0.eui eui && keeps_window_copy h c) x
+w_test eui h x xs = in_class copied (λ c. same_device c.0.eui eui && keeps_window_copy h c) x
 
 abbrev copies_window : WindowName → Entry → Bool
-copies_window w x = in_class window_copy_in (λ c. same_window c.0 w) x
+copies_window w x = in_class copied (λ c. same_window c.0 w) x
 
 one-copy : (w : WindowName) (x : Entry) → length (window_copies (x ∷ []) w) ≡ cond (copies_window w x) 1 0
 one-copy w x = step (window_copy_in x.call x.reply)
@@ -420,10 +408,10 @@ most-window_copies net h legal eui =
 -- ---- copies of open tickets
 
 abbrev t_test : DevEui → List Entry → Entry → List Entry → Bool
-t_test eui h x xs = in_class ticket_copy_in (λ c. same_device (dev_eui c.0) eui && keeps_ticket_copy h xs c) x
+t_test eui h x xs = in_class join_copied (λ c. same_device (dev_eui c.0) eui && keeps_ticket_copy h xs c) x
 
 abbrev copies_ticket : Ticket → Entry → Bool
-copies_ticket t x = in_class ticket_copy_in (λ c. same_ticket t c.0) x
+copies_ticket t x = in_class join_copied (λ c. same_ticket t c.0) x
 
 abbrev last_copies : Ticket → Entry → List Entry → Bool
 last_copies t x xs = copies_ticket t x && not (list_any (asks_for t) xs)
@@ -523,58 +511,43 @@ most-ticket_copies net h legal eui =
 -- ---- all together
 
 pub acceptance-device : (c : Call) (r : Reply) (a : Acceptance) → acceptance_in c r ≡ Some a → device_of c r ≡ Some a.eui
-acceptance-device (call.JoinReply t (outcome.Success join)) (reply.Accepted eui session addr) a is = ap (option_map (λ (x : Acceptance). x.eui)) is
-acceptance-device (call.JoinReply t (outcome.Success join)) _ a is = absurd (cc is)
-acceptance-device (call.JoinReply t outcome.Failed) r a is = absurd (cc is)
-acceptance-device (call.Uplink frame heard) r a is = absurd (cc is)
-acceptance-device (call.Join t heard) r a is = absurd (cc is)
-acceptance-device (call.Close w) r a is = absurd (cc is)
+acceptance-device c r a =
+    accepted-by (λ d p. p ≡ Some a → device_of d r ≡ Some a.eui) (λ d no. absurd (cc no)) (λ t join session is. ap (option_map (λ (x : Acceptance). x.eui)) is) c r
 
-pub opening-device : (c : Call) (r : Reply) (o : Opening) → opening_in c r ≡ Some o → device_of c r ≡ Some o.window.eui
-opening-device (call.Uplink frame heard) (reply.Opened w) o is = ap (option_map (λ (x : Opening). x.window.eui)) is
-opening-device (call.Uplink frame heard) _ o is = absurd (cc is)
-opening-device (call.JoinReply t x) r o is = absurd (cc is)
-opening-device (call.Join t heard) r o is = absurd (cc is)
-opening-device (call.Close w) r o is = absurd (cc is)
-
-pub repetition-device : (c : Call) (r : Reply) (o : Opening) → repetition_in c r ≡ Some o → device_of c r ≡ Some o.window.eui
-repetition-device (call.Uplink frame heard) (reply.Again w) o is = ap (option_map (λ (x : Opening). x.window.eui)) is
-repetition-device (call.Uplink frame heard) _ o is = absurd (cc is)
-repetition-device (call.JoinReply t x) r o is = absurd (cc is)
-repetition-device (call.Join t heard) r o is = absurd (cc is)
-repetition-device (call.Close w) r o is = absurd (cc is)
-
-pub closing-device : (c : Call) (r : Reply) (x : Closing) → closing_in c r ≡ Some x → device_of c r ≡ Some x.window.eui
-closing-device (call.Close w) (reply.Closed v ack) x is = ap (option_map (λ (y : Closing). y.window.eui)) is
-closing-device (call.Close w) _ x is = absurd (cc is)
-closing-device (call.Uplink frame heard) r x is = absurd (cc is)
-closing-device (call.JoinReply t o) r x is = absurd (cc is)
-closing-device (call.Join t heard) r x is = absurd (cc is)
+copied-device : (c : Call) (r : Reply) → IfSome (window_copy_in c r) (λ x. device_of c r ≡ Some x.0.eui)
+copied-device (call.Uplink frame heard) (reply.Opened w) = refl
+copied-device (call.Uplink frame heard) (reply.Again w) = refl
+copied-device (call.Uplink frame heard) (reply.Copied w place) = refl
+copied-device (call.Uplink frame heard) _ = tt
+copied-device (call.Join t heard) r = join-says (λ s. IfSome (copied s) (λ x. device_of (call.Join t heard) r ≡ Some x.0.eui)) t heard tt tt tt r
+copied-device (call.JoinReply t o) r = answer-says (λ s. IfSome (copied s) (λ x. device_of (call.JoinReply t o) r ≡ Some x.0.eui)) t o (λ n. tt) tt tt r
+copied-device (call.Close w) r = close-says (λ s. IfSome (copied s) (λ x. device_of (call.Close w) r ≡ Some x.0.eui)) w (λ ack. tt) tt r
 
 pub window-device : (c : Call) (r : Reply) (x : WindowName × Heard) → window_copy_in c r ≡ Some x → device_of c r ≡ Some x.0.eui
-window-device (call.Uplink frame heard) (reply.Opened w) x is = ap (option_map (λ (y : WindowName × Heard). y.0.eui)) is
-window-device (call.Uplink frame heard) (reply.Again w) x is = ap (option_map (λ (y : WindowName × Heard). y.0.eui)) is
-window-device (call.Uplink frame heard) (reply.Copied w place) x is = ap (option_map (λ (y : WindowName × Heard). y.0.eui)) is
-window-device (call.Uplink frame heard) _ x is = absurd (cc is)
-window-device (call.JoinReply t o) r x is = absurd (cc is)
-window-device (call.Join t heard) r x is = absurd (cc is)
-window-device (call.Close w) r x is = absurd (cc is)
+window-device c r x is = at_some (λ (y : WindowName × Heard). device_of c r ≡ Some y.0.eui) (window_copy_in c r) x is (copied-device c r)
+
+opened-device : (c : Call) (r : Reply) (o : Opening) → window_in c r ≡ Some o → device_of c r ≡ Some o.window.eui
+opened-device c r o is = window-device c r (o.window, o.heard) (at_some (λ (p : Opening). window_copy_in c r ≡ Some (p.window, p.heard)) (window_in c r) o is (opening-copy c r))
+
+pub opening-device : (c : Call) (r : Reply) (o : Opening) → opening_in c r ≡ Some o → device_of c r ≡ Some o.window.eui
+opening-device c r o is = opened-device c r o (opening-window c r o is)
+
+pub repetition-device : (c : Call) (r : Reply) (o : Opening) → repetition_in c r ≡ Some o → device_of c r ≡ Some o.window.eui
+repetition-device c r o is = opened-device c r o (repetition-window c r o is)
+
+pub closing-device : (c : Call) (r : Reply) (x : Closing) → closing_in c r ≡ Some x → device_of c r ≡ Some x.window.eui
+closing-device c r x = closed-by (λ d p. p ≡ Some x → device_of d r ≡ Some x.window.eui) (λ d no. absurd (cc no)) (λ w ack is. ap (option_map (λ (y : Closing). y.window.eui)) is) c r
 
 pub ticket-device : (c : Call) (r : Reply) (x : Ticket × Heard) → ticket_copy_in c r ≡ Some x → device_of c r ≡ Some (dev_eui x.0)
-ticket-device (call.Join t heard) (reply.Ask asked) x is = ap (option_map (λ (y : Ticket × Heard). dev_eui y.0)) is
-ticket-device (call.Join t heard) (reply.JoinCopied place) x is = ap (option_map (λ (y : Ticket × Heard). dev_eui y.0)) is
-ticket-device (call.Join t heard) _ x is = absurd (cc is)
-ticket-device (call.Uplink frame heard) r x is = absurd (cc is)
-ticket-device (call.JoinReply t o) r x is = absurd (cc is)
-ticket-device (call.Close w) r x is = absurd (cc is)
+ticket-device c r x = join_copied-by (λ d p. p ≡ Some x → device_of d r ≡ Some (dev_eui x.0)) (λ d no. absurd (cc no)) (λ t heard is. ap (option_map (λ (y : Ticket × Heard). dev_eui y.0)) is) c r
 
 -- a kept entry of the device passes the test of what it says
-with-device : {Y : Type 0} (says : Call → Reply → Option Y) (device : Y → DevEui) (keeps : Y → Bool) (x : Entry) (eui : DevEui) → ((y : Y) → says x.call x.reply ≡ Some y → device_of x.call x.reply ≡ Some (device y)) →
-    is_of eui x ≡ true → option_map_or keeps (says x.call x.reply) false ≡ true → option_map_or (λ y. same_device (device y) eui && keeps y) (says x.call x.reply) false ≡ true
+with-device : {Y : Type 0} (says : Said → Option Y) (device : Y → DevEui) (keeps : Y → Bool) (x : Entry) (eui : DevEui) → ((y : Y) → says (said x.call x.reply) ≡ Some y → device_of x.call x.reply ≡ Some (device y)) →
+    is_of eui x ≡ true → option_map_or keeps (says (said x.call x.reply)) false ≡ true → option_map_or (λ y. same_device (device y) eui && keeps y) (says (said x.call x.reply)) false ≡ true
 with-device {Y} says device keeps x eui names mine is =
-    let one = said_one keeps (says x.call x.reply) is in
+    let one = said_one keeps (says (said x.call x.reply)) is in
     let here : same_device (device one.0) eui ≡ true = sym (ap (λ o. option_map_or (λ (d : DevEui). same_device d eui) o false) (names one.0 one.1)) ∙ mine in
-    says_so (λ y. same_device (device y) eui && keeps y) (says x.call x.reply) one.0 one.1 (and_both _ _ here one.2)
+    says_so (λ y. same_device (device y) eui && keeps y) (says (said x.call x.reply)) one.0 one.1 (and_both _ _ here one.2)
 
 abbrev after_c : DevEui → List Entry → Entry → List Entry → Bool
 after_c eui h x xs = w_test eui h x xs || t_test eui h x xs
@@ -606,12 +579,12 @@ kept-ways h eui x xs is =
     (option_map_or (keeps_repetition h xs) (repetition_in x.call x.reply) false) (option_map_or (keeps_closing h xs) (closing_in x.call x.reply) false)
     (option_map_or (keeps_window_copy h) (window_copy_in x.call x.reply) false) (option_map_or (keeps_ticket_copy h xs) (ticket_copy_in x.call x.reply) false)
     (a_test eui h x xs) (o_test eui h x xs) (r_test eui h x xs) (c_test eui h x xs) (w_test eui h x xs) (t_test eui h x xs)
-    (with-device acceptance_in (λ (a : Acceptance). a.eui) (keeps_acceptance h xs) x eui (acceptance-device x.call x.reply) parts.1)
-    (with-device opening_in (λ (o : Opening). o.window.eui) (keeps_opening h xs) x eui (opening-device x.call x.reply) parts.1)
-    (with-device repetition_in (λ (o : Opening). o.window.eui) (keeps_repetition h xs) x eui (repetition-device x.call x.reply) parts.1)
-    (with-device closing_in (λ (c : Closing). c.window.eui) (keeps_closing h xs) x eui (closing-device x.call x.reply) parts.1)
-    (with-device window_copy_in (λ (c : WindowName × Heard). c.0.eui) (keeps_window_copy h) x eui (window-device x.call x.reply) parts.1)
-    (with-device ticket_copy_in (λ (c : Ticket × Heard). dev_eui c.0) (keeps_ticket_copy h xs) x eui (ticket-device x.call x.reply) parts.1)
+    (with-device accepted (λ (a : Acceptance). a.eui) (keeps_acceptance h xs) x eui (acceptance-device x.call x.reply) parts.1)
+    (with-device first_opened (λ (o : Opening). o.window.eui) (keeps_opening h xs) x eui (opening-device x.call x.reply) parts.1)
+    (with-device repeated (λ (o : Opening). o.window.eui) (keeps_repetition h xs) x eui (repetition-device x.call x.reply) parts.1)
+    (with-device closed (λ (c : Closing). c.window.eui) (keeps_closing h xs) x eui (closing-device x.call x.reply) parts.1)
+    (with-device copied (λ (c : WindowName × Heard). c.0.eui) (keeps_window_copy h) x eui (window-device x.call x.reply) parts.1)
+    (with-device join_copied (λ (c : Ticket × Heard). dev_eui c.0) (keeps_ticket_copy h xs) x eui (ticket-device x.call x.reply) parts.1)
     parts.0
 
 pub kept-at-most : (net : Network) (h : List Entry) → IsLegal net h → (eui : DevEui) → count_by (is_of eui) (filter_before (is_kept h) h) ≤ most_kept

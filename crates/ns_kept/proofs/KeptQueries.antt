@@ -1,5 +1,5 @@
 -- A part of a legal history in which what matters is kept tells the same of what answers rest on.
-use Rattle.std.proofs.Common.{◌≡◌, ℕ, ◌==◌, Bool, true, false, ◌||◌, ◌&&◌, cond, List, [], ◌∷◌, ◌++◌, map, find, unwrap_or, ◌+◌, Option, None, Some, option_map, refl, sym, ap, subst, ◌∙◌, arith, inl, inr}
+use Rattle.std.proofs.Common.{◌≡◌, ℕ, ◌==◌, Bool, true, false, ◌||◌, ◌&&◌, cond, List, [], ◌∷◌, ◌++◌, map, find, unwrap_or, ◌+◌, Option, Some, option_map, refl, sym, ap, subst, ◌∙◌, arith, inl, inr}
 use Rattle.std.specs.Prelude.{is_some}
 use Rattle.std.specs.List.{AllByRecursion, list_any}
 use Rattle.std.proofs.lemmas.List.{map-append}
@@ -29,12 +29,9 @@ use Rattle.ns_kept.proofs.Dropped.{has_window, idle-map, acceptances-idle, openi
 use Rattle.ns_kept.proofs.RoundsKept.{counters-within, rounds-within, session_round-same}
 use Rattle.ns_kept.proofs.ReadLemmas.{acceptances-with_closings, openings-with_closings, counters-with_closings, rounds-with_closings, acks-with_closings, window_copies-with_closings, open_tickets-with_closings, ticket_copies-with_closings}
 use Rattle.ns_kept.proofs.Alike.{Alike}
+use Rattle.ns_calls.proofs.KeyLemmas.{below_next}
 
 -- ---- the sessions of a device rise
-
-pub below_next : (sessions : Option ℕ) → Exceeds sessions (unwrap_or sessions 0 + 1)
-below_next None = tt
-below_next (Some s) = omega arith
 
 abbrev sessions_of : List Acceptance → List ℕ
 sessions_of joins = map (λ a. a.session) joins

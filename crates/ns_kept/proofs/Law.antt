@@ -14,18 +14,19 @@ use Rattle.ns_calls.specs.declared.call.Call.{Call}
 use Rattle.ns_calls.specs.declared.call.Reply.{Reply}
 use Rattle.ns_calls.specs.declared.call.Entry.{Entry}
 use Rattle.ns_calls.specs.declared.answer.Answer.{Answer}
-use Rattle.ns_calls.specs.Entries.{is_ended, Opening, window_in, closes, open_windows}
-use Rattle.ns_calls.specs.History.{asking_in, ends_ticket, open_tickets, greatest_nonce}
+use Rattle.ns_calls.specs.Entries.{is_ended, Opening, closes, open_windows}
+use Rattle.ns_calls.specs.History.{ends_ticket, open_tickets, greatest_nonce}
+use Rattle.ns_calls.proofs.Says.{window_in, asking_in}
 use Rattle.ns_calls.specs.Reply.{reply_to}
-use Rattle.ns_calls.specs.Legal.{IsLegal, IsNumbered, IsOfShard, entry_for}
+use Rattle.ns_calls.specs.Legal.{IsLegal, IsNumbered, entry_for}
 use Rattle.ns_calls.specs.Legal as calls
-use Rattle.ns_calls.specs.Out.{out, answer}
+use Rattle.ns_calls.specs.Out.{answer}
 use Rattle.ns_calls.specs.Runs.{answers_after}
 use Rattle.ns_calls.specs.Laws.{Rises, opening_count, closing_count, open_count}
 use Rattle.ns_calls.proofs.WindowLemmas.{windows_open_once}
-use Rattle.ns_calls.specs.Merges.{MergesAreLegal}
+use Rattle.ns_calls.specs.Merges.{MergesAreLegal, out}
 use Rattle.ns_calls.proofs.LegalLemmas.{IsLegal-push, get_push}
-use Rattle.ns_calls.proofs.Merges.{merges_are_legal}
+use Rattle.ns_calls.proofs.Merges.{merges_are_legal, by_place, at_place, All-take}
 use Rattle.ns_kept.specs.Kept.{Remains, whole, closing_entry, closing_of, with_closings, reading, filter_before, is_kept, keep}
 use Rattle.ns_kept.specs.Left.{followed_by, left_of, first_entries, Leaves, with_call, Act, made, trimmed, answers_over, calls_in, AreLeft}
 use Rattle.ns_kept.proofs.Within.{Within, filter_before-Within}
@@ -43,10 +44,6 @@ place-below : (xs : List Entry) (n : ℕ) (e : Entry) → slice_get xs n ≡ Som
 place-below [] n e at = absurd (cc at)
 place-below (x ∷ xs) zero e at = omega arith
 place-below (x ∷ xs) (suc n) e at = (let less : n < length xs = place-below xs n e at in omega (arith, less))
-
-by_place : (P : Entry → Type 0) (xs : List Entry) → ((n : ℕ) (e : Entry) → slice_get xs n ≡ Some e → P e) → AllByRecursion P xs
-by_place P [] each = tt
-by_place P (x ∷ xs) each = (each zero x refl, by_place P xs (λ n e at. each (suc n) e at))
 
 take-at : (m : ℕ) (xs : List Entry) (n : ℕ) (e : Entry) → slice_get (take m xs) n ≡ Some e → (slice_get xs n ≡ Some e) × (n < m)
 take-at zero xs n e at = absurd (cc at)
@@ -245,11 +242,6 @@ at-append (x ∷ xs) ys (suc n) e at =
       | inr there ↦ inr (there.0, there.1, ap (λ (l : List Entry). x ∷ l) there.2)
     ]
 
-at-place : (P : Entry → Type 0) (xs : List Entry) → AllByRecursion P xs → (n : ℕ) (e : Entry) → slice_get xs n ≡ Some e → P e
-at-place P [] all n e at = absurd (cc at)
-at-place P (x ∷ xs) all zero e at = (let same : x ≡ e = cc in subst P same all.0)
-at-place P (x ∷ xs) all (suc n) e at = at-place P xs all.1 n e at
-
 -- the place in the whole history, and what is before it there
 drop-place : (m : ℕ) (xs : List Entry) (j : ℕ) (e : Entry) → slice_get (drop m xs) j ≡ Some e → (p : ℕ) × (slice_get xs p ≡ Some e) × (m ≤ p) × (take p xs ≡ take m xs ++ take j (drop m xs))
 drop-place zero xs j e at = (j, at, omega arith, refl)
@@ -261,11 +253,6 @@ Within-passed : (P : Entry → Type 0) (test : Entry → List Entry → Bool) (k
 Within-passed P test ks [] within all = subst (AllByRecursion P) (sym within) tt
 Within-passed P test ks (x ∷ xs) (inl kept) all = subst (AllByRecursion P) (sym kept.1) (all.0, Within-passed P test kept.0 xs kept.2 all.1)
 Within-passed P test ks (x ∷ xs) (inr gone) all = Within-passed P test ks xs gone.1 all.1
-
-All-take : (P : Entry → Type 0) (n : ℕ) (xs : List Entry) → AllByRecursion P xs → AllByRecursion P (take n xs)
-All-take P zero xs all = tt
-All-take P (suc n) [] all = tt
-All-take P (suc n) (x ∷ xs) all = (all.0, All-take P n xs all.1)
 
 differs : (m n : ℕ) → m ≤ n → nat_le m n ≡ false → ⊥
 differs m n le is = grind (arith, nat_tests)
@@ -283,7 +270,7 @@ left-place net h m legal numbered n e at le =
     elim (at-append (kept_of f) (drop m h) n e at) [
       | inl old ↦
           (let below : AllByRecursion (λ (x : Entry). nat_le m x.number ≡ false) (kept_of f) = Within-passed (λ (x : Entry). nat_le m x.number ≡ false) (is_kept f) (kept_of f) f (filter_before-Within (is_kept f) f) (front-below m h numbered) in
-          absurd (differs m e.number le (at-place (λ (x : Entry). nat_le m x.number ≡ false) (kept_of f) below n e old)))
+          absurd (differs m e.number le (at_place (λ (x : Entry). nat_le m x.number ≡ false) (kept_of f) below n e old)))
       | inr new ↦
           (let j : ℕ = new.0 in
           let place = drop-place m h j e new.1 in

@@ -7,17 +7,15 @@ use Rattle.ns_types.specs.Cases.{when}
 use Rattle.ns_types.specs.declared.identity.WindowName.{WindowName}
 use Rattle.ns_types.specs.Identity.{same_window}
 use Rattle.ns_calls.specs.declared.call.Entry.{Entry}
-use Rattle.ns_calls.specs.Entries.{still_open, Opening, window_in, closes, open_windows}
+use Rattle.ns_calls.specs.Entries.{still_open, Opening, closes, open_windows}
+use Rattle.ns_calls.proofs.Says.{window_in}
 use Rattle.ns_calls.specs.Laws.{Rises}
 use Rattle.ns_calls.proofs.LocalLemmas.{bool_tells}
 use Rattle.ns_calls.proofs.Lists.{All-weaker, All-map}
 use Rattle.ns_calls.proofs.NameLemmas.{same_window-refl, same_window-eq}
 use Rattle.ns_kept.specs.Kept.{Remains, closing_entry, counts, closing_of, with_closings, reading, counted_windows}
 use Rattle.ns_kept.proofs.WindowsKept.{named}
-
-clash : (b : Bool) → b ≡ true → b ≡ false → ⊥
-clash true is isnt = absurd (cc isnt)
-clash false is isnt = absurd (cc is)
+use Rattle.ns_kept.proofs.Says.{clash}
 
 pub or_true : (a b : Bool) → (a || b) ≡ true → (a ≡ true) ⊎ (b ≡ true)
 or_true true b is = inl refl

@@ -6,8 +6,9 @@ use Rattle.ns_types.specs.declared.identity.DevEui.{DevEui}
 use Rattle.ns_types.specs.declared.identity.WindowName.{WindowName}
 use Rattle.ns_types.specs.declared.ticket.Ticket.{Ticket}
 use Rattle.ns_calls.specs.declared.call.Entry.{Entry}
-use Rattle.ns_calls.specs.Entries.{Opening, Closing, window_in, acceptances, openings, session_counters}
-use Rattle.ns_calls.specs.History.{asking_in, asks_for, ends_ticket, session_acks, rounds, window_copies, open_tickets, copies_of_ticket, ticket_copies}
+use Rattle.ns_calls.specs.Entries.{Opening, Closing, acceptances, openings, session_counters}
+use Rattle.ns_calls.specs.History.{asks_for, ends_ticket, session_acks, rounds, window_copies, open_tickets, copies_of_ticket, ticket_copies}
+use Rattle.ns_calls.proofs.Says.{window_in, asking_in}
 use Rattle.ns_kept.specs.Kept.{whole, closing_entry, counts, closing_of, with_closings, reading}
 use Rattle.ns_kept.proofs.Within.{Adds}
 use Rattle.ns_kept.proofs.Asked.{acceptances-adds, openings-adds, counters-adds, rounds-adds, acks-adds, window_copies-adds, copies_of_ticket-adds, ticket_copies-cons}

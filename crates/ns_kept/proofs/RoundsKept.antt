@@ -11,58 +11,34 @@ use Rattle.ns_types.specs.Identity.{same_uplink}
 use Rattle.ns_secure.specs.Counter.{Exceeds}
 use Rattle.ns_roster.specs.Network.{Network}
 use Rattle.ns_calls.specs.declared.call.Call.{Call}
-use Rattle.ns_calls.specs.declared.call.Call.TheVariants as call
 use Rattle.ns_calls.specs.declared.call.Reply.{Reply}
-use Rattle.ns_calls.specs.declared.call.Reply.TheVariants as reply
 use Rattle.ns_calls.specs.declared.call.Entry.{Entry}
 use Rattle.ns_calls.specs.Queries.{maximum}
-use Rattle.ns_calls.specs.Entries.{Opening, opening_in, window_in, same_device, session_counters}
-use Rattle.ns_calls.specs.History.{greatest_counter, first_window, rounds, last_round, session_round, is_live}
+use Rattle.ns_calls.specs.Entries.{Opening, same_device, session_counters, first_opened, Said, said}
+use Rattle.ns_calls.proofs.Says.{window_in}
+use Rattle.ns_calls.specs.History.{greatest_counter, first_window, rounds, last_round, is_live}
 use Rattle.ns_calls.specs.Reply.{reply_to}
 use Rattle.ns_calls.specs.Legal.{IsLegal, entry_for, with_call}
 use Rattle.ns_calls.specs.Laws.{Rises}
-use Rattle.ns_calls.specs.Headline.{Reaches}
+use Rattle.ns_calls.specs.Headline.{Reaches, session_round}
 use Rattle.ns_calls.proofs.LocalLemmas.{bool_tells}
 use Rattle.ns_calls.proofs.Lists.{All-push, All-weaker, Exceeds-each, Rises-push}
 use Rattle.ns_calls.proofs.Induction.{legal_induction}
 use Rattle.ns_calls.proofs.JoinLemmas.{same_device-eq}
 use Rattle.ns_calls.proofs.NameLemmas.{both_hold, same_uplink-eq}
 use Rattle.ns_calls.proofs.UplinkLemmas.{IsOpened, window-new, counters_rise}
-use Rattle.ns_calls.proofs.RoundLemmas.{opened, HasReached, counters_reach, opened-push, first-apart, rounds-push, rounds-same}
-use Rattle.ns_kept.specs.Kept.{same_session, repetition_in, is_kept}
+use Rattle.ns_calls.proofs.RoundLemmas.{opened, HasReached, counters_reach, opened-push, first-apart, rounds-push, rounds-same, filter-none}
+use Rattle.ns_kept.specs.Kept.{same_session, is_kept, repeated}
 use Rattle.ns_kept.proofs.Within.{Within, HasSome, AreIdle, maximum-within, maximum-within-at}
 use Rattle.ns_kept.proofs.Asked.{counters-adds, rounds-adds}
 use Rattle.ns_kept.proofs.Dropped.{Dropped, dropped, or_false, not_false, and_false, counters-idle}
-
--- ---- a window is the first of an uplink, or one that is opened again
-
-pub opening-window : (c : Call) (r : Reply) (o : Opening) → opening_in c r ≡ Some o → window_in c r ≡ Some o
-opening-window (call.Uplink frame heard) (reply.Opened w) o is = is
-opening-window (call.Uplink frame heard) _ o is = absurd (cc is)
-opening-window (call.Join t heard) r o is = absurd (cc is)
-opening-window (call.JoinReply t x) r o is = absurd (cc is)
-opening-window (call.Close w) r o is = absurd (cc is)
-
-pub repetition-window : (c : Call) (r : Reply) (o : Opening) → repetition_in c r ≡ Some o → window_in c r ≡ Some o
-repetition-window (call.Uplink frame heard) (reply.Again w) o is = is
-repetition-window (call.Uplink frame heard) _ o is = absurd (cc is)
-repetition-window (call.Join t heard) r o is = absurd (cc is)
-repetition-window (call.JoinReply t x) r o is = absurd (cc is)
-repetition-window (call.Close w) r o is = absurd (cc is)
-
-pub window-either : (c : Call) (r : Reply) (o : Opening) → window_in c r ≡ Some o → (opening_in c r ≡ Some o) ⊎ (repetition_in c r ≡ Some o)
-window-either (call.Uplink frame heard) (reply.Opened w) o is = inl is
-window-either (call.Uplink frame heard) (reply.Again w) o is = inr is
-window-either (call.Uplink frame heard) _ o is = absurd (cc is)
-window-either (call.Join t heard) r o is = absurd (cc is)
-window-either (call.JoinReply t x) r o is = absurd (cc is)
-window-either (call.Close w) r o is = absurd (cc is)
+use Rattle.ns_kept.proofs.Says.{opening-window, repetition-window, window-either}
 
 -- what entries say of some windows is said of all
-pub any-window : (says : Call → Reply → Option Opening) → ((c : Call) (r : Reply) (o : Opening) → says c r ≡ Some o → window_in c r ≡ Some o) → (test : Opening → Bool) →
-    (es : List Entry) → list_any test (filter_map (λ e. says e.call e.reply) es) ≡ true → list_any test (opened es) ≡ true
+pub any-window : (says : Said → Option Opening) → ((c : Call) (r : Reply) (o : Opening) → says (said c r) ≡ Some o → window_in c r ≡ Some o) → (test : Opening → Bool) →
+    (es : List Entry) → list_any test (filter_map (λ e. says (said e.call e.reply)) es) ≡ true → list_any test (opened es) ≡ true
 any-window says is_window test [] any = absurd (cc any)
-any-window says is_window test (x ∷ xs) any = step (says x.call x.reply) refl any (any-window says is_window test xs)
+any-window says is_window test (x ∷ xs) any = step (says (said x.call x.reply)) refl any (any-window says is_window test xs)
   where
     or_right : (a b : Bool) → b ≡ true → (a || b) ≡ true
     or_right true b is = refl
@@ -72,14 +48,14 @@ any-window says is_window test (x ∷ xs) any = step (says x.call x.reply) refl 
     later-too None later = later
     later-too (Some p) later = or_right (test p) _ later
 
-    step : (o : Option Opening) → says x.call x.reply ≡ o → list_any test (cons_option o (filter_map (λ (e : Entry). says e.call e.reply) xs)) ≡ true → (list_any test (filter_map (λ (e : Entry). says e.call e.reply) xs) ≡ true → list_any test (opened xs) ≡ true) →
+    step : (o : Option Opening) → says (said x.call x.reply) ≡ o → list_any test (cons_option o (filter_map (λ (e : Entry). says (said e.call e.reply)) xs)) ≡ true → (list_any test (filter_map (λ (e : Entry). says (said e.call e.reply)) xs) ≡ true → list_any test (opened xs) ≡ true) →
         list_any test (cons_option (window_in x.call x.reply) (opened xs)) ≡ true
     step None is some rest = later-too (window_in x.call x.reply) (rest some)
     step (Some p) is some rest =
         ap (λ o. list_any test (cons_option o (opened xs))) (is_window x.call x.reply p is)
         ∙ (elim (bool_tells (test p)) [
           | inl here ↦ ap (λ b. b || list_any test (opened xs)) here
-          | inr other ↦ or_right (test p) _ (rest (sym (ap (λ b. b || list_any test (filter_map (λ (e : Entry). says e.call e.reply) xs)) other) ∙ some))
+          | inr other ↦ or_right (test p) _ (rest (sym (ap (λ b. b || list_any test (filter_map (λ (e : Entry). says (said e.call e.reply)) xs)) other) ∙ some))
         ])
 
 -- ---- in a session the counters of the windows never fall
@@ -133,10 +109,6 @@ never_fall net h legal = legal_induction net (λ g. Pairwise NoLower (opened g))
         (more g c (reply_to net g c) (counters_reach net g ok) falls (window_in c (reply_to net g c)) (window-new net g c))
 
 -- ---- the rounds of an uplink rise
-
-filter-none : {X : Type 0} (test : X → Bool) (xs : List X) → AllByRecursion (λ x. test x ≡ false) xs → filter test xs ≡ []
-filter-none test [] none = refl
-filter-none {X} test (x ∷ xs) none = ap (λ b. cond {A = List X} b (x ∷ filter test xs) (filter test xs)) none.0 ∙ filter-none test xs none.1
 
 above_last : (a : Option ℕ) → Exceeds a (unwrap_or a 0 + 1)
 above_last None = tt
@@ -218,8 +190,8 @@ lasts-rest h x xs lasts = record { falls = fall (window_in x.call x.reply) lasts
 followed : (h : List Entry) (x : Entry) (xs : List Entry) → Dropped h x xs → (o : Opening) → window_in x.call x.reply ≡ Some o → is_live h o.window.eui o.window.session ≡ true → list_any (λ p. same_session p.window o.window) (opened xs) ≡ true
 followed h x xs gone o says lives =
     elim (window-either x.call x.reply o says) [
-      | inl first ↦ any-window opening_in opening-window (λ (p : Opening). same_session p.window o.window) xs (not_false _ (and_false _ _ (or_false _ _ (gone.opening o first)).1 lives))
-      | inr next ↦ any-window repetition_in repetition-window (λ (p : Opening). same_session p.window o.window) xs (not_false _ (and_false _ _ (gone.repetition o next) lives))
+      | inl first ↦ any-window first_opened opening-window (λ (p : Opening). same_session p.window o.window) xs (not_false _ (and_false _ _ (or_false _ _ (gone.opening o first)).1 lives))
+      | inr next ↦ any-window repeated repetition-window (λ (p : Opening). same_session p.window o.window) xs (not_false _ (and_false _ _ (gone.repetition o next) lives))
     ]
 
 rounds-idle : (h : List Entry) (w : WindowName) → is_live h w.eui w.session ≡ true → greatest_of h w ≡ Some w.fcnt → (es : List Entry) → Lasts h es → AreIdle (is_kept h) (λ xs. rounds xs w) es

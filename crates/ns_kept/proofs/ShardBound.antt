@@ -3,7 +3,7 @@ use Rattle.std.proofs.Common.{◌≡◌, ℕ, suc, ◌*◌, ◌≤◌, ◌==◌,
 use Rattle.std.specs.List.{AllByRecursion, list_any}
 use Rattle.std.specs.Option.{option_map_or}
 use Rattle.std.proofs.lemmas.Bool.{and_parts, eq-eqb}
-use Rattle.std.proofs.lemmas.Option.{same_Some}
+use Rattle.std.proofs.lemmas.Option.{same_Some, none-some}
 use Rattle.ns_types.specs.declared.identity.DevEui.{DevEui}
 use Rattle.ns_types.specs.declared.identity.WindowName.{WindowName}
 use Rattle.ns_types.specs.declared.heard.Heard.{Heard}
@@ -18,9 +18,12 @@ use Rattle.ns_calls.specs.declared.call.Call.{Call}
 use Rattle.ns_calls.specs.declared.call.Call.TheVariants as call
 use Rattle.ns_calls.specs.declared.call.Reply.{Reply}
 use Rattle.ns_calls.specs.declared.call.Entry.{Entry}
-use Rattle.ns_calls.specs.Entries.{Acceptance, Opening, Closing, acceptance_in, opening_in, window_in, closing_in, same_device}
-use Rattle.ns_calls.specs.History.{window_copy_in, ticket_copy_in, same_ticket, next_session, open_tickets, is_ticket_open}
-use Rattle.ns_calls.specs.Reply.{reply_to, nonce_at_or_above, address}
+use Rattle.ns_calls.specs.Entries as entries
+use Rattle.ns_calls.specs.Entries.{Acceptance, Opening, Closing, same_device, accepted, closed, first_opened, Said, said}
+use Rattle.ns_calls.specs.History.{same_ticket, next_session, open_tickets, is_ticket_open, copied, join_copied}
+use Rattle.ns_calls.proofs.Says.{acceptance_in, opening_in, window_in, closing_in, window_copy_in, ticket_copy_in, uplink-says, join-says, answer-says, close-says}
+use Rattle.ns_calls.specs.Reply.{reply_to, address}
+use Rattle.ns_calls.specs.Headline.{nonce_at_or_above}
 use Rattle.ns_calls.specs.Legal.{IsLegal, IsHistory, entry_for}
 use Rattle.ns_calls.specs.Shards.{shard_of_call, NamesOwnDevice, device_in}
 use Rattle.ns_calls.specs.Laws.{opening_count, closing_count, WindowsOpenOnce}
@@ -34,15 +37,15 @@ use Rattle.ns_calls.proofs.RoundLemmas.{opened}
 use Rattle.ns_calls.proofs.NameLemmas.{same_window-eq}
 use Rattle.ns_calls.proofs.WindowLemmas.{windows_open_once}
 use Rattle.ns_calls.proofs.Merges.{replies_name_own_devices}
-use Rattle.ns_kept.specs.Kept.{whole, repetition_in, keeps_acceptance, keeps_opening, keeps_repetition, keeps_closing, keeps_window_copy, keeps_ticket_copy, is_kept, filter_before, keep}
+use Rattle.ns_kept.specs.Kept.{whole, keeps_acceptance, keeps_opening, keeps_repetition, keeps_closing, keeps_window_copy, keeps_ticket_copy, is_kept, filter_before, keep, repeated}
 use Rattle.ns_kept.specs.Bound.{device_of, is_of}
 use Rattle.ns_kept.proofs.Within.{AllEnds}
 use Rattle.ns_kept.proofs.ReadLemmas.{reading-whole}
 use Rattle.ns_kept.proofs.Dropped.{same_device-refl}
-use Rattle.ns_kept.proofs.RoundsKept.{opening-window, repetition-window}
 use Rattle.ns_kept.proofs.Later.{said-more, each-some, counted, each-said, closing-counted, copied-opened, opens-own}
 use Rattle.ns_kept.proofs.Tally.{tally, times, AllEnds-of, tally-keys-at, length-tally, count-tally, times-208, any-weaker, any-filter, length-filter}
 use Rattle.ns_kept.proofs.BoundLemmas.{said_one, says_so, acceptance-device, opening-device, repetition-device, closing-device, window-device, ticket-device, kept-at-most}
+use Rattle.ns_kept.proofs.Says.{repetition_in, opening-window, repetition-window}
 
 -- the roster has the device
 abbrev has_device : Network → DevEui → Bool
@@ -66,15 +69,16 @@ same_ticket-found net (u ∷ ts) t all is =
 accepted-known : (net : Network) (g : List Entry) → IsLegal net g → (c : Call) (a : Acceptance) → acceptance_in c (reply_to net g c) ≡ Some a → has_device net a.eui ≡ true
 accepted-known net g legal (call.JoinReply t o) a is =
     elim (accepted-cases t o (is_ticket_open g t) (nonce_at_or_above net g t) (dev_eui t) (next_session g (dev_eui t)) (address net (dev_eui t))) [
-      | inl none ↦ absurd (cc (none, is))
+      | inl none ↦ absurd (none-some a (sym none ∙ is))
       | inr found ↦
           (let same : Some (dev_eui t) ≡ Some a.eui = ap (option_map (λ (x : Acceptance). x.eui)) (sym found.4 ∙ is) in
           let device : dev_eui t ≡ a.eui = same_Some (dev_eui t) a.eui same in
           subst (λ (d : DevEui). has_device net d ≡ true) device (known-device net t (same_ticket-found net (open_tickets g) t (tickets_known net g legal) found.2)))
     ]
-accepted-known net g legal (call.Uplink frame heard) a is = absurd (cc is)
-accepted-known net g legal (call.Join t heard) a is = absurd (cc is)
-accepted-known net g legal (call.Close w) a is = absurd (cc is)
+accepted-known net g legal (call.Uplink frame heard) a is =
+    absurd (none-some a (sym (uplink-says (λ s. accepted s ≡ None) frame heard (λ w. refl) (λ w. refl) (λ w. refl) refl (reply_to net g (call.Uplink frame heard))) ∙ is))
+accepted-known net g legal (call.Join t heard) a is = absurd (none-some a (sym (join-says (λ s. accepted s ≡ None) t heard refl refl refl (reply_to net g (call.Join t heard))) ∙ is))
+accepted-known net g legal (call.Close w) a is = absurd (none-some a (sym (close-says (λ s. accepted s ≡ None) w (λ ack. refl) refl (reply_to net g (call.Close w))) ∙ is))
 
 opened-known : (net : Network) (g : List Entry) → IsLegal net g → (c : Call) (o : Opening) → window_in c (reply_to net g c) ≡ Some o → has_device net o.window.eui ≡ true
 opened-known net g legal c o says =
@@ -111,15 +115,16 @@ asked-known net g (call.Join t heard) x is = join-has (λ r. ticket_copy_in (cal
   where
     own : is_known net (dev_eui t) (join_eui t) ≡ true → Some (t, heard) ≡ Some x → has_device net (dev_eui x.0) ≡ true
     own known says = subst (λ (u : Ticket). has_device net (dev_eui u) ≡ true) (ap (λ (z : Ticket × Heard). z.0) (same_Some (t, heard) x says)) (known-device net t known)
-asked-known net g (call.Uplink frame heard) x is = absurd (cc is)
-asked-known net g (call.JoinReply t o) x is = absurd (cc is)
-asked-known net g (call.Close w) x is = absurd (cc is)
+asked-known net g (call.Uplink frame heard) x is =
+    absurd (none-some x (sym (uplink-says (λ s. join_copied s ≡ None) frame heard (λ w. refl) (λ w. refl) (λ w. refl) refl (reply_to net g (call.Uplink frame heard))) ∙ is))
+asked-known net g (call.JoinReply t o) x is = absurd (none-some x (sym (answer-says (λ s. join_copied s ≡ None) t o (λ n. refl) refl refl (reply_to net g (call.JoinReply t o))) ∙ is))
+asked-known net g (call.Close w) x is = absurd (none-some x (sym (close-says (λ s. join_copied s ≡ None) w (λ ack. refl) refl (reply_to net g (call.Close w))) ∙ is))
 
 -- what each legal call says has a property, so all that a legal history says has it
-all-said : {Y : Type 0} (net : Network) (says : Call → Reply → Option Y) (P : Y → Type 0) → ((g : List Entry) → IsLegal net g → (c : Call) (y : Y) → says c (reply_to net g c) ≡ Some y → P y) → (h : List Entry) → IsLegal net h → AllByRecursion P (filter_map (λ e. says e.call e.reply) h)
+all-said : {Y : Type 0} (net : Network) (says : Said → Option Y) (P : Y → Type 0) → ((g : List Entry) → IsLegal net g → (c : Call) (y : Y) → says (said c (reply_to net g c)) ≡ Some y → P y) → (h : List Entry) → IsLegal net h → AllByRecursion P (filter_map (λ e. says (said e.call e.reply)) h)
 all-said {Y} net says P each h legal =
-    legal_induction net (λ g. AllByRecursion P (filter_map (λ (e : Entry). says e.call e.reply) g)) tt
-    (λ g number c ok all. said-more P (λ (e : Entry). says e.call e.reply) g (entry_for net g number c) all (each-some P (says c (reply_to net g c)) (λ y is. each g ok c y is))) h legal
+    legal_induction net (λ g. AllByRecursion P (filter_map (λ (e : Entry). says (said e.call e.reply)) g)) tt
+    (λ g number c ok all. said-more P (λ (e : Entry). says (said e.call e.reply)) g (entry_for net g number c) all (each-some P (says (said c (reply_to net g c))) (λ y is. each g ok c y is))) h legal
 
 -- each kept entry is of a device of the roster
 record Placed (net : Network) (e : Entry) : Type 0 where
@@ -137,7 +142,7 @@ placed : (net : Network) (h : List Entry) → IsLegal net h → AllByRecursion (
 placed net h legal =
     let once : WindowsOpenOnce h = windows_open_once net h legal in
     let known : AllByRecursion (λ (o : Opening). has_device net o.window.eui ≡ true) (opened h) =
-    all-said net window_in (λ (o : Opening). has_device net o.window.eui ≡ true) (λ g ok c o says. opened-known net g ok c o says) h legal in
+    all-said net entries.opened (λ (o : Opening). has_device net o.window.eui ≡ true) (λ g ok c o says. opened-known net g ok c o says) h legal in
     let of_window : (w : WindowName) → 1 ≤ opening_count h w → has_device net w.eui ≡ true = λ w some.
     (let found = counted (λ (o : Opening). has_device net o.window.eui ≡ true) (λ (o : Opening). same_window o.window w) (opened h) known some in
     subst (λ (v : WindowName). has_device net v.eui ≡ true) (same_window-eq found.0.window w found.2) found.1) in
@@ -148,23 +153,23 @@ placed net h legal =
     (λ (e : Entry). (c : WindowName × Heard) → window_copy_in e.call e.reply ≡ Some c → has_device net c.0.eui ≡ true)
     (λ (e : Entry). (c : Ticket × Heard) → ticket_copy_in e.call e.reply ≡ Some c → has_device net (dev_eui c.0) ≡ true)
     (Placed net) (λ e p q r s t. record { acceptance = p; window = q; closing = r; window_copy = s; ticket_copy = t }) h
-    (each-said (λ (a : Acceptance). has_device net a.eui ≡ true) (λ (e : Entry). acceptance_in e.call e.reply) h (all-said net acceptance_in (λ (a : Acceptance). has_device net a.eui ≡ true) (λ g ok c a says. accepted-known net g ok c a says) h legal))
+    (each-said (λ (a : Acceptance). has_device net a.eui ≡ true) (λ (e : Entry). acceptance_in e.call e.reply) h (all-said net accepted (λ (a : Acceptance). has_device net a.eui ≡ true) (λ g ok c a says. accepted-known net g ok c a says) h legal))
     (each-said (λ (o : Opening). has_device net o.window.eui ≡ true) (λ (e : Entry). window_in e.call e.reply) h known)
     (each-said (λ (c : Closing). has_device net c.window.eui ≡ true) (λ (e : Entry). closing_in e.call e.reply) h
     (All-weaker (λ (c : Closing). 1 ≤ closing_count h c.window) (λ (c : Closing). has_device net c.window.eui ≡ true)
     (λ c some. (let sums = once.closes c.window in let opens : 1 ≤ opening_count h c.window = omega (arith, some, sums) in of_window c.window opens)) _ (closing-counted h)))
     (each-said (λ (c : WindowName × Heard). has_device net c.0.eui ≡ true) (λ (e : Entry). window_copy_in e.call e.reply) h
     (All-weaker (λ (c : WindowName × Heard). 1 ≤ opening_count h c.0) (λ (c : WindowName × Heard). has_device net c.0.eui ≡ true) (λ c some. of_window c.0 some) _ (copied-opened net h legal)))
-    (each-said (λ (c : Ticket × Heard). has_device net (dev_eui c.0) ≡ true) (λ (e : Entry). ticket_copy_in e.call e.reply) h (all-said net ticket_copy_in (λ (c : Ticket × Heard). has_device net (dev_eui c.0) ≡ true) (λ g ok c x says. asked-known net g c x says) h legal))
+    (each-said (λ (c : Ticket × Heard). has_device net (dev_eui c.0) ≡ true) (λ (e : Entry). ticket_copy_in e.call e.reply) h (all-said net join_copied (λ (c : Ticket × Heard). has_device net (dev_eui c.0) ≡ true) (λ g ok c x says. asked-known net g c x says) h legal))
 
 -- the device of a kept entry
 HasPlace : Network → Entry → Type 0
 HasPlace net x = (eui : DevEui) × (device_of x.call x.reply ≡ Some eui) × (has_device net eui ≡ true)
 
-one-place : {Y : Type 0} (net : Network) (x : Entry) (says : Call → Reply → Option Y) (device : Y → DevEui) (keeps : Y → Bool) → ((y : Y) → says x.call x.reply ≡ Some y → device_of x.call x.reply ≡ Some (device y)) → ((y : Y) → says x.call x.reply ≡ Some y → has_device net (device y) ≡ true) →
-    option_map_or keeps (says x.call x.reply) false ≡ true → HasPlace net x
+one-place : {Y : Type 0} (net : Network) (x : Entry) (says : Said → Option Y) (device : Y → DevEui) (keeps : Y → Bool) → ((y : Y) → says (said x.call x.reply) ≡ Some y → device_of x.call x.reply ≡ Some (device y)) → ((y : Y) → says (said x.call x.reply) ≡ Some y → has_device net (device y) ≡ true) →
+    option_map_or keeps (says (said x.call x.reply)) false ≡ true → HasPlace net x
 unfolding HasPlace
-one-place net x says device keeps names has is = (let one = said_one keeps (says x.call x.reply) is in (device one.0, names one.0 one.1, has one.0 one.1))
+one-place net x says device keeps names has is = (let one = said_one keeps (says (said x.call x.reply)) is in (device one.0, names one.0 one.1, has one.0 one.1))
 
 of_six : {T : Type 0} (a b c d e f : Bool) → (a ≡ true → T) → (b ≡ true → T) → (c ≡ true → T) → (d ≡ true → T) → (e ≡ true → T) → (f ≡ true → T) → (a || b || c || d || e || f) ≡ true → T
 of_six true b c d e f p q r s t u is = p refl
@@ -181,12 +186,12 @@ kept-place net h x xs at is =
     (option_map_or (keeps_acceptance h xs) (acceptance_in x.call x.reply) false) (option_map_or (keeps_opening h xs) (opening_in x.call x.reply) false)
     (option_map_or (keeps_repetition h xs) (repetition_in x.call x.reply) false) (option_map_or (keeps_closing h xs) (closing_in x.call x.reply) false)
     (option_map_or (keeps_window_copy h) (window_copy_in x.call x.reply) false) (option_map_or (keeps_ticket_copy h xs) (ticket_copy_in x.call x.reply) false)
-    (one-place net x acceptance_in (λ (a : Acceptance). a.eui) (keeps_acceptance h xs) (acceptance-device x.call x.reply) at.acceptance)
-    (one-place net x opening_in (λ (o : Opening). o.window.eui) (keeps_opening h xs) (opening-device x.call x.reply) (λ o says. at.window o (opening-window x.call x.reply o says)))
-    (one-place net x repetition_in (λ (o : Opening). o.window.eui) (keeps_repetition h xs) (repetition-device x.call x.reply) (λ o says. at.window o (repetition-window x.call x.reply o says)))
-    (one-place net x closing_in (λ (c : Closing). c.window.eui) (keeps_closing h xs) (closing-device x.call x.reply) at.closing)
-    (one-place net x window_copy_in (λ (c : WindowName × Heard). c.0.eui) (keeps_window_copy h) (window-device x.call x.reply) at.window_copy)
-    (one-place net x ticket_copy_in (λ (c : Ticket × Heard). dev_eui c.0) (keeps_ticket_copy h xs) (ticket-device x.call x.reply) at.ticket_copy)
+    (one-place net x accepted (λ (a : Acceptance). a.eui) (keeps_acceptance h xs) (acceptance-device x.call x.reply) at.acceptance)
+    (one-place net x first_opened (λ (o : Opening). o.window.eui) (keeps_opening h xs) (opening-device x.call x.reply) (λ o says. at.window o (opening-window x.call x.reply o says)))
+    (one-place net x repeated (λ (o : Opening). o.window.eui) (keeps_repetition h xs) (repetition-device x.call x.reply) (λ o says. at.window o (repetition-window x.call x.reply o says)))
+    (one-place net x closed (λ (c : Closing). c.window.eui) (keeps_closing h xs) (closing-device x.call x.reply) at.closing)
+    (one-place net x copied (λ (c : WindowName × Heard). c.0.eui) (keeps_window_copy h) (window-device x.call x.reply) at.window_copy)
+    (one-place net x join_copied (λ (c : Ticket × Heard). dev_eui c.0) (keeps_ticket_copy h xs) (ticket-device x.call x.reply) at.ticket_copy)
     is
 
 -- ---- of one shard

@@ -4,30 +4,23 @@ use Rattle.std.specs.Prelude.{is_some}
 use Rattle.std.specs.List.{AllByRecursion, list_any, cons_option}
 use Rattle.std.specs.Option.{option_map_or}
 use Rattle.ns_types.specs.declared.identity.WindowName.{WindowName}
-use Rattle.ns_types.specs.declared.heard.Heard.{Heard}
 use Rattle.ns_types.specs.Identity.{same_window}
 use Rattle.ns_roster.specs.Network.{Network}
-use Rattle.ns_calls.specs.declared.call.Call.{Call}
-use Rattle.ns_calls.specs.declared.call.Call.TheVariants as call
-use Rattle.ns_calls.specs.declared.call.Reply.{Reply}
-use Rattle.ns_calls.specs.declared.call.Reply.TheVariants as reply
 use Rattle.ns_calls.specs.declared.call.Entry.{Entry}
-use Rattle.ns_calls.specs.Entries.{Opening, Closing, window_in, closing_in, closes, open_windows}
-use Rattle.ns_calls.specs.History.{window_copy_in, open_window}
+use Rattle.ns_calls.specs.Entries.{Opening, Closing, closes, open_windows}
+use Rattle.ns_calls.specs.History.{open_window}
+use Rattle.ns_calls.proofs.Says.{window_in, closing_in, window_copy_in, opening-copy}
 use Rattle.ns_calls.specs.Legal.{IsLegal}
 use Rattle.ns_calls.specs.Laws.{opening_count, closing_count, open_count, WindowsOpenOnce}
 use Rattle.ns_calls.proofs.LocalLemmas.{bool_tells}
-use Rattle.ns_calls.proofs.Lists.{All-weaker, count-cons, count-found}
+use Rattle.ns_calls.proofs.Lists.{All-weaker, count-cons, count-found, at_some}
 use Rattle.ns_calls.proofs.NameLemmas.{same_window-refl, same_window-eq}
 use Rattle.ns_calls.proofs.WindowLemmas.{windows_open_once}
 use Rattle.ns_kept.specs.Kept.{closing_entry, counts, closing_of, with_closings, filter_before, is_kept}
 use Rattle.ns_kept.proofs.Within.{Within, filter_before-Within, All-end}
 use Rattle.ns_kept.proofs.Dropped.{or_false, dropped}
 use Rattle.ns_kept.proofs.TicketsKept.{any-within}
-
-clash : (b : Bool) → b ≡ true → b ≡ false → ⊥
-clash true is isnt = absurd (cc isnt)
-clash false is isnt = absurd (cc is)
+use Rattle.ns_kept.proofs.Says.{clash}
 
 longer : (a b : Bool) → b ≡ true → (a || b) ≡ true
 longer true b is = refl
@@ -130,31 +123,6 @@ closers-with_closings mark names w name (e ∷ es) none =
                   absurd (clash _ (longer (nat_le mark e.number) _ here) is))
             ]
 
--- an opening is a copy of its window
-opening-copy : (c : Call) (r : Reply) (o : Opening) → window_in c r ≡ Some o → (heard : Heard) × (window_copy_in c r ≡ Some (o.window, heard))
-opening-copy (call.Uplink frame heard) (reply.Opened w) o is = (let same : w ≡ o.window = cc is in (heard, ap (λ (v : WindowName). Some (v, heard)) same))
-opening-copy (call.Uplink frame heard) (reply.Again w) o is = (let same : w ≡ o.window = cc is in (heard, ap (λ (v : WindowName). Some (v, heard)) same))
-opening-copy (call.Uplink frame heard) (reply.Copied _ _) o is = absurd (cc is)
-opening-copy (call.Uplink frame heard) (reply.Crowded _) o is = absurd (cc is)
-opening-copy (call.Uplink frame heard) (reply.Old _ _ _) o is = absurd (cc is)
-opening-copy (call.Uplink frame heard) reply.NoSession o is = absurd (cc is)
-opening-copy (call.Uplink frame heard) (reply.Busy _) o is = absurd (cc is)
-opening-copy (call.Uplink frame heard) (reply.Ask _) o is = absurd (cc is)
-opening-copy (call.Uplink frame heard) (reply.JoinCopied _) o is = absurd (cc is)
-opening-copy (call.Uplink frame heard) reply.JoinCrowded o is = absurd (cc is)
-opening-copy (call.Uplink frame heard) (reply.NonceOld _) o is = absurd (cc is)
-opening-copy (call.Uplink frame heard) reply.NoDevice o is = absurd (cc is)
-opening-copy (call.Uplink frame heard) reply.JoinBusy o is = absurd (cc is)
-opening-copy (call.Uplink frame heard) (reply.Accepted _ _ _) o is = absurd (cc is)
-opening-copy (call.Uplink frame heard) reply.JoinRefused o is = absurd (cc is)
-opening-copy (call.Uplink frame heard) (reply.JoinStale _) o is = absurd (cc is)
-opening-copy (call.Uplink frame heard) reply.NoTicket o is = absurd (cc is)
-opening-copy (call.Uplink frame heard) (reply.Closed _ _) o is = absurd (cc is)
-opening-copy (call.Uplink frame heard) reply.NoWindow o is = absurd (cc is)
-opening-copy (call.Join t heard) r o is = absurd (cc is)
-opening-copy (call.JoinReply t x) r o is = absurd (cc is)
-opening-copy (call.Close w) r o is = absurd (cc is)
-
 -- what one entry opens that stays open, as it reads and as it is
 record Reads (h : List Entry) (mark : ℕ) (names : List WindowName) (x : Entry) (xs : List Entry) : Type 0 where
   below : nat_le mark x.number ≡ false
@@ -205,8 +173,8 @@ gone_part h mark names x xs reads is (Some o) says =
           (let all : AllByRecursion (λ (p : Opening). named names p.window ≡ true) (opened_by (Some o) xs ++ open_windows xs) =
           subst (λ s. AllByRecursion (λ (p : Opening). named names p.window ≡ true) (opened_by s xs ++ open_windows xs)) says reads.open_there in
           let name : named names o.window ≡ true = named-here names o xs lasts all in
-          let copy = opening-copy x.call x.reply o says in
-          absurd (clash _ (reads.found o.window name) ((dropped h x xs is).window_copy (o.window, copy.0) copy.1)))
+          let copy = at_some (λ (p : Opening). window_copy_in x.call x.reply ≡ Some (p.window, p.heard)) (window_in x.call x.reply) o says (opening-copy x.call x.reply) in
+          absurd (clash _ (reads.found o.window name) ((dropped h x xs is).window_copy (o.window, o.heard) copy)))
     ]
 
 windows-of : (h : List Entry) (mark : ℕ) (names : List WindowName) → ((w : WindowName) → named names w ≡ true → is_some (open_window h w) ≡ true) →

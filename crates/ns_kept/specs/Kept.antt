@@ -7,13 +7,11 @@ use Rattle.ns_types.specs.declared.identity.WindowName.{WindowName}
 use Rattle.ns_types.specs.declared.heard.Heard.{Heard}
 use Rattle.ns_types.specs.declared.ticket.Ticket.{Ticket}
 use Rattle.ns_types.specs.Identity.{same_window}
-use Rattle.ns_calls.specs.declared.call.Call.{Call}
 use Rattle.ns_calls.specs.declared.call.Call.TheVariants as call
-use Rattle.ns_calls.specs.declared.call.Reply.{Reply}
 use Rattle.ns_calls.specs.declared.call.Reply.TheVariants as reply
 use Rattle.ns_calls.specs.declared.call.Entry.{Entry}
-use Rattle.ns_calls.specs.Entries.{still_open, Acceptance, Opening, Closing, acceptance_in, opening_in, window_in, closing_in, closes, same_device, open_windows}
-use Rattle.ns_calls.specs.History.{window_copy_in, ticket_copy_in, asks_for, is_live, open_window, is_ticket_open}
+use Rattle.ns_calls.specs.Entries.{still_open, Acceptance, Opening, Closing, Said, OpensAgain, said, says, accepted, first_opened, opened, closed, closes, same_device, open_windows}
+use Rattle.ns_calls.specs.History.{copied, join_copied, asks_for, is_live, open_window, is_ticket_open}
 
 -- What a trim leaves, and the entries made since. The mark is the number of the first entry made since, and the windows are those that
 -- were open at the trim.
@@ -43,7 +41,7 @@ closing_of mark windows number (Some o) = if counts mark windows number o.window
 
 abbrev pub with_closings : ℕ → List WindowName → List Entry → List Entry
 with_closings mark windows [] = []
-with_closings mark windows (e ∷ es) = e ∷ closing_of mark windows e.number (window_in e.call e.reply) ++ with_closings mark windows es
+with_closings mark windows (e ∷ es) = e ∷ closing_of mark windows e.number (says opened e) ++ with_closings mark windows es
 
 -- the entries as they read: with a closing behind each opening below the mark whose window is not named
 abbrev pub reading : Remains → List Entry
@@ -52,7 +50,7 @@ reading k = with_closings k.mark k.windows k.entries
 -- The same in words of openings: those that count as open, and of them those that no entry after them closes. In every kept history
 -- whose numbers rise these are the open windows of what is read.
 abbrev pub counted_opening : Remains → Entry → Option Opening
-counted_opening k e = option_and_then (λ o. when (counts k.mark k.windows e.number o.window) o) (window_in e.call e.reply)
+counted_opening k e = option_and_then (λ o. when (counts k.mark k.windows e.number o.window) o) (says opened e)
 
 -- the windows that these open and that no entry after them closes
 abbrev pub counted_windows : Remains → List Opening
@@ -60,14 +58,14 @@ counted_windows k = still_open (counted_opening k) (λ o e. closes o.window e) k
 
 -- ---- what a trim keeps. In each test h is the history as it reads, and after are the entries after this one
 
--- an uplink that is acknowledged again, and the window that is opened for it
-abbrev pub repetition_in : Call → Reply → Option Opening
-repetition_in (call.Uplink frame heard) (reply.Again window) = Some (record { window = window; frame = frame; heard = heard })
-repetition_in _ _ = None
+-- the window of a later round
+abbrev pub repeated : Said → Option Opening
+repeated (OpensAgain o) = Some o
+repeated _ = None
 
 -- whether no entry says such a thing
-abbrev pub none_says : {Y : Type 0} → (Call → Reply → Option Y) → (Y → Bool) → List Entry → Bool
-none_says says test es = not (list_any test (filter_map (λ e. says e.call e.reply) es))
+abbrev pub none_says : {Y : Type 0} → (Said → Option Y) → (Y → Bool) → List Entry → Bool
+none_says part test es = not (list_any test (filter_map (says part) es))
 
 abbrev pub same_session : WindowName → WindowName → Bool
 same_session v w = same_device v.eui w.eui && (v.session == w.session)
@@ -75,24 +73,24 @@ same_session v w = same_device v.eui w.eui && (v.session == w.session)
 -- the last acceptance of its device, and those of live sessions and of sessions with open windows
 abbrev pub keeps_acceptance : List Entry → List Entry → Acceptance → Bool
 keeps_acceptance h after a =
-    none_says acceptance_in (λ b. same_device b.eui a.eui) after
+    none_says accepted (λ b. same_device b.eui a.eui) after
     || is_live h a.eui a.session
     || list_any (λ o. same_device o.window.eui a.eui && (o.window.session == a.session)) (open_windows h)
 
 -- the last opening of its device, and the last of each live session
 abbrev pub keeps_opening : List Entry → List Entry → Opening → Bool
 keeps_opening h after o =
-    none_says opening_in (λ p. same_device p.window.eui o.window.eui) after
-    || (is_live h o.window.eui o.window.session && none_says opening_in (λ p. same_session p.window o.window) after)
+    none_says first_opened (λ p. same_device p.window.eui o.window.eui) after
+    || (is_live h o.window.eui o.window.session && none_says first_opened (λ p. same_session p.window o.window) after)
 
 -- the last window that was opened again of each live session
 abbrev pub keeps_repetition : List Entry → List Entry → Opening → Bool
-keeps_repetition h after o = is_live h o.window.eui o.window.session && none_says repetition_in (λ p. same_session p.window o.window) after
+keeps_repetition h after o = is_live h o.window.eui o.window.session && none_says repeated (λ p. same_session p.window o.window) after
 
 -- the last acknowledging closing of each live session
 abbrev pub keeps_closing : List Entry → List Entry → Closing → Bool
 keeps_closing h after c =
-    is_some c.ack && is_live h c.window.eui c.window.session && none_says closing_in (λ d. is_some d.ack && same_session d.window c.window) after
+    is_some c.ack && is_live h c.window.eui c.window.session && none_says closed (λ d. is_some d.ack && same_session d.window c.window) after
 
 -- the opening and the copies of each open window, of any round
 abbrev pub keeps_window_copy : List Entry → WindowName × Heard → Bool
@@ -102,15 +100,18 @@ keeps_window_copy h c = is_some (open_window h c.0)
 abbrev pub keeps_ticket_copy : List Entry → List Entry → Ticket × Heard → Bool
 keeps_ticket_copy h after c = is_ticket_open h c.0 && not (list_any (asks_for c.0) after)
 
--- whether an entry is kept
+-- whether an entry is kept, by what it says
+abbrev pub keeps_said : List Entry → Said → List Entry → Bool
+keeps_said h s after =
+    option_map_or (keeps_acceptance h after) (accepted s) false
+    || option_map_or (keeps_opening h after) (first_opened s) false
+    || option_map_or (keeps_repetition h after) (repeated s) false
+    || option_map_or (keeps_closing h after) (closed s) false
+    || option_map_or (keeps_window_copy h) (copied s) false
+    || option_map_or (keeps_ticket_copy h after) (join_copied s) false
+
 abbrev pub is_kept : List Entry → Entry → List Entry → Bool
-is_kept h e after =
-    option_map_or (keeps_acceptance h after) (acceptance_in e.call e.reply) false
-    || option_map_or (keeps_opening h after) (opening_in e.call e.reply) false
-    || option_map_or (keeps_repetition h after) (repetition_in e.call e.reply) false
-    || option_map_or (keeps_closing h after) (closing_in e.call e.reply) false
-    || option_map_or (keeps_window_copy h) (window_copy_in e.call e.reply) false
-    || option_map_or (keeps_ticket_copy h after) (ticket_copy_in e.call e.reply) false
+is_kept h e after = keeps_said h (said e.call e.reply) after
 
 -- the elements that pass a test on them and on what is after them, in order
 abbrev pub filter_before : {E : Type 0} → (E → List E → Bool) → List E → List E

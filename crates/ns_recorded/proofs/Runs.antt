@@ -10,7 +10,8 @@ use Rattle.ns_calls.specs.declared.answer.Answer.{Answer}
 use Rattle.ns_calls.specs.Out.{answer}
 use Rattle.ns_calls.specs.Reply.{reply_to}
 use Rattle.ns_calls.specs.Runs.{answers_after, answers_of, history_after, history_of}
-use Rattle.ns_calls.specs.Legal.{IsLegal, IsLegalAfter, entry_for}
+use Rattle.ns_calls.specs.Legal.{IsLegal, entry_for}
+use Rattle.ns_calls.specs.Headline.{IsLegalAfter}
 use Rattle.ns_calls.proofs.LocalLemmas.{bool_tells}
 use Rattle.ns_calls.proofs.LegalLemmas.{after-by_place, by_place-after, IsLegal-push}
 use Rattle.ns_kept.proofs.Alike.{reply-alike, answer-alike}

@@ -11,16 +11,16 @@ use Rattle.ns_types.specs.Ticket.{nonce}
 use Rattle.ns_roster.specs.Network.{Network}
 use Rattle.ns_calls.specs.declared.call.Call.{Call}
 use Rattle.ns_calls.specs.declared.call.Call.TheVariants as call
-use Rattle.ns_calls.specs.declared.call.Outcome.TheVariants as outcome
 use Rattle.ns_calls.specs.declared.call.Reply.{Reply}
 use Rattle.ns_calls.specs.declared.call.Reply.TheVariants as reply
 use Rattle.ns_calls.specs.declared.call.Entry.{Entry}
 use Rattle.ns_calls.specs.Laws.{hands_out_uplink}
 use Rattle.ns_calls.specs.Headline.{hands_out_downlink}
 use Rattle.ns_calls.specs.Queries.{last, greater, maximum, from_last}
-use Rattle.ns_calls.specs.Entries.{still_open}
-use Rattle.ns_calls.specs.Entries.{Acceptance, Opening, Closing, acceptance_in, opening_in, window_in, closing_in, same_device, acceptances, openings, open_windows}
-use Rattle.ns_calls.specs.History.{asking_in, ending_in, window_copy_in, ticket_copy_in, is_ticket, same_ticket, asks_for, closings, last_nonce, first_and_other, active_session, newest_session, session_join, greatest_counter, first_window, last_round, window_copies, open_tickets, ticket_copies}
+use Rattle.ns_calls.specs.Entries as entries
+use Rattle.ns_calls.specs.Entries.{Acceptance, Opening, Closing, Nothing, accepted, first_opened, opened, closed, same_device, acceptances, openings, still_open, open_windows}
+use Rattle.ns_calls.specs.History.{asked, ended, copied, join_copied, same_ticket, asks_for, closings, last_nonce, first_and_other, active_session, newest_session, session_join, greatest_counter, first_window, last_round, window_copies, open_tickets, ticket_copies}
+use Rattle.ns_calls.proofs.Says.{acceptance_in, opening_in, window_in, closing_in, asking_in, ending_in, window_copy_in, ticket_copy_in, is_ticket}
 use Rattle.ns_calls.proofs.LocalLemmas.{bool_tells, All-each, from_last-own}
 use Rattle.ns_kept.proofs.Alike.{Alike}
 use Rattle.ns_recorded.specs.Recorded.{matters, said}
@@ -102,43 +102,20 @@ last_told k none h =
 
 -- ---- entries that are left out say nothing
 
-acceptance_none : (c : Call) (r : Reply) → matters r ≡ false → acceptance_in c r ≡ None
-acceptance_none (call.JoinReply ticket (outcome.Success join)) (reply.Accepted eui session addr) is = absurd (cc is)
-acceptance_none _ _ is = refl
+nothing-said : (c : Call) (r : Reply) → matters r ≡ false → entries.said c r ≡ Nothing
+nothing-said (call.Uplink frame heard) (reply.Opened w) is = absurd (cc is)
+nothing-said (call.Uplink frame heard) (reply.Again w) is = absurd (cc is)
+nothing-said (call.Uplink frame heard) (reply.Copied w place) is = absurd (cc is)
+nothing-said (call.Join ticket heard) (reply.Ask asked) is = absurd (cc is)
+nothing-said (call.Join ticket heard) (reply.JoinCopied place) is = absurd (cc is)
+nothing-said (call.JoinReply ticket o) (reply.Accepted eui session addr) is = absurd (cc is)
+nothing-said (call.JoinReply ticket o) reply.JoinRefused is = absurd (cc is)
+nothing-said (call.JoinReply ticket o) (reply.JoinStale greatest) is = absurd (cc is)
+nothing-said (call.Close w) (reply.Closed closed ack) is = absurd (cc is)
+nothing-said _ _ is = refl
 
-opening_none : (c : Call) (r : Reply) → matters r ≡ false → opening_in c r ≡ None
-opening_none (call.Uplink frame heard) (reply.Opened w) is = absurd (cc is)
-opening_none _ _ is = refl
-
-window_none : (c : Call) (r : Reply) → matters r ≡ false → window_in c r ≡ None
-window_none (call.Uplink frame heard) (reply.Opened w) is = absurd (cc is)
-window_none (call.Uplink frame heard) (reply.Again w) is = absurd (cc is)
-window_none _ _ is = refl
-
-closing_none : (c : Call) (r : Reply) → matters r ≡ false → closing_in c r ≡ None
-closing_none (call.Close w) (reply.Closed closed ack) is = absurd (cc is)
-closing_none _ _ is = refl
-
-asking_none : (c : Call) (r : Reply) → matters r ≡ false → asking_in c r ≡ None
-asking_none (call.Join ticket heard) (reply.Ask asked) is = absurd (cc is)
-asking_none _ _ is = refl
-
-ending_none : (c : Call) (r : Reply) → matters r ≡ false → ending_in c r ≡ None
-ending_none (call.JoinReply ticket o) (reply.Accepted eui session addr) is = absurd (cc is)
-ending_none (call.JoinReply ticket o) reply.JoinRefused is = absurd (cc is)
-ending_none (call.JoinReply ticket o) (reply.JoinStale greatest) is = absurd (cc is)
-ending_none _ _ is = refl
-
-copy_none : (c : Call) (r : Reply) → matters r ≡ false → window_copy_in c r ≡ None
-copy_none (call.Uplink frame heard) (reply.Opened w) is = absurd (cc is)
-copy_none (call.Uplink frame heard) (reply.Again w) is = absurd (cc is)
-copy_none (call.Uplink frame heard) (reply.Copied w place) is = absurd (cc is)
-copy_none _ _ is = refl
-
-ticket_copy_none : (c : Call) (r : Reply) → matters r ≡ false → ticket_copy_in c r ≡ None
-ticket_copy_none (call.Join ticket heard) (reply.Ask asked) is = absurd (cc is)
-ticket_copy_none (call.Join ticket heard) (reply.JoinCopied place) is = absurd (cc is)
-ticket_copy_none _ _ is = refl
+none-told : {Z : Type 0} (part : entries.Said → Z) (none : Z) → part Nothing ≡ none → (c : Call) (r : Reply) → matters r ≡ false → part (entries.said c r) ≡ none
+none-told part none same c r is = ap part (nothing-said c r is) ∙ same
 
 pub no_uplink : (r : Reply) → matters r ≡ false → hands_out_uplink r ≡ false
 no_uplink (reply.Closed window ack) is = absurd (cc is)
@@ -149,52 +126,43 @@ no_downlink (reply.Closed window ack) is = absurd (cc is)
 no_downlink (reply.Accepted eui session addr) is = absurd (cc is)
 no_downlink _ is = refl
 
-closes_none : (o : Opening) (c : Call) (r : Reply) → matters r ≡ false → option_map_or (λ (x : Closing). same_window x.window o.window) (closing_in c r) false ≡ false
-closes_none o c r is = ap (λ (x : Option Closing). option_map_or (λ (y : Closing). same_window y.window o.window) x false) (closing_none c r is)
-
-ends_none : (t : Ticket) (c : Call) (r : Reply) → matters r ≡ false → is_ticket t (ending_in c r) ≡ false
-ends_none t c r is = ap (is_ticket t) (ending_none c r is)
-
-asks_none : (t : Ticket) (c : Call) (r : Reply) → matters r ≡ false → is_ticket t (asking_in c r) ≡ false
-asks_none t c r is = ap (is_ticket t) (asking_none c r is)
-
 -- ---- histories that say the same
 
 told_same : {Y : Type 0} (f : Call → Reply → Option Y) → ((c : Call) (r : Reply) → matters r ≡ false → f c r ≡ None) → (g h : List Entry) → said g ≡ said h → filter_map (λ e. f e.call e.reply) g ≡ filter_map (λ e. f e.call e.reply) h
 told_same f none g h same = told f none g ∙ (ap (filter_map (λ (s : Said). f s.0 s.1)) same ∙ sym (told f none h))
 
 acceptances_same : (g h : List Entry) → said g ≡ said h → (eui : DevEui) → acceptances g eui ≡ acceptances h eui
-acceptances_same g h same eui = ap (filter (λ (a : Acceptance). same_device a.eui eui)) (told_same acceptance_in acceptance_none g h same)
+acceptances_same g h same eui = ap (filter (λ (a : Acceptance). same_device a.eui eui)) (told_same acceptance_in (none-told accepted None refl) g h same)
 
 openings_same : (g h : List Entry) → said g ≡ said h → (eui : DevEui) → openings g eui ≡ openings h eui
-openings_same g h same eui = ap (filter (λ (o : Opening). same_device o.window.eui eui)) (told_same opening_in opening_none g h same)
+openings_same g h same eui = ap (filter (λ (o : Opening). same_device o.window.eui eui)) (told_same opening_in (none-told first_opened None refl) g h same)
 
 closings_same : (g h : List Entry) → said g ≡ said h → (eui : DevEui) → closings g eui ≡ closings h eui
-closings_same g h same eui = ap (filter (λ (c : Closing). same_device c.window.eui eui)) (told_same closing_in closing_none g h same)
+closings_same g h same eui = ap (filter (λ (c : Closing). same_device c.window.eui eui)) (told_same closing_in (none-told closed None refl) g h same)
 
 windows_same : (g h : List Entry) → said g ≡ said h → open_windows g ≡ open_windows h
 windows_same g h same =
     let k = λ (o : Opening) (c : Call) (r : Reply). option_map_or (λ (x : Closing). same_window x.window o.window) (closing_in c r) false in
-    open_told window_in k window_none closes_none g
+    open_told window_in k (none-told opened None refl) (λ o. none-told (λ s. option_map_or (λ (x : Closing). same_window x.window o.window) (closed s) false) false refl) g
     ∙ (ap (still_open (λ (s : Said). window_in s.0 s.1) (λ o (s : Said). k o s.0 s.1)) same
-    ∙ sym (open_told window_in k window_none closes_none h))
+    ∙ sym (open_told window_in k (none-told opened None refl) (λ o. none-told (λ s. option_map_or (λ (x : Closing). same_window x.window o.window) (closed s) false) false refl) h))
 
 tickets_same : (g h : List Entry) → said g ≡ said h → open_tickets g ≡ open_tickets h
 tickets_same g h same =
     let k = λ (t : Ticket) (c : Call) (r : Reply). is_ticket t (ending_in c r) in
-    open_told asking_in k asking_none ends_none g
+    open_told asking_in k (none-told asked None refl) (λ u. none-told (λ s. is_ticket u (ended s)) false refl) g
     ∙ (ap (still_open (λ (s : Said). asking_in s.0 s.1) (λ t (s : Said). k t s.0 s.1)) same
-    ∙ sym (open_told asking_in k asking_none ends_none h))
+    ∙ sym (open_told asking_in k (none-told asked None refl) (λ u. none-told (λ s. is_ticket u (ended s)) false refl) h))
 
 copies_same : (g h : List Entry) → said g ≡ said h → (w : WindowName) → window_copies g w ≡ window_copies h w
-copies_same g h same w = ap (λ (cs : List (WindowName × Heard)). map (λ c. c.1) (filter (λ c. same_window c.0 w) cs)) (told_same window_copy_in copy_none g h same)
+copies_same g h same w = ap (λ (cs : List (WindowName × Heard)). map (λ c. c.1) (filter (λ c. same_window c.0 w) cs)) (told_same window_copy_in (none-told copied None refl) g h same)
 
 ticket_copies_same : (g h : List Entry) → said g ≡ said h → (t : Ticket) → ticket_copies g t ≡ ticket_copies h t
 ticket_copies_same g h same t =
     let k = λ (c : Call) (r : Reply). is_ticket t (asking_in c r) in
-    let since = last_told k (asks_none t) g ∙ (ap (from_last (λ (s : Said). k s.0 s.1)) same ∙ sym (last_told k (asks_none t) h)) in
+    let since = last_told k (none-told (λ s. is_ticket t (asked s)) false refl) g ∙ (ap (from_last (λ (s : Said). k s.0 s.1)) same ∙ sym (last_told k (none-told (λ s. is_ticket t (asked s)) false refl) h)) in
     ap (λ (cs : List (Ticket × Heard)). map (λ c. c.1) (filter (λ c. same_ticket t c.0) cs))
-    (told_same ticket_copy_in ticket_copy_none (from_last (asks_for t) g) (from_last (asks_for t) h) since)
+    (told_same ticket_copy_in (none-told join_copied None refl) (from_last (asks_for t) g) (from_last (asks_for t) h) since)
 
 join_same : (g h : List Entry) → said g ≡ said h → (eui : DevEui) (session : ℕ) → session_join g eui session ≡ session_join h eui session
 join_same g h same eui session = ap (λ (xs : List Acceptance). option_map (λ a. a.join_ans) (find (λ a. a.session == session) xs)) (acceptances_same g h same eui)
@@ -203,7 +171,7 @@ counter_same : (g h : List Entry) → said g ≡ said h → (eui : DevEui) (sess
 counter_same g h same eui session = ap (λ (os : List Opening). maximum (map (λ o. o.window.fcnt) (filter (λ o. o.window.session == session) os))) (openings_same g h same eui)
 
 last_round_same : (g h : List Entry) → said g ≡ said h → (w : WindowName) → last_round g w ≡ last_round h w
-last_round_same g h same w = ap (λ (os : List Opening). unwrap_or (maximum (map (λ o. o.window.round) (filter (λ o. same_uplink o.window w) os))) 0) (told_same window_in window_none g h same)
+last_round_same g h same w = ap (λ (os : List Opening). unwrap_or (maximum (map (λ o. o.window.round) (filter (λ o. same_uplink o.window w) os))) 0) (told_same window_in (none-told opened None refl) g h same)
 
 or_same : (a b : ℕ → ℕ) → ((n : ℕ) → a n ≡ b n) → (o : Option ℕ) → option_map_or a o 0 ≡ option_map_or b o 0
 or_same a b each None = refl

@@ -3,34 +3,25 @@ use Rattle.std.specs.Prelude.{Bool, true, false, List, [], ◌∷◌, ◌++◌, 
 use Rattle.ns_roster.specs.Network.{Network}
 use Rattle.ns_calls.specs.Out.{answer}
 use Rattle.ns_calls.specs.Runs.{history_of}
-use Rattle.ns_calls.specs.Legal.{IsLegalAfter}
+use Rattle.ns_calls.specs.Headline.{IsLegalAfter}
 use Rattle.ns_calls.specs.declared.call.Call.{Call}
 use Rattle.ns_calls.specs.declared.call.Reply.{Reply}
-use Rattle.ns_calls.specs.declared.call.Reply.TheVariants.{Opened, Copied, Crowded, Old, NoSession, Busy, Ask, JoinCopied, JoinCrowded, NonceOld, NoDevice, JoinBusy, Accepted, JoinRefused, JoinStale, NoTicket, Closed, NoWindow, Again}
+use Rattle.ns_calls.specs.declared.call.Reply.TheVariants.{Opened, Again, Copied, Closed, Ask, JoinCopied, Accepted, JoinRefused, JoinStale}
 use Rattle.ns_calls.specs.declared.call.Entry.{Entry}
 use Rattle.ns_calls.specs.declared.answer.Answer.{Answer}
 
 -- whether later answers rest on a call with this reply
 abbrev pub matters : Reply → Bool
 matters (Opened window) = true
+matters (Again window) = true
 matters (Copied window place) = true
-matters (Crowded window) = false
-matters (Old eui session fcnt) = false
-matters NoSession = false
-matters (Busy eui) = false
+matters (Closed window ack) = true
 matters (Ask ticket) = true
 matters (JoinCopied place) = true
-matters JoinCrowded = false
-matters (NonceOld greatest) = false
-matters NoDevice = false
-matters JoinBusy = false
 matters (Accepted eui session addr) = true
 matters JoinRefused = true
 matters (JoinStale greatest) = true
-matters NoTicket = false
-matters (Closed window ack) = true
-matters NoWindow = false
-matters (Again window) = true
+matters _ = false
 
 -- the calls of a history on which later answers rest, with their replies, in order. Numbers play no part
 abbrev pub said : List Entry → List (Call × Reply)

@@ -7,9 +7,9 @@ ghost use Rattle.ns_calls.specs.declared.call.Entry.{Entry};
 ghost use Rattle.ns_calls.specs.declared.call.Reply.{Reply};
 ghost use Rattle.ns_calls.specs.Out.{answer};
 ghost use Rattle.ns_calls.specs.Runs.{answers_after, answers_of, history_of};
-ghost use Rattle.ns_calls.specs.Legal.{IsLegal, IsLegalAfter};
+ghost use Rattle.ns_calls.specs.Legal.{IsLegal};
 ghost use Rattle.ns_calls.specs.Laws.{hands_out_uplink, NoncesRise, CountersRise};
-ghost use Rattle.ns_calls.specs.Headline.{hands_out_downlink, UplinksGoOutOnce, AcksRise};
+ghost use Rattle.ns_calls.specs.Headline.{hands_out_downlink, UplinksGoOutOnce, AcksRise, IsLegalAfter};
 ghost use Rattle.ns_recorded.specs.Recorded.{matters, said, recorded, answers_told, AreLives, all_of};
 
 /// Histories that say the same have the same answers, now and after the same calls: what is left out of a record changes none.

@@ -1,4 +1,5 @@
 pub mod HexTextLemmas
+pub mod HexDigits
 pub mod LineLemmas
 pub mod SpelledLemmas
 pub mod SpelledLines

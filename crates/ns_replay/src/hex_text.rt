@@ -6,6 +6,7 @@ ghost use Rattle.std.specs.Result.{result_ok};
 ghost use Rattle.hex.specs.Hex.{decode_of};
 ghost use Rattle.ns_replay.specs.HexText.{digit_or_16};
 
+use crate::hex_digits::sixteen_bytes;
 use ns_shard::{DatagramBytes, SHORT_DATAGRAM};
 use std::alloc::{AllocError, Global};
 
@@ -49,6 +50,38 @@ fn decode_into(text: &[u8], out: &mut [u8]) -> bool
     seen < 16
 }
 
+// The same of at least 32 digits, by sixteen bytes at once. The last sixteen may begin in those before them.
+fn decode_blocks(text: &[u8], out: &mut [u8]) -> bool
+    requires twice { length text.now ≡ 2 * length out.old }
+    requires long { 16 ≤ length out.old }
+    ensures read { OnTrue result (decode_of text.now ≡ Ok out.new) }
+    ensures refused { OnFalse result (IsErr (decode_of text.now)) }
+{
+    let last = out.len() - 16;
+    'sixteens: for i in 0..out.len().div_ceil(16) {
+        let at = (16 * i).min(last);
+        let Some(bytes) = sixteen_bytes(&text[2 * at..2 * at + 32]) else {
+            return false;
+        };
+        out[at..at + 16].copy_from_slice(&bytes);
+    }
+    true
+}
+
+// The same of any number of digits.
+#[inline(always)]
+fn decode_all(text: &[u8], out: &mut [u8]) -> bool
+    requires { length text.now ≡ 2 * length out.old }
+    ensures read { OnTrue result (decode_of text.now ≡ Ok out.new) }
+    ensures refused { OnFalse result (IsErr (decode_of text.now)) }
+{
+    if out.len() < 16 {
+        decode_into(text, out)
+    } else {
+        decode_blocks(text, out)
+    }
+}
+
 // The bytes of a text of hex digits, in either case: none where the text is odd or a byte of it is no digit.
 fn decode(alloc: Global, text: &[u8]) -> Result<Option<Vec<u8>>, AllocError>
     ensures { IfOk result (λ found. option_map (λ bytes. bytes.items) found ≡ result_ok (decode_of text.now)) }
@@ -57,7 +90,7 @@ fn decode(alloc: Global, text: &[u8]) -> Result<Option<Vec<u8>>, AllocError>
         return Ok(None);
     }
     let mut bytes = vec![in alloc; 0u8; text.len() / 2]?;
-    if decode_into(text, bytes.as_mut_slice()) {
+    if decode_all(text, bytes.as_mut_slice()) {
         Ok(Some(bytes))
     } else {
         Ok(None)
@@ -72,7 +105,7 @@ fn short_datagram(alloc: Global, text: &[u8]) -> Result<Option<DatagramBytes>, A
 {
     let count = text.len() / 2;
     let mut room = [0u8; SHORT_DATAGRAM];
-    if decode_into(text, &mut room[..count]) {
+    if decode_all(text, &mut room[..count]) {
         Ok(Some(DatagramBytes::of(alloc, &room[..count])?))
     } else {
         Ok(None)

@@ -7,6 +7,7 @@
 #![tactic(auto)]
 
 mod closing;
+mod hex_digits;
 mod hex_text;
 mod laws;
 mod run;
@@ -15,3 +16,4 @@ mod taken;
 
 pub use laws::{lines_are_spelled, steps_are_spelled};
 pub use run::{ReplayFault, replay};
+pub use step_lines::step;

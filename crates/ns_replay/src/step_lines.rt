@@ -191,10 +191,10 @@ fn act(alloc: Global, word: &[u8], text: &[u8]) -> Result<Option<Act>, AllocErro
     }
 }
 
-// The step that a line asks for.
+/// The step that a line asks for, where it is a step line.
 #[tactic(auto, unfolding(crate::specs::StepLines::step))]
 #[inline(always)]
-fn step(alloc: Global, line: &[u8]) -> Result<Option<Act>, AllocError>
+pub fn step(alloc: Global, line: &[u8]) -> Result<Option<Act>, AllocError>
     ensures { IfOk result (λ a. a ≡ step line.now) }
 {
     match split_words(without_return(line)) {

@@ -15,8 +15,8 @@ use Rattle.ns_calls.specs.declared.call.Reply.{Reply}
 use Rattle.ns_calls.specs.declared.call.Reply.TheVariants.{Accepted}
 use Rattle.ns_calls.specs.declared.call.Entry.{Entry}
 use Rattle.ns_calls.specs.declared.answer.Downlink.{Downlink}
-use Rattle.ns_calls.specs.Entries.{Opening, same_device, acceptance_in, most_copies}
-use Rattle.ns_calls.specs.History.{same_ticket, window_copy_in, ticket_copy_in, window_copies, ticket_copies}
+use Rattle.ns_calls.specs.Entries.{Opening, says, accepted, same_device, most_copies}
+use Rattle.ns_calls.specs.History.{same_ticket, copied, join_copied, window_copies, ticket_copies}
 use Rattle.ns_calls.specs.Out.{accept_at}
 use Rattle.ns_sent.specs.declared.search.Opened.{Opened}
 
@@ -26,14 +26,14 @@ opening o = record { window = o.window; frame = o.frame; heard = o.heard }
 
 -- the join server's answer with which an entry begins this session of the device
 abbrev pub session_answer : DevEui → ℕ → Entry → Option JoinAns
-session_answer eui session e = option_and_then (λ a. when (same_device a.eui eui && (a.session == session)) a.join_ans) (acceptance_in e.call e.reply)
+session_answer eui session e = option_and_then (λ a. when (same_device a.eui eui && (a.session == session)) a.join_ans) (says accepted e)
 
 -- the copy that an entry adds to this window, or to this ticket
 abbrev pub window_copy : WindowName → Entry → Option Heard
-window_copy w e = option_and_then (λ c. when (same_window c.0 w) c.1) (window_copy_in e.call e.reply)
+window_copy w e = option_and_then (λ c. when (same_window c.0 w) c.1) (says copied e)
 
 abbrev pub ticket_copy : Ticket → Entry → Option Heard
-ticket_copy t e = option_and_then (λ c. when (same_ticket t c.0) c.1) (ticket_copy_in e.call e.reply)
+ticket_copy t e = option_and_then (λ c. when (same_ticket t c.0) c.1) (says join_copied e)
 
 -- where a join is accepted, its ticket has at most 16 copies
 abbrev pub AcceptFits : List Entry → Call → Reply → Type 0

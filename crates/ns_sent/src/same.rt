@@ -125,6 +125,8 @@ fn is_one_uplink(a: &Uplink, b: &Uplink) -> bool
 {
     is_window(&a.window, &b.window)
         && a.addr.0 == b.addr.0
+        && a.confirmed == b.confirmed
+        && a.fctrl == b.fctrl
         && is_port(a.port, b.port)
         && is_bytes(&a.fopts, &b.fopts)
         && a.sealed == b.sealed

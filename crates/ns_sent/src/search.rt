@@ -4,8 +4,8 @@ ghost use Rattle.std.specs.Prelude.{◌≡◌, ◌≤◌, length, option_map};
 ghost use Rattle.std.specs.List.{list_any};
 ghost use Rattle.ns_types.specs.Identity.{same_window};
 ghost use Rattle.ns_calls.specs.Queries.{from_last};
-ghost use Rattle.ns_calls.specs.Entries.{window_in, closes, most_copies};
-ghost use Rattle.ns_calls.specs.History.{asks_for, window_copy_in, ticket_copy_in, open_window, session_join, window_copies, copies_of_ticket, ticket_copies};
+ghost use Rattle.ns_calls.specs.Entries.{says, opened, closes, most_copies};
+ghost use Rattle.ns_calls.specs.History.{asks_for, open_window, session_join, window_copies, copies_of_ticket, ticket_copies};
 ghost use Rattle.ns_sent.specs.Found.{opening, session_answer, window_copy, ticket_copy};
 
 use arrayvec::ArrayVec;
@@ -29,7 +29,7 @@ fn is_same(a: &WindowName, b: &WindowName) -> bool
 
 // The window that an entry opened.
 fn window_opened(entry: &Entry) -> Option<Opened>
-    ensures { option_map opening result ≡ window_in entry.now.call entry.now.reply }
+    ensures { option_map opening result ≡ says opened entry.now }
 {
     let Call::Uplink { frame, heard } = &entry.call else {
         return None;

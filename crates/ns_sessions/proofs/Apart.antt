@@ -8,7 +8,8 @@ use Rattle.ns_roster.specs.Network.{Network}
 use Rattle.ns_calls.specs.declared.call.Call.{Call}
 use Rattle.ns_calls.specs.declared.call.Call.TheVariants as call
 use Rattle.ns_calls.specs.declared.call.Entry.{Entry}
-use Rattle.ns_calls.specs.History.{same_ticket, asking_in, ends_ticket, open_tickets, is_ticket_open}
+use Rattle.ns_calls.specs.History.{same_ticket, ends_ticket, open_tickets, is_ticket_open, asked}
+use Rattle.ns_calls.proofs.Says.{asking_in, uplink-says, answer-says, close-says}
 use Rattle.ns_calls.specs.Reply.{reply_to}
 use Rattle.ns_calls.specs.Legal.{IsLegal, entry_for, with_call}
 use Rattle.ns_calls.proofs.LocalLemmas.{bool_tells}
@@ -45,9 +46,9 @@ apart-push t (u ∷ ts) new apart = (All-append (λ v. same_ticket u v ≡ false
 
 -- what is asked for was not open
 asked_new : (net : Network) (h : List Entry) (c : Call) → IfSome (asking_in c (reply_to net h c)) (λ t. is_ticket_open h t ≡ false)
-asked_new net h (call.Uplink frame heard) = tt
-asked_new net h (call.JoinReply t o) = tt
-asked_new net h (call.Close w) = tt
+asked_new net h (call.Uplink frame heard) = uplink-says (λ s. IfSome (asked s) (λ t. is_ticket_open h t ≡ false)) frame heard (λ w. tt) (λ w. tt) (λ w. tt) tt (reply_to net h (call.Uplink frame heard))
+asked_new net h (call.JoinReply t o) = answer-says (λ s. IfSome (asked s) (λ u. is_ticket_open h u ≡ false)) t o (λ n. tt) tt tt (reply_to net h (call.JoinReply t o))
+asked_new net h (call.Close w) = close-says (λ s. IfSome (asked s) (λ t. is_ticket_open h t ≡ false)) w (λ ack. tt) tt (reply_to net h (call.Close w))
 asked_new net h (call.Join t heard) = join-has (λ r. IfSome (asking_in (call.Join t heard) r) (λ u. is_ticket_open h u ≡ false)) net h t (record {
   unknown = λ unknown. tt;
   old = λ known greatest. tt;

@@ -22,7 +22,8 @@ use Rattle.ns_calls.specs.declared.call.Call.TheVariants as call
 use Rattle.ns_calls.specs.declared.call.Reply.TheVariants as reply
 use Rattle.ns_calls.specs.declared.call.Entry.{Entry}
 use Rattle.ns_calls.specs.Queries.{last}
-use Rattle.ns_calls.specs.Entries.{Acceptance, Opening, Closing, opening_in, closing_in, acceptances, openings, same_device, session_counters, open_windows}
+use Rattle.ns_calls.specs.Entries.{Acceptance, Opening, Closing, acceptances, openings, same_device, session_counters, open_windows, first_opened, closed}
+use Rattle.ns_calls.proofs.Says.{opening_in, closing_in, uplink-says, join-says, answer-says, close-says}
 use Rattle.ns_calls.specs.History.{first_and_other, closings, session_join, active_session, newest_session, live, is_live, greatest_counter, open_window}
 use Rattle.ns_calls.specs.Reply.{Fit, fit_of, fitting_counter, session_fit, device_fit, devices_at, first_fit, ack_number, reply_to}
 use Rattle.ns_calls.specs.Legal.{IsLegal, entry_for, with_call}
@@ -81,9 +82,9 @@ pub record IsLiveWindow (h : List Entry) (w : WindowName) : Type 0 where
 
 -- what a call opens fits in a live session
 opening-live : (net : Network) (h : List Entry) (c : Call) → IfSome (opening_in c (reply_to net h c)) (λ o. IsLiveWindow h o.window)
-opening-live net h (call.Join t heard) = tt
-opening-live net h (call.JoinReply t o) = tt
-opening-live net h (call.Close w) = tt
+opening-live net h (call.Join t heard) = join-says (λ s. IfSome (first_opened s) (λ o. IsLiveWindow h o.window)) t heard tt tt tt (reply_to net h (call.Join t heard))
+opening-live net h (call.JoinReply t x) = answer-says (λ s. IfSome (first_opened s) (λ o. IsLiveWindow h o.window)) t x (λ n. tt) tt tt (reply_to net h (call.JoinReply t x))
+opening-live net h (call.Close w) = close-says (λ s. IfSome (first_opened s) (λ o. IsLiveWindow h o.window)) w (λ ack. tt) tt (reply_to net h (call.Close w))
 opening-live net h (call.Uplink frame heard) = uplink-has (λ r. IfSome (opening_in (call.Uplink frame heard) r) (λ o. IsLiveWindow h o.window)) net h frame (record {
   copied = λ o is room. tt;
   crowded = λ o is full. tt;
@@ -96,9 +97,9 @@ opening-live net h (call.Uplink frame heard) = uplink-has (λ r. IfSome (opening
 
 -- what a call closes was open
 closing-open : (net : Network) (h : List Entry) (c : Call) → IfSome (closing_in c (reply_to net h c)) (λ x. is_some (open_window h x.window) ≡ true)
-closing-open net h (call.Uplink frame heard) = tt
-closing-open net h (call.Join t heard) = tt
-closing-open net h (call.JoinReply t o) = tt
+closing-open net h (call.Uplink frame heard) = uplink-says (λ s. IfSome (closed s) (λ x. is_some (open_window h x.window) ≡ true)) frame heard (λ w. tt) (λ w. tt) (λ w. tt) tt (reply_to net h (call.Uplink frame heard))
+closing-open net h (call.Join t heard) = join-says (λ s. IfSome (closed s) (λ x. is_some (open_window h x.window) ≡ true)) t heard tt tt tt (reply_to net h (call.Join t heard))
+closing-open net h (call.JoinReply t o) = answer-says (λ s. IfSome (closed s) (λ x. is_some (open_window h x.window) ≡ true)) t o (λ n. tt) tt tt (reply_to net h (call.JoinReply t o))
 closing-open net h (call.Close w) = step (open_window h w) refl
   where
     step : (found : Option Opening) → open_window h w ≡ found →

@@ -21,15 +21,17 @@ use Rattle.ns_calls.specs.declared.call.Call.TheVariants as call
 use Rattle.ns_calls.specs.declared.call.Reply.TheVariants as reply
 use Rattle.ns_calls.specs.declared.call.Entry.{Entry}
 use Rattle.ns_calls.specs.Queries.{last, greater, maximum}
-use Rattle.ns_calls.specs.Entries.{window_in, Acceptance, Opening, Closing, acceptance_in, acceptances, openings, same_device, session_counters}
-use Rattle.ns_calls.specs.History.{first_window, last_round, session_round, asks_for, open_tickets, is_ticket_open, ticket_copies, greatest_nonce, next_session, session_join, closings, active_session, first_and_other, last_nonce, greatest_accepted}
-use Rattle.ns_calls.specs.Reply.{nonce_at_or_above, is_failed, address, reply_to_join_reply}
+use Rattle.ns_calls.specs.Entries.{Acceptance, Opening, Closing, acceptances, openings, same_device, session_counters}
+use Rattle.ns_calls.proofs.Says.{window_in, acceptance_in}
+use Rattle.ns_calls.specs.History.{first_window, last_round, asks_for, open_tickets, is_ticket_open, ticket_copies, greatest_nonce, next_session, session_join, closings, active_session, first_and_other, last_nonce, greatest_accepted}
+use Rattle.ns_calls.specs.Headline.{session_round, nonce_at_or_above}
+use Rattle.ns_calls.specs.Reply.{is_failed, address, reply_to_join_reply}
 use Rattle.ns_calls.specs.Legal.{IsLegal, entry_of}
 use Rattle.ns_calls.proofs.LocalLemmas.{bool_tells}
 use Rattle.ns_calls.proofs.Lists.{last-has, IfSome-weaker}
 use Rattle.ns_calls.proofs.QueryLemmas.{last-push, maximum-push, greater-assoc}
 use Rattle.ns_calls.proofs.PushLemmas.{acceptances-push, openings-push, closings-push}
-use Rattle.ns_calls.proofs.KeyLemmas.{session_join-next}
+use Rattle.ns_calls.proofs.KeyLemmas.{session_join-next, IfSome-map}
 use Rattle.ns_sessions.specs.declared.ticket.OpenTicket.{OpenTicket}
 use Rattle.ns_sessions.specs.declared.decision.AnswerDecision.{AnswerDecision}
 use Rattle.ns_sessions.specs.declared.decision.AnswerDecision.TheVariants as answer
@@ -120,14 +122,6 @@ no_acceptance : (h : List Entry) (e : Entry) (eui : DevEui) → acceptance_in e.
 no_acceptance h e eui none =
     acceptances-push h e eui ∙ (ap (λ (o : Option Acceptance). acceptances h eui ++ filter (λ (a : Acceptance). same_device a.eui eui) (option_to_list o)) none ∙ append-nil (acceptances h eui))
 
-refused_none : (t : Ticket) (outcome : Outcome) → acceptance_in (call.JoinReply t outcome) reply.JoinRefused ≡ None
-refused_none t outcome.Failed = refl
-refused_none t (outcome.Success join) = refl
-
-stale_none : (t : Ticket) (outcome : Outcome) (greatest : ℕ) → acceptance_in (call.JoinReply t outcome) (reply.JoinStale (record { 0 = greatest })) ≡ None
-stale_none t outcome.Failed greatest = refl
-stale_none t (outcome.Success join) greatest = refl
-
 -- ---- a join that is accepted
 
 -- the session of the last opening has a counter
@@ -166,10 +160,6 @@ next_number (Some g) = ap (λ n. n + 1) (omega arith)
 option_or-none : {X : Type 0} (o : Option X) → option_or o None ≡ o
 option_or-none None = refl
 option_or-none (Some x) = refl
-
-IfSome-map : {X Y : Type 0} (P : Y → Type 0) (f : X → Y) (o : Option X) → IfSome o (λ x. P (f x)) → IfSome (option_map f o) P
-IfSome-map P f None holds = tt
-IfSome-map P f (Some x) holds = holds
 
 -- what a session's counter says of its record
 counts_by : (n : ℕ) (counter : Option ℕ) (round ack : ℕ) (j : Option JoinAns) (b : Bool) → is_some counter ≡ b → Counts b (option_map (session_of n counter round ack) j)
@@ -288,14 +278,14 @@ after_answer net h legal number t outcome answer.Refused fits =
     let eui : DevEui = dev_eui t in
     let r = said_of net h eui in
     ap (with_reply answer.Refused t outcome) (record_said net h eui)
-    ∙ sym (refused_keeps net h e eui (no_acceptance h e eui (refused_none t outcome)) (openings-push h e eui ∙ append-nil (openings h eui)) (closings-push h e eui ∙ append-nil (closings h eui)) tt
+    ∙ sym (refused_keeps net h e eui (no_acceptance h e eui refl) (openings-push h e eui ∙ append-nil (openings h eui)) (closings-push h e eui ∙ append-nil (closings h eui)) tt
     ∙ ap (λ ts. record r { tickets = ts }) (tickets_ended net h legal e t refl refl refl))
 after_answer net h legal number t outcome (answer.Stale greatest) fits =
     let e : Entry = entry_of number (call.JoinReply t outcome) (reply.JoinStale greatest) in
     let eui : DevEui = dev_eui t in
     let r = said_of net h eui in
     ap (with_reply (answer.Stale greatest) t outcome) (record_said net h eui)
-    ∙ sym (refused_keeps net h e eui (no_acceptance h e eui (stale_none t outcome greatest.0)) (openings-push h e eui ∙ append-nil (openings h eui)) (closings-push h e eui ∙ append-nil (closings h eui)) tt
+    ∙ sym (refused_keeps net h e eui (no_acceptance h e eui refl) (openings-push h e eui ∙ append-nil (openings h eui)) (closings-push h e eui ∙ append-nil (closings h eui)) tt
     ∙ ap (λ ts. record r { tickets = ts }) (tickets_ended net h legal e t refl refl refl))
 after_answer net h legal number t outcome.Failed (answer.Accepted session heard) fits = absurd (false≢true (sym fits.0))
 after_answer net h legal number t (outcome.Success join) (answer.Accepted session heard) fits =

@@ -13,7 +13,8 @@ use Rattle.ns_calls.specs.declared.call.Call.TheVariants as call
 use Rattle.ns_calls.specs.declared.call.Reply.TheVariants as reply
 use Rattle.ns_calls.specs.declared.call.Entry.{Entry}
 use Rattle.ns_calls.specs.Entries.{same_device}
-use Rattle.ns_calls.specs.History.{same_ticket, is_ticket, asking_in, ending_in, ticket_copy_in, asks_for, open_tickets, is_ticket_open, copies_of_ticket, ticket_copies}
+use Rattle.ns_calls.specs.History.{same_ticket, asks_for, open_tickets, is_ticket_open, copies_of_ticket, ticket_copies}
+use Rattle.ns_calls.proofs.Says.{is_ticket, asking_in, ending_in, ticket_copy_in}
 use Rattle.ns_calls.specs.Legal.{IsLegal, entry_of}
 use Rattle.ns_calls.proofs.LocalLemmas.{bool_tells}
 use Rattle.ns_calls.proofs.Lists.{All-weaker, All-filter, filter-all}

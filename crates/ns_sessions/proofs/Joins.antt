@@ -1,6 +1,6 @@
 -- Join-Requests and answers of join servers agree with the history.
-use Rattle.std.proofs.Common.{◌≡◌, ℕ, ◌+◌, Bool, true, false, not, cond, List, [], ◌∷◌, ◌++◌, length, nat_le, nat_lt, Option, None, Some, option_map, refl, sym, ap, ap₂, ◌∙◌}
-use Rattle.std.proofs.lemmas.List.{append-nil, length-map}
+use Rattle.std.proofs.Common.{◌≡◌, ℕ, ◌+◌, Bool, true, false, not, cond, List, [], ◌∷◌, ◌++◌, length, nat_le, nat_lt, Option, None, Some, option_map, refl, sym, ap, ap₂, ◌∙◌, IfSome}
+use Rattle.std.proofs.lemmas.List.{length-map}
 use Rattle.std.proofs.lemmas.List.Sums.{length-filter}
 use Rattle.ns_types.specs.declared.identity.DevEui.{DevEui}
 use Rattle.ns_types.specs.declared.heard.Heard.{Heard}
@@ -12,9 +12,10 @@ use Rattle.ns_calls.specs.declared.call.Call.TheVariants as call
 use Rattle.ns_calls.specs.declared.call.Reply.{Reply}
 use Rattle.ns_calls.specs.declared.call.Reply.TheVariants as reply
 use Rattle.ns_calls.specs.declared.call.Entry.{Entry}
-use Rattle.ns_calls.specs.History.{session_round, open_tickets, is_ticket_open, ticket_count, ticket_copies, closings, last_nonce}
-use Rattle.ns_calls.specs.Entries.{acceptances, openings, same_device, most_copies}
-use Rattle.ns_calls.specs.Reply.{nonce_at_or_above, join_copy_reply, most_tickets, JoinFacts, join_facts, join_rule, reply_to_join}
+use Rattle.ns_calls.specs.History.{open_tickets, is_ticket_open, ticket_count, ticket_copies, closings, last_nonce}
+use Rattle.ns_calls.specs.Headline.{session_round, nonce_at_or_above}
+use Rattle.ns_calls.specs.Entries.{acceptances, openings, same_device, most_copies, Acceptance, Opening, Closing, said, accepted, first_opened, opened, closed}
+use Rattle.ns_calls.specs.Reply.{join_copy_reply, most_tickets, JoinFacts, join_facts, join_rule, reply_to_join}
 use Rattle.ns_calls.specs.Legal.{IsLegal, entry_of}
 use Rattle.ns_calls.proofs.PushLemmas.{acceptances-push, openings-push, closings-push}
 use Rattle.ns_sessions.specs.declared.ticket.OpenTicket.{OpenTicket}
@@ -24,9 +25,10 @@ use Rattle.ns_sessions.specs.Record.{DeviceRecord, device_record, ticket_record,
 use Rattle.ns_sessions.specs.Laws.{join_decision_reply, JoinsAgree}
 use Rattle.ns_sessions.proofs.Sessions.{sessions_by}
 use Rattle.ns_sessions.proofs.Rounds.{rounds-stay}
-use Rattle.ns_sessions.proofs.Records.{tickets_said, record_by, record_said}
+use Rattle.ns_sessions.proofs.Records.{tickets_said, record_by, record_said, none_added}
 use Rattle.ns_sessions.proofs.JoinSteps.{tickets_asked, tickets_copied, among_said}
 use Rattle.ns_sessions.proofs.Uplinks.{record_stays}
+use Rattle.ns_calls.proofs.Says.{join-says}
 
 -- the record, by what the history says
 abbrev pub said_of : Network → List Entry → DevEui → DeviceRecord
@@ -87,10 +89,10 @@ join_keeps : (net : Network) (h : List Entry) (number : ℕ) (t : Ticket) (heard
 join_keeps net h number t heard r =
     let e : Entry = entry_of number (call.Join t heard) r in
     let eui : DevEui = dev_eui t in
-    let joins : acceptances (h ++ e ∷ []) eui ≡ acceptances h eui = acceptances-push h e eui ∙ append-nil (acceptances h eui) in
-    let os : openings (h ++ e ∷ []) eui ≡ openings h eui = openings-push h e eui ∙ append-nil (openings h eui) in
-    let cs : closings (h ++ e ∷ []) eui ≡ closings h eui = closings-push h e eui ∙ append-nil (closings h eui) in
-    let rs : session_round (h ++ e ∷ []) eui ≡ session_round h eui = rounds-stay h e eui os tt in
+    let joins : acceptances (h ++ e ∷ []) eui ≡ acceptances h eui = acceptances-push h e eui ∙ none_added (λ (a : Acceptance). same_device a.eui eui) (acceptances h eui) (accepted (said (call.Join t heard) r)) (join-says (λ s. IfSome (accepted s) (λ a. same_device a.eui eui ≡ false)) t heard tt tt tt r) in
+    let os : openings (h ++ e ∷ []) eui ≡ openings h eui = openings-push h e eui ∙ none_added (λ (a : Opening). same_device a.window.eui eui) (openings h eui) (first_opened (said (call.Join t heard) r)) (join-says (λ s. IfSome (first_opened s) (λ a. same_device a.window.eui eui ≡ false)) t heard tt tt tt r) in
+    let cs : closings (h ++ e ∷ []) eui ≡ closings h eui = closings-push h e eui ∙ none_added (λ (a : Closing). same_device a.window.eui eui) (closings h eui) (closed (said (call.Join t heard) r)) (join-says (λ s. IfSome (closed s) (λ a. same_device a.window.eui eui ≡ false)) t heard tt tt tt r) in
+    let rs : session_round (h ++ e ∷ []) eui ≡ session_round h eui = rounds-stay h e eui os (join-says (λ s. IfSome (opened s) (λ o. same_device o.window.eui eui ≡ false)) t heard tt tt tt r) in
     record_said net (h ++ e ∷ []) eui ∙ (λ i. record_by (last_nonce net eui) (joins i) (sessions_by (joins i) (os i) (rs i) (cs i)) (tickets_said (h ++ e ∷ []) eui))
 
 after_decision : (net : Network) (h : List Entry) → IsLegal net h → (number : ℕ) (t : Ticket) (heard : Heard) (decision : JoinDecision) → (decision ≡ join.Ask → is_ticket_open h t ≡ false) →

@@ -11,14 +11,11 @@ use Rattle.ns_types.specs.declared.heard.Heard.{Heard}
 use Rattle.ns_types.specs.declared.ticket.Ticket.{Ticket}
 use Rattle.ns_types.specs.Ticket.{dev_eui}
 use Rattle.ns_types.specs.Heard.{best, beats}
-use Rattle.ns_calls.specs.declared.call.Call.{Call}
-use Rattle.ns_calls.specs.declared.call.Call.TheVariants as call
-use Rattle.ns_calls.specs.declared.call.Reply.{Reply}
-use Rattle.ns_calls.specs.declared.call.Reply.TheVariants as reply
 use Rattle.ns_calls.specs.declared.call.Entry.{Entry}
 use Rattle.ns_calls.specs.Queries.{from_last}
 use Rattle.ns_calls.specs.Entries.{same_device}
-use Rattle.ns_calls.specs.History.{same_ticket, is_ticket, asking_in, ending_in, ticket_copy_in, asks_for, ends_ticket, open_tickets, copies_of_ticket, ticket_copies}
+use Rattle.ns_calls.specs.History.{same_ticket, asks_for, ends_ticket, open_tickets, copies_of_ticket, ticket_copies}
+use Rattle.ns_calls.proofs.Says.{is_ticket, asking_in, ending_in, ticket_copy_in, asking-copy}
 use Rattle.ns_calls.proofs.LocalLemmas.{bool_tells}
 use Rattle.ns_calls.proofs.LocalJoin.{none_single}
 use Rattle.ns_calls.proofs.Lists.{All-append, All-weaker, All-filter, said, said-push}
@@ -90,10 +87,6 @@ copies_said t said = map (λ c. c.1) (filter (λ c. same_ticket t c.0) (option_t
 pub copies_in : (e : Entry) (t : Ticket) → copies_of_ticket (e ∷ []) t ≡ copies_said t (ticket_copy_in e.call e.reply)
 copies_in e t = ap (map (λ (c : Ticket × Heard). c.1)) (said-push (λ (x : Entry). ticket_copy_in x.call x.reply) (λ (c : Ticket × Heard). same_ticket t c.0) [] e)
 
-first_copy : (t : Ticket) (c : Call) (r : Reply) → is_ticket t (asking_in c r) ≡ true → (u : Ticket) × (heard : Heard) × (ticket_copy_in c r ≡ Some (u, heard)) × (same_ticket t u ≡ true)
-first_copy t (call.Join u heard) (reply.Ask asked) is = (u, heard, refl, is)
-first_copy t _ _ is = absurd (cc is)
-
 best_first : (t : Ticket) (o : Option (Ticket × Heard)) (rest : List (Ticket × Heard)) (u : Ticket) (heard : Heard) → o ≡ Some (u, heard) → same_ticket t u ≡ true →
     (b : Heard) × (best (map (λ (c : Ticket × Heard). c.1) (filter (λ (c : Ticket × Heard). same_ticket t c.0) (cons_option o rest))) ≡ Some b)
 best_first t o rest u heard is same =
@@ -110,7 +103,7 @@ asked_copies (e ∷ after) t is =
       | inl later ↦ (let rest = asked_copies after t later in (rest.0, ap (λ b. part b (asks_for t e)) later ∙ rest.1))
       | inr last_one ↦
           (let here : asks_for t e ≡ true = or_first (asks_for t e) (list_any (asks_for t) after) is last_one in
-          let copy = first_copy t e.call e.reply here in
+          let copy = asking-copy t e.call e.reply here in
           let found = best_first t (ticket_copy_in e.call e.reply) (filter_map (λ (x : Entry). ticket_copy_in x.call x.reply) after) copy.0 copy.1 copy.2 copy.3 in
           (found.0, ap (λ b. part b (asks_for t e)) last_one ∙ (ap (λ b. part false b) here ∙ found.1)))
     ]

@@ -6,23 +6,22 @@ use Rattle.ns_types.specs.declared.identity.DevEui.{DevEui}
 use Rattle.ns_types.specs.Ticket.{nonce}
 use Rattle.ns_roster.specs.Network.{Network}
 use Rattle.ns_calls.specs.declared.call.Outcome.TheVariants as outcome
-use Rattle.ns_calls.specs.declared.call.Call.{Call}
-use Rattle.ns_calls.specs.declared.call.Call.TheVariants as call
-use Rattle.ns_calls.specs.declared.call.Reply.{Reply}
-use Rattle.ns_calls.specs.declared.call.Reply.TheVariants as reply
 use Rattle.ns_calls.specs.declared.call.Entry.{Entry}
 use Rattle.ns_calls.specs.Queries.{greater, maximum}
-use Rattle.ns_calls.specs.Entries.{Acceptance, Opening, Closing, acceptance_in, opening_in, window_in, closing_in, acceptances, openings, same_device}
-use Rattle.ns_calls.specs.History.{closings, session_round, first_and_other, last_nonce}
+use Rattle.ns_calls.specs.Entries.{Acceptance, Opening, Closing, acceptances, openings, same_device, Said, Opens, OpensAgain, Closes, Accepts, said, accepted, first_opened, opened, closed}
+use Rattle.ns_calls.proofs.Says.{acceptance_in, opening_in}
+use Rattle.ns_calls.specs.History.{closings, first_and_other, last_nonce}
+use Rattle.ns_calls.specs.Headline.{session_round}
 use Rattle.ns_calls.proofs.LocalJoin.{none_single}
 use Rattle.ns_calls.proofs.PushLemmas.{acceptances-push, openings-push, closings-push}
 use Rattle.ns_sessions.specs.declared.session.Session.{Session}
 use Rattle.ns_sessions.specs.declared.ticket.OpenTicket.{OpenTicket}
 use Rattle.ns_sessions.specs.Record.{DeviceRecord, device_record, ticket_record, tickets_of}
-use Rattle.ns_sessions.specs.Laws.{concerns}
+use Rattle.ns_sessions.specs.Laws.{changed, concerns}
 use Rattle.ns_sessions.proofs.Sessions.{join_by, counter_by, greatest_ack_by, next_ack_by, session_of, session_by, active_by, newest_by, sessions_by, ack-push, same_on}
 use Rattle.ns_sessions.proofs.Rounds.{rounds-stay}
 use Rattle.ns_sessions.proofs.Basics.{greater-none}
+use Rattle.std.specs.Option.{option_map_or}
 
 abbrev pub tickets_said : List Entry → DevEui → List OpenTicket
 tickets_said h eui = map (ticket_record h) (tickets_of h eui)
@@ -53,36 +52,40 @@ none_added own xs (Some x) others = ap (λ ys. xs ++ ys) (none_single own x othe
 pub one_added : {X : Type 0} (own : X → Bool) (xs : List X) (x : X) → own x ≡ true → xs ++ filter own (x ∷ []) ≡ xs ++ x ∷ []
 one_added {X} own xs x mine = ap (λ b. xs ++ cond {A = List X} b (x ∷ []) []) mine
 
-acceptance-other : (eui : DevEui) (c : Call) (r : Reply) → concerns eui c r ≡ false → IfSome (acceptance_in c r) (λ a. same_device a.eui eui ≡ false)
-acceptance-other eui (call.JoinReply t (outcome.Success join)) (reply.Accepted device session addr) other = other
-acceptance-other eui _ _ other = tt
+-- what an entry says changes nothing of the device
+abbrev pub IsQuietOf : DevEui → Said → Type 0
+IsQuietOf eui s = option_map_or (λ d. same_device d eui) (changed s) false ≡ false
 
-opening-other : (eui : DevEui) (c : Call) (r : Reply) → concerns eui c r ≡ false → IfSome (opening_in c r) (λ o. same_device o.window.eui eui ≡ false)
-opening-other eui (call.Uplink frame heard) (reply.Opened w) other = other
-opening-other eui _ _ other = tt
+acceptance-other : (eui : DevEui) (s : Said) → IsQuietOf eui s → IfSome (accepted s) (λ a. same_device a.eui eui ≡ false)
+acceptance-other eui (Accepts t session (outcome.Success join)) other = other
+acceptance-other eui _ other = tt
 
-window-other : (eui : DevEui) (c : Call) (r : Reply) → concerns eui c r ≡ false → IfSome (window_in c r) (λ o. same_device o.window.eui eui ≡ false)
-window-other eui (call.Uplink frame heard) (reply.Opened w) other = other
-window-other eui (call.Uplink frame heard) (reply.Again w) other = other
-window-other eui _ _ other = tt
+opening-other : (eui : DevEui) (s : Said) → IsQuietOf eui s → IfSome (first_opened s) (λ o. same_device o.window.eui eui ≡ false)
+opening-other eui (Opens o) other = other
+opening-other eui _ other = tt
+
+window-other : (eui : DevEui) (s : Said) → IsQuietOf eui s → IfSome (opened s) (λ o. same_device o.window.eui eui ≡ false)
+window-other eui (Opens o) other = other
+window-other eui (OpensAgain o) other = other
+window-other eui _ other = tt
 
 -- a closing of another device, or with no number, leaves the greatest number
-acks_stay : (eui : DevEui) (c : Call) (r : Reply) (cs : List Closing) (n : ℕ) → concerns eui c r ≡ false → greatest_ack_by (cs ++ filter (λ x. same_device x.window.eui eui) (option_to_list (closing_in c r))) n ≡ greatest_ack_by cs n
-acks_stay eui (call.Close w) (reply.Closed closed (Some ack)) cs n other =
-    ap (λ ys. greatest_ack_by ys n) (none_added (λ (x : Closing). same_device x.window.eui eui) cs (Some (record { window = w; ack = Some ack })) other)
-acks_stay eui (call.Close w) (reply.Closed closed None) cs n other = mine (same_device w.eui eui)
+acks_stay : (eui : DevEui) (s : Said) (cs : List Closing) (n : ℕ) → IsQuietOf eui s → greatest_ack_by (cs ++ filter (λ x. same_device x.window.eui eui) (option_to_list (closed s))) n ≡ greatest_ack_by cs n
+acks_stay eui (Closes c) cs n other = step c.ack other
   where
-    one : Closing
-    one = record { window = w; ack = None }
-
     in_session : (b : Bool) → cond b (greater (greatest_ack_by cs n) None) (greatest_ack_by cs n) ≡ greatest_ack_by cs n
     in_session true = greater-none (greatest_ack_by cs n)
     in_session false = refl
 
-    mine : (b : Bool) → greatest_ack_by (cs ++ cond {A = List Closing} b (record { window = w; ack = None } ∷ []) []) n ≡ greatest_ack_by cs n
-    mine true = ack-push cs (record { window = w; ack = None }) n ∙ in_session (w.session == n)
+    mine : (b : Bool) → greatest_ack_by (cs ++ cond {A = List Closing} b (record { window = c.window; ack = None } ∷ []) []) n ≡ greatest_ack_by cs n
+    mine true = ack-push cs (record { window = c.window; ack = None }) n ∙ in_session (c.window.session == n)
     mine false = ap (λ ys. greatest_ack_by ys n) (append-nil cs)
-acks_stay eui _ _ cs n other = ap (λ ys. greatest_ack_by ys n) (append-nil cs)
+
+    step : (ack : Option ℕ) → IsQuietOf eui (Closes (record { window = c.window; ack = ack })) →
+        greatest_ack_by (cs ++ filter (λ (x : Closing). same_device x.window.eui eui) (record { window = c.window; ack = ack } ∷ [])) n ≡ greatest_ack_by cs n
+    step (Some ack) quiet = ap (λ ys. greatest_ack_by ys n) (none_added (λ (x : Closing). same_device x.window.eui eui) cs (Some (record { window = c.window; ack = Some ack })) quiet)
+    step None quiet = mine (same_device c.window.eui eui)
+acks_stay eui _ cs n other = ap (λ ys. greatest_ack_by ys n) (append-nil cs)
 
 -- sessions whose greatest numbers are the same
 same_acks : (joins : List Acceptance) (os : List Opening) (rs : ℕ → ℕ) (cs ds : List Closing) → ((n : ℕ) → greatest_ack_by cs n ≡ greatest_ack_by ds n) → (xs : List ℕ) →
@@ -94,13 +97,13 @@ same_acks joins os rs cs ds same (x ∷ xs) =
 pub sessions_stay : (h : List Entry) (e : Entry) (eui : DevEui) → concerns eui e.call e.reply ≡ false →
     sessions_by (acceptances (h ++ e ∷ []) eui) (openings (h ++ e ∷ []) eui) (session_round (h ++ e ∷ []) eui) (closings (h ++ e ∷ []) eui) ≡ sessions_by (acceptances h eui) (openings h eui) (session_round h eui) (closings h eui)
 sessions_stay h e eui other =
-    let joins : acceptances (h ++ e ∷ []) eui ≡ acceptances h eui = acceptances-push h e eui ∙ none_added (λ (a : Acceptance). same_device a.eui eui) (acceptances h eui) (acceptance_in e.call e.reply) (acceptance-other eui e.call e.reply other) in
-    let os : openings (h ++ e ∷ []) eui ≡ openings h eui = openings-push h e eui ∙ none_added (λ (o : Opening). same_device o.window.eui eui) (openings h eui) (opening_in e.call e.reply) (opening-other eui e.call e.reply other) in
-    let cs : (n : ℕ) → greatest_ack_by (closings (h ++ e ∷ []) eui) n ≡ greatest_ack_by (closings h eui) n = λ n. ap (λ ys. greatest_ack_by ys n) (closings-push h e eui) ∙ acks_stay eui e.call e.reply (closings h eui) n other in
-    let rs : session_round (h ++ e ∷ []) eui ≡ session_round h eui = rounds-stay h e eui os (window-other eui e.call e.reply other) in
+    let joins : acceptances (h ++ e ∷ []) eui ≡ acceptances h eui = acceptances-push h e eui ∙ none_added (λ (a : Acceptance). same_device a.eui eui) (acceptances h eui) (acceptance_in e.call e.reply) (acceptance-other eui (said e.call e.reply) other) in
+    let os : openings (h ++ e ∷ []) eui ≡ openings h eui = openings-push h e eui ∙ none_added (λ (o : Opening). same_device o.window.eui eui) (openings h eui) (opening_in e.call e.reply) (opening-other eui (said e.call e.reply) other) in
+    let cs : (n : ℕ) → greatest_ack_by (closings (h ++ e ∷ []) eui) n ≡ greatest_ack_by (closings h eui) n = λ n. ap (λ ys. greatest_ack_by ys n) (closings-push h e eui) ∙ acks_stay eui (said e.call e.reply) (closings h eui) n other in
+    let rs : session_round (h ++ e ∷ []) eui ≡ session_round h eui = rounds-stay h e eui os (window-other eui (said e.call e.reply) other) in
     (λ i. sessions_by (joins i) (os i) (rs i) (closings (h ++ e ∷ []) eui))
     ∙ same_on _ _ (first_and_other (active_by (openings h eui)) (newest_by (acceptances h eui)))
     (same_acks (acceptances h eui) (openings h eui) (session_round h eui) (closings (h ++ e ∷ []) eui) (closings h eui) cs _)
 
 pub acceptances_stay : (h : List Entry) (e : Entry) (eui : DevEui) → concerns eui e.call e.reply ≡ false → acceptances (h ++ e ∷ []) eui ≡ acceptances h eui
-acceptances_stay h e eui other = acceptances-push h e eui ∙ none_added (λ (a : Acceptance). same_device a.eui eui) (acceptances h eui) (acceptance_in e.call e.reply) (acceptance-other eui e.call e.reply other)
+acceptances_stay h e eui other = acceptances-push h e eui ∙ none_added (λ (a : Acceptance). same_device a.eui eui) (acceptances h eui) (acceptance_in e.call e.reply) (acceptance-other eui (said e.call e.reply) other)

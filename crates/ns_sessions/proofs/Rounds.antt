@@ -10,8 +10,10 @@ use Rattle.ns_secure.specs.Counter.{Exceeds}
 use Rattle.ns_roster.specs.Network.{Network}
 use Rattle.ns_calls.specs.declared.call.Entry.{Entry}
 use Rattle.ns_calls.specs.Queries.{maximum}
-use Rattle.ns_calls.specs.Entries.{Opening, window_in, openings, same_device}
-use Rattle.ns_calls.specs.History.{first_window, last_round, session_round, greatest_counter}
+use Rattle.ns_calls.specs.Entries.{Opening, openings, same_device}
+use Rattle.ns_calls.proofs.Says.{window_in}
+use Rattle.ns_calls.specs.History.{first_window, last_round, greatest_counter}
+use Rattle.ns_calls.specs.Headline.{session_round}
 use Rattle.ns_calls.specs.Reply.{Fit, window_of, is_greatest}
 use Rattle.ns_calls.specs.Legal.{IsLegal}
 use Rattle.ns_calls.proofs.LocalLemmas.{bool_tells}

@@ -16,14 +16,13 @@ use Rattle.ns_views.specs.Frame.{is_confirmed}
 use Rattle.ns_secure.specs.Counter.{Exceeds}
 use Rattle.ns_roster.specs.Network.{Network}
 use Rattle.ns_calls.specs.declared.call.JoinAns.{JoinAns}
-use Rattle.ns_calls.specs.declared.call.Call.{Call}
 use Rattle.ns_calls.specs.declared.call.Call.TheVariants as call
-use Rattle.ns_calls.specs.declared.call.Reply.{Reply}
 use Rattle.ns_calls.specs.declared.call.Reply.TheVariants as reply
 use Rattle.ns_calls.specs.declared.call.Entry.{Entry}
 use Rattle.ns_calls.specs.Queries.{first, greater}
-use Rattle.ns_calls.specs.Entries.{Acceptance, Opening, Closing, acceptances, openings, same_device}
-use Rattle.ns_calls.specs.History.{asking_in, ending_in, ticket_copy_in, closings, session_join, greatest_counter, last_round, session_round, next_ack_number, live, is_live, first_and_other, last_nonce}
+use Rattle.ns_calls.specs.Entries.{Acceptance, Opening, Closing, acceptances, openings, same_device, Said, Asks, CopiesJoin, Accepts, Refuses, said}
+use Rattle.ns_calls.specs.History.{closings, session_join, greatest_counter, last_round, next_ack_number, live, is_live, first_and_other, last_nonce, asked, ended, join_copied}
+use Rattle.ns_calls.specs.Headline.{session_round}
 use Rattle.ns_calls.specs.Reply as plain
 use Rattle.ns_calls.specs.Reply.{Fit, fit_of, next_round, fitting_counter, ack_number}
 use Rattle.ns_calls.specs.Legal.{IsLegal, entry_of}
@@ -37,30 +36,29 @@ use Rattle.ns_sessions.specs.Laws.{concerns, OthersStay, UplinksAgree, ClosingsA
 use Rattle.ns_sessions.proofs.Sessions.{join_by, counter_by, greatest_ack_by, next_ack_by, session_of, session_by, active_by, newest_by, sessions_by, counter-push, ack-push, session_by-numbered, live-apart, found_by_number}
 use Rattle.ns_sessions.proofs.SessionSteps.{from, opened_from, live_opened, changed_in}
 use Rattle.ns_sessions.proofs.Rounds.{session_round-stays, rounds-stay, elsewhere, session_round-new, new-below, next_round-by}
-use Rattle.ns_sessions.proofs.Records.{tickets_said, record_by, record_said, sessions_said, one_added, sessions_stay, acceptances_stay}
+use Rattle.ns_sessions.proofs.Records.{tickets_said, record_by, record_said, sessions_said, one_added, sessions_stay, acceptances_stay, IsQuietOf}
 use Rattle.ns_sessions.proofs.OpenTickets.{IsQuiet, tickets_stay, same_device-refl}
 use Rattle.ns_sessions.proofs.Basics.{exceeds_greater, greater-none}
 
 -- ---- entries that do not concern a device
 
-quiet_asks : (eui : DevEui) (c : Call) (r : Reply) → concerns eui c r ≡ false → IfSome (asking_in c r) (λ t. same_device (dev_eui t) eui ≡ false)
-quiet_asks eui (call.Join t heard) (reply.Ask asked) other = other
-quiet_asks eui _ _ other = tt
+quiet_asks : (eui : DevEui) (s : Said) → IsQuietOf eui s → IfSome (asked s) (λ t. same_device (dev_eui t) eui ≡ false)
+quiet_asks eui (Asks t heard) other = other
+quiet_asks eui _ other = tt
 
-quiet_ends : (eui : DevEui) (c : Call) (r : Reply) → concerns eui c r ≡ false → IfSome (ending_in c r) (λ t. same_device (dev_eui t) eui ≡ false)
-quiet_ends eui (call.JoinReply t outcome) (reply.Accepted device session addr) other = other
-quiet_ends eui (call.JoinReply t outcome) reply.JoinRefused other = other
-quiet_ends eui (call.JoinReply t outcome) (reply.JoinStale greatest) other = other
-quiet_ends eui _ _ other = tt
+quiet_ends : (eui : DevEui) (s : Said) → IsQuietOf eui s → IfSome (ended s) (λ t. same_device (dev_eui t) eui ≡ false)
+quiet_ends eui (Accepts t session outcome) other = other
+quiet_ends eui (Refuses t) other = other
+quiet_ends eui _ other = tt
 
-quiet_copies : (eui : DevEui) (c : Call) (r : Reply) → concerns eui c r ≡ false → IfSome (ticket_copy_in c r) (λ x. same_device (dev_eui x.0) eui ≡ false)
-quiet_copies eui (call.Join t heard) (reply.Ask asked) other = other
-quiet_copies eui (call.Join t heard) (reply.JoinCopied place) other = other
-quiet_copies eui _ _ other = tt
+quiet_copies : (eui : DevEui) (s : Said) → IsQuietOf eui s → IfSome (join_copied s) (λ x. same_device (dev_eui x.0) eui ≡ false)
+quiet_copies eui (Asks t heard) other = other
+quiet_copies eui (CopiesJoin t heard) other = other
+quiet_copies eui _ other = tt
 
 pub record_stays : (net : Network) (h : List Entry) (e : Entry) (eui : DevEui) → concerns eui e.call e.reply ≡ false → device_record net (h ++ e ∷ []) eui ≡ device_record net h eui
 record_stays net h e eui other =
-    let quiet : IsQuiet eui e = record { asks = quiet_asks eui e.call e.reply other; ends = quiet_ends eui e.call e.reply other; copies = quiet_copies eui e.call e.reply other } in
+    let quiet : IsQuiet eui e = record { asks = quiet_asks eui (said e.call e.reply) other; ends = quiet_ends eui (said e.call e.reply) other; copies = quiet_copies eui (said e.call e.reply) other } in
     let joins = acceptances_stay h e eui other in
     let sessions = sessions_stay h e eui other in
     let tickets = tickets_stay h e eui quiet in

@@ -15,7 +15,7 @@ use Rattle.ns_calls.specs.declared.call.Call.TheVariants as call
 use Rattle.ns_calls.specs.declared.call.Reply.{Reply}
 use Rattle.ns_calls.specs.declared.call.Reply.TheVariants as reply
 use Rattle.ns_calls.specs.declared.call.Entry.{Entry}
-use Rattle.ns_calls.specs.Entries.{Opening, same_device}
+use Rattle.ns_calls.specs.Entries.{Opening, same_device, Said, Opens, OpensAgain, Closes, Asks, CopiesJoin, Accepts, Refuses, said}
 use Rattle.ns_calls.specs.History.{is_live, greatest_counter, last_round, ticket_copies, last_nonce}
 use Rattle.ns_calls.specs.Reply as plain
 use Rattle.ns_calls.specs.Reply.{Fit, fit_of, next_round, address, ack_number, reply_to_join, reply_to_join_reply}
@@ -25,20 +25,23 @@ use Rattle.ns_sessions.specs.declared.decision.JoinDecision.TheVariants as join
 use Rattle.ns_sessions.specs.declared.decision.AnswerDecision.{AnswerDecision}
 use Rattle.ns_sessions.specs.declared.decision.AnswerDecision.TheVariants as answer
 use Rattle.ns_sessions.specs.Record.{no_joins, device_record, device_fit, session_in, IsNewCounter, with_uplink, next_round_in, with_round, ack_in, with_ack, join_decision, with_join, answer_decision, with_reply}
+use Rattle.std.specs.Option.{option_map_or}
 
 -- ---- entries that say nothing of a device
 
--- whether an entry changes what a history says of a device
+-- the device of which an entry changes what a history says
+abbrev pub changed : Said → Option DevEui
+changed (Opens o) = Some o.window.eui
+changed (OpensAgain o) = Some o.window.eui
+changed (Closes c) = option_map (λ n. c.window.eui) c.ack
+changed (Asks t heard) = Some (dev_eui t)
+changed (CopiesJoin t heard) = Some (dev_eui t)
+changed (Accepts t session outcome) = Some (dev_eui t)
+changed (Refuses t) = Some (dev_eui t)
+changed _ = None
+
 abbrev pub concerns : DevEui → Call → Reply → Bool
-concerns eui (call.Uplink frame heard) (reply.Opened w) = same_device w.eui eui
-concerns eui (call.Uplink frame heard) (reply.Again w) = same_device w.eui eui
-concerns eui (call.Join t heard) (reply.Ask asked) = same_device (dev_eui t) eui
-concerns eui (call.Join t heard) (reply.JoinCopied place) = same_device (dev_eui t) eui
-concerns eui (call.JoinReply t outcome) (reply.Accepted device session addr) = same_device (dev_eui t) eui
-concerns eui (call.JoinReply t outcome) reply.JoinRefused = same_device (dev_eui t) eui
-concerns eui (call.JoinReply t outcome) (reply.JoinStale greatest) = same_device (dev_eui t) eui
-concerns eui (call.Close w) (reply.Closed closed (Some ack)) = same_device w.eui eui
-concerns eui _ _ = false
+concerns eui call reply = option_map_or (λ d. same_device d eui) (changed (said call reply)) false
 
 -- a history of no entries says that the device has not joined; an entry that does not concern a device leaves what is said of it
 pub record OthersStay : Type 0 where

@@ -15,7 +15,8 @@ use Rattle.ns_calls.specs.declared.call.Outcome.TheVariants.{Success}
 use Rattle.ns_calls.specs.declared.call.Entry.{Entry}
 use Rattle.ns_calls.specs.Queries.{first}
 use Rattle.ns_calls.specs.Entries.{same_device}
-use Rattle.ns_calls.specs.History.{same_ticket, greatest_nonce, next_session, session_join, live, greatest_counter, session_round, next_ack, open_tickets, ticket_copies}
+use Rattle.ns_calls.specs.History.{same_ticket, greatest_nonce, next_session, session_join, live, greatest_counter, next_ack, open_tickets, ticket_copies}
+use Rattle.ns_calls.specs.Headline.{session_round}
 use Rattle.ns_calls.specs.declared.call.Reply.{Reply}
 use Rattle.ns_calls.specs.declared.call.Reply.TheVariants as told
 use Rattle.ns_calls.specs.Reply.{at_or_above, is_failed, fitting_counter, is_greatest, JoinFacts, join_copy_reply, join_rule, AnswerFacts, answer_rule}

@@ -24,9 +24,11 @@ use Rattle.ns_calls.specs.declared.call.Reply.TheVariants as reply
 use Rattle.ns_calls.specs.declared.call.Entry.{Entry}
 use Rattle.ns_calls.specs.declared.answer.Answer.{Answer}
 use Rattle.ns_calls.specs.Accept.{accept_bytes}
-use Rattle.ns_calls.specs.Entries.{same_device}
-use Rattle.ns_calls.specs.History.{asking_in, ends_ticket, open_tickets, is_ticket_open, ticket_copies, next_session}
-use Rattle.ns_calls.specs.Reply.{reply_to, reply_to_join_reply, address, nonce_at_or_above, is_failed}
+use Rattle.ns_calls.specs.Entries.{same_device, closed, opened}
+use Rattle.ns_calls.specs.History.{ends_ticket, open_tickets, is_ticket_open, ticket_copies, next_session, asked, copied}
+use Rattle.ns_calls.proofs.Says.{asking_in, uplink-says, answer-says, close-says}
+use Rattle.ns_calls.specs.Reply.{reply_to, reply_to_join_reply, address, is_failed}
+use Rattle.ns_calls.specs.Headline.{nonce_at_or_above}
 use Rattle.ns_calls.specs.Out.{answer, uplink_out, downlink_out, downlink_to, join_accept_delay}
 use Rattle.ns_calls.specs.Legal.{IsLegal, entry_for, with_call}
 use Rattle.ns_calls.proofs.LocalLemmas.{bool_tells}
@@ -64,9 +66,9 @@ has-some j None is = absurd (cc is)
 has-some j (Some d) is = refl
 
 asked-known : (net : Network) (h : List Entry) → IsRoster net → (c : Call) → IfSome (asking_in c (reply_to net h c)) (λ t. IsSome (device net (dev_eui t)))
-asked-known net h valid (call.Uplink frame heard) = tt
-asked-known net h valid (call.JoinReply t o) = tt
-asked-known net h valid (call.Close w) = tt
+asked-known net h valid (call.Uplink frame heard) = uplink-says (λ s. IfSome (asked s) (λ u. IsSome (device net (dev_eui u)))) frame heard (λ w. tt) (λ w. tt) (λ w. tt) tt (reply_to net h (call.Uplink frame heard))
+asked-known net h valid (call.JoinReply t o) = answer-says (λ s. IfSome (asked s) (λ u. IsSome (device net (dev_eui u)))) t o (λ n. tt) tt tt (reply_to net h (call.JoinReply t o))
+asked-known net h valid (call.Close w) = close-says (λ s. IfSome (asked s) (λ u. IsSome (device net (dev_eui u)))) w (λ ack. tt) tt (reply_to net h (call.Close w))
 asked-known net h valid (call.Join t heard) =
     join-has (λ r. IfSome (asking_in (call.Join t heard) r) (λ u. IsSome (device net (dev_eui u)))) net h t (record {
       unknown = λ unknown. tt;
@@ -169,5 +171,5 @@ agrees-answer net index h devices windows t o agrees stay law mine = record {
       ∙ sym (devices-changed net index h (with_call net h (length h) (call.JoinReply t o)) (dev_eui t) (after_answer t o) agrees.valid
       (others-stay net h (length h) (call.JoinReply t o) (dev_eui t) stay (λ other differs. concerns-answer other t o (reply_to_join_reply net h t o) differs))
       (sym (law.records agrees.history.legal (length h) t o)));
-  by_window = agrees.by_window ∙ sym (windows-quiet h (entry_for net h (length h) (call.JoinReply t o)) (joined net index h devices windows agrees) refl refl refl);
+  by_window = agrees.by_window ∙ sym (windows-quiet h (entry_for net h (length h) (call.JoinReply t o)) (joined net index h devices windows agrees) (answer-says (λ s. closed s ≡ None) t o (λ n. refl) refl refl (reply_to net h (call.JoinReply t o))) (answer-says (λ s. opened s ≡ None) t o (λ n. refl) refl refl (reply_to net h (call.JoinReply t o))) (answer-says (λ s. copied s ≡ None) t o (λ n. refl) refl refl (reply_to net h (call.JoinReply t o))));
 }

@@ -22,11 +22,11 @@ use Rattle.ns_calls.specs.declared.call.Entry.{Entry}
 use Rattle.ns_calls.specs.declared.answer.Answer.{Answer}
 use Rattle.ns_calls.specs.declared.answer.Uplink.{Uplink}
 use Rattle.ns_calls.specs.declared.answer.Downlink.{Downlink}
-use Rattle.ns_calls.specs.Entries as history
-use Rattle.ns_calls.specs.Entries.{Opening, same_device, closes, open_windows, most_copies}
-use Rattle.ns_calls.specs.History.{open_window, session_join, live, greatest_counter}
+use Rattle.ns_calls.proofs.Says as history
+use Rattle.ns_calls.specs.Entries.{Opening, same_device, closes, open_windows, opened}
+use Rattle.ns_calls.specs.History.{open_window, session_join, live, greatest_counter, copied}
 use Rattle.ns_calls.specs.Reply as plain
-use Rattle.ns_calls.specs.Reply.{reply_to, reply_to_close, ack_number, Fit, fit_of, window_of, fitting_counter, devices_at, first_fit, window_with, most_windows}
+use Rattle.ns_calls.specs.Reply.{reply_to, reply_to_close, ack_number, Fit, fit_of, fitting_counter, devices_at, first_fit}
 use Rattle.ns_calls.specs.Out.{answer, uplink_of, first_uplink_of, uplink_out, downlink_out, ack_downlink}
 use Rattle.ns_calls.specs.Legal.{IsLegal, entry_for, with_call}
 use Rattle.ns_calls.proofs.LocalLemmas.{bool_tells}
@@ -52,6 +52,7 @@ use Rattle.ns_shard.proofs.Roster.{own-found, members}
 use Rattle.ns_shard.proofs.DeviceSteps.{devices-changed, devices-same}
 use Rattle.ns_shard.proofs.WindowSteps.{windows-quiet, windows-closed, windows-named}
 use Rattle.ns_shard.proofs.PartSteps.{joined, others-stay, same_device-false}
+use Rattle.ns_calls.proofs.Says.{join-says, answer-says, close-says}
 
 -- ---- the devices of open windows are the roster's
 
@@ -83,9 +84,9 @@ fit-known recover net h frame valid =
 
 -- whatever is opened, in any round, is of a device of the roster
 opened-known : (net : Network) (h : List Entry) → IsRoster net → (c : Call) → IfSome (history.window_in c (reply_to net h c)) (λ o. IsSome (device net o.window.eui))
-opened-known net h valid (call.Join t heard) = tt
-opened-known net h valid (call.JoinReply t o) = tt
-opened-known net h valid (call.Close w) = tt
+opened-known net h valid (call.Join t heard) = join-says (λ s. IfSome (opened s) (λ o. IsSome (device net o.window.eui))) t heard tt tt tt (reply_to net h (call.Join t heard))
+opened-known net h valid (call.JoinReply t x) = answer-says (λ s. IfSome (opened s) (λ o. IsSome (device net o.window.eui))) t x (λ n. tt) tt tt (reply_to net h (call.JoinReply t x))
+opened-known net h valid (call.Close w) = close-says (λ s. IfSome (opened s) (λ o. IsSome (device net o.window.eui))) w (λ ack. tt) tt (reply_to net h (call.Close w))
 opened-known net h valid (call.Uplink frame heard) = uplink-has (λ r. IfSome (history.window_in (call.Uplink frame heard) r) (λ o. IsSome (device net o.window.eui))) net h frame (record {
   copied = λ o is room. tt;
   crowded = λ o is full. tt;
@@ -279,10 +280,10 @@ agrees-close net index h devices windows w agrees stay law mine = record {
     windows_after None is =
         let e : Entry = entry_for net h (length h) (call.Close w) in
         let reply_is : reply_to_close h w ≡ reply.NoWindow = close-reply h w None is in
-        windows-quiet h e (joined net index h devices windows agrees) (ap (closing_of w) reply_is) refl refl
+        windows-quiet h e (joined net index h devices windows agrees) (ap (closing_of w) reply_is) (close-says (λ s. opened s ≡ None) w (λ ack. refl) refl (reply_to net h (call.Close w))) (close-says (λ s. copied s ≡ None) w (λ ack. refl) refl (reply_to net h (call.Close w)))
         ∙ sym (Rattle.ns_windows.proofs.Places.filter-none (Rattle.ns_windows.specs.Windows.is_named w) (windows_in h) (Rattle.ns_windows.proofs.Places.none_found (Rattle.ns_windows.specs.Windows.is_named w) (windows_in h) (windows-named h w ∙ ap (option_map (window_of_opening h)) is)))
       where
         closing_of : WindowName → Reply → Option Rattle.ns_calls.specs.Entries.Closing
-        closing_of v r = Rattle.ns_calls.specs.Entries.closing_in (call.Close v) r
+        closing_of v r = history.closing_in (call.Close v) r
     windows_after (Some o) is =
         windows-closed h (entry_for net h (length h) (call.Close w)) w (ack_number h o) (joined net index h devices windows agrees) refl (close-reply h w (Some o) is)

@@ -1,5 +1,5 @@
 -- Closings and answers by the devices and windows that agree with the entries: what ends, whose it is, and what stays where nothing ends.
-use Rattle.std.proofs.Common.{◌≡◌, ℕ, zero, suc, ◌==◌, Bool, true, false, ◌||◌, cond, List, [], ◌∷◌, length, filter, Option, None, Some, slice_get, option_map, refl, sym, ap, subst, ◌∙◌, arith, inl, inr}
+use Rattle.std.proofs.Common.{◌≡◌, ℕ, ◌==◌, Bool, true, false, ◌||◌, cond, List, [], ◌∷◌, length, filter, Option, None, Some, slice_get, option_map, refl, sym, ap, subst, ◌∙◌, arith, inl, inr}
 use Rattle.std.specs.List.{AllByRecursion, list_any}
 use Rattle.std.specs.Option.{is_some, option_map_or}
 use Rattle.std.proofs.lemmas.Bool.{false≢true}
@@ -20,7 +20,8 @@ use Rattle.ns_calls.specs.declared.call.Reply.TheVariants as reply
 use Rattle.ns_calls.specs.declared.call.Entry.{Entry}
 use Rattle.ns_calls.specs.declared.answer.Answer.{Answer}
 use Rattle.ns_calls.specs.Entries.{Opening, same_device, open_windows}
-use Rattle.ns_calls.specs.History.{asking_in, asks_for, is_ticket, open_window, open_tickets, is_ticket_open}
+use Rattle.ns_calls.specs.History.{asks_for, open_window, open_tickets, is_ticket_open}
+use Rattle.ns_calls.proofs.Says.{asking_in, is_ticket, asked-by}
 use Rattle.ns_calls.specs.Shards.{shard_of_call}
 use Rattle.ns_calls.specs.Legal.{IsHistory, entry_for, with_call}
 use Rattle.ns_calls.proofs.LocalLemmas.{bool_tells}
@@ -29,7 +30,7 @@ use Rattle.ns_calls.proofs.TicketLemmas.{same_ticket-eq}
 use Rattle.ns_calls.proofs.NameLemmas.{same_window-eq}
 use Rattle.ns_calls.proofs.JoinLemmas.{same_device-eq}
 use Rattle.ns_calls.proofs.ShardLemmas.{Housed, IsOwn, open_windows-mine}
-use Rattle.ns_calls.proofs.Merges.{replies_name_own_devices}
+use Rattle.ns_calls.proofs.Merges.{replies_name_own_devices, by_place}
 use Rattle.ns_sessions.proofs.OpenTickets.{open_asked, at_member}
 use Rattle.ns_sessions.proofs.Uplinks.{others_stay}
 use Rattle.ns_windows.specs.declared.window.Window.{Window}
@@ -56,15 +57,11 @@ use Rattle.ns_shard.proofs.Totals.{is_some-map, ends-found}
 
 -- ---- whose it is
 
--- of a list by its places
-each-place : (P : Entry → Type 0) (xs : List Entry) → ((n : ℕ) (e : Entry) → slice_get xs n ≡ Some e → P e) → AllByRecursion P xs
-each-place P [] each = tt
-each-place P (x ∷ xs) each = (each zero x refl, each-place P xs (λ n e at. each (suc n) e at))
-
 -- what asks for a ticket is a call of its device
 asking-own : (k : ℕ) (t : Ticket) (c : Call) (r : Reply) → is_ticket t (asking_in c r) ≡ true → shard_of_call c ≡ k → shard_of (dev_eui t) ≡ k
-asking-own k t (call.Join u heard) (reply.Ask asked) is mine = ap (λ (x : Ticket). shard_of (dev_eui x)) (same_ticket-eq t u is) ∙ mine
-asking-own k t _ _ is mine = absurd (false≢true is)
+asking-own k t =
+    asked-by (λ d p. is_ticket t p ≡ true → shard_of_call d ≡ k → shard_of (dev_eui t) ≡ k) (λ d no mine. absurd (false≢true no))
+    (λ u heard is mine. ap (λ (x : Ticket). shard_of (dev_eui x)) (same_ticket-eq t u is) ∙ mine)
 
 asked-own : (k : ℕ) (t : Ticket) (h : List Entry) → AllByRecursion (λ e. shard_of_call e.call ≡ k) h → list_any (asks_for t) h ≡ true → shard_of (dev_eui t) ≡ k
 asked-own k t [] mine is = absurd (false≢true is)
@@ -79,7 +76,7 @@ pub open-own : (net : Network) (index : ℕ) (h : List Entry) (c : Call) → IsR
 open-own net index h (call.Uplink frame heard) valid history is = absurd (false≢true is)
 open-own net index h (call.Join t heard) valid history is = absurd (false≢true is)
 open-own net index h (call.JoinReply t o) valid history is =
-    asked-own index t h (each-place (λ e. shard_of_call e.call ≡ index) h history.own) (at_member (λ u. list_any (asks_for u) h ≡ true) t (open_tickets h) is (open_asked h))
+    asked-own index t h (by_place (λ e. shard_of_call e.call ≡ index) h history.own) (at_member (λ u. list_any (asks_for u) h ≡ true) t (open_tickets h) is (open_asked h))
 open-own net index h (call.Close w) valid history is = step (open_window h w) refl is
   where
     mine : (n : ℕ) (e : Entry) → slice_get h n ≡ Some e → Housed e × (shard_of_call e.call ≡ index)
@@ -88,7 +85,7 @@ open-own net index h (call.Close w) valid history is = step (open_window h w) re
     step : (found : Option Opening) → open_window h w ≡ found → is_some found ≡ true → shard_of w.eui ≡ index
     step None here some = absurd (false≢true some)
     step (Some o) here some =
-        let all = open_windows-mine index h (each-place (λ e. Housed e × (shard_of_call e.call ≡ index)) h mine) in
+        let all = open_windows-mine index h (by_place (λ e. Housed e × (shard_of_call e.call ≡ index)) h mine) in
         let found = at_some (λ (x : Opening). IsOwn index x × (same_window x.window w ≡ true)) (open_window h w) o here (find-has (IsOwn index) (λ (x : Opening). same_window x.window w) (open_windows h) all) in
         ap (λ (v : WindowName). shard_of v.eui) (sym (same_window-eq o.window w found.1)) ∙ found.0
 

@@ -13,7 +13,8 @@ use Rattle.ns_calls.specs.Legal.{entry_of, entry_for, with_call}
 use Rattle.ns_calls.specs.Out.{answer}
 use Rattle.ns_calls.specs.Queries.{first}
 use Rattle.ns_calls.specs.Entries.{Opening, open_windows}
-use Rattle.ns_calls.specs.History.{open_window, oldest, same_ticket}
+use Rattle.ns_calls.specs.History.{open_window, same_ticket}
+use Rattle.ns_calls.specs.Headline.{oldest}
 use Rattle.ns_kept.specs.Left as left
 use Rattle.ns_kept.specs.Left.{Leaves}
 use Rattle.ns_kept.proofs.Law.{leaves-alike, leaves-answer, leaves-more}

@@ -18,3 +18,4 @@ pub mod RunTaken
 pub mod Openings
 pub mod Live
 pub mod Trimmed
+pub mod Asked

@@ -20,8 +20,10 @@ use Rattle.ns_calls.specs.declared.call.JoinAns.{JoinAns}
 use Rattle.ns_calls.specs.declared.call.Reply.{Reply}
 use Rattle.ns_calls.specs.declared.call.Reply.TheVariants as reply
 use Rattle.ns_calls.specs.declared.call.Entry.{Entry}
-use Rattle.ns_calls.specs.Entries.{Acceptance, acceptance_in, acceptances, same_device}
-use Rattle.ns_calls.specs.History.{same_ticket, session_join, greatest_counter, session_round, next_ack, live, is_live, open_tickets, is_ticket_open}
+use Rattle.ns_calls.specs.Entries.{Acceptance, acceptances, same_device, accepted}
+use Rattle.ns_calls.proofs.Says.{acceptance_in, uplink-says, join-says, answer-says, close-says, accepted-by}
+use Rattle.ns_calls.specs.History.{same_ticket, session_join, greatest_counter, next_ack, live, is_live, open_tickets, is_ticket_open}
+use Rattle.ns_calls.specs.Headline.{session_round}
 use Rattle.ns_calls.specs.Reply.{reply_to}
 use Rattle.ns_calls.specs.Shards.{shard_of_call}
 use Rattle.ns_calls.specs.Legal.{IsLegal, IsHistory, entry_for}
@@ -42,6 +44,7 @@ use Rattle.ns_devices.specs.Devices.{lives_in, has_ticket_in}
 use Rattle.ns_shard.proofs.Roster.{own-found}
 use Rattle.ns_shard.proofs.AnswerSteps.{not_open, answer-unknown}
 use Rattle.ns_shard.proofs.Endings.{open-own, foreign-none}
+use Rattle.std.proofs.lemmas.Option.{none-some, same_Some}
 
 -- ---- whose joins are accepted
 
@@ -51,10 +54,12 @@ accepted-eui t j _ a is = absurd (cc is)
 
 -- a join that is accepted is of a device of the roster
 accepted-known : (net : Network) → IsRoster net → (g : List Entry) → IsLegal net g → (c : Call) (a : Acceptance) → acceptance_in c (reply_to net g c) ≡ Some a → IsSome (device net a.eui)
-accepted-known net valid g legal (call.Uplink frame heard) a is = absurd (cc is)
-accepted-known net valid g legal (call.Join t heard) a is = absurd (cc is)
-accepted-known net valid g legal (call.Close w) a is = absurd (cc is)
-accepted-known net valid g legal (call.JoinReply t outcome.Failed) a is = absurd (cc is)
+accepted-known net valid g legal (call.Uplink frame heard) a is =
+    absurd (none-some a (sym (uplink-says (λ s. accepted s ≡ None) frame heard (λ w. refl) (λ w. refl) (λ w. refl) refl (reply_to net g (call.Uplink frame heard))) ∙ is))
+accepted-known net valid g legal (call.Join t heard) a is = absurd (none-some a (sym (join-says (λ s. accepted s ≡ None) t heard refl refl refl (reply_to net g (call.Join t heard))) ∙ is))
+accepted-known net valid g legal (call.Close w) a is = absurd (none-some a (sym (close-says (λ s. accepted s ≡ None) w (λ ack. refl) refl (reply_to net g (call.Close w))) ∙ is))
+accepted-known net valid g legal (call.JoinReply t outcome.Failed) a is =
+    absurd (none-some a (sym (answer-says (λ s. accepted s ≡ None) t outcome.Failed (λ n. refl) refl refl (reply_to net g (call.JoinReply t outcome.Failed))) ∙ is))
 accepted-known net valid g legal (call.JoinReply t (outcome.Success j)) a is = step (device net (dev_eui t)) refl
   where
     step : (x : Option Device) → device net (dev_eui t) ≡ x → IsSome (device net a.eui)
@@ -69,8 +74,9 @@ abbrev IsHome : Network → ℕ → DevEui → Type 0
 IsHome net index eui = (shard_of eui ≡ index) × IsSome (device net eui)
 
 accepted-own : (k : ℕ) (c : Call) (r : Reply) (a : Acceptance) → acceptance_in c r ≡ Some a → shard_of_call c ≡ k → shard_of a.eui ≡ k
-accepted-own k (call.JoinReply t (outcome.Success j)) r a is mine = ap shard_of (sym (accepted-eui t j r a is)) ∙ mine
-accepted-own k _ _ a is mine = absurd (cc is)
+accepted-own k c r a =
+    accepted-by (λ d p. p ≡ Some a → shard_of_call d ≡ k → shard_of a.eui ≡ k) (λ d no mine. absurd (none-some a no))
+    (λ t join session is mine. ap shard_of (sym (ap (λ (x : Acceptance). x.eui) (same_Some (record { eui = dev_eui t; session = session; ticket = t; join_ans = join }) a is))) ∙ mine) c r
 
 said-of : (k : ℕ) (h : List Entry) → ((n : ℕ) (e : Entry) → slice_get h n ≡ Some e → shard_of_call e.call ≡ k) → AllByRecursion (λ a. shard_of a.eui ≡ k) (filter_map (λ e. acceptance_in e.call e.reply) h)
 said-of k [] own = tt

@@ -19,8 +19,8 @@ use Rattle.ns_calls.specs.declared.call.Call.TheVariants as call
 use Rattle.ns_calls.specs.declared.call.Reply.{Reply}
 use Rattle.ns_calls.specs.declared.call.Reply.TheVariants as reply
 use Rattle.ns_calls.specs.declared.call.Entry.{Entry}
-use Rattle.ns_calls.specs.Entries.{same_device}
-use Rattle.ns_calls.specs.History.{last_nonce}
+use Rattle.ns_calls.specs.Entries.{same_device, closed, opened}
+use Rattle.ns_calls.specs.History.{last_nonce, copied}
 use Rattle.ns_calls.specs.Reply.{reply_to, reply_to_join, JoinFacts, join_facts, join_rule}
 use Rattle.ns_calls.specs.Legal.{entry_for, with_call}
 use Rattle.ns_calls.proofs.LocalLemmas.{bool_tells}
@@ -38,6 +38,7 @@ use Rattle.ns_shard.proofs.Places.{change_first-same, change_first-stays, change
 use Rattle.ns_shard.proofs.Roster.{own-found}
 use Rattle.ns_shard.proofs.DeviceSteps.{OthersSame, devices-changed, devices-same}
 use Rattle.ns_shard.proofs.WindowSteps.{windows-quiet, WindowsHaveJoins}
+use Rattle.ns_calls.proofs.Says.{join-says}
 
 -- ---- no entries
 
@@ -116,7 +117,7 @@ agrees-join net index h devices windows t heard agrees stay law mine = record {
   valid = agrees.valid;
   history = history_more net index h (call.Join t heard) mine agrees.history;
   by_device = ap (with_join_of t heard) agrees.by_device ∙ step (device net (dev_eui t)) refl;
-  by_window = agrees.by_window ∙ sym (windows-quiet h (entry_for net h (length h) (call.Join t heard)) (joined net index h devices windows agrees) refl refl refl);
+  by_window = agrees.by_window ∙ sym (windows-quiet h (entry_for net h (length h) (call.Join t heard)) (joined net index h devices windows agrees) (join-says (λ s. closed s ≡ None) t heard refl refl refl (reply_to net h (call.Join t heard))) (join-says (λ s. opened s ≡ None) t heard refl refl refl (reply_to net h (call.Join t heard))) (join-says (λ s. copied s ≡ None) t heard refl refl refl (reply_to net h (call.Join t heard))));
 }
   where
     now : List Entry

@@ -1,5 +1,5 @@
 -- The shards after one step more.
-use Rattle.std.proofs.Common.{◌≡◌, ℕ, zero, suc, ◌+◌, ◌<◌, Bool, List, [], ◌∷◌, ◌++◌, length, filter, filter_map, slice_get, slice_set, get_or, take, drop, append_assoc, add-one, drop-cons, Option, None, Some, option_to_list, Result, Ok, Err, refl, sym, ap, ◌∙◌, subst, arith, eqb, cond, inl, inr}
+use Rattle.std.proofs.Common.{◌≡◌, ℕ, suc, ◌+◌, ◌<◌, Bool, List, [], ◌∷◌, ◌++◌, length, filter, filter_map, slice_get, slice_set, get_or, take, drop, append_assoc, add-one, drop-cons, Option, None, Some, option_to_list, Result, Ok, Err, refl, sym, ap, ◌∙◌, subst, arith, eqb, cond, inl, inr}
 use Rattle.std.specs.Result.{result_ok}
 use Rattle.std.specs.List.{cons_option}
 use Rattle.std.proofs.lemmas.Bool.Decides.{eqb_tells}
@@ -16,7 +16,7 @@ use Rattle.ns_calls.specs.Legal.{entry_for, with_call}
 use Rattle.ns_calls.specs.Out.{answer}
 use Rattle.ns_kept.proofs.ReadLemmas.{reading-whole}
 use Rattle.ns_calls.specs.Runs.{history_after, history_of}
-use Rattle.ns_calls.proofs.MergeLemmas.{slice_get-set_other}
+use Rattle.ns_calls.proofs.MergeLemmas.{slice_get-set_other, slice_get-set_same}
 use Rattle.ns_shard.specs.declared.run.Taken.{Taken}
 use Rattle.ns_shard.specs.declared.run.Taken.TheVariants.{Made}
 use Rattle.ns_shard.specs.declared.step.Step.{Step}
@@ -88,11 +88,6 @@ taken-after net before shards (Err (view fault)) after small = refl
 taken-after net before shards (Ok c) after small =
     let h = shard_history net (shard_of_call c) before in
     rw (after.each (shard_of_call c) (small c)) (ap (λ es. Some (Made (shard_of_call c) (length h) (answer net es c))) (reading-whole h))
-
-slice_get-set_same : {X : Type 0} (xs : List X) (k : ℕ) (x y : X) → slice_get xs k ≡ Some x → slice_get (slice_set xs k y) k ≡ Some y
-slice_get-set_same [] k x y h = absurd (cc h)
-slice_get-set_same (z ∷ zs) zero x y h = refl
-slice_get-set_same (z ∷ zs) (suc k) x y h = slice_get-set_same zs k x y h
 
 -- a step that makes no call leaves the shards
 after-refused : (net : Network) (before : List Step) (step : Step) (shards : List State) → AreAfter net before shards → result_ok (call_of step.act) ≡ None → AreAfter net (before ++ step ∷ []) shards

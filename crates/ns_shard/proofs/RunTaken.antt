@@ -1,10 +1,9 @@
 -- What a run hands out: each uplink with just its copies, and once.
-use Rattle.std.proofs.Common.{◌≡◌, ◌⊎◌, ℕ, ◌+◌, ◌≤◌, Bool, true, false, ◌&&◌, cond, List, [], ◌∷◌, ◌++◌, length, take, slice_get, find, filter_map, count_by, Option, None, Some, IfSome, option_map, option_to_list, Result, Ok, Err, refl, sym, ap, subst, ◌∙◌, arith, eqb, inl, inr}
+use Rattle.std.proofs.Common.{◌≡◌, ◌⊎◌, ℕ, ◌+◌, ◌≤◌, Bool, true, false, ◌&&◌, cond, List, [], ◌∷◌, ◌++◌, length, take, slice_get, find, count_by, Option, None, Some, IfSome, option_map, option_to_list, Result, Ok, Err, refl, sym, ap, subst, ◌∙◌, arith, eqb, inl, inr}
 use Rattle.std.specs.List.{AllByRecursion}
 use Rattle.std.specs.Option.{option_map_or, option_and_then}
 use Rattle.std.proofs.lemmas.Bool.Decides.{eqb_tells}
 use Rattle.std.proofs.lemmas.List.{append_assoc, append-nil}
-use Rattle.std.proofs.lemmas.List.Elements.{filter_map-append}
 use Rattle.std.proofs.lemmas.Option.{same_Some}
 use Rattle.ns_types.specs.declared.identity.WindowName.{WindowName}
 use Rattle.ns_types.specs.Cases.{first_case, when}
@@ -16,7 +15,8 @@ use Rattle.ns_calls.specs.declared.call.Call.TheVariants as call
 use Rattle.ns_calls.specs.declared.call.Reply.{Reply}
 use Rattle.ns_calls.specs.declared.call.Reply.TheVariants as reply
 use Rattle.ns_calls.specs.declared.call.Entry.{Entry}
-use Rattle.ns_calls.specs.Entries.{Opening, Closing, closing_in, open_windows}
+use Rattle.ns_calls.specs.Entries.{Opening, Closing, open_windows}
+use Rattle.ns_calls.proofs.Says.{closing_in}
 use Rattle.ns_calls.specs.History.{first_window, open_window}
 use Rattle.ns_calls.specs.Laws.{closing_count, opening_count, open_count}
 use Rattle.ns_calls.specs.Legal.{entry_for, with_call}
@@ -27,10 +27,10 @@ use Rattle.ns_calls.specs.Runs.{history_after, history_of}
 use Rattle.ns_calls.specs.Shards.{shard_of_call}
 use Rattle.ns_calls.specs.Steps.{Refusal, link, view}
 use Rattle.ns_calls.proofs.CopyLemmas.{just_its_copies}
-use Rattle.ns_calls.proofs.Lists.{one_more, count-append, count-cons}
+use Rattle.ns_calls.proofs.Lists.{count-cons}
 use Rattle.ns_calls.proofs.LocalLemmas.{bool_tells}
 use Rattle.ns_calls.proofs.NameLemmas.{same_uplink-eq, same_window-eq}
-use Rattle.ns_calls.proofs.WindowLemmas.{windows_open_once}
+use Rattle.ns_calls.proofs.WindowLemmas.{windows_open_once, closings-added}
 use Rattle.ns_shard.specs.declared.step.Step.{Step}
 use Rattle.ns_shard.specs.State.{State}
 use Rattle.ns_shard.specs.Taken.{call_of, calls_of, HasCopiesAt, HasCopies, hands_out, AreHandedOutOnce}
@@ -185,12 +185,6 @@ closed_by net h c w = count_by (λ x. same_window x.window (first_of w)) (option
 
 abbrev handed : WindowName → Option Uplink → Bool
 handed w o = option_map_or (λ u. same_uplink u.window w) o false
-
-closings-added : (h : List Entry) (e : Entry) (w : WindowName) → closing_count (h ++ e ∷ []) w ≡ closing_count h w + count_by (λ c. same_window c.window w) (option_to_list (closing_in e.call e.reply))
-closings-added h e w =
-    let says = λ (x : Entry). closing_in x.call x.reply in
-    let test = λ (c : Closing). same_window c.window w in
-    ap (count_by test) (filter_map-append says h (e ∷ []) ∙ ap (λ ys. filter_map says h ++ ys) (one_more says e)) ∙ count-append test (filter_map says h) (option_to_list (says e))
 
 -- what a call hands out of an uplink, it closes the first window of
 handed-closed : (net : Network) (h : List Entry) (c : Call) (w : WindowName) → cond (handed w (answer net h c).uplink) 1 0 ≤ closed_by net h c w

@@ -15,9 +15,11 @@ use Rattle.ns_calls.specs.declared.call.Call.TheVariants as call
 use Rattle.ns_calls.specs.declared.call.Reply.{Reply}
 use Rattle.ns_calls.specs.declared.call.Reply.TheVariants as reply
 use Rattle.ns_calls.specs.declared.call.Entry.{Entry}
-use Rattle.ns_calls.specs.Entries.{Opening, Closing, window_in, closing_in, closes, open_windows}
-use Rattle.ns_calls.specs.History.{asking_in, ending_in, is_ticket, same_ticket, ends_ticket, open_window, open_tickets, is_ticket_open, next_session}
-use Rattle.ns_calls.specs.Reply.{reply_to, reply_to_close, reply_to_join_reply, ack_number, is_failed, nonce_at_or_above, address}
+use Rattle.ns_calls.specs.Entries.{Opening, Closing, closes, open_windows, Said, said, opened, closed, Nothing}
+use Rattle.ns_calls.specs.History.{same_ticket, ends_ticket, open_window, open_tickets, is_ticket_open, next_session, asked, ended}
+use Rattle.ns_calls.proofs.Says.{window_in, closing_in, asking_in, ending_in, is_ticket, uplink-says, join-says, answer-says, close-says}
+use Rattle.ns_calls.specs.Reply.{reply_to, reply_to_close, reply_to_join_reply, ack_number, is_failed, address}
+use Rattle.ns_calls.specs.Headline.{nonce_at_or_above}
 use Rattle.ns_calls.specs.Laws.{open_count}
 use Rattle.ns_calls.specs.Legal.{IsLegal, entry_for, with_call}
 use Rattle.ns_calls.proofs.LocalLemmas.{bool_tells}
@@ -31,6 +33,7 @@ use Rattle.ns_windows.proofs.Places.{none_found}
 use Rattle.ns_shard.specs.State.{ends_open}
 use Rattle.ns_shard.specs.Private.Room.{opens, ends, is_ending, open_total}
 use Rattle.ns_shard.proofs.WindowSteps.{same_window-sym}
+use Rattle.ns_calls.proofs.RoundLemmas.{count-none}
 
 -- ---- lists
 
@@ -51,10 +54,6 @@ passed-and-failed {X} test (x ∷ xs) =
           let rest : length (filter (λ y. not (test y)) (x ∷ xs)) ≡ suc (length kept) = ap left fails in
           omega (arith, ih, is, rest))
     ]
-
-none-counted : {X : Type 0} (test : X → Bool) (xs : List X) → AllByRecursion (λ x. test x ≡ false) xs → count_by test xs ≡ 0
-none-counted test [] none = refl
-none-counted test (x ∷ xs) none = count-cons test x xs ∙ (ap (λ b. cond {A = ℕ} b 1 0 + count_by test xs) none.0 ∙ (zero-add (count_by test xs) ∙ none-counted test xs none.1))
 
 nothing-counted : {X : Type 0} (xs : List X) → count_by (λ _. false) xs ≡ 0
 nothing-counted [] = refl
@@ -95,7 +94,7 @@ named-once net h w legal found is =
     count-same (λ (o : Opening). same_window w o.window) (λ (o : Opening). same_window o.window w) (λ o. same_window-sym w o.window) (open_windows h) ∙ step found is
   where
     step : (found : Option Opening) → open_window h w ≡ found → open_count h w ≡ cond (is_some found) 1 0
-    step None is = none-counted (λ (o : Opening). same_window o.window w) (open_windows h) (none_found (λ (o : Opening). same_window o.window w) (open_windows h) is)
+    step None is = count-none (λ (o : Opening). same_window o.window w) (open_windows h) (none_found (λ (o : Opening). same_window o.window w) (open_windows h) is)
     step (Some o) is =
         let once = windows_open_once net h legal in
         let most = once.opens w in
@@ -107,9 +106,10 @@ abbrev closed-by : Option Closing → Opening → Bool
 closed-by c o = option_map_or (λ x. same_window x.window o.window) c false
 
 windows-ended : (net : Network) (h : List Entry) (c : Call) → IsLegal net h → count_by (closed-by (closing_in c (reply_to net h c))) (open_windows h) ≡ cond (is_some (closing_in c (reply_to net h c))) 1 0
-windows-ended net h (call.Uplink frame heard) legal = nothing-counted (open_windows h)
-windows-ended net h (call.Join t heard) legal = nothing-counted (open_windows h)
-windows-ended net h (call.JoinReply t o) legal = nothing-counted (open_windows h)
+windows-ended net h (call.Uplink frame heard) legal =
+    let none = nothing-counted (open_windows h) in uplink-says (λ s. count_by (closed-by (closed s)) (open_windows h) ≡ cond {A = ℕ} (is_some (closed s)) 1 0) frame heard (λ w. none) (λ w. none) (λ w. none) none (reply_to net h (call.Uplink frame heard))
+windows-ended net h (call.Join t heard) legal = let none = nothing-counted (open_windows h) in join-says (λ s. count_by (closed-by (closed s)) (open_windows h) ≡ cond {A = ℕ} (is_some (closed s)) 1 0) t heard none none none (reply_to net h (call.Join t heard))
+windows-ended net h (call.JoinReply t o) legal = let none = nothing-counted (open_windows h) in answer-says (λ s. count_by (closed-by (closed s)) (open_windows h) ≡ cond {A = ℕ} (is_some (closed s)) 1 0) t o (λ n. none) none none (reply_to net h (call.JoinReply t o))
 windows-ended net h (call.Close w) legal =
     ap (λ (c : Option Closing). count_by (closed-by c) (open_windows h)) (closing-is h w)
     ∙ (step (open_window h w) refl ∙ sym (ap (λ (c : Option Closing). cond {A = ℕ} (is_some c) 1 0) (closing-is h w)))
@@ -157,7 +157,7 @@ asked-once t (u ∷ ts) apart =
       | inl here ↦
           count-cons (λ (v : Ticket). same_ticket v t) u ts
           ∙ (ap counted (same_ticket-sym t u true here)
-          ∙ (ap (λ n. 1 + n) (none-counted (λ (v : Ticket). same_ticket v t) ts (others ts (subst (λ (x : Ticket). AllByRecursion (λ v. same_ticket x v ≡ false) ts) (sym (same_ticket-eq t u here)) apart.0)))
+          ∙ (ap (λ n. 1 + n) (count-none (λ (v : Ticket). same_ticket v t) ts (others ts (subst (λ (x : Ticket). AllByRecursion (λ v. same_ticket x v ≡ false) ts) (sym (same_ticket-eq t u here)) apart.0)))
           ∙ sym (ap (λ b. cond {A = ℕ} (b || list_any (same_ticket t) ts) 1 0) here)))
       | inr other ↦
           count-cons (λ (v : Ticket). same_ticket v t) u ts
@@ -169,9 +169,10 @@ asked-once t (u ∷ ts) apart =
     others (v ∷ us) all = (same_ticket-sym t v false all.0, others us all.1)
 
 tickets-ended : (net : Network) (h : List Entry) (c : Call) → IsLegal net h → count_by (λ t. is_ticket t (ending_in c (reply_to net h c))) (open_tickets h) ≡ cond (is_some (ending_in c (reply_to net h c))) 1 0
-tickets-ended net h (call.Uplink frame heard) legal = nothing-counted (open_tickets h)
-tickets-ended net h (call.Join t heard) legal = nothing-counted (open_tickets h)
-tickets-ended net h (call.Close w) legal = nothing-counted (open_tickets h)
+tickets-ended net h (call.Uplink frame heard) legal =
+    let none = nothing-counted (open_tickets h) in uplink-says (λ s. count_by (λ u. is_ticket u (ended s)) (open_tickets h) ≡ cond {A = ℕ} (is_some (ended s)) 1 0) frame heard (λ w. none) (λ w. none) (λ w. none) none (reply_to net h (call.Uplink frame heard))
+tickets-ended net h (call.Join t heard) legal = let none = nothing-counted (open_tickets h) in join-says (λ s. count_by (λ u. is_ticket u (ended s)) (open_tickets h) ≡ cond {A = ℕ} (is_some (ended s)) 1 0) t heard none none none (reply_to net h (call.Join t heard))
+tickets-ended net h (call.Close w) legal = let none = nothing-counted (open_tickets h) in close-says (λ s. count_by (λ u. is_ticket u (ended s)) (open_tickets h) ≡ cond {A = ℕ} (is_some (ended s)) 1 0) w (λ ack. none) none (reply_to net h (call.Close w))
 tickets-ended net h (call.JoinReply t o) legal =
     ap (λ (x : Option Ticket). count_by (λ u. is_ticket u x) (open_tickets h)) (ending-is net h t o)
     ∙ (step (is_ticket_open h t) refl ∙ sym (ap (λ (x : Option Ticket). cond {A = ℕ} (is_some x) 1 0) (ending-is net h t o)))
@@ -196,33 +197,32 @@ tickets-total net h number c legal =
 
 -- a closing or an answer ends something exactly where its window or ticket is open
 pub ends-found : (net : Network) (h : List Entry) (c : Call) → ends c (reply_to net h c) ≡ ends_open h c
-ends-found net h (call.Uplink frame heard) = refl
-ends-found net h (call.Join t heard) = refl
-ends-found net h (call.JoinReply t o) = ap (λ (x : Option Ticket). is_some x) (ending-is net h t o) ∙ is_some-when (is_ticket_open h t) t
+ends-found net h (call.Uplink frame heard) = uplink-says (λ s. (is_some (closed s) || is_some (ended s)) ≡ false) frame heard (λ w. refl) (λ w. refl) (λ w. refl) refl (reply_to net h (call.Uplink frame heard))
+ends-found net h (call.Join t heard) = join-says (λ s. (is_some (closed s) || is_some (ended s)) ≡ false) t heard refl refl refl (reply_to net h (call.Join t heard))
+ends-found net h (call.JoinReply t o) =
+    answer-says (λ s. (is_some (closed s) || is_some (ended s)) ≡ is_some (ended s)) t o (λ n. refl) refl refl (reply_to net h (call.JoinReply t o))
+    ∙ (ap (λ (x : Option Ticket). is_some x) (ending-is net h t o) ∙ is_some-when (is_ticket_open h t) t)
 ends-found net h (call.Close w) =
-    or-false (is_some (closing_in (call.Close w) (reply_to_close h w)))
+    close-says (λ s. (is_some (closed s) || is_some (ended s)) ≡ is_some (closed s)) w (λ ack. refl) refl (reply_to_close h w)
     ∙ (ap (λ (x : Option Closing). is_some x) (closing-is h w) ∙ is_some-map (λ (o : Opening). let c : Closing = record { window = w; ack = ack_number h o } in c) (open_window h w))
+
+-- no entry opens a window and a ticket, nor ends both
+opens-one : (s : Said) → cond {A = ℕ} (is_some (opened s) || is_some (asked s)) 1 0 ≡ cond (is_some (opened s)) 1 0 + cond (is_some (asked s)) 1 0
+opens-one Nothing = refl
+opens-one _ = refl
+
+ends-one : (s : Said) → cond {A = ℕ} (is_some (closed s) || is_some (ended s)) 1 0 ≡ cond (is_some (closed s)) 1 0 + cond (is_some (ended s)) 1 0
+ends-one Nothing = refl
+ends-one _ = refl
 
 total-after : (net : Network) (h : List Entry) (number : ℕ) (c : Call) → IsLegal net h →
     open_total (with_call net h number c) + cond (ends c (reply_to net h c)) 1 0 ≡ open_total h + cond (opens c (reply_to net h c)) 1 0
-total-after net h number (call.Uplink frame heard) legal =
-    let windows = windows-total net h number (call.Uplink frame heard) legal in
-    let tickets = tickets-total net h number (call.Uplink frame heard) legal in
-    let one = ap (λ b. cond {A = ℕ} b 1 0) (or-false (is_some (window_in (call.Uplink frame heard) (reply_to net h (call.Uplink frame heard))))) in
-    omega (arith, windows, tickets, one)
-total-after net h number (call.Join t heard) legal =
-    let windows = windows-total net h number (call.Join t heard) legal in
-    let tickets = tickets-total net h number (call.Join t heard) legal in
-    omega (arith, windows, tickets)
-total-after net h number (call.JoinReply t o) legal =
-    let windows = windows-total net h number (call.JoinReply t o) legal in
-    let tickets = tickets-total net h number (call.JoinReply t o) legal in
-    omega (arith, windows, tickets)
-total-after net h number (call.Close w) legal =
-    let windows = windows-total net h number (call.Close w) legal in
-    let tickets = tickets-total net h number (call.Close w) legal in
-    let one = ap (λ b. cond {A = ℕ} b 1 0) (or-false (is_some (closing_in (call.Close w) (reply_to_close h w)))) in
-    omega (arith, windows, tickets, one)
+total-after net h number c legal =
+    let windows = windows-total net h number c legal in
+    let tickets = tickets-total net h number c legal in
+    let begun = opens-one (said c (reply_to net h c)) in
+    let over = ends-one (said c (reply_to net h c)) in
+    omega (arith, windows, tickets, begun, over)
 
 -- a closing or an answer takes one from it where it finds its window or ticket open
 total-ended : (net : Network) (h : List Entry) (number : ℕ) (c : Call) → IsLegal net h → is_ending c ≡ true → open_total (with_call net h number c) + cond (ends_open h c) 1 0 ≡ open_total h
@@ -235,8 +235,8 @@ total-ended net h number c legal ending =
     opens-nothing : (k : Call) (r : Reply) → is_ending k ≡ true → opens k r ≡ false
     opens-nothing (call.Uplink frame heard) r is = absurd (false≢true is)
     opens-nothing (call.Join t heard) r is = absurd (false≢true is)
-    opens-nothing (call.JoinReply t o) r is = refl
-    opens-nothing (call.Close w) r is = refl
+    opens-nothing (call.JoinReply t o) r is = answer-says (λ s. (is_some (opened s) || is_some (asked s)) ≡ false) t o (λ n. refl) refl refl r
+    opens-nothing (call.Close w) r is = close-says (λ s. (is_some (opened s) || is_some (asked s)) ≡ false) w (λ ack. refl) refl r
 
 pub total-lower : (net : Network) (h : List Entry) (number : ℕ) (c : Call) → IsLegal net h → is_ending c ≡ true → ends_open h c ≡ true → open_total (with_call net h number c) + 1 ≡ open_total h
 total-lower net h number c legal ending found =
@@ -258,7 +258,7 @@ total-begun net h number c legal begins =
     omega (arith, all, none)
   where
     ends-nothing : (k : Call) (r : Reply) → is_ending k ≡ false → ends k r ≡ false
-    ends-nothing (call.Uplink frame heard) r is = refl
-    ends-nothing (call.Join t heard) r is = refl
+    ends-nothing (call.Uplink frame heard) r is = uplink-says (λ s. (is_some (closed s) || is_some (ended s)) ≡ false) frame heard (λ w. refl) (λ w. refl) (λ w. refl) refl r
+    ends-nothing (call.Join t heard) r is = join-says (λ s. (is_some (closed s) || is_some (ended s)) ≡ false) t heard refl refl refl r
     ends-nothing (call.JoinReply t o) r is = absurd (false≢true (sym is))
     ends-nothing (call.Close w) r is = absurd (false≢true (sym is))

@@ -24,16 +24,18 @@ use Rattle.ns_calls.specs.declared.call.Reply.{Reply}
 use Rattle.ns_calls.specs.declared.call.Reply.TheVariants as reply
 use Rattle.ns_calls.specs.declared.call.Entry.{Entry}
 use Rattle.ns_calls.specs.Queries.{maximum}
-use Rattle.ns_calls.specs.Entries as history
-use Rattle.ns_calls.specs.Entries.{Opening, opening_in, open_windows, most_copies}
-use Rattle.ns_calls.specs.History.{window_copy_in, open_window, is_uplink_open, window_count, window_copies, session_join, live, is_live, greatest_counter, last_round, session_round, next_ack}
+use Rattle.ns_calls.proofs.Says as history
+use Rattle.ns_calls.specs.Entries.{Opening, open_windows, most_copies, closed}
+use Rattle.ns_calls.specs.History.{open_window, is_uplink_open, window_count, window_copies, session_join, live, is_live, greatest_counter, last_round, next_ack}
+use Rattle.ns_calls.specs.Headline.{session_round}
+use Rattle.ns_calls.proofs.Says.{window_copy_in, opening_of, closing_in, uplink-says}
 use Rattle.ns_calls.specs.Reply as plain
 use Rattle.ns_calls.specs.Reply.{reply_to_uplink, Fit, window_of, first_fit, devices_at, uplink_rule}
 use Rattle.ns_calls.specs.Legal.{IsLegal, entry_for, with_call}
 use Rattle.ns_calls.proofs.LocalLemmas.{bool_tells}
 use Rattle.ns_calls.proofs.Lists.{All-weaker, IfSome-weaker, at_some, first-gives_of, option_map-same}
 use Rattle.ns_calls.proofs.LegalLemmas.{history_more}
-use Rattle.ns_calls.proofs.UplinkLemmas.{uplink-has, window-fits, opening_of}
+use Rattle.ns_calls.proofs.UplinkLemmas.{uplink-has, window-fits}
 use Rattle.ns_calls.proofs.RoundLemmas.{rounds-same, rounds_are_counted}
 use Rattle.ns_calls.proofs.FreshLemmas.{IsApart, windows-apart, opened-new, again-next}
 use Rattle.ns_sessions.specs.declared.session.Session.{Session}
@@ -330,6 +332,9 @@ after-of net index h devices windows frame heard agrees stay law mine r is = ste
     e : Entry
     e = entry_for net h (length h) (call.Uplink frame heard)
 
+    closes_none : closing_in (call.Uplink frame heard) (reply_to_uplink net h frame) ≡ None
+    closes_none = uplink-says (λ s. closed s ≡ None) frame heard (λ w. refl) (λ w. refl) (λ w. refl) refl (reply_to_uplink net h frame)
+
     -- where a reply concerns no device
     unconcerned : (x : Reply) → reply_to_uplink net h frame ≡ x → ((eui : DevEui) → concerns eui (call.Uplink frame heard) x ≡ false) → devices_in net index h ≡ devices_in net index (h ++ e ∷ [])
     unconcerned x said none = sym (devices-same net index h (h ++ e ∷ []) (λ eui. stay.others net h e eui (ap (concerns eui (call.Uplink frame heard)) said ∙ none eui)))
@@ -339,12 +344,12 @@ after-of net index h devices windows frame heard agrees stay law mine r is = ste
         → window_copy_in (call.Uplink frame heard) (reply_to_uplink net h frame) ≡ Some (w, heard) → with_window frame heard w (keys_in (devices_in net index h) w) (windows_in h) ≡ windows_in (h ++ e ∷ [])
     windows_opened w opened says copied =
         ap (λ keys. with_window frame heard w keys (windows_in h)) (opened-keys net index h frame w opened)
-        ∙ sym (windows-opened h e (opening_of w frame heard) (joined net index h devices windows agrees) opened.keyed refl says copied opened.apart.copies
+        ∙ sym (windows-opened h e (opening_of w frame heard) (joined net index h devices windows agrees) opened.keyed closes_none says copied opened.apart.copies
         (none-found (λ (o : Opening). same_window o.window w) (open_windows h) opened.apart.name))
 
     quiet : (x : Reply) → reply_to_uplink net h frame ≡ x → history.window_in (call.Uplink frame heard) x ≡ None → window_copy_in (call.Uplink frame heard) x ≡ None → windows_in h ≡ windows_in (h ++ e ∷ [])
     quiet x said opens copies =
-        sym (windows-quiet h e (joined net index h devices windows agrees) refl (ap (history.window_in (call.Uplink frame heard)) said ∙ opens) (ap (window_copy_in (call.Uplink frame heard)) said ∙ copies))
+        sym (windows-quiet h e (joined net index h devices windows agrees) closes_none (ap (history.window_in (call.Uplink frame heard)) said ∙ opens) (ap (window_copy_in (call.Uplink frame heard)) said ∙ copies))
 
     -- a reply that changes no device and no window
     still : (x : Reply) → reply_to_uplink net h frame ≡ x → ((eui : DevEui) → concerns eui (call.Uplink frame heard) x ≡ false) → history.window_in (call.Uplink frame heard) x ≡ None → window_copy_in (call.Uplink frame heard) x ≡ None
@@ -355,7 +360,7 @@ after-of net index h devices windows frame heard agrees stay law mine r is = ste
     step (reply.Copied w place) said = record {
       devices_after = unconcerned (reply.Copied w place) said (λ eui. refl);
       windows_after =
-          sym (windows-copied h e w heard (joined net index h devices windows agrees) refl (ap (history.window_in (call.Uplink frame heard)) said) (ap (window_copy_in (call.Uplink frame heard)) said)
+          sym (windows-copied h e w heard (joined net index h devices windows agrees) closes_none (ap (history.window_in (call.Uplink frame heard)) said) (ap (window_copy_in (call.Uplink frame heard)) said)
           (room-of net h frame w place said));
     }
     step (reply.Crowded w) said = record {
@@ -387,21 +392,7 @@ after-of net index h devices windows frame heard agrees stay law mine r is = ste
               ∙ sym (law.again (length h) frame heard w next.counter (omega (arith, round)))));
           windows_after = windows_opened w opened (ap (history.window_in (call.Uplink frame heard)) said) (ap (window_copy_in (call.Uplink frame heard)) said);
         }
-    step (reply.Old eui session fcnt) said = still _ said (λ d. refl) refl refl refl refl
-    step reply.NoSession said = still _ said (λ d. refl) refl refl refl refl
-    step (reply.Busy eui) said = still _ said (λ d. refl) refl refl refl refl
-    step (reply.Ask t) said = still _ said (λ d. refl) refl refl refl refl
-    step (reply.JoinCopied place) said = still _ said (λ d. refl) refl refl refl refl
-    step reply.JoinCrowded said = still _ said (λ d. refl) refl refl refl refl
-    step (reply.NonceOld greatest) said = still _ said (λ d. refl) refl refl refl refl
-    step reply.NoDevice said = still _ said (λ d. refl) refl refl refl refl
-    step reply.JoinBusy said = still _ said (λ d. refl) refl refl refl refl
-    step (reply.Accepted eui session addr) said = still _ said (λ d. refl) refl refl refl refl
-    step reply.JoinRefused said = still _ said (λ d. refl) refl refl refl refl
-    step (reply.JoinStale greatest) said = still _ said (λ d. refl) refl refl refl refl
-    step reply.NoTicket said = still _ said (λ d. refl) refl refl refl refl
-    step (reply.Closed w ack) said = still _ said (λ d. refl) refl refl refl refl
-    step reply.NoWindow said = still _ said (λ d. refl) refl refl refl refl
+    step x said = still x said (λ d. refl) refl refl refl refl
 
 pub agrees-uplink : (net : Network) (index : ℕ) (h : List Entry) (devices : List Own) (windows : List Window) (frame : List ℕ) (heard : Heard) → Agrees net index h devices windows → OthersStay → UplinksAgree net h →
     shard_of_addr (record { 0 = (data_fields frame).addr }) ≡ index → (r : Reply) → reply_to_uplink net h frame ≡ r →

@@ -12,9 +12,10 @@ use Rattle.ns_calls.specs.declared.call.JoinAns.{JoinAns}
 use Rattle.ns_calls.specs.declared.call.Call.TheVariants as call
 use Rattle.ns_calls.specs.declared.call.Reply.TheVariants as reply
 use Rattle.ns_calls.specs.declared.call.Entry.{Entry}
-use Rattle.ns_calls.specs.Entries as history
-use Rattle.ns_calls.specs.Entries.{Opening, closing_in, closes, open_windows, most_copies}
-use Rattle.ns_calls.specs.History.{window_copy_in, open_window, window_count, window_copies, session_join}
+use Rattle.ns_calls.proofs.Says as history
+use Rattle.ns_calls.specs.Entries.{Opening, closes, open_windows, most_copies}
+use Rattle.ns_calls.specs.History.{open_window, window_count, window_copies, session_join}
+use Rattle.ns_calls.proofs.Says.{closing_in, window_copy_in}
 use Rattle.ns_calls.proofs.LocalLemmas.{bool_tells}
 use Rattle.ns_calls.proofs.Lists.{All-filter, All-weaker, filter-all}
 use Rattle.ns_calls.proofs.PushLemmas.{open_windows-push, window_copies-push}

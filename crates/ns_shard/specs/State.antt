@@ -1,16 +1,19 @@
 -- What a contract sees of a shard: what is read of it, what every state is, and how a call changes it.
 use Rattle.ns_types.specs.Identity.{shard_of}
 use Rattle.ns_types.specs.declared.identity.DevEui.{DevEui}
-use Rattle.std.specs.Prelude.{◌≡◌, ℕ, ◌+◌, Bool, false, List, [], ◌∷◌, ◌++◌, length, Option, not, ◌==◌, None, is_some, option_and_then, if◌then◌else◌}
+use Rattle.std.specs.Prelude.{◌≡◌, ℕ, ◌+◌, Bool, false, List, [], ◌∷◌, ◌++◌, length, filter_map, Option, not, ◌==◌, None, is_some, option_and_then, if◌then◌else◌}
 use Rattle.ns_types.specs.Cases.{when}
 use Rattle.ns_types.specs.declared.identity.WindowName.{WindowName}
+use Rattle.ns_types.specs.declared.ticket.Ticket.{Ticket}
 use Rattle.ns_roster.specs.Network.{Network, device}
 use Rattle.ns_calls.specs.declared.call.Call.{Call}
 use Rattle.ns_calls.specs.declared.call.Call.TheVariants as call
 use Rattle.ns_calls.specs.declared.call.Reply.{Reply}
+use Rattle.ns_calls.specs.declared.call.Reply.TheVariants.{Ask}
 use Rattle.ns_calls.specs.declared.call.Entry.{Entry}
 use Rattle.ns_calls.specs.declared.answer.Answer.{Answer}
-use Rattle.ns_calls.specs.History.{open_window, is_ticket_open, oldest, greatest_nonce}
+use Rattle.ns_calls.specs.History.{open_window, is_ticket_open, greatest_nonce}
+use Rattle.ns_calls.specs.Headline.{oldest}
 use Rattle.ns_calls.specs.Legal.{IsHistory, entry_for}
 use Rattle.ns_calls.specs.Out.{answer}
 use Rattle.ns_kept.specs.Kept.{Remains, reading, is_kept, filter_before, keep}
@@ -70,6 +73,15 @@ known_greatest net h eui = option_and_then (λ d. greatest_nonce net h eui) (dev
 -- the greatest DevNonce of one of the shard's devices
 abbrev pub greatest_in : State → DevEui → Option ℕ
 greatest_in s eui = if shard_of eui == s.index then known_greatest s.roster (seen s) eui else None
+
+-- the ticket that an entry asks for, where it passes a test
+abbrev pub asked_in : (Ticket → Bool) → Reply → Option Ticket
+asked_in test (Ask ticket) = when (test ticket) ticket
+asked_in test _ = None
+
+-- the open tickets among those that the entries asked for, in order
+abbrev pub open_tickets_in : State → List Ticket
+open_tickets_in s = filter_map (λ e. asked_in (is_ticket_open (seen s)) e.reply) s.entries
 
 -- ---- what every state is
 

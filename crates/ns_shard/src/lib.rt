@@ -11,6 +11,7 @@ mod calls;
 mod event;
 mod joining;
 pub mod laws;
+mod open;
 mod packed;
 mod parts;
 mod reaction;
@@ -22,8 +23,9 @@ mod step;
 mod trim;
 mod uplink;
 
+pub use calls::call_of;
 pub use packed::PackedAnswer;
-pub use run::{Run, Shards, Taken};
+pub use run::{Run, Shards, Taken, new_shards};
 pub use shard::Shard;
 pub use step::{Act, DatagramBytes, OwnedBytes, SHORT_DATAGRAM, Step};
 pub use trim::{Dropped, TrimFault};

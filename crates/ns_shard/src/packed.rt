@@ -17,6 +17,8 @@ use std::marker::Model;
 pub struct PackedUplink {
     pub window: WindowName,
     pub addr: DevAddr,
+    pub confirmed: bool,
+    pub fctrl: u8,
     pub port: Option<u8>,
     pub fopts: Bytes<15>,
     pub sealed: bool,
@@ -31,18 +33,21 @@ impl Model for PackedUplink {
 
     ghost Value = { Uplink };
 
-    ghost view = { λ u. record { window = u.window; addr = u.addr; port = u.port; fopts = u.fopts; sealed = u.sealed; payload = u.payload.items; copies = record { items = u.copies.items } } };
+    ghost view = { λ u. record { window = u.window; addr = u.addr; confirmed = u.confirmed; fctrl = u.fctrl; port = u.port; fopts = u.fopts; sealed = u.sealed; payload = u.payload.items; copies = record { items = u.copies.items } } };
 
     ghost invariant = { λ u. (length u.payload.items ≤ 242) × (length u.copies.items ≤ most_copies) };
 }
 
 impl PackedUplink {
+    #[inline(always)]
     fn new(alloc: Global, uplink: &Uplink) -> Result<PackedUplink, AllocError>
         ensures { IfOk result (λ u. u ≡ uplink.now) }
     {
         Ok(PackedUplink {
             window: uplink.window,
             addr: uplink.addr,
+            confirmed: uplink.confirmed,
+            fctrl: uplink.fctrl,
             port: uplink.port,
             fopts: uplink.fopts,
             sealed: uplink.sealed,
@@ -52,6 +57,7 @@ impl PackedUplink {
     }
 
     // The uplink itself.
+    #[inline(always)]
     fn to_uplink(&self) -> Uplink
         ensures { result ≡ self.now }
     {
@@ -61,6 +67,8 @@ impl PackedUplink {
         Uplink {
             window: self.window,
             addr: self.addr,
+            confirmed: self.confirmed,
+            fctrl: self.fctrl,
             port: self.port,
             fopts: self.fopts,
             sealed: self.sealed,
@@ -95,6 +103,7 @@ impl Model for PackedAnswer {
 }
 
 // An uplink that is kept, where there is one.
+#[inline(always)]
 fn packed_uplink(alloc: Global, uplink: &Option<Uplink>) -> Result<Option<PackedUplink>, AllocError>
     ensures { IfOk result (λ u. u ≡ uplink.now) }
 {
@@ -113,6 +122,7 @@ impl PackedAnswer {
     }
 
     // This answer. `NoMemory` (`AllocError`) where what goes out finds no memory.
+    #[inline(always)]
     fn new(alloc: Global, answer: Answer) -> Result<PackedAnswer, AllocError>
         ensures { IfOk result (λ a. a ≡ answer) }
     {

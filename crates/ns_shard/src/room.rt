@@ -19,6 +19,7 @@ pub fn opens(call: &Call, reply: &Reply) -> bool
 }
 
 /// Adds an entry, and where it opens something, reserves room for the one that ends that.
+#[inline(always)]
 pub fn push(journal: &mut Journal, call: Call, reply: Reply)
     requires { journal.old.reserved + 2 ≤ journal.old.room }
     ensures made { journal.new.made ≡ journal.old.made + 1 }

@@ -130,8 +130,8 @@ impl Shards {
     }
 }
 
-// The shards without entries.
-fn new_shards(alloc: Global, roster: Arc<Roster>) -> Result<Vec<Shard>, AllocError>
+/// The sixteen shards without entries, each at its number.
+pub fn new_shards(alloc: Global, roster: Arc<Roster>) -> Result<Vec<Shard>, AllocError>
     ensures { IfOk result (λ list. AreAfter (arc_value roster) [] list.items) }
 {
     let mut list = Vec::with_capacity(alloc, usize::from(SHARDS))?;

@@ -9,6 +9,7 @@ use ns_sent::acknowledgement;
 use ns_windows::Window;
 
 // The uplink of a window, whose own frame is deciphered.
+#[inline(always)]
 fn uplink_from(mut window: Window) -> Uplink
     ensures { result ≡ uplink_from window }
 {
@@ -18,6 +19,7 @@ fn uplink_from(mut window: Window) -> Uplink
 }
 
 /// The uplink of a window that was closed, if any, where it is the first of its rounds.
+#[inline(always)]
 pub fn uplink_of(closed: Option<Window>) -> Option<Uplink>
     ensures { result ≡ uplink_of closed }
 {

@@ -1,15 +1,17 @@
 //! One shard.
 
-ghost use Rattle.std.specs.Prelude.{◌≡◌, ◌==◌, ◌+◌, ◌*◌, ◌<◌, ◌≤◌, ◌^◌, ◌%◌, true, Err, length, count_by, IsOk, IfOk, IfSome, OnOk, OnErr, option_map};
+ghost use Rattle.std.specs.Prelude.{◌≡◌, ◌==◌, ◌+◌, ◌*◌, ◌<◌, ◌≤◌, ◌^◌, ◌%◌, true, Err, length, map, count_by, IsOk, IfOk, IfSome, OnOk, OnErr, option_map};
 ghost use Rattle.std.specs.Arc.{arc_value};
 ghost use Rattle.ns_types.specs.Identity.{shard_count, shard_of};
 ghost use Rattle.ns_calls.specs.declared.call.Call.TheVariants.{JoinReply, Close};
 ghost use Rattle.ns_calls.specs.Shards.{shard_of_call};
-ghost use Rattle.ns_shard.specs.State.{no_entries, after_call, answer_in, finds_open, answer_if_open, after_if_open, after_trim, dropped, oldest_in, IsState, greatest_in};
+ghost use Rattle.ns_calls.specs.Entries.{open_windows};
+ghost use Rattle.ns_shard.specs.State.{no_entries, after_call, answer_in, finds_open, answer_if_open, after_if_open, after_trim, dropped, oldest_in, IsState, greatest_in, seen, open_tickets_in};
 ghost use Rattle.ns_kept.specs.Bound.{most_kept};
 ghost use Rattle.ns_shard.specs.declared.trim.TrimFault.TheVariants.{Full};
 ghost use Rattle.ns_shard.specs.Private.Parts.{AreParts, state_of};
 
+use crate::open::open_tickets;
 use crate::packed::PackedAnswer;
 use crate::parts::Parts;
 use crate::trim::{Dropped, TrimFault};
@@ -162,5 +164,20 @@ impl Shard {
         ensures open { IfSome result (λ w. finds_open self.now (Close w) ≡ true) }
     {
         self.parts.windows.oldest()
+    }
+
+    /// The names of the open windows, in the order of their opening. `NoMemory` (`AllocError`) where a growth was refused.
+    pub fn open_windows(&self, alloc: Global) -> Result<Vec<WindowName>, AllocError>
+        ensures { IfOk result (λ v. v.items ≡ map (λ o. o.window) (open_windows (seen self.now))) }
+    {
+        self.parts.windows.names(alloc)
+    }
+
+    /// The open tickets, in the order in which they were asked for: one that was answered, and asked for again since the last trim, stands
+    /// there twice. `NoMemory` (`AllocError`) where a growth was refused.
+    pub fn open_tickets(&self, alloc: Global) -> Result<Vec<Ticket>, AllocError>
+        ensures { IfOk result (λ v. v.items ≡ open_tickets_in self.now) }
+    {
+        open_tickets(alloc, &self.parts.devices, self.parts.journal.entries())
     }
 }

@@ -30,6 +30,7 @@ fn copy_reply(addition: Addition) -> Reply
 }
 
 // A window with its first copy.
+#[inline(always)]
 fn new_window(
     frame: &DataFrame,
     heard: &Heard,
@@ -51,6 +52,7 @@ fn new_window(
 }
 
 // Puts a window with its first copy. It takes the one growth of an uplink.
+#[inline(always)]
 fn put(
     devices: &Devices,
     windows: &mut Windows,

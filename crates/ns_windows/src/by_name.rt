@@ -61,6 +61,7 @@ fn add_to_named(linked: &mut Linked, name: &WindowName, heard: &Heard) -> Option
 }
 
 // Adds a window as the last one.
+#[inline(always)]
 fn add_last(alloc: Global, linked: &mut Linked, window: Window) -> Result<(), AllocError>
     requires new { lookup ((name_eq.ghosts).eq window.name) linked.old.entries ≡ None }
     requires cap { linked.old.cap ≡ 2 ^ 64 - 1 }
@@ -79,6 +80,7 @@ fn add_last(alloc: Global, linked: &mut Linked, window: Window) -> Result<(), Al
 }
 
 // Takes the window of a name out.
+#[inline(always)]
 fn pop_named(linked: &mut Linked, name: &WindowName) -> Option<Window>
     ensures value { result ≡ lookup ((name_eq.ghosts).eq name.now) linked.old.entries }
     ensures entries { linked.new ≡ lru_cache (remove_entry ((name_eq.ghosts).eq name.now) linked.old.entries) linked.old.cap }
@@ -142,6 +144,7 @@ impl ByName {
     }
 
     /// Adds a window at the end. Where the growth is refused, nothing has changed.
+    #[inline(always)]
     pub(crate) fn push(&mut self, window: Window) -> Result<(), AllocError>
         requires name { window_named window.name self.old ≡ None }
         ensures ok { OnOk result (self.new ≡ self.old ++ window ∷ []) }
@@ -160,6 +163,7 @@ impl ByName {
     }
 
     /// Takes the window of a name out. It takes no memory.
+    #[inline(always)]
     pub(crate) fn remove(&mut self, name: &WindowName) -> Option<Window>
         ensures result { result ≡ window_named name.now self.old }
         ensures windows { self.new ≡ without name.now self.old }

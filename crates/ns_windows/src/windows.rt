@@ -89,6 +89,7 @@ impl Windows {
     }
 
     /// Adds a window at the end. Where the growth is refused, nothing has changed.
+    #[inline(always)]
     pub fn put(&mut self, window: Window) -> Result<(), AllocError>
         requires name { window_named window.name self.old ≡ None }
         requires frame { window_of_frame window.frame self.old ≡ None }
@@ -106,6 +107,7 @@ impl Windows {
     }
 
     /// Takes the window of a name out. It takes no memory.
+    #[inline(always)]
     pub fn take(&mut self, name: &WindowName) -> Option<Window>
         ensures result { result ≡ window_named name.now self.old }
         ensures windows { self.new ≡ without name.now self.old }

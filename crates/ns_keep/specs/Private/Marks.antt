@@ -8,12 +8,10 @@ use Rattle.std.specs.BTreeSet as tree
 use Rattle.ns_types.specs.declared.identity.DevEui.{DevEui}
 use Rattle.ns_types.specs.declared.identity.WindowName.{WindowName}
 use Rattle.ns_types.specs.declared.ticket.Ticket.{Ticket}
-use Rattle.ns_calls.specs.declared.call.Call.{Call}
-use Rattle.ns_calls.specs.declared.call.Reply.{Reply}
 use Rattle.ns_calls.specs.declared.call.Entry.{Entry}
-use Rattle.ns_calls.specs.Entries.{acceptance_in, opening_in, closing_in}
+use Rattle.ns_calls.specs.Entries.{Said, says, accepted, first_opened, closed}
 use Rattle.ns_calls.specs.History.{asks_for}
-use Rattle.ns_kept.specs.Kept.{repetition_in}
+use Rattle.ns_kept.specs.Kept.{repeated}
 use Rattle.ns_keep.specs.declared.marks.Marks.{Marks}
 
 -- a session by its device and its number
@@ -66,16 +64,16 @@ MarksAsked t m n = tree.Updates (slice_cmp nat_cmp) m.asked n.asked t.0 true × 
 -- ---- what the marks mean
 
 -- whether one of these entries says such a thing
-abbrev pub one_says : {Y : Type 0} → (Call → Reply → Option Y) → (Y → Bool) → List Entry → Bool
-one_says says test es = list_any test (filter_map (λ e. says e.call e.reply) es)
+abbrev pub one_says : {Y : Type 0} → (Said → Option Y) → (Y → Bool) → List Entry → Bool
+one_says part test es = list_any test (filter_map (says part) es)
 
 -- the marks are what these entries say; of tickets that is so of the open ones
 pub record AreMarks (has_ticket : Ticket → Bool) (m : Marks) (es : List Entry) : Type 0 where
-  pub accepted : (k : ℕ) → hash.contains nat_eq m.accepted k ≡ one_says acceptance_in (λ a. a.eui.0 == k) es
-  pub opened : (k : ℕ) → hash.contains nat_eq m.opened k ≡ one_says opening_in (λ o. o.window.eui.0 == k) es
-  pub opened_in : (k : ℕ × ℕ) → hash.contains same_key m.opened_in k ≡ one_says opening_in (λ o. is_of k o.window) es
-  pub repeated_in : (k : ℕ × ℕ) → hash.contains same_key m.repeated_in k ≡ one_says repetition_in (λ o. is_of k o.window) es
-  pub acknowledged : (k : ℕ × ℕ) → hash.contains same_key m.acknowledged k ≡ one_says closing_in (λ c. is_some c.ack && is_of k c.window) es
+  pub accepted : (k : ℕ) → hash.contains nat_eq m.accepted k ≡ one_says accepted (λ a. a.eui.0 == k) es
+  pub opened : (k : ℕ) → hash.contains nat_eq m.opened k ≡ one_says first_opened (λ o. o.window.eui.0 == k) es
+  pub opened_in : (k : ℕ × ℕ) → hash.contains same_key m.opened_in k ≡ one_says first_opened (λ o. is_of k o.window) es
+  pub repeated_in : (k : ℕ × ℕ) → hash.contains same_key m.repeated_in k ≡ one_says repeated (λ o. is_of k o.window) es
+  pub acknowledged : (k : ℕ × ℕ) → hash.contains same_key m.acknowledged k ≡ one_says closed (λ c. is_some c.ack && is_of k c.window) es
   pub asked : (t : Ticket) → has_ticket t ≡ true → is_asked m t ≡ list_any (asks_for t) es
 
 -- nothing is marked

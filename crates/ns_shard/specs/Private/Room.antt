@@ -5,16 +5,16 @@ use Rattle.ns_calls.specs.declared.call.Call.TheVariants as call
 use Rattle.ns_calls.specs.declared.call.Reply.{Reply}
 use Rattle.ns_calls.specs.declared.call.Reply.TheVariants as reply
 use Rattle.ns_calls.specs.declared.call.Entry.{Entry}
-use Rattle.ns_calls.specs.Entries.{window_in, closing_in, open_windows}
-use Rattle.ns_calls.specs.History.{asking_in, ending_in, open_tickets}
+use Rattle.ns_calls.specs.Entries.{said, opened, closed, open_windows}
+use Rattle.ns_calls.specs.History.{asked, ended, open_tickets}
 
 -- whether the entry of a call and its reply opens a window, or asks for a ticket
 abbrev pub opens : Call → Reply → Bool
-opens call reply = is_some (window_in call reply) || is_some (asking_in call reply)
+opens call reply = is_some (opened (said call reply)) || is_some (asked (said call reply))
 
 -- whether it closes a window, or ends a ticket
 abbrev pub ends : Call → Reply → Bool
-ends call reply = is_some (closing_in call reply) || is_some (ending_in call reply)
+ends call reply = is_some (closed (said call reply)) || is_some (ended (said call reply))
 
 -- whether a call is a closing, or a join server's answer
 abbrev pub is_ending : Call → Bool

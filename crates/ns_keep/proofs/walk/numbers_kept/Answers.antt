@@ -1,6 +1,7 @@
 use Rattle.std.proofs.Common.{◌≡◌, List, [], ◌∷◌, ◌++◌, length, reverse, sym, ap, ◌∙◌, append_assoc, arith, rules}
 use Rattle.std.proofs.lemmas.List.{append-nil}
 use Rattle.ns_calls.specs.declared.call.Entry.{Entry}
+use Rattle.ns_calls.specs.Entries.{said}
 use Rattle.ns_keep.specs.Tables.{numbers_kept}
 use Rattle.ns_keep.proofs.Marked.{unmarked, marked_more}
 use Rattle.ns_keep.proofs.Kept.{kept_here}
@@ -25,7 +26,7 @@ walk-preserved-in_ok-push g c =
       λ h are.
           ap reverse c.in_ok-push.ensures.items
           ∙ numbers-kept h e i.0 c.walk.numbers.items
-          (sym (kept_here h lives has_ticket c.args.windows.now are c.in_ok-open.open c.in_ok-open.ensures c.walk.marks i.0 i.2 e.number e.call e.reply)
+          (sym (kept_here h lives has_ticket c.args.windows.now are c.in_ok-open.open c.in_ok-open.ensures c.walk.marks i.0 i.2 (said e.call e.reply))
           ∙ (sym c.in_ok-keeps.ensures.keeps ∙ c.if-branch.true))
           (i.3 h are),
     )
@@ -40,7 +41,7 @@ walk-preserved g c =
       whole_more c.args.entries.now c.walk.rest.now c.in-Some.before.now i.0 e c.in-Some.ensures.cases.0 i.1,
       marked_more has_ticket c.walk.marks c.keeps.new.marks i.0 i.2 e.number e.call e.reply c.in_ok-keeps.ensures.marks,
       λ h are. numbers-dropped h e i.0 c.walk.numbers.items
-          (sym (kept_here h lives has_ticket c.args.windows.now are c.in_ok-open.open c.in_ok-open.ensures c.walk.marks i.0 i.2 e.number e.call e.reply)
+          (sym (kept_here h lives has_ticket c.args.windows.now are c.in_ok-open.open c.in_ok-open.ensures c.walk.marks i.0 i.2 (said e.call e.reply))
           ∙ (sym c.in_ok-keeps.ensures.keeps ∙ c.if-branch.false))
           (i.3 h are),
     )

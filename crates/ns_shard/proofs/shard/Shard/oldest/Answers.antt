@@ -1,7 +1,8 @@
 use Rattle.std.proofs.Common.{◌≡◌, true, find, IfSome, rules, sym, subst, ◌∙◌}
 use Rattle.std.specs.Arc.{arc_value}
 use Rattle.std.specs.Option.{is_some}
-use Rattle.ns_calls.specs.History.{oldest, open_window}
+use Rattle.ns_calls.specs.History.{open_window}
+use Rattle.ns_calls.specs.Headline.{oldest}
 use Rattle.ns_calls.proofs.Merges.{oldest_own}
 use Rattle.ns_types.specs.Identity.{same_window}
 use Rattle.ns_calls.specs.Entries.{Opening}

@@ -1,0 +1,129 @@
+-- Hex digits of eight bytes, side by side.
+use Rattle.std.proofs.Common.{◌≡◌, IsAscii, ◌&&◌, ltb, zero, suc, ℕ, ◌/◌, ◌%◌, ◌^◌, ◌<◌, Bool, true, eqb, List, [], ◌∷◌, ◌++◌, map, length, take, replicate, get_or, bit_and, w8, Fits, refl, sym, ap, ◌∙◌, arith, eqb-true}
+use Rattle.std.proofs.lemmas.Bool.{and_parts, ltb-true}
+use Rattle.std.specs.Simd.Lanes.{Each1, zip2, pick_l}
+use Rattle.hex.specs.Hex.{encode_with, encode_lower, lower_digits}
+use Rattle.ns_aes_cmac.specs.Lookups.{look_at, is_place, ArePlaces}
+use Rattle.ns_aes_cmac.proofs.Bytes.{all_below, all_below-at, agree_at}
+use Rattle.ns_aes_cmac.proofs.Mix.{joined}
+
+all_small : List ℕ → Bool
+all_small [] = true
+all_small (x ∷ xs) = ltb x 128 && all_small xs
+
+small_at : (t : List ℕ) → all_small t ≡ true → (i : ℕ) → get_or t i 0 < 128
+unfolding all_small
+small_at [] h i = omega arith
+small_at (x ∷ xs) h zero = ltb-true x 128 (and_parts (ltb x 128) (all_small xs) h).0
+small_at (x ∷ xs) h (suc i) = small_at xs (and_parts (ltb x 128) (all_small xs) h).1 i
+
+pub ascii_digits : IsAscii lower_digits
+unfolding all_small
+ascii_digits = small_at lower_digits refl
+
+high_digit : (b : ℕ) → b < 256 → look_at lower_digits (b / 2 ^ 4) ≡ get_or lower_digits (b / 16) 0
+high_digit = agree_at (λ b. look_at lower_digits (b / 2 ^ 4)) (λ b. get_or lower_digits (b / 16) 0) refl
+
+low_digit : (b : ℕ) → b < 256 → look_at lower_digits (bit_and b 15) ≡ get_or lower_digits (b % 16) 0
+low_digit = agree_at (λ b. look_at lower_digits (bit_and b 15)) (λ b. get_or lower_digits (b % 16) 0) refl
+
+high_place : (b : ℕ) → b < 256 → is_place (b / 2 ^ 4) ≡ true
+high_place = all_below-at (λ b. is_place (b / 2 ^ 4)) 256 refl
+
+low_place : (b : ℕ) → b < 256 → is_place (bit_and b 15) ≡ true
+low_place = all_below-at (λ b. is_place (bit_and b 15)) 256 refl
+
+-- the halves of eight bytes in turn
+abbrev pub halves : List ℕ → List ℕ
+halves v =
+    pick_l 0 (zip2 (λ a b. a / 2 ^ b) v (replicate 8 4) ++ zip2 bit_and v (replicate 8 15))
+    (0 ∷ 8 ∷ 1 ∷ 9 ∷ 2 ∷ 10 ∷ 3 ∷ 11 ∷ 4 ∷ 12 ∷ 5 ∷ 13 ∷ 6 ∷ 14 ∷ 7 ∷ 15 ∷ [])
+
+eight : (P : List ℕ → Type 0) → ((a0 a1 a2 a3 a4 a5 a6 a7 : ℕ) → P (a0 ∷ a1 ∷ a2 ∷ a3 ∷ a4 ∷ a5 ∷ a6 ∷ a7 ∷ [])) → (v : List ℕ) → length v ≡ 8 → P v
+eight P f ([]) long = absurd (omega (arith, long))
+eight P f (a0 ∷ []) long = absurd (omega (arith, long))
+eight P f (a0 ∷ a1 ∷ []) long = absurd (omega (arith, long))
+eight P f (a0 ∷ a1 ∷ a2 ∷ []) long = absurd (omega (arith, long))
+eight P f (a0 ∷ a1 ∷ a2 ∷ a3 ∷ []) long = absurd (omega (arith, long))
+eight P f (a0 ∷ a1 ∷ a2 ∷ a3 ∷ a4 ∷ []) long = absurd (omega (arith, long))
+eight P f (a0 ∷ a1 ∷ a2 ∷ a3 ∷ a4 ∷ a5 ∷ []) long = absurd (omega (arith, long))
+eight P f (a0 ∷ a1 ∷ a2 ∷ a3 ∷ a4 ∷ a5 ∷ a6 ∷ []) long = absurd (omega (arith, long))
+eight P f (a0 ∷ a1 ∷ a2 ∷ a3 ∷ a4 ∷ a5 ∷ a6 ∷ a7 ∷ []) long = f a0 a1 a2 a3 a4 a5 a6 a7
+eight P f (a0 ∷ a1 ∷ a2 ∷ a3 ∷ a4 ∷ a5 ∷ a6 ∷ a7 ∷ a8 ∷ rest) long = absurd (omega (arith, long))
+
+pub are_places : (v : List ℕ) → length v ≡ 8 → Each1 (Fits w8) v → ArePlaces (halves v)
+are_places v long fits =
+    eight (λ v. Each1 (Fits w8) v → ArePlaces (halves v)) (λ a0 a1 a2 a3 a4 a5 a6 a7 fits. (
+      high_place a0 fits.0.fits,
+      (
+        low_place a0 fits.0.fits,
+        (
+          high_place a1 fits.1.0.fits,
+          (
+            low_place a1 fits.1.0.fits,
+            (
+              high_place a2 fits.1.1.0.fits,
+              (
+                low_place a2 fits.1.1.0.fits,
+                (
+                  high_place a3 fits.1.1.1.0.fits,
+                  (
+                    low_place a3 fits.1.1.1.0.fits,
+                    (
+                      high_place a4 fits.1.1.1.1.0.fits,
+                      (
+                        low_place a4 fits.1.1.1.1.0.fits,
+                        (
+                          high_place a5 fits.1.1.1.1.1.0.fits,
+                          (
+                            low_place a5 fits.1.1.1.1.1.0.fits,
+                            (
+                              high_place a6 fits.1.1.1.1.1.1.0.fits,
+                              (
+                                low_place a6 fits.1.1.1.1.1.1.0.fits,
+                                (
+                                  high_place a7 fits.1.1.1.1.1.1.1.0.fits,
+                                  (
+                                    low_place a7 fits.1.1.1.1.1.1.1.0.fits,
+                                    (
+                                        tt),
+                                  ),
+                                ),
+                              ),
+                            ),
+                          ),
+                        ),
+                      ),
+                    ),
+                  ),
+                ),
+              ),
+            ),
+          ),
+        ),
+      ),
+    ))
+    v long fits
+
+pub text_of_halves : (v : List ℕ) → length v ≡ 8 → Each1 (Fits w8) v → map (look_at lower_digits) (halves v) ≡ encode_lower v
+unfolding encode_with
+text_of_halves v long fits =
+    eight (λ v. Each1 (Fits w8) v → map (look_at lower_digits) (halves v) ≡ encode_lower v) (λ a0 a1 a2 a3 a4 a5 a6 a7 fits.
+    joined (high_digit a0 fits.0.fits) (
+    joined (low_digit a0 fits.0.fits) (
+    joined (high_digit a1 fits.1.0.fits) (
+    joined (low_digit a1 fits.1.0.fits) (
+    joined (high_digit a2 fits.1.1.0.fits) (
+    joined (low_digit a2 fits.1.1.0.fits) (
+    joined (high_digit a3 fits.1.1.1.0.fits) (
+    joined (low_digit a3 fits.1.1.1.0.fits) (
+    joined (high_digit a4 fits.1.1.1.1.0.fits) (
+    joined (low_digit a4 fits.1.1.1.1.0.fits) (
+    joined (high_digit a5 fits.1.1.1.1.1.0.fits) (
+    joined (low_digit a5 fits.1.1.1.1.1.0.fits) (
+    joined (high_digit a6 fits.1.1.1.1.1.1.0.fits) (
+    joined (low_digit a6 fits.1.1.1.1.1.1.0.fits) (
+    joined (high_digit a7 fits.1.1.1.1.1.1.1.0.fits) (
+    joined (low_digit a7 fits.1.1.1.1.1.1.1.0.fits) (
+    refl)))))))))))))))))
+    v long fits
