@@ -2,6 +2,7 @@
 
 ghost use Rattle.std.specs.Prelude.{◌≡◌, ◌<◌, ◌≤◌, vec_len};
 ghost use Rattle.std.specs.Arc.{arc_value};
+ghost use Rattle.ns_shard.specs.State.{no_entries};
 ghost use Rattle.ns_tally.specs.Tally.{AreNamed};
 
 use anyhow::anyhow;
@@ -142,6 +143,7 @@ fn serve<B: Naming + Send + Sync, R: Threads + Wait + Clock + Sync>(
     requires names { AreNamed B.ledger blanks.names }
     requires parts { (blanks.parts ≡ vec_len parts) × (B.workers ≡ vec_len parts) }
     requires roster { arc_value roster ≡ B.roster }
+    requires begun { B.begun ≡ no_entries B.roster }
 {
     let (server, passes) = Server::<B>::new(alloc, roster, parts.len(), blanks)?;
     let (passes, took) = all_call(rt, alloc, &server, passes, parts)?;

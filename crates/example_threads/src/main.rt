@@ -7,6 +7,7 @@
 
 ghost use Rattle.std.specs.Prelude.{◌≡◌, IfOk};
 ghost use Rattle.std.specs.Arc.{arc_value};
+ghost use Rattle.ns_shard.specs.State.{no_entries};
 ghost use Rattle.ns_tally.specs.Tally.{AreNamed};
 ghost use Rattle.ns_server.specs.Settled.{AreStates, MergesToLegal};
 
@@ -39,6 +40,7 @@ pub fn served<B: Naming + Send + Sync, R: Threads + Wait + Print + Sync>(
     requires names { AreNamed B.ledger blanks.names }
     requires parts { (blanks.parts ≡ 2) × (B.workers ≡ 2) }
     requires roster { arc_value roster ≡ B.roster }
+    requires begun { B.begun ≡ no_entries B.roster }
     ensures states { IfOk result (λ r. AreStates B.roster r.0) }
     ensures merges { IfOk result (λ r. MergesToLegal B.roster r.0) }
 {
@@ -123,6 +125,7 @@ fn run<B: Naming + Send + Sync, R: Threads + Wait + Print + Sync>(
     requires names { AreNamed B.ledger blanks.names }
     requires parts { (blanks.parts ≡ 2) × (B.workers ≡ 2) }
     requires roster { arc_value roster ≡ B.roster }
+    requires begun { B.begun ≡ no_entries B.roster }
 {
     let (settled, receipts) = served::<B, R>(rt, alloc, roster, blanks)?;
     report(rt, settled, receipts.as_slice())

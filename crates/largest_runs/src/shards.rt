@@ -2,6 +2,7 @@
 
 ghost use Rattle.std.specs.Prelude.{◌≡◌};
 ghost use Rattle.std.specs.Arc.{arc_value};
+ghost use Rattle.ns_shard.specs.State.{no_entries};
 ghost use Rattle.ns_tally.specs.Tally.{AreNamed};
 
 use crate::rosters::{Devices, text};
@@ -208,6 +209,7 @@ fn serve<B: Naming, R: Wait + Print>(
     requires names { AreNamed B.ledger blanks.names }
     requires parts { (blanks.parts ≡ 1) × (B.workers ≡ 1) }
     requires roster { arc_value roster ≡ B.roster }
+    requires begun { B.begun ≡ no_entries B.roster }
 {
     let (server, mut passes) = Server::<B>::new(alloc, roster, 1, blanks)?;
     if let Some(pass) = passes.last_mut() {

@@ -7,8 +7,9 @@ use Rattle.ns_types.specs.declared.identity.WindowName.{WindowName}
 use Rattle.ns_types.specs.Identity.{same_window}
 use Rattle.ns_calls.specs.declared.call.Entry.{Entry}
 use Rattle.ns_calls.specs.Queries.{first}
-use Rattle.ns_calls.specs.Entries.{Opening, window_in, open_windows}
-use Rattle.ns_calls.specs.History.{oldest}
+use Rattle.ns_calls.specs.Entries.{Opening, open_windows}
+use Rattle.ns_calls.proofs.Says.{window_in}
+use Rattle.ns_calls.specs.Headline.{oldest}
 use Rattle.ns_calls.specs.Legal.{IsLegal}
 use Rattle.ns_roster.specs.Network.{Network}
 use Rattle.ns_kept.specs.Kept.{Remains, reading}

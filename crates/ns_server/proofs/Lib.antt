@@ -1,4 +1,5 @@
 pub mod Answered
+pub mod Begun
 pub mod Shards
 pub mod Closing
 pub mod Draining

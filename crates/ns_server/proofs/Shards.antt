@@ -9,44 +9,27 @@ use Rattle.ns_calls.specs.declared.call.Entry.{Entry}
 use Rattle.ns_calls.specs.Legal.{IsHistory}
 use Rattle.ns_kept.specs.Kept.{Remains, whole, reading, is_kept, filter_before, keep}
 use Rattle.ns_kept.specs.Left.{Leaves, left_of}
-use Rattle.ns_kept.proofs.Law.{whole-leaves}
-use Rattle.ns_shard.specs.State.{State, IsState, no_entries, remains, seen, known_greatest, greatest_in}
-use Rattle.ns_tally.specs.declared.ShardBook.{ShardBook}
-use Rattle.ns_tally.specs.Tally.{added, shard_of_book, total_of_book}
-use Rattle.ns_server.specs.Kept.{IsStateOf, IsKept}
+use Rattle.ns_shard.specs.State.{State, IsState, remains, seen, known_greatest, greatest_in}
+use Rattle.ns_tally.specs.Tally.{added}
+use Rattle.ns_server.specs.Kept.{IsStateOf}
 use Rattle.ns_server.specs.Settled.{histories, AreStates, greatest_of}
-use Rattle.ns_server.specs.Rows.{AreRow, AreCounted}
+use Rattle.ns_server.specs.Rows.{AreRow}
 
-row_from : (net : Network) (i : ℕ) (ss : List State) → AreRow net i ss → (k : ℕ) (s : State) → slice_get ss k ≡ Some s → IsStateOf net (i + k) s
-row_from net i [] are k s at = absurd cc
-row_from net i (x ∷ ss) are zero s at =
+row_from : (P : ℕ → State → Type 0) (i : ℕ) (ss : List State) → AreRow P i ss → (k : ℕ) (s : State) → slice_get ss k ≡ Some s → P (i + k) s
+row_from P i [] are k s at = absurd cc
+row_from P i (x ∷ ss) are zero s at =
     let same : x ≡ s = cc in
     let here : i ≡ i + zero = omega arith in
-    subst (λ n. IsStateOf net n s) here (subst (IsStateOf net i) same are.0)
-row_from net i (x ∷ ss) are (suc k) s at =
+    subst (λ n. P n s) here (subst (P i) same are.0)
+row_from P i (x ∷ ss) are (suc k) s at =
     let here : suc i + k ≡ i + suc k = omega arith in
-    subst (λ n. IsStateOf net n s) here (row_from net (suc i) ss are.1 k s at)
+    subst (λ n. P n s) here (row_from P (suc i) ss are.1 k s at)
 
--- shards one after the other, from shard 0 on, are each in its place
-pub row_states : (net : Network) (ss : List State) → AreRow net 0 ss → AreStates net ss
-row_states net ss are k s at =
+-- what each of the shards one after the other has, from shard 0 on, the one of each place has
+pub row_at : (P : ℕ → State → Type 0) (ss : List State) → AreRow P 0 ss → (k : ℕ) (s : State) → slice_get ss k ≡ Some s → P k s
+row_at P ss are k s at =
     let here : 0 + k ≡ k = omega arith in
-    subst (λ n. IsStateOf net n s) here (row_from net 0 ss are k s at)
-
-counted_from : (counts : ℕ → ℕ) (i : ℕ) (ss : List State) → AreCounted counts i ss → (k : ℕ) (s : State) → slice_get ss k ≡ Some s → s.made ≡ counts (i + k)
-counted_from counts i [] are k s at = absurd cc
-counted_from counts i (x ∷ ss) are zero s at =
-    let same : x ≡ s = cc in
-    let here : i ≡ i + zero = omega arith in
-    ap (λ (w : State). w.made) (sym same) ∙ are.0 ∙ ap counts here
-counted_from counts i (x ∷ ss) are (suc k) s at =
-    let here : suc i + k ≡ i + suc k = omega arith in
-    counted_from counts (suc i) ss are.1 k s at ∙ ap counts here
-
-pub row_counts : (counts : ℕ → ℕ) (ss : List State) → AreCounted counts 0 ss → (k : ℕ) (s : State) → slice_get ss k ≡ Some s → s.made ≡ counts k
-row_counts counts ss are k s at =
-    let here : 0 + k ≡ k = omega arith in
-    counted_from counts 0 ss are k s at ∙ ap counts here
+    subst (λ n. P n s) here (row_from P 0 ss are k s at)
 
 pub slice_index-added : (xs ys : List ℕ) (k : ℕ) → slice_index (added xs ys) k ≡ slice_index xs k + slice_index ys k
 slice_index-added [] ys k = omega arith
@@ -102,15 +85,3 @@ pub dropped_at : (states ss : List State) (shard place : ℕ) (s : State) (n : �
 dropped_at states ss shard place s n seen_so here at sum =
     let there : slice_get states shard ≡ Some s = subst (λ l. slice_get l shard ≡ Some s) seen_so (subst (λ k. slice_get ss k ≡ Some s) here at) in
     ap (option_map (λ (q : State). q.made)) there ∙ (ap Some (sym sum) ∙ sym (ap (option_map (λ (q : State). length q.entries + n)) there))
-
-no_history : (net : Network) (k : ℕ) → IsHistory net k []
-no_history net k = record { legal = λ n e at. absurd (cc at); own = λ n e at. absurd (cc at); numbered = λ n e at. absurd (cc at) }
-
--- a new shard, with a book of it that has counted nothing, may be put under its lock
-pub kept_new : {B : Type 0} (net : Network) (k : ℕ) (s : State) (book : ShardBook B) → s ≡ no_entries net k → shard_of_book book ≡ k → total_of_book book ≡ 0 → IsKept net k s book
-kept_new net k s book is own none =
-    subst (λ (q : State). IsKept net k q book) (sym is) (record {
-      state = record { set_up = refl; index = refl; state = record { history = []; is_history = no_history net k; keeps = record { made = refl; left = whole-leaves net [] (no_history net k).legal (no_history net k).numbered } } };
-      book_of = own;
-      counted = none;
-    })

@@ -7,7 +7,7 @@ use Rattle.ns_calls.specs.declared.call.Entry.{Entry}
 use Rattle.ns_calls.specs.Legal.{IsLegal}
 use Rattle.ns_calls.specs.Laws.{WindowsOpenOnce}
 use Rattle.ns_calls.specs.Headline.{LimitsHold}
-use Rattle.ns_calls.specs.Out.{Sent, out}
+use Rattle.ns_calls.specs.Merges.{Sent, out}
 use Rattle.ns_kept.specs.Left.{Leaves, first_entries}
 use Rattle.ns_sent.specs.Found.{CopiesFit}
 use Rattle.ns_shard.specs.State.{State, Keeps, IsState, remains}

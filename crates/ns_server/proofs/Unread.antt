@@ -20,16 +20,18 @@ use Rattle.ns_calls.specs.declared.call.Reply.{Reply}
 use Rattle.ns_calls.specs.declared.call.Reply.TheVariants as reply
 use Rattle.ns_calls.specs.declared.call.Entry.{Entry}
 use Rattle.ns_calls.specs.declared.answer.Answer.{Answer}
-use Rattle.ns_calls.specs.Entries.{Acceptance, Opening, window_in, closes, open_windows, most_copies}
+use Rattle.ns_calls.specs.Entries.{Acceptance, Opening, closes, open_windows, most_copies}
+use Rattle.ns_calls.proofs.Says.{window_in}
 use Rattle.ns_calls.specs.History.{open_window, session_join, next_session, window_copies, ticket_copies, is_ticket_open}
-use Rattle.ns_calls.specs.Reply.{reply_to, ack_number, nonce_at_or_above, address}
-use Rattle.ns_calls.specs.Out.{first_uplink_of, uplink_out, ack_downlink, accept_at, downlink_out, out}
+use Rattle.ns_calls.specs.Reply.{reply_to, ack_number, address}
+use Rattle.ns_calls.specs.Out.{first_uplink_of, uplink_out, ack_downlink, accept_at, downlink_out}
+use Rattle.ns_calls.specs.Merges.{out}
 use Rattle.ns_types.specs.Heard.{best}
 use Rattle.ns_calls.proofs.PartLemmas.{uplink_of-same, ack_downlink-same}
 use Rattle.ns_calls.proofs.Induction.{legal-front}
 use Rattle.ns_calls.specs.Legal.{IsLegal}
 use Rattle.ns_calls.specs.Laws.{opening_count, open_count, WindowsOpenOnce}
-use Rattle.ns_calls.specs.Headline.{LimitsHold}
+use Rattle.ns_calls.specs.Headline.{LimitsHold, nonce_at_or_above}
 use Rattle.ns_calls.proofs.LocalLemmas.{bool_tells}
 use Rattle.ns_calls.proofs.Lists.{count-append, count-cons, count-found}
 use Rattle.ns_kept.specs.Kept.{Remains, whole, reading, is_kept, filter_before, keep, with_closings, closing_of, closing_entry, counts}

@@ -4,7 +4,7 @@ use Rattle.ns_types.specs.declared.identity.WindowName.{WindowName}
 use Rattle.ns_types.specs.Identity.{shard_of}
 use Rattle.ns_calls.specs.declared.call.Call.TheVariants.{Close}
 use Rattle.ns_calls.specs.declared.call.Entry.{Entry}
-use Rattle.ns_calls.specs.Entries.{Opening, window_in}
+use Rattle.ns_calls.specs.Entries.{Opening, says, opened}
 use Rattle.ns_calls.specs.Laws.{closing_count}
 use Rattle.ns_shard.specs.State.{State, remains, after_call, oldest_in, finds_open}
 use Rattle.ns_kept.specs.Left.{Leaves}
@@ -29,7 +29,7 @@ pub record Drains (old : List State) (r : Receipt) (new : List State) : Type 0 w
 abbrev pub EachIsClosed : List State → Type 0
 EachIsClosed states =
     (k : ℕ) (s : State) → slice_get states k ≡ Some s → (h : List Entry) → Leaves s.roster h (remains s)
-    → (n : ℕ) (e : Entry) (o : Opening) → slice_get h n ≡ Some e → window_in e.call e.reply ≡ Some o
+    → (n : ℕ) (e : Entry) (o : Opening) → slice_get h n ≡ Some e → says opened e ≡ Some o
     → closing_count h o.window ≡ 1
 
 -- the shard at this place has the window as the one that was opened first, and those before it have no open window

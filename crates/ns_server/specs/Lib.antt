@@ -1,3 +1,4 @@
+pub mod Begun
 pub mod Receipts
 pub mod Kept
 pub mod Trims

@@ -1,14 +1,14 @@
 -- Receipts, what they tell, and how a step changes the counts of a pass.
-use Rattle.std.specs.Prelude.{ℕ, ◌≡◌, ◌+◌, ◌==◌, if◌then◌else◌, List, length, slice_index}
+use Rattle.std.specs.Prelude.{ℕ, ◌≡◌, ◌+◌, ◌==◌, if◌then◌else◌, List, ◌++◌, length, slice_index}
 use Rattle.ns_roster.specs.Network.{Network}
 use Rattle.ns_calls.specs.declared.call.Call.{Call}
 use Rattle.ns_calls.specs.declared.call.Entry.{Entry}
 use Rattle.ns_calls.specs.declared.answer.Answer.{Answer}
 use Rattle.ns_calls.specs.Shards.{shard_of_call}
 use Rattle.ns_calls.specs.Reply.{reply_to}
-use Rattle.ns_calls.specs.Out.{out}
+use Rattle.ns_calls.specs.Merges.{out}
 use Rattle.ns_calls.specs.Legal.{IsHistory}
-use Rattle.ns_shard.specs.State.{State, answer_in}
+use Rattle.ns_shard.specs.State.{State, Keeps, answer_in}
 use Rattle.ns_server.specs.declared.kept.Receipt.{Receipt}
 
 -- the receipt of a call that made the entry of this number, with this answer
@@ -33,6 +33,13 @@ pub record HasHistory (net : Network) (shard : ℕ) (r : Receipt) : Type 0 where
   pub number : length before ≡ r.entry.number
   pub reply : r.entry.reply ≡ reply_to net before r.entry.call
   pub sent : Sends net before r
+
+-- Each history of which the first state had what it keeps goes on to one after which the reply is the plain server's to the receipt's
+-- call, and what goes out is what the receipt tells.
+abbrev pub AnswersFrom : Network → State → ℕ → Receipt → Type 0
+AnswersFrom net first shard r =
+    (h : List Entry) → IsHistory first.roster first.index h → Keeps h first
+    → (more : List Entry) × (has : HasHistory net shard r) × (has.before ≡ h ++ more)
 
 -- the count of this shard has risen by one, and the others have stayed
 pub record RisesAt (shard : ℕ) (old new : List ℕ) : Type 0 where

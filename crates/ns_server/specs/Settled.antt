@@ -1,5 +1,5 @@
 -- The shards of a server that has ended, as the list of their states.
-use Rattle.std.specs.Prelude.{ℕ, ◌≡◌, List, map, Some, Option, option_and_then, slice_get, slice_index, sum_by}
+use Rattle.std.specs.Prelude.{ℕ, ◌≡◌, ◌+◌, List, map, Some, Option, option_and_then, slice_get, slice_index, sum_by}
 use Rattle.ns_types.specs.Identity.{shard_of}
 use Rattle.ns_types.specs.declared.identity.DevEui.{DevEui}
 use Rattle.ns_roster.specs.Network.{Network}
@@ -26,9 +26,10 @@ greatest_of net states eui = option_and_then (λ s. known_greatest net (seen s) 
 abbrev pub AreStates : Network → List State → Type 0
 AreStates net states = (k : ℕ) (s : State) → slice_get states k ≡ Some s → IsStateOf net k s
 
--- each shard has made as many entries as all passes together, whose counts these are
-abbrev pub AreMadeBy : List (List ℕ) → List State → Type 0
-AreMadeBy passes states = (k : ℕ) (s : State) → slice_get states k ≡ Some s → s.made ≡ sum_by (λ p. slice_index p k) passes
+-- each shard has made as many entries as it began with, and all passes together, whose counts these are
+abbrev pub AreMadeBy : (ℕ → State) → List (List ℕ) → List State → Type 0
+AreMadeBy begun passes states =
+    (k : ℕ) (s : State) → slice_get states k ≡ Some s → s.made ≡ (begun k).made + sum_by (λ p. slice_index p k) passes
 
 -- every merge of sixteen histories that leave what is left of the shards is a legal history of the one plain server, and what goes out is
 -- the same at each entry

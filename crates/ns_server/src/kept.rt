@@ -6,7 +6,7 @@ ghost use Rattle.ns_calls.specs.Shards.{shard_of_call};
 ghost use Rattle.ns_kept.specs.Bound.{most_kept};
 ghost use Rattle.ns_shard.specs.State.{after_call, after_trim, dropped, finds_open};
 ghost use Rattle.ns_shard.specs.declared.trim.TrimFault.TheVariants.{Full};
-ghost use Rattle.ns_server.specs.Receipts.{receipt_of, receipt_for, HasHistory, RisesAt};
+ghost use Rattle.ns_server.specs.Receipts.{receipt_of, receipt_for, HasHistory, AnswersFrom, RisesAt};
 ghost use Rattle.ns_server.specs.Kept.{IsStateOf};
 ghost use Rattle.ns_server.specs.Trims.{IsTrimOf};
 
@@ -44,7 +44,8 @@ pub(crate) fn receipt_of(shard: u8, number: u64, call: &Call, answer: Answer) ->
     }
 }
 
-/// What lies under the lock of shard `K`: the shard, and the book that counts its entries. Contracts see the shard's state.
+/// What lies under the lock of shard `K`: the shard, and the book that counts its entries since the server began. Contracts see the
+/// shard's state.
 #[derive(Drop)]
 pub struct Kept<B: Naming, const K: usize> {
     pub(crate) shard: Shard,
@@ -59,7 +60,7 @@ impl<B: Naming, const K: usize> Model for Kept<B, K> {
 
     ghost view = { λ k. k.shard };
 
-    ghost invariant = { λ k. IsKept B.roster K k.shard k.book };
+    ghost invariant = { λ k. IsKept B.roster (B.begun K) K k.shard k.book };
 }
 
 impl<B: Naming, const K: usize> Kept<B, K> {
@@ -83,6 +84,7 @@ impl<B: Naming, const K: usize> Kept<B, K> {
         ensures state { IsStateOf B.roster K self.new }
         ensures behind { OnOk result (slice_index pass.old K ≤ self.old.made) }
         ensures answered { IfOk result (λ r. HasHistory B.roster K r) }
+        ensures begun { IfOk result (AnswersFrom B.roster (B.begun K) K) }
     {
         let answer = self.shard.apply(call)?;
         let made = self.shard.made();

@@ -23,5 +23,5 @@ pub use kept::{Kept, Receipt};
 pub use laws::{receipts_are_all, receipts_since_the_mark_are_all};
 pub use names::Naming;
 pub use pass::Pass;
-pub use server::Server;
+pub use server::{Server, new_shards};
 pub use settled::{SettleFault, Settled};

@@ -4,11 +4,13 @@ ghost use Rattle.std.specs.Prelude.{◌≡◌, ◌≤◌, ◌<◌, ◌+◌, [], 
 ghost use Rattle.std.specs.Arc.{arc_value};
 ghost use Rattle.ns_types.specs.Identity.{shard_count};
 ghost use Rattle.ns_calls.specs.Shards.{shard_of_call};
+ghost use Rattle.ns_shard.specs.State.{no_entries};
 ghost use Rattle.ns_tally.specs.Tally.{none_made, shard_of_book, total_of_book, AreNamed};
-ghost use Rattle.ns_server.specs.Receipts.{HasHistory, RisesAt};
-ghost use Rattle.ns_server.specs.Kept.{IsStateOf};
+ghost use Rattle.ns_server.specs.Receipts.{HasHistory, AnswersFrom, RisesAt};
 ghost use Rattle.ns_server.specs.Trims.{IsTrimOf};
-ghost use Rattle.ns_server.specs.Rows.{new_states, AreRow, AreCounted};
+ghost use Rattle.ns_server.specs.Begun.{BeganAs, ArePlaced, states_at};
+ghost use Rattle.ns_server.specs.Kept.{IsStateOf};
+ghost use Rattle.ns_server.specs.Rows.{new_states, AreRow, AreFirst};
 
 use crate::gate::Gate;
 use crate::kept::{Kept, Receipt};
@@ -81,7 +83,7 @@ impl<B: Naming> Drop for Server<B> {
     }
 }
 
-// Takes the lock, visits the gate and makes one step.
+// Takes the lock and makes one step, with the gate's visits.
 fn run<B: Naming, const K: usize, R: Wait, G: Gate<R>>(
     rt: &R,
     lock: &Mutex<Kept<B, K>>,
@@ -93,12 +95,19 @@ fn run<B: Naming, const K: usize, R: Wait, G: Gate<R>>(
     ensures call { IfOk result (λ r. (r.shard ≡ K) × (r.entry.call ≡ call.now)) }
     ensures number { IfOk result (λ r. slice_index pass.old K ≤ r.entry.number) }
     ensures answered { IfOk result (λ r. HasHistory B.roster K r) }
+    ensures begun { IfOk result (AnswersFrom B.roster (B.begun K) K) }
     ensures counted { OnOk result (RisesAt K pass.old pass.new) }
     ensures err { OnErr result (pass.new ≡ pass.old) }
 {
+    let shard = shard_of_call(call);
+    gate.before(rt, shard);
     let mut kept = lock.lock(rt);
-    gate.visit(rt, shard_of_call(call), kept.made());
-    kept.step(pass, *call)
+    gate.visit(rt, shard, kept.made());
+    let answered = kept.step(pass, *call);
+    if let Ok(receipt) = &answered {
+        gate.made(rt, receipt);
+    }
+    answered
 }
 
 // Takes the lock and trims.
@@ -113,8 +122,8 @@ fn trim_kept<B: Naming, const K: usize, R: Wait>(
     kept.trim(alloc)
 }
 
-// The sixteen shards, with no entries.
-fn new_shards(alloc: Global, roster: &Arc<Roster>) -> Result<Vec<Shard>, AllocError>
+/// The sixteen shards, with no entries.
+pub fn new_shards(alloc: Global, roster: &Arc<Roster>) -> Result<Vec<Shard>, AllocError>
     ensures { IfOk result (λ v. v.items ≡ new_states (arc_value roster.now) shard_count) }
 {
     let mut shards = Vec::new(alloc);
@@ -124,16 +133,17 @@ fn new_shards(alloc: Global, roster: &Arc<Roster>) -> Result<Vec<Shard>, AllocEr
     Ok(shards)
 }
 
-// A lock round the last of the new shards.
+// A lock round the last of the shards.
 fn new_lock<B: Naming, const K: usize>(
     shards: &mut Vec<Shard>,
     book: ShardBook<B>,
 ) -> Mutex<Kept<B, K>>
-    requires shards { shards.old.items ≡ new_states B.roster (suc K) }
+    requires shards { AreFirst B.roster B.begun (suc K) shards.old.items }
     requires book { (shard_of_book book ≡ K) × (total_of_book book ≡ 0) }
-    ensures { shards.new.items ≡ new_states B.roster K }
+    ensures { AreFirst B.roster B.begun K shards.new.items }
 {
     let shard = shards.pop().unwrap();
+    let _made = shard.made();
     Mutex::new(Kept { shard, book })
 }
 
@@ -167,10 +177,52 @@ impl<B: Naming> Server<B> {
         requires names { AreNamed B.ledger blanks.names }
         requires parts { (blanks.parts ≡ workers) × (B.workers ≡ workers) }
         requires roster { arc_value roster ≡ B.roster }
+        requires begun { B.begun ≡ no_entries B.roster }
         ensures server { IfOk result (λ r. r.0 ≡ workers) }
         ensures passes { IfOk result (λ r. (vec_len r.1 ≡ workers) × All (λ p. p ≡ none_made) r.1.items) }
     {
-        let mut shards = new_shards(alloc, &roster)?;
+        let none = new_shards(alloc, &roster)?;
+        Server::<B>::over(alloc, roster, workers, blanks, none)
+    }
+
+    /// A server that begins with these sixteen shards and their entries, as those that the run of a record leaves, and a pass for each of
+    /// its workers. `NoMemory` (`AllocError`) where a growth was refused.
+    pub fn resume(
+        alloc: Global,
+        roster: Arc<Roster>,
+        workers: usize,
+        blanks: Blanks,
+        shards: Vec<Shard>,
+    ) -> Result<(Server<B>, Vec<Pass<B>>), AllocError>
+        requires workers { (0 < workers) × (workers ≤ 64) }
+        requires names { AreNamed B.ledger blanks.names }
+        requires parts { (blanks.parts ≡ workers) × (B.workers ≡ workers) }
+        requires roster { arc_value roster ≡ B.roster }
+        requires sixteen { vec_len shards ≡ shard_count }
+        requires places { ArePlaced B.roster shards.items }
+        requires begun { B.begun ≡ states_at B.roster shards.items }
+        ensures server { IfOk result (λ r. r.0 ≡ workers) }
+        ensures passes { IfOk result (λ r. (vec_len r.1 ≡ workers) × All (λ p. p ≡ none_made) r.1.items) }
+    {
+        Server::<B>::over(alloc, roster, workers, blanks, shards)
+    }
+
+    // A server over the sixteen shards with which it begins.
+    fn over(
+        alloc: Global,
+        roster: Arc<Roster>,
+        workers: usize,
+        blanks: Blanks,
+        mut shards: Vec<Shard>,
+    ) -> Result<(Server<B>, Vec<Pass<B>>), AllocError>
+        requires workers { (0 < workers) × (workers ≤ 64) }
+        requires names { AreNamed B.ledger blanks.names }
+        requires parts { (blanks.parts ≡ workers) × (B.workers ≡ workers) }
+        requires roster { arc_value roster ≡ B.roster }
+        requires shards { AreFirst B.roster B.begun shard_count shards.items }
+        ensures server { IfOk result (λ r. r.0 ≡ workers) }
+        ensures passes { IfOk result (λ r. (vec_len r.1 ≡ workers) × All (λ p. p ≡ none_made) r.1.items) }
+    {
         let mut passes = Vec::with_capacity(alloc, workers)?;
         let (books, shares) = blanks.open::<B>();
         let Books {
@@ -215,7 +267,7 @@ impl<B: Naming> Server<B> {
         Ok((server, passes))
     }
 
-    /// Makes a call with a worker's pass, under the lock of the call's shard alone, and visits the gate once before. `NoMemory`
+    /// Makes a call with a worker's pass, under the lock of the call's shard alone, with the visits of the gate. `NoMemory`
     /// (`AllocError`) where a growth was refused: then no entry was made. A closing or a join answer that finds its window or ticket open
     /// takes no memory. Each reply is the plain server's after the entries of its shard before it, and what goes out is what the receipt
     /// tells.
@@ -229,6 +281,7 @@ impl<B: Naming> Server<B> {
         ensures call { IfOk result (λ r. (r.shard ≡ shard_of_call call) × (r.entry.call ≡ call)) }
         ensures number { IfOk result (λ r. slice_index pass.old (shard_of_call call) ≤ r.entry.number) }
         ensures answered { IfOk result (λ r. HasHistory B.roster (shard_of_call call) r) }
+        ensures begun { IfOk result (AnswersFrom B.roster (B.begun (shard_of_call call)) (shard_of_call call)) }
         ensures counted { OnOk result (RisesAt (shard_of_call call) pass.old pass.new) }
         ensures err { OnErr result (pass.new ≡ pass.old) }
     {
@@ -284,8 +337,9 @@ impl<B: Naming> Server<B> {
     pub(crate) fn open_all(self, mut all: Shares<B>) -> (Arc<Roster>, [Shard; PLACES])
         requires { all.parts ≡ B.workers }
         ensures roster { arc_value result.0 ≡ B.roster }
-        ensures shards { AreRow B.roster 0 result.1 }
-        ensures lengths { AreCounted (λ k. slice_index all.amounts k) 0 result.1 }
+        ensures states { AreRow (λ k s. IsStateOf B.roster k s) 0 result.1 }
+        ensures made { AreRow (λ k s. s.made ≡ (B.begun k).made + slice_index all.amounts k) 0 result.1 }
+        ensures begun { AreRow (λ k s. BeganAs (B.begun k) s) 0 result.1 }
         ensures sixteen { length result.1 ≡ shard_count }
     {
         let Server {
@@ -334,7 +388,8 @@ impl<B: Naming> Server<B> {
 fn open_one<B: Naming, const K: usize>(lock: Mutex<Kept<B, K>>, all: &mut Shares<B>) -> Shard
     requires { all.old.parts ≡ B.workers }
     ensures state { IsStateOf B.roster K result }
-    ensures counted { result.made ≡ slice_index all.old.amounts K }
+    ensures made { result.made ≡ (B.begun K).made + slice_index all.old.amounts K }
+    ensures begun { BeganAs (B.begun K) result }
     ensures same { all.new ≡ all.old }
 {
     let Kept { shard, mut book } = lock.into_inner();

@@ -6,6 +6,7 @@ ghost use Rattle.ns_calls.specs.declared.call.Call.TheVariants.{Close};
 ghost use Rattle.ns_shard.specs.State.{after_call, finds_open, IsState};
 ghost use Rattle.ns_server.specs.Receipts.{receipt_for};
 ghost use Rattle.ns_server.specs.Kept.{IsStateOf};
+ghost use Rattle.ns_server.specs.Begun.{AreBegun};
 ghost use Rattle.ns_server.specs.Settled.{histories, AreStates, AreMadeBy, MergesToLegal, greatest_of};
 ghost use Rattle.ns_server.specs.Drain.{Drains, NoneOpen, EachIsClosed, OpensFirst};
 
@@ -72,7 +73,8 @@ impl<B: Naming> Server<B> {
         ensures back { IfErr result (λ e. (e.server ≡ self) × (e.passes ≡ passes)) }
         ensures sixteen { IfOk result (λ s. length s ≡ shard_count) }
         ensures states { IfOk result (λ s. AreStates B.roster s) }
-        ensures made { IfOk result (λ s. AreMadeBy passes.items s) }
+        ensures made { IfOk result (λ s. AreMadeBy B.begun passes.items s) }
+        ensures begun { IfOk result (λ s. AreBegun B.begun s) }
         ensures merges { IfOk result (λ s. MergesToLegal B.roster s) }
     {
         if passes.len() != self.workers {

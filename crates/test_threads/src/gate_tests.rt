@@ -2,12 +2,13 @@
 
 ghost use Rattle.std.specs.Prelude.{◌≡◌};
 ghost use Rattle.std.specs.Arc.{arc_value};
+ghost use Rattle.ns_shard.specs.State.{no_entries};
 ghost use Rattle.ns_tally.specs.Tally.{AreNamed};
 
 use crate::served::shared_roster;
 use crate::traffic;
 use ns_roster::Roster;
-use ns_server::{Gate, Naming, Open, Pass, Server};
+use ns_server::{Gate, Naming, Open, Pass, Receipt, Server};
 use ns_tally::Blanks;
 use std::alloc::Global;
 use std::marker::Brand;
@@ -55,27 +56,50 @@ impl<R: Clock> Gate<R> for Until {
     }
 }
 
-// The first visit lasts for 100 turns, and sees whether another comes meanwhile. Keeps the numbers of both.
+// The first visit lasts for 100 turns, and the first entry is told for as long: another call may come to the gate meanwhile, and may not
+// visit it. Keeps the numbers of both.
 #[derive(Drop)]
 struct Turns {
+    waiting: AtomicU64,
     visits: AtomicU64,
     early: AtomicU64,
     first: AtomicU64,
     second: AtomicU64,
 }
 
+impl Turns {
+    // Waits for 100 turns, and sees whether a second visit came.
+    fn wait<R: Clock>(&self, rt: &R) {
+        for _ in 0..100u32 {
+            let _ = thread::sleep(rt, Duration::from_millis(1));
+        }
+        if self.visits.load(Ordering::SeqCst) > 1 {
+            self.early.store(1, Ordering::SeqCst);
+        }
+    }
+}
+
 impl<R: Clock> Gate<R> for Turns {
+    fn before(&self, _rt: &R, _shard: u8) {
+        let _ = self.waiting.fetch_add(1, Ordering::SeqCst);
+    }
+
     fn visit(&self, rt: &R, _shard: u8, number: u64) {
         if self.visits.fetch_add(1, Ordering::SeqCst) > 0 {
             self.second.store(number, Ordering::SeqCst);
             return;
         }
         self.first.store(number, Ordering::SeqCst);
-        for _ in 0..100u32 {
-            let _ = thread::sleep(rt, Duration::from_millis(1));
+        self.wait(rt);
+    }
+
+    fn made(&self, rt: &R, receipt: &Receipt) {
+        if receipt.entry.number != self.first.load(Ordering::SeqCst) {
+            return;
         }
-        if self.visits.load(Ordering::SeqCst) > 1 {
-            self.early.store(1, Ordering::SeqCst);
+        self.wait(rt);
+        if self.waiting.load(Ordering::SeqCst) != 2 {
+            self.early.store(2, Ordering::SeqCst);
         }
     }
 }
@@ -115,6 +139,7 @@ fn both_answered<B: Naming + Send + Sync, R: Threads + Wait + Abort + Clock + Sy
     requires names { AreNamed B.ledger blanks.names }
     requires parts { (blanks.parts ≡ 2) × (B.workers ≡ 2) }
     requires roster { arc_value roster ≡ B.roster }
+    requires begun { B.begun ≡ no_entries B.roster }
 {
     let (server, mut passes) = Server::<B>::new(alloc, roster, 2, blanks)?;
     let one = passes.pop().unwrap();
@@ -183,12 +208,14 @@ fn one_after_the_other<B: Naming + Send + Sync, R: Threads + Wait + Abort + Cloc
     requires names { AreNamed B.ledger blanks.names }
     requires parts { (blanks.parts ≡ 2) × (B.workers ≡ 2) }
     requires roster { arc_value roster ≡ B.roster }
+    requires begun { B.begun ≡ no_entries B.roster }
 {
     let (server, mut passes) = Server::<B>::new(alloc, roster, 2, blanks)?;
     let mut one = passes.pop().unwrap();
     let two = passes.pop().unwrap();
     assert_eq!(rt; one_call(rt, &server, &mut one, 0, &Open), 0);
     let gate = Turns {
+        waiting: AtomicU64::new(0),
         visits: AtomicU64::new(0),
         early: AtomicU64::new(0),
         first: AtomicU64::new(77),
@@ -203,7 +230,7 @@ fn one_after_the_other<B: Naming + Send + Sync, R: Threads + Wait + Abort + Cloc
     Ok(())
 }
 
-// A second call on shard 0 begins once the first is at its gate.
+// A second call on shard 0 begins once the first visits the gate.
 fn in_turn<B: Naming + Send + Sync, R: Threads + Wait + Clock + Sync>(
     rt: &R,
     server: &Server<B>,

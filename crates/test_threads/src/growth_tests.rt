@@ -5,6 +5,7 @@
 
 ghost use Rattle.std.specs.Prelude.{◌≡◌};
 ghost use Rattle.std.specs.Arc.{arc_value};
+ghost use Rattle.ns_shard.specs.State.{no_entries};
 ghost use Rattle.ns_tally.specs.Tally.{AreNamed};
 
 use crate::served::shared_roster;
@@ -119,6 +120,7 @@ fn calls_refused<B: Naming, R: Wait + Abort>(
     requires names { AreNamed B.ledger blanks.names }
     requires parts { (blanks.parts ≡ 1) × (B.workers ≡ 1) }
     requires roster { arc_value roster ≡ B.roster }
+    requires begun { B.begun ≡ no_entries B.roster }
 {
     let (server, mut passes) = Server::<B>::new(alloc, roster, 1, blanks)?;
     let mut right = 0;
@@ -137,6 +139,7 @@ fn is_made<B: Naming>(alloc: Global, roster: Arc<Roster>, blanks: Blanks) -> boo
     requires names { AreNamed B.ledger blanks.names }
     requires parts { (blanks.parts ≡ 4) × (B.workers ≡ 4) }
     requires roster { arc_value roster ≡ B.roster }
+    requires begun { B.begun ≡ no_entries B.roster }
 {
     Server::<B>::new(alloc, roster, 4, blanks).is_ok()
 }
@@ -240,6 +243,7 @@ fn closed_without<B: Naming, R: Wait + Abort>(
     requires names { AreNamed B.ledger blanks.names }
     requires parts { (blanks.parts ≡ 1) × (B.workers ≡ 1) }
     requires roster { arc_value roster ≡ B.roster }
+    requires begun { B.begun ≡ no_entries B.roster }
 {
     let mut held: Vec<Vec<u8>> = Vec::with_capacity(alloc, BLOCKS)?;
     let (server, mut passes) = Server::<B>::new(alloc, roster, 1, blanks)?;
@@ -300,6 +304,7 @@ fn trim_refused<B: Naming, R: Wait + Abort>(
     requires names { AreNamed B.ledger blanks.names }
     requires parts { (blanks.parts ≡ 1) × (B.workers ≡ 1) }
     requires roster { arc_value roster ≡ B.roster }
+    requires begun { B.begun ≡ no_entries B.roster }
 {
     let mut held: Vec<Vec<u8>> = Vec::with_capacity(alloc, BLOCKS)?;
     let (server, mut passes) = Server::<B>::new(alloc, roster, 1, blanks)?;

@@ -17,6 +17,8 @@ mod growth_tests;
 #[cfg(test)]
 mod long_tests;
 #[cfg(test)]
+mod resume_tests;
+#[cfg(test)]
 mod served;
 #[cfg(test)]
 mod tests;

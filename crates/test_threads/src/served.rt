@@ -2,6 +2,7 @@
 
 ghost use Rattle.std.specs.Prelude.{◌≡◌, ◌<◌, ◌≤◌};
 ghost use Rattle.std.specs.Arc.{arc_value};
+ghost use Rattle.ns_shard.specs.State.{no_entries};
 ghost use Rattle.ns_tally.specs.Tally.{AreNamed};
 
 use crate::traffic;
@@ -44,6 +45,7 @@ pub fn served<B: Naming + Send + Sync, R: Threads + Wait + Sync>(
     requires names { AreNamed B.ledger blanks.names }
     requires parts { (blanks.parts ≡ workers) × (B.workers ≡ workers) }
     requires roster { arc_value roster ≡ B.roster }
+    requires begun { B.begun ≡ no_entries B.roster }
 {
     let (server, passes) = Server::<B>::new(alloc, roster, workers, blanks)?;
     let (passes, receipts) = all_work(rt, alloc, &server, passes, work)?;

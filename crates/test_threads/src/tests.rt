@@ -2,6 +2,7 @@
 
 ghost use Rattle.std.specs.Prelude.{◌≡◌, ◌<◌, ◌≤◌};
 ghost use Rattle.std.specs.Arc.{arc_value};
+ghost use Rattle.ns_shard.specs.State.{no_entries};
 ghost use Rattle.ns_tally.specs.Tally.{AreNamed};
 
 use crate::served::{Work, served, shared_roster};
@@ -34,6 +35,7 @@ fn day<B: Naming + Send + Sync, R: Threads + Wait + Abort + Sync>(
     requires names { AreNamed B.ledger blanks.names }
     requires parts { (blanks.parts ≡ 4) × (B.workers ≡ 4) }
     requires roster { arc_value roster ≡ B.roster }
+    requires begun { B.begun ≡ no_entries B.roster }
 {
     let (mut settled, mut receipts) = served::<B, R>(rt, alloc, roster, blanks, 4, Work::Hear)?;
     assert_eq!(rt; (settled.total(), receipts.len()), (600, 600));
@@ -124,6 +126,7 @@ fn held_back<B: Naming, R: Wait + Abort>(
     requires names { AreNamed B.ledger blanks.names }
     requires parts { (blanks.parts ≡ 2) × (B.workers ≡ 2) }
     requires roster { arc_value roster ≡ B.roster }
+    requires begun { B.begun ≡ no_entries B.roster }
 {
     let (server, mut passes) = Server::<B>::new(alloc, roster, 2, blanks)?;
     let mut one = passes.pop().unwrap();
@@ -178,6 +181,7 @@ fn one_run<B: Naming + Send + Sync, R: Threads + Wait + Abort + Sync>(
     requires names { AreNamed B.ledger blanks.names }
     requires parts { (blanks.parts ≡ workers) × (B.workers ≡ workers) }
     requires roster { arc_value roster ≡ B.roster }
+    requires begun { B.begun ≡ no_entries B.roster }
 {
     let (mut settled, mut receipts) = served::<B, R>(
         rt,

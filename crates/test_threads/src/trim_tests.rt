@@ -2,6 +2,7 @@
 
 ghost use Rattle.std.specs.Prelude.{◌≡◌};
 ghost use Rattle.std.specs.Arc.{arc_value};
+ghost use Rattle.ns_shard.specs.State.{no_entries};
 ghost use Rattle.ns_tally.specs.Tally.{AreNamed};
 
 use crate::served::shared_roster;
@@ -480,6 +481,7 @@ fn trimmed<B: Naming, R: Wait + Abort>(
     requires names { AreNamed B.ledger blanks.names }
     requires parts { (blanks.parts ≡ 1) × (B.workers ≡ 1) }
     requires roster { arc_value roster ≡ B.roster }
+    requires begun { B.begun ≡ no_entries B.roster }
 {
     let (server, mut passes) = Server::<B>::new(alloc, roster, 1, blanks)?;
     let mut right = false;

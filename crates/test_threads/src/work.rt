@@ -6,20 +6,25 @@ use std::alloc::{AllocError, Global};
 use std::sync::Wait;
 use std::sync::atomic::{AtomicU64, Ordering};
 
-// Keeps the number of the last visit.
+// Keeps the number of the last visit, and of the last entry that was told.
 #[derive(Drop)]
 struct Numbered {
     number: AtomicU64,
+    made: AtomicU64,
 }
 
 impl<R> Gate<R> for Numbered {
     fn visit(&self, _rt: &R, _shard: u8, number: u64) {
         self.number.store(number, Ordering::SeqCst);
     }
+
+    fn made(&self, _rt: &R, receipt: &Receipt) {
+        self.made.store(receipt.entry.number, Ordering::SeqCst);
+    }
 }
 
-/// Makes a call, and keeps its receipt where there is memory for it, and where its entry has the number that was told at the gate: no
-/// other call of its shard came between.
+/// Makes a call, and keeps its receipt where there is memory for it, and where its entry has the number that was told at the gate, before
+/// it was made and after: no other call of its shard came between.
 pub fn make<B: Naming, R: Wait>(
     rt: &R,
     server: &Server<B>,
@@ -29,9 +34,11 @@ pub fn make<B: Naming, R: Wait>(
 ) -> Result<(), AllocError> {
     let gate = Numbered {
         number: AtomicU64::new(u64::MAX),
+        made: AtomicU64::new(u64::MAX),
     };
     let receipt = server.call(rt, pass, call, &gate)?;
-    if receipt.entry.number != gate.number.load(Ordering::SeqCst) {
+    let number = receipt.entry.number;
+    if gate.number.load(Ordering::SeqCst) != number || gate.made.load(Ordering::SeqCst) != number {
         return Err(AllocError);
     }
     receipts.push(receipt)?;

@@ -2,6 +2,7 @@
 
 ghost use Rattle.std.specs.Prelude.{◌≡◌};
 ghost use Rattle.std.specs.Arc.{arc_value};
+ghost use Rattle.ns_shard.specs.State.{no_entries};
 ghost use Rattle.ns_tally.specs.Tally.{AreNamed};
 
 use crate::runs::{Run, run_all};
@@ -33,6 +34,7 @@ fn told_on<B: Naming, R: Wait>(
     requires names { AreNamed B.ledger blanks.names }
     requires parts { (blanks.parts ≡ 1) × (B.workers ≡ 1) }
     requires roster { arc_value roster ≡ B.roster }
+    requires begun { B.begun ≡ no_entries B.roster }
 {
     let known = roster.clone()?;
     let (server, mut passes) = Server::<B>::new(alloc, roster, 1, blanks)?;

@@ -2,6 +2,7 @@
 
 ghost use Rattle.std.specs.Prelude.{◌≡◌};
 ghost use Rattle.std.specs.Arc.{arc_value};
+ghost use Rattle.ns_shard.specs.State.{no_entries};
 ghost use Rattle.ns_tally.specs.Tally.{AreNamed};
 
 use crate::around::{Around, Scarce};
@@ -56,6 +57,7 @@ fn both_close<B: Naming + Send + Sync, R: Threads + Wait + Abort + Clock + Sync>
     requires names { AreNamed B.ledger blanks.names }
     requires parts { (blanks.parts ≡ 2) × (B.workers ≡ 2) }
     requires roster { arc_value roster ≡ B.roster }
+    requires begun { B.begun ≡ no_entries B.roster }
 {
     let (server, mut passes) = Server::<B>::new(alloc, roster, 2, blanks)?;
     let (Some(one), Some(two)) = (passes.pop(), passes.pop()) else {
