@@ -1,0 +1,5 @@
+pub mod Base64Lemmas
+pub mod LineLemmas
+pub mod Plain
+pub mod Numbers
+pub mod ReadBack

@@ -1,0 +1,7 @@
+use Rattle.std.proofs.Common.{append_assoc}
+use Rattle.ns_events.specs.Uplink.{heard_text}
+use Rattle.ns_events.proofs.event.put_heard.Goals as goal
+
+pub returns-clause-bytes : goal.returns-clause-bytes
+unfolding heard_text
+returns-clause-bytes c = rw (c.put_number-3.ensures.bytes, c.put_number-2.ensures.bytes, c.put_number.ensures.bytes, c.put_identity.ensures.bytes, c.push_str.ensures.bytes) (simp (append_assoc, c.from.ensures, c.from-2.ensures))

@@ -1,0 +1,6 @@
+pub mod Base64
+pub mod Lora
+pub mod Output
+pub mod Times
+pub mod Uplink
+pub mod Value

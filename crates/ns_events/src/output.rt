@@ -1,0 +1,10 @@
+//! How uplinks are written.
+
+/// How an uplink is written.
+#[derive(Clone, Copy, Debug, PartialEq, Eq)]
+pub enum Output {
+    /// Its `up` line.
+    Lines,
+    /// Its JSON object on a line.
+    Json,
+}

@@ -1,0 +1,18 @@
+//! The files of a record: what writes their lines, in an order from which a crash at any moment leaves a record, and what opens them.
+//!
+//! `Disk` is the two files as a writer sees them, with what a crash at each moment may leave. `RecordWriter` appends batches of lines over
+//! one: steps, then, once these are safe, the `up` lines that they imply. `Recorder` shares one among threads. `RecordFiles` are the two
+//! files of a folder. Stands on ns_types and the kit's log and thiserror.
+#![tactic(auto)]
+
+mod disk;
+mod files;
+mod laws;
+mod recorder;
+mod writer;
+
+pub use disk::Disk;
+pub use files::{FilesFault, RecordFiles};
+pub use laws::{crashes_leave_a_record, crashes_leave_what_was_written};
+pub use recorder::Recorder;
+pub use writer::RecordWriter;

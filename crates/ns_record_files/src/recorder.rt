@@ -1,0 +1,161 @@
+//! What threads hand their lines to, and where they wait until these are written.
+use crate::disk::Disk;
+use crate::writer::RecordWriter;
+use ns_types::{Failed, SHARDS};
+use std::alloc::{AllocError, Global};
+use std::sync::atomic::{AtomicBool, AtomicU64, Ordering};
+use std::sync::{Mutex, Wait};
+
+// The room that is taken at first for the step lines of a shard that are not written yet, and for its `up` lines.
+const ROOM: usize = 131_072;
+
+// From how many bytes of lines on that are not written yet somebody writes them.
+const MANY: u64 = 65_536;
+
+// The lines of one shard that are not written yet, in the order of its entries.
+#[derive(Drop)]
+struct Lines {
+    steps: Vec<u8>,
+    ups: Vec<u8>,
+}
+
+// The writer, and the lines that it is given.
+#[derive(Drop)]
+struct Writing<D: Disk> {
+    writer: RecordWriter<D>,
+    steps: Vec<u8>,
+    ups: Vec<u8>,
+}
+
+/// Keeps the lines of sixteen shards until they are written. What was put of a shard stands in the record in that order.
+///
+/// A lock of the lines is taken behind all others, and none is taken while it is held; that of the writer is taken before those of lines.
+#[derive(Drop)]
+pub struct Recorder<D: Disk> {
+    shards: Vec<Mutex<Lines>>,
+    writing: Mutex<Writing<D>>,
+    // How many bytes are not written yet.
+    pending: AtomicU64,
+    // Whether a line could not be kept.
+    lost: AtomicBool,
+}
+
+impl Lines {
+    // No lines, with room for some.
+    fn new(alloc: Global) -> Result<Lines, AllocError> {
+        Ok(Lines {
+            steps: Vec::with_capacity(alloc, ROOM)?,
+            ups: Vec::with_capacity(alloc, ROOM)?,
+        })
+    }
+
+    // Keeps a step line, and the `up` line that it implies, where there is one.
+    fn put(&mut self, step: &[u8], up: Option<&[u8]>) -> Result<(), AllocError> {
+        self.steps.extend_from_slice(step)?;
+        self.steps.push(b'\n')?;
+        if let Some(up) = up {
+            self.ups.extend_from_slice(up)?;
+            self.ups.push(b'\n')?;
+        }
+        Ok(())
+    }
+
+    // Hands all lines over.
+    fn take(&mut self, steps: &mut Vec<u8>, ups: &mut Vec<u8>) -> Result<(), AllocError> {
+        steps.extend_from_slice(self.steps.as_slice())?;
+        ups.extend_from_slice(self.ups.as_slice())?;
+        self.steps.clear();
+        self.ups.clear();
+        Ok(())
+    }
+}
+
+impl<D: Disk + Drop> Recorder<D> {
+    /// A recorder over a writer, with no lines. Room for lines is taken here.
+    pub fn new(alloc: Global, writer: RecordWriter<D>) -> Result<Recorder<D>, AllocError> {
+        let mut shards = Vec::with_capacity(alloc, usize::from(SHARDS))?;
+        for _shard in 0..SHARDS {
+            shards.push(Mutex::new(Lines::new(alloc)?))?;
+        }
+        let writing = Writing {
+            writer,
+            steps: Vec::with_capacity(alloc, ROOM)?,
+            ups: Vec::with_capacity(alloc, ROOM)?,
+        };
+        Ok(Recorder {
+            shards,
+            writing: Mutex::new(writing),
+            pending: AtomicU64::new(0),
+            lost: AtomicBool::new(false),
+        })
+    }
+
+    /// Keeps a step line of a shard, and the `up` line that it implies, where there is one. Neither has its line feed. Where there is no
+    /// memory for them every write fails from then on.
+    pub fn put<R: Wait>(&self, rt: &R, shard: u8, step: &[u8], up: Option<&[u8]>) {
+        let Some(lines) = self.shards.get(usize::from(shard)) else {
+            return;
+        };
+        let mut lines = lines.lock(rt);
+        if lines.put(step, up).is_err() {
+            self.lost.store(true, Ordering::SeqCst);
+        }
+        let len = step.len() as u64 + up.map_or(0, |up| up.len() as u64);
+        self.pending.fetch_add(len, Ordering::SeqCst);
+    }
+
+    /// The files of its writer. Lines that are not written are lost.
+    pub fn into_disk(self) -> D {
+        let Recorder {
+            shards: _,
+            writing,
+            pending: _,
+            lost: _,
+        } = self;
+        let Writing {
+            writer,
+            steps: _,
+            ups: _,
+        } = writing.into_inner();
+        writer.into_disk()
+    }
+
+    /// Whether so much is not written that somebody should write it.
+    pub fn is_due(&self) -> bool {
+        self.pending.load(Ordering::SeqCst) >= MANY
+    }
+
+    // Takes all lines that are not written yet, shard by shard.
+    fn gather<R: Wait>(
+        &self,
+        rt: &R,
+        steps: &mut Vec<u8>,
+        ups: &mut Vec<u8>,
+    ) -> Result<(), AllocError> {
+        steps.clear();
+        ups.clear();
+        for lines in &self.shards {
+            let mut lines = lines.lock(rt);
+            lines.take(steps, ups)?;
+        }
+        self.pending.store(0, Ordering::SeqCst);
+        Ok(())
+    }
+
+    /// Writes all lines that were put before, and waits until no crash takes a step of them away. Where another thread has done so it
+    /// writes nothing. After a failure every further call fails, and nothing more is written.
+    pub fn write<R: Wait>(&self, rt: &R) -> Result<(), Failed> {
+        let mut guard = self.writing.lock(rt);
+        let writing = &mut *guard;
+        let gathered = self.gather(rt, &mut writing.steps, &mut writing.ups);
+        if gathered.is_err() || self.lost.load(Ordering::SeqCst) {
+            writing.writer.fail();
+        }
+        if writing.steps.is_empty() && writing.ups.is_empty() && !writing.writer.has_failed() {
+            return Ok(());
+        }
+        writing
+            .writer
+            .write(writing.steps.as_slice(), writing.ups.as_slice())
+    }
+}

@@ -1,0 +1,90 @@
+-- Why a line is not run, and which line a fault names.
+use Rattle.std.proofs.Common.{◌≡◌, ℕ, false, List, ◌++◌, Option, None, Some, Result, Ok, Err, refl, sym, ap, ◌∙◌, subst}
+use Rattle.std.specs.Prelude.{flat_map, IfSome}
+use Rattle.std.specs.Result.{result_ok, IfErr, IsErrAnd}
+use Rattle.std.specs.Io.KnownBytes.{Consumes}
+use Rattle.ns_roster.specs.Network.{Network}
+use Rattle.ns_calls.specs.declared.call.Call.{Call}
+use Rattle.ns_calls.specs.declared.call.Entry.{Entry}
+use Rattle.ns_calls.specs.Out.{answer}
+use Rattle.ns_calls.specs.Shards.{shard_of_call}
+use Rattle.ns_calls.specs.Steps.{Refusal, link, view}
+use Rattle.ns_recorded.specs.Recorded.{matters}
+use Rattle.ns_shard.specs.declared.step.Step.{Step}
+use Rattle.ns_shard.specs.Taken.{call_of}
+use Rattle.ns_shard.specs.State.{State}
+use Rattle.ns_shard.specs.Steps.{call_taken, shard_history}
+use Rattle.ns_shard.proofs.Entries.{answer-is}
+use Rattle.ns_replay.specs.Output.{ended}
+use Rattle.ns_record.specs.StepText.{ReadsBack}
+use Rattle.ns_resume.specs.declared.fault.RecordFault.{RecordFault}
+use Rattle.ns_resume.specs.declared.fault.RecordFault.TheVariants.{NoStep, NoFit}
+use Rattle.ns_resume.specs.declared.run.Running.{Running}
+use Rattle.ns_resume.specs.Resumed.{AreResumed, fits, NamesLine}
+use Rattle.ns_resume.specs.Private.Running.{HasRun, RunsUpTo}
+use Rattle.ns_resume.specs.Private.Faults.{NamesNoLine, MakesNoCall, DoesNotMatter, RefusesLine}
+
+-- the error that a call gave is handed on
+pub from_err : {A : Type 0} (r : Result A RecordFault) (P : RecordFault → Type 0) (e : RecordFault) → P e → IsErrAnd r (λ f. f ≡ e) → IfErr r P
+from_err (Ok a) P e holds is = absurd is
+from_err (Err f) P e holds is = subst P (sym is) holds
+
+no-call : (net : Network) (steps : List Step) (r : Result Call Refusal) → result_ok r ≡ None → fits (call_taken net steps r) ≡ false
+no-call net steps (Err (link fault)) none = refl
+no-call net steps (Err (view fault)) none = refl
+no-call net steps (Ok c) none = absurd (cc none)
+
+pub refused-call : (net : Network) (steps : List Step) (line : List ℕ) (number : ℕ) (e : RecordFault) → MakesNoCall line number e → RefusesLine net steps line number e
+refused-call net steps line number (NoStep n) is = is
+refused-call net steps line number (NoFit n) (same, made) =
+    let (act, reads, none) = made in
+    (same, (act, reads, no-call net steps (call_of act) none))
+refused-call net steps line number _ is = tt
+
+pub refused-answer : (net : Network) (steps : List Step) (line : List ℕ) (number : ℕ) (shards : List State) (c : Call) (e : RecordFault) → AreResumed net steps shards → ReadsBack line c → DoesNotMatter shards c number e → RefusesLine net steps line number e
+refused-answer net steps line number shards c (NoStep n) are back is = absurd is
+refused-answer net steps line number shards c (NoFit n) are back (same, found) =
+    let (s, at, silent) = found in
+    let (act, reads, made) = back in
+    let own : ℕ = shard_of_call c in
+    let h : List Entry = shard_history net own steps in
+    let at_own = are.each own s at in (
+      same,
+      (
+        act,
+        reads,
+        ap (λ r. fits (call_taken net steps r)) made
+            ∙ (ap (λ a. matters a.reply) (sym (answer-is h s c at_own.keeps ∙ ap (λ n. answer n h c) at_own.roster)) ∙ silent),
+      ),
+    )
+refused-answer net steps line number shards c _ are back is = tt
+
+pub refused-never : (net : Network) (steps : List Step) (line : List ℕ) (number : ℕ) (e : RecordFault) → NamesNoLine e → RefusesLine net steps line number e
+refused-never net steps line number (NoStep n) is = absurd is
+refused-never net steps line number (NoFit n) is = absurd is
+refused-never net steps line number _ is = tt
+
+pub names-none : (net : Network) (known : Option (List ℕ)) (e : RecordFault) → NamesNoLine e → NamesLine net known e
+names-none net known (NoStep n) is = absurd is
+names-none net known (NoFit n) is = absurd is
+names-none net known _ is = tt
+
+-- the line stands behind the others in what a source has
+stands : (first now next : Option (List ℕ)) (lines line : List ℕ) → Consumes first now lines → Consumes now next line → IfSome first (λ text. (rest : List ℕ) × (text ≡ lines ++ (line ++ rest)))
+stands None now next lines line read more = tt
+stands (Some xs) None next lines line read more = absurd read
+stands (Some xs) (Some ys) None lines line read more = absurd more
+stands (Some xs) (Some ys) (Some zs) lines line read more = (zs, read ∙ ap (λ l. lines ++ l) more)
+
+pub names-line : (net : Network) (number : ℕ) (first now next ups_first ups_now : Option (List ℕ)) (run : Running) (line : List ℕ) (e : RecordFault)
+    → RunsUpTo net number first now ups_first ups_now run → Consumes now next (ended line)
+    → ((n : Network) (steps : List Step) (read : List ℕ) → HasRun n steps read run → RefusesLine n steps line number e) → NamesLine net first e
+names-line net number first now next ups_first ups_now run line e up_to more refuses = by e (refuses net up_to.steps up_to.read up_to.has_run)
+  where
+    begins : IfSome first (λ text. (rest : List ℕ) × (text ≡ flat_map ended up_to.lines ++ (ended line ++ rest)))
+    begins = stands first now next (flat_map ended up_to.lines) (ended line) up_to.consumed more
+
+    by : (f : RecordFault) → RefusesLine net up_to.steps line number f → NamesLine net first f
+    by (NoStep n) is = record { lines = up_to.lines; line = line; begins = begins; steps = up_to.steps; are_steps = up_to.are_steps; fit = up_to.has_run.fit; numbered = up_to.numbered ∙ sym is.0; refused = is.1 }
+    by (NoFit n) is = record { lines = up_to.lines; line = line; begins = begins; steps = up_to.steps; are_steps = up_to.are_steps; fit = up_to.has_run.fit; numbered = up_to.numbered ∙ sym is.0; refused = is.1 }
+    by _ is = tt

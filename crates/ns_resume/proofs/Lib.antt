@@ -1,0 +1,5 @@
+pub mod Lines
+pub mod UpLines
+pub mod Steps
+pub mod Runs
+pub mod Faults

@@ -1,0 +1,52 @@
+use Rattle.std.proofs.Common.{◌≡◌, ℕ, List, [], ◌++◌, Result, Ok, Err, subst, sym, ap, ◌∙◌}
+use Rattle.std.specs.Prelude.{OnOk}
+use Rattle.std.specs.Option.{option_map_or}
+use Rattle.ns_roster.specs.Network.{Network}
+use Rattle.ns_calls.specs.declared.answer.Uplink.{Uplink}
+use Rattle.ns_calls.specs.Text.{up_text}
+use Rattle.ns_shard.specs.declared.step.Step.{Step}
+use Rattle.ns_replay.specs.Output.{ended}
+use Rattle.ns_resume.specs.declared.ups.Ups.{Ups}
+use Rattle.ns_resume.specs.Resumed.{AreUps}
+use Rattle.ns_resume.specs.Private.Ups.{GoOn}
+use Rattle.ns_resume.proofs.UpLines.{goes-on-none}
+use Rattle.ns_resume.proofs.Runs.{runs-on}
+use Rattle.ns_resume.specs.declared.fault.RecordFault.{RecordFault}
+use Rattle.ns_resume.specs.Private.Running.{HasRun}
+use Rattle.ns_resume.specs.Private.Faults.{RefusesLine}
+use Rattle.ns_resume.proofs.Faults.{from_err, refused-answer}
+use Rattle.ns_resume.proofs.run.Running.run_line.Goals as goal
+
+pub returns-in_err-answer-clause-fault : goal.returns-in_err-answer-clause-fault
+returns-in_err-answer-clause-fault g c =
+    let e : RecordFault = c.in_err-answer.field-0.0 in
+    from_err c.from_residual-in_err-answer.result
+    (λ f. (net : Network) (steps : List Step) (read : List ℕ) → HasRun net steps read c.args.self.now → RefusesLine net steps c.args.line.now c.args.number f) e
+    (λ net steps read run. refused-answer net steps c.args.line.now c.args.number c.args.self.now.shards.items c.in_ok-call.call e run.shards c.in_ok-call.ensures.call c.in_err-answer.ensures.fault)
+    c.from_residual-in_err-answer.ensures.1
+
+on_ok : {A E P Q : Type 0} (r : Result A E) → (P → Q) → OnOk r P → OnOk r Q
+on_ok (Ok a) f p = f p
+on_ok (Err e) f p = p
+
+pub returns-in-Some-clause-run : goal.returns-in-Some-clause-run
+returns-in-Some-clause-run g c =
+    let text : c.as_bytes.result.now ≡ up_text c.in-Some.uplink = c.as_bytes.ensures.value ∙ (c.as_str.ensures.value ∙ c.up_line.ensures) in
+    let out : option_map_or (λ (u : Uplink). ended (up_text u)) c.in_ok-answer.answer.uplink [] ≡ ended c.as_bytes.result.now =
+    ap (λ o. option_map_or (λ (u : Uplink). ended (up_text u)) o []) c.in-Some.is ∙ ap ended (sym text) in
+    on_ok c.implied.result
+    (λ goes net steps read run.
+    runs-on (g.U.Read.remaining c.args.ups.now) (g.U.Read.remaining c.implied.new.source) net steps c.args.line.now read c.args.self.now
+    (record { shards = c.answer.new.self.shards; most = c.answer.new.self.most; ups = c.implied.new.self }) c.in_ok-call.call c.in_ok-answer.answer run c.in_ok-call.ensures.call c.in_ok-answer.ensures.answered
+    (λ there ups are.
+    subst (λ l. GoOn (g.U.Read.remaining c.args.ups.now) (g.U.Read.remaining c.implied.new.source) there (ups ++ l) c.implied.new.self) (sym out)
+    (goes there ups (subst (λ (u : Ups). AreUps there ups u.missing.items u.torn) (sym c.answer.ensures.ups) are))))
+    c.implied.ensures.ups
+
+pub returns-in-None-clause-run : goal.returns-in-None-clause-run
+returns-in-None-clause-run g c = λ net steps read run.
+    runs-on (g.U.Read.remaining c.args.ups.now) (g.U.Read.remaining c.args.ups.now) net steps c.args.line.now read c.args.self.now c.answer.new.self c.in_ok-call.call c.in_ok-answer.answer run c.in_ok-call.ensures.call c.in_ok-answer.ensures.answered
+    (λ there ups are.
+    subst (λ o. GoOn (g.U.Read.remaining c.args.ups.now) (g.U.Read.remaining c.args.ups.now) there (ups ++ option_map_or (λ (u : Uplink). ended (up_text u)) o []) c.answer.new.self.ups) (sym c.in-None.is)
+    (subst (GoOn (g.U.Read.remaining c.args.ups.now) (g.U.Read.remaining c.args.ups.now) there (ups ++ [])) (sym c.answer.ensures.ups)
+    (goes-on-none (g.U.Read.remaining c.args.ups.now) there ups c.args.self.now.ups are)))

@@ -1,0 +1,119 @@
+-- What a record leaves: the shards after the steps of its whole lines, and the `up` lines that go on from those that are there.
+use Rattle.std.specs.Prelude.{◌≡◌, ℕ, ◌+◌, Bool, false, true, List, [], ◌++◌, length, map, flat_map, slice_get, Option, None, Some, IfSome}
+use Rattle.std.specs.List.{AllByRecursion}
+use Rattle.std.specs.Option.{option_map_or}
+use Rattle.ns_types.specs.Identity.{shard_count}
+use Rattle.ns_types.specs.declared.identity.WindowName.{WindowName}
+use Rattle.ns_roster.specs.Network.{Network}
+use Rattle.ns_calls.specs.Entries.{open_windows}
+use Rattle.ns_calls.specs.Text.{up_text, has_line_feed}
+use Rattle.ns_recorded.specs.Recorded.{matters}
+use Rattle.ns_shard.specs.declared.step.Act.{Act}
+use Rattle.ns_shard.specs.declared.step.Step.{Step}
+use Rattle.ns_shard.specs.declared.run.Taken.{Taken}
+use Rattle.ns_shard.specs.declared.run.Taken.TheVariants.{Link, View, Made}
+use Rattle.ns_shard.specs.State.{State, Keeps, seen}
+use Rattle.ns_shard.specs.Steps.{shard_history, step_taken, all_taken}
+use Rattle.ns_replay.specs.StepLines.{step}
+use Rattle.ns_replay.specs.Output.{ended, step_of}
+use Rattle.ns_resume.specs.declared.fault.RecordFault.{RecordFault}
+use Rattle.ns_resume.specs.declared.fault.RecordFault.TheVariants.{NoStep, NoFit}
+use Rattle.ns_resume.specs.declared.run.Resumed.{Resumed}
+
+-- the text is all that a source has, where that tells it
+abbrev pub IsAllOf : Option (List ℕ) → List ℕ → Type 0
+IsAllOf known text = IfSome known (λ bytes. bytes ≡ text)
+
+-- the text is these lines, each with its line feed, and then what is torn
+pub record IsCut (text : List ℕ) (lines : List (List ℕ)) (torn : List ℕ) : Type 0 where
+  pub joined : text ≡ flat_map ended lines ++ torn
+  pub whole : AllByRecursion (λ line. has_line_feed line ≡ false) lines
+  pub no_feed : has_line_feed torn ≡ false
+
+-- each line is a step line, and these are its steps
+abbrev pub AreStepsOf : List (List ℕ) → List Step → Type 0
+AreStepsOf lines steps = map step lines ≡ map (λ s. Some s.act) steps
+
+-- the shard of this number has what it keeps of its history in a run of these steps
+pub record IsResumedAt (net : Network) (steps : List Step) (shard : ℕ) (s : State) : Type 0 where
+  pub roster : s.roster ≡ net
+  pub index : s.index ≡ shard
+  pub keeps : Keeps (shard_history net shard steps) s
+
+-- the sixteen shards are what a run of these steps leaves, trimmed or not
+pub record AreResumed (net : Network) (steps : List Step) (shards : List State) : Type 0 where
+  pub sixteen : length shards ≡ shard_count
+  pub each : (shard : ℕ) (s : State) → slice_get shards shard ≡ Some s → IsResumedAt net steps shard s
+
+-- whether it made a call on which later answers rest
+abbrev pub fits : Taken → Bool
+fits (Link fault) = false
+fits (View fault) = false
+fits (Made shard number answer) = matters answer.reply
+
+-- each step made such a call
+abbrev pub AllFit : Network → List Step → Type 0
+AllFit net steps = AllByRecursion (λ t. fits t ≡ true) (all_taken net [] steps)
+
+-- the `up` line of what came of a step, with its line feed, where an uplink goes out
+abbrev pub up_of : Taken → List ℕ
+up_of (Link fault) = []
+up_of (View fault) = []
+up_of (Made shard number answer) = option_map_or (λ u. ended (up_text u)) answer.uplink []
+
+-- the `up` lines of a run of steps
+abbrev pub ups_of : Network → List Step → List ℕ
+ups_of net steps = flat_map up_of (all_taken net [] steps)
+
+-- What is there of these `up` lines ends with so many bytes of a torn one, with which the missing lines begin.
+pub record AreUps (there ups missing : List ℕ) (torn : ℕ) : Type 0 where
+  pub front : List ℕ
+  pub rest : List ℕ
+  pub more : List ℕ
+  pub are_there : there ≡ front ++ rest
+  pub are_all : ups ≡ front ++ missing
+  pub begins : missing ≡ rest ++ more
+  pub bytes : length rest ≡ torn
+
+-- The record of this text, beside this text of `up` lines, leaves these shards, and these `up` lines are missing.
+pub record IsResumed (net : Network) (text there : List ℕ) (r : Resumed) : Type 0 where
+  pub lines : List (List ℕ)
+  pub torn : List ℕ
+  pub cut : IsCut text lines torn
+  pub torn_bytes : r.torn ≡ length torn
+  pub steps : List Step
+  pub are_steps : AreStepsOf lines steps
+  pub fit : AllFit net steps
+  pub shards : AreResumed net steps r.shards.items
+  pub ups : AreUps there (ups_of net steps) r.missing.items r.up_torn
+
+-- the names of the open windows of shards
+abbrev pub windows_in : List State → List WindowName
+windows_in shards = flat_map (λ s. map (λ o. o.window) (open_windows (seen s))) shards
+
+-- ---- why a run ends early
+
+-- The steps of these lines, with which the text begins, fit, and the line behind them has this number and is refused so.
+pub record StopsAt (net : Network) (known : Option (List ℕ)) (number : ℕ) (IsRefused : List Step → List ℕ → Type 0) : Type 0 where
+  pub lines : List (List ℕ)
+  pub line : List ℕ
+  pub begins : IfSome known (λ text. (rest : List ℕ) × (text ≡ flat_map ended lines ++ (ended line ++ rest)))
+  pub steps : List Step
+  pub are_steps : AreStepsOf lines steps
+  pub fit : AllFit net steps
+  pub numbered : length lines + 1 ≡ number
+  pub refused : IsRefused steps line
+
+-- the line is no step line
+abbrev pub IsNoStep : List Step → List ℕ → Type 0
+IsNoStep steps line = step line ≡ None
+
+-- the line is a step line, and its step makes no call after these steps, or one on which no later answer rests
+abbrev pub DoesNotFit : Network → List Step → List ℕ → Type 0
+DoesNotFit net steps line = (act : Act) × (step line ≡ Some act) × (fits (step_taken net steps (step_of act)) ≡ false)
+
+-- the fault names the first line that is refused
+abbrev pub NamesLine : Network → Option (List ℕ) → RecordFault → Type 0
+NamesLine net known (NoStep n) = StopsAt net known n IsNoStep
+NamesLine net known (NoFit n) = StopsAt net known n (DoesNotFit net)
+NamesLine net known _ = Unit {0}

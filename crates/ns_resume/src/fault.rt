@@ -1,0 +1,51 @@
+//! Why a record is not gone on with.
+
+ghost use Rattle.std.specs.Prelude.{◌≡◌};
+ghost use Rattle.ns_resume.specs.declared.fault.RecordFault.TheVariants.{NoMemory, Io};
+
+use std::alloc::AllocError;
+use std::io;
+use thiserror::Error;
+
+/// Why a record was not run to its end. Lines are numbered from 1.
+#[derive(Clone, Copy, Debug, PartialEq, Eq, Error)]
+pub enum RecordFault {
+    /// A growth was refused.
+    #[error("no memory")]
+    NoMemory,
+    /// A source failed, or had no memory for a line.
+    #[error("record: io")]
+    Io,
+    /// This line is no step line.
+    #[error("record: line {0} is no step line")]
+    NoStep(u64),
+    /// The step of this line makes no call, or its reply changes nothing, which no recorded call's does: the roster is another, or the
+    /// record is not of this server.
+    #[error("record: line {0} does not fit the roster")]
+    NoFit(u64),
+    /// This `up` line is not the one that the record implies.
+    #[error("record: up line {0} is not of this record")]
+    UpDiffers(u64),
+    /// There are more `up` lines than the record implies, which are so many.
+    #[error("record: more than the {0} up lines of this record")]
+    UpLonger(u64),
+    /// There are 2^64 - 2 lines and more.
+    #[error("record: too many lines")]
+    TooMany,
+}
+
+impl From<AllocError> for RecordFault {
+    ghost from_gives = { λ _ e. e ≡ NoMemory };
+
+    fn from(_error: AllocError) -> RecordFault {
+        RecordFault::NoMemory
+    }
+}
+
+impl From<io::Error> for RecordFault {
+    ghost from_gives = { λ _ e. e ≡ Io };
+
+    fn from(_error: io::Error) -> RecordFault {
+        RecordFault::Io
+    }
+}

@@ -1,0 +1,14 @@
+//! Shards as they were left, by the step lines of a record.
+//!
+//! `run_record` runs the whole lines of a record at sixteen shards without entries, and holds the `up` lines that are there against
+//! those that go out. It reads line by line and trims the shards as they grow, so its memory does not grow with the record.
+#![tactic(auto)]
+
+mod fault;
+mod line;
+mod open;
+mod run;
+mod ups;
+
+pub use fault::RecordFault;
+pub use run::{Resumed, run_record};

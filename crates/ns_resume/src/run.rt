@@ -1,0 +1,177 @@
+//! A run of the step lines of a record.
+
+ghost use Rattle.std.specs.Prelude.{◌≡◌, ℕ, List, length, IfOk, IfErr, OnOk};
+ghost use Rattle.std.specs.Arc.{arc_value};
+ghost use Rattle.ns_types.specs.Identity.{shard_count};
+ghost use Rattle.ns_roster.specs.Network.{Network};
+ghost use Rattle.ns_shard.specs.declared.step.Step.{Step};
+ghost use Rattle.ns_record.specs.StepText.{ReadsBack};
+ghost use Rattle.ns_resume.specs.Resumed.{IsAllOf, IsResumed, NamesLine};
+ghost use Rattle.ns_resume.specs.Private.Running.{AreInPlace, MayBeTrimmed, HasAnswered, HasRun, RunsOn};
+ghost use Rattle.ns_resume.specs.Private.Faults.{MakesNoCall, DoesNotMatter, RefusesLine};
+
+use crate::fault::RecordFault;
+use crate::line::read_line;
+use crate::open::{Open, open_in};
+use crate::ups::Ups;
+use ns_calls::{Answer, Call, shard_of_call, up_line};
+use ns_record::matters;
+use ns_replay::step;
+use ns_roster::Roster;
+use ns_shard::{Shard, call_of, new_shards};
+use ns_types::{Ticket, WindowName};
+use std::alloc::{AllocError, Global};
+use std::io::BufRead;
+use std::sync::Arc;
+
+// A shard is trimmed once it holds twice what its last trim left, and so many entries: so trims take a part of the time that does not
+// grow with the devices.
+const TRIM_FROM: usize = 8_192;
+
+/// What a record leaves.
+#[derive(Drop)]
+pub struct Resumed {
+    /// The sixteen shards, each at its number. Each has made an entry of each line's call that is its own.
+    pub shards: Vec<Shard>,
+    /// How many bytes of a torn line follow the whole step lines.
+    pub torn: usize,
+    /// How many bytes of a torn line follow the whole `up` lines.
+    pub up_torn: usize,
+    /// The `up` lines that are missing behind the whole ones, each with its line feed.
+    pub missing: Vec<u8>,
+    /// The windows that are open, shard by shard, in the order of their opening.
+    pub windows: Vec<WindowName>,
+    /// The tickets that are open, shard by shard, in the order in which they were asked for. One that was answered and asked for again
+    /// may stand there twice.
+    pub tickets: Vec<Ticket>,
+}
+
+// A run of lines so far.
+#[derive(Drop)]
+struct Running {
+    shards: Vec<Shard>,
+    // How many entries each shard holds when it is trimmed.
+    most: [usize; 16],
+    ups: Ups,
+}
+
+// The call of the line of this number.
+fn call_in(alloc: Global, number: u64, line: &[u8]) -> Result<Call, RecordFault>
+    ensures call { IfOk result (ReadsBack line.now) }
+    ensures fault { IfErr result (MakesNoCall line.now number) }
+{
+    let Some(act) = step(alloc, line)? else {
+        return Err(RecordFault::NoStep(number));
+    };
+    match call_of(alloc, &act)? {
+        Some(call) => Ok(call),
+        None => Err(RecordFault::NoFit(number)),
+    }
+}
+
+// Trims a shard that holds `most` entries. Where that is refused it stays as it is.
+fn trim_if_due(alloc: Global, shard: &mut Shard, most: &mut usize)
+    ensures { MayBeTrimmed shard.old shard.new }
+{
+    if shard.entries().len() < *most {
+        return;
+    }
+    let _ = shard.trim(alloc);
+    *most = shard.entries().len().saturating_mul(2).max(TRIM_FROM);
+}
+
+impl Running {
+    // Makes a call at its shard, and tells the answer, on which later answers rest.
+    fn answer(&mut self, alloc: Global, number: u64, call: Call) -> Result<Answer, RecordFault>
+        requires sixteen { length self.old.shards.items ≡ shard_count }
+        requires in_place { AreInPlace self.old.shards.items }
+        ensures answered { IfOk result (HasAnswered self.old.shards.items self.new.shards.items call) }
+        ensures fault { IfErr result (DoesNotMatter self.old.shards.items call number) }
+        ensures ups { self.new.ups ≡ self.old.ups }
+    {
+        let place = usize::from(shard_of_call(&call));
+        let shard = &mut self.shards[place];
+        let answer = shard.apply(call)?;
+        if !matters(&answer.reply) {
+            return Err(RecordFault::NoFit(number));
+        }
+        trim_if_due(alloc, shard, &mut self.most[place]);
+        Ok(answer)
+    }
+
+    // Runs the line of this number.
+    fn run_line<U: BufRead>(
+        &mut self,
+        alloc: Global,
+        number: u64,
+        line: &[u8],
+        ups: &mut U,
+    ) -> Result<(), RecordFault>
+        requires sixteen { length self.old.shards.items ≡ shard_count }
+        requires in_place { AreInPlace self.old.shards.items }
+        ensures run { OnOk result ((net : Network) (steps : List Step) (read : List ℕ) → HasRun net steps read self.old
+            → RunsOn (U.remaining ups.old) (U.remaining ups.new) net steps line.now read self.new) }
+        ensures fault { IfErr result (λ e. (net : Network) (steps : List Step) (read : List ℕ) → HasRun net steps read self.old
+            → RefusesLine net steps line.now number e) }
+    {
+        let call = call_in(alloc, number, line)?;
+        let answer = self.answer(alloc, number, call)?;
+        match &answer.uplink {
+            Some(uplink) => self.ups.implied(ups, up_line(uplink).as_str().as_bytes()),
+            None => Ok(()),
+        }
+    }
+
+    // What such a run leaves, where so many bytes of a torn line follow.
+    fn end(self, alloc: Global, torn: usize) -> Result<Resumed, AllocError>
+        ensures shards { IfOk result (λ r. r.shards.items ≡ self.shards.items) }
+        ensures torn { IfOk result (λ r. r.torn ≡ torn) }
+        ensures up_torn { IfOk result (λ r. r.up_torn ≡ self.ups.torn) }
+        ensures missing { IfOk result (λ r. r.missing.items ≡ self.ups.missing.items) }
+    {
+        let Running {
+            shards,
+            most: _,
+            ups,
+        } = self;
+        let Open { windows, tickets } = open_in(alloc, shards.as_slice())?;
+        Ok(Resumed {
+            shards,
+            torn,
+            up_torn: ups.torn,
+            missing: ups.missing,
+            windows,
+            tickets,
+        })
+    }
+}
+
+/// Runs the whole lines of a record at shards without entries, and holds the `up` lines that are there against those that go out, as
+/// far as they reach. Each line is a step line of `replay`, and its reply is one on which later answers rest; a torn last line is told,
+/// and is not run. It reads both sources to their ends, line by line, and writes nothing.
+pub fn run_record<S: BufRead, U: BufRead>(
+    alloc: Global,
+    roster: Arc<Roster>,
+    steps: &mut S,
+    ups: &mut U,
+) -> Result<Resumed, RecordFault>
+    ensures resumed { IfOk result (λ r. (text : List ℕ) × (there : List ℕ)
+        × IsAllOf (S.remaining steps.old) text × IsAllOf (U.remaining ups.old) there
+        × IsResumed (arc_value roster) text there r) }
+    ensures fault { IfErr result (NamesLine (arc_value roster) (S.remaining steps.old)) }
+{
+    let mut running = Running {
+        shards: new_shards(alloc, roster)?,
+        most: [TRIM_FROM; 16],
+        ups: Ups::new(alloc),
+    };
+    let mut line = Vec::new(alloc);
+    'lines: for number in 1..u64::MAX {
+        if !read_line(steps, &mut line)? {
+            running.ups.finish(ups)?;
+            return Ok(running.end(alloc, line.len())?);
+        }
+        running.run_line(alloc, number, line.as_slice(), ups)?;
+    }
+    Err(RecordFault::TooMany)
+}

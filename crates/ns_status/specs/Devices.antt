@@ -1,0 +1,60 @@
+-- What is known of devices.
+use Rattle.std.specs.Prelude.{ℕ, ◌+◌, ◌-◌, ◌==◌, ◌^◌, Bool, nat_lt, min, max, List, Option, Some, None, option_map, if◌then◌else◌}
+use Rattle.std.specs.Map.{lookup}
+use Rattle.std.specs.Option.{option_map_or}
+use Rattle.ns_types.specs.declared.identity.DevEui.{DevEui}
+use Rattle.ns_types.specs.declared.identity.DevAddr.{DevAddr}
+use Rattle.ns_status.specs.declared.news.News.{News}
+use Rattle.ns_status.specs.declared.news.News.TheVariants.{Joined, Heard}
+use Rattle.ns_status.specs.declared.devices.HeardBy.{HeardBy}
+use Rattle.ns_status.specs.declared.devices.Device.{Device}
+use Rattle.ns_status.specs.declared.devices.Devices.{Devices}
+
+-- a device whose session begins, and when it was heard last before
+abbrev pub fresh : ℕ → DevAddr → ℕ → Option HeardBy → Device
+fresh session addr now heard = record { session = session; addr = addr; since_ms = now; counters = 0; fcnt = None; heard = heard }
+
+-- what is known once a session is told of: a later one begins, and of an earlier one nothing changes
+abbrev pub renewed : Option Device → ℕ → DevAddr → ℕ → Device
+renewed None session addr now = fresh session addr now None
+renewed (Some d) session addr now = if nat_lt d.session session then fresh session addr now d.heard else d
+
+-- what is known once a frame of the session was heard: its counter is counted where it is new
+abbrev pub with_frame : Device → ℕ → Bool → HeardBy → Device
+with_frame d fcnt is_new heard = record d { counters = min (d.counters + (if is_new then 1 else 0)) (2 ^ 32 - 1); fcnt = Some (option_map_or (λ before. max before fcnt) d.fcnt fcnt); heard = Some heard }
+
+-- what is known after news of the device. A frame of another session than the last one tells nothing
+abbrev pub after_news : Option Device → News → ℕ → Device
+after_news before (Joined eui session addr) now = renewed before session addr now
+after_news before (Heard window addr gateway is_new) now =
+    let d = renewed before window.session addr now in
+    if d.session == window.session then with_frame d window.fcnt is_new (record { at_ms = now; gateway = gateway }) else d
+
+-- the same, of a device of the roster
+abbrev pub noted : News → ℕ → Option Device → Option Device
+noted news now before = Some (after_news before news now)
+
+-- how many counters of the session, up to the greatest that was heard, were not heard
+abbrev pub missed_of : Option ℕ → ℕ → ℕ
+missed_of None counters = 0
+missed_of (Some fcnt) counters = (fcnt + 1) - counters
+
+abbrev pub missed : Device → ℕ
+missed d = missed_of d.fcnt d.counters
+
+-- the device of news
+abbrev pub eui_of : News → DevEui
+eui_of (Joined eui session addr) = eui
+eui_of (Heard window addr gateway is_new) = window.eui
+
+-- the devices of the roster, with what is known of each that joined
+abbrev pub rows : Devices → List (DevEui × Option Device)
+rows d = d.list.entries
+
+-- what is known of a device, where it is of the roster
+abbrev pub row_of : Devices → DevEui → Option (Option Device)
+row_of d eui = lookup (λ other. eui.0 == other.0) (rows d)
+
+-- a device that joined
+abbrev pub joined_row : DevEui × Option Device → Option (DevEui × Device)
+joined_row row = option_map (λ d. (row.0, d)) row.1

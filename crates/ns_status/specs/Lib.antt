@@ -1,0 +1,7 @@
+pub mod Devices
+pub mod Gateways
+pub mod Metrics
+pub mod News
+pub mod Request
+pub mod Response
+pub mod Rows

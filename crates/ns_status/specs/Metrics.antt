@@ -1,0 +1,87 @@
+-- The counts, in the text format of Prometheus.
+use Rattle.std.specs.Prelude.{ℕ, ◌+◌, List, [], ◌∷◌, ◌++◌, codes, decimal}
+use Rattle.std.specs.Borrow.{Bor}
+use Rattle.ns_status.specs.declared.metrics.Kind.{Kind}
+use Rattle.ns_status.specs.declared.metrics.Kind.TheVariants.{Counter, Gauge}
+use Rattle.ns_status.specs.declared.metrics.Totals.{Totals}
+
+abbrev pub kind_word : Kind → List ℕ
+kind_word Counter = codes "counter"
+kind_word Gauge = codes "gauge"
+
+-- a line: a word, a name, and what is said of it
+unfoldable pub line_text : List ℕ → List ℕ → List ℕ → List ℕ
+line_text front name said = front ++ name ++ codes " " ++ said ++ codes "\n"
+
+-- what stands before the samples of a name
+unfoldable pub family_text : List ℕ → List ℕ → Kind → List ℕ
+family_text name help kind = line_text (codes "# HELP lorawan_ns_") name help ++ line_text (codes "# TYPE lorawan_ns_") name (kind_word kind)
+
+-- a name with one sample
+unfoldable pub single_text : List ℕ → List ℕ → Kind → ℕ → List ℕ
+single_text name help kind value = family_text name help kind ++ line_text (codes "lorawan_ns_") name (decimal value)
+
+-- what a label says
+unfoldable pub label_text : List ℕ → List ℕ → List ℕ
+label_text label of = codes "{" ++ label ++ codes "=\"" ++ of ++ codes "\"}"
+
+-- a sample with a label
+unfoldable pub labelled_text : List ℕ → List ℕ → List ℕ → ℕ → List ℕ
+labelled_text name label of value = codes "lorawan_ns_" ++ name ++ label_text label of ++ codes " " ++ decimal value ++ codes "\n"
+
+-- samples with their names
+abbrev pub named_texts : List ℕ → List ℕ → List (List ℕ × ℕ) → List ℕ
+named_texts name label [] = []
+named_texts name label (sample ∷ samples) = labelled_text name label sample.0 sample.1 ++ named_texts name label samples
+
+-- a sample with its name as text
+abbrev pub named : Bor (List ℕ) × ℕ → List ℕ × ℕ
+named sample = (sample.0.now, sample.1)
+
+-- samples by their places, from this one on
+abbrev pub numbered_texts : List ℕ → List ℕ → ℕ → List ℕ → List ℕ
+numbered_texts name label place [] = []
+numbered_texts name label place (value ∷ values) = labelled_text name label (decimal place) value ++ numbered_texts name label (place + 1) values
+
+-- what came of datagrams
+unfoldable pub datagram_texts : Totals → List ℕ
+datagram_texts t =
+    single_text (codes "datagrams_total") (codes "Datagrams that came.") Counter t.read
+    ++ single_text (codes "dropped_total") (codes "Datagrams for which there was no memory.") Counter t.dropped
+    ++ single_text (codes "late_total") (codes "Late copies, for which no call was made.") Counter t.late
+    ++ single_text (codes "failed_receives_total") (codes "Receives that failed.") Counter t.unreceived
+
+-- what came of joins and downlinks
+unfoldable pub join_texts : Totals → List ℕ
+join_texts t =
+    single_text (codes "unanswered_total") (codes "Join-Requests that the join server did not answer.") Counter t.unanswered
+    ++ single_text (codes "stale_tickets_total") (codes "Join-Requests that were too old to ask the join server for.") Counter t.stale
+    ++ single_text (codes "unsent_total") (codes "Downlinks that were not sent.") Counter t.unsent
+
+-- since when the server runs, and what is open
+unfoldable pub open_texts : Totals → List ℕ
+open_texts t =
+    single_text (codes "start_time_seconds") (codes "When the server began, since 1970.") Gauge t.start_seconds
+    ++ single_text (codes "open_windows") (codes "Windows that are open.") Gauge t.windows
+    ++ single_text (codes "open_tickets") (codes "Tickets that are open.") Gauge t.tickets
+
+-- what is known
+unfoldable pub known_texts : Totals → List ℕ
+known_texts t =
+    single_text (codes "devices") (codes "Devices of the roster.") Gauge t.devices
+    ++ single_text (codes "sessions") (codes "Devices that have joined.") Gauge t.sessions
+    ++ single_text (codes "gateways") (codes "Gateways that are known.") Gauge t.gateways
+
+-- refusals and replies by their names, and entries by shard
+unfoldable pub list_texts : List (List ℕ × ℕ) → List (List ℕ × ℕ) → List ℕ → List ℕ
+list_texts refusals replies entries =
+    family_text (codes "refusals_total") (codes "Datagrams that were refused, by fault.") Counter
+    ++ named_texts (codes "refusals_total") (codes "fault") refusals
+    ++ family_text (codes "replies_total") (codes "Replies, by kind.") Counter
+    ++ named_texts (codes "replies_total") (codes "reply") replies
+    ++ family_text (codes "entries_total") (codes "Entries that were made, by shard.") Counter
+    ++ numbered_texts (codes "entries_total") (codes "shard") 0 entries
+
+-- all counts
+unfoldable pub metrics_text : Totals → List (List ℕ × ℕ) → List (List ℕ × ℕ) → List ℕ → List ℕ
+metrics_text t refusals replies entries = open_texts t ++ known_texts t ++ datagram_texts t ++ join_texts t ++ list_texts refusals replies entries

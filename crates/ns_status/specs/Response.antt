@@ -1,0 +1,35 @@
+-- The heads of responses.
+use Rattle.std.specs.Prelude.{ℕ, List, [], ◌++◌, codes, decimal, Option, Some, None}
+use Rattle.ns_status.specs.declared.response.Status.{Status}
+use Rattle.ns_status.specs.declared.response.Status.TheVariants.{Found, Malformed, NotFound, NoMethod, TooLong, NoMemory}
+use Rattle.ns_status.specs.declared.response.Content.{Content}
+use Rattle.ns_status.specs.declared.response.Content.TheVariants.{Text, Html, Json, Metrics}
+
+-- the number and the words of a status
+abbrev pub status_words : Status → List ℕ
+status_words Found = codes "200 OK"
+status_words Malformed = codes "400 Bad Request"
+status_words NotFound = codes "404 Not Found"
+status_words NoMethod = codes "405 Method Not Allowed"
+status_words TooLong = codes "431 Request Header Fields Too Large"
+status_words NoMemory = codes "503 Service Unavailable"
+
+-- the media type of a body
+abbrev pub media_type : Content → List ℕ
+media_type Text = codes "text/plain; charset=utf-8"
+media_type Html = codes "text/html; charset=utf-8"
+media_type Json = codes "application/json"
+media_type Metrics = codes "text/plain; version=0.0.4; charset=utf-8"
+
+-- the length of a body, where it is told
+abbrev pub length_text : Option ℕ → List ℕ
+length_text None = []
+length_text (Some len) = codes "\r\nContent-Length: " ++ decimal len
+
+-- the fields of each head, and the empty line behind them
+unfoldable pub fields_text : List ℕ
+fields_text = codes "\r\nAllow: GET, HEAD\r\nCache-Control: no-store\r\nX-Content-Type-Options: nosniff\r\nContent-Security-Policy: default-src 'none'; script-src 'unsafe-inline'; style-src 'unsafe-inline'; connect-src 'self'\r\nConnection: close\r\n\r\n"
+
+-- the head of a response
+abbrev pub head_text : Status → Content → Option ℕ → List ℕ
+head_text status content len = codes "HTTP/1.1 " ++ status_words status ++ codes "\r\nContent-Type: " ++ media_type content ++ length_text len ++ fields_text

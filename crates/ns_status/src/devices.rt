@@ -1,0 +1,203 @@
+//! What is known of the devices of a roster.
+
+ghost use Rattle.std.specs.Prelude.{◌≡◌, ◌==◌, Some, None, IfOk, length, count_by, is_some, option_map, option_and_then, slice_get, IsSome, if◌then◌else◌};
+ghost use Rattle.std.specs.List.{list_any};
+ghost use Rattle.ns_types.specs.declared.identity.DevEui.{DevEui as dev_eui};
+ghost use Rattle.ns_status.specs.Devices.{fresh, renewed, with_frame, after_news, noted, eui_of, row_of, rows, joined_row, missed};
+
+use crate::news::News;
+use indexmap::IndexMap;
+use ns_roster::Roster;
+use ns_types::{DevAddr, DevEui, GatewayId};
+use std::alloc::{AllocError, Global};
+
+/// When and by which gateway a device was heard.
+#[derive(Clone, Copy, Debug, PartialEq, Eq)]
+pub struct HeardBy {
+    /// When, in milliseconds since the server began.
+    pub at_ms: u64,
+    pub gateway: GatewayId,
+}
+
+/// What is known of a device that joined.
+#[derive(Clone, Copy, Debug, PartialEq, Eq)]
+pub struct Device {
+    /// The number of its last session.
+    pub session: u32,
+    /// Its address in that session.
+    pub addr: DevAddr,
+    /// When the session was first told of, in milliseconds since the server began.
+    pub since_ms: u64,
+    /// How many new counters were heard in the session.
+    pub counters: u32,
+    /// The greatest of them.
+    pub fcnt: Option<u32>,
+    /// When it was heard last.
+    pub heard: Option<HeardBy>,
+}
+
+impl Device {
+    // A device whose session begins, and when it was heard last before.
+    fn fresh(session: u32, addr: DevAddr, now_ms: u64, heard: Option<HeardBy>) -> Device
+        ensures { result ≡ fresh session addr now_ms heard }
+    {
+        Device {
+            session,
+            addr,
+            since_ms: now_ms,
+            counters: 0,
+            fcnt: None,
+            heard,
+        }
+    }
+
+    // What is known once this session is told of.
+    fn renewed(before: Option<Device>, session: u32, addr: DevAddr, now_ms: u64) -> Device
+        ensures { result ≡ renewed before session addr now_ms }
+    {
+        match before {
+            None => Device::fresh(session, addr, now_ms, None),
+            Some(device) if device.session < session => {
+                Device::fresh(session, addr, now_ms, device.heard)
+            }
+            Some(device) => device,
+        }
+    }
+
+    // What is known once a frame of its session was heard.
+    fn with_frame(self, fcnt: u32, is_new: bool, heard: HeardBy) -> Device
+        ensures { result ≡ with_frame self fcnt is_new heard }
+    {
+        Device {
+            counters: self.counters.saturating_add(u32::from(is_new)),
+            fcnt: Some(self.fcnt.map_or(fcnt, |before| before.max(fcnt))),
+            heard: Some(heard),
+            ..self
+        }
+    }
+
+    // What is known after news of the device.
+    fn after_news(before: Option<Device>, news: &News, now_ms: u64) -> Device
+        ensures { result ≡ after_news before news.now now_ms }
+    {
+        match *news {
+            News::Joined { session, addr, .. } => Device::renewed(before, session, addr, now_ms),
+            News::Heard {
+                window,
+                addr,
+                gateway,
+                is_new,
+            } => {
+                let device = Device::renewed(before, window.session, addr, now_ms);
+                if device.session != window.session {
+                    return device;
+                }
+                let heard = HeardBy {
+                    at_ms: now_ms,
+                    gateway,
+                };
+                device.with_frame(window.fcnt, is_new, heard)
+            }
+        }
+    }
+
+    /// How many counters of the session, up to the greatest that was heard, were not heard.
+    pub fn missed(&self) -> u64
+        ensures { result ≡ missed self.now }
+    {
+        match self.fcnt {
+            Some(fcnt) => (u64::from(fcnt) + 1).saturating_sub(u64::from(self.counters)),
+            None => 0,
+        }
+    }
+}
+
+impl News {
+    /// The device.
+    pub fn eui(&self) -> DevEui
+        ensures { result ≡ eui_of self.now }
+    {
+        match self {
+            News::Joined { eui, .. } => *eui,
+            News::Heard { window, .. } => window.eui,
+        }
+    }
+}
+
+/// A place for each device of a roster, in its order, and what is known of each that joined.
+#[derive(Drop)]
+pub struct Devices {
+    list: IndexMap<DevEui, Option<Device>>,
+}
+
+impl Devices {
+    /// The devices of a roster, none of which has joined. All the memory that they ever take is taken here.
+    pub fn new(alloc: Global, roster: &Roster) -> Result<Devices, AllocError>
+        ensures { IfOk result (λ d. (eui : dev_eui) → row_of d eui
+            ≡ (if list_any (λ device. device.eui.0 == eui.0) roster.now.devices then Some None else None)) }
+    {
+        let mut devices = Devices {
+            list: IndexMap::with_capacity(alloc, roster.devices().len())?,
+        };
+        for device in roster.devices() {
+            devices.list.insert(device.eui, None)?;
+        }
+        Ok(devices)
+    }
+
+    // What is known of a device, where it is of the roster.
+    fn row(&self, eui: DevEui) -> Option<Option<Device>>
+        ensures { result ≡ row_of self.now eui }
+    {
+        self.list.get(&eui).copied()
+    }
+
+    // Keeps what is known of a device of the roster. It takes no memory.
+    fn put(&mut self, eui: DevEui, device: Device)
+        requires { IsSome (row_of self.old eui) }
+        ensures { (d : dev_eui) → row_of self.new d ≡ (if eui.0 == d.0 then Some (Some device) else row_of self.old d) }
+    {
+        self.list.insert(eui, Some(device)).unwrap();
+    }
+
+    /// Notes what a call and its reply told of a device. It takes no memory. Nothing is noted of another device, nor of one that is
+    /// not of the roster.
+    pub fn note(&mut self, news: &News, now_ms: u64)
+        ensures { (d : dev_eui) → row_of self.new d
+            ≡ (if (eui_of news.now).0 == d.0 then option_map (noted news.now now_ms) (row_of self.old d) else row_of self.old d) }
+    {
+        let Some(before) = self.row(news.eui()) else {
+            return;
+        };
+        self.put(news.eui(), Device::after_news(before, news, now_ms));
+    }
+
+    /// How many places there are.
+    pub fn len(&self) -> usize
+        ensures { result ≡ length (rows self.now) }
+    {
+        self.list.len()
+    }
+
+    /// Whether there is none.
+    pub fn is_empty(&self) -> bool
+        ensures { result ≡ (length (rows self.now) == 0) }
+    {
+        self.list.is_empty()
+    }
+
+    /// How many devices have joined.
+    pub fn joined(&self) -> usize
+        ensures { result ≡ count_by (λ row. is_some row.1) (rows self.now) }
+    {
+        self.list.iter().filter(|row| row.1.is_some()).count()
+    }
+
+    /// The device at a place, where it has joined.
+    pub fn joined_at(&self, place: usize) -> Option<(DevEui, Device)>
+        ensures { result ≡ option_and_then joined_row (slice_get (rows self.now) place) }
+    {
+        let (eui, device) = self.list.get_index(place)?;
+        Some((*eui, (*device)?))
+    }
+}

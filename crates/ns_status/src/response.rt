@@ -1,0 +1,102 @@
+//! The heads of responses.
+
+ghost use Rattle.std.specs.Prelude.{◌≡◌, ◌+◌, ◌≤◌, ◌++◌, length};
+ghost use Rattle.arrayvec.specs.ArrayString.{array_string_len};
+ghost use Rattle.ns_status.specs.Response.{status_words, media_type, length_text, head_text};
+
+use arrayvec::ArrayString;
+use itoa::Buffer;
+
+// The fields of each head, and the empty line behind them.
+const FIELDS: &str =
+    "\r\nAllow: GET, HEAD\r\nCache-Control: no-store\r\nX-Content-Type-Options: nosniff\r\nContent-Security-Policy: default-src 'none'; script-src 'unsafe-inline'; style-src 'unsafe-inline'; connect-src 'self'\r\nConnection: close\r\n\r\n";
+
+/// What a response says of a request.
+#[derive(Clone, Copy, Debug, PartialEq, Eq)]
+pub enum Status {
+    /// 200
+    Found,
+    /// 400
+    Malformed,
+    /// 404
+    NotFound,
+    /// 405
+    NoMethod,
+    /// 431
+    TooLong,
+    /// 503
+    NoMemory,
+}
+
+/// What a body is.
+#[derive(Clone, Copy, Debug, PartialEq, Eq)]
+pub enum Content {
+    /// A text for a person.
+    Text,
+    /// The page.
+    Html,
+    /// A list in JSON.
+    Json,
+    /// Counts for Prometheus.
+    Metrics,
+}
+
+impl Status {
+    /// The number and the words of the status, which stand in a status line, and as the text of a refusal.
+    pub fn words(self) -> &'static str
+        ensures words { result.now ≡ status_words self }
+        ensures short { length result.now ≤ 40 }
+    {
+        match self {
+            Status::Found => "200 OK",
+            Status::Malformed => "400 Bad Request",
+            Status::NotFound => "404 Not Found",
+            Status::NoMethod => "405 Method Not Allowed",
+            Status::TooLong => "431 Request Header Fields Too Large",
+            Status::NoMemory => "503 Service Unavailable",
+        }
+    }
+}
+
+impl Content {
+    // The media type.
+    fn media_type(self) -> &'static str
+        ensures is { result.now ≡ media_type self }
+        ensures short { length result.now ≤ 50 }
+    {
+        match self {
+            Content::Text => "text/plain; charset=utf-8",
+            Content::Html => "text/html; charset=utf-8",
+            Content::Json => "application/json",
+            Content::Metrics => "text/plain; version=0.0.4; charset=utf-8",
+        }
+    }
+}
+
+// Puts the length of a body, where it is told.
+fn put_length(head: &mut ArrayString<512>, len: Option<usize>)
+    requires { array_string_len head.old + 38 ≤ 512 }
+    ensures bytes { head.new.bytes ≡ head.old.bytes ++ length_text len }
+    ensures len { array_string_len head.new ≤ array_string_len head.old + 38 }
+{
+    if let Some(len) = len {
+        head.push_str("\r\nContent-Length: ");
+        head.push_str(Buffer::new().format(len));
+    }
+}
+
+/// The head of a response with a body of so many bytes, or with one that goes on to the end of the connection. The connection is closed
+/// behind it, it is not to be kept by anybody, and the page may ask this server alone and run no script but its own.
+#[tactic(auto, unfolding(crate::specs::Response::fields_text))]
+pub fn head_of(status: Status, content: Content, len: Option<usize>) -> ArrayString<512>
+    ensures { result.bytes ≡ head_text status content len }
+{
+    let mut head = ArrayString::new();
+    head.push_str("HTTP/1.1 ");
+    head.push_str(status.words());
+    head.push_str("\r\nContent-Type: ");
+    head.push_str(content.media_type());
+    put_length(&mut head, len);
+    head.push_str(FIELDS);
+    head
+}

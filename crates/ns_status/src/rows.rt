@@ -1,0 +1,158 @@
+//! The lists of devices and of gateways, in JSON, which are written in pieces: the front, rows, and the end.
+
+ghost use Rattle.std.specs.Prelude.{◌≡◌, ◌++◌, map, false, decimal, string_bytes, IfOk, OnOk};
+ghost use Rattle.serde_json.specs.View.{view};
+ghost use Rattle.serde_json.specs.Written.{has_float};
+ghost use Rattle.ns_roster.specs.Field.{hex_number};
+ghost use Rattle.ns_status.specs.Rows.{front_text, end_text, fcnt_data, heard_gateway_data, heard_ms_data, device_data, gateway_data, row_text, rows_text, device_row, gateway_row};
+
+use crate::devices::{Device, HeardBy};
+use crate::gateways::Gateway;
+use itoa::Buffer;
+use ns_roster::field::eui_text;
+use ns_types::{DevAddr, DevEui, GatewayId};
+use serde_json::{Value, json};
+use std::alloc::{AllocError, Global};
+
+// Puts a number in decimal.
+pub(crate) fn put_number(text: &mut String, n: u64) -> Result<(), AllocError>
+    ensures { OnOk result (string_bytes text.new ≡ string_bytes text.old ++ decimal n) }
+{
+    text.push_str(Buffer::new().format(n))
+}
+
+/// Puts what stands before the rows: at which moment of the server's clock they were read, when the server began, in milliseconds since
+/// 1970, and the name of the list.
+pub fn put_front(
+    text: &mut String,
+    name: &str,
+    now_ms: u64,
+    start_ms: u64,
+) -> Result<(), AllocError>
+    ensures { OnOk result (string_bytes text.new ≡ string_bytes text.old ++ front_text name.now now_ms start_ms) }
+{
+    text.push_str("{\"nowMs\":")?;
+    put_number(text, now_ms)?;
+    text.push_str(",\"startMs\":")?;
+    put_number(text, start_ms)?;
+    text.push_str(",\"")?;
+    text.push_str(name)?;
+    text.push_str("\":[")
+}
+
+/// Puts what stands behind the rows.
+pub fn put_end(text: &mut String) -> Result<(), AllocError>
+    ensures { OnOk result (string_bytes text.new ≡ string_bytes text.old ++ end_text) }
+{
+    text.push_str("\n]}\n")
+}
+
+// The text of an address.
+fn addr_text(alloc: Global, addr: DevAddr) -> Result<String, AllocError>
+    ensures { IfOk result (λ s. string_bytes s ≡ hex_number 4 addr.0) }
+{
+    hex::encode(alloc, addr.0.to_be_bytes())
+}
+
+// The value of a counter.
+fn fcnt_value(alloc: Global, fcnt: Option<u32>) -> Result<Value, AllocError>
+    ensures { IfOk result (λ v. view v ≡ fcnt_data fcnt) }
+{
+    match fcnt {
+        Some(fcnt) => json!(in alloc; fcnt),
+        None => Ok(Value::Null),
+    }
+}
+
+// The values of who heard a device, and when.
+fn heard_values(alloc: Global, heard: Option<HeardBy>) -> Result<(Value, Value), AllocError>
+    ensures gateway { IfOk result (λ v. view v.0 ≡ heard_gateway_data heard) }
+    ensures moment { IfOk result (λ v. view v.1 ≡ heard_ms_data heard) }
+{
+    match heard {
+        Some(heard) => {
+            let gateway = eui_text(alloc, heard.gateway.0)?;
+            Ok((json!(in alloc; gateway)?, json!(in alloc; heard.at_ms)?))
+        }
+        None => Ok((Value::Null, Value::Null)),
+    }
+}
+
+// The value of a device.
+fn device_value(alloc: Global, eui: DevEui, device: &Device) -> Result<Value, AllocError>
+    ensures { IfOk result (λ v. view v ≡ device_data eui device.now) }
+{
+    let dev_addr = addr_text(alloc, device.addr)?;
+    let dev_eui = eui_text(alloc, eui.0)?;
+    let fcnt = fcnt_value(alloc, device.fcnt)?;
+    let (gateway, heard_ms) = heard_values(alloc, device.heard)?;
+    let missed = device.missed();
+    json!(in alloc; {
+        "devAddr": dev_addr,
+        "devEui": dev_eui,
+        "fCnt": fcnt,
+        "gatewayId": gateway,
+        "heardMs": heard_ms,
+        "missed": missed,
+        "session": device.session,
+        "sinceMs": device.since_ms
+    })
+}
+
+// The value of a gateway.
+fn gateway_value(alloc: Global, id: GatewayId, gateway: &Gateway) -> Result<Value, AllocError>
+    ensures { IfOk result (λ v. view v ≡ gateway_data id gateway.now) }
+{
+    let text = eui_text(alloc, id.0)?;
+    json!(in alloc; {
+        "frames": gateway.frames,
+        "gatewayId": text,
+        "heardMs": gateway.at_ms
+    })
+}
+
+// Puts a row, on a line of its own, with a comma before all but the first.
+fn put_row(alloc: Global, text: &mut String, is_first: bool, row: &Value) -> Result<(), AllocError>
+    requires { has_float (view row.now) ≡ false }
+    ensures { OnOk result (string_bytes text.new ≡ string_bytes text.old ++ row_text is_first (view row.now)) }
+{
+    let row = row.to_string(alloc)?;
+    text.push_str(if is_first { "\n" } else { ",\n" })?;
+    text.push_str(row.as_str())
+}
+
+/// Puts rows of devices, of which the first is the first of the list or not.
+pub fn put_devices(
+    alloc: Global,
+    text: &mut String,
+    is_first: bool,
+    devices: &[(DevEui, Device)],
+) -> Result<(), AllocError>
+    ensures { OnOk result (string_bytes text.new ≡ string_bytes text.old ++ rows_text is_first (map device_row devices.now)) }
+{
+    let mut is_first = is_first;
+    for row in devices {
+        let value = device_value(alloc, row.0, &row.1)?;
+        put_row(alloc, text, is_first, &value)?;
+        is_first = false;
+    }
+    Ok(())
+}
+
+/// Puts rows of gateways, of which the first is the first of the list or not.
+pub fn put_gateways(
+    alloc: Global,
+    text: &mut String,
+    is_first: bool,
+    gateways: &[(GatewayId, Gateway)],
+) -> Result<(), AllocError>
+    ensures { OnOk result (string_bytes text.new ≡ string_bytes text.old ++ rows_text is_first (map gateway_row gateways.now)) }
+{
+    let mut is_first = is_first;
+    for row in gateways {
+        let value = gateway_value(alloc, row.0, &row.1)?;
+        put_row(alloc, text, is_first, &value)?;
+        is_first = false;
+    }
+    Ok(())
+}

@@ -1,0 +1,151 @@
+//! The start over memory, on the steps of a worked run.
+
+use ns_resume::{RecordFault, Resumed, run_record};
+use ns_roster::Roster;
+use ns_types::{DevEui, WindowName};
+use std::alloc::Global;
+use std::io::BufReader;
+use std::sync::Arc;
+
+const ROSTER: &str =
+    "{\"version\":1,\"net_id\":\"000024\",\"rx1_offset\":0,\"rx_delay\":1,\"devices\":[{\"dev_eui\":\"000000000000000d\",\"join_eui\":\"0102030401020304\",\"slot\":1998321}]}";
+
+// The same with one more device before it.
+const ADDED: &str =
+    "{\"version\":1,\"net_id\":\"000024\",\"rx1_offset\":0,\"rx_delay\":1,\"devices\":[{\"dev_eui\":\"000000000000000e\",\"join_eui\":\"0102030401020304\",\"slot\":5},{\"dev_eui\":\"000000000000000d\",\"join_eui\":\"0102030401020304\",\"slot\":1998321}]}";
+
+// Another device in its place.
+const OTHER: &str =
+    "{\"version\":1,\"net_id\":\"000024\",\"rx1_offset\":0,\"rx_delay\":1,\"devices\":[{\"dev_eui\":\"000000000000000e\",\"join_eui\":\"0102030401020304\",\"slot\":5}]}";
+
+const JOIN: &str =
+    "heard 010100000000000000a100000000000f424033be27a005fc4a004b170004030201040302010d00000000000000010001000000\nanswer 0004030201040302010d00000000000000010001000000 {\"AppSKey\":{\"AESKey\":\"ec925802ae430ca77fd3dd73cb2cc588\"},\"MessageType\":\"JoinAns\",\"NwkSKey\":{\"AESKey\":\"44024241ed4ce9a68c6a8bc055233fd3\"},\"PHYPayload\":\"20000102030405060708090a0b0c0d0e0f\",\"Result\":{\"ResultCode\":\"Success\"},\"TransactionID\":1}\n";
+
+const CLOSED: &str =
+    "heard 010100000000000000a100000000000f424033be27a005fc4a004b1180f17dbe4900020001954378766723abef\nclose 000000000000000d 1 2\n";
+
+const AGAIN: &str =
+    "heard 010100000000000000a100000000000f424033be27a005fc4a004b1180f17dbe4900020001954378766723abef\n";
+
+const UP: &str = "up 000000000000000d 1 2 1 plain - 74657374 1 00000000000000a1\n";
+
+// Runs these lines beside these `up` lines, read in pieces of so many bytes.
+fn run(
+    alloc: Global,
+    roster: &str,
+    lines: &[&str],
+    ups: &str,
+    piece: usize,
+) -> Result<Resumed, RecordFault> {
+    let Ok(roster) = Roster::read(alloc, roster.as_bytes()) else {
+        return Err(RecordFault::NoMemory);
+    };
+    let mut text = Vec::new(alloc);
+    for part in lines {
+        text.extend_from_slice(part.as_bytes())?;
+    }
+    let Ok(roster) = Arc::new(alloc, roster) else {
+        return Err(RecordFault::NoMemory);
+    };
+    let mut steps = BufReader::with_capacity(alloc, piece, text.as_slice())?;
+    let mut ups = BufReader::with_capacity(alloc, piece, ups.as_bytes())?;
+    run_record(alloc, roster, &mut steps, &mut ups)
+}
+
+// The fault of such a run.
+fn fault(rt: &HostRuntime, roster: &str, lines: &[&str], ups: &str) -> Option<RecordFault> {
+    run(rt.alloc(), roster, lines, ups, 1_000).err()
+}
+
+fn window(round: u32) -> WindowName {
+    WindowName {
+        eui: DevEui(13),
+        session: 1,
+        fcnt: 2,
+        round,
+    }
+}
+
+#[test]
+fn a_record_is_run(rt: HostRuntime) -> Result<(), RecordFault> {
+    for piece in [1usize, 7, 1_000_000] {
+        let resumed = run(rt.alloc(), ROSTER, &[JOIN, CLOSED, AGAIN], UP, piece)?;
+        assert_eq!(rt; resumed.torn, 0);
+        assert_eq!(rt; resumed.up_torn, 0);
+        assert!(rt; resumed.missing.is_empty());
+        assert!(rt; resumed.tickets.is_empty());
+        assert!(rt; resumed.windows.as_slice() == [window(2)].as_slice());
+        assert_eq!(rt; resumed.shards[13].made(), 5);
+    }
+    Ok(())
+}
+
+#[test]
+fn a_torn_line_is_told(rt: HostRuntime) -> Result<(), RecordFault> {
+    let torn = &AGAIN[..40];
+    let resumed = run(rt.alloc(), ROSTER, &[JOIN, CLOSED, torn], UP, 7)?;
+    assert_eq!(rt; resumed.shards[13].made(), 4);
+    assert_eq!(rt; resumed.torn, 40);
+    assert!(rt; resumed.windows.is_empty());
+    Ok(())
+}
+
+#[test]
+fn an_open_ticket_is_told(rt: HostRuntime) -> Result<(), RecordFault> {
+    let asked = match JOIN.split_once("\n") {
+        Some((first, _)) => first,
+        None => "",
+    };
+    let resumed = run(rt.alloc(), ROSTER, &[asked, "\n"], "", 7)?;
+    assert_eq!(rt; resumed.tickets.len(), 1);
+    Ok(())
+}
+
+#[test]
+fn missing_up_lines_are_given(rt: HostRuntime) -> Result<(), RecordFault> {
+    let none = run(rt.alloc(), ROSTER, &[JOIN, CLOSED], "", 7)?;
+    assert_eq!(rt; none.up_torn, 0);
+    assert!(rt; none.missing.as_slice() == UP.as_bytes());
+    let torn = run(rt.alloc(), ROSTER, &[JOIN, CLOSED], &UP[..10], 7)?;
+    assert_eq!(rt; torn.up_torn, 10);
+    assert!(rt; torn.missing.as_slice() == UP.as_bytes());
+    Ok(())
+}
+
+#[test]
+fn a_record_that_does_not_fit_is_refused(rt: HostRuntime) {
+    assert!(rt; fault(&rt, OTHER, &[JOIN, CLOSED], UP) == Some(RecordFault::NoFit(1)));
+    assert!(rt;
+        fault(
+            &rt,
+            ROSTER,
+            &[JOIN, CLOSED, "close 000000000000000d 1 2\n"],
+            UP
+        ) == Some(RecordFault::NoFit(5))
+    );
+    assert!(rt; fault(&rt, ROSTER, &[JOIN, "heard\n", CLOSED], UP) == Some(RecordFault::NoStep(3)));
+    assert!(rt; fault(&rt, ROSTER, &[JOIN, "heard 00\n"], UP) == Some(RecordFault::NoFit(3)));
+    assert!(rt; fault(&rt, ROSTER, &[CLOSED], UP) == Some(RecordFault::NoFit(1)));
+}
+
+#[test]
+fn up_lines_that_are_not_of_the_record_are_refused(rt: HostRuntime) {
+    assert!(rt; fault(&rt, ROSTER, &[JOIN, CLOSED], "up 0\n") == Some(RecordFault::UpDiffers(1)));
+    assert!(rt; fault(&rt, ROSTER, &[JOIN], UP) == Some(RecordFault::UpLonger(0)));
+    assert!(rt;
+        fault(
+            &rt,
+            ROSTER,
+            &[JOIN, CLOSED],
+            "up 000000000000000d 1 2 1 plain - 74657374 1 00000000000000a1\nu"
+        ) == Some(RecordFault::UpLonger(1))
+    );
+}
+
+#[test]
+fn a_device_may_be_added(rt: HostRuntime) -> Result<(), RecordFault> {
+    let resumed = run(rt.alloc(), ADDED, &[JOIN, CLOSED, AGAIN], UP, 1_000)?;
+    assert_eq!(rt; resumed.shards[13].made(), 5);
+    assert_eq!(rt; resumed.shards[14].made(), 0);
+    Ok(())
+}

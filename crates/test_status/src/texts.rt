@@ -1,0 +1,107 @@
+//! The texts. What is wanted of each is written by hand from docs/FORMATS.md.
+
+use ns_status::{
+    Content, Device, Gateway, HeardBy, Lists, Status, Totals, head_of, put_devices, put_end,
+    put_front, put_gateways, put_metrics,
+};
+use ns_types::{DevAddr, DevEui, GatewayId};
+use std::test::Fail;
+
+#[test]
+fn lists(rt: HostRuntime) -> Result<(), Fail> {
+    let alloc = rt.alloc();
+    let silent = Device {
+        session: 1,
+        addr: DevAddr(0x49be_7df1),
+        since_ms: 1500,
+        counters: 0,
+        fcnt: None,
+        heard: None,
+    };
+    let heard = Device {
+        session: 2,
+        counters: 3,
+        fcnt: Some(9),
+        heard: Some(HeardBy {
+            at_ms: 60_000,
+            gateway: GatewayId(0xa1),
+        }),
+        ..silent
+    };
+    let mut text = String::new(alloc);
+    put_front(&mut text, "devices", 61_000, 1_764_017_000_123)?;
+    put_devices(alloc, &mut text, true, &[(DevEui(13), silent)])?;
+    put_devices(alloc, &mut text, false, &[(DevEui(14), heard)])?;
+    put_end(&mut text)?;
+    assert_eq!(rt;
+        text.as_str(),
+        "{\"nowMs\":61000,\"startMs\":1764017000123,\"devices\":[\n{\"devAddr\":\"49be7df1\",\"devEui\":\"000000000000000d\",\"fCnt\":null,\"gatewayId\":null,\"heardMs\":null,\"missed\":0,\"session\":1,\"sinceMs\":1500},\n{\"devAddr\":\"49be7df1\",\"devEui\":\"000000000000000e\",\"fCnt\":9,\"gatewayId\":\"00000000000000a1\",\"heardMs\":60000,\"missed\":7,\"session\":2,\"sinceMs\":1500}\n]}\n"
+    );
+    let gateway = Gateway {
+        frames: 5,
+        at_ms: 60_000,
+    };
+    text.clear();
+    put_gateways(alloc, &mut text, true, &[(GatewayId(0xa1), gateway)])?;
+    assert_eq!(rt;
+        text.as_str(),
+        "\n{\"frames\":5,\"gatewayId\":\"00000000000000a1\",\"heardMs\":60000}"
+    );
+    Ok(())
+}
+
+#[test]
+fn metrics(rt: HostRuntime) -> Result<(), Fail> {
+    let totals = Totals {
+        start_seconds: 1_764_017_000,
+        read: 1,
+        dropped: 2,
+        late: 3,
+        unreceived: 4,
+        unanswered: 5,
+        stale: 6,
+        unsent: 7,
+        windows: 8,
+        tickets: 9,
+        devices: 10,
+        sessions: 11,
+        gateways: 12,
+    };
+    let lists = Lists {
+        refusals: &[13],
+        refusal_names: &["G1"],
+        replies: &[14, 15],
+        reply_names: &["opened", "copied"],
+        entries: &[16, 17],
+    };
+    let mut text = String::new(rt.alloc());
+    put_metrics(&mut text, &totals, lists)?;
+    let text = text.as_str();
+    assert!(rt;
+        text.starts_with(
+            "# HELP lorawan_ns_start_time_seconds When the server began, since 1970.\n# TYPE lorawan_ns_start_time_seconds gauge\nlorawan_ns_start_time_seconds 1764017000\n"
+        )
+    );
+    assert!(rt;
+        text.contains(
+            "\n# TYPE lorawan_ns_replies_total counter\nlorawan_ns_replies_total{reply=\"opened\"} 14\nlorawan_ns_replies_total{reply=\"copied\"} 15\n# HELP"
+        )
+    );
+    assert!(rt;
+        text.ends_with(
+            "\nlorawan_ns_entries_total{shard=\"0\"} 16\nlorawan_ns_entries_total{shard=\"1\"} 17\n"
+        )
+    );
+    Ok(())
+}
+
+#[test]
+fn heads(rt: HostRuntime) {
+    let head = head_of(Status::NotFound, Content::Text, Some(14));
+    assert!(rt;
+        head.as_str().starts_with(
+            "HTTP/1.1 404 Not Found\r\nContent-Type: text/plain; charset=utf-8\r\nContent-Length: 14\r\n"
+        )
+    );
+    assert!(rt; head.as_str().ends_with("\r\nConnection: close\r\n\r\n"));
+}
