@@ -1,6 +1,6 @@
 #!/usr/bin/env python3
 """Measures `lorawan_ns serve` over loopback, beside the same server in plain Rust and a program that only receives (both
-bench/plain_server), with 1, 2 and 4 workers that hear gateways.
+bench/plain_server), with 1, 2 and 4 workers that hear gateways; and with gateways that are packet forwarders.
 
     rustc -O --edition 2021 -o PLAIN bench/plain_server/main.rs
     python3 bench/serve.py PROGRAM PLAIN [--workers N,..] [--devices N] [--copies N] [--frames N] [--confirmed SHARE] [--window MS]
@@ -33,10 +33,11 @@ def row(cells):
 
 
 class Measured:
-    """One program with a number of workers."""
+    """One program with a number of workers. `forwards`: its gateways are packet forwarders."""
 
     def __init__(self, name, words, answers, options, folder):
         self.name, self.words, self.answers, self.options, self.folder = name, words, answers, options, folder
+        self.forwards = '--forwarders' in words
 
     def run(self, rate, seconds):
         options = self.options
@@ -45,7 +46,7 @@ class Measured:
             try:
                 frames = options.frames or int((rate or 400_000) * seconds / options.devices / options.copies) + 2
                 plan = load.Plan([server.where], options.devices, options.copies, frames, rate, seconds, options.confirmed,
-                                 options.window / 1000, options.senders, 1, self.answers)
+                                 options.window / 1000, options.senders, 1, self.answers, self.forwards)
                 return load.measured(plan, [server])
             finally:
                 server.close()
@@ -111,18 +112,21 @@ def main():
         row(HEAD)
         row(('---',) * len(HEAD))
         for workers in options.workers.split(','):
-            more = ['--listen', '127.0.0.1:0', '--workers', workers]
+            more = ['--workers', workers, '--listen', '127.0.0.1:0']
             serves = more + ['--window', str(options.window), '--join-workers', '4', '--join', '%s:%d' % joins.where]
             found = []
             for name, words, answers in (
                     ('proved', [options.program, 'serve', roster] + serves, True),
+                    ('proved, packet forwarders', [options.program, 'serve', roster] + [
+                        '--forwarders' if word == '--listen' else word for word in serves], True),
                     ('plain', [options.plain, 'serve', roster] + serves, True),
                     ('receives only', [options.plain, 'receive'] + more, False)):
                 top, right = Measured(name, words, answers, options, folder).rows(workers)
                 is_right = is_right and right
                 found.append(top.cost())
-            print('\n%s workers: proved to plain %.2f, proved to a bare receiver %.2f, plain to it %.2f (processor time a datagram '
-                  'at the top rate)\n' % (workers, found[0] / found[1], found[0] / found[2], found[1] / found[2]), flush=True)
+            print('\n%s workers: proved to plain %.2f, proved to a bare receiver %.2f, plain to it %.2f, packet forwarders to own datagrams '
+                  '%.2f (processor time a datagram at the top rate)\n' % (
+                      workers, found[0] / found[2], found[0] / found[3], found[2] / found[3], found[1] / found[0]), flush=True)
         print('at rest: %s' % at_rest(options.program, folder))
     joins.close()
     print('load average at the end %.1f' % os.getloadavg()[0])

@@ -21,6 +21,8 @@ status 0 only where all came as it must.
     --workers N, --join-workers N, --window MS     of the `serve` that it starts (4, 4 and 200; the window also of one that runs)
     --trim N             of the `serve` that it starts: after how many entries a shard is trimmed, or `never` (default: its own default)
     --rx1-offset N, --rx-delay N      of the roster (default 2 and 1)
+    --forwarder          gateways know nothing of this server: they are packet forwarders (Semtech UDP protocol, versions 1 and 2),
+                         and `serve` hears them by `--forwarders`
     --quiet              tells the sums alone, which it also does once a minute
     --soak SECONDS       sends for this time in place of --frames, with what follows
     --rejoin N           a device joins again after N uplinks (0: never); --flap SECONDS: how often a gateway goes, or comes back
@@ -39,7 +41,7 @@ import sys
 import tempfile
 
 from forwarder_bridge import written
-from network import nodes
+from network import forwarders, nodes
 from network.checked import Run, told
 from network.servers import Joins, NotServing, Serve, address
 
@@ -86,7 +88,8 @@ def options_of(words):
             ('soak', between(0, 1e7, float), 0), ('rejoin', between(0, 60000), 0), ('flap', between(0, 1e6, float), 0),
             ('hostile', between(0, 1, float), 0), ('join-faults', between(0, 1e6, float), 0)):
         parser.add_argument('--' + name, type=kind, default=default, help=argparse.SUPPRESS)
-    parser.add_argument('--quiet', action='store_true', help=argparse.SUPPRESS)
+    for name in ('forwarder', 'quiet'):
+        parser.add_argument('--' + name, action='store_true', help=argparse.SUPPRESS)
     options = parser.parse_args(words)
     options.seconds = options.soak
     if options.serve and not options.join[1]:
@@ -104,7 +107,7 @@ def started(options, folder, join):
     frames = options.seconds * options.rate if options.seconds else options.devices * options.frames
     # Room for joins that are tried again and for hostile datagrams.
     options.datagrams = min(MOST_DATAGRAMS, int(2 * (frames + 10 * options.devices) * options.copies) + 1000)
-    serve = Serve([options.program, 'serve', roster, '--join', '%s:%d' % join, '--listen', '127.0.0.1:0',
+    serve = Serve([options.program, 'serve', roster, '--join', '%s:%d' % join, '--forwarders' if options.forwarder else '--listen', '127.0.0.1:0',
                    '--workers', str(options.workers), '--join-workers', str(options.join_workers),
                    '--window', str(options.window), '--stop-after', str(options.datagrams),
                    *(['--trim', options.trim] if options.trim else [])])
@@ -122,12 +125,15 @@ def ended(run, options):
     dropped = run.serve.dropped()[0] if run.serve.child.poll() is None else 0
     if dropped:
         run.fault('the system dropped %d datagrams before the server: a slower --rate, or a greater net.core.rmem_default', dropped)
-    run.serve.stop(options.datagrams)
+    run.serve.stop(options.datagrams, forwarders.filler() if options.forwarder else b'\0')
     while not run.serve.is_over and run.serve.child.poll() is not None:
         run.receive(0)
     status = run.serve.child.poll()
     if status != 0:
         run.fault('the server ended with %s: %s', 'status %s' % status if status else 'nothing', ' '.join(run.serve.errors[-3:]))
+    for gateway in run.gateways if options.forwarder and is_plain(options) else ():
+        if gateway.waiting:
+            run.fault('gateway %s: %d of its messages are not acknowledged', gateway.eui.hex(), len(gateway.waiting))
     counts = run.counts
     want = counts['datagrams'] + counts['joins'] + counts['uplinks']
     if is_plain(options) and not dropped and counts['settled'] != want:

@@ -7,8 +7,9 @@ import time
 
 from device import WrongAccept
 
+from network.forwarders import Forwarder
 from network.hostile import Hostile
-from network.nodes import CHANNELS, JOIN_DELAY, NET_ID, Copy, Down, Gateway, Node, address_of
+from network.nodes import CHANNELS, JOIN_DELAY, NET_ID, Copy, Gateway, Node, address_of
 
 MOST_JOINS = 64         # Join-Requests that wait for their answer at a time
 MOST_AT_ONCE = 4        # of them sent one after the other, since the system keeps some 250 datagrams for a socket that is not read
@@ -35,7 +36,8 @@ class Run:
         self.options, self.serve, self.say = options, serve, say
         self.pick = random.Random(options.seed)
         self.nodes = [Node(options.seed, eui) for eui in range(options.devices)]
-        self.gateways = [Gateway(options.seed << 16 | number, serve.where) for number in range(options.gateways)]
+        kind = Forwarder if options.forwarder else Gateway
+        self.gateways = [kind(options.seed << 16 | number, serve.where) for number in range(options.gateways)]
         self.hostile = Hostile(options, serve.where)
         self.counts, self.faults, self.delays = collections.Counter(), [], collections.defaultdict(list)
         # What was sent and has not come back: by the words of its `up` line, and by the gateway and moment of each copy, data frames
@@ -74,7 +76,7 @@ class Run:
         sent.waits_for_line = frame is not None and self.serve.output is not None
         for copy in sent.copies:
             try:
-                copy.gateway.socket.send(copy.datagram(sent.hertz, sent.rate, data))
+                copy.gateway.send(copy, sent.hertz, sent.rate, data)
                 self.counts['datagrams'] += 1
             except OSError as why:
                 self.fault('a datagram could not be sent: %s', why)
@@ -157,7 +159,7 @@ class Run:
                 continue
             for _ in range(100):
                 try:
-                    datagram = key.fileobj.recv(600)
+                    datagram = key.fileobj.recv(1000)
                 except BlockingIOError:
                     break
                 except OSError:
@@ -167,9 +169,12 @@ class Run:
 
     def take_down(self, gateway, datagram):
         try:
-            down = Down(datagram)
+            down = gateway.down(datagram)
         except ValueError as why:
             return self.fault('a datagram that is no downlink (%s): %s', why, datagram.hex())
+        if down is None:
+            self.counts['messages_acknowledged'] += 1
+            return None
         if down.gateway != gateway.eui:
             return self.fault('gateway %s got a downlink of gateway %s', gateway.eui.hex(), down.gateway.hex())
         is_join = down.frame[:1] == b'\x20'

@@ -3,8 +3,9 @@ import random
 import socket
 import time
 
-from forwarder_bridge import HEADER, UP
+from forwarder_bridge import HEADER, PUSH_DATA, UP, WRAP
 
+from network.forwarders import message, rxpk
 from network.nodes import CHANNELS
 
 
@@ -14,6 +15,7 @@ class Hostile:
 
     def __init__(self, options, where):
         self.share, self.window, self.frames = options.hostile, options.window / 1000, []
+        self.is_forwarder = options.forwarder
         self.pick = random.Random(options.seed ^ 0x5EED)
         self.socket = socket.socket(socket.AF_INET6 if ':' in where[0] else socket.AF_INET, socket.SOCK_DGRAM)
         self.socket.connect(where)
@@ -31,6 +33,9 @@ class Hostile:
         return 1
 
     def heard(self, frame):
+        if self.is_forwarder:
+            item = rxpk(self.pick.randrange(WRAP), self.pick.choice(CHANNELS), 5, -900, 50, frame)
+            return message(2, b'\0\0', PUSH_DATA, self.pick.randbytes(8), {'rxpk': [item]})
         return HEADER.pack(1, UP, self.pick.randbytes(8), self.pick.randrange(1 << 64), self.pick.choice(CHANNELS), 5, -900, 50,
                            len(frame)) + frame
 

@@ -9,8 +9,9 @@ import time
 from dataclasses import dataclass, field
 
 from device import WrongAccept
-from forwarder_bridge import HEADER, UP
+from forwarder_bridge import HEADER, PULL_DATA, PULL_RESP, PUSH_DATA, UP
 
+from network.forwarders import HEAD, Txpk, message, rxpk
 from network.nodes import JOIN_DELAY, Down, Node
 
 HERTZ, RATE = 868_100_000, 5
@@ -35,6 +36,7 @@ class Plan:
     senders: int = 2
     seed: int = 1
     joins: bool = True          # devices join; else nobody answers
+    forwarders: bool = False    # the gateways are packet forwarders
 
 
 @dataclass
@@ -75,12 +77,24 @@ class Sender:
         self.sockets = {}
         for gateway in self.gateways:
             for server, where in enumerate(plan.servers):
-                sock = socket.socket(socket.AF_INET, socket.SOCK_DGRAM)
-                sock.setsockopt(socket.SOL_SOCKET, socket.SO_RCVBUF, 1 << 22)
-                sock.setsockopt(socket.SOL_SOCKET, SO_TIMESTAMPNS, 1)
-                sock.connect(where)
-                self.sockets[gateway, server] = sock
+                self.sockets[gateway, server] = self.opened(where)
+        self.downs = {sock.fileno(): (sock, gateway) for (gateway, _), sock in self.sockets.items()}
+        if plan.forwarders:
+            self.downs = {}
+            for gateway in self.gateways:
+                for where in plan.servers:
+                    sock = self.opened(where)
+                    sock.send(message(2, bytes(2), PULL_DATA, gateway))
+                    self.downs[sock.fileno()] = sock, gateway
         self.got, self.is_over = [], False
+
+    @staticmethod
+    def opened(where):
+        sock = socket.socket(socket.AF_INET, socket.SOCK_DGRAM)
+        sock.setsockopt(socket.SOL_SOCKET, socket.SO_RCVBUF, 1 << 22)
+        sock.setsockopt(socket.SOL_SOCKET, SO_TIMESTAMPNS, 1)
+        sock.connect(where)
+        return sock
 
     def socket(self, gateway, node):
         return self.sockets[gateway, node.eui % 16 % len(self.plan.servers)]
@@ -90,10 +104,7 @@ class Sender:
     def join_all(self):
         """Has each device join, some at a time; what is not answered within 6 s is sent again."""
         waiting, to_join = {}, self.nodes[::-1]
-        watch = select.poll()
-        by_number = {sock.fileno(): sock for sock in self.sockets.values()}
-        for number in by_number:
-            watch.register(number, select.POLLIN)
+        watch = self.watch()
         while waiting or to_join:
             now = time.monotonic()
             for moment in [moment for moment, (_, at) in waiting.items() if now - at > 6]:
@@ -104,10 +115,23 @@ class Sender:
                 waiting[moment] = node, now
                 self.socket(self.gateways[0], node).send(self.heard(self.gateways[0], moment, 50, frame))
             for number, _ in watch.poll(100):
-                down = Down(by_number[number].recv(600))
-                node, _ = waiting.pop(down.moment - JOIN_DELAY, (None, None))
+                sock, gateway = self.downs[number]
+                down = self.down(gateway, sock.recv(600))
+                node, _ = waiting.pop(down.moment - JOIN_DELAY, (None, None)) if down else (None, None)
                 if node:
                     self.accept(node, down.frame)
+
+    def watch(self):
+        watch = select.poll()
+        for number in self.downs:
+            watch.register(number, select.POLLIN)
+        return watch
+
+    def down(self, gateway, found):
+        """A downlink; none of what acknowledges a PULL_DATA."""
+        if not self.plan.forwarders:
+            return Down(found)
+        return Txpk(gateway, found[HEAD.size:]) if found[HEAD.size - 1] == PULL_RESP else None
 
     @staticmethod
     def accept(node, frame):
@@ -117,8 +141,9 @@ class Sender:
         except WrongAccept as why:
             raise SystemExit('device %016x does not take its Join-Accept: %s' % (node.eui, why)) from None
 
-    @staticmethod
-    def heard(gateway, moment, snr, frame):
+    def heard(self, gateway, moment, snr, frame):
+        if self.plan.forwarders:
+            return message(2, bytes(2), PUSH_DATA, gateway, {'rxpk': [rxpk(moment, HERTZ, RATE, -900, snr, frame)]})
         return HEADER.pack(1, UP, gateway, moment, HERTZ, RATE, -900, snr, len(frame)) + frame
 
     # ------------------------------------------------------------ frames
@@ -167,18 +192,16 @@ class Sender:
 
     def listen(self):
         """Keeps each downlink with the time at which the system got it."""
-        watch = select.poll()
-        by_number = {sock.fileno(): sock for sock in self.sockets.values()}
-        for number in by_number:
-            watch.register(number, select.POLLIN)
+        watch = self.watch()
         while not self.is_over:
             for number, _ in watch.poll(50):
                 try:
-                    datagram, more, _, _ = by_number[number].recvmsg(600, 64)
+                    sock, gateway = self.downs[number]
+                    datagram, more, _, _ = sock.recvmsg(600, 64)
                 except OSError:
                     continue
                 seconds, nanoseconds = struct.unpack('qq', more[0][2])
-                self.got.append((seconds + nanoseconds / 1e9, datagram))
+                self.got.append((seconds + nanoseconds / 1e9, gateway, datagram))
 
     def check(self, took, is_whole):
         """Checks the acknowledgements: number, MIC, moment, frequency and data rate, and, where no datagram was dropped, that they
@@ -186,8 +209,10 @@ class Sender:
         sent = self.frames[:CHUNK * len(self.times)]
         took.sent = sum(map(len, self.chunks[:len(self.times)]))
         took.confirmed = sum(node is not None for node in sent)
-        for at, datagram in sorted(self.got):
-            down = Down(datagram)
+        for at, gateway, datagram in sorted(self.got):
+            down = self.down(gateway, datagram)
+            if down is None:
+                continue
             number = down.moment - 1_000_000
             node = sent[number] if 0 <= number < len(sent) else None
             best = self.gateways[number % len(self.gateways)]

@@ -124,6 +124,13 @@ class Gateway:
         self.last = max(self.last + 1, int(1e6 * now) + self.offset)
         return self.last
 
+    def send(self, copy, hertz, rate, frame):
+        self.socket.send(copy.datagram(hertz, rate, frame))
+
+    def down(self, datagram):
+        """The downlink of a datagram. Raises ValueError."""
+        return Down(datagram)
+
     def close(self):
         for found in self.sockets:
             found.close()

@@ -33,17 +33,17 @@ def dropped_at(where):
 
 
 class Serve:
-    """A program that listens to gateways; `listening ADDR` is its first line, and what follows goes on in `output`."""
+    """A program that listens to gateways; `listening ADDR` or `forwarders ADDR` is its first line, and what follows goes on in `output`."""
 
     def __init__(self, words, stdout=None):
         self.stdout = stdout
         self.child = subprocess.Popen(words, stdout=stdout or subprocess.PIPE, stderr=subprocess.PIPE, bufsize=0)
         self.output = open(stdout.name, 'rb') if stdout else self.child.stdout
         line = self.first_line()
-        if not line.startswith(b'listening '):
+        if not line.startswith((b'listening ', b'forwarders ')):
             self.child.kill()
             raise NotServing('%s: %s' % (' '.join(words), self.child.communicate()[1].decode().strip() or 'it is silent'))
-        self.where = address(line[10:].decode().strip())
+        self.where = address(line.split()[1].decode())
         self.errors = []
         self.reader = threading.Thread(target=self.keep_errors, daemon=True)
         self.reader.start()
@@ -79,15 +79,15 @@ class Serve:
         """Datagrams that the system dropped before its socket, and bytes that wait there."""
         return dropped_at(self.where)
 
-    def stop(self, datagrams):
-        """Sends datagrams of one byte until it ends, and says how many."""
+    def stop(self, datagrams, datagram=b'\0'):
+        """Sends a datagram again and again until it ends; it is known how many it takes."""
         with socket.socket(socket.AF_INET6 if ':' in self.where[0] else socket.AF_INET, socket.SOCK_DGRAM) as sock:
             sock.connect(self.where)
             end = time.monotonic() + LONGEST + datagrams / 20_000
             while self.child.poll() is None and time.monotonic() < end:
                 try:
                     for _ in range(100):
-                        sock.send(b'\0')
+                        sock.send(datagram)
                 except OSError:
                     pass        # nobody listens any more
                 time.sleep(0.002)

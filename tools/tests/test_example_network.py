@@ -14,7 +14,9 @@ from live import HAS_PROGRAM, PROGRAM, TOOLS, StandIn
 import example_network
 from network import checked, nodes
 
-HAS_SERVE = HAS_PROGRAM and subprocess.run([PROGRAM, 'serve', '--help'], capture_output=True).returncode == 0
+HELP = subprocess.run([PROGRAM, 'serve', '--help'], capture_output=True) if HAS_PROGRAM else None
+HAS_SERVE = HELP is not None and HELP.returncode == 0
+HAS_FORWARDERS = HAS_SERVE and b'--forwarders' in HELP.stdout
 
 
 def free_port():
@@ -110,6 +112,16 @@ class Shown(unittest.TestCase):
                                      '--quiet')
         self.assertEqual(status, 0, printed)
         self.assertIn('printed 960', printed)
+
+    @unittest.skipUnless(HAS_FORWARDERS, PROGRAM + ' hears no forwarders')
+    def test_gateways_that_know_nothing_of_the_server(self):
+        """Packet forwarders of both versions; then with gateways that move, a join server that fails by turns and hostile messages."""
+        status, printed = self.shown('--program', PROGRAM, '--forwarder')
+        self.assertEqual(status, 0, printed)
+        self.assertIn('printed 48', printed)
+        status, printed = self.shown('--program', PROGRAM, '--forwarder', '--devices', '40', '--soak', '5', '--rate', '100', '--rejoin', '10',
+                                     '--flap', '0.3', '--hostile', '0.1', '--join-faults', '0.5', '--quiet')
+        self.assertEqual(status, 0, printed)
 
     @unittest.skipUnless(HAS_SERVE, PROGRAM + ' has no command serve')
     def test_the_program_where_much_goes_wrong(self):

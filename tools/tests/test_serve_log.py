@@ -44,9 +44,9 @@ class Logs(Served):
         return found
 
     def test_levels(self):
-        # At info: three at the start, the join, the one that was refused, and two of counts. At debug: three refused datagrams, and the join
+        # At info: four at the start, the join, the one that was refused, and two of counts. At debug: three refused datagrams, and the join
         # that was refused.
-        warn, info, debug = {'WARN': 1}, {'WARN': 1, 'INFO': 7}, {'WARN': 1, 'INFO': 7, 'DEBUG': 4}
+        warn, info, debug = {'WARN': 1}, {'WARN': 1, 'INFO': 8}, {'WARN': 1, 'INFO': 8, 'DEBUG': 4}
         for level, wanted in ((None, info), ('info', info), ('warn', warn), ('error', {}), ('off', {}), ('', {}),
                               ('debug', debug), ('trace', debug), ('ns_serve=debug', debug), ('warn,ns_serve=info', info),
                               ('ns_workers=debug', {})):

@@ -1,5 +1,6 @@
 -- What the words of the command line ask for: each field by the option of its name.
 use Rattle.std.specs.Prelude.{◌≡◌, ◌≢◌, ◌<◌, ◌≤◌, ℕ, List, Bool, true, false, Option, None, Some, codes}
+use Rattle.std.specs.Option.{option_map}
 use Rattle.std.specs.Str.Parse.{IsNumeral, digits_value, without_leading_plus}
 use Rattle.std.specs.Net.Grammar.{IsSocketText}
 use Rattle.std.specs.declared.net.socket_addr.SocketAddr.{SocketAddr}
@@ -8,8 +9,9 @@ use Rattle.ns_joinclient.specs.Request.{host_text}
 use Rattle.ns_serve.specs.declared.options.ServeOptions.{ServeOptions}
 use Rattle.lorawan_ns.specs.declared.options.Asked.{Asked}
 use Rattle.lorawan_ns.specs.declared.options.Asked.TheVariants.{Replay, Serve}
+use Rattle.lorawan_ns.specs.declared.options.Recorded.{Recorded}
 use Rattle.lorawan_ns.specs.declared.options.OptionName.{OptionName}
-use Rattle.lorawan_ns.specs.declared.options.OptionName.TheVariants.{Join, Host, Listen, Workers, JoinWorkers, Window, StopAfter, Trim}
+use Rattle.lorawan_ns.specs.declared.options.OptionName.TheVariants.{Join, Host, Listen, Forwarders, Power, Status, Workers, JoinWorkers, Window, StopAfter, Trim, Record}
 use Rattle.lorawan_ns.specs.Commands.{program}
 
 -- the name of an option
@@ -17,11 +19,15 @@ abbrev pub name_of : OptionName → Text
 name_of Join = codes "join"
 name_of Host = codes "host"
 name_of Listen = codes "listen"
+name_of Forwarders = codes "forwarders"
+name_of Power = codes "power"
+name_of Status = codes "status"
 name_of Workers = codes "workers"
 name_of JoinWorkers = codes "join-workers"
 name_of Window = codes "window"
 name_of StopAfter = codes "stop-after"
 name_of Trim = codes "trim"
+name_of Record = codes "record"
 
 -- the option's value is this number in decimal digits
 abbrev pub IsNumber : Text → List Row → ℕ → Type 0
@@ -30,6 +36,11 @@ IsNumber id rows n = (text : Text) × (one_of id rows ≡ Some text) × IsNumera
 -- the option's value is this address of an IP address and a port
 abbrev pub IsAddr : Text → List Row → SocketAddr → Type 0
 IsAddr id rows addr = (text : Text) × (one_of id rows ≡ Some text) × IsSocketText text addr
+
+-- an address where the option is given, and else none
+abbrev pub IsAddrIfGiven : Text → List Row → Option SocketAddr → Type 0
+IsAddrIfGiven id rows None = one_of id rows ≡ None
+IsAddrIfGiven id rows (Some addr) = IsAddr id rows addr
 
 -- a number where the option is given, and else none
 abbrev pub IsNumberIfGiven : Text → List Row → Option ℕ → Type 0
@@ -50,7 +61,10 @@ IsFlag id rows false = one_of id rows ≢ Some (codes "true")
 pub record HasOptions (rows : List Row) (o : ServeOptions) : Type 0 where
   pub join : IsAddr (codes "join") rows o.join
   pub host : first_of (codes "host") rows ≡ Some (host_text o.host)
-  pub listen : IsAddr (codes "listen") rows o.listen
+  pub listen : IsAddrIfGiven (codes "listen") rows o.listen
+  pub forwarders : IsAddrIfGiven (codes "forwarders") rows o.forwarders
+  pub power : IsNumber (codes "power") rows o.power
+  pub status : IsAddrIfGiven (codes "status") rows o.status
   pub workers : IsNumber (codes "workers") rows o.workers
   pub join_workers : IsNumber (codes "join-workers") rows o.join_workers
   pub window_ms : IsNumber (codes "window") rows o.window_ms
@@ -58,15 +72,20 @@ pub record HasOptions (rows : List Row) (o : ServeOptions) : Type 0 where
   pub trim : IsNumberOrNever (codes "trim") rows o.trim
   pub closing : IsFlag (codes "closing") rows o.closing
 
+-- and what it is put down in
+pub record HasRecord (rows : List Row) (r : Recorded) : Type 0 where
+  pub folder : option_map (λ f. f.now) r.folder ≡ first_of (codes "record") rows
+  pub sync : IsFlag (codes "sync") rows r.sync
+
 -- what was found behind a command's name
 abbrev pub IsAskedBy : List Row → Asked → Type 0
 IsAskedBy rows (Replay path closing) = (first_of (codes "ROSTER") rows ≡ Some path.now) × IsFlag (codes "closing") rows closing
-IsAskedBy rows (Serve path options) = (first_of (codes "ROSTER") rows ≡ Some path.now) × HasOptions rows options
+IsAskedBy rows (Serve path options recorded) = (first_of (codes "ROSTER") rows ≡ Some path.now) × HasOptions rows options × HasRecord rows recorded
 
 -- the command that is asked for
 abbrev pub command_of : Asked → Text
 command_of (Replay path closing) = codes "replay"
-command_of (Serve path options) = codes "serve"
+command_of (Serve path options recorded) = codes "serve"
 
 -- the words name the command, and what stands behind it asks for this
 abbrev pub IsAsked : List Text → Asked → Type 0

@@ -18,9 +18,17 @@ option_rule name = record (new_rule name) { long = Some name; action = Some Set;
 abbrev pub number_rule : Text → ℕ → Rule
 number_rule name most = record (option_rule name) { parser = Some (Unsigned 1 most) }
 
+-- an option without a value
+abbrev pub switch_rule : Text → Rule
+switch_rule name = record (new_rule name) { long = Some name; action = Some SetTrue }
+
 -- the option that asks for the closing roster
 abbrev pub closing_rule : Rule
-closing_rule = record (new_rule (codes "closing")) { long = Some (codes "closing"); action = Some SetTrue }
+closing_rule = switch_rule (codes "closing")
+
+-- the option with the address at which the status is told
+abbrev pub status_rule : Rule
+status_rule = option_rule (codes "status")
 
 -- an option that each use of the command needs
 abbrev pub needed : Rule → Rule
@@ -35,7 +43,9 @@ abbrev pub address_rules : List Rule
 address_rules =
     needed (option_rule (codes "join"))
     ∷ else_value (codes "localhost") (option_rule (codes "host"))
-    ∷ else_value (codes "127.0.0.1:1700") (option_rule (codes "listen"))
+    ∷ option_rule (codes "listen")
+    ∷ option_rule (codes "forwarders")
+    ∷ else_value (codes "14") (number_rule (codes "power") 27)
     ∷ []
 
 -- those about how many threads there are
@@ -50,6 +60,10 @@ limit_rules =
     ∷ else_value (codes "20000") (option_rule (codes "trim"))
     ∷ []
 
+-- those about what the calls of the server are put down in
+abbrev pub record_rules : List Rule
+record_rules = option_rule (codes "record") ∷ switch_rule (codes "sync") ∷ []
+
 -- a command with these arguments behind its own
 abbrev pub with_rules : App → List Rule → App
 with_rules = fold with_rule
@@ -57,7 +71,7 @@ with_rules = fold with_rule
 unfoldable pub serve_app : App
 serve_app =
     let heard = with_rules (with_rule (new_app (codes "serve")) roster_rule) address_rules in
-    with_rule (with_rules (with_rules heard worker_rules) limit_rules) closing_rule
+    with_rule (with_rule (with_rules (with_rules (with_rules heard worker_rules) limit_rules) record_rules) status_rule) closing_rule
 
 unfoldable pub replay_app : App
 replay_app = with_rule (with_rule (new_app (codes "replay")) roster_rule) closing_rule

@@ -44,7 +44,7 @@ IsServed options = ((0 < options.workers) × (options.workers ≤ 16)) × ((0 < 
 
 abbrev pub IsDoable : Asked → Type 0
 IsDoable (Replay path closing) = ⊤
-IsDoable (Serve path options) = IsServed options
+IsDoable (Serve path options recorded) = IsServed options
 
 -- a run is of what the words ask for, and a refusal of words is told
 abbrev pub IsRun : List Text → End → Type 0

@@ -5,8 +5,12 @@ ghost use Rattle.std.specs.Process.{exit_status};
 ghost use Rattle.ns_roster.specs.declared.fault.RosterFault.TheVariants as roster;
 ghost use Rattle.ns_replay.specs.declared.run.ReplayFault.TheVariants as replay;
 ghost use Rattle.ns_serve.specs.declared.options.ServeFault.TheVariants as serve;
+ghost use Rattle.ns_record_files.specs.declared.files.FilesFault.TheVariants as files;
+ghost use Rattle.ns_resume.specs.declared.fault.RecordFault.TheVariants as lines;
 
+use ns_record_files::FilesFault;
 use ns_replay::ReplayFault;
+use ns_resume::RecordFault;
 use ns_roster::RosterFault;
 use ns_serve::ServeFault;
 use std::io::ErrorKind;
@@ -25,9 +29,15 @@ pub enum Fault<'a> {
     /// A file that could not be read, by its path as it was given.
     #[error("cannot read {0}")]
     CannotRead(&'a str),
-    /// Standard input or output failed, or the socket did.
+    /// Standard input or output failed, or the socket or the record did.
     #[error("io")]
     Io,
+    /// The files of the record could not be had.
+    #[error("{0}")]
+    Files(FilesFault),
+    /// The record is not one that this roster can go on with.
+    #[error("{0}")]
+    Record(RecordFault),
 }
 
 /// The fault of a file that could not be read.
@@ -76,6 +86,28 @@ pub fn of_serve(outcome: Result<u128, ServeFault>) -> Result<(), Fault<'static>>
         Ok(_) => Ok(()),
         Err(ServeFault::NoMemory) => Err(Fault::NoMemory),
         Err(ServeFault::Io) => Err(Fault::Io),
+    }
+}
+
+/// The fault of the files of a record.
+pub fn of_files(fault: FilesFault) -> Fault<'static>
+    ensures memory { fault ≡ files.NoMemory → result ≡ Fault.NoMemory }
+    ensures other { fault ≢ files.NoMemory → result ≡ Fault.Files fault }
+{
+    match fault {
+        FilesFault::NoMemory => Fault::NoMemory,
+        fault => Fault::Files(fault),
+    }
+}
+
+/// The fault of the lines of a record.
+pub fn of_record(fault: RecordFault) -> Fault<'static>
+    ensures memory { fault ≡ lines.NoMemory → result ≡ Fault.NoMemory }
+    ensures other { fault ≢ lines.NoMemory → result ≡ Fault.Record fault }
+{
+    match fault {
+        RecordFault::NoMemory => Fault::NoMemory,
+        fault => Fault::Record(fault),
     }
 }
 

@@ -3,7 +3,7 @@
 //! `lorawan_ns replay ROSTER` reads step lines from standard input and writes the lines of their answers to standard output. The
 //! contract of `replay` in `ns_replay` says what is written. `lorawan_ns serve ROSTER --join ADDR` hears gateways over UDP and writes
 //! their uplinks: `serve` of `ns_serve` does it, with threads and sockets. Here are the command line, the texts of faults, log lines and
-//! the exit statuses. What the words ask for, when a value of an option is refused, which fault each refusal is, and which status follows
+//! the exit statuses. What the words ask for, which fault each refusal is, and which status follows
 //! stand in contracts; the texts are shown by tests. Before a run ends early, a log line of level error says where and why. The program
 //! stands on `ns_roster`, which reads the roster, on `ns_roster_place`, which names the place of its fault, on `ns_joinclient` for a host's
 //! name, on `ns_types` for streams, on `ns_replay` and `ns_serve`, and on `arrayvec`, `clap`, `jiff_core`, `jiff_fmt`, `log` and
@@ -17,27 +17,32 @@ mod streams;
 #[cfg(test)]
 mod tests;
 
-ghost use Rattle.std.specs.Prelude.{◌≡◌, ◌≤◌, ◌↔◌, ◌⊎◌, true, false, Err, IsOk, IsErr, IfSome, OnOk, map, string_bytes};
+ghost use Rattle.std.specs.Prelude.{◌≡◌, ◌≤◌, ◌↔◌, ◌⊎◌, true, false, Err, IsOk, IsErr, IfOk, IfSome, OnOk, map, string_bytes};
 ghost use Rattle.std.specs.Arc.{arc_value};
 ghost use Rattle.std.specs.Io.KnownBytes.{Appends};
 ghost use Rattle.std.specs.Process.{exit_status};
 ghost use Rattle.ns_replay.specs.Output.{output};
+ghost use Rattle.ns_serve.specs.Begun.{IsBegun};
 ghost use Rattle.lorawan_ns.specs.Status.{IsServed, IsAskedFor, IsStatusOf, IsEnd, IsRun};
 
-use crate::fault::{Fault, of_reading, of_replay, of_roster, of_serve, status_of};
+use crate::fault::{
+    Fault, of_files, of_reading, of_record, of_replay, of_roster, of_serve, status_of,
+};
 use crate::logging::{Logging, Timed, VARIABLE, filter_of};
-use crate::options::{Asked, BadWords, read_words};
+use crate::options::{Asked, BadWords, Recorded, read_words};
 use crate::streams::Told;
 use clap::Error;
 use log::filter::{Filter, FilteredLog};
 use log::{Log, error};
+use ns_record_files::RecordFiles;
 use ns_replay::{ReplayFault, replay};
 use ns_roster::{Roster, RosterFault};
 use ns_roster_place::first_fault;
-use ns_serve::{ServeOptions, WaitingWriter, serve};
+use ns_serve::{Begun, ServeOptions, WaitingWriter, serve};
 use ns_types::{OverStd, Sink, Source};
 use std::alloc::{AllocError, Global};
 use std::env::{Env, VarError};
+use std::fs::File;
 use std::io::ErrorKind;
 use std::net::{Net, TcpListener, TcpStream};
 use std::process::ExitCode;
@@ -134,22 +139,53 @@ fn read_filter<R: Env + AllocGlobal>(rt: &R) -> Result<Filter, AllocError> {
     }
 }
 
+// With what a server begins: the record of a folder, if one is given.
+fn begin<R: Files<File = File> + AllocGlobal, L: Log>(
+    rt: &R,
+    log: &L,
+    roster: &Arc<Roster>,
+    record: Recorded<'_>,
+) -> Result<Begun, Fault<'static>>
+    ensures { IfOk result (IsBegun (arc_value roster.now)) }
+{
+    let alloc = rt.alloc();
+    let Some(folder) = record.folder else {
+        return match Begun::new(alloc, roster) {
+            Ok(begun) => Ok(begun),
+            Err(_) => {
+                error!(log; "no memory for the shards");
+                Err(Fault::NoMemory)
+            }
+        };
+    };
+    let files = match RecordFiles::open(rt, log, alloc, folder, record.sync) {
+        Ok(files) => files,
+        Err(fault) => return Err(of_files(fault)),
+    };
+    match Begun::resume(log, alloc, roster, files) {
+        Ok(begun) => Ok(begun),
+        Err(fault) => Err(of_record(fault)),
+    }
+}
+
 // Reads the roster and then serves gateways.
 fn run_serve<'a, R, L>(
     rt: &R,
     log: &L,
     path: &'a str,
     options: &ServeOptions<'_>,
+    record: Recorded<'_>,
 ) -> Result<(), Fault<'a>>
 where
-    R: Files + AllocGlobal + Print + Sync,
+    R: Files<File = File> + AllocGlobal + Print + Sync,
     L: Threads + Wait + Clock + Log + Sync,
     L: Net<Listener = TcpListener, Stream = TcpStream>,
     requires { IsServed options.now }
 {
     let roster = read_roster(rt, log, path)?;
+    let begun = begin(rt, log, &roster, record)?;
     let writer = OverStd::new(WaitingWriter::new(log, io::writer(rt)));
-    of_serve(serve(log, rt.alloc(), roster, options, writer))
+    of_serve(serve(log, rt.alloc(), roster, options, begun, writer))
 }
 
 // The words of the command line, the program's name first.
@@ -226,14 +262,16 @@ enum End<'a> {
 // Does what the words ask for.
 fn run<'a, R, L>(rt: &R, log: &L, words: &'a [String]) -> End<'a>
 where
-    R: Files + AllocGlobal + Input + Print + Sync,
+    R: Files<File = File> + AllocGlobal + Input + Print + Sync,
     L: Threads + Wait + Clock + Log + Sync,
     L: Net<Listener = TcpListener, Stream = TcpStream>,
     ensures { IsRun (map string_bytes words.now) result }
 {
     match read_words(rt.alloc(), words) {
         Ok(Asked::Replay(path, closing)) => End::Ran(run_replay(rt, log, path, closing)),
-        Ok(Asked::Serve(path, options)) => End::Ran(run_serve(rt, log, path, &options)),
+        Ok(Asked::Serve(path, options, record)) => {
+            End::Ran(run_serve(rt, log, path, &options, record))
+        }
         Err(bad) => End::Refused(bad),
     }
 }

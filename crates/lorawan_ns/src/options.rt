@@ -3,8 +3,8 @@
 ghost use Rattle.std.specs.Prelude.{◌≡◌, ◌<◌, ◌≤◌, codes, false, IfErr, IfOk, IfSome, Some, map, string_bytes};
 ghost use Rattle.ns_joinclient.specs.Request.{host_text};
 ghost use Rattle.clap.specs.Words.{app_of, first_of, found_of, new_app, rows_of, rule_of};
-ghost use Rattle.lorawan_ns.specs.Asked.{HasOptions, IsAddr, IsAsked, IsAskedBy, IsFlag, IsNumber, IsNumberIfGiven, IsNumberOrNever, command_of, name_of};
-ghost use Rattle.lorawan_ns.specs.Commands.{IsCommand, address_rules, closing_rule, limit_rules, number_rule, option_rule, program, replay_app, roster_rule, serve_app, with_rules, worker_rules};
+ghost use Rattle.lorawan_ns.specs.Asked.{HasOptions, HasRecord, IsAddr, IsAddrIfGiven, IsAsked, IsAskedBy, IsFlag, IsNumber, IsNumberIfGiven, IsNumberOrNever, command_of, name_of};
+ghost use Rattle.lorawan_ns.specs.Commands.{IsCommand, address_rules, closing_rule, limit_rules, number_rule, option_rule, program, record_rules, replay_app, roster_rule, serve_app, status_rule, switch_rule, with_rules, worker_rules};
 ghost use Rattle.lorawan_ns.specs.Status.{IsTold, IsServed, IsDoable};
 
 use clap::builder::ValueParser;
@@ -34,7 +34,8 @@ Standard output: the lines of their answers (replay), the uplinks (serve); with
 Standard error: log lines, and in the last line why the program ended early.
 
 Status: 0 at a good end; 1 for a roster or a file that could not be read, for
-want of memory, and where a stream or the socket failed; 2 for a bad command line.
+want of memory, for a record that does not fit, and where a stream, the socket or
+the record failed; 2 for a bad command line.
 
 docs/FORMATS.md describes rosters, datagrams, step lines and answer lines,
 docs/OPERATOR.md says how to use them.";
@@ -45,7 +46,16 @@ pub enum Asked<'a> {
     /// To answer the step lines of standard input over the roster of this file, and whether the closing roster is written.
     Replay(&'a str, bool),
     /// To serve gateways over the roster of this file.
-    Serve(&'a str, ServeOptions<'a>),
+    Serve(&'a str, ServeOptions<'a>, Recorded<'a>),
+}
+
+/// What the calls of a server are put down in.
+#[derive(Clone, Copy)]
+pub struct Recorded<'a> {
+    /// The folder of the record, if there is one.
+    pub folder: Option<&'a str>,
+    /// Whether what was put down is brought to the disk before anything that rests on it leaves the server.
+    pub sync: bool,
 }
 
 /// The options of `serve` with a value, printed as they are written behind `--`.
@@ -57,6 +67,12 @@ pub enum OptionName {
     Host,
     #[error("listen")]
     Listen,
+    #[error("forwarders")]
+    Forwarders,
+    #[error("power")]
+    Power,
+    #[error("status")]
+    Status,
     #[error("workers")]
     Workers,
     #[error("join-workers")]
@@ -67,6 +83,8 @@ pub enum OptionName {
     StopAfter,
     #[error("trim")]
     Trim,
+    #[error("record")]
+    Record,
 }
 
 impl OptionName {
@@ -78,23 +96,30 @@ impl OptionName {
             OptionName::Join => "join",
             OptionName::Host => "host",
             OptionName::Listen => "listen",
+            OptionName::Forwarders => "forwarders",
+            OptionName::Power => "power",
+            OptionName::Status => "status",
             OptionName::Workers => "workers",
             OptionName::JoinWorkers => "join-workers",
             OptionName::Window => "window",
             OptionName::StopAfter => "stop-after",
             OptionName::Trim => "trim",
+            OptionName::Record => "record",
         }
     }
 
     /// What the option takes.
     pub fn takes(self) -> &'static str {
         match self {
-            OptionName::Join | OptionName::Listen => ADDR,
+            OptionName::Join | OptionName::Listen | OptionName::Forwarders | OptionName::Status =>
+                ADDR,
+            OptionName::Power => "a number of dBm from 1 to 27",
             OptionName::Host => "a host's name of 1 to 255 visible characters of ASCII",
             OptionName::Trim => "a number from 1 to 4294967295, or never",
             OptionName::Workers | OptionName::JoinWorkers => "a number from 1 to 16",
             OptionName::Window => "a number of milliseconds from 1 to 60000",
             OptionName::StopAfter => "a number from 1 to 4294967295",
+            OptionName::Record => "a folder, and not with --closing",
         }
     }
 }
@@ -166,15 +191,37 @@ fn number<'a>(alloc: Global, name: &'a str, value: &'a str, most: u64, help: &'a
     option(alloc, name, value, help).value_parser(ValueParser::unsigned(1, most))
 }
 
+// An option without a value.
+fn switch<'a>(alloc: Global, name: &'a str, help: &'a str) -> Arg<'a>
+    ensures rule { rule_of result ≡ switch_rule name.entry.now }
+    ensures here { result.global ≡ false }
+{
+    Arg::new(alloc, name)
+        .long(name)
+        .action(ArgAction::SetTrue)
+        .help(help)
+}
+
 // The option that asks for the closing roster.
 fn closing<'a>(alloc: Global) -> Arg<'a>
     ensures rule { rule_of result ≡ closing_rule }
     ensures here { result.global ≡ false }
 {
-    Arg::new(alloc, "closing")
-        .long("closing")
-        .action(ArgAction::SetTrue)
-        .help("Writes at the end the roster from which the next run begins")
+    let help = "Writes at the end the roster from which the next run begins";
+    switch(alloc, "closing", help)
+}
+
+// The option with the address at which the status is told.
+fn status<'a>(alloc: Global) -> Arg<'a>
+    ensures rule { rule_of result ≡ status_rule }
+    ensures here { result.global ≡ false }
+{
+    option(
+        alloc,
+        "status",
+        "ADDR",
+        "The address at which HTTP tells the status, as 127.0.0.1:9108; without it, none",
+    )
 }
 
 // A command with nothing but its help.
@@ -199,12 +246,27 @@ fn with_addresses<'a>(alloc: Global, command: Command<'a>) -> Result<Command<'a>
         alloc,
         "listen",
         "ADDR",
-        "The address at which gateways are heard",
+        "The address for the server's own datagrams; 127.0.0.1:1700 without --forwarders",
+    );
+    let forwarders = option(
+        alloc,
+        "forwarders",
+        "ADDR",
+        "The address at which packet forwarders are heard",
+    );
+    let power = number(
+        alloc,
+        "power",
+        "DBM",
+        27,
+        "The power of the downlinks that forwarders send, 1 to 27 dBm",
     );
     command
         .arg(join.required(true))?
         .arg(host.default_value("localhost"))?
-        .arg(listen.default_value("127.0.0.1:1700"))
+        .arg(listen)?
+        .arg(forwarders)?
+        .arg(power.default_value("14"))
 }
 
 // A command, and behind its arguments these: how many threads there are.
@@ -260,6 +322,24 @@ fn with_limits<'a>(alloc: Global, command: Command<'a>) -> Result<Command<'a>, A
         .arg(trim.default_value(TRIM))
 }
 
+// A command, and behind its arguments these: what the calls of the server are put down in.
+fn with_record<'a>(alloc: Global, command: Command<'a>) -> Result<Command<'a>, AllocError>
+    ensures { (app : _) → IsCommand app command.entry → IfOk result (IsCommand (with_rules app record_rules)) }
+{
+    let record = option(
+        alloc,
+        "record",
+        "DIR",
+        "The folder of the record, with which the next run goes on; not with --closing",
+    );
+    let sync = switch(
+        alloc,
+        "sync",
+        "Brings the record to the disk before what rests on it leaves the server",
+    );
+    command.arg(record)?.arg(sync)
+}
+
 // The command that serves gateways.
 fn serve_command<'a>(alloc: Global) -> Result<Command<'a>, AllocError>
     ensures { IfOk result (IsCommand serve_app) }
@@ -268,7 +348,9 @@ fn serve_command<'a>(alloc: Global) -> Result<Command<'a>, AllocError>
     let serve = command(alloc, "serve", about).arg(roster(alloc))?;
     let serve = with_addresses(alloc, serve)?;
     let serve = with_workers(alloc, serve)?;
-    with_limits(alloc, serve)?.arg(closing(alloc))
+    let serve = with_limits(alloc, serve)?;
+    let serve = with_record(alloc, serve)?.arg(status(alloc))?;
+    serve.arg(closing(alloc))
 }
 
 // The command that answers recorded steps.
@@ -311,6 +393,18 @@ fn addr(found: &ArgMatches<'_>, name: OptionName) -> Result<SocketAddr, BadWords
 {
     let addr: Option<SocketAddr> = found.get_one(name.as_str());
     addr.ok_or(BadWords::BadValue(name))
+}
+
+// The address that an option has, where it is given.
+fn given_addr(found: &ArgMatches<'_>, name: OptionName) -> Result<Option<SocketAddr>, BadWords>
+    ensures told { IfErr result IsTold }
+    ensures addr { IfOk result (IsAddrIfGiven (name_of name) (rows_of (found_of found.now))) }
+{
+    if found.contains_id(name.as_str()) {
+        Ok(Some(addr(found, name)?))
+    } else {
+        Ok(None)
+    }
 }
 
 // The number that an option has, from 1 to this.
@@ -366,7 +460,10 @@ fn serve_options<'a>(found: &ArgMatches<'a>) -> Result<ServeOptions<'a>, BadWord
     Ok(ServeOptions {
         join: addr(found, OptionName::Join)?,
         host: host(found)?,
-        listen: addr(found, OptionName::Listen)?,
+        listen: given_addr(found, OptionName::Listen)?,
+        forwarders: given_addr(found, OptionName::Forwarders)?,
+        power: count(found, OptionName::Power, 27)? as u8,
+        status: given_addr(found, OptionName::Status)?,
         workers: count(found, OptionName::Workers, 16)? as usize,
         join_workers: count(found, OptionName::JoinWorkers, 16)? as usize,
         window_ms: count(found, OptionName::Window, 60_000)?,
@@ -374,6 +471,21 @@ fn serve_options<'a>(found: &ArgMatches<'a>) -> Result<ServeOptions<'a>, BadWord
         trim: trim(found)?,
         closing: flag(found, "closing"),
     })
+}
+
+// What the words say of a record. It excludes the closing roster, in which the nonces of its joins are old.
+fn record_options<'a>(found: &ArgMatches<'a>) -> Result<Recorded<'a>, BadWords>
+    ensures told { IfErr result IsTold }
+    ensures record { IfOk result (HasRecord (rows_of (found_of found.now))) }
+{
+    let recorded = Recorded {
+        folder: found.get_str("record"),
+        sync: flag(found, "sync"),
+    };
+    if recorded.folder.is_some() && flag(found, "closing") {
+        return Err(BadWords::BadValue(OptionName::Record));
+    }
+    Ok(recorded)
 }
 
 // What the words behind the name of a command ask for.
@@ -386,7 +498,8 @@ fn read_command<'a>(name: &str, found: &ArgMatches<'a>) -> Result<Asked<'a>, Bad
         return Err(BadWords::NoMemory);
     };
     if name == "serve" {
-        Ok(Asked::Serve(path, serve_options(found)?))
+        let options = serve_options(found)?;
+        Ok(Asked::Serve(path, options, record_options(found)?))
     } else if name == "replay" {
         Ok(Asked::Replay(path, flag(found, "closing")))
     } else {

@@ -68,7 +68,9 @@ fn times(rt: HostRuntime) {
 fn are_usual(options: &ServeOptions<'_>) -> bool {
     options.join == SocketAddr::from(([127, 0, 0, 1], 8080))
         && options.host.as_str() == "localhost"
-        && options.listen == SocketAddr::from(([127, 0, 0, 1], 1700))
+        && options.listen.is_none()
+        && options.forwarders.is_none()
+        && options.power == 14
         && options.workers == 4
         && options.join_workers == 1
         && options.window_ms == 200
@@ -88,9 +90,12 @@ fn asked(rt: &HostRuntime, list: &[&str]) -> Result<(char, ExitCode), Fail> {
     Ok(match read_words(rt.alloc(), words.as_slice()) {
         Ok(Asked::Replay("roster.json", false)) => ('R', ExitCode::SUCCESS),
         Ok(Asked::Replay("roster.json", true)) => ('C', ExitCode::SUCCESS),
-        Ok(Asked::Serve("roster.json", options)) if are_usual(&options) => ('U', ExitCode::SUCCESS),
-        Ok(Asked::Serve("roster.json", options)) if options.closing => ('D', ExitCode::SUCCESS),
-        Ok(Asked::Serve("roster.json", _)) => ('S', ExitCode::SUCCESS),
+        Ok(Asked::Serve("roster.json", options, _)) if are_usual(&options) => (
+            'U',
+            ExitCode::SUCCESS,
+        ),
+        Ok(Asked::Serve("roster.json", options, _)) if options.closing => ('D', ExitCode::SUCCESS),
+        Ok(Asked::Serve("roster.json", _, _)) => ('S', ExitCode::SUCCESS),
         Ok(_) => ('?', ExitCode::SUCCESS),
         Err(bad) => (letter(&bad), refused(rt, &Discard, &bad)),
     })
@@ -155,6 +160,12 @@ fn words_of_serving(rt: HostRuntime) -> Result<(), Fail> {
         ("--host", "a b", ('V', bad)),
         ("--listen", "127.0.0.1:1701", ('S', done)),
         ("--listen", "localhost", ('V', bad)),
+        ("--forwarders", "127.0.0.1:1700", ('S', done)),
+        ("--forwarders", "localhost", ('V', bad)),
+        ("--power", "27", ('S', done)),
+        ("--power", "14", ('U', done)),
+        ("--power", "0", ('E', bad)),
+        ("--power", "28", ('E', bad)),
         ("--workers", "16", ('S', done)),
         ("--workers", "0", ('E', bad)),
         ("--workers", "17", ('E', bad)),
@@ -200,6 +211,10 @@ fn each_option_is_its_field(rt: HostRuntime) -> Result<(), Fail> {
         "js",
         "--listen",
         "127.0.0.2:1711",
+        "--forwarders",
+        "127.0.0.4:1712",
+        "--power",
+        "9",
         "--workers",
         "3",
         "--join-workers",
@@ -214,12 +229,20 @@ fn each_option_is_its_field(rt: HostRuntime) -> Result<(), Fail> {
     ] {
         words.push(String::from_str(rt.alloc(), word)?)?;
     }
-    let Ok(Asked::Serve("r.json", options)) = read_words(rt.alloc(), words.as_slice()) else {
+    let Ok(Asked::Serve("r.json", options, _)) = read_words(rt.alloc(), words.as_slice()) else {
         return Err(Fail::new("not asked to serve"));
     };
     assert_eq!(rt; options.join, SocketAddr::from(([127, 0, 0, 3], 8081)));
     assert_eq!(rt; options.host.as_str(), "js");
-    assert_eq!(rt; options.listen, SocketAddr::from(([127, 0, 0, 2], 1711)));
+    assert_eq!(rt;
+        options.listen,
+        Some(SocketAddr::from(([127, 0, 0, 2], 1711)))
+    );
+    assert_eq!(rt;
+        options.forwarders,
+        Some(SocketAddr::from(([127, 0, 0, 4], 1712)))
+    );
+    assert_eq!(rt; options.power, 9);
     assert_eq!(rt; (options.workers, options.join_workers), (3, 5));
     assert_eq!(rt; options.window_ms, 77);
     assert_eq!(rt; options.stop_after, Some(11));

@@ -1,3 +1,4 @@
 mod OutputLemmas
+mod RecordLemmas
 mod ReceiptLemmas
 mod TurnLemmas

@@ -7,3 +7,5 @@ pub mod Ends
 pub mod Turns
 pub mod Closing
 pub mod Trims
+pub mod Hearing
+pub mod Begun

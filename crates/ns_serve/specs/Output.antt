@@ -13,9 +13,9 @@ line text = text ++ 10 ∷ []
 abbrev pub settled_line : ℕ → List ℕ
 settled_line total = line (codes "settled " ++ decimal total)
 
--- the first line, for the text of an address
-abbrev pub listening_line : List ℕ → List ℕ
-listening_line addr = line (codes "listening " ++ addr)
+-- a line at the start, for the text of an address
+abbrev pub address_line : List ℕ → List ℕ → List ℕ
+address_line word addr = line (word ++ codes " " ++ addr)
 
 -- known bytes have grown by some text, or by some text and then this one
 abbrev pub Grows : Option (List ℕ) → Option (List ℕ) → Type 0

@@ -10,6 +10,9 @@ use std::time::{Clock, Duration};
 // How long a worker sleeps at most before it looks whether the gateway workers have ended.
 const NAP_MS: u64 = 100;
 
+// What the clock tells when the server begins, so that what was asked for in an earlier life of the program is too old at once.
+const BEGIN_MS: u128 = 5_000;
+
 /// How long to sleep before it is looked whether a time has come, in milliseconds: until then, but 100 ms at most.
 pub(crate) fn nap_ms(due: u64, now: u64) -> u64
     ensures { result ≡ min (due - now) 100 }
@@ -17,16 +20,16 @@ pub(crate) fn nap_ms(due: u64, now: u64) -> u64
     due.saturating_sub(now).min(NAP_MS)
 }
 
-/// The clock, in milliseconds since the server began.
+/// The clock, in milliseconds, which begins at 5,000 with the server.
 #[derive(Clone, Copy)]
 pub(crate) struct SinceStart<'a> {
     pub state: &'a State,
 }
 
-/// Milliseconds since the server began.
+/// What the clock tells.
 pub(crate) fn now_ms<R: Clock>(rt: &R, state: &State) -> u64 {
     match state.start.elapsed(rt) {
-        Ok(elapsed) => u64::try_from(elapsed.as_millis()).unwrap_or(u64::MAX),
+        Ok(elapsed) => u64::try_from(BEGIN_MS + elapsed.as_millis()).unwrap_or(u64::MAX),
         Err(_) => u64::MAX,
     }
 }

@@ -8,16 +8,17 @@ ghost use Rattle.ns_workers.specs.Counts.{RisesByReceipts};
 ghost use Rattle.ns_workers.specs.Lines.{up_lines};
 ghost use Rattle.ns_serve.specs.Turns.{HasReceipts, IsTurn, IsTurnWith};
 
+use crate::after::Later;
 use crate::clock::{SinceStart, nap_ms, now_ms};
 use crate::events::Events;
 use crate::held::Held;
 use crate::options::ServeFault;
 use crate::output::{Output, put_under_lock};
-use crate::sockets::ToSocket;
+use crate::record::Recording;
 use crate::state::State;
 use crossbeam_channel::{Receiver, RecvTimeoutError};
 use log::{Log, error};
-use ns_server::{Naming, Open, Pass};
+use ns_server::{Naming, Pass};
 use ns_types::Sink;
 use ns_workers::{CloseJob, Ended, ListedJobs, Shared, WorkerFault, run_closer};
 use std::alloc::{AllocError, Global};
@@ -156,10 +157,10 @@ impl<'a> Closings<'a> {
 /// Closes the windows of these jobs, and puts their lines to those that are held.
 pub(crate) fn close_all<B: Naming, R: Wait + Clock + Log>(
     alloc: Global,
-    shared: &Shared<'_, B, R, Open, Events<'_>>,
+    shared: &Shared<'_, B, R, Recording<'_>, Events<'_>>,
     pass: &mut Pass<B>,
     timer: &SinceStart<'_>,
-    down: &mut ToSocket<'_>,
+    down: &mut Later<'_>,
     jobs: Vec<CloseJob>,
     held: &mut Held,
 ) -> Ended
@@ -186,22 +187,24 @@ fn fault_of(fault: Option<WorkerFault>) -> Option<ServeFault>
     }
 }
 
-/// Closes the windows of these jobs and writes their lines, also where it meets a fault, which it gives.
+/// Closes the windows of these jobs, sends their downlinks and writes their lines, also where it meets a fault, which it gives.
 pub(crate) fn close_and_write<B: Naming, R: Wait + Clock + Log, W: Sink>(
     alloc: Global,
-    shared: &Shared<'_, B, R, Open, Events<'_>>,
+    shared: &Shared<'_, B, R, Recording<'_>, Events<'_>>,
     pass: &mut Pass<B>,
     state: &State,
     output: &Mutex<Output<W>>,
     jobs: Vec<CloseJob>,
+    later: &mut Later<'_>,
     held: &mut Held,
 ) -> Option<ServeFault>
     requires { held.old.failed ≡ false }
     ensures sound { held.new.failed ≡ false }
     ensures receipts { HasReceipts B.roster pass.old pass.new }
 {
-    let (timer, mut down) = (SinceStart { state }, ToSocket { state });
-    let ended = close_all(alloc, shared, pass, &timer, &mut down, jobs, held);
+    let timer = SinceStart { state };
+    let ended = close_all(alloc, shared, pass, &timer, later, jobs, held);
+    later.send_all(shared.rt);
     let written = put_under_lock(shared.rt, output, held.lines());
     held.clear();
     if ended.fault.is_some() {

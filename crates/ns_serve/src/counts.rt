@@ -3,10 +3,11 @@ ghost use Rattle.std.specs.Prelude.{◌≡◌, ◌+◌, ◌<◌};
 ghost use Rattle.ns_serve.specs.Counts.{reply_place, refusal_place};
 
 use crate::seldom::is_minute_later;
-use log::{Log, info};
+use log::{Log, info, warn};
 use ns_calls::Reply;
 use ns_link::LinkFault;
 use ns_workers::Refused;
+use std::alloc::{AllocError, Global};
 use std::fmt;
 use std::fmt::{Display, Formatter};
 use std::sync::atomic::{AtomicU64, Ordering};
@@ -58,6 +59,8 @@ pub(crate) struct Counts {
     pub unsent: AtomicU64,
     /// Tickets that were too old to be asked about.
     pub stale: AtomicU64,
+    /// Lines that standard output did not take, and that the record alone has.
+    pub unwritten: AtomicU64,
 }
 
 // Counters with their names.
@@ -74,6 +77,19 @@ impl<'a> Display for Named<'a> {
         }
         Ok(())
     }
+}
+
+// Counts with their names.
+fn by_name(
+    alloc: Global,
+    names: &[&'static str],
+    counters: &[AtomicU64],
+) -> Result<Vec<(&'static str, u64)>, AllocError> {
+    let mut counts = Vec::with_capacity(alloc, names.len())?;
+    for (name, counter) in names.iter().zip(counters.iter()) {
+        counts.push((*name, value(counter)))?;
+    }
+    Ok(counts)
 }
 
 // One more at a place, if there is such a place.
@@ -144,7 +160,18 @@ impl Counts {
             unanswered: AtomicU64::new(0),
             unsent: AtomicU64::new(0),
             stale: AtomicU64::new(0),
+            unwritten: AtomicU64::new(0),
         }
+    }
+
+    /// Each refusal with its name.
+    pub fn refusals_by_name(&self, alloc: Global) -> Result<Vec<(&'static str, u64)>, AllocError> {
+        by_name(alloc, &REFUSALS, &self.refusals)
+    }
+
+    /// Each reply with its name.
+    pub fn replies_by_name(&self, alloc: Global) -> Result<Vec<(&'static str, u64)>, AllocError> {
+        by_name(alloc, &REPLIES, &self.replies)
     }
 
     /// Counts a reply.
@@ -157,18 +184,16 @@ impl Counts {
         add(&self.refusals, place_of_refusal(why));
     }
 
-    /// Logs the counts once a minute, by whoever calls first.
-    pub fn log_each_minute<R: Log>(&self, rt: &R, now_ms: u64, read: u64) {
+    /// Whether the counts are to be logged: once a minute, by whoever asks first.
+    pub fn is_due(&self, now_ms: u64) -> bool {
         let last_ms = value(&self.logged_ms);
         if !is_minute_later(last_ms, now_ms) {
-            return;
+            return false;
         }
         let was = self
             .logged_ms
             .compare_exchange(last_ms, now_ms, Ordering::SeqCst, Ordering::SeqCst);
-        if was.is_ok() {
-            self.log_all(rt, read);
-        }
+        was.is_ok()
     }
 
     /// Logs the counts.
@@ -187,5 +212,9 @@ impl Counts {
         let (unanswered, unsent) = (value(&self.unanswered), value(&self.unsent));
         let stale = value(&self.stale);
         info!(rt; "replies:{replies} unanswered {unanswered} unsent {unsent} stale tickets {stale}");
+        let unwritten = value(&self.unwritten);
+        if unwritten > 0 {
+            warn!(rt; "standard output failed: {unwritten} up lines are in the record alone");
+        }
     }
 }

@@ -8,6 +8,8 @@ use crate::state::State;
 use crate::words::words_of;
 use log::{Log, debug, info, warn};
 use ns_calls::{Call, Downlink, Reply};
+use ns_forwarder::{ForwarderFault, Outcome};
+use ns_forwarder_socket::{Event, outcome_name};
 use ns_joinclient::AskFault;
 use ns_joinwire::AnsFault;
 use ns_server::Receipt;
@@ -15,9 +17,11 @@ use ns_types::{DevEui, Ticket};
 use ns_workers::{JoinFault, Monitor, Refused};
 use std::fmt::Display;
 use std::sync::Wait;
+use std::sync::atomic::Ordering;
 use std::time::Clock;
 
-/// What is logged once a minute at most: who got each of these replies, at the level info, and receives that failed, at warn.
+/// What is logged once a minute at most: who got each of these replies, at the level info, and receives that failed and downlinks that a
+/// forwarder did not send, at warn.
 #[derive(Drop)]
 pub(crate) struct Seldoms {
     nosession: Seldom,
@@ -25,6 +29,7 @@ pub(crate) struct Seldoms {
     nonceold: Seldom,
     joinrefused: Seldom,
     pub receive: Seldom,
+    pub transmit: Seldom,
 }
 
 impl Seldoms {
@@ -36,6 +41,7 @@ impl Seldoms {
             nonceold: Seldom::new(),
             joinrefused: Seldom::new(),
             receive: Seldom::new(),
+            transmit: Seldom::new(),
         }
     }
 }
@@ -58,6 +64,9 @@ impl<'a, R: Log + Clock + Wait> Monitor<R> for Events<'a> {
     fn replied(&self, rt: &R, receipt: &Receipt) {
         self.state.counts.replied(&receipt.entry.reply);
         self.state.made.add_one(receipt.shard);
+        if let Some(status) = &self.state.status {
+            status.note(rt, receipt, now_ms(rt, self.state));
+        }
         note_closing(rt, self.state, receipt);
         note_asker(rt, self.state, receipt);
         log_reply(rt, self.state, receipt);
@@ -95,6 +104,34 @@ impl<'a, R: Log + Clock + Wait> Monitor<R> for Events<'a> {
 pub(crate) fn log_unsent<R: Log>(rt: &R, state: &State, downlink: &Downlink) {
     more(&state.counts.unsent);
     warn!(rt; "downlink to gateway {:016x} not sent", downlink.target.gateway.0);
+}
+
+/// Logs the counts.
+pub(crate) fn log_counts<R: Log>(rt: &R, state: &State) {
+    let read = state.read.load(Ordering::SeqCst);
+    state.counts.log_all(rt, read.min(state.most));
+    if let Some((forwarders, _)) = &state.forwarders {
+        info!(rt; "forwarders:{}", forwarders.counts());
+    }
+}
+
+/// Logs what came of a forwarder's message that gave no datagram, where an operator is to know.
+pub(crate) fn log_message<R: Log + Clock>(rt: &R, state: &State, event: Event) {
+    match event {
+        Event::Refused(ForwarderFault::NoMemory) => {
+            warn!(rt; "message of a forwarder dropped: no memory");
+        }
+        Event::Refused(fault) => debug!(rt; "message of a forwarder refused: {fault}"),
+        Event::Told(gateway, outcome) if outcome != Outcome::Sent => {
+            let (gateway, error) = (gateway.0, outcome_name(outcome));
+            let what = format_args!("downlink not sent by gateway {gateway:016x}: {error}");
+            debug!(rt; "{what}");
+            if let Some(count) = state.seldoms.transmit.happened(now_ms(rt, state)) {
+                warn!(rt; "{what}, {count} since the line before");
+            }
+        }
+        _ => {}
+    }
 }
 
 // Keeps when the window that a reply opened is closed.

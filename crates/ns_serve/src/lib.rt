@@ -9,6 +9,7 @@
 //! `ns_types`, and on `arrayvec`, `crossbeam_channel`, `itoa`, `log`, `lru` and `thiserror` of the kit.
 #![tactic(auto)]
 
+mod after;
 mod askers;
 mod asks;
 mod channels;
@@ -25,18 +26,22 @@ mod options;
 mod output;
 mod peers;
 mod queue;
+mod record;
 mod run;
 mod seed;
 mod seldom;
 mod service;
 mod sockets;
 mod state;
+mod status;
+mod telling;
 mod trims;
 mod waiting;
 mod words;
 
 pub use options::{ServeFault, ServeOptions};
 pub use peers::Peers;
+pub use record::Begun;
 pub use service::serve;
 pub use trims::{PLACES, Trimmed, Trims, trim_due};
 pub use waiting::WaitingWriter;

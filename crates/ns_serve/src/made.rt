@@ -1,6 +1,7 @@
 //! How many entries each shard has.
 
 use crate::trims::PLACES;
+use ns_shard::Shard;
 use std::sync::atomic::{AtomicU64, Ordering};
 
 /// How many entries were made in each shard, as far as they were told.
@@ -10,11 +11,15 @@ pub(crate) struct Made {
 }
 
 impl Made {
-    /// None was made.
-    pub fn new() -> Made {
-        Made {
+    /// Those that these shards have made.
+    pub fn of(shards: &[Shard]) -> Made {
+        let made = Made {
             counts: Default::default(),
+        };
+        for (count, shard) in made.counts.iter().zip(shards) {
+            count.store(shard.made(), Ordering::SeqCst);
         }
+        made
     }
 
     /// One more was made in a shard.

@@ -16,9 +16,15 @@ pub struct ServeOptions<'a> {
     pub join: SocketAddr,
     /// The host that requests to it name.
     pub host: HostName<'a>,
-    /// The address at which gateways are heard.
-    pub listen: SocketAddr,
-    /// How many workers hear them, 1 to 16.
+    /// The address at which gateways are heard that speak this server's own datagrams, if one is given.
+    pub listen: Option<SocketAddr>,
+    /// The address at which packet forwarders are heard, if one is given. Where neither is, 127.0.0.1:1700 hears own datagrams.
+    pub forwarders: Option<SocketAddr>,
+    /// The power of the downlinks that forwarders send, in dBm.
+    pub power: u8,
+    /// The address at which the status is told over HTTP, if one is given.
+    pub status: Option<SocketAddr>,
+    /// How many workers hear them, 1 to 16. Where both addresses are given, at least 2: every second one hears forwarders.
     pub workers: usize,
     /// How many workers ask the join server, 1 to 16.
     pub join_workers: usize,
@@ -41,6 +47,17 @@ pub enum ServeFault {
     /// The socket or the output failed.
     #[error("io")]
     Io,
+}
+
+impl<'a> ServeOptions<'a> {
+    /// The address at which gateways are heard that speak this server's own datagrams, if they are: 127.0.0.1:1700 where none is given.
+    pub fn own_addr(&self) -> Option<SocketAddr> {
+        if self.listen.is_none() && self.forwarders.is_none() {
+            Some(SocketAddr::from(([127, 0, 0, 1], 1700)))
+        } else {
+            self.listen
+        }
+    }
 }
 
 impl From<WorkerFault> for ServeFault {

@@ -3,7 +3,7 @@ ghost use Rattle.std.specs.Prelude.{◌≡◌, ◌≢◌, [], false, true, None,
 ghost use Rattle.std.specs.Io.KnownBytes.{Appends, append_known};
 ghost use Rattle.std.specs.Net.Text.{socket_text};
 ghost use Rattle.ns_types.specs.Streams.{AppendsFront};
-ghost use Rattle.ns_serve.specs.Output.{line, settled_line, listening_line, IsPut};
+ghost use Rattle.ns_serve.specs.Output.{line, settled_line, address_line, IsPut};
 
 use crate::options::ServeFault;
 use arrayvec::ArrayVec;
@@ -85,12 +85,17 @@ impl<W: Sink> Output<W> {
         Ok(())
     }
 
-    /// Writes the first line: the address at which gateways are heard.
-    pub fn put_listening(&mut self, alloc: Global, addr: SocketAddr) -> Result<(), ServeFault>
+    /// Writes an address at which gateways are heard, behind a word.
+    pub fn put_address(
+        &mut self,
+        alloc: Global,
+        word: &str,
+        addr: SocketAddr,
+    ) -> Result<(), ServeFault>
         ensures { OnOk result (Appends (append_known (W.taken self.old.writer) self.old.lines.items)
-            (W.taken self.new.writer) (listening_line (socket_text addr))) }
+            (W.taken self.new.writer) (address_line word.now (socket_text addr))) }
     {
-        let Ok(text) = format!(in alloc; "listening {addr}") else {
+        let Ok(text) = format!(in alloc; "{word} {addr}") else {
             return Err(ServeFault::NoMemory);
         };
         self.put_line(text.as_str())?;
@@ -131,8 +136,8 @@ impl<W: Sink> Output<W> {
     }
 }
 
-// Writes all the bytes, where the writer has not failed before.
-fn write_whole<W: Sink>(writer: &mut W, bytes: &[u8]) -> Result<(), Failed>
+/// Writes all the bytes, where the writer has not failed before.
+pub(crate) fn write_whole<W: Sink>(writer: &mut W, bytes: &[u8]) -> Result<(), Failed>
     ensures ok { OnOk result (Appends (W.taken writer.old) (W.taken writer.new) bytes.now) }
     ensures front { AppendsFront (W.taken writer.old) (W.taken writer.new) bytes.now }
     ensures failed { OnErr result (W.has_failed writer.new ≡ true) }

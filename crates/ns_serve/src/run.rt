@@ -9,26 +9,30 @@ ghost use Rattle.ns_serve.specs.declared.join_server.ToJoinServer.{ToJoinServer 
 ghost use Rattle.ns_serve.specs.Ends.{serve_fault, IsWorse};
 ghost use Rattle.ns_serve.specs.Turns.{Anything, HasReceipts, IsServed, IsAnswered};
 
+use crate::after::Later;
 use crate::channels::IntoQueues;
-use crate::clock::SinceStart;
-use crate::closer::{Closings, ROOM, Turn, close_and_write};
+use crate::clock::{SinceStart, now_ms};
+use crate::closer::{AT_A_TIME, Closings, ROOM, Turn, close_and_write};
 use crate::events::Events;
 use crate::held::Held;
 use crate::join_server::{ToJoinServer, Within};
 use crate::options::{ServeFault, ServeOptions};
 use crate::output::{Lines, Output};
 use crate::queue::FromQueue;
+use crate::record::Recording;
 use crate::sockets::{FromSocket, ToSocket};
 use crate::state::State;
+use crate::telling::tell;
 use crate::trims::{trim_due, trims_of};
 use crossbeam_channel::{Receiver, Sender, unbounded};
 use log::{Log, error};
+use ns_forwarder_socket::Pending;
 use ns_joinclient::HostName;
 use ns_responses::Responses;
 use ns_roster::Roster;
-use ns_server::{Naming, Open, Pass, Server};
-use ns_types::{Sink, Source, Stream};
-use ns_workers::{CloseJob, Connections, Shared, WorkerFault, run_gateway, run_join};
+use ns_server::{Naming, Pass, Server};
+use ns_types::{Sink, Source, Stream, Ticket, WindowName};
+use ns_workers::{AskJob, CloseJob, Connections, Shared, WorkerFault, run_gateway, run_join};
 use std::alloc::{AllocError, Global};
 use std::net::{Net, SocketAddr, TcpListener, TcpStream};
 use std::sync::atomic::Ordering;
@@ -43,7 +47,7 @@ struct Around<'a, B: Naming, R, W> {
     rt: &'a R,
     alloc: Global,
     server: &'a Server<B>,
-    gate: Open,
+    gate: Recording<'a>,
     events: Events<'a>,
     roster: &'a Roster,
     host: HostName<'a>,
@@ -55,7 +59,7 @@ struct Around<'a, B: Naming, R, W> {
 
 impl<'a, B: Naming, R, W> Around<'a, B, R, W> {
     // What a worker shares with the others.
-    fn shared(&self) -> Shared<'_, B, R, Open, Events<'a>> {
+    fn shared(&self) -> Shared<'_, B, R, Recording<'a>, Events<'a>> {
         Shared {
             rt: self.rt,
             server: self.server,
@@ -69,6 +73,8 @@ impl<'a, B: Naming, R, W> Around<'a, B, R, W> {
 #[derive(Drop)]
 struct GatewayKit<B: Naming> {
     pass: Pass<B>,
+    // The room for a message, where forwarders are heard.
+    pending: Option<Pending>,
     closes: Sender<CloseJob>,
     ghost unused: { pass ≡ none_made },
 }
@@ -155,12 +161,47 @@ fn start_all<'s, E, A: Work<K, O> + Sync, K: Send + Drop + 's, O: Send + Drop + 
     true
 }
 
-// Starts all join workers and then all gateway workers, and says whether all were made. What those take along that were not made is
-// dropped: a sender among it would keep the closer's channel open.
-fn start_workers<
+// What who tells the status takes along.
+#[derive(Drop)]
+struct TellerKit;
+
+impl<'a, B: Naming, R: Wait + Clock, W> Work<TellerKit, ()> for Around<'a, B, R, W> {
+    fn work(&self, _kit: TellerKit) {
+        if let Some(status) = &self.state.status {
+            tell(self.rt, self.alloc, self.state, status);
+        }
+    }
+}
+
+// Starts the thread that tells the status, where it is told, and says whether it was made.
+fn start_teller<'s, E, A: Work<TellerKit, ()> + Sync>(
+    scope: &Scope<'s, E>,
+    around: &'s A,
+    is_told: bool,
+    teller: &mut Vec<JoinHandle<()>>,
+) -> bool {
+    if !is_told {
+        return true;
+    }
+    let Some(handle) = start_thread(scope, around, TellerKit) else {
+        return false;
+    };
+    teller.push(handle).is_ok()
+}
+
+// Waits for the end of the thread that tells the status.
+fn join_teller<R: Threads + Wait>(rt: &R, teller: Vec<JoinHandle<()>>) {
+    for teller in teller {
+        teller.join(rt);
+    }
+}
+
+// Starts all join workers, all gateway workers and, where the status is told, who tells it, and says whether all were made. What those
+// take along that were not made is dropped: a sender among it would keep the closer's channel open.
+fn start_threads<
     's,
     E,
-    A: Work<J, O> + Work<G, O> + Sync,
+    A: Work<J, O> + Work<G, O> + Work<TellerKit, ()> + Sync,
     J: Send + Drop + 's,
     G: Send + Drop + 's,
     O: Send + Drop + 's,
@@ -169,13 +210,17 @@ fn start_workers<
     around: &'s A,
     join_kits: Vec<J>,
     gateway_kits: Vec<G>,
+    is_told: bool,
     joiners: &mut Vec<JoinHandle<O>>,
     gateways: &mut Vec<JoinHandle<O>>,
+    teller: &mut Vec<JoinHandle<()>>,
 ) -> bool
     ensures joiners { result ≡ true → vec_len joiners.new ≡ vec_len joiners.old + vec_len join_kits }
     ensures gateways { result ≡ true → vec_len gateways.new ≡ vec_len gateways.old + vec_len gateway_kits }
 {
-    start_all(scope, around, join_kits, joiners) && start_all(scope, around, gateway_kits, gateways)
+    start_all(scope, around, join_kits, joiners)
+        && start_all(scope, around, gateway_kits, gateways)
+        && start_teller(scope, around, is_told, teller)
 }
 
 // The fault of a worker. Where there is one, it is logged, and all others are to stop.
@@ -190,7 +235,7 @@ fn fault_of<R: Log>(
     let fault = fault?;
     match fault {
         WorkerFault::NoMemory => error!(rt; "{worker}: no memory for a call"),
-        WorkerFault::SourceFailed => error!(rt; "{worker}: no datagrams from {}", state.addr),
+        WorkerFault::SourceFailed => error!(rt; "{worker}: no datagrams come any more"),
         WorkerFault::SinkFailed => error!(rt; "{worker}: standard output failed"),
     }
     state.break_off();
@@ -205,9 +250,13 @@ fn gateway_thread<B: Naming, R: Wait + Clock + Log, W: Sink>(
 ) -> Back<B>
     ensures { IsServed B.roster around.now.state.now.window_ms result.pass result.fault }
 {
-    let GatewayKit { mut pass, closes } = kit;
+    let GatewayKit {
+        mut pass,
+        pending,
+        closes,
+    } = kit;
     let (rt, state) = (around.rt, around.state);
-    let mut datagrams = FromSocket::new(state);
+    let mut datagrams = FromSocket::new(state, pending);
     let mut jobs = IntoQueues { closes, state };
     let mut down = ToSocket { state };
     let mut sink = Lines::new(rt, around.output);
@@ -289,7 +338,10 @@ fn close_to_end<B: Naming, R: Wait + Clock + Log, W: Sink>(
     let mut closings = Closings::new(state, closes);
     let mut trims = trims_of(around.trim);
     let shared = around.shared();
-    let Ok(mut held) = Held::new(alloc, ROOM) else {
+    let (Ok(mut held), Ok(mut later)) = (
+        Held::new(alloc, ROOM),
+        Later::new(alloc, state, AT_A_TIME),
+    ) else {
         error!(rt; "closer: no memory for lines");
         return Some(ServeFault::NoMemory);
     };
@@ -303,6 +355,7 @@ fn close_to_end<B: Naming, R: Wait + Clock + Log, W: Sink>(
                     state,
                     around.output,
                     jobs,
+                    &mut later,
                     &mut held,
                 );
                 if fault.is_some() {
@@ -396,6 +449,7 @@ fn gateway_kits<B: Naming>(
     alloc: Global,
     mut passes: Vec<Pass<B>>,
     closes: Sender<CloseJob>,
+    state: &State,
 ) -> Result<Vec<GatewayKit<B>>, AllocError>
     requires { All (λ p. p ≡ none_made) passes.items }
     ensures { IfOk result (λ kits. vec_len kits ≡ vec_len passes) }
@@ -404,6 +458,7 @@ fn gateway_kits<B: Naming>(
     while let Some(pass) = passes.pop() {
         kits.push(GatewayKit {
             pass,
+            pending: state.pending_at(kits.len())?,
             closes: closes.clone()?,
         })?;
     }
@@ -415,6 +470,7 @@ fn kits_of<B: Naming>(
     alloc: Global,
     mut passes: Vec<Pass<B>>,
     closes: Sender<CloseJob>,
+    state: &State,
     options: &ServeOptions<'_>,
 ) -> Result<Kits<B>, AllocError>
     requires count { vec_len passes ≡ options.now.workers + options.now.join_workers + 1 }
@@ -427,12 +483,36 @@ fn kits_of<B: Naming>(
     };
     let closer = CloserKit { pass };
     let joins = join_kits(alloc, &mut passes, options.join_workers)?;
-    let gateways = gateway_kits(alloc, passes, closes)?;
+    let gateways = gateway_kits(alloc, passes, closes, state)?;
     Ok(Kits {
         closer,
         joins,
         gateways,
     })
+}
+
+// Hands on what an earlier life left open: its windows are due once copies were waited for, and its tickets are too old to be asked
+// about.
+fn hand_on<R: Wait + Clock>(
+    rt: &R,
+    state: &State,
+    windows: Vec<WindowName>,
+    tickets: Vec<Ticket>,
+    closes: &Sender<CloseJob>,
+) -> Result<(), AllocError> {
+    let due = now_ms(rt, state).saturating_add(u64::from(state.window_ms));
+    for name in windows {
+        if closes.send(rt, CloseJob { name, due }).is_err() {
+            return Err(AllocError);
+        }
+    }
+    for ticket in tickets {
+        let (since, due) = (0, 0);
+        if state.asks.put(rt, AskJob { ticket, since, due }).is_err() {
+            return Err(AllocError);
+        }
+    }
+    Ok(())
 }
 
 /// Runs all workers to their ends. The closer runs in the thread of the caller.
@@ -449,6 +529,8 @@ pub(crate) fn run_all<
     state: &State,
     output: &Mutex<Output<W>>,
     options: &ServeOptions<'_>,
+    windows: Vec<WindowName>,
+    tickets: Vec<Ticket>,
 ) -> Result<Ends<B>, AllocError>
     requires count { vec_len passes ≡ options.now.workers + options.now.join_workers + 1 }
     requires unused { All (λ p. p ≡ none_made) passes.items }
@@ -457,7 +539,8 @@ pub(crate) fn run_all<
     let (close_sender, close_receiver) = unbounded::<CloseJob, Global>(alloc)?;
     // The channel stays open until the last gateway worker has ended.
     let _close_open = close_receiver.clone()?;
-    let kits = kits_of(alloc, passes, close_sender, options)?;
+    hand_on(rt, state, windows, tickets, &close_sender)?;
+    let kits = kits_of(alloc, passes, close_sender, state, options)?;
     let (heard_by, asked_by) = (kits.gateways.len(), kits.joins.len());
     let gateways: Vec<JoinHandle<Back<B>>> = Vec::with_capacity(alloc, heard_by)?;
     let joiners: Vec<JoinHandle<Back<B>>> = Vec::with_capacity(alloc, asked_by)?;
@@ -469,7 +552,7 @@ pub(crate) fn run_all<
         rt,
         alloc,
         server,
-        gate: Open,
+        gate: Recording { state },
         events: Events { state },
         roster,
         host: options.host,
@@ -482,12 +565,23 @@ pub(crate) fn run_all<
     state.gateways.store(heard_by as u64, Ordering::SeqCst);
     let ends = thread::scope(thread::scope_env(), rt, |scope| {
         let (mut ends, mut gateways, mut joiners) = (ends, gateways, joiners);
+        let mut teller = Vec::new(alloc);
         let Kits {
             closer,
             joins,
             gateways: hearers,
         } = kits;
-        let is_whole = start_workers(scope, around, joins, hearers, &mut joiners, &mut gateways);
+        let is_told = state.status.is_some();
+        let is_whole = start_threads(
+            scope,
+            around,
+            joins,
+            hearers,
+            is_told,
+            &mut joiners,
+            &mut gateways,
+            &mut teller,
+        );
         if !is_whole {
             error!(rt; "a thread could not be made");
             ends.fault = Some(ServeFault::NoMemory);
@@ -497,6 +591,7 @@ pub(crate) fn run_all<
         keep(&mut ends, back);
         join_all(rt, &mut ends, gateways);
         join_all(rt, &mut ends, joiners);
+        join_teller(rt, teller);
         ends
     });
     Ok(ends)

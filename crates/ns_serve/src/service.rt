@@ -1,32 +1,39 @@
 //! A server from its start to what it settled.
-ghost use Rattle.std.specs.Prelude.{◌≡◌, ◌+◌, ◌≤◌, ◌<◌, ◌⊎◌, [], false, true, sum_by, IfOk, IfSome, IsErr, OnOk, OnErr};
+ghost use Rattle.std.specs.Prelude.{◌≡◌, ◌+◌, ◌≤◌, ◌<◌, ◌⊎◌, [], false, true, sum_by, vec_len, IfOk, IfSome, IsErr, OnOk, OnErr};
 ghost use Rattle.std.specs.Io.KnownBytes.{Appends, append_known};
 ghost use Rattle.std.specs.Arc.{arc_value};
+ghost use Rattle.ns_types.specs.Identity.{shard_count};
+ghost use Rattle.ns_server.specs.Begun.{ArePlaced, states_at};
+ghost use Rattle.ns_serve.specs.Begun.{IsBegun};
 ghost use Rattle.ns_tally.specs.Tally.{AreNamed};
 ghost use Rattle.ns_server.specs.Drain.{NoneOpen, EachIsClosed};
 ghost use Rattle.ns_workers.specs.Lines.{uplink_line};
 ghost use Rattle.ns_serve.specs.Closing.{last_lines};
 ghost use Rattle.ns_serve.specs.Output.{Grows, EndsIn, Sends};
 
+use crate::after::AfterRecord;
 use crate::closing::closing_text;
-use crate::events::log_unsent;
+use crate::events::{log_counts, log_unsent};
 use crate::options::{ServeFault, ServeOptions};
 use crate::output::Output;
+use crate::record::{Begun, has_failed, record_call, write_record};
 use crate::run::{Ends, run_all};
 use crate::sockets::ToSocket;
 use crate::state::State;
+use crate::status::Status;
 use log::{Log, error, info};
 use ns_calls::up_line;
+use ns_record_files::{RecordFiles, Recorder};
 use ns_roster::Roster;
 use ns_server::{Naming, Receipt, Server, Settled};
+use ns_shard::Shard;
 use ns_tally::Blanks;
-use ns_types::Sink;
+use ns_types::{Sink, Ticket, WindowName};
 use ns_workers::Downlinks;
 use std::alloc::Global;
 use std::io;
 use std::marker::Brand;
 use std::net::{Net, SocketAddr, TcpListener, TcpStream, UdpSocket};
-use std::sync::atomic::Ordering;
 use std::sync::{Arc, Mutex, Wait};
 use std::thread::Threads;
 use std::time::{Clock, Duration};
@@ -42,10 +49,16 @@ fn bind<R: Net>(rt: &R, addr: SocketAddr) -> io::Result<(UdpSocket, SocketAddr)>
     Ok((socket, bound))
 }
 
-// The socket at which gateways are heard, and its address.
-fn listen<R: Net + Log>(rt: &R, addr: SocketAddr) -> Result<(UdpSocket, SocketAddr), ServeFault> {
+// The socket at this address, if one is given, and the address that it has.
+fn listen<R: Net + Log>(
+    rt: &R,
+    addr: Option<SocketAddr>,
+) -> Result<Option<(UdpSocket, SocketAddr)>, ServeFault> {
+    let Some(addr) = addr else {
+        return Ok(None);
+    };
     match bind(rt, addr) {
-        Ok(bound) => Ok(bound),
+        Ok(bound) => Ok(Some(bound)),
         Err(error) => {
             error!(rt; "cannot listen at {addr}: {error}");
             Err(ServeFault::Io)
@@ -53,9 +66,63 @@ fn listen<R: Net + Log>(rt: &R, addr: SocketAddr) -> Result<(UdpSocket, SocketAd
     }
 }
 
+// What all threads share, once gateways are heard.
+fn begin<R: Net<Listener = TcpListener, Stream = TcpStream> + Clock + Log>(
+    rt: &R,
+    alloc: Global,
+    roster: &Roster,
+    options: &ServeOptions<'_>,
+    shards: &[Shard],
+    record: Option<Recorder<RecordFiles>>,
+) -> Result<State, ServeFault> {
+    let own_addr = options.own_addr();
+    if own_addr.is_some() && options.forwarders.is_some() && options.workers < 2 {
+        error!(rt; "one worker does not hear both this server's own datagrams and forwarders");
+        return Err(ServeFault::Io);
+    }
+    let own = listen(rt, own_addr)?;
+    let forwarders = listen(rt, options.forwarders)?;
+    let status = Status::open(rt, alloc, roster, options.status)?;
+    let state = State::new(
+        rt, alloc, own, forwarders, roster, options, shards, record, status,
+    );
+    if let Err(why) = &state {
+        error!(rt; "what all threads share: {why}");
+    }
+    state
+}
+
+// Logs and writes the address of a socket behind a word, where there is one.
+fn put_heard<R: Log, W: Sink, S>(
+    rt: &R,
+    alloc: Global,
+    output: &mut Output<W>,
+    word: &str,
+    heard: &Option<(S, SocketAddr)>,
+) -> Result<(), ServeFault> {
+    let Some((_, addr)) = heard else {
+        return Ok(());
+    };
+    info!(rt; "{word} {addr}");
+    output.put_address(alloc, word, *addr)
+}
+
+// The output, once it has a line for each address at which gateways are heard.
+fn first_lines<R: Log, W: Sink + Drop>(
+    rt: &R,
+    alloc: Global,
+    state: &State,
+    writer: W,
+) -> Result<Output<W>, ServeFault> {
+    let mut output = Output::new(writer);
+    put_heard(rt, alloc, &mut output, "listening", &state.own)?;
+    put_heard(rt, alloc, &mut output, "forwarders", &state.forwarders)?;
+    Ok(output)
+}
+
 // Logs what is served.
-fn log_start<R: Log>(rt: &R, roster: &Roster, addr: SocketAddr, options: &ServeOptions<'_>) {
-    info!(rt; "devices {} listening {addr} join server {} host {} workers {} join workers {} window {} ms",
+fn log_start<R: Log>(rt: &R, roster: &Roster, options: &ServeOptions<'_>) {
+    info!(rt; "devices {} join server {} host {} workers {} join workers {} window {} ms",
         roster.devices().len(), options.join, options.host.as_str(), options.workers, options.join_workers, options.window_ms);
     if let Some(count) = options.stop_after {
         info!(rt; "stops after {count} datagrams");
@@ -65,7 +132,7 @@ fn log_start<R: Log>(rt: &R, roster: &Roster, addr: SocketAddr, options: &ServeO
     }
 }
 
-// Writes what goes up with the closing of a window, and sends what goes down.
+// Puts the closing of a window down, writes what goes up with it, and sends what goes down.
 #[tactic(auto, using(crate::proofs::OutputLemmas::sends_none))]
 fn hand_out<R: Wait + Log, W: Sink, D: Downlinks<R>>(
     rt: &R,
@@ -80,6 +147,7 @@ fn hand_out<R: Wait + Log, W: Sink, D: Downlinks<R>>(
     ensures failed { OnErr result (W.has_failed output.new.writer ≡ true) }
 {
     state.counts.replied(&receipt.entry.reply);
+    record_call(rt, state, receipt);
     if let Some(downlink) = &receipt.downlink {
         if !down.send(rt, downlink) {
             log_unsent(rt, state, downlink);
@@ -205,6 +273,9 @@ fn run_server<
     state: &State,
     output: Output<W>,
     options: &ServeOptions<'_>,
+    shards: Vec<Shard>,
+    windows: Vec<WindowName>,
+    tickets: Vec<Ticket>,
 ) -> Result<u128, ServeFault>
     requires workers { (0 < options.now.workers) × (options.now.workers ≤ 16) }
     requires join_workers { (0 < options.now.join_workers) × (options.now.join_workers ≤ 16) }
@@ -212,29 +283,34 @@ fn run_server<
     requires parts { blanks.parts ≡ options.now.workers + options.now.join_workers + 1 }
     requires passes { B.workers ≡ options.now.workers + options.now.join_workers + 1 }
     requires roster { arc_value roster ≡ B.roster }
+    requires sixteen { vec_len shards ≡ shard_count }
+    requires places { ArePlaced B.roster shards.items }
+    requires begun { B.begun ≡ states_at B.roster shards.items }
 {
     let Ok(known) = roster.clone() else {
         return Err(no_memory(rt, "the roster"));
     };
     let count = options.workers + options.join_workers + 1;
-    let Ok((server, passes)) = Server::<B>::new(alloc, roster, count, blanks) else {
+    let Ok((server, passes)) = Server::<B>::resume(alloc, roster, count, blanks, shards) else {
         return Err(no_memory(rt, "the shards"));
     };
     let output = Mutex::new(output);
-    let Ok(ends) = run_all(rt, alloc, &server, passes, &known, state, &output, options) else {
+    let Ok(ends) = run_all(
+        rt, alloc, &server, passes, &known, state, &output, options, windows, tickets,
+    ) else {
         return Err(no_memory(rt, "the workers"));
     };
     let mut output = output.into_inner();
     let closing = options.closing;
     let outcome = settled_of(rt, alloc, &known, state, server, ends, &mut output, closing);
     let outcome = written(rt, &mut output, outcome);
-    let read = state.read.load(Ordering::SeqCst);
-    state.counts.log_all(rt, read.min(state.most));
+    let _ = write_record(rt, state);
+    log_counts(rt, state);
     outcome
 }
 
 /// Serves gateways over UDP, with a join server over TCP, until so many datagrams have come, if the options say how many. Writes
-/// `listening ADDR`, the `up` lines as windows close, those of the windows that are still open at the end, `settled T`, and the closing
+/// `listening ADDR` and `forwarders ADDR` for the addresses at which gateways are heard, the `up` lines as windows close, those of the windows that are still open at the end, `settled T`, and the closing
 /// roster where the options ask for it, each with a line feed, and gives T, which is how many entries there are in all shards.
 ///
 /// `NoMemory` where a growth was refused, or a thread could not be made; `Io` where the socket or the writer failed. Each is logged
@@ -247,26 +323,36 @@ pub fn serve<
     alloc: Global,
     roster: Arc<Roster>,
     options: &ServeOptions<'_>,
+    begun: Begun,
     writer: W,
 ) -> Result<u128, ServeFault>
     requires workers { (0 < options.now.workers) × (options.now.workers ≤ 16) }
     requires join_workers { (0 < options.now.join_workers) × (options.now.join_workers ≤ 16) }
+    requires begun { IsBegun (arc_value roster) begun }
 {
-    let (socket, addr) = listen(rt, options.listen)?;
-    let state = match State::new(rt, alloc, socket, addr, &roster, options) {
-        Ok(state) => state,
+    let Begun {
+        shards,
+        windows,
+        tickets,
+        record,
+    } = begun;
+    let mut state = begin(rt, alloc, &roster, options, shards.as_slice(), record)?;
+    log_start(rt, &roster, options);
+    let writer = AfterRecord::new(rt, &state, writer);
+    let output = match first_lines(rt, alloc, &state, writer) {
+        Ok(output) => output,
         Err(why) => {
-            error!(rt; "what all threads share: {why}");
+            error!(rt; "the first line: {why}");
             return Err(why);
         }
     };
-    log_start(rt, &roster, addr, options);
-    let mut output = Output::new(writer);
-    if let Err(why) = output.put_listening(alloc, addr) {
-        error!(rt; "the first line: {why}");
-        return Err(why);
-    }
     let count = options.workers as u64 + options.join_workers as u64 + 1;
     let blanks = Blanks::new(count);
-    run_server::<Brand, _, _>(rt, alloc, roster, blanks, &state, output, options)
+    let outcome = run_server::<Brand, _, _>(
+        rt, alloc, roster, blanks, &state, output, options, shards, windows, tickets,
+    );
+    if has_failed(rt, state.record.take()) {
+        return Err(ServeFault::Io);
+    }
+    outcome
 }

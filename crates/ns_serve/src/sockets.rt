@@ -1,23 +1,27 @@
-//! Datagrams from gateways, and downlinks to them, by one socket.
-ghost use Rattle.std.specs.Prelude.{◌≡◌, ◌≢◌, ◌<◌, ◌≤◌, ◌⊎◌, ◌↔◌, ℕ, None};
+//! Datagrams from gateways, and downlinks to them, by the socket of this server's own datagrams and by that of packet forwarders.
+ghost use Rattle.std.specs.Prelude.{◌≡◌, ◌≢◌, ◌<◌, ◌≤◌, ◌⊎◌, ◌↔◌, ℕ, None, IfOk};
+ghost use Rattle.ns_forwarder_socket.specs.Event.{FitsBuffer as FitsEvent};
 ghost use Rattle.ns_workers.specs.Datagrams.{FitsBuffer};
 
 use crate::clock::now_ms;
 use crate::counts::more;
+use crate::events::{log_counts, log_message};
 use crate::late::FrameName;
+use crate::record::write_record;
 use crate::state::State;
 use log::{Log, error, warn};
 use ns_calls::{DataFrame, Downlink};
+use ns_forwarder_socket::{Event, Pending};
 use ns_link::{read_datagram, write_down};
 use ns_types::GatewayId;
 use ns_views::{PhyView, view};
 use ns_workers::{Datagrams, Downlinks, Received};
 use std::io::{Error, ErrorKind};
-use std::net::SocketAddr;
+use std::net::{SocketAddr, UdpSocket};
 use std::sync::Wait;
 use std::sync::atomic::Ordering;
-use std::thread;
 use std::time::{Clock, Duration};
+use std::{io, thread};
 
 // The counts are looked at after so many datagrams, and whenever none comes.
 const BETWEEN_LOOKS: u64 = 64;
@@ -28,10 +32,12 @@ const FAILURE_MS: u64 = 100;
 // How many failures in a row a worker waits out. With the next one it takes the socket for lost.
 const MOST_FAILURES: u32 = 100;
 
-/// The datagrams of the socket.
+/// The datagrams of one of the sockets.
 #[derive(Drop)]
 pub(crate) struct FromSocket<'a> {
     state: &'a State,
+    // The room for a message, where forwarders are heard.
+    pending: Option<Pending>,
     // How many receives failed in a row.
     failures: u32,
 }
@@ -61,13 +67,44 @@ pub(crate) fn after_error(kind: ErrorKind, failures: u32) -> Without
 }
 
 impl<'a> FromSocket<'a> {
-    /// The datagrams of the server's socket.
-    pub fn new(state: &'a State) -> FromSocket<'a> {
-        FromSocket { state, failures: 0 }
+    /// The datagrams of the forwarders' socket where there is room for their messages, and else of the other.
+    pub fn new(state: &'a State, pending: Option<Pending>) -> FromSocket<'a> {
+        FromSocket {
+            state,
+            pending,
+            failures: 0,
+        }
+    }
+
+    // Receives what comes next, with where it came from if it is one of this server's own datagrams.
+    fn receive<R: Wait + Clock>(
+        &mut self,
+        rt: &R,
+        buf: &mut [u8; 512],
+    ) -> io::Result<(Event, Option<SocketAddr>)>
+        ensures { IfOk result (λ heard. FitsEvent heard.0) }
+    {
+        let state = self.state;
+        if let (Some(pending), Some((forwarders, _))) = (&mut self.pending, &state.forwarders) {
+            return Ok((forwarders.next(rt, state.alloc, pending, buf)?, None));
+        }
+        let Some((socket, _)) = &state.own else {
+            return Err(Error::from(ErrorKind::NotConnected));
+        };
+        let (n, peer) = socket.recv_from(buf)?;
+        Ok((Event::Datagram(n), Some(peer)))
+    }
+
+    // Whom this hears.
+    fn senders(&self) -> &'static str {
+        match self.pending {
+            Some(_) => "forwarders",
+            None => "gateways",
+        }
     }
 
     // Says that none came. A failure is counted, logged and waited out; where there were too many in a row, the source has failed.
-    fn without<R: Clock + Log>(&mut self, rt: &R, error: &Error) -> Received
+    fn without<R: Wait + Clock + Log>(&mut self, rt: &R, error: &Error) -> Received
         ensures none { (n : ℕ) → result ≢ Received.Got n }
         ensures fits { FitsBuffer result }
     {
@@ -75,6 +112,7 @@ impl<'a> FromSocket<'a> {
         match after_error(error.kind(), self.failures) {
             Without::Nothing => {
                 self.failures = 0;
+                let _ = write_record(rt, state);
                 look(rt, state);
                 Received::Idle
             }
@@ -82,13 +120,13 @@ impl<'a> FromSocket<'a> {
                 self.failures += 1;
                 more(&state.counts.unreceived);
                 if let Some(count) = state.seldoms.receive.happened(now_ms(rt, state)) {
-                    warn!(rt; "receiving at {} failed: {error}, {count} since the line before", state.addr);
+                    warn!(rt; "receiving from {} failed: {error}, {count} since the line before", self.senders());
                 }
                 thread::sleep(rt, Duration::from_millis(FAILURE_MS));
                 Received::Idle
             }
             Without::Lost => {
-                error!(rt; "receiving at {} failed more than {MOST_FAILURES} times in a row: {error}", state.addr);
+                error!(rt; "receiving from {} failed more than {MOST_FAILURES} times in a row: {error}", self.senders());
                 Received::Failed
             }
         }
@@ -117,18 +155,49 @@ pub(crate) fn read_seen(datagram: &[u8]) -> Option<Seen> {
     })
 }
 
-// Keeps where a gateway was heard, and says whether the datagram is a late copy.
-fn take_in<R: Wait + Clock>(rt: &R, state: &State, datagram: &[u8], peer: SocketAddr) -> bool {
+// Keeps where a gateway was heard that speaks this server's own datagrams, and says whether the datagram is a late copy.
+fn take_in<R: Wait + Clock>(
+    rt: &R,
+    state: &State,
+    datagram: &[u8],
+    peer: Option<SocketAddr>,
+) -> bool {
     let Some(seen) = read_seen(datagram) else {
         return false;
     };
-    let mut peers = state.peers.lock(rt);
-    let _ = peers.hear(seen.gateway, peer);
-    drop(peers);
+    if let Some(peer) = peer {
+        let mut peers = state.peers.lock(rt);
+        let _ = peers.hear(seen.gateway, peer);
+    }
     match seen.frame {
         Some(frame) => state.lates.is_late(rt, frame, now_ms(rt, state)),
         None => false,
     }
+}
+
+// Counts a datagram of so many bytes, and gives it where it is no late copy and none too many.
+fn counted<R: Wait + Clock + Log>(
+    rt: &R,
+    state: &State,
+    buf: &[u8; 512],
+    n: usize,
+    peer: Option<SocketAddr>,
+) -> Received
+    requires { n ≤ 512 }
+    ensures { FitsBuffer result }
+{
+    let before = state.read.fetch_add(1, Ordering::SeqCst);
+    if before >= state.most {
+        return Received::End;
+    }
+    if before % BETWEEN_LOOKS == 0 {
+        look(rt, state);
+    }
+    if take_in(rt, state, &buf[..n], peer) {
+        more(&state.counts.late);
+        return Received::Idle;
+    }
+    Received::Got(n)
 }
 
 impl<'a, R: Wait + Clock + Log> Datagrams<R> for FromSocket<'a> {
@@ -139,35 +208,28 @@ impl<'a, R: Wait + Clock + Log> Datagrams<R> for FromSocket<'a> {
         if state.is_over() {
             return Received::End;
         }
-        let (n, peer) = match state.socket.recv_from(buf) {
-            Ok(got) => got,
+        let (event, peer) = match self.receive(rt, buf) {
+            Ok(heard) => heard,
             Err(error) => return self.without(rt, &error),
         };
         self.failures = 0;
-        let before = state.read.fetch_add(1, Ordering::SeqCst);
-        if before >= state.most {
-            return Received::End;
+        if let Event::Datagram(n) = event {
+            return counted(rt, state, buf, n, peer);
         }
-        if before % BETWEEN_LOOKS == 0 {
-            look(rt, state);
-        }
-        if take_in(rt, state, &buf[..n], peer) {
-            more(&state.counts.late);
-            return Received::Idle;
-        }
-        Received::Got(n)
+        log_message(rt, state, event);
+        look(rt, state);
+        Received::Idle
     }
 }
 
 // Logs the counts where a minute has passed.
 fn look<R: Clock + Log>(rt: &R, state: &State) {
-    let read = state.read.load(Ordering::SeqCst);
-    state
-        .counts
-        .log_each_minute(rt, now_ms(rt, state), read.min(state.most));
+    if state.counts.is_due(now_ms(rt, state)) {
+        log_counts(rt, state);
+    }
 }
 
-/// Downlinks by the same socket, each to where its gateway was heard last.
+/// Downlinks, each to where its gateway's forwarder asked for them last, and else to where the gateway was heard last.
 #[derive(Drop)]
 pub(crate) struct ToSocket<'a> {
     pub state: &'a State,
@@ -179,16 +241,30 @@ impl<'a, R: Wait> Downlinks<R> for ToSocket<'a> {
     }
 }
 
-// Sends a downlink to where its gateway was heard last, and says whether it was sent.
-fn send_down<R: Wait>(rt: &R, state: &State, downlink: &Downlink) -> bool {
-    let Some(peer) = peer_of(rt, state, downlink.target.gateway) else {
+/// Sends a downlink once what it rests on is written, and says whether it was sent.
+pub(crate) fn send_down<R: Wait>(rt: &R, state: &State, downlink: &Downlink) -> bool {
+    if write_record(rt, state).is_err() {
         return false;
-    };
+    }
+    let (gateway, frame) = (downlink.target.gateway, downlink.frame.as_slice());
+    if let Some((forwarders, _)) = &state.forwarders {
+        if let Some(route) = forwarders.route(rt, gateway) {
+            return forwarders.send(state.alloc, route, &downlink.target, frame);
+        }
+    }
+    match (&state.own, peer_of(rt, state, gateway)) {
+        (Some((socket, _)), Some(peer)) => send_own(socket, peer, downlink),
+        _ => false,
+    }
+}
+
+// Sends a downlink as a datagram of this server's own, and says whether it was sent.
+fn send_own(socket: &UdpSocket, peer: SocketAddr, downlink: &Downlink) -> bool {
     let mut buf = [0u8; 61];
     let Ok(datagram) = write_down(&downlink.target, downlink.frame.as_slice(), &mut buf) else {
         return false;
     };
-    match state.socket.send_to(datagram, peer) {
+    match socket.send_to(datagram, peer) {
         Ok(n) => n == datagram.len(),
         Err(_) => false,
     }

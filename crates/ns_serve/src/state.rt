@@ -1,6 +1,7 @@
 //! What all threads of a server share.
 
-ghost use Rattle.std.specs.Prelude.{◌≡◌, IfOk};
+ghost use Rattle.std.specs.Prelude.{◌≡◌, is_some, IfOk};
+ghost use Rattle.ns_serve.specs.Hearing.{hears_forwarders};
 
 use crate::askers::Askers;
 use crate::counts::Counts;
@@ -11,8 +12,12 @@ use crate::options::{ServeFault, ServeOptions};
 use crate::peers::Peers;
 use crate::queue::AskQueue;
 use crate::seed::keys;
+use crate::status::Status;
+use ns_forwarder_socket::{Forwarders, Pending};
+use ns_record_files::{RecordFiles, Recorder};
 use ns_roster::Roster;
-use std::alloc::Global;
+use ns_shard::Shard;
+use std::alloc::{AllocError, Global};
 use std::net::{SocketAddr, UdpSocket};
 use std::sync::Mutex;
 use std::sync::atomic::{AtomicBool, AtomicU64, Ordering};
@@ -27,9 +32,11 @@ fn late_ms(roster: &Roster) -> u64 {
 /// What all threads share.
 #[derive(Drop)]
 pub(crate) struct State {
-    pub socket: UdpSocket,
-    /// The address at which gateways are heard.
-    pub addr: SocketAddr,
+    pub alloc: Global,
+    /// Where gateways are heard that speak this server's own datagrams, if they are.
+    pub own: Option<(UdpSocket, SocketAddr)>,
+    /// Where packet forwarders are heard, if they are.
+    pub forwarders: Option<(Forwarders, SocketAddr)>,
     /// When the server began.
     pub start: Instant,
     /// How long a window stays open, in milliseconds.
@@ -49,6 +56,10 @@ pub(crate) struct State {
     pub made: Made,
     pub counts: Counts,
     pub seldoms: Seldoms,
+    /// What its calls are put down in, if they are.
+    pub record: Option<Recorder<RecordFiles>>,
+    /// What is told over HTTP, where it is.
+    pub status: Option<Status>,
 }
 
 impl State {
@@ -56,20 +67,30 @@ impl State {
     pub fn new<R: Clock>(
         rt: &R,
         alloc: Global,
-        socket: UdpSocket,
-        addr: SocketAddr,
+        own: Option<(UdpSocket, SocketAddr)>,
+        forwarders: Option<(UdpSocket, SocketAddr)>,
         roster: &Roster,
         options: &ServeOptions<'_>,
+        shards: &[Shard],
+        record: Option<Recorder<RecordFiles>>,
+        status: Option<Status>,
     ) -> Result<State, ServeFault>
         ensures window { IfOk result (λ s. s.window_ms ≡ options.now.window_ms) }
-        ensures addr { IfOk result (λ s. s.addr ≡ addr) }
     {
         let (Ok(start), Ok(keys)) = (Instant::now(rt), keys(rt)) else {
             return Err(ServeFault::Io);
         };
+        let forwarders = match forwarders {
+            Some((socket, addr)) => {
+                let heard = Forwarders::new(alloc, keys, socket, start, options.power)?;
+                Some((heard, addr))
+            }
+            None => None,
+        };
         Ok(State {
-            socket,
-            addr,
+            alloc,
+            own,
+            forwarders,
             start,
             window_ms: options.window_ms,
             read: AtomicU64::new(0),
@@ -80,10 +101,24 @@ impl State {
             lates: Lates::new(alloc, keys, late_ms(roster))?,
             asks: AskQueue::new(alloc),
             askers: Mutex::new(Askers::new(alloc, keys)?),
-            made: Made::new(),
+            made: Made::of(shards),
             counts: Counts::new(),
             seldoms: Seldoms::new(),
+            record,
+            status,
         })
+    }
+
+    /// The room for a message of the gateway worker at this place, if it hears forwarders: each does where no other datagrams are heard, and
+    /// else every second one.
+    pub fn pending_at(&self, place: usize) -> Result<Option<Pending>, AllocError>
+        ensures { IfOk result (λ p. is_some p ≡ hears_forwarders (is_some self.now.own) (is_some self.now.forwarders) place) }
+    {
+        if self.forwarders.is_some() && (self.own.is_none() || place % 2 == 1) {
+            Ok(Some(Pending::new(self.alloc)?))
+        } else {
+            Ok(None)
+        }
     }
 
     /// Whether no further datagram or job is to be taken.

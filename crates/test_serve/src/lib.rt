@@ -1,4 +1,4 @@
-//! Tests of the server over sockets: servers over loopback with a join server, gateways and devices in threads of their own, what they log,
+//! Tests of the server over sockets: servers over loopback with a join server, gateways, a packet forwarder and devices in threads of their own, what they log,
 //! also where memory is really gone, the table of addresses, and trims of a running server.
 //!
 //! They call what `ns_serve` gives in public, and stand here so that it is not proved once more for its tests.
@@ -8,6 +8,8 @@
 mod addresses;
 #[cfg(test)]
 mod around;
+#[cfg(test)]
+mod forwarded;
 #[cfg(test)]
 mod logged;
 #[cfg(test)]

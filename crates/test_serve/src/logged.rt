@@ -66,6 +66,7 @@ fn trial_at(port: u16, stop_after: u32) -> Trial {
         stop_after: Some(stop_after),
         joins: 0,
         closing: false,
+        forwarders: false,
     }
 }
 

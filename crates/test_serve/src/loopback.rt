@@ -50,6 +50,7 @@ fn one_device_over_loopback(rt: HostRuntime) -> Result<(), Fail> {
         stop_after: Some(4),
         joins: 1,
         closing: true,
+        forwarders: false,
     };
     let mut output: Vec<u8> = Vec::new(alloc);
     let (total, bytes) = tried(&rt, alloc, &trial, OverStd::new(&mut output), &OneDevice)?;
@@ -95,6 +96,7 @@ fn longest_datagram_and_line(rt: HostRuntime) -> Result<(), Fail> {
         stop_after: Some(18),
         joins: 1,
         closing: false,
+        forwarders: false,
     };
     let mut output: Vec<u8> = Vec::new(alloc);
     let (total, bytes) = tried(&rt, alloc, &trial, OverStd::new(&mut output), &Longest)?;
@@ -142,6 +144,7 @@ fn last_window_is_acknowledged(rt: HostRuntime) -> Result<(), Fail> {
         stop_after: Some(2),
         joins: 1,
         closing: false,
+        forwarders: false,
     };
     let mut output: Vec<u8> = Vec::new(alloc);
     let (total, bytes) = tried(&rt, alloc, &trial, OverStd::new(&mut output), &Moved)?;
@@ -185,6 +188,7 @@ fn two_are_asked_about_at_a_time(rt: HostRuntime) -> Result<(), Fail> {
         stop_after: Some(3),
         joins: 2,
         closing: false,
+        forwarders: false,
     };
     let mut output: Vec<u8> = Vec::new(alloc);
     let (total, bytes) = tried(&rt, alloc, &trial, OverStd::new(&mut output), &TwoJoins)?;
@@ -252,6 +256,7 @@ fn failed_output_ends_the_server(rt: HostRuntime) -> Result<(), Fail> {
         stop_after: None,
         joins: 1,
         closing: false,
+        forwarders: false,
     };
     let writer = Failing {
         texts: 1,

@@ -4,7 +4,7 @@ use crate::parties::{join_server, local};
 use log::Log;
 use ns_joinclient::HostName;
 use ns_roster::Roster;
-use ns_serve::{ServeFault, ServeOptions, serve};
+use ns_serve::{Begun, ServeFault, ServeOptions, serve};
 use ns_types::Sink;
 use std::alloc::Global;
 use std::net::{Net, SocketAddr, TcpListener, TcpStream};
@@ -26,6 +26,8 @@ pub struct Trial {
     /// How many devices ask to join at a time.
     pub joins: usize,
     pub closing: bool,
+    /// Whether packet forwarders are heard, in place of the server's own datagrams.
+    pub forwarders: bool,
 }
 
 // Where the join server of a trial listens: behind the gateways' port.
@@ -52,10 +54,19 @@ pub fn served<
     let Some(host) = HostName::new("js.local") else {
         return Err(ServeFault::Io);
     };
+    let heard = Some(local(trial.port));
+    let (listen, forwarders) = if trial.forwarders {
+        (None, heard)
+    } else {
+        (heard, None)
+    };
     let options = ServeOptions {
         join: join_addr(trial),
         host,
-        listen: local(trial.port),
+        listen,
+        forwarders,
+        power: 14,
+        status: None,
         workers: 1,
         join_workers: trial.join_workers.max(1).min(16),
         window_ms: trial.window_ms,
@@ -63,7 +74,8 @@ pub fn served<
         trim: Some(1),
         closing: trial.closing,
     };
-    serve(rt, alloc, roster, &options, writer)
+    let begun = Begun::new(alloc, &roster)?;
+    serve(rt, alloc, roster, &options, begun, writer)
 }
 
 /// What gateways and devices do while a server runs, at this port. How many bytes came of it.

@@ -2,6 +2,7 @@
 
 ghost use Rattle.std.specs.Prelude.{◌≡◌};
 ghost use Rattle.std.specs.Arc.{arc_value};
+ghost use Rattle.ns_shard.specs.State.{no_entries};
 ghost use Rattle.ns_tally.specs.Tally.{AreNamed};
 
 use crate::parties::ROSTER_A;
@@ -84,6 +85,7 @@ fn trimmed_when_due<B: Naming, R: Wait + Log + Abort>(
     requires names { AreNamed B.ledger blanks.names }
     requires parts { (blanks.parts ≡ 1) × (B.workers ≡ 1) }
     requires roster { arc_value roster ≡ B.roster }
+    requires begun { B.begun ≡ no_entries B.roster }
 {
     let (server, mut passes) = Server::<B>::new(alloc, roster, 1, blanks)?;
     if let Some(pass) = passes.last_mut() {
@@ -167,6 +169,7 @@ fn trimmed_later<B: Naming, R: Wait + Log + Abort>(
     requires names { AreNamed B.ledger blanks.names }
     requires parts { (blanks.parts ≡ 1) × (B.workers ≡ 1) }
     requires roster { arc_value roster ≡ B.roster }
+    requires begun { B.begun ≡ no_entries B.roster }
 {
     let (server, mut passes) = Server::<B>::new(alloc, roster, 1, blanks)?;
     if let Some(pass) = passes.last_mut() {

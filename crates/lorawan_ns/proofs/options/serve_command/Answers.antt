@@ -9,5 +9,7 @@ returns c =
     let first = IsCommand-arg _ _ c.command.result c.in_ok-serve.serve c.roster.result c.command.ensures (c.roster.ensures.rule, c.roster.ensures.here) c.in_ok-serve.ensures in
     let heard = c.in_ok-serve-2.ensures _ first in
     let worked = c.in_ok-serve-3.ensures _ heard in
-    let limited = c.in_ok-with_limits.ensures _ worked in
-    IfOk-weaker c.arg-2.result _ _ (λ new added. IsCommand-arg _ _ c.in_ok-with_limits.field-0 new c.closing.result limited (c.closing.ensures.rule, c.closing.ensures.here) added) c.arg-2.ensures
+    let limited = c.in_ok-serve-4.ensures _ worked in
+    let recorded = c.in_ok-with_record.ensures _ limited in
+    let told = IsCommand-arg _ _ c.in_ok-with_record.field-0 c.in_ok-serve-5.serve c.status.result recorded (c.status.ensures.rule, c.status.ensures.here) c.in_ok-serve-5.ensures in
+    IfOk-weaker c.arg-3.result _ _ (λ new added. IsCommand-arg _ _ c.in_ok-serve-5.serve new c.closing.result told (c.closing.ensures.rule, c.closing.ensures.here) added) c.arg-3.ensures

@@ -1,0 +1,295 @@
+#!/usr/bin/env python3
+"""Ends `lorawan_ns serve --record` by SIGKILL again and again, at any moment, while a network of devices goes on, and checks that
+no device notices.
+
+    record_kills.py [--lives N] [--seed N] [--devices N] [--gateways N] [--rate N] [--rejoin N] [--longest SECONDS]
+                    [--folder DIR] [--program PATH] [-- WORD..]
+
+    --lives N           how often the program is begun (default 50); each but the last is ended after 0.05 to --longest seconds (1.6)
+    --rate N            uplinks a second of all devices (default 150), of which half are confirmed and sent again until they are
+                        acknowledged; --devices N (48), --gateways N (4)
+    --rejoin N          a device joins again after N uplinks (default 0: never)
+    --folder DIR        where the record is left (default: a folder that is removed)
+    WORD..              further words of `serve`, as --sync
+
+Between two lives now and then a torn line is put behind `steps`, or bytes are cut off `up`, and for a while nobody listens. In the end
+each confirmed uplink has to be acknowledged, no number of an acknowledgement may come twice in a session, no device may have had to join
+again, `up` must have each acknowledged uplink and none twice, `replay` must say the file `up` again from `steps` byte for byte with no
+reply that changes nothing, and standard output must have told no line twice over all lives, and none that `up` has not. It prints what
+came of it, and ends with status 0 only where all is as it must be.
+"""
+import argparse
+import collections
+import json
+import os
+import random
+import select
+import signal
+import socket
+import subprocess
+import sys
+import tempfile
+import time
+
+from network.nodes import CHANNELS, Copy, Down, Gateway, Node, app_key, roster
+from network.servers import Joins
+
+HERE = os.path.dirname(os.path.abspath(__file__))
+PROGRAM = os.path.join(os.path.dirname(HERE), 'crates', 'lorawan_ns', 'out', 'lorawan_ns')
+DELAY = 1_000_000       # microseconds from an uplink's end to RX1
+AGAIN = 2.4             # seconds after which a confirmed uplink is sent again: before, the server takes it for a late copy
+PATIENCE = 1.5          # seconds after which a device asks to join again
+UNWRITTEN = 0.4         # seconds before a kill of which a datagram may not be in the record: lines wait 100 ms, a window 50
+QUIET = 30              # seconds that the last life has for what is not acknowledged yet
+WITHOUT_EFFECT = ('crowded', 'old', 'nosession', 'busy', 'joincrowded', 'nonceold', 'nodevice', 'joinbusy', 'noticket', 'nowindow',
+                  'refused')
+
+
+class Uplink:
+    """A data uplink, and when it was sent first."""
+    __slots__ = 'node', 'frame', 'session', 'at', 'sent_at', 'is_acknowledged'
+
+    def name(self):
+        return self.frame.eui, self.frame.counter, self.frame.payload.hex()
+
+
+class Trial:
+    """A network, and the lives of a server."""
+
+    def __init__(self, options, folder):
+        self.options, self.pick, self.faults = options, random.Random(options.seed), collections.Counter()
+        self.roster, self.record = os.path.join(folder, 'roster.json'), os.path.join(folder, 'record')
+        os.makedirs(self.record, exist_ok=True)
+        with open(self.roster, 'w', encoding='utf-8') as file:
+            json.dump(roster(options.devices, 0, 1), file)
+        with socket.socket(socket.AF_INET, socket.SOCK_DGRAM) as sock:
+            sock.bind(('127.0.0.1', 0))
+            self.where = sock.getsockname()
+        self.joins = Joins(('127.0.0.1', 0), {eui.to_bytes(8, 'big'): app_key(options.seed, eui) for eui in range(options.devices)})
+        self.nodes = [Node(options.seed, eui) for eui in range(options.devices)]
+        self.gateways = [Gateway(options.seed << 16 | number, self.where) for number in range(options.gateways)]
+        self.by_socket = {sock: gateway for gateway in self.gateways for sock in gateway.sockets}
+        self.numbers, self.joining, self.waiting = collections.defaultdict(set), {}, {}
+        self.moments, self.sent, self.silent = {}, [], []
+        self.next_at, self.life, self.child, self.told = time.monotonic(), 0, None, []
+        self.is_heard, self.silent_from, self.wants_joins = False, 0, 0
+
+    # ------------------------------------------------------------ lives
+
+    def begin(self):
+        self.life += 1
+        self.out = os.path.join(self.record, '..', 'out-%d' % self.life)
+        words = [self.options.program, 'serve', self.roster, '--join', '%s:%d' % self.joins.where, '--listen', '%s:%d' % self.where,
+                 '--window', '50', '--workers', '4', '--join-workers', '4', '--record', self.record, *self.options.words]
+        with open(self.out, 'wb') as out, open(self.out + '.log', 'wb') as log:
+            self.child = subprocess.Popen(words, stdout=out, stderr=log)
+
+    def end(self):
+        """Kills the program, takes what it told, and does to the record what a crash may."""
+        self.look()
+        now = time.monotonic()
+        if self.child.poll() is not None:
+            self.fault('a life that ended by itself with status %d' % self.child.returncode)
+        self.child.send_signal(signal.SIGKILL)
+        self.child.wait()
+        if self.is_heard:
+            self.is_heard, self.silent_from = False, now - UNWRITTEN
+        self.child = None
+        with open(self.out, encoding='utf-8') as file:
+            self.told += [line for line in file.read().split('\n')[:-1] if line.startswith('up ')]
+
+    def crash(self):
+        steps, ups = os.path.join(self.record, 'steps'), os.path.join(self.record, 'up')
+        if self.pick.random() < 0.3 and os.path.exists(steps):
+            with open(steps, 'ab') as file:
+                file.write(self.pick.choice((b'h', b'heard 0101', b'close 0000', b'answer ')))
+        if self.pick.random() < 0.3 and os.path.exists(ups):
+            os.truncate(ups, max(0, os.path.getsize(ups) - self.pick.randrange(400)))
+        self.run(self.pick.uniform(0, 0.3))
+
+    def look(self):
+        """Whether the program says by now that it listens."""
+        if self.child and not self.is_heard and os.path.getsize(self.out):
+            self.is_heard = True
+            self.silent.append((self.silent_from, time.monotonic() + 0.05))
+
+    def fault(self, text):
+        self.faults[text] += 1
+
+    # ------------------------------------------------------------ traffic
+
+    def hear(self, data, uplink):
+        """Some gateways hear a frame."""
+        now, hertz, rate = time.monotonic(), self.pick.choice(CHANNELS), self.pick.randrange(6)
+        number = self.pick.randint(1, min(3, len(self.gateways)))
+        for gateway, snr in zip(self.pick.sample(self.gateways, number), self.pick.sample(range(-200, 150), number)):
+            copy = Copy(gateway, gateway.moment(now), snr, -900)
+            self.moments[gateway.eui, copy.moment] = uplink
+            try:
+                gateway.socket.send(copy.datagram(hertz, rate, data))
+            except OSError:
+                pass        # nobody listens
+
+    def ask(self, node, now):
+        self.joining[node] = now
+        self.hear(node.join_request(), node)
+
+    def send(self, node, now):
+        uplink = Uplink()
+        uplink.node, uplink.frame, uplink.session = node, node.next_frame(0.5, size=12), (node, node.device.address, node.device.join_nonce)
+        uplink.at = uplink.sent_at = now
+        uplink.is_acknowledged = False
+        self.sent.append(uplink)
+        if uplink.frame.is_confirmed:
+            self.waiting[node] = uplink
+        self.hear(uplink.frame.bytes, uplink)
+
+    def step(self, is_sending):
+        now = time.monotonic()
+        self.look()
+        for node, at in list(self.joining.items()):
+            if now - at > PATIENCE:
+                self.ask(node, now)
+        for node, uplink in list(self.waiting.items()):
+            if now - uplink.sent_at > AGAIN:
+                uplink.sent_at = now
+                self.hear(uplink.frame.bytes, uplink)
+        while is_sending and self.next_at <= now:
+            self.next_at = max(self.next_at, now - 0.1) + 1 / self.options.rate
+            node = self.pick.choice(self.nodes)
+            if node in self.joining or node in self.waiting:
+                continue
+            rejoin = self.options.rejoin
+            if not node.is_joined or rejoin and node.counter >= rejoin:
+                self.wants_joins += 1
+                self.ask(node, now)
+            else:
+                self.send(node, now)
+        for sock in select.select(list(self.by_socket), [], [], 0.004)[0]:
+            try:
+                self.receive(Down(sock.recv(600)))
+            except OSError:
+                pass
+
+    def run(self, seconds, is_sending=True):
+        end = time.monotonic() + seconds
+        while time.monotonic() < end:
+            self.step(is_sending)
+
+    def receive(self, down):
+        """A downlink is the answer to the frame of its gateway and moment."""
+        node = self.moments.get((down.gateway, down.moment - 5 * DELAY))
+        if isinstance(node, Node):
+            if node in self.joining:
+                try:
+                    node.accept(down.frame)
+                    del self.joining[node]
+                except Exception:
+                    pass        # of an earlier Join-Request
+            return
+        uplink = self.moments.get((down.gateway, down.moment - DELAY))
+        if not isinstance(uplink, Uplink):
+            return self.fault('a downlink for no uplink')
+        self.acknowledge(uplink, down.frame)
+
+    def acknowledge(self, uplink, frame):
+        node, used = uplink.node, self.numbers[uplink.session]
+        if uplink.session != (node, node.device.address, node.device.join_nonce):
+            return          # of a session that is over
+        most = max(used, default=-1)
+        number = next((n for n in range(max(0, most - 64), most + 300) if node.device.is_acknowledgement(frame, n)), None)
+        if number is None:
+            return self.fault('a downlink that is no acknowledgement')
+        if number in used:
+            self.fault('a number of an acknowledgement used twice')
+        used.add(number)
+        uplink.is_acknowledged = True
+        if self.waiting.get(node) is uplink:
+            del self.waiting[node]
+
+    # ------------------------------------------------------------ the end
+
+    def trial(self):
+        try:
+            for life in range(self.options.lives):
+                self.begin()
+                if life + 1 < self.options.lives:
+                    self.run(self.pick.uniform(0.05, self.options.longest))
+                    self.end()
+                    self.crash()
+            self.run(self.options.longest)
+            end = time.monotonic() + QUIET
+            while (self.waiting or self.joining) and time.monotonic() < end:
+                self.step(False)
+            self.run(0.5, False)
+            self.end()
+        finally:
+            if self.child:
+                self.child.kill()
+            self.joins.close()
+            for gateway in self.gateways:
+                gateway.close()
+        for _ in self.waiting:
+            self.fault('a confirmed uplink that is never acknowledged')
+        for _ in self.joining:
+            self.fault('a device that cannot join')
+        return self.check()
+
+    def is_excused(self, uplink):
+        """Whether an unconfirmed uplink was sent while nobody listened, or right before a kill."""
+        return any(begin <= uplink.at <= end for begin, end in self.silent + [(self.silent_from, uplink.at)])
+
+    def check(self):
+        with open(os.path.join(self.record, 'steps'), 'rb') as file:
+            steps = file.read()
+        with open(os.path.join(self.record, 'up'), 'rb') as file:
+            up = file.read()
+        done = subprocess.run([self.options.program, 'replay', self.roster], input=steps, capture_output=True, check=True)
+        said = done.stdout.decode().splitlines()
+        ups = [line for line in said if line.startswith('up ')]
+        if ''.join(line + '\n' for line in ups).encode() != up:
+            self.fault('`up` is not what `replay` says of `steps`')
+        for line in said:
+            if line.split()[0] in WITHOUT_EFFECT:
+                self.fault('a reply %s in the record' % line.split()[0])
+        names = collections.Counter(tuple(line.split()[1:4]) for line in ups)
+        twice = sum(count > 1 for count in names.values())
+        there = {(int(words[1], 16), int(words[3]), words[7]) for words in map(str.split, ups)}
+        lost = sum(uplink.is_acknowledged and uplink.name() not in there for uplink in self.sent)
+        missing = [uplink for uplink in self.sent if not uplink.is_acknowledged and uplink.name() not in there]
+        for uplink in missing:
+            if not self.is_excused(uplink):
+                self.fault('an uplink that is missing without a kill')
+        told, all_ups = collections.Counter(self.told), set(ups)
+        for line, count in told.items():
+            if count > 1:
+                self.fault('a line of standard output that came twice')
+            if line not in all_ups:
+                self.fault('a line of standard output that the record has not')
+        if twice or lost:
+            self.faults['uplinks lost, or twice in `up`'] += twice + lost
+        sessions = sum(line.startswith('accepted ') for line in said)
+        print('lives %d uplinks %d acknowledged %d sessions %d (wanted %d) steps %d up %d missing by kills %d lost %d used twice %d' % (
+            self.life, len(self.sent), sum(uplink.is_acknowledged for uplink in self.sent), sessions, self.wants_joins,
+            steps.count(b'\n'), len(ups), len(missing), lost, twice + self.faults['a number of an acknowledgement used twice']))
+        for text, count in self.faults.items():
+            print('WRONG, %d times: %s' % (count, text))
+        print('all is as it must be' if not self.faults else 'not all is as it must be')
+        return 1 if self.faults else 0
+
+
+def main():
+    parser = argparse.ArgumentParser(description=__doc__, formatter_class=argparse.RawDescriptionHelpFormatter)
+    for name, kind, default in (('lives', int, 50), ('seed', int, 1), ('devices', int, 48), ('gateways', int, 4), ('rate', float, 150.0),
+                                ('rejoin', int, 0), ('longest', float, 1.6), ('folder', str, None), ('program', str, PROGRAM)):
+        parser.add_argument('--' + name, type=kind, default=default, help=argparse.SUPPRESS)
+    parser.add_argument('words', nargs='*', help=argparse.SUPPRESS)
+    options = parser.parse_args()
+    if options.folder:
+        return Trial(options, options.folder).trial()
+    with tempfile.TemporaryDirectory() as folder:
+        return Trial(options, folder).trial()
+
+
+if __name__ == '__main__':
+    sys.exit(main())
