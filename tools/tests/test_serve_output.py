@@ -210,7 +210,7 @@ class Faults(Outputs):
         words = self.send_all(gateway, devices, range(8))
         switch.put(0, errno.EIO)
         moments = self.acknowledged(gateway, WINDOW / 1000 + 0.5)
-        self.ends_with(server, 1, 'io', r'127\.0\.0\.1:%d' % server.where[1])
+        self.ends_with(server, 1, 'io', 'receiving from gateways failed')
         self.assertGreater(len(moments), 0)
         self.are_printed(server, words, moments)
 
