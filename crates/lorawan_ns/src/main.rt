@@ -160,11 +160,17 @@ fn begin<R: Files<File = File> + AllocGlobal, L: Log>(
     };
     let files = match RecordFiles::open(rt, log, alloc, folder, record.sync) {
         Ok(files) => files,
-        Err(fault) => return Err(of_files(fault)),
+        Err(fault) => {
+            error!(log; "{folder}: {fault}");
+            return Err(of_files(fault));
+        }
     };
     match Begun::resume(log, alloc, roster, files) {
         Ok(begun) => Ok(begun),
-        Err(fault) => Err(of_record(fault)),
+        Err(fault) => {
+            error!(log; "{folder}: {fault}");
+            Err(of_record(fault))
+        }
     }
 }
 

@@ -1,7 +1,7 @@
 //! A server of one gateway worker, with those around it.
 
 use crate::parties::{join_server, local};
-use log::Log;
+use log::{Log, error};
 use ns_joinclient::HostName;
 use ns_roster::Roster;
 use ns_serve::{Begun, ServeFault, ServeOptions, serve};
@@ -74,7 +74,10 @@ pub fn served<
         trim: Some(1),
         closing: trial.closing,
     };
-    let begun = Begun::new(alloc, &roster)?;
+    let Ok(begun) = Begun::new(alloc, &roster) else {
+        error!(rt; "no memory for the shards");
+        return Err(ServeFault::NoMemory);
+    };
     serve(rt, alloc, roster, &options, begun, writer)
 }
 
