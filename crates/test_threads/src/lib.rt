@@ -17,8 +17,6 @@ mod growth_tests;
 #[cfg(test)]
 mod long_tests;
 #[cfg(test)]
-mod resume_tests;
-#[cfg(test)]
 mod served;
 #[cfg(test)]
 mod tests;
