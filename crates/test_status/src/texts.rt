@@ -68,10 +68,8 @@ fn metrics(rt: HostRuntime) -> Result<(), Fail> {
         gateways: 12,
     };
     let lists = Lists {
-        refusals: &[13],
-        refusal_names: &["G1"],
-        replies: &[14, 15],
-        reply_names: &["opened", "copied"],
+        refusals: &[("G1", 13)],
+        replies: &[("opened", 14), ("copied", 15)],
         entries: &[16, 17],
     };
     let mut text = String::new(rt.alloc());
