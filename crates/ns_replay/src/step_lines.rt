@@ -105,6 +105,7 @@ fn datagram_step(alloc: Global, text: &[u8]) -> Result<Option<Act>, AllocError>
 
 // The step of the text behind `answer`.
 #[tactic(auto, unfolding(crate::specs::StepLines::answer_step))]
+#[inline(never)]
 fn answer_step(alloc: Global, text: &[u8]) -> Result<Option<Act>, AllocError>
     ensures { IfOk result (λ a. a ≡ answer_step text.now) }
 {
@@ -120,6 +121,7 @@ fn answer_step(alloc: Global, text: &[u8]) -> Result<Option<Act>, AllocError>
 
 // The step of the text behind `lost`.
 #[tactic(auto, unfolding(crate::specs::StepLines::lost_step))]
+#[inline(never)]
 fn lost_step(text: &[u8]) -> Option<Act>
     ensures { result ≡ lost_step text.now }
 {
@@ -166,6 +168,7 @@ fn window(eui: DevEui, text: &[u8]) -> Option<WindowName>
 
 // The step of the text behind `close`.
 #[tactic(auto, unfolding(crate::specs::StepLines::close_step))]
+#[inline(never)]
 fn close_step(text: &[u8]) -> Option<Act>
     ensures { result ≡ close_step text.now }
 {
@@ -173,7 +176,8 @@ fn close_step(text: &[u8]) -> Option<Act>
     Some(Act::Close(window(eui(device)?, text)?))
 }
 
-// The step that a first word asks for, with the text behind it.
+// The step that a first word asks for, with the text behind it. Most lines are of datagrams: the other steps stay functions of their own, so
+// that a datagram makes no room for them.
 #[tactic(auto, unfolding(crate::specs::StepLines::act))]
 fn act(alloc: Global, word: &[u8], text: &[u8]) -> Result<Option<Act>, AllocError>
     ensures { IfOk result (λ a. a ≡ act word.now text.now) }

@@ -7,7 +7,7 @@ use crate::sending::{ack_from, uplink_of};
 use ns_calls::{Answer, Downlink, Reply};
 use ns_roster::Roster;
 use ns_types::WindowName;
-use ns_windows::Window;
+use ns_windows::BoxedWindow;
 
 /// What came of a call. It is small: a window that was closed stands beside it.
 #[derive(Drop)]
@@ -42,7 +42,7 @@ impl Event {
     }
 
     /// The downlink that goes out, with the window that was closed, if any.
-    pub fn downlink(&self, roster: &Roster, closed: &Option<Window>) -> Option<Downlink>
+    pub fn downlink(&self, roster: &Roster, closed: &Option<BoxedWindow>) -> Option<Downlink>
         ensures { result ≡ downlink_of roster.now closed.now self.now }
     {
         match self {
@@ -50,13 +50,13 @@ impl Event {
             Event::Accepted { downlink, .. } => *downlink,
             Event::Closed { ack, .. } => {
                 let number = (*ack)?;
-                ack_from(roster, closed.as_ref()?, number)
+                ack_from(roster, closed.as_ref()?.as_ref(), number)
             }
         }
     }
 
     /// The answer, with the window that was closed, if any.
-    pub fn answer(&self, roster: &Roster, closed: Option<Window>) -> Answer
+    pub fn answer(&self, roster: &Roster, closed: Option<BoxedWindow>) -> Answer
         ensures { result ≡ answer_of roster.now closed self.now }
     {
         let reply = self.reply();

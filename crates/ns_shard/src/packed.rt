@@ -4,11 +4,11 @@ ghost use Rattle.std.specs.Prelude.{◌≡◌, IfOk, Some, is_some};
 ghost use Rattle.ns_shard.specs.State.{quiet};
 ghost use Rattle.ns_shard.specs.Private.Sending.{uplink_of};
 
-use crate::sending::uplink_of;
+use crate::sending::uplink_from;
 use arrayvec::ArrayVec;
 use ns_calls::{Answer, Bytes, Downlink, Reply, Uplink};
 use ns_types::{DevAddr, Heard, WindowName};
-use ns_windows::Window;
+use ns_windows::BoxedWindow;
 use std::alloc::{AllocError, Global};
 use std::marker::Model;
 
@@ -102,14 +102,23 @@ impl Model for PackedAnswer {
     ghost view = { λ a. record { reply = a.reply; uplink = option_and_then (λ s. s.value.uplink) a.sent; downlink = option_and_then (λ s. s.value.downlink) a.sent } };
 }
 
-// An uplink that is kept, where there is one.
+// The uplink of a window that was closed, if any, where it is the first of its rounds, as it is kept.
 #[inline(always)]
-fn packed_uplink(alloc: Global, uplink: &Option<Uplink>) -> Result<Option<PackedUplink>, AllocError>
-    ensures { IfOk result (λ u. u ≡ uplink.now) }
+fn packed_uplink(
+    alloc: Global,
+    closed: Option<BoxedWindow>,
+) -> Result<Option<PackedUplink>, AllocError>
+    ensures { IfOk result (λ u. u ≡ uplink_of closed) }
 {
-    match uplink {
-        Some(uplink) => Ok(Some(PackedUplink::new(alloc, uplink)?)),
-        None => Ok(None),
+    let Some(boxed) = closed else {
+        return Ok(None);
+    };
+    let mut window = boxed.into_inner();
+    if window.name.is_first() {
+        let uplink = uplink_from(&mut window);
+        Ok(Some(PackedUplink::new(alloc, &uplink)?))
+    } else {
+        Ok(None)
     }
 }
 
@@ -121,40 +130,25 @@ impl PackedAnswer {
         PackedAnswer { reply, sent: None }
     }
 
-    // This answer. `NoMemory` (`AllocError`) where what goes out finds no memory.
-    #[inline(always)]
-    fn new(alloc: Global, answer: Answer) -> Result<PackedAnswer, AllocError>
-        ensures { IfOk result (λ a. a ≡ answer) }
-    {
-        let sent = Sent {
-            uplink: packed_uplink(alloc, &answer.uplink)?,
-            downlink: answer.downlink,
-        };
-        Ok(PackedAnswer {
-            reply: answer.reply,
-            sent: Some(Box::new(alloc, sent)?),
-        })
-    }
-
     /// A reply with which the uplink of a window goes out, or a downlink. `NoMemory` (`AllocError`) where they find no memory. It stays a
     /// function of its own, so that a call with which nothing goes out makes no room for what does.
     #[inline(never)]
     pub(crate) fn sending(
         alloc: Global,
         reply: Reply,
-        closed: Option<Window>,
+        closed: Option<BoxedWindow>,
         downlink: Option<Downlink>,
     ) -> Result<PackedAnswer, AllocError>
         ensures { IfOk result (λ a. a ≡ record { reply = reply; uplink = uplink_of closed; downlink = downlink }) }
     {
-        PackedAnswer::new(
-            alloc,
-            Answer {
-                reply,
-                uplink: uplink_of(closed),
-                downlink,
-            },
-        )
+        let sent = Sent {
+            uplink: packed_uplink(alloc, closed)?,
+            downlink,
+        };
+        Ok(PackedAnswer {
+            reply,
+            sent: Some(Box::new(alloc, sent)?),
+        })
     }
 
     /// The reply.

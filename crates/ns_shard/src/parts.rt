@@ -19,7 +19,7 @@ use ns_devices::Devices;
 use ns_journal::Journal;
 use ns_roster::Roster;
 use ns_types::WindowName;
-use ns_windows::{Window, Windows};
+use ns_windows::{BoxedWindow, Windows};
 use std::alloc::{AllocError, Global};
 use std::sync::Arc;
 
@@ -76,7 +76,7 @@ impl Parts {
 
     // Takes a closing or a join server's answer. Where its window or ticket is open, what is kept changes, its entry is added in the room
     // that is reserved for it, and what came of it is told, with the window that it closed, if any. Else nothing changes.
-    fn end(&mut self, call: &Call, closed: &mut Option<Window>) -> Option<Event>
+    fn end(&mut self, call: &Call, closed: &mut Option<BoxedWindow>) -> Option<Event>
         requires ends { is_ending call.now ≡ true }
         requires agree { AreParts self.old }
         requires none { closed.old ≡ None }
@@ -113,7 +113,7 @@ impl Parts {
 
     // Takes a call: what is kept changes, its entry is added, and what came of it is told, with the window that it closed, if any. Where
     // a growth is refused, nothing has changed.
-    fn enter(&mut self, call: &Call, closed: &mut Option<Window>) -> Result<Event, AllocError>
+    fn enter(&mut self, call: &Call, closed: &mut Option<BoxedWindow>) -> Result<Event, AllocError>
         requires own { shard_of_call call.now ≡ self.old.index }
         requires agree { AreParts self.old }
         requires none { closed.old ≡ None }

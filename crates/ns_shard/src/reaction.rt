@@ -1,6 +1,6 @@
 //! What a call changes of the devices and windows that a shard keeps, and what comes of it.
 
-ghost use Rattle.std.specs.Prelude.{◌≡◌, true, false, None, IfOk, OnOk, OnErr};
+ghost use Rattle.std.specs.Prelude.{◌≡◌, true, false, None, Some, IfOk, OnOk, OnErr};
 ghost use Rattle.ns_windows.specs.Windows.{window_named, without};
 ghost use Rattle.ns_shard.specs.declared.event.Event.TheVariants.{Quiet};
 ghost use Rattle.ns_shard.specs.Private.Sending.{reply_of};
@@ -14,7 +14,7 @@ use crate::uplink::uplink;
 use ns_calls::{Call, Reply};
 use ns_devices::Devices;
 use ns_types::WindowName;
-use ns_windows::{Window, Windows};
+use ns_windows::{BoxedWindow, Window, Windows};
 use std::alloc::AllocError;
 
 // Uses the number of the window's acknowledgement, where one is owed.
@@ -29,24 +29,32 @@ fn use_ack(devices: &mut Devices, window: &Window) -> Option<u32>
     }
 }
 
+// What came of the closing of a window.
+fn closing(devices: &mut Devices, window: &Window) -> Event
+    ensures event { result ≡ close_event devices.old (Some window.now) }
+    ensures devices { devices.new ≡ with_closing (Some window.now) devices.old }
+{
+    Event::Closed {
+        window: window.name,
+        ack: use_ack(devices, window),
+    }
+}
+
 // Closes a window, and hands it out.
 fn close(
     devices: &mut Devices,
     windows: &mut Windows,
     name: &WindowName,
-    closed: &mut Option<Window>,
+    closed: &mut Option<BoxedWindow>,
 ) -> Event
     ensures event { result ≡ close_event devices.old (window_named name.now windows.old) }
     ensures closed { closed.new ≡ window_named name.now windows.old }
     ensures devices { devices.new ≡ with_closing (window_named name.now windows.old) devices.old }
     ensures windows { windows.new ≡ without name.now windows.old }
 {
-    *closed = windows.take(name);
+    *closed = windows.take_boxed(name);
     match closed {
-        Some(window) => Event::Closed {
-            window: window.name,
-            ack: use_ack(devices, window),
-        },
+        Some(boxed) => closing(devices, boxed.as_ref()),
         None => Event::Quiet(Reply::NoWindow),
     }
 }
@@ -76,7 +84,7 @@ pub fn end(
     devices: &mut Devices,
     windows: &mut Windows,
     call: &Call,
-    closed: &mut Option<Window>,
+    closed: &mut Option<BoxedWindow>,
 ) -> Option<Event>
     requires ends { is_ending call.now ≡ true }
     requires none { closed.old ≡ None }

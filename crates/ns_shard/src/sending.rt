@@ -3,29 +3,31 @@
 ghost use Rattle.std.specs.Prelude.{◌≡◌};
 ghost use Rattle.ns_shard.specs.Private.Sending.{uplink_from, uplink_of, ack_from};
 
+use arrayvec::ArrayVec;
 use ns_calls::{Downlink, Uplink, payload_key};
 use ns_roster::Roster;
 use ns_sent::acknowledgement;
-use ns_windows::Window;
+use ns_windows::{BoxedWindow, Window};
+use std::mem;
 
-// The uplink of a window, whose own frame is deciphered.
+/// The uplink of a window, whose own frame is deciphered, and which loses its copies.
 #[inline(always)]
-fn uplink_from(mut window: Window) -> Uplink
-    ensures { result ≡ uplink_from window }
+pub fn uplink_from(window: &mut Window) -> Uplink
+    ensures { result ≡ uplink_from window.old }
 {
     let key = payload_key(window.frame.view().fport(), window.nwk, window.app);
-    let copies = window.copies;
+    let copies = mem::replace(&mut window.copies, ArrayVec::new());
     Uplink::under(window.name, &mut window.frame, copies, key)
 }
 
 /// The uplink of a window that was closed, if any, where it is the first of its rounds.
 #[inline(always)]
-pub fn uplink_of(closed: Option<Window>) -> Option<Uplink>
+pub fn uplink_of(closed: Option<BoxedWindow>) -> Option<Uplink>
     ensures { result ≡ uplink_of closed }
 {
-    let window = closed?;
+    let mut window = closed?.into_inner();
     if window.name.is_first() {
-        Some(uplink_from(window))
+        Some(uplink_from(&mut window))
     } else {
         None
     }

@@ -81,12 +81,11 @@ fn add_last(alloc: Global, linked: &mut Linked, window: Window) -> Result<(), Al
 
 // Takes the window of a name out.
 #[inline(always)]
-fn pop_named(linked: &mut Linked, name: &WindowName) -> Option<Window>
+fn pop_named(linked: &mut Linked, name: &WindowName) -> Option<BoxedWindow>
     ensures value { result ≡ lookup ((name_eq.ghosts).eq name.now) linked.old.entries }
     ensures entries { linked.new ≡ lru_cache (remove_entry ((name_eq.ghosts).eq name.now) linked.old.entries) linked.old.cap }
 {
-    let boxed = linked.pop(name)?;
-    Some(boxed.into_inner())
+    linked.pop(name)
 }
 
 impl ByName {
@@ -164,7 +163,7 @@ impl ByName {
 
     /// Takes the window of a name out. It takes no memory.
     #[inline(always)]
-    pub(crate) fn remove(&mut self, name: &WindowName) -> Option<Window>
+    pub(crate) fn remove(&mut self, name: &WindowName) -> Option<BoxedWindow>
         ensures result { result ≡ window_named name.now self.old }
         ensures windows { self.new ≡ without name.now self.old }
     {

@@ -10,5 +10,5 @@ mod counts;
 mod window;
 mod windows;
 
-pub use window::{Addition, Window};
+pub use window::{Addition, BoxedWindow, Window};
 pub use windows::Windows;

@@ -6,7 +6,7 @@ ghost use Rattle.ns_windows.specs.Windows.{window_named, window_of_frame, count,
 
 use crate::by_name::ByName;
 use crate::counts::{Counts, count_of, lower, raise};
-use crate::window::{Addition, Window};
+use crate::window::{Addition, BoxedWindow, Window};
 use indexmap::IndexMap;
 use ns_types::{DevEui, Heard, WindowName};
 use std::alloc::{AllocError, Global};
@@ -107,14 +107,23 @@ impl Windows {
     }
 
     /// Takes the window of a name out. It takes no memory.
-    #[inline(always)]
     pub fn take(&mut self, name: &WindowName) -> Option<Window>
         ensures result { result ≡ window_named name.now self.old }
         ensures windows { self.new ≡ without name.now self.old }
     {
+        Some(self.take_boxed(name)?.into_inner())
+    }
+
+    /// The same, where the window lies.
+    #[inline(always)]
+    pub fn take_boxed(&mut self, name: &WindowName) -> Option<BoxedWindow>
+        ensures result { result ≡ window_named name.now self.old }
+        ensures windows { self.new ≡ without name.now self.old }
+    {
         let window = self.names.remove(name)?;
-        self.frames.swap_remove(window.frame.bytes());
-        lower(&mut self.counts, window.name.eui);
+        let lent = window.as_ref();
+        self.frames.swap_remove(lent.frame.bytes());
+        lower(&mut self.counts, lent.name.eui);
         Some(window)
     }
 }

@@ -1,13 +1,14 @@
-use Rattle.std.proofs.Common.{◌≡◌, ◌+◌, ◌-◌, arith, None, Some, bytes_eq, not, sym, ◌∙◌}
+use Rattle.std.proofs.Common.{◌≡◌, ◌+◌, ◌-◌, arith, None, Some, bytes_eq, not, sym, ap, ◌∙◌}
 use Rattle.std.specs.Box.{boxed_slice_items}
 use Rattle.std.specs.Map.{lookup, KeepsOthers}
+use Rattle.ns_windows.specs.declared.window.Window.{Window}
 use Rattle.ns_windows.specs.Windows.{is_named, window_named, without, count, count_in, AreCounted}
 use Rattle.ns_windows.proofs.Names.{apart-filter}
 use Rattle.ns_windows.proofs.Framed.{frames-taken, of_frames-filter}
 use Rattle.ns_windows.proofs.Counted.{one_of, count-taken}
 use Rattle.ns_windows.proofs.Places.{none_found, filter-none}
-use Rattle.ns_windows.proofs.windows.Windows.take.Goals as goal
-use Rattle.ns_windows.proofs.windows.Windows.take.Goals.{After-from_residual, After-lower}
+use Rattle.ns_windows.proofs.windows.Windows.take_boxed.Goals as goal
+use Rattle.ns_windows.proofs.windows.Windows.take_boxed.Goals.{After-from_residual, After-lower}
 
 stays : (c : After-from_residual) → c.remove.new.self ≡ c.self.inside.names
 stays c =
@@ -21,17 +22,20 @@ invariant_of-self c = rw (stays c) c.self.invariant
 there : (c : After-lower) → Some c.in_ok-window.window ≡ window_named c.args.name.now c.self.inside.names
 there c = c.in_ok-window.ensures.result
 
+frame_of : (c : After-lower) → c.bytes.result.now ≡ c.in_ok-window.window.frame
+frame_of c = c.bytes.ensures.bytes ∙ ap (λ (w : Window). w.frame) c.as_ref-lent.ensures
+
 keeps : (c : After-lower) → KeepsOthers (λ x y. bytes_eq (boxed_slice_items x) (boxed_slice_items y)) (λ k. bytes_eq c.in_ok-window.window.frame (boxed_slice_items k)) c.self.inside.frames.entries c.swap_remove.new.self.entries
-keeps c = rw (← c.bytes.ensures.bytes) c.swap_remove.ensures.updates.3
+keeps c = rw (← frame_of c) c.swap_remove.ensures.updates.3
 
 gone : (c : After-lower) → lookup (λ k. bytes_eq c.in_ok-window.window.frame (boxed_slice_items k)) c.swap_remove.new.self.entries ≡ None
-gone c = rw (← c.bytes.ensures.bytes) c.swap_remove.ensures.updates.1
+gone c = rw (← frame_of c) c.swap_remove.ensures.updates.1
 
 counted : (c : After-lower) → AreCounted c.lower.new.counts.entries (without c.args.name.now c.self.inside.names)
 counted c eui =
     let ws = c.self.inside.names in
     let w = c.in_ok-window.window in
-    let lowered : count_in c.lower.new.counts.entries eui ≡ count_in c.self.inside.counts.entries eui - one_of eui w = c.lower.ensures eui in
+    let lowered : count_in c.lower.new.counts.entries eui ≡ count_in c.self.inside.counts.entries eui - one_of eui w = rw c.as_ref-lent.ensures at (c.lower.ensures eui) in
     let was : count_in c.self.inside.counts.entries eui ≡ count eui ws = c.self.invariant.1 eui in
     let taken : count eui ws ≡ count eui (without c.args.name.now ws) + one_of eui w = count-taken eui c.args.name.now ws w c.self.invariant.0.0 (sym (there c)) in
     omega (arith, lowered, was, taken)
