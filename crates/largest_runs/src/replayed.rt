@@ -3,6 +3,7 @@
 ghost use Rattle.std.specs.Prelude.{◌<◌};
 
 use anyhow::anyhow;
+use ns_events::Output;
 use ns_replay::{ReplayFault, replay};
 use ns_roster::Roster;
 use ns_types::Fuse;
@@ -26,7 +27,14 @@ pub fn written(
     let roster = Arc::new(alloc, Roster::read(alloc, roster.as_bytes())?)?;
     let mut reader = Fuse::new(alloc, Vec::from_slice(alloc, steps)?, most, None, None);
     let mut writer = Fuse::new(alloc, Vec::new(alloc), 1 << 20, None, None);
-    match replay(alloc, roster, closing, &mut reader, &mut writer) {
+    match replay(
+        alloc,
+        roster,
+        Output::Lines,
+        closing,
+        &mut reader,
+        &mut writer,
+    ) {
         Ok(()) => Ok(Vec::from_slice(alloc, writer.written())?),
         Err(ReplayFault::NoMemory) => Err(anyhow!("no memory")),
         Err(ReplayFault::Io) => Err(anyhow!("io")),

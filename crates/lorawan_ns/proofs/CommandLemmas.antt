@@ -1,7 +1,7 @@
 -- Lemmas on commands that are put together argument by argument.
 use Rattle.std.proofs.Common.{◌≡◌, ◌||◌, Bool, true, false, ap, ap₂, refl, ◌∙◌}
 use Rattle.std.specs.Borrow.{Bor}
-use Rattle.clap.specs.Words.{AddsArg, AddsSubcommand, App, Rule, Text, app_of, is_simple, rule_of, with_rule, with_subcommand}
+use Rattle.clap.specs.Words.{AddsArg, AddsSubcommand, App, Rule, Text, is_simple, is_simple_and_free, rule_of, with_rule, with_subcommand}
 use Rattle.clap.specs.declared.builder.texts.Texts.TheVariants.{One}
 use Rattle.clap.specs.declared.builder.arg.Arg.{Arg}
 use Rattle.clap.specs.declared.builder.command.Command.{Command}
@@ -37,3 +37,8 @@ IsCommand-subcommand app below old sub new is is_sub added = (
 pub program_simple : is_simple program ≡ true
 unfolding program serve_app replay_app
 program_simple = refl
+
+-- and the kinds of its errors
+pub program_free : is_simple_and_free program ≡ true
+unfolding program serve_app replay_app
+program_free = refl

@@ -1,5 +1,5 @@
 -- Lemmas on what is read of an option's value.
-use Rattle.std.proofs.Common.{◌≡◌, ◌≢◌, ◌<◌, ◌^◌, ℕ, List, Bool, true, false, Option, Some, None, Ok, Err, Result, option_map, is_some, refl, sym, ap, ap₂, subst, ◌∙◌}
+use Rattle.std.proofs.Common.{◌≡◌, ◌<◌, ◌^◌, ℕ, List, Bool, true, false, Option, Some, None, Ok, Result, option_map, is_some, refl, sym, ap, ap₂, subst, ◌∙◌}
 use Rattle.std.specs.Prelude.{IfOk, codes, unwrap_or}
 use Rattle.std.specs.Option.{ok_or}
 use Rattle.std.specs.Net.Grammar.{IsSocketText, Parses}

@@ -30,6 +30,10 @@ closing_rule = switch_rule (codes "closing")
 abbrev pub status_rule : Rule
 status_rule = option_rule (codes "status")
 
+-- the option that asks for events
+abbrev pub events_rule : Rule
+events_rule = switch_rule (codes "events")
+
 -- an option that each use of the command needs
 abbrev pub needed : Rule → Rule
 needed rule = record rule { required = true }
@@ -57,12 +61,17 @@ abbrev pub limit_rules : List Rule
 limit_rules =
     else_value (codes "200") (number_rule (codes "window") 60000)
     ∷ number_rule (codes "stop-after") 4294967295
+    ∷ switch_rule (codes "stop-at-end-of-input")
     ∷ else_value (codes "20000") (option_rule (codes "trim"))
     ∷ []
 
 -- those about what the calls of the server are put down in
 abbrev pub record_rules : List Rule
 record_rules = option_rule (codes "record") ∷ switch_rule (codes "sync") ∷ []
+
+-- how uplinks are written
+abbrev pub output_rules : List Rule
+output_rules = else_value (codes "lines") (option_rule (codes "output")) ∷ []
 
 -- a command with these arguments behind its own
 abbrev pub with_rules : App → List Rule → App
@@ -71,10 +80,11 @@ with_rules = fold with_rule
 unfoldable pub serve_app : App
 serve_app =
     let heard = with_rules (with_rule (new_app (codes "serve")) roster_rule) address_rules in
-    with_rule (with_rule (with_rules (with_rules (with_rules heard worker_rules) limit_rules) record_rules) status_rule) closing_rule
+    let kept = with_rules (with_rules (with_rules heard worker_rules) limit_rules) record_rules in
+    with_rule (with_rule (with_rule (with_rules kept output_rules) events_rule) status_rule) closing_rule
 
 unfoldable pub replay_app : App
-replay_app = with_rule (with_rule (new_app (codes "replay")) roster_rule) closing_rule
+replay_app = with_rule (with_rules (with_rule (new_app (codes "replay")) roster_rule) output_rules) closing_rule
 
 -- the program, with a version
 abbrev pub named_app : App

@@ -1,18 +1,18 @@
 -- The exit status where the words of the command line ask for nothing that is to be done.
-use Rattle.std.specs.Prelude.{◌≡◌, ◌≢◌, ◌≤◌, ◌<◌, ◌⊎◌, ℕ, List, ⊤, Result, Ok, Err}
+use Rattle.std.specs.Prelude.{◌≡◌, ◌≢◌, ◌≤◌, ◌<◌, ◌⊎◌, ℕ, List, ⊤, Ok, Err}
 use Rattle.clap.specs.Values.{kind_of}
-use Rattle.clap.specs.declared.error.kind.ErrorKind.{ErrorKind}
 use Rattle.clap.specs.declared.error.kind.ErrorKind.TheVariants.{DisplayHelp, DisplayVersion, OutOfMemory}
 use Rattle.clap.specs.declared.error.Error.{Error}
 use Rattle.clap.specs.Words.{Text}
 use Rattle.lorawan_ns.specs.Asked.{IsAsked}
+use Rattle.lorawan_ns.specs.Refused.{IsRefusal}
 use Rattle.lorawan_ns.specs.declared.options.BadWords.{BadWords}
 use Rattle.lorawan_ns.specs.declared.options.BadWords.TheVariants.{NoMemory, NotText, BadValue, Shown}
 use Rattle.lorawan_ns.specs.declared.options.Asked.{Asked}
 use Rattle.lorawan_ns.specs.declared.options.Asked.TheVariants.{Replay, Serve}
 use Rattle.lorawan_ns.specs.declared.End.{End}
 use Rattle.lorawan_ns.specs.declared.End.TheVariants.{Ran, Refused}
-use Rattle.ns_serve.specs.declared.options.ServeOptions.{ServeOptions}
+use Rattle.ns_serve_parts.specs.declared.options.ServeOptions.{ServeOptions}
 
 -- a text that was asked for, and no mistake in the words
 abbrev pub IsAskedFor : Error → Type 0
@@ -43,10 +43,10 @@ abbrev pub IsServed : ServeOptions → Type 0
 IsServed options = ((0 < options.workers) × (options.workers ≤ 16)) × ((0 < options.join_workers) × (options.join_workers ≤ 16))
 
 abbrev pub IsDoable : Asked → Type 0
-IsDoable (Replay path closing) = ⊤
+IsDoable (Replay path uplinks closing) = ⊤
 IsDoable (Serve path options recorded) = IsServed options
 
--- a run is of what the words ask for, and a refusal of words is told
+-- a run is of what the words ask for, and a refusal is of words that are refused, and told
 abbrev pub IsRun : List Text → End → Type 0
 IsRun words (Ran outcome) = (asked : Asked) × IsAsked words asked × IsDoable asked
-IsRun words (Refused bad) = IsTold bad
+IsRun words (Refused bad) = IsTold bad × IsRefusal words bad

@@ -4,7 +4,7 @@ ghost use Rattle.std.specs.Prelude.{◌≡◌, ◌≢◌, Err, IsOk, IsErr};
 ghost use Rattle.std.specs.Process.{exit_status};
 ghost use Rattle.ns_roster.specs.declared.fault.RosterFault.TheVariants as roster;
 ghost use Rattle.ns_replay.specs.declared.run.ReplayFault.TheVariants as replay;
-ghost use Rattle.ns_serve.specs.declared.options.ServeFault.TheVariants as serve;
+ghost use Rattle.ns_serve_parts.specs.declared.options.ServeFault.TheVariants as serve;
 ghost use Rattle.ns_record_files.specs.declared.files.FilesFault.TheVariants as files;
 ghost use Rattle.ns_resume.specs.declared.fault.RecordFault.TheVariants as lines;
 

@@ -3,11 +3,11 @@
 //! `lorawan_ns replay ROSTER` reads step lines from standard input and writes the lines of their answers to standard output. The
 //! contract of `replay` in `ns_replay` says what is written. `lorawan_ns serve ROSTER --join ADDR` hears gateways over UDP and writes
 //! their uplinks: `serve` of `ns_serve` does it, with threads and sockets. Here are the command line, the texts of faults, log lines and
-//! the exit statuses. What the words ask for, which fault each refusal is, and which status follows
-//! stand in contracts; the texts are shown by tests. Before a run ends early, a log line of level error says where and why. The program
-//! stands on `ns_roster`, which reads the roster, on `ns_roster_place`, which names the place of its fault, on `ns_joinclient` for a host's
-//! name, on `ns_types` for streams, on `ns_replay` and `ns_serve`, and on `arrayvec`, `clap`, `jiff_core`, `jiff_fmt`, `log` and
-//! `thiserror` of the kit.
+//! the exit statuses. What the words ask for, when they are refused, which fault each refusal is, and which status follows stand in
+//! contracts; the texts are shown by tests. Before a run ends early, a log line of level error says where and why. The program stands on
+//! `ns_roster`, which reads the roster, on `ns_roster_place`, which names the place of its fault, on `ns_joinclient` for a host's name, on
+//! `ns_types` for streams, on `ns_replay` and `ns_serve`, and on `arrayvec`, `clap`, `jiff_core`, `jiff_fmt`, `log` and `thiserror` of the
+//! kit.
 #![tactic(auto)]
 
 mod fault;
@@ -22,7 +22,7 @@ ghost use Rattle.std.specs.Arc.{arc_value};
 ghost use Rattle.std.specs.Io.KnownBytes.{Appends};
 ghost use Rattle.std.specs.Process.{exit_status};
 ghost use Rattle.ns_replay.specs.Output.{output};
-ghost use Rattle.ns_serve.specs.Begun.{IsBegun};
+ghost use Rattle.ns_serve_state.specs.Begun.{IsBegun};
 ghost use Rattle.lorawan_ns.specs.Status.{IsServed, IsAskedFor, IsStatusOf, IsEnd, IsRun};
 
 use crate::fault::{
@@ -34,11 +34,12 @@ use crate::streams::Told;
 use clap::Error;
 use log::filter::{Filter, FilteredLog};
 use log::{Log, error};
+use ns_events::Output;
 use ns_record_files::RecordFiles;
 use ns_replay::{ReplayFault, replay};
 use ns_roster::{Roster, RosterFault};
 use ns_roster_place::first_fault;
-use ns_serve::{Begun, ServeOptions, WaitingWriter, serve};
+use ns_serve::{Begun, EndOfInput, ServeOptions, Stop, WaitingWriter, serve};
 use ns_types::{OverStd, Sink, Source};
 use std::alloc::{AllocError, Global};
 use std::env::{Env, VarError};
@@ -98,6 +99,7 @@ fn answer<L: Log, S: Source, K: Sink>(
     log: &L,
     alloc: Global,
     roster: Arc<Roster>,
+    uplinks: Output,
     closing: bool,
     reader: &mut S,
     writer: &mut K,
@@ -105,12 +107,12 @@ fn answer<L: Log, S: Source, K: Sink>(
     requires reader_sound { S.Stream.has_failed reader.old ≡ false }
     requires writer_sound { K.Stream.has_failed writer.old ≡ false }
     ensures ok { OnOk result (IfSome (S.left reader.old)
-        (λ input. Appends (K.taken writer.old) (K.taken writer.new) (output closing (arc_value roster) input))) }
+        (λ input. Appends (K.taken writer.old) (K.taken writer.new) (output uplinks closing (arc_value roster) input))) }
     ensures sound { OnOk result ((S.Stream.has_failed reader.new ≡ false) × (K.Stream.has_failed writer.new ≡ false)) }
     ensures io { (result ≡ Err ReplayFault.Io)
         ↔ ((S.Stream.has_failed reader.new ≡ true) ⊎ (K.Stream.has_failed writer.new ≡ true)) }
 {
-    let outcome = replay(alloc, roster, closing, reader, writer);
+    let outcome = replay(alloc, roster, uplinks, closing, reader, writer);
     if outcome == Err(ReplayFault::NoMemory) {
         error!(log; "no memory for the steps and their answers");
     }
@@ -122,12 +124,21 @@ fn run_replay<'a, R: Files + AllocGlobal + Input + Print, L: Log>(
     rt: &R,
     log: &L,
     path: &'a str,
+    uplinks: Output,
     closing: bool,
 ) -> Result<(), Fault<'a>> {
     let roster = read_roster(rt, log, path)?;
     let mut reader = OverStd::new(Told::new(log, "standard input", rt.reader()));
     let mut writer = OverStd::new(Told::new(log, "standard output", io::writer(rt)));
-    of_replay(answer(log, rt.alloc(), roster, closing, &mut reader, &mut writer))
+    of_replay(answer(
+        log,
+        rt.alloc(),
+        roster,
+        uplinks,
+        closing,
+        &mut reader,
+        &mut writer,
+    ))
 }
 
 // The filter of log lines that the environment asks for.
@@ -175,15 +186,17 @@ fn begin<R: Files<File = File> + AllocGlobal, L: Log>(
 }
 
 // Reads the roster and then serves gateways.
-fn run_serve<'a, R, L>(
+fn run_serve<'a, R, L, S>(
     rt: &R,
     log: &L,
     path: &'a str,
     options: &ServeOptions<'_>,
     record: Recorded<'_>,
+    stop: S,
 ) -> Result<(), Fault<'a>>
 where
     R: Files<File = File> + AllocGlobal + Print + Sync,
+    S: Stop + Send + Drop + 'static,
     L: Threads + Wait + Clock + Log + Sync,
     L: Net<Listener = TcpListener, Stream = TcpStream>,
     requires { IsServed options.now }
@@ -191,7 +204,7 @@ where
     let roster = read_roster(rt, log, path)?;
     let begun = begin(rt, log, &roster, record)?;
     let writer = OverStd::new(WaitingWriter::new(log, io::writer(rt)));
-    of_serve(serve(log, rt.alloc(), roster, options, begun, writer))
+    of_serve(serve(log, rt.alloc(), roster, options, begun, stop, writer))
 }
 
 // The words of the command line, the program's name first.
@@ -266,17 +279,20 @@ enum End<'a> {
 }
 
 // Does what the words ask for.
-fn run<'a, R, L>(rt: &R, log: &L, words: &'a [String]) -> End<'a>
+fn run<'a, R, L, S>(rt: &R, log: &L, words: &'a [String], stop: S) -> End<'a>
 where
     R: Files<File = File> + AllocGlobal + Input + Print + Sync,
+    S: Stop + Send + Drop + 'static,
     L: Threads + Wait + Clock + Log + Sync,
     L: Net<Listener = TcpListener, Stream = TcpStream>,
     ensures { IsRun (map string_bytes words.now) result }
 {
     match read_words(rt.alloc(), words) {
-        Ok(Asked::Replay(path, closing)) => End::Ran(run_replay(rt, log, path, closing)),
+        Ok(Asked::Replay(path, uplinks, closing)) => {
+            End::Ran(run_replay(rt, log, path, uplinks, closing))
+        }
         Ok(Asked::Serve(path, options, record)) => {
-            End::Ran(run_serve(rt, log, path, &options, record))
+            End::Ran(run_serve(rt, log, path, &options, record, stop))
         }
         Err(bad) => End::Refused(bad),
     }
@@ -299,7 +315,10 @@ fn main(rt: HostRuntime) -> ExitCode {
     };
     let log = Logging::new(&rt, FilteredLog::new(Timed(&rt), filter));
     match words(&rt) {
-        Ok(words) => concluded(&rt, &log, &run(&rt, &log, words.as_slice())),
+        Ok(words) => {
+            let stop = EndOfInput::new(rt);
+            concluded(&rt, &log, &run(&rt, &log, words.as_slice(), stop))
+        }
         Err(bad) => concluded(&rt, &log, &End::Refused(bad)),
     }
 }

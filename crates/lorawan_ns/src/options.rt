@@ -1,15 +1,18 @@
 //! The command line.
 
-ghost use Rattle.std.specs.Prelude.{◌≡◌, ◌<◌, ◌≤◌, codes, false, IfErr, IfOk, IfSome, Some, map, string_bytes};
+ghost use Rattle.std.specs.Prelude.{◌≡◌, ◌<◌, ◌≤◌, codes, false, IfErr, IfOk, Some, map, string_bytes};
 ghost use Rattle.ns_joinclient.specs.Request.{host_text};
 ghost use Rattle.clap.specs.Words.{app_of, first_of, found_of, new_app, rows_of, rule_of};
-ghost use Rattle.lorawan_ns.specs.Asked.{HasOptions, HasRecord, IsAddr, IsAddrIfGiven, IsAsked, IsAskedBy, IsFlag, IsNumber, IsNumberIfGiven, IsNumberOrNever, command_of, name_of};
-ghost use Rattle.lorawan_ns.specs.Commands.{IsCommand, address_rules, closing_rule, limit_rules, number_rule, option_rule, program, record_rules, replay_app, roster_rule, serve_app, status_rule, switch_rule, with_rules, worker_rules};
+ghost use Rattle.lorawan_ns.specs.Asked.{HasOptions, HasRecord, IsAddr, IsAddrIfGiven, IsAsked, IsAskedBy, IsFlag, IsNumber, IsNumberIfGiven, IsNumberOrNever, IsOutput, command_of, name_of};
+ghost use Rattle.lorawan_ns.specs.declared.options.BadWords.TheVariants as refusal;
+ghost use Rattle.lorawan_ns.specs.Commands.{IsCommand, address_rules, closing_rule, events_rule, limit_rules, number_rule, option_rule, output_rules, program, record_rules, replay_app, roster_rule, serve_app, status_rule, switch_rule, with_rules, worker_rules};
+ghost use Rattle.lorawan_ns.specs.Refused.{HasNoAddr, HasNoCount, HasNoHost, IsNoOutput, IsNotNever, IsOfClap, IsRefusal, IsRefused, IsRefusedBehind, IsThere};
 ghost use Rattle.lorawan_ns.specs.Status.{IsTold, IsServed, IsDoable};
 
 use clap::builder::ValueParser;
 use clap::error::ErrorKind;
 use clap::{Arg, ArgAction, ArgMatches, Command};
+use ns_events::Output;
 use ns_joinclient::HostName;
 use ns_serve::ServeOptions;
 use std::alloc::{AllocError, Global};
@@ -28,9 +31,11 @@ const NEVER: &str = "never";
 
 // What stands at the end of the help.
 const STREAMS: &str = "\
-Standard input (replay): step lines.
-Standard output: the lines of their answers (replay), the uplinks (serve); with
---closing the last line is the roster from which the next run begins.
+Standard input: step lines (replay); with --stop-at-end-of-input, serve stops at
+its end.
+Standard output: the lines of their answers (replay), the uplinks (serve), each
+uplink a line or, with --output json, a JSON object on a line; with --closing the
+last line is the roster from which the next run begins.
 Standard error: log lines, and in the last line why the program ended early.
 
 Status: 0 at a good end; 1 for a roster or a file that could not be read, for
@@ -43,8 +48,9 @@ docs/OPERATOR.md says how to use them.";
 /// What the words ask for.
 #[derive(Drop)]
 pub enum Asked<'a> {
-    /// To answer the step lines of standard input over the roster of this file, and whether the closing roster is written.
-    Replay(&'a str, bool),
+    /// To answer the step lines of standard input over the roster of this file, how uplinks are written, and whether the closing roster
+    /// is.
+    Replay(&'a str, Output, bool),
     /// To serve gateways over the roster of this file.
     Serve(&'a str, ServeOptions<'a>, Recorded<'a>),
 }
@@ -85,6 +91,8 @@ pub enum OptionName {
     Trim,
     #[error("record")]
     Record,
+    #[error("output")]
+    Output,
 }
 
 impl OptionName {
@@ -105,6 +113,7 @@ impl OptionName {
             OptionName::StopAfter => "stop-after",
             OptionName::Trim => "trim",
             OptionName::Record => "record",
+            OptionName::Output => "output",
         }
     }
 
@@ -120,6 +129,7 @@ impl OptionName {
             OptionName::Window => "a number of milliseconds from 1 to 60000",
             OptionName::StopAfter => "a number from 1 to 4294967295",
             OptionName::Record => "a folder, and not with --closing",
+            OptionName::Output => "lines or json",
         }
     }
 }
@@ -141,7 +151,7 @@ pub enum BadWords {
 }
 
 impl From<AllocError> for BadWords {
-    ghost from_gives = { λ _ bad. IsTold bad };
+    ghost from_gives = { λ _ bad. bad ≡ refusal.NoMemory };
 
     fn from(_error: AllocError) -> BadWords {
         BadWords::NoMemory
@@ -149,7 +159,7 @@ impl From<AllocError> for BadWords {
 }
 
 impl From<clap::Error> for BadWords {
-    ghost from_gives = { λ _ bad. IsTold bad };
+    ghost from_gives = { IsOfClap };
 
     fn from(error: clap::Error) -> BadWords {
         if error.kind() == ErrorKind::OutOfMemory {
@@ -222,6 +232,15 @@ fn status<'a>(alloc: Global) -> Arg<'a>
         "ADDR",
         "The address at which HTTP tells the status, as 127.0.0.1:9108; without it, none",
     )
+}
+
+// The option that asks for events.
+fn events<'a>(alloc: Global) -> Arg<'a>
+    ensures rule { rule_of result ≡ events_rule }
+    ensures here { result.global ≡ false }
+{
+    let help = "Writes joins and acknowledgements too, each as a JSON object on a line";
+    switch(alloc, "events", help)
 }
 
 // A command with nothing but its help.
@@ -310,6 +329,11 @@ fn with_limits<'a>(alloc: Global, command: Command<'a>) -> Result<Command<'a>, A
         4_294_967_295,
         "After how many datagrams to stop, 1 to 4294967295; without it, never",
     );
+    let stop_at_end = switch(
+        alloc,
+        "stop-at-end-of-input",
+        "Stops at the end of standard input, of which nothing else is used",
+    );
     let trim = option(
         alloc,
         "trim",
@@ -319,6 +343,7 @@ fn with_limits<'a>(alloc: Global, command: Command<'a>) -> Result<Command<'a>, A
     command
         .arg(window.default_value("200"))?
         .arg(stop_after)?
+        .arg(stop_at_end)?
         .arg(trim.default_value(TRIM))
 }
 
@@ -340,6 +365,19 @@ fn with_record<'a>(alloc: Global, command: Command<'a>) -> Result<Command<'a>, A
     command.arg(record)?.arg(sync)
 }
 
+// A command, and behind its arguments this one: how uplinks are written.
+fn with_output<'a>(alloc: Global, command: Command<'a>) -> Result<Command<'a>, AllocError>
+    ensures { (app : _) → IsCommand app command.entry → IfOk result (IsCommand (with_rules app output_rules)) }
+{
+    let output = option(
+        alloc,
+        "output",
+        "FORM",
+        "How uplinks are written: lines, or json for JSON objects",
+    );
+    command.arg(output.default_value("lines"))
+}
+
 // The command that serves gateways.
 fn serve_command<'a>(alloc: Global) -> Result<Command<'a>, AllocError>
     ensures { IfOk result (IsCommand serve_app) }
@@ -349,7 +387,9 @@ fn serve_command<'a>(alloc: Global) -> Result<Command<'a>, AllocError>
     let serve = with_addresses(alloc, serve)?;
     let serve = with_workers(alloc, serve)?;
     let serve = with_limits(alloc, serve)?;
-    let serve = with_record(alloc, serve)?.arg(status(alloc))?;
+    let serve = with_record(alloc, serve)?;
+    let serve = with_output(alloc, serve)?.arg(events(alloc))?;
+    let serve = serve.arg(status(alloc))?;
     serve.arg(closing(alloc))
 }
 
@@ -357,9 +397,9 @@ fn serve_command<'a>(alloc: Global) -> Result<Command<'a>, AllocError>
 fn replay_command<'a>(alloc: Global) -> Result<Command<'a>, AllocError>
     ensures { IfOk result (IsCommand replay_app) }
 {
-    command(alloc, "replay", "Answers the step lines of standard input")
-        .arg(roster(alloc))?
-        .arg(closing(alloc))
+    let about = "Answers the step lines of standard input";
+    let replay = command(alloc, "replay", about).arg(roster(alloc))?;
+    with_output(alloc, replay)?.arg(closing(alloc))
 }
 
 // The program's commands.
@@ -377,7 +417,8 @@ fn commands<'a>(alloc: Global) -> Result<Command<'a>, AllocError>
 
 // The host that the option names.
 fn host<'a>(found: &ArgMatches<'a>) -> Result<HostName<'a>, BadWords>
-    ensures told { IfErr result IsTold }
+    ensures refused { IfErr result (λ bad. (bad ≡ BadWords.BadValue OptionName.Host)
+        × HasNoHost (codes "host") (rows_of (found_of found.now))) }
     ensures host { IfOk result (λ host. first_of (codes "host") (rows_of (found_of found.now)) ≡ Some (host_text host)) }
 {
     let Some(text) = found.get_str("host") else {
@@ -388,7 +429,8 @@ fn host<'a>(found: &ArgMatches<'a>) -> Result<HostName<'a>, BadWords>
 
 // The address that an option has.
 fn addr(found: &ArgMatches<'_>, name: OptionName) -> Result<SocketAddr, BadWords>
-    ensures told { IfErr result IsTold }
+    ensures refused { IfErr result (λ bad. (bad ≡ BadWords.BadValue name)
+        × HasNoAddr (name_of name) (rows_of (found_of found.now))) }
     ensures addr { IfOk result (IsAddr (name_of name) (rows_of (found_of found.now))) }
 {
     let addr: Option<SocketAddr> = found.get_one(name.as_str());
@@ -397,7 +439,8 @@ fn addr(found: &ArgMatches<'_>, name: OptionName) -> Result<SocketAddr, BadWords
 
 // The address that an option has, where it is given.
 fn given_addr(found: &ArgMatches<'_>, name: OptionName) -> Result<Option<SocketAddr>, BadWords>
-    ensures told { IfErr result IsTold }
+    ensures refused { IfErr result (λ bad. (bad ≡ BadWords.BadValue name)
+        × IsThere (name_of name) (rows_of (found_of found.now)) × HasNoAddr (name_of name) (rows_of (found_of found.now))) }
     ensures addr { IfOk result (IsAddrIfGiven (name_of name) (rows_of (found_of found.now))) }
 {
     if found.contains_id(name.as_str()) {
@@ -409,7 +452,8 @@ fn given_addr(found: &ArgMatches<'_>, name: OptionName) -> Result<Option<SocketA
 
 // The number that an option has, from 1 to this.
 fn count(found: &ArgMatches<'_>, name: OptionName, most: u32) -> Result<u32, BadWords>
-    ensures told { IfErr result IsTold }
+    ensures refused { IfErr result (λ bad. (bad ≡ BadWords.BadValue name)
+        × HasNoCount (name_of name) most (rows_of (found_of found.now))) }
     ensures count { IfOk result (λ n. (0 < n) × (n ≤ most)) }
     ensures number { IfOk result (IsNumber (name_of name) (rows_of (found_of found.now))) }
 {
@@ -421,8 +465,8 @@ fn count(found: &ArgMatches<'_>, name: OptionName, most: u32) -> Result<u32, Bad
 
 // After how many entries a shard is trimmed, if at all.
 fn trim(found: &ArgMatches<'_>) -> Result<Option<u32>, BadWords>
-    ensures told { IfErr result IsTold }
-    ensures count { IfOk result (λ n. IfSome n (λ n. 0 < n)) }
+    ensures refused { IfErr result (λ bad. (bad ≡ BadWords.BadValue OptionName.Trim)
+        × IsNotNever (codes "trim") (rows_of (found_of found.now)) × HasNoCount (codes "trim") 4294967295 (rows_of (found_of found.now))) }
     ensures number { IfOk result (IsNumberOrNever (codes "trim") (rows_of (found_of found.now))) }
 {
     match found.get_str("trim") {
@@ -433,14 +477,31 @@ fn trim(found: &ArgMatches<'_>) -> Result<Option<u32>, BadWords>
 
 // The number that an option has, from 1 up, where it is given.
 fn given(found: &ArgMatches<'_>, name: OptionName) -> Result<Option<u32>, BadWords>
-    ensures told { IfErr result IsTold }
-    ensures count { IfOk result (λ n. IfSome n (λ n. 0 < n)) }
+    ensures refused { IfErr result (λ bad. (bad ≡ BadWords.BadValue name)
+        × IsThere (name_of name) (rows_of (found_of found.now)) × HasNoCount (name_of name) 4294967295 (rows_of (found_of found.now))) }
     ensures number { IfOk result (IsNumberIfGiven (name_of name) (rows_of (found_of found.now))) }
 {
     if found.contains_id(name.as_str()) {
         Ok(Some(count(found, name, u32::MAX)?))
     } else {
         Ok(None)
+    }
+}
+
+// How uplinks are written.
+fn output_of(found: &ArgMatches<'_>) -> Result<Output, BadWords>
+    ensures refused { IfErr result (λ bad. (bad ≡ BadWords.BadValue OptionName.Output) × IsNoOutput (rows_of (found_of found.now))) }
+    ensures output { IfOk result (IsOutput (rows_of (found_of found.now))) }
+{
+    let Some(text) = found.get_str("output") else {
+        return Err(BadWords::BadValue(OptionName::Output));
+    };
+    if text == "lines" {
+        Ok(Output::Lines)
+    } else if text == "json" {
+        Ok(Output::Json)
+    } else {
+        Err(BadWords::BadValue(OptionName::Output))
     }
 }
 
@@ -453,7 +514,7 @@ fn flag(found: &ArgMatches<'_>, name: &str) -> bool
 
 // What the words after `serve` ask for.
 fn serve_options<'a>(found: &ArgMatches<'a>) -> Result<ServeOptions<'a>, BadWords>
-    ensures told { IfErr result IsTold }
+    ensures refused { IfErr result (IsRefused (rows_of (found_of found.now))) }
     ensures served { IfOk result IsServed }
     ensures options { IfOk result (HasOptions (rows_of (found_of found.now))) }
 {
@@ -468,14 +529,17 @@ fn serve_options<'a>(found: &ArgMatches<'a>) -> Result<ServeOptions<'a>, BadWord
         join_workers: count(found, OptionName::JoinWorkers, 16)? as usize,
         window_ms: count(found, OptionName::Window, 60_000)?,
         stop_after: given(found, OptionName::StopAfter)?,
+        stop_at_end: flag(found, "stop-at-end-of-input"),
         trim: trim(found)?,
+        output: output_of(found)?,
+        events: flag(found, "events"),
         closing: flag(found, "closing"),
     })
 }
 
 // What the words say of a record. It excludes the closing roster, in which the nonces of its joins are old.
 fn record_options<'a>(found: &ArgMatches<'a>) -> Result<Recorded<'a>, BadWords>
-    ensures told { IfErr result IsTold }
+    ensures refused { IfErr result (IsRefused (rows_of (found_of found.now))) }
     ensures record { IfOk result (HasRecord (rows_of (found_of found.now))) }
 {
     let recorded = Recorded {
@@ -490,7 +554,7 @@ fn record_options<'a>(found: &ArgMatches<'a>) -> Result<Recorded<'a>, BadWords>
 
 // What the words behind the name of a command ask for.
 fn read_command<'a>(name: &str, found: &ArgMatches<'a>) -> Result<Asked<'a>, BadWords>
-    ensures told { IfErr result IsTold }
+    ensures refused { IfErr result (IsRefusedBehind name.now (rows_of (found_of found.now))) }
     ensures doable { IfOk result IsDoable }
     ensures asked { IfOk result (λ asked. (name.now ≡ command_of asked) × IsAskedBy (rows_of (found_of found.now)) asked) }
 {
@@ -501,15 +565,19 @@ fn read_command<'a>(name: &str, found: &ArgMatches<'a>) -> Result<Asked<'a>, Bad
         let options = serve_options(found)?;
         Ok(Asked::Serve(path, options, record_options(found)?))
     } else if name == "replay" {
-        Ok(Asked::Replay(path, flag(found, "closing")))
+        let output = output_of(found)?;
+        Ok(Asked::Replay(path, output, flag(found, "closing")))
     } else {
         Err(BadWords::NoMemory)
     }
 }
 
-/// What the words ask for, each field by the option of its name. Want of memory is told as such, and never as a text to print.
+/// What the words ask for, each field by the option of its name. Where clap finds a fault in them by the program's rules, as an option that
+/// is unknown or a number out of its range, a text that says so is to be printed; and `BadValue` names an option of `serve` just where its
+/// value is none that it can have. Want of memory is told as such, and never as a text to print.
 pub fn read_words<'a>(alloc: Global, words: &'a [String]) -> Result<Asked<'a>, BadWords>
     ensures told { IfErr result IsTold }
+    ensures refused { IfErr result (IsRefusal (map string_bytes words.now)) }
     ensures doable { IfOk result IsDoable }
     ensures asked { IfOk result (IsAsked (map string_bytes words.now)) }
 {

@@ -6,9 +6,10 @@ use crate::options::{Asked, BadWords, OptionName, read_words};
 use crate::{answer, concluded, ended, refused, run};
 use log::sink::Discard;
 use log::{Level, Logged};
+use ns_events::Output;
 use ns_replay::ReplayFault;
 use ns_roster::{Roster, RosterFault};
-use ns_serve::{ServeFault, ServeOptions};
+use ns_serve::{EndOfInput, ServeFault, ServeOptions};
 use ns_types::OverStd;
 use std::io::ErrorKind;
 use std::net::SocketAddr;
@@ -75,11 +76,14 @@ fn are_usual(options: &ServeOptions<'_>) -> bool {
         && options.join_workers == 1
         && options.window_ms == 200
         && options.stop_after.is_none()
+        && !options.stop_at_end
         && options.trim == Some(20_000)
+        && options.output == Output::Lines
+        && !options.events
         && !options.closing
 }
 
-// What some words ask for: R to replay, C to replay with the closing roster, U to serve with the usual options, D to serve with the
+// What some words ask for: R to replay, J to replay with uplinks as JSON, C to replay with the closing roster, U to serve with the usual options, D to serve with the
 // closing roster, S to serve with others, T a text that was asked for; V is a value that an option cannot have, E another error. Beside
 // it the exit status where nothing is to be done.
 fn asked(rt: &HostRuntime, list: &[&str]) -> Result<(char, ExitCode), Fail> {
@@ -88,8 +92,9 @@ fn asked(rt: &HostRuntime, list: &[&str]) -> Result<(char, ExitCode), Fail> {
         words.push(String::from_str(rt.alloc(), word)?)?;
     }
     Ok(match read_words(rt.alloc(), words.as_slice()) {
-        Ok(Asked::Replay("roster.json", false)) => ('R', ExitCode::SUCCESS),
-        Ok(Asked::Replay("roster.json", true)) => ('C', ExitCode::SUCCESS),
+        Ok(Asked::Replay("roster.json", Output::Lines, false)) => ('R', ExitCode::SUCCESS),
+        Ok(Asked::Replay("roster.json", Output::Json, false)) => ('J', ExitCode::SUCCESS),
+        Ok(Asked::Replay("roster.json", Output::Lines, true)) => ('C', ExitCode::SUCCESS),
         Ok(Asked::Serve("roster.json", options, _)) if are_usual(&options) => (
             'U',
             ExitCode::SUCCESS,
@@ -122,6 +127,15 @@ fn words_of_the_command_line(rt: HostRuntime) -> Result<(), Fail> {
         asked(&rt, &["lorawan_ns", "replay", "roster.json", "--closing"])?,
         ('C', done)
     );
+    for (form, wanted) in [
+        ("lines", ('R', done)),
+        ("json", ('J', done)),
+        ("JSON", ('V', bad)),
+        ("", ('V', bad)),
+    ] {
+        let words = ["lorawan_ns", "replay", "roster.json", "--output", form];
+        assert_eq!(rt; asked(&rt, &words)?, wanted);
+    }
     assert_eq!(rt; asked(&rt, &["lorawan_ns", "--help"])?, ('T', done));
     assert_eq!(rt;
         asked(&rt, &["lorawan_ns", "replay", "--help"])?,
@@ -182,6 +196,9 @@ fn words_of_serving(rt: HostRuntime) -> Result<(), Fail> {
         ("--trim", "0", ('V', bad)),
         ("--trim", "4294967296", ('V', bad)),
         ("--trim", "Never", ('V', bad)),
+        ("--output", "lines", ('U', done)),
+        ("--output", "json", ('S', done)),
+        ("--output", "xml", ('V', bad)),
     ] {
         let words = [
             "lorawan_ns",
@@ -223,8 +240,12 @@ fn each_option_is_its_field(rt: HostRuntime) -> Result<(), Fail> {
         "77",
         "--stop-after",
         "11",
+        "--stop-at-end-of-input",
         "--trim",
         "13",
+        "--output",
+        "json",
+        "--events",
         "--closing",
     ] {
         words.push(String::from_str(rt.alloc(), word)?)?;
@@ -246,8 +267,9 @@ fn each_option_is_its_field(rt: HostRuntime) -> Result<(), Fail> {
     assert_eq!(rt; (options.workers, options.join_workers), (3, 5));
     assert_eq!(rt; options.window_ms, 77);
     assert_eq!(rt; options.stop_after, Some(11));
+    assert!(rt; options.stop_at_end);
     assert_eq!(rt; options.trim, Some(13));
-    assert!(rt; options.closing);
+    assert!(rt; options.output == Output::Json && options.events && options.closing);
     Ok(())
 }
 
@@ -261,6 +283,7 @@ fn options_say_what_they_take(rt: HostRuntime) {
         (OptionName::Listen, "IP address and a port"),
         (OptionName::Host, "name"),
         (OptionName::Trim, "never"),
+        (OptionName::Output, "json"),
         (OptionName::StopAfter, "1 to 4294967295"),
         (OptionName::Workers, "1 to 16"),
         (OptionName::Window, "1 to 60000"),
@@ -332,7 +355,7 @@ fn runs_that_fail(rt: HostRuntime) -> Result<(), Fail> {
         for word in list {
             words.push(String::from_str(rt.alloc(), word)?)?;
         }
-        let end = run(&rt, &log, words.as_slice());
+        let end = run(&rt, &log, words.as_slice(), EndOfInput::new(rt));
         assert_eq!(rt; concluded(&rt, &log, &end), ExitCode::from(1));
     }
     Ok(())

@@ -3,3 +3,4 @@ pub mod LineLemmas
 pub mod Plain
 pub mod Numbers
 pub mod ReadBack
+pub mod NoticeLemmas

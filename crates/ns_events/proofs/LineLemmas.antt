@@ -1,13 +1,12 @@
 -- The object of an uplink holds no line feed.
-use Rattle.std.proofs.Common.{◌≡◌, ℕ, ℤ, pos, zero, suc, ◌+◌, ◌/◌, ◌%◌, ◌==◌, Bool, true, false, ◌||◌, cond, List, [], ◌∷◌, ◌++◌, length, flat_map, replicate, Option, None, Some, refl, ap, ◌∙◌, arith}
-use Rattle.std.specs.Prelude.{codes, decimal, slice_index, nat_lt, int_lt}
-use Rattle.std.specs.Int.{w32, w64, to_be_bytes}
+use Rattle.std.proofs.Common.{◌≡◌, ℕ, ℤ, zero, suc, ◌==◌, Bool, true, false, cond, List, [], ◌∷◌, ◌++◌, length, flat_map, replicate, Option, None, Some, refl, arith}
+use Rattle.std.specs.Prelude.{codes}
 use Rattle.std.proofs.lemmas.List.Folds.{list_any-append}
 use Rattle.std.proofs.lemmas.Bool.Decides.{nat_tests}
 use Rattle.base64.specs.Rfc4648.{encode_symbols, padding_len}
 use Rattle.ns_types.specs.declared.heard.Heard.{Heard}
 use Rattle.ns_calls.specs.declared.answer.Uplink.{Uplink}
-use Rattle.ns_calls.specs.Text.{wide, address_text, has_line_feed}
+use Rattle.ns_calls.specs.Text.{has_line_feed}
 use Rattle.ns_calls.proofs.LineLemmas.{joined, at_any, hex-line, decimal-line, wide-line, address-line}
 use Rattle.ns_events.specs.declared.lora.Lora.{Lora}
 use Rattle.ns_events.specs.declared.times.Times.{Times}
@@ -39,7 +38,7 @@ base64-line bytes = joined (encode_symbols symbols bytes) (replicate (padding_le
 digit-line : (n : ℕ) → (last_digit n == 10) ≡ false
 digit-line n = grind (arith, nat_tests)
 
-utc-line : (t : Utc) → has_line_feed (utc_text t) ≡ false
+pub utc-line : (t : Utc) → has_line_feed (utc_text t) ≡ false
 unfolding utc_text
 utc-line t = simp (digit-line)
 

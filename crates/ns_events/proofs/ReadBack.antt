@@ -1,9 +1,9 @@
 -- A reader of JSON finds in the text of an uplink its value.
-use Rattle.std.proofs.Common.{◌≡◌, ℕ, ◌==◌, Bool, true, false, cond, List, [], ◌∷◌, ◌++◌, flat_map, Option, None, Some, refl, ap, sym, ◌∙◌, append_assoc, append-nil}
-use Rattle.std.specs.Prelude.{codes, decimal, nat_lt}
+use Rattle.std.proofs.Common.{◌≡◌, ℕ, ◌==◌, Bool, true, false, cond, List, [], ◌∷◌, ◌++◌, flat_map, Option, None, Some, refl, ap, sym, ◌∙◌, append_assoc}
+use Rattle.std.specs.Prelude.{codes, decimal}
 use Rattle.json.specs.Token.{Token}
 use Rattle.json.specs.Json.{Json, Members, member, number, string, document}
-use Rattle.json.specs.Print.{print, print_from, token_text, escape, escape_byte}
+use Rattle.json.specs.Print.{print, print_from, token_text, escape_byte}
 use Rattle.json.specs.Tree.{json_tokens, items_tokens, members_tokens}
 use Rattle.json.proofs.Printed.Trees.{document-print}
 use Rattle.ns_types.specs.declared.heard.Heard.{Heard}

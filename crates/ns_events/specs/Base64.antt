@@ -1,6 +1,6 @@
 -- Base64 (RFC 4648, section 4) with its padding.
 use Rattle.std.specs.Prelude.{ℕ, List, codes, true}
-use Rattle.base64.specs.Rfc4648.{encode, encode_symbols}
+use Rattle.base64.specs.Rfc4648.{encode}
 
 -- the 64 symbols
 abbrev pub symbols : List ℕ

@@ -1,5 +1,6 @@
 pub mod Base64
 pub mod Lora
+pub mod Notice
 pub mod Output
 pub mod Times
 pub mod Uplink

@@ -2,6 +2,10 @@
 use Rattle.std.specs.Prelude.{◌≡◌, ℕ, Bool, false, List, ◌∷◌, [], ◌++◌, Option, None, Some, flat_map, All}
 use Rattle.ns_record_files.specs.Disk.{Files, Moments, all_moments, IsFront}
 
+-- a line with its line feed
+abbrev pub with_feed : List ℕ → List ℕ
+with_feed line = line ++ 10 ∷ []
+
 -- lines that were handed over together: step lines, and the up lines that these imply
 pub record Batch : Type 0 where
   pub steps : List ℕ

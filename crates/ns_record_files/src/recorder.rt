@@ -1,4 +1,8 @@
 //! What threads hand their lines to, and where they wait until these are written.
+ghost use Rattle.std.specs.Prelude.{◌≡◌, ◌∷◌, ◌++◌, [], OnOk};
+ghost use Rattle.std.specs.Option.{option_map_or};
+ghost use Rattle.ns_record_files.specs.Record.{with_feed};
+
 use crate::disk::Disk;
 use crate::writer::RecordWriter;
 use ns_types::{Failed, SHARDS};
@@ -50,7 +54,10 @@ impl Lines {
     }
 
     // Keeps a step line, and the `up` line that it implies, where there is one.
-    fn put(&mut self, step: &[u8], up: Option<&[u8]>) -> Result<(), AllocError> {
+    fn put(&mut self, step: &[u8], up: Option<&[u8]>) -> Result<(), AllocError>
+        ensures steps { OnOk result (self.new.steps.items ≡ self.old.steps.items ++ with_feed step.now) }
+        ensures ups { OnOk result (self.new.ups.items ≡ self.old.ups.items ++ option_map_or (λ u. with_feed u.now) up.entry []) }
+    {
         self.steps.extend_from_slice(step)?;
         self.steps.push(b'\n')?;
         if let Some(up) = up {
@@ -61,7 +68,11 @@ impl Lines {
     }
 
     // Hands all lines over.
-    fn take(&mut self, steps: &mut Vec<u8>, ups: &mut Vec<u8>) -> Result<(), AllocError> {
+    fn take(&mut self, steps: &mut Vec<u8>, ups: &mut Vec<u8>) -> Result<(), AllocError>
+        ensures steps { OnOk result (steps.new.items ≡ steps.old.items ++ self.old.steps.items) }
+        ensures ups { OnOk result (ups.new.items ≡ ups.old.items ++ self.old.ups.items) }
+        ensures none { OnOk result ((self.new.steps.items ≡ []) × (self.new.ups.items ≡ [])) }
+    {
         steps.extend_from_slice(self.steps.as_slice())?;
         ups.extend_from_slice(self.ups.as_slice())?;
         self.steps.clear();

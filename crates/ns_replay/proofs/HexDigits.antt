@@ -1,5 +1,5 @@
 -- Hex digits by look-ups of their halves, and the bytes of pairs of digits.
-use Rattle.std.proofs.Common.{◌≡◌, ◌↔◌, ◌⊎◌, ℕ, zero, suc, ◌+◌, Result, length-take-le, length-drop, take-append-drop, get_or, ◌*◌, ◌/◌, ◌%◌, ◌^◌, ◌<◌, ◌≤◌, leb, Bool, true, false, if◌then◌else◌, List, [], ◌∷◌, ◌++◌, map, length, take, drop, replicate, bit_and, bit_or, cond, w8, Fits, refl, sym, ap, subst, ◌∙◌, arith, inl, inr, Ok, Err, IsErr}
+use Rattle.std.proofs.Common.{◌≡◌, ◌↔◌, ◌⊎◌, ℕ, zero, suc, ◌+◌, Result, length-take-le, length-drop, take-append-drop, get_or, ◌*◌, ◌%◌, ◌^◌, ◌<◌, ◌≤◌, leb, Bool, true, false, if◌then◌else◌, List, [], ◌∷◌, ◌++◌, map, length, take, drop, replicate, bit_or, cond, w8, Fits, refl, sym, ap, subst, ◌∙◌, arith, inl, inr, Ok, Err, IsErr}
 use Rattle.std.proofs.lemmas.Bool.{cases_lt, leb-true, leb-false}
 use Rattle.std.proofs.lemmas.Nat.{le_or_l, le_or_r, or_lt}
 use Rattle.std.proofs.lemmas.List.{length-map, take-take, take_all}
@@ -10,7 +10,6 @@ use Rattle.std.proofs.lemmas.Simd.{Each1-chunk, length-chunk, chunk-fits}
 use Rattle.hex.proofs.Pairs.{cons_byte, decode_pairs-ok_pair, decode_pairs-err_pair}
 use Rattle.hex.specs.Hex.{decode_pairs}
 use Rattle.hex.specs.declared.error.FromHexError.{FromHexError}
-use Rattle.ns_aes_cmac.specs.Lookups.{look_at}
 use Rattle.ns_aes_cmac.proofs.Bytes.{agree_at}
 use Rattle.ns_aes_cmac.proofs.Lanes.{IsBlock}
 use Rattle.ns_aes_cmac.proofs.Mix.{sixteen, joined}

@@ -1,6 +1,10 @@
 //! Laws of step lines, as contracts of functions that do nothing.
 
 ghost use Rattle.std.specs.Prelude.{◌≡◌, ◌↔◌, ℕ, List, Some};
+ghost use Rattle.ns_calls.specs.declared.answer.Answer.{Answer};
+ghost use Rattle.ns_calls.specs.Text.{text};
+ghost use Rattle.ns_events.specs.declared.output.Output.TheVariants.{Lines};
+ghost use Rattle.ns_replay.specs.Output.{answer_lines};
 ghost use Rattle.ns_shard.specs.declared.step.Act.{Act};
 ghost use Rattle.ns_replay.specs.Spelled.{AreLines, Spells};
 ghost use Rattle.ns_replay.specs.StepLines.{raw_lines, step};
@@ -13,4 +17,9 @@ pub fn lines_are_spelled()
 /// A line asks for a step exactly where it spells that step.
 pub fn steps_are_spelled()
     ensures { (line : List ℕ) (act : Act) → (step line ≡ Some act) ↔ Spells line act }
+{}
+
+/// As lines, what is written of an answer is its text, as `lines` of `ns_calls` gives it.
+pub fn lines_are_the_text()
+    ensures { (a : Answer) → answer_lines Lines a ≡ text a }
 {}

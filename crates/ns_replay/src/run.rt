@@ -12,6 +12,7 @@ ghost use Rattle.ns_replay.specs.Private.Written.{text_in};
 use crate::closing::closing_line;
 use crate::step_lines::{StepLines, read_steps};
 use crate::taken::write_lines;
+use ns_events::Output;
 use ns_roster::Roster;
 use ns_shard::{Run, Shards, Step, Taken};
 use ns_types::{Failed, ReadFault, Sink, Source, write_all};
@@ -57,6 +58,8 @@ fn run_of(
 // What is known of step lines when their steps are made.
 #[derive(Drop)]
 struct Answers {
+    // How uplinks are written.
+    uplinks: Output,
     // For each line, whether it is a step line.
     are_steps: Vec<bool>,
     // What came of each step.
@@ -70,18 +73,20 @@ struct Answers {
 fn answers_of<R: Source>(
     alloc: Global,
     roster: Arc<Roster>,
+    uplinks: Output,
     closing: bool,
     reader: &mut R,
 ) -> Result<Answers, ReadFault>
     requires { R.Stream.has_failed reader.old ≡ false }
     ensures lines { IfOk result (λ a. IfSome (R.left reader.old)
-        (λ input. text_in a ≡ output closing (arc_value roster) input)) }
+        (λ input. text_in a ≡ output uplinks closing (arc_value roster) input)) }
     ensures sound { OnOk result (R.Stream.has_failed reader.new ≡ false) }
     ensures io { IfErr result (λ e. (e ≡ Io) ↔ (R.Stream.has_failed reader.new ≡ true)) }
 {
     let StepLines { steps, are_steps } = read_steps(alloc, reader)?;
     let Ran { taken, closing } = run_of(alloc, roster, closing, steps)?;
     Ok(Answers {
+        uplinks,
         are_steps,
         taken,
         closing,
@@ -98,6 +103,7 @@ fn write_answers<W: Sink>(writer: &mut W, answers: &Answers) -> Result<(), Faile
 {
     write_lines(
         writer,
+        answers.uplinks,
         answers.are_steps.as_slice(),
         answers.taken.as_slice(),
     )?;
@@ -107,10 +113,11 @@ fn write_answers<W: Sink>(writer: &mut W, answers: &Answers) -> Result<(), Faile
 /// Reads step lines to the end, and then writes the lines of their answers.
 ///
 /// What is written is the refusal lines and the answers of the run of the steps of the bytes read, in order, each line with a line
-/// feed, and then where `closing` asks for it the roster with the devices' greatest nonces, from which the next run begins: each answer is the plain server's, after the entries of its shard that the steps before it made. `Io` comes exactly where the reader or the writer failed.
+/// feed, those of uplinks as `uplinks` says, and then where `closing` asks for it the roster with the devices' greatest nonces, from which the next run begins: each answer is the plain server's, after the entries of its shard that the steps before it made. `Io` comes exactly where the reader or the writer failed.
 pub fn replay<R: Source, W: Sink>(
     alloc: Global,
     roster: Arc<Roster>,
+    uplinks: Output,
     closing: bool,
     reader: &mut R,
     writer: &mut W,
@@ -120,9 +127,9 @@ pub fn replay<R: Source, W: Sink>(
 
     // What is written is the answers' lines, or where the writer fails a beginning of them.
     ensures ok { OnOk result (IfSome (R.left reader.old)
-        (λ input. Appends (W.taken writer.old) (W.taken writer.new) (output closing (arc_value roster) input))) }
+        (λ input. Appends (W.taken writer.old) (W.taken writer.new) (output uplinks closing (arc_value roster) input))) }
     ensures front { (writer.new ≡ writer.old) ⊎ IfSome (R.left reader.old)
-        (λ input. AppendsFront (W.taken writer.old) (W.taken writer.new) (output closing (arc_value roster) input)) }
+        (λ input. AppendsFront (W.taken writer.old) (W.taken writer.new) (output uplinks closing (arc_value roster) input)) }
 
     // When each fault comes, and that nothing was written before the end was read.
     ensures sound { OnOk result ((R.Stream.has_failed reader.new ≡ false) × (W.Stream.has_failed writer.new ≡ false)) }
@@ -131,7 +138,7 @@ pub fn replay<R: Source, W: Sink>(
     ensures memory { result ≡ Err ReplayFault.NoMemory → writer.new ≡ writer.old }
     ensures unread { R.Stream.has_failed reader.new ≡ true → writer.new ≡ writer.old }
 {
-    let answers = match answers_of(alloc, roster, closing, reader) {
+    let answers = match answers_of(alloc, roster, uplinks, closing, reader) {
         Ok(answered) => answered,
         Err(ReadFault::NoMemory) => return Err(ReplayFault::NoMemory),
         Err(ReadFault::Io) => return Err(ReplayFault::Io),

@@ -3,3 +3,4 @@ pub mod UpLines
 pub mod Steps
 pub mod Runs
 pub mod Faults
+pub mod OpenIn

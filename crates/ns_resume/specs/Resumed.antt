@@ -1,18 +1,20 @@
 -- What a record leaves: the shards after the steps of its whole lines, and the `up` lines that go on from those that are there.
-use Rattle.std.specs.Prelude.{◌≡◌, ℕ, ◌+◌, Bool, false, true, List, [], ◌++◌, length, map, flat_map, slice_get, Option, None, Some, IfSome}
-use Rattle.std.specs.List.{AllByRecursion}
+use Rattle.std.specs.Prelude.{◌≡◌, ℕ, ◌+◌, ◌≤◌, Bool, false, true, List, [], ◌++◌, length, map, flat_map, count_by, slice_get, Option, None, Some, IfSome}
+use Rattle.std.specs.List.{AllByRecursion, list_any}
 use Rattle.std.specs.Option.{option_map_or}
-use Rattle.ns_types.specs.Identity.{shard_count}
+use Rattle.ns_types.specs.Identity.{shard_count, same_window}
 use Rattle.ns_types.specs.declared.identity.WindowName.{WindowName}
+use Rattle.ns_types.specs.declared.ticket.Ticket.{Ticket}
 use Rattle.ns_roster.specs.Network.{Network}
 use Rattle.ns_calls.specs.Entries.{open_windows}
+use Rattle.ns_calls.specs.History.{same_ticket, is_ticket_open}
 use Rattle.ns_calls.specs.Text.{up_text, has_line_feed}
 use Rattle.ns_recorded.specs.Recorded.{matters}
 use Rattle.ns_shard.specs.declared.step.Act.{Act}
 use Rattle.ns_shard.specs.declared.step.Step.{Step}
 use Rattle.ns_shard.specs.declared.run.Taken.{Taken}
 use Rattle.ns_shard.specs.declared.run.Taken.TheVariants.{Link, View, Made}
-use Rattle.ns_shard.specs.State.{State, Keeps, seen}
+use Rattle.ns_shard.specs.State.{State, Keeps, seen, open_tickets_in}
 use Rattle.ns_shard.specs.Steps.{shard_history, step_taken, all_taken}
 use Rattle.ns_replay.specs.StepLines.{step}
 use Rattle.ns_replay.specs.Output.{ended, step_of}
@@ -87,9 +89,22 @@ pub record IsResumed (net : Network) (text there : List ℕ) (r : Resumed) : Typ
   pub shards : AreResumed net steps r.shards.items
   pub ups : AreUps there (ups_of net steps) r.missing.items r.up_torn
 
--- the names of the open windows of shards
+-- ---- what is open
+
+-- the names of the open windows of shards, shard by shard, in the order of their opening
 abbrev pub windows_in : List State → List WindowName
 windows_in shards = flat_map (λ s. map (λ o. o.window) (open_windows (seen s))) shards
+
+-- the open tickets that shards name, shard by shard
+abbrev pub tickets_in : List State → List Ticket
+tickets_in shards = flat_map open_tickets_in shards
+
+-- These are exactly the windows that are open in the shards, each once, and the tickets that wait there for an answer.
+pub record AreOpenIn (shards : List State) (windows : List WindowName) (tickets : List Ticket) : Type 0 where
+  pub are_windows : windows ≡ windows_in shards
+  pub each_once : (w : WindowName) → count_by (λ v. same_window v w) windows ≤ 1
+  pub are_tickets : tickets ≡ tickets_in shards
+  pub each_waits : (t : Ticket) → list_any (same_ticket t) tickets ≡ list_any (λ s. is_ticket_open (seen s) t) shards
 
 -- ---- why a run ends early
 

@@ -1,5 +1,8 @@
 //! What is open in shards.
 
+ghost use Rattle.std.specs.Prelude.{◌≡◌, IfOk};
+ghost use Rattle.ns_resume.specs.Resumed.{windows_in, tickets_in};
+
 use ns_shard::Shard;
 use ns_types::{Ticket, WindowName};
 use std::alloc::{AllocError, Global};
@@ -12,7 +15,10 @@ pub struct Open {
 }
 
 /// What is open in these shards.
-pub fn open_in(alloc: Global, shards: &[Shard]) -> Result<Open, AllocError> {
+pub fn open_in(alloc: Global, shards: &[Shard]) -> Result<Open, AllocError>
+    ensures windows { IfOk result (λ o. o.windows.items ≡ windows_in shards.now) }
+    ensures tickets { IfOk result (λ o. o.tickets.items ≡ tickets_in shards.now) }
+{
     let mut windows = Vec::new(alloc);
     let mut tickets = Vec::new(alloc);
     'shards: for shard in shards {

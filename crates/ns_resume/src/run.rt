@@ -6,7 +6,7 @@ ghost use Rattle.ns_types.specs.Identity.{shard_count};
 ghost use Rattle.ns_roster.specs.Network.{Network};
 ghost use Rattle.ns_shard.specs.declared.step.Step.{Step};
 ghost use Rattle.ns_record.specs.StepText.{ReadsBack};
-ghost use Rattle.ns_resume.specs.Resumed.{IsAllOf, IsResumed, NamesLine};
+ghost use Rattle.ns_resume.specs.Resumed.{IsAllOf, IsResumed, AreOpenIn, NamesLine, windows_in, tickets_in};
 ghost use Rattle.ns_resume.specs.Private.Running.{AreInPlace, MayBeTrimmed, HasAnswered, HasRun, RunsOn};
 ghost use Rattle.ns_resume.specs.Private.Faults.{MakesNoCall, DoesNotMatter, RefusesLine};
 
@@ -128,6 +128,8 @@ impl Running {
         ensures torn { IfOk result (λ r. r.torn ≡ torn) }
         ensures up_torn { IfOk result (λ r. r.up_torn ≡ self.ups.torn) }
         ensures missing { IfOk result (λ r. r.missing.items ≡ self.ups.missing.items) }
+        ensures windows { IfOk result (λ r. r.windows.items ≡ windows_in self.shards.items) }
+        ensures tickets { IfOk result (λ r. r.tickets.items ≡ tickets_in self.shards.items) }
     {
         let Running {
             shards,
@@ -158,8 +160,11 @@ pub fn run_record<S: BufRead, U: BufRead>(
     ensures resumed { IfOk result (λ r. (text : List ℕ) × (there : List ℕ)
         × IsAllOf (S.remaining steps.old) text × IsAllOf (U.remaining ups.old) there
         × IsResumed (arc_value roster) text there r) }
+    ensures open { IfOk result (λ r. AreOpenIn r.shards.items r.windows.items r.tickets.items) }
     ensures fault { IfErr result (NamesLine (arc_value roster) (S.remaining steps.old)) }
 {
+    // A roster that is read is valid: the laws of histories rest on that.
+    let _net_id = roster.net_id();
     let mut running = Running {
         shards: new_shards(alloc, roster)?,
         most: [TRIM_FROM; 16],

@@ -1,4 +1,3 @@
-mod OutputLemmas
-mod RecordLemmas
 mod ReceiptLemmas
 mod TurnLemmas
+mod DrainLemmas

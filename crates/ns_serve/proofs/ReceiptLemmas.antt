@@ -4,13 +4,14 @@ use Rattle.std.proofs.lemmas.List.Elements.{All-append}
 use Rattle.ns_types.specs.declared.ticket.Ticket.{Ticket}
 use Rattle.ns_calls.specs.declared.call.Outcome.{Outcome}
 use Rattle.ns_roster.specs.Network.{Network}
+use Rattle.ns_events.specs.declared.output.Output.{Output}
 use Rattle.ns_server.specs.declared.kept.Receipt.{Receipt}
 use Rattle.ns_tally.specs.Tally.{none_made}
 use Rattle.ns_workers.specs.Closing.{HasAnswer}
 use Rattle.ns_workers.specs.Serving.{receipts_of}
 use Rattle.ns_workers.proofs.Counting.{rises_none, rises_both}
 use Rattle.ns_workers.proofs.Doings.{answered_none}
-use Rattle.ns_serve.specs.declared.options.ServeFault.{ServeFault}
+use Rattle.ns_serve_parts.specs.declared.options.ServeFault.{ServeFault}
 use Rattle.ns_serve.specs.Turns.{HasReceipts, IsServed, IsAnswered}
 
 -- no call was made
@@ -26,8 +27,8 @@ receipts_both net old mid new before after = record {
 }
 
 -- those of a gateway worker
-pub receipts_served : (net : Network) (window_ms : ℕ) (pass : List ℕ) (fault : Option ServeFault) → IsServed net window_ms pass fault → ∥ HasReceipts net none_made pass ∥₁
-receipts_served net window_ms pass fault so =
+pub receipts_served : (net : Network) (output : Output) (window_ms : ℕ) (pass : List ℕ) (fault : Option ServeFault) → IsServed net output window_ms pass fault → ∥ HasReceipts net none_made pass ∥₁
+receipts_served net output window_ms pass fault so =
     let does = so.serves.serves.does in
     ∣ record { receipts = flat_map receipts_of so.serves.serves.turns; answered = does.answered; counted = does.counted } ∣₁
 

@@ -1,11 +1,1 @@
-pub mod Counts
-pub mod Output
-pub mod Peers
-pub mod Late
-pub mod Asks
-pub mod Ends
 pub mod Turns
-pub mod Closing
-pub mod Trims
-pub mod Hearing
-pub mod Begun

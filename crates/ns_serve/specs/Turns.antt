@@ -4,6 +4,7 @@ use Rattle.std.specs.Option.{option_map}
 use Rattle.ns_types.specs.declared.ticket.Ticket.{Ticket}
 use Rattle.ns_calls.specs.declared.call.Outcome.{Outcome}
 use Rattle.ns_roster.specs.Network.{Network}
+use Rattle.ns_events.specs.declared.output.Output.{Output}
 use Rattle.ns_server.specs.declared.kept.Receipt.{Receipt}
 use Rattle.ns_tally.specs.Tally.{none_made}
 use Rattle.ns_workers.specs.declared.gateway.Served.{Served}
@@ -16,8 +17,8 @@ use Rattle.ns_workers.specs.Effects.{effects}
 use Rattle.ns_workers.specs.Serving.{ServesAll}
 use Rattle.ns_serve.specs.declared.closer.Turn.{Turn}
 use Rattle.ns_serve.specs.declared.closer.Turn.TheVariants.{Close, Idle, End}
-use Rattle.ns_serve.specs.declared.options.ServeFault.{ServeFault}
-use Rattle.ns_serve.specs.Ends.{serve_fault}
+use Rattle.ns_serve_parts.specs.declared.options.ServeFault.{ServeFault}
+use Rattle.ns_serve_parts.specs.Ends.{serve_fault}
 
 -- nothing is known of what the counters, the log and the clock of all threads were told
 abbrev pub Anything : {X : Type 0} → X → Type 0
@@ -30,9 +31,9 @@ pub record HasReceipts (net : Network) (old new : List ℕ) : Type 0 where
   pub counted : RisesByReceipts old new receipts
 
 -- what a gateway worker did from its start to its end: each datagram that it was given had its turn
-pub record IsServed (net : Network) (window_ms : ℕ) (pass : List ℕ) (fault : Option ServeFault) : Type 0 where
+pub record IsServed (net : Network) (output : Output) (window_ms : ℕ) (pass : List ℕ) (fault : Option ServeFault) : Type 0 where
   pub served : Served
-  pub serves : ServesAll net Anything Anything window_ms None None (effects none_made None None None) (effects pass None None None) served
+  pub serves : ServesAll net output Anything Anything window_ms None None (effects none_made None None None) (effects pass None None None) served
   pub ended : fault ≡ option_map serve_fault served.fault
 
 -- what a join worker did from its start to its end: each ticket that it was given was answered

@@ -1,23 +1,17 @@
 //! The closer: windows are closed as they become due, their lines written, and the shards trimmed.
 ghost use Rattle.std.specs.Prelude.{◌≡◌, ◌≢◌, ◌+◌, ◌<◌, ◌≤◌, ◌⊎◌, ◌↔◌, ◌++◌, List, Some, None, true, false, IsNone, IsTrue, IfOk, slice_get, vec_len};
-ghost use Rattle.ns_types.specs.Streams.{AppendsFront};
 ghost use Rattle.ns_server.specs.declared.kept.Receipt.{Receipt as receipt};
 ghost use Rattle.ns_workers.specs.declared.job.CloseJob.{CloseJob as close_job};
 ghost use Rattle.ns_workers.specs.Closing.{AreAnswered, AreClosed};
 ghost use Rattle.ns_workers.specs.Counts.{RisesByReceipts};
-ghost use Rattle.ns_workers.specs.Lines.{up_lines};
+ghost use Rattle.ns_workers.specs.Lines.{AppendsLines, AppendsLinesFront};
 ghost use Rattle.ns_serve.specs.Turns.{HasReceipts, IsTurn, IsTurnWith};
 
-use crate::after::Later;
-use crate::clock::{SinceStart, nap_ms, now_ms};
-use crate::events::Events;
-use crate::held::Held;
-use crate::options::ServeFault;
-use crate::output::{Output, put_under_lock};
-use crate::record::Recording;
-use crate::state::State;
 use crossbeam_channel::{Receiver, RecvTimeoutError};
 use log::{Log, error};
+use ns_events::Output as Written;
+use ns_serve_parts::{Held, Output, ServeFault, put_under_lock};
+use ns_serve_state::{Events, Later, Recording, SinceStart, State, nap_ms, now_ms, take_notices};
 use ns_server::{Naming, Pass};
 use ns_types::Sink;
 use ns_workers::{CloseJob, Ended, ListedJobs, Shared, WorkerFault, run_closer};
@@ -29,8 +23,13 @@ use std::time::{Clock, Duration};
 /// How many windows are closed at a time, at most.
 pub(crate) const AT_A_TIME: usize = 64;
 
-/// The room for the lines of so many windows.
-pub(crate) const ROOM: usize = AT_A_TIME * 1025;
+/// The room for the lines of so many windows, each with its line feed.
+pub(crate) fn room_for(output: Written) -> usize {
+    match output {
+        Written::Lines => AT_A_TIME * 1025,
+        Written::Json => AT_A_TIME * 6401,
+    }
+}
 
 // How long the closer waits at most before it looks whether the server stops and whether shards are to be trimmed.
 const NAP_MS: u64 = 100;
@@ -165,8 +164,9 @@ pub(crate) fn close_all<B: Naming, R: Wait + Clock + Log>(
     held: &mut Held,
 ) -> Ended
     requires { held.old.failed ≡ false }
-    ensures lines { result.fault ≢ Some WorkerFault.SinkFailed → held.new.lines.items ≡ held.old.lines.items ++ up_lines result.receipts.items }
-    ensures front { AppendsFront (Some held.old.lines.items) (Some held.new.lines.items) (up_lines result.receipts.items) }
+    ensures lines { result.fault ≢ Some WorkerFault.SinkFailed
+        → AppendsLines shared.now.output (Some held.old.lines.items) (Some held.new.lines.items) result.receipts.items }
+    ensures front { AppendsLinesFront shared.now.output (Some held.old.lines.items) (Some held.new.lines.items) result.receipts.items }
     ensures closed { (taken : List close_job) × AreClosed result.fault result.receipts.items taken }
     ensures answered { AreAnswered B.roster result.receipts.items }
     ensures counted { RisesByReceipts pass.old pass.new result.receipts.items }
@@ -213,6 +213,20 @@ pub(crate) fn close_and_write<B: Naming, R: Wait + Clock + Log, W: Sink>(
     }
     if written.is_err() {
         error!(shared.rt; "closer: standard output failed");
+        return Some(ServeFault::Io);
+    }
+    None
+}
+
+/// Writes the joins and acknowledgements that were told, and gives the fault where they could not be.
+pub(crate) fn write_notices<R: Wait + Log, W: Sink>(
+    rt: &R,
+    state: &State,
+    output: &Mutex<Output<W>>,
+) -> Option<ServeFault> {
+    let lines = take_notices(rt, state);
+    if !lines.is_empty() && put_under_lock(rt, output, lines.as_slice()).is_err() {
+        error!(rt; "closer: standard output failed");
         return Some(ServeFault::Io);
     }
     None

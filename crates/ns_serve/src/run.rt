@@ -5,34 +5,27 @@ ghost use Rattle.std.specs.Option.{option_map};
 ghost use Rattle.ns_joinclient.specs.Request.{host_text};
 ghost use Rattle.ns_tally.specs.Tally.{none_made};
 ghost use Rattle.ns_workers.specs.Asking.{HasOutcome};
-ghost use Rattle.ns_serve.specs.declared.join_server.ToJoinServer.{ToJoinServer as to_join_server};
-ghost use Rattle.ns_serve.specs.Ends.{serve_fault, IsWorse};
+ghost use Rattle.ns_serve_parts.specs.declared.join_server.ToJoinServer.{ToJoinServer as to_join_server};
+ghost use Rattle.ns_serve_parts.specs.Ends.{serve_fault, IsWorse};
 ghost use Rattle.ns_serve.specs.Turns.{Anything, HasReceipts, IsServed, IsAnswered};
 
-use crate::after::Later;
-use crate::channels::IntoQueues;
-use crate::clock::{SinceStart, now_ms};
-use crate::closer::{AT_A_TIME, Closings, ROOM, Turn, close_and_write};
-use crate::events::Events;
-use crate::held::Held;
-use crate::join_server::{ToJoinServer, Within};
-use crate::options::{ServeFault, ServeOptions};
-use crate::output::{Lines, Output};
-use crate::queue::FromQueue;
-use crate::record::Recording;
-use crate::sockets::{FromSocket, ToSocket};
-use crate::state::State;
-use crate::telling::tell;
-use crate::trims::{trim_due, trims_of};
+use crate::closer::{AT_A_TIME, Closings, Turn, close_and_write, room_for, write_notices};
 use crossbeam_channel::{Receiver, Sender, unbounded};
 use log::{Log, error};
 use ns_forwarder_socket::Pending;
 use ns_joinclient::HostName;
 use ns_responses::Responses;
 use ns_roster::Roster;
+use ns_serve_parts::{
+    Held, Lines, Output, ServeFault, ServeOptions, ToJoinServer, Within, trim_due, trims_of,
+};
+use ns_serve_state::{
+    Events, FromQueue, FromSocket, IntoQueues, Later, Recording, SinceStart, State, ToSocket,
+    hand_on, now_ms, tell,
+};
 use ns_server::{Naming, Pass, Server};
 use ns_types::{Sink, Source, Stream, Ticket, WindowName};
-use ns_workers::{AskJob, CloseJob, Connections, Shared, WorkerFault, run_gateway, run_join};
+use ns_workers::{CloseJob, Connections, Shared, WorkerFault, run_gateway, run_join};
 use std::alloc::{AllocError, Global};
 use std::net::{Net, SocketAddr, TcpListener, TcpStream};
 use std::sync::atomic::Ordering;
@@ -47,8 +40,6 @@ struct Around<'a, B: Naming, R, W> {
     rt: &'a R,
     alloc: Global,
     server: &'a Server<B>,
-    gate: Recording<'a>,
-    events: Events<'a>,
     roster: &'a Roster,
     host: HostName<'a>,
     join: SocketAddr,
@@ -59,12 +50,19 @@ struct Around<'a, B: Naming, R, W> {
 
 impl<'a, B: Naming, R, W> Around<'a, B, R, W> {
     // What a worker shares with the others.
-    fn shared(&self) -> Shared<'_, B, R, Recording<'a>, Events<'a>> {
+    fn shared<'b>(
+        &'b self,
+        gate: &'b Recording<'a>,
+        events: &'b Events<'a>,
+    ) -> Shared<'b, B, R, Recording<'a>, Events<'a>>
+        ensures { result.output ≡ self.now.state.now.uplinks }
+    {
         Shared {
+            output: self.state.uplinks,
             rt: self.rt,
             server: self.server,
-            gate: &self.gate,
-            monitor: &self.events,
+            gate,
+            monitor: events,
         }
     }
 }
@@ -248,7 +246,7 @@ fn gateway_thread<B: Naming, R: Wait + Clock + Log, W: Sink>(
     around: &Around<'_, B, R, W>,
     kit: GatewayKit<B>,
 ) -> Back<B>
-    ensures { IsServed B.roster around.now.state.now.window_ms result.pass result.fault }
+    ensures { IsServed B.roster around.now.state.now.uplinks around.now.state.now.window_ms result.pass result.fault }
 {
     let GatewayKit {
         mut pass,
@@ -256,12 +254,13 @@ fn gateway_thread<B: Naming, R: Wait + Clock + Log, W: Sink>(
         closes,
     } = kit;
     let (rt, state) = (around.rt, around.state);
+    let (gate, events) = (Recording { state }, Events { state });
     let mut datagrams = FromSocket::new(state, pending);
     let mut jobs = IntoQueues { closes, state };
     let mut down = ToSocket { state };
     let mut sink = Lines::new(rt, around.output);
     let served = run_gateway(
-        &around.shared(),
+        &around.shared(&gate, &events),
         &mut pass,
         &mut datagrams,
         &SinceStart { state },
@@ -293,12 +292,13 @@ fn join_thread<
 {
     let JoinKit { mut pass } = kit;
     let (rt, state) = (around.rt, around.state);
+    let (gate, events) = (Recording { state }, Events { state });
     let mut jobs = FromQueue { state };
     let mut down = ToSocket { state };
     let connections = ToJoinServer::new(rt, around.join);
     let joined = run_join(
         around.alloc,
-        &around.shared(),
+        &around.shared(&gate, &events),
         &mut pass,
         &connections,
         &SinceStart { state },
@@ -337,9 +337,10 @@ fn close_to_end<B: Naming, R: Wait + Clock + Log, W: Sink>(
     let (rt, state, alloc) = (around.rt, around.state, around.alloc);
     let mut closings = Closings::new(state, closes);
     let mut trims = trims_of(around.trim);
-    let shared = around.shared();
+    let (gate, events) = (Recording { state }, Events { state });
+    let shared = around.shared(&gate, &events);
     let (Ok(mut held), Ok(mut later)) = (
-        Held::new(alloc, ROOM),
+        Held::new(alloc, room_for(state.uplinks)),
         Later::new(alloc, state, AT_A_TIME),
     ) else {
         error!(rt; "closer: no memory for lines");
@@ -368,6 +369,9 @@ fn close_to_end<B: Naming, R: Wait + Clock + Log, W: Sink>(
                 error!(rt; "closer: no memory for its jobs");
                 return Some(ServeFault::NoMemory);
             }
+        }
+        if let Some(fault) = write_notices(rt, state, around.output) {
+            return Some(fault);
         }
         if let Some(trims) = &mut trims {
             let _told = trim_due(rt, alloc, around.server, trims, &state.made.all());
@@ -491,30 +495,6 @@ fn kits_of<B: Naming>(
     })
 }
 
-// Hands on what an earlier life left open: its windows are due once copies were waited for, and its tickets are too old to be asked
-// about.
-fn hand_on<R: Wait + Clock>(
-    rt: &R,
-    state: &State,
-    windows: Vec<WindowName>,
-    tickets: Vec<Ticket>,
-    closes: &Sender<CloseJob>,
-) -> Result<(), AllocError> {
-    let due = now_ms(rt, state).saturating_add(u64::from(state.window_ms));
-    for name in windows {
-        if closes.send(rt, CloseJob { name, due }).is_err() {
-            return Err(AllocError);
-        }
-    }
-    for ticket in tickets {
-        let (since, due) = (0, 0);
-        if state.asks.put(rt, AskJob { ticket, since, due }).is_err() {
-            return Err(AllocError);
-        }
-    }
-    Ok(())
-}
-
 /// Runs all workers to their ends. The closer runs in the thread of the caller.
 pub(crate) fn run_all<
     B: Naming + Send + Sync,
@@ -552,8 +532,6 @@ pub(crate) fn run_all<
         rt,
         alloc,
         server,
-        gate: Recording { state },
-        events: Events { state },
         roster,
         host: options.host,
         join: options.join,

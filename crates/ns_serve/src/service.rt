@@ -1,30 +1,28 @@
 //! A server from its start to what it settled.
-ghost use Rattle.std.specs.Prelude.{◌≡◌, ◌+◌, ◌≤◌, ◌<◌, ◌⊎◌, [], false, true, sum_by, vec_len, IfOk, IfSome, IsErr, OnOk, OnErr};
+ghost use Rattle.std.specs.Prelude.{◌≡◌, Some, ◌+◌, ◌≤◌, ◌<◌, ◌⊎◌, [], false, true, sum_by, vec_len, IfOk, IfSome, IsErr, OnOk, OnErr};
 ghost use Rattle.std.specs.Io.KnownBytes.{Appends, append_known};
 ghost use Rattle.std.specs.Arc.{arc_value};
 ghost use Rattle.ns_types.specs.Identity.{shard_count};
 ghost use Rattle.ns_server.specs.Begun.{ArePlaced, states_at};
-ghost use Rattle.ns_serve.specs.Begun.{IsBegun};
+ghost use Rattle.ns_serve_state.specs.Begun.{IsBegun};
 ghost use Rattle.ns_tally.specs.Tally.{AreNamed};
 ghost use Rattle.ns_server.specs.Drain.{NoneOpen, EachIsClosed};
-ghost use Rattle.ns_workers.specs.Lines.{uplink_line};
-ghost use Rattle.ns_serve.specs.Closing.{last_lines};
-ghost use Rattle.ns_serve.specs.Output.{Grows, EndsIn, Sends};
+ghost use Rattle.ns_workers.specs.Lines.{AppendsLine};
+ghost use Rattle.ns_serve_parts.specs.Closing.{last_lines};
+ghost use Rattle.ns_serve_parts.specs.Output.{Grows, EndsIn, Sends};
 
-use crate::after::AfterRecord;
-use crate::closing::closing_text;
-use crate::events::{log_counts, log_unsent};
-use crate::options::{ServeFault, ServeOptions};
-use crate::output::Output;
-use crate::record::{Begun, has_failed, record_call, write_record};
+use crate::ending::{Stop, mark_stop};
 use crate::run::{Ends, run_all};
-use crate::sockets::ToSocket;
-use crate::state::State;
-use crate::status::Status;
 use log::{Log, error, info};
-use ns_calls::up_line;
+use ns_calls::{Uplink, up_line};
+use ns_events::{Output as Written, uplink_json};
 use ns_record_files::{RecordFiles, Recorder};
 use ns_roster::Roster;
+use ns_serve_parts::{Output, ServeFault, ServeOptions, closing_text};
+use ns_serve_state::{
+    AfterRecord, Begun, State, Status, ToSocket, has_failed, log_counts, log_unsent, note_event,
+    now_ms, record_call, take_notices, times_of, write_record,
+};
 use ns_server::{Naming, Receipt, Server, Settled};
 use ns_shard::Shard;
 use ns_tally::Blanks;
@@ -120,6 +118,22 @@ fn first_lines<R: Log, W: Sink + Drop>(
     Ok(output)
 }
 
+// Stops the server from outside, where the options ask for it.
+fn watch_stop<R: Threads + Log, S: Stop + Send + Drop + 'static>(
+    rt: &R,
+    state: &State,
+    options: &ServeOptions<'_>,
+    stop: S,
+) -> Result<(), ServeFault> {
+    if !options.stop_at_end {
+        return Ok(());
+    }
+    let Ok(mark) = state.ended.clone() else {
+        return Err(no_memory(rt, "the end of standard input"));
+    };
+    mark_stop(rt, mark, stop)
+}
+
 // Logs what is served.
 fn log_start<R: Log>(rt: &R, roster: &Roster, options: &ServeOptions<'_>) {
     info!(rt; "devices {} join server {} host {} workers {} join workers {} window {} ms",
@@ -132,9 +146,30 @@ fn log_start<R: Log>(rt: &R, roster: &Roster, options: &ServeOptions<'_>) {
     }
 }
 
+// Writes the line of an uplink that was closed at the end. When its first copy came is not known any more.
+#[tactic(auto, using(ns_workers::proofs::WrittenLines::line_up, ns_workers::proofs::WrittenLines::line_object))]
+fn put_uplink<R: Clock, W: Sink>(
+    rt: &R,
+    state: &State,
+    output: &mut Output<W>,
+    uplink: &Uplink,
+) -> Result<(), ServeFault>
+    ensures ok { OnOk result (AppendsLine state.now.uplinks (append_known (W.taken output.old.writer) output.old.lines.items)
+        (append_known (W.taken output.new.writer) output.new.lines.items) (Some uplink.now)) }
+    ensures failed { OnErr result (W.has_failed output.new.writer ≡ true) }
+{
+    match state.uplinks {
+        Written::Lines => output.put_line(up_line(uplink).as_str()),
+        Written::Json => {
+            let times = times_of(rt, state, now_ms(rt, state));
+            output.put_line(uplink_json(&times, uplink).as_str())
+        }
+    }
+}
+
 // Puts the closing of a window down, writes what goes up with it, and sends what goes down.
-#[tactic(auto, using(crate::proofs::OutputLemmas::sends_none))]
-fn hand_out<R: Wait + Log, W: Sink, D: Downlinks<R>>(
+#[tactic(auto, using(ns_serve_parts::proofs::OutputLemmas::sends_none, ns_workers::proofs::WrittenLines::line_none))]
+fn hand_out<R: Wait + Clock + Log, W: Sink, D: Downlinks<R>>(
     rt: &R,
     state: &State,
     output: &mut Output<W>,
@@ -142,26 +177,44 @@ fn hand_out<R: Wait + Log, W: Sink, D: Downlinks<R>>(
     receipt: &Receipt,
 ) -> Result<(), ServeFault>
     ensures down { Sends (D.taken down.old) (D.taken down.new) receipt.now.downlink }
-    ensures ok { OnOk result (Appends (append_known (W.taken output.old.writer) output.old.lines.items)
-        (append_known (W.taken output.new.writer) output.new.lines.items) (uplink_line receipt.now.uplink)) }
+    ensures ok { OnOk result (AppendsLine state.now.uplinks (append_known (W.taken output.old.writer) output.old.lines.items)
+        (append_known (W.taken output.new.writer) output.new.lines.items) receipt.now.uplink) }
     ensures failed { OnErr result (W.has_failed output.new.writer ≡ true) }
 {
     state.counts.replied(&receipt.entry.reply);
     record_call(rt, state, receipt);
+    note_event(rt, state, receipt);
     if let Some(downlink) = &receipt.downlink {
         if !down.send(rt, downlink) {
             log_unsent(rt, state, downlink);
         }
     }
     match &receipt.uplink {
-        Some(uplink) => output.put_line(up_line(uplink).as_str()),
+        Some(uplink) => put_uplink(rt, state, output, uplink),
         None => Ok(()),
     }
 }
 
+// Adds the joins and acknowledgements that were told.
+#[tactic(auto, using(ns_serve_parts::proofs::OutputLemmas::grows_none, ns_serve_parts::proofs::OutputLemmas::grows_more,))]
+fn put_notices<R: Wait, W: Sink>(
+    rt: &R,
+    state: &State,
+    output: &mut Output<W>,
+) -> Result<(), ServeFault>
+    ensures { OnOk result (Grows (append_known (W.taken output.old.writer) output.old.lines.items)
+        (append_known (W.taken output.new.writer) output.new.lines.items)) }
+{
+    let lines = take_notices(rt, state);
+    match output.put(lines.as_slice()) {
+        Ok(()) => Ok(()),
+        Err(_) => Err(ServeFault::Io),
+    }
+}
+
 // Closes all windows that are still open, the oldest of each shard first.
-#[tactic(auto, using(crate::proofs::OutputLemmas::grows_none, crate::proofs::OutputLemmas::grows_more,))]
-fn drain<B: Naming, R: Wait + Log, W: Sink>(
+#[tactic(auto, using(ns_serve_parts::proofs::OutputLemmas::grows_none, crate::proofs::DrainLemmas::grows_some,))]
+fn drain<B: Naming, R: Wait + Clock + Log, W: Sink>(
     rt: &R,
     state: &State,
     settled: &mut Settled<B>,
@@ -175,7 +228,7 @@ fn drain<B: Naming, R: Wait + Log, W: Sink>(
     for _turn in rt.forever() {
         match settled.drain_next() {
             Some(receipt) => hand_out(rt, state, output, &mut down, &receipt)?,
-            None => return Ok(()),
+            None => return put_notices(rt, state, output),
         }
     }
     unreachable!()
@@ -191,7 +244,7 @@ fn no_memory<R: Log>(rt: &R, what: &str) -> ServeFault
 
 // Closes what is still open, and writes the last lines: how many entries there are, which it gives, and the closing roster where it
 // is asked for.
-fn finish<B: Naming, R: Wait + Log, W: Sink>(
+fn finish<B: Naming, R: Wait + Clock + Log, W: Sink>(
     rt: &R,
     alloc: Global,
     roster: &Roster,
@@ -221,7 +274,7 @@ fn finish<B: Naming, R: Wait + Log, W: Sink>(
 }
 
 // What becomes of a server whose workers have ended: the fault of any of them, or how many entries there are.
-fn settled_of<B: Naming, R: Wait + Log, W: Sink>(
+fn settled_of<B: Naming, R: Wait + Clock + Log, W: Sink>(
     rt: &R,
     alloc: Global,
     roster: &Roster,
@@ -309,14 +362,16 @@ fn run_server<
     outcome
 }
 
-/// Serves gateways over UDP, with a join server over TCP, until so many datagrams have come, if the options say how many. Writes
-/// `listening ADDR` and `forwarders ADDR` for the addresses at which gateways are heard, the `up` lines as windows close, those of the windows that are still open at the end, `settled T`, and the closing
-/// roster where the options ask for it, each with a line feed, and gives T, which is how many entries there are in all shards.
+/// Serves gateways over UDP, with a join server over TCP, until so many datagrams have come or `stop` says so, if the options ask
+/// for that. Writes `listening ADDR` and `forwarders ADDR` for the addresses at which gateways are heard, the uplinks as windows close,
+/// each on a line as the options say, those of the windows that are still open at the end, `settled T`, and the closing roster where the
+/// options ask for it, each with a line feed, and gives T, which is how many entries there are in all shards.
 ///
 /// `NoMemory` where a growth was refused, or a thread could not be made; `Io` where the socket or the writer failed. Each is logged
 /// with where it was; the lines of what was closed before it are written all the same.
 pub fn serve<
     R: Threads + Wait + Clock + Net<Listener = TcpListener, Stream = TcpStream> + Log + Sync,
+    S: Stop + Send + Drop + 'static,
     W: Sink + Send + Drop,
 >(
     rt: &R,
@@ -324,6 +379,7 @@ pub fn serve<
     roster: Arc<Roster>,
     options: &ServeOptions<'_>,
     begun: Begun,
+    stop: S,
     writer: W,
 ) -> Result<u128, ServeFault>
     requires workers { (0 < options.now.workers) × (options.now.workers ≤ 16) }
@@ -346,6 +402,7 @@ pub fn serve<
             return Err(why);
         }
     };
+    watch_stop(rt, &state, options, stop)?;
     let count = options.workers as u64 + options.join_workers as u64 + 1;
     let blanks = Blanks::new(count);
     let outcome = run_server::<Brand, _, _>(

@@ -7,6 +7,7 @@ use Rattle.ns_calls.specs.declared.answer.Downlink.{Downlink}
 use Rattle.ns_calls.specs.declared.call.Call.TheVariants.{JoinReply}
 use Rattle.ns_calls.specs.declared.call.Outcome.{Outcome}
 use Rattle.ns_calls.specs.declared.call.Outcome.TheVariants as outcome
+use Rattle.ns_events.specs.declared.output.Output.TheVariants.{Lines}
 use Rattle.ns_server.specs.declared.kept.Receipt.{Receipt}
 use Rattle.ns_workers.specs.declared.job.AskJob.{AskJob}
 use Rattle.ns_workers.specs.declared.join.Joined.{Joined}
@@ -40,7 +41,7 @@ pub record Answered (net : Network) (h : Notice → Type 0) (is_outcome : AskJob
   pub holds : Holds old now taken
   pub count : answered ≡ length receipts
   pub replies : AllZip (IsReply is_outcome) taken receipts
-  pub does : Does net h None before after receipts receipts []
+  pub does : Does net Lines h None before after receipts receipts []
 
 pub answered_first : (net : Network) (h : Notice → Type 0) (o : AskJob → Outcome → Type 0) (old : Option (Given AskJob)) (e : Effects) → Answered net h o old old e e 0
 answered_first net h o old e = record {
@@ -49,18 +50,18 @@ answered_first net h o old e = record {
   holds = holds_none old;
   count = refl;
   replies = tt;
-  does = does_none net h None e;
+  does = does_none net Lines h None e;
 }
 
 pub answered_next : (net : Network) (h : Notice → Type 0) (o : AskJob → Outcome → Type 0) (old now new : Option (Given AskJob)) (e f g : Effects) (n : ℕ) (j : AskJob) (r : Receipt)
-    → Answered net h o old now e f n → Takes now new (Job j) → IsReply o j r → Does net h None f g (r ∷ []) (r ∷ []) [] → Answered net h o old new e g (n + 1)
+    → Answered net h o old now e f n → Takes now new (Job j) → IsReply o j r → Does net Lines h None f g (r ∷ []) (r ∷ []) [] → Answered net h o old new e g (n + 1)
 answered_next net h o old now new e f g n j r so takes reply did = record {
   taken = so.taken ++ j ∷ [];
   receipts = so.receipts ++ r ∷ [];
   holds = holds_more old now new so.taken j so.holds takes;
   count = ap (λ k. k + 1) so.count ∙ sym (length-append so.receipts (r ∷ []));
   replies = zip_more (IsReply o) so.taken so.receipts j r so.replies reply;
-  does = does_both net h None e f g so.receipts (r ∷ []) so.receipts (r ∷ []) [] [] so.does did;
+  does = does_both net Lines h None e f g so.receipts (r ∷ []) so.receipts (r ∷ []) [] [] so.does did;
 }
 
 pub answers_end : (net : Network) (h : Notice → Type 0) (o : AskJob → Outcome → Type 0) (old now new : Option (Given AskJob)) (e f : Effects) (n : ℕ)
@@ -93,7 +94,7 @@ answers_broken net h o old now new e f n so takes = record {
   gave = gave_broken (n ≡ 2 ^ 63) old now new so.taken so.holds takes;
   count = so.count;
   replies = so.replies;
-  does = does_with net h (Some SourceFailed) e f so.receipts so.receipts [] so.does;
+  does = does_with net Lines h (Some SourceFailed) e f so.receipts so.receipts [] so.does;
 }
 
 pub answers_refused : (net : Network) (h : Notice → Type 0) (o : AskJob → Outcome → Type 0) (old now new : Option (Given AskJob)) (e f : Effects) (n : ℕ) (j : AskJob)
@@ -104,7 +105,7 @@ answers_refused net h o old now new e f n j so takes = record {
   gave = holds_more old now new so.taken j so.holds takes;
   count = so.count;
   replies = (so.taken, j, refl, so.replies);
-  does = does_with net h (Some NoMemory) e f so.receipts so.receipts [] so.does;
+  does = does_with net Lines h (Some NoMemory) e f so.receipts so.receipts [] so.does;
 }
 
 -- the same of a call that has changed nothing

@@ -6,6 +6,7 @@ use Rattle.ns_calls.specs.declared.call.Call.TheVariants.{JoinReply}
 use Rattle.ns_calls.specs.declared.call.Outcome.{Outcome}
 use Rattle.ns_calls.specs.declared.call.Outcome.TheVariants.{Failed}
 use Rattle.ns_roster.specs.Network.{Network}
+use Rattle.ns_events.specs.declared.output.Output.TheVariants.{Lines}
 use Rattle.ns_server.specs.declared.kept.Receipt.{Receipt}
 use Rattle.ns_workers.specs.declared.job.AskJob.{AskJob}
 use Rattle.ns_workers.specs.declared.join.Joined.{Joined}
@@ -42,4 +43,4 @@ pub record Answers (net : Network) (has_heard : Notice → Type 0) (IsOutcome : 
   pub gave : Gave (joined.answered ≡ 2 ^ 63) old new taken joined.fault
   pub count : joined.answered ≡ length receipts
   pub replies : AreReplies (IsReply IsOutcome) joined.fault taken receipts
-  pub does : Does net has_heard joined.fault before after receipts receipts []
+  pub does : Does net Lines has_heard joined.fault before after receipts receipts []

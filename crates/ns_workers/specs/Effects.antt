@@ -1,9 +1,8 @@
 -- What workers do to what they are given.
 use Rattle.std.specs.Prelude.{ℕ, ◌≢◌, All, List, Option, Some}
-use Rattle.std.specs.Io.KnownBytes.{Appends}
-use Rattle.ns_types.specs.Streams.{AppendsFront}
 use Rattle.ns_roster.specs.Network.{Network}
 use Rattle.ns_calls.specs.declared.answer.Downlink.{Downlink}
+use Rattle.ns_events.specs.declared.output.Output.{Output}
 use Rattle.ns_server.specs.declared.kept.Receipt.{Receipt}
 use Rattle.ns_workers.specs.declared.job.Job.{Job}
 use Rattle.ns_workers.specs.declared.outside.WorkerFault.{WorkerFault}
@@ -11,7 +10,7 @@ use Rattle.ns_workers.specs.declared.outside.WorkerFault.TheVariants.{SinkFailed
 use Rattle.ns_workers.specs.Closing.{AreAnswered}
 use Rattle.ns_workers.specs.Counts.{RisesByReceipts}
 use Rattle.ns_workers.specs.Grown.{Grows}
-use Rattle.ns_workers.specs.Lines.{up_lines, downlinks_of}
+use Rattle.ns_workers.specs.Lines.{AppendsLines, AppendsLinesFront, downlinks_of}
 use Rattle.ns_workers.specs.Notice.{Notice, call_replied}
 
 -- the counts of a worker's pass, the jobs that it put, the downlinks that it gave out, and the bytes that its sink has
@@ -25,13 +24,13 @@ abbrev pub effects : List ℕ → Option (List Job) → Option (List Downlink) �
 effects pass jobs downlinks text = record { pass = pass; jobs = jobs; downlinks = downlinks; text = text }
 
 -- Calls were made with these receipts, each of which the monitor was told, and by which the pass rises. These jobs were put.
--- What goes out is that of the receipts in `own`, the lines as far as the sink takes them.
-pub record Does (net : Network) (has_heard : Notice → Type 0) (fault : Option WorkerFault) (old new : Effects)
+-- What goes out is that of the receipts in `own`, the lines as the output asks, as far as the sink takes them.
+pub record Does (net : Network) (output : Output) (has_heard : Notice → Type 0) (fault : Option WorkerFault) (old new : Effects)
     (receipts own : List Receipt) (jobs : List Job) : Type 0 where
   pub answered : AreAnswered net receipts
   pub told : All (λ r. has_heard (call_replied r)) receipts
   pub counted : RisesByReceipts old.pass new.pass receipts
   pub put : Grows old.jobs new.jobs jobs
   pub down : Grows old.downlinks new.downlinks (downlinks_of own)
-  pub text : fault ≢ Some SinkFailed → Appends old.text new.text (up_lines own)
-  pub front : AppendsFront old.text new.text (up_lines own)
+  pub text : fault ≢ Some SinkFailed → AppendsLines output old.text new.text own
+  pub front : AppendsLinesFront output old.text new.text own

@@ -4,6 +4,7 @@ use Rattle.std.specs.List.{AllZip}
 use Rattle.ns_roster.specs.Network.{Network}
 use Rattle.ns_calls.specs.declared.call.Call.{Call}
 use Rattle.ns_calls.specs.Steps.{Refusal, link, view, datagram_call}
+use Rattle.ns_events.specs.declared.output.Output.{Output}
 use Rattle.ns_server.specs.declared.kept.Receipt.{Receipt}
 use Rattle.ns_workers.specs.declared.datagram.Refused.{Refused}
 use Rattle.ns_workers.specs.declared.datagram.Refused.TheVariants.{Link, View}
@@ -105,16 +106,16 @@ undone_at (Some NoMemory) = 1
 undone_at _ = 0
 
 -- what a worker did with the job that follows a reply
-pub record Follows (net : Network) (has_heard : Notice → Type 0) (job : Job) (fault : Option WorkerFault) (before after : Effects) : Type 0 where
+pub record Follows (net : Network) (output : Output) (has_heard : Notice → Type 0) (job : Job) (fault : Option WorkerFault) (before after : Effects) : Type 0 where
   pub followed : Followed
   pub job_is : job_in followed ≡ Some job
   pub right : IsRight followed
   pub undone : (if was_undone followed then 1 else 0) ≡ undone_at fault
-  pub does : Does net has_heard fault before after (own_in followed) (own_in followed) (put_in followed)
+  pub does : Does net output has_heard fault before after (own_in followed) (own_in followed) (put_in followed)
 
 -- Each of these datagrams has had its turn, in order: the counts rise by what became of them, and what was called, put and
 -- handed out is the turns'.
-pub record Serves (net : Network) (has_heard : Notice → Type 0) (has_told : ℕ → Type 0) (window_ms : ℕ)
+pub record Serves (net : Network) (output : Output) (has_heard : Notice → Type 0) (has_told : ℕ → Type 0) (window_ms : ℕ)
     (old new : Served) (before after : Effects) (datagrams : List (List ℕ)) : Type 0 where
   pub turns : List Turn
   pub each : AllZip (IsTurn has_heard has_told window_ms) datagrams turns
@@ -122,15 +123,15 @@ pub record Serves (net : Network) (has_heard : Notice → Type 0) (has_told : �
   pub refused : new.refused ≡ old.refused + count_by was_refused turns
   pub dropped : new.dropped ≡ old.dropped + count_by was_dropped turns
   pub undone : count_by left_undone turns ≡ undone_at new.fault
-  pub does : Does net has_heard new.fault before after (flat_map receipts_of turns) (flat_map own_of turns) (flat_map put_by turns)
+  pub does : Does net output has_heard new.fault before after (flat_map receipts_of turns) (flat_map own_of turns) (flat_map put_by turns)
 
 -- the counts of a worker at its start
 abbrev pub none_served : Served
 none_served = record { read = 0; refused = 0; dropped = 0; fault = None }
 
 -- the same with the datagrams that its source gave
-pub record ServesAll (net : Network) (has_heard : Notice → Type 0) (has_told : ℕ → Type 0) (window_ms : ℕ)
+pub record ServesAll (net : Network) (output : Output) (has_heard : Notice → Type 0) (has_told : ℕ → Type 0) (window_ms : ℕ)
     (old new : Option (Given (List ℕ))) (before after : Effects) (result : Served) : Type 0 where
   pub datagrams : List (List ℕ)
   pub gave : Gave (result.read ≡ 2 ^ 63) old new datagrams result.fault
-  pub serves : Serves net has_heard has_told window_ms none_served result before after datagrams
+  pub serves : Serves net output has_heard has_told window_ms none_served result before after datagrams

@@ -1,12 +1,10 @@
 //! Closes windows as they become due.
 ghost use Rattle.std.specs.Prelude.{◌≡◌, ◌≢◌, Some, false, true, option_to_list, All, IfOk, OnOk, OnErr};
-ghost use Rattle.std.specs.Io.KnownBytes.{Appends};
-ghost use Rattle.ns_types.specs.Streams.{AppendsFront};
 ghost use Rattle.ns_server.specs.Receipts.{RisesAt};
 ghost use Rattle.ns_workers.specs.Closing.{Closes, AreAnswered, HasAnswer, closing};
 ghost use Rattle.ns_workers.specs.Counts.{RisesByReceipts};
 ghost use Rattle.ns_workers.specs.Grown.{Grows};
-ghost use Rattle.ns_workers.specs.Lines.{uplink_line, up_lines, downlinks_of};
+ghost use Rattle.ns_workers.specs.Lines.{AppendsLine, AppendsLineFront, AppendsLines, AppendsLinesFront, downlinks_of};
 ghost use Rattle.ns_workers.specs.Notice.{call_replied};
 
 use crate::counted::{make_call, send_down};
@@ -45,32 +43,34 @@ fn close_due<B: Naming, R: Wait, G: Gate<R>, M: Monitor<R>, T: Timer<R>>(
     make_call(shared, pass, call)
 }
 
-// Sends what goes down, and writes the line of what goes up.
-pub(crate) fn hand_out<B: Naming, R, G, D: Downlinks<R>, M: Monitor<R>, W: Sink>(
+// Sends what goes down, and writes the line of what goes up, whose window was due then.
+pub(crate) fn hand_out<B: Naming, R, G, D: Downlinks<R>, M: Monitor<R>, T: Timer<R>, W: Sink>(
     shared: &Shared<'_, B, R, G, M>,
+    timer: &T,
+    due: u64,
     down: &mut D,
     sink: &mut W,
     receipt: &Receipt,
 ) -> Result<(), Failed>
     requires { W.has_failed sink.old ≡ false }
     ensures down { Grows (D.taken down.old) (D.taken down.new) (option_to_list receipt.now.downlink) }
-    ensures ok { OnOk result (Appends (W.taken sink.old) (W.taken sink.new) (uplink_line receipt.now.uplink)) }
+    ensures ok { OnOk result (AppendsLine shared.now.output (W.taken sink.old) (W.taken sink.new) receipt.now.uplink) }
     ensures sound { OnOk result (W.has_failed sink.new ≡ false) }
-    ensures front { AppendsFront (W.taken sink.old) (W.taken sink.new) (uplink_line receipt.now.uplink) }
+    ensures front { AppendsLineFront shared.now.output (W.taken sink.old) (W.taken sink.new) receipt.now.uplink }
     ensures failed { OnErr result (W.has_failed sink.new ≡ true) }
 {
     send_down(shared, down, receipt);
-    write_uplink(sink, &receipt.uplink)
+    write_uplink(shared.rt, shared.output, timer, due, sink, &receipt.uplink)
 }
 
-/// Closes the windows of at most `limit` jobs, each as it becomes due, sends what goes down, and writes the `up` line of each that was
+/// Closes the windows of at most `limit` jobs, each as it becomes due, sends what goes down, and writes the line of each that was
 /// open, with a line feed. Room for the receipts is taken first. Each receipt tells the plain server's answer after a history of its
 /// shard.
 ///
 /// With no fault and fewer receipts than `limit` the source has ended. K1 where a growth was refused: then nothing was done with the
 /// job taken last, whose window was not open. K2 where the source failed. K3 where the sink failed: then it has a beginning of the
 /// lines.
-#[tactic(auto, using(crate::proofs::Counting::rises_none, crate::proofs::Counting::rises_more, crate::proofs::Closings::closed_none, crate::proofs::Closings::closed_more, crate::proofs::Closings::closes_end, crate::proofs::Closings::closes_full, crate::proofs::Closings::closes_broken, crate::proofs::Closings::closes_before, crate::proofs::Closings::closes_refused, crate::proofs::Closings::closes_unsent, crate::proofs::Doings::answered_none, crate::proofs::Doings::grows_none, crate::proofs::Doings::downlinks_more, crate::proofs::Doings::lines_more, crate::proofs::Doings::lines_front, crate::proofs::Doings::lines_whole,))]
+#[tactic(auto, using(crate::proofs::Counting::rises_none, crate::proofs::Counting::rises_more, crate::proofs::Closings::closed_none, crate::proofs::Closings::closed_more, crate::proofs::Closings::closes_end, crate::proofs::Closings::closes_full, crate::proofs::Closings::closes_broken, crate::proofs::Closings::closes_before, crate::proofs::Closings::closes_refused, crate::proofs::Closings::closes_unsent, crate::proofs::Doings::answered_none, crate::proofs::Doings::grows_none, crate::proofs::Doings::downlinks_more, crate::proofs::Doings::lines_none, crate::proofs::Doings::lines_more, crate::proofs::Doings::lines_front, crate::proofs::Doings::lines_whole,))]
 pub fn run_closer<
     B: Naming,
     R: Wait,
@@ -97,8 +97,8 @@ pub fn run_closer<
     ensures counted { RisesByReceipts pass.old pass.new result.receipts.items }
     ensures down { Grows (D.taken down.old) (D.taken down.new) (downlinks_of result.receipts.items) }
     ensures text { result.fault ≢ Some WorkerFault.SinkFailed
-        → Appends (W.taken sink.old) (W.taken sink.new) (up_lines result.receipts.items) }
-    ensures front { AppendsFront (W.taken sink.old) (W.taken sink.new) (up_lines result.receipts.items) }
+        → AppendsLines shared.now.output (W.taken sink.old) (W.taken sink.new) result.receipts.items }
+    ensures front { AppendsLinesFront shared.now.output (W.taken sink.old) (W.taken sink.new) result.receipts.items }
     ensures sound { result.fault ≢ Some WorkerFault.SinkFailed → W.has_failed sink.new ≡ false }
     ensures failed { result.fault ≡ Some WorkerFault.SinkFailed → W.has_failed sink.new ≡ true }
 {
@@ -130,7 +130,7 @@ pub fn run_closer<
                 fault: Some(WorkerFault::NoMemory),
             };
         };
-        let handed = hand_out(shared, down, sink, &receipt);
+        let handed = hand_out(shared, timer, job.due, down, sink, &receipt);
         receipts.push_reserved(receipt);
         if handed.is_err() {
             return Ended {

@@ -33,12 +33,14 @@ fn put_job<
     R: Wait,
     G: Gate<R>,
     M: Monitor<R>,
+    T: Timer<R>,
     P: Jobs<R, Job>,
     D: Downlinks<R>,
     W: Sink,
 >(
     shared: &Shared<'_, B, R, G, M>,
     pass: &mut Pass<B>,
+    timer: &T,
     jobs: &mut P,
     down: &mut D,
     sink: &mut W,
@@ -47,7 +49,7 @@ fn put_job<
     requires { W.has_failed sink.old ≡ false }
     ensures follows { let before = effects pass.old (P.taken jobs.old) (D.taken down.old) (W.taken sink.old) in
         let after = effects pass.new (P.taken jobs.new) (D.taken down.new) (W.taken sink.new) in
-        Follows B.roster (M.has_heard shared.now.monitor.now) job result before after }
+        Follows B.roster shared.now.output (M.has_heard shared.now.monitor.now) job result before after }
     ensures sound { result ≢ Some WorkerFault.SinkFailed → W.has_failed sink.new ≡ false }
     ensures failed { result ≡ Some WorkerFault.SinkFailed → W.has_failed sink.new ≡ true }
     ensures source { result ≢ Some WorkerFault.SourceFailed }
@@ -58,7 +60,7 @@ fn put_job<
     let Ok(receipt) = make_call(shared, pass, call_at_once(&job)) else {
         return Some(WorkerFault::NoMemory);
     };
-    match hand_out(shared, down, sink, &receipt) {
+    match hand_out(shared, timer, job.due(), down, sink, &receipt) {
         Ok(()) => None,
         Err(_) => Some(WorkerFault::SinkFailed),
     }
@@ -91,7 +93,7 @@ fn serve_one<
     requires fault { served.old.fault ≡ None }
     ensures serves { let before = effects pass.old (P.taken jobs.old) (D.taken down.old) (W.taken sink.old) in
         let after = effects pass.new (P.taken jobs.new) (D.taken down.new) (W.taken sink.new) in
-        Serves B.roster (M.has_heard shared.now.monitor.now) (T.has_told timer.now) window_ms served.old served.new before after (bytes.now ∷ []) }
+        Serves B.roster shared.now.output (M.has_heard shared.now.monitor.now) (T.has_told timer.now) window_ms served.old served.new before after (bytes.now ∷ []) }
     ensures few { (served.new.refused ≤ served.old.refused + 1) × (served.new.dropped ≤ served.old.dropped + 1) }
     ensures sound { served.new.fault ≢ Some WorkerFault.SinkFailed → W.has_failed sink.new ≡ false }
     ensures failed { served.new.fault ≡ Some WorkerFault.SinkFailed → W.has_failed sink.new ≡ true }
@@ -113,12 +115,12 @@ fn serve_one<
     };
     let now = timer.now(shared.rt);
     if let Some(job) = job_of(&receipt.entry.reply, now, window_ms) {
-        served.fault = put_job(shared, pass, jobs, down, sink, job);
+        served.fault = put_job(shared, pass, timer, jobs, down, sink, job);
     }
 }
 
 /// Reads datagrams, makes the call of each that is not refused, and puts the job that follows (`job_of`, with the time at which the call
-/// was answered). Where a job cannot be put, the worker closes the window itself, sends its acknowledgement and writes its `up` line,
+/// was answered). Where a job cannot be put, the worker closes the window itself, sends its acknowledgement and writes its line,
 /// or answers the ticket as failed.
 ///
 /// A call that is refused for want of memory is dropped and counted. With no fault the source has ended. K1 where a job could not be
@@ -148,7 +150,7 @@ pub fn run_gateway<
     requires { W.has_failed sink.old ≡ false }
     ensures serves { let before = effects pass.old (P.taken jobs.old) (D.taken down.old) (W.taken sink.old) in
         let after = effects pass.new (P.taken jobs.new) (D.taken down.new) (W.taken sink.new) in
-        ServesAll B.roster (M.has_heard shared.now.monitor.now) (T.has_told timer.now) window_ms
+        ServesAll B.roster shared.now.output (M.has_heard shared.now.monitor.now) (T.has_told timer.now) window_ms
         (I.given datagrams.old) (I.given datagrams.new) before after result }
     ensures sound { result.fault ≢ Some WorkerFault.SinkFailed → W.has_failed sink.new ≡ false }
     ensures failed { result.fault ≡ Some WorkerFault.SinkFailed → W.has_failed sink.new ≡ true }

@@ -63,6 +63,16 @@ pub fn job_of(reply: &Reply, now: u64, window_ms: u32) -> Option<Job>
     }
 }
 
+impl Job {
+    // When it is due.
+    pub(crate) fn due(&self) -> u64 {
+        match self {
+            Job::Close(job) => job.due,
+            Job::Ask(job) => job.due,
+        }
+    }
+}
+
 // The call that does a job at once: it closes the window, or answers the ticket as failed.
 pub(crate) fn call_at_once(job: &Job) -> Call
     ensures { result ≡ call_at_once job.now }

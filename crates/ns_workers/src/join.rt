@@ -1,5 +1,6 @@
 //! Asks the join server about tickets, and answers them.
 ghost use Rattle.std.specs.Prelude.{◌≡◌, ◌≢◌, [], ◌∷◌, None, Some, IfOk, IfErr, OnErr};
+ghost use Rattle.ns_events.specs.declared.output.Output.TheVariants.{Lines};
 ghost use Rattle.ns_joinclient.specs.Request.{host_text};
 ghost use Rattle.ns_workers.specs.Asking.{IsAnswered, IsUnanswered, HasOutcome};
 ghost use Rattle.ns_workers.specs.Answering.{IsOutcome, IsReply, Answers};
@@ -134,7 +135,7 @@ fn outcome_for<R, C: Connections<R>, T: Timer<R>, M: Monitor<R>>(
 
 // Answers the ticket of a job: by what the join server answers, or as failed where it is too old to be asked about. Sends what goes
 // down.
-#[tactic(auto, using(crate::proofs::Answerings::reply_of, crate::proofs::Doings::does_own, crate::proofs::Doings::grows_none,))]
+#[tactic(auto, using(crate::proofs::Answerings::reply_of, crate::proofs::Doings::does_reply,))]
 fn answer_job<
     B: Naming,
     R: Wait,
@@ -161,7 +162,7 @@ fn answer_job<
         IfOk result (λ r. IsReply (IsOutcome has_heard (T.has_told timer.now) has_outcome) job.now r) }
     ensures does { let before = effects pass.old None (D.taken down.old) None in
         let after = effects pass.new None (D.taken down.new) None in
-        IfOk result (λ r. Does B.roster (M.has_heard shared.now.monitor.now) None before after (r ∷ []) (r ∷ []) []) }
+        IfOk result (λ r. Does B.roster Lines (M.has_heard shared.now.monitor.now) None before after (r ∷ []) (r ∷ []) []) }
     ensures err { OnErr result ((pass.new ≡ pass.old) × (down.new ≡ down.old)) }
 {
     let outcome = outcome_for(

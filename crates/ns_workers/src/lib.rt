@@ -1,7 +1,7 @@
 //! The workers that run a server: gateways, joins and closings.
 //!
 //! A gateway worker reads datagrams, makes their calls and puts the jobs that follow; a join worker asks the join server about tickets
-//! and answers them; a closer closes windows as they become due and writes their `up` lines. Each has a pass of its own, and what it
+//! and answers them; a closer closes windows as they become due and writes their lines. Each has a pass of its own, and what it
 //! did is counted in it. What is around them (sockets, channels, a clock) stands behind small traits, so that the same workers run in
 //! the program, in a test and in a program that embeds them.
 //!
@@ -9,7 +9,7 @@
 //! closings, in order, and its sink has their lines; a join worker's receipts are of the answers to its tickets, in order, each as the
 //! join server answered; a gateway worker counted each datagram as refused, dropped or called, and put the job that follows each reply
 //! once, or did it. What goes down is that of the receipts.
-//! The crate stands on `ns_server` for the calls, on `ns_link`, `ns_views` and `ns_calls` for datagrams and lines, and on
+//! The crate stands on `ns_server` for the calls, on `ns_link`, `ns_views`, `ns_calls` and `ns_events` for datagrams and lines, and on
 //! `ns_joinwire` and `ns_joinclient` for the exchange with a join server.
 #![tactic(auto)]
 
@@ -19,6 +19,7 @@ mod datagram;
 mod gateway;
 mod job;
 mod join;
+mod laws;
 mod line;
 mod listed;
 mod outside;
@@ -28,6 +29,7 @@ pub use datagram::Refused;
 pub use gateway::{Served, run_gateway};
 pub use job::{AskJob, COPIES_MS, CloseJob, Job, MOST_AGE_MS, job_of};
 pub use join::{JoinFault, Joined, run_join};
+pub use laws::lines_are_up_lines;
 pub use listed::{ListedDatagrams, ListedJobs};
 pub use outside::{
     Connections, Datagrams, Downlinks, JobSource, Jobs, Monitor, Next, Received, Shared, Timer,

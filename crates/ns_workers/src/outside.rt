@@ -1,4 +1,4 @@
-//! What a worker is given: datagrams, jobs, connections, a clock, a way out, and who is told. A ghost member of a trait says what its
+//! What a worker is given: datagrams, jobs, connections, a clock, a way out, how uplinks are written, and who is told. A ghost member of a trait says what its
 //! value was given or told; where a type keeps none, the contracts say nothing of it.
 ghost use Rattle.std.specs.Prelude.{◌≡◌, ℕ, List, [], ◌∷◌, Option, None, false, OnOk, OnErr, IfErr, IfSome, IfNone};
 ghost use Rattle.ns_calls.specs.declared.answer.Downlink.{Downlink};
@@ -10,6 +10,7 @@ ghost use Rattle.ns_workers.specs.Datagrams.{FitsBuffer, TakesDatagram};
 use crate::datagram::Refused;
 use crate::join::JoinFault;
 use ns_calls::Downlink;
+use ns_events::{Output, Times};
 use ns_server::{Naming, Receipt, Server};
 use ns_types::{Sink, Source, Ticket};
 use thiserror::Error;
@@ -95,6 +96,12 @@ pub trait Timer<R> {
     /// Waits until this time.
     fn until(&self, rt: &R, due: u64)
         ensures { has_come self.now due };
+
+    /// When the first copy came of an uplink whose window is due at this time, and when its line is written, by a wall clock where
+    /// there is one. No clause says that they are right.
+    fn times(&self, _rt: &R, _due: u64) -> Option<Times> {
+        None
+    }
 }
 
 /// Opens connections to the join server.
@@ -156,6 +163,8 @@ pub trait Monitor<R> {
 /// What the workers of a server share.
 #[derive(Drop)]
 pub struct Shared<'a, B: Naming, R, G, M> {
+    /// How uplinks are written.
+    pub output: Output,
     pub rt: &'a R,
     pub server: &'a Server<B>,
     pub gate: &'a G,

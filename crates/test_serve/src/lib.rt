@@ -1,5 +1,6 @@
 //! Tests of the server over sockets: servers over loopback with a join server, gateways, a packet forwarder and devices in threads of their own, what they log,
-//! also where memory is really gone, the table of addresses, and trims of a running server.
+//! also where memory is really gone, the table of addresses, trims of a running server, and
+//! two lives of a record.
 //!
 //! They call what `ns_serve` gives in public, and stand here so that it is not proved once more for its tests.
 #![tactic(auto)]
@@ -10,6 +11,8 @@ mod addresses;
 mod around;
 #[cfg(test)]
 mod forwarded;
+#[cfg(test)]
+mod lives;
 #[cfg(test)]
 mod logged;
 #[cfg(test)]

@@ -52,7 +52,7 @@ fn counts(
     nodevice: u32,
 ) -> Result<String, AllocError> {
     format!(in alloc;
-        "[INFO  ns_serve::counts] datagrams: read {read} dropped 0 late 0 failed receives 0 G1 {short} G2 0 G3 0 G4 0 G5 0 G6 0 V1 0 V2 0 V3 0 V4 0 V5 0 V6 0\n[INFO  ns_serve::counts] replies: opened 0 copied 0 crowded 0 old 0 nosession {nosession} busy 0 ask 0 joincopied 0 joincrowded 0 nonceold 0 nodevice {nodevice} joinbusy 0 accepted 0 joinrefused 0 joinstale 0 noticket 0 closed 0 nowindow 0 again 0 unanswered 0 unsent 0 stale tickets 0\n"
+        "[INFO  ns_serve_parts::counts] datagrams: read {read} dropped 0 late 0 failed receives 0 G1 {short} G2 0 G3 0 G4 0 G5 0 G6 0 V1 0 V2 0 V3 0 V4 0 V5 0 V6 0\n[INFO  ns_serve_parts::counts] replies: opened 0 copied 0 crowded 0 old 0 nosession {nosession} busy 0 ask 0 joincopied 0 joincrowded 0 nonceold 0 nodevice {nodevice} joinbusy 0 accepted 0 joinrefused 0 joinstale 0 noticket 0 closed 0 nowindow 0 again 0 unanswered 0 unsent 0 stale tickets 0\n"
     )
 }
 
@@ -117,7 +117,7 @@ where
 #[test]
 fn counts_are_logged_each_minute(rt: HostRuntime) -> Result<(), Fail> {
     let alloc: Global = rt.alloc();
-    let around = logging(&rt, alloc, "ns_serve::counts=info", BEGIN_MS)?;
+    let around = logging(&rt, alloc, "ns_serve_parts::counts=info", BEGIN_MS)?;
     assert_eq!(rt; both_minutes(&around, alloc)?, Ok(4));
     let mut want = counts(alloc, 3, 0, 2, 1)?;
     want.push_str(counts(alloc, 4, 0, 3, 1)?.as_str())?;
@@ -161,11 +161,11 @@ where
 #[test]
 fn refusals_are_counted(rt: HostRuntime) -> Result<(), Fail> {
     let alloc: Global = rt.alloc();
-    let around = logging(&rt, alloc, "ns_serve::counts=info", 0)?;
+    let around = logging(&rt, alloc, "ns_serve_parts::counts=info", 0)?;
     assert_eq!(rt; refusals(&around, alloc)?, Ok(0));
     let lines = around.into_log().into_inner().into_inner();
     let want =
-        b"[INFO  ns_serve::counts] datagrams: read 4 dropped 0 late 0 failed receives 0 G1 2 G2 0 G3 0 G4 0 G5 0 G6 1 V1 0 V2 0 V3 0 V4 1 V5 0 V6 0\n";
+        b"[INFO  ns_serve_parts::counts] datagrams: read 4 dropped 0 late 0 failed receives 0 G1 2 G2 0 G3 0 G4 0 G5 0 G6 1 V1 0 V2 0 V3 0 V4 1 V5 0 V6 0\n";
     assert_eq!(rt; lines.as_slice().starts_with(want), true);
     Ok(())
 }

@@ -1,10 +1,14 @@
 //! A server of one gateway worker, with those around it.
 
+ghost use Rattle.std.specs.Arc.{arc_value};
+ghost use Rattle.ns_serve_state.specs.Begun.{IsBegun};
+
 use crate::parties::{join_server, local};
 use log::{Log, error};
+use ns_events::Output;
 use ns_joinclient::HostName;
 use ns_roster::Roster;
-use ns_serve::{Begun, ServeFault, ServeOptions, serve};
+use ns_serve::{Begun, ServeFault, ServeOptions, Stop, serve};
 use ns_types::Sink;
 use std::alloc::Global;
 use std::net::{Net, SocketAddr, TcpListener, TcpStream};
@@ -13,6 +17,14 @@ use std::test::*;
 use std::thread;
 use std::thread::Threads;
 use std::time::Clock;
+
+// What would stop a server from outside, where its options asked for that.
+#[derive(Clone, Copy)]
+struct Unused;
+
+impl Stop for Unused {
+    fn wait(&self) {}
+}
 
 /// What a server and the join server do.
 #[derive(Clone, Copy)]
@@ -30,8 +42,8 @@ pub struct Trial {
     pub forwarders: bool,
 }
 
-// Where the join server of a trial listens: behind the gateways' port.
-fn join_addr(trial: &Trial) -> SocketAddr {
+/// Where the join server of a trial listens: behind the gateways' port.
+pub fn join_addr(trial: &Trial) -> SocketAddr {
     local(trial.port.saturating_add(1))
 }
 
@@ -51,6 +63,27 @@ pub fn served<
     roster: Arc<Roster>,
     writer: W,
 ) -> Result<u128, ServeFault> {
+    let Ok(begun) = Begun::new(alloc, &roster) else {
+        error!(rt; "no memory for the shards");
+        return Err(ServeFault::NoMemory);
+    };
+    served_from(rt, alloc, trial, roster, begun, writer)
+}
+
+/// The same, where the server begins so.
+pub fn served_from<
+    R: Threads + Wait + Clock + Net<Listener = TcpListener, Stream = TcpStream> + Log + Sync,
+    W: Sink + Send + Drop,
+>(
+    rt: &R,
+    alloc: Global,
+    trial: &Trial,
+    roster: Arc<Roster>,
+    begun: Begun,
+    writer: W,
+) -> Result<u128, ServeFault>
+    requires { IsBegun (arc_value roster) begun }
+{
     let Some(host) = HostName::new("js.local") else {
         return Err(ServeFault::Io);
     };
@@ -71,14 +104,13 @@ pub fn served<
         join_workers: trial.join_workers.max(1).min(16),
         window_ms: trial.window_ms,
         stop_after: trial.stop_after,
+        stop_at_end: false,
         trim: Some(1),
+        output: Output::Lines,
+        events: false,
         closing: trial.closing,
     };
-    let Ok(begun) = Begun::new(alloc, &roster) else {
-        error!(rt; "no memory for the shards");
-        return Err(ServeFault::NoMemory);
-    };
-    serve(rt, alloc, roster, &options, begun, writer)
+    serve(rt, alloc, roster, &options, begun, Unused, writer)
 }
 
 /// What gateways and devices do while a server runs, at this port. How many bytes came of it.

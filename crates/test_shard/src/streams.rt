@@ -3,6 +3,7 @@
 ghost use Rattle.std.specs.Prelude.{◌≡◌, ◌<◌, false, IfOk};
 
 use crate::calls::ROSTER;
+use ns_events::Output;
 use ns_replay::{ReplayFault, replay};
 use ns_roster::Roster;
 use ns_types::{BLOCKS, Fuse, Stream, take_all};
@@ -69,7 +70,14 @@ fn a_failed_read_writes_nothing(rt: HostRuntime) -> Result<(), Fail> {
     for reads in 0..20 {
         let mut reader = fuse(&rt, STEPS.as_bytes(), 70, Some(reads), None)?;
         let mut writer = fuse(&rt, b"", 200, None, None)?;
-        let outcome = replay(rt.alloc(), roster.clone()?, false, &mut reader, &mut writer);
+        let outcome = replay(
+            rt.alloc(),
+            roster.clone()?,
+            Output::Lines,
+            false,
+            &mut reader,
+            &mut writer,
+        );
         if reader.failed() {
             assert_eq!(rt; outcome, Err(ReplayFault::Io));
             assert_eq!(rt; writer.written().len(), 0);
@@ -91,7 +99,14 @@ fn ends(rt: &HostRuntime, steps: &str, lines: &str, most: usize) -> Result<Optio
     for writes in 0..40u64 {
         let mut reader = fuse(rt, steps.as_bytes(), 100_000, None, None)?;
         let mut writer = fuse(rt, b"", most, None, Some(writes))?;
-        let outcome = replay(rt.alloc(), roster.clone()?, false, &mut reader, &mut writer);
+        let outcome = replay(
+            rt.alloc(),
+            roster.clone()?,
+            Output::Lines,
+            false,
+            &mut reader,
+            &mut writer,
+        );
         let is_right = if writer.failed() {
             outcome == Err(ReplayFault::Io) && lines.as_bytes().starts_with(writer.written())
         } else {
@@ -132,6 +147,7 @@ fn refusals(
         match replay(
             rt.alloc(),
             roster.clone().ok()?,
+            Output::Lines,
             false,
             &mut reader,
             &mut writer,

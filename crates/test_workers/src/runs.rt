@@ -4,6 +4,7 @@ use crate::around::{Around, Put, Scarce, Sent};
 use crate::frames::heard;
 use crate::told::{fault_number, tell, tell_jobs, tell_out, tell_window};
 use ns_calls::Call;
+use ns_events::Output;
 use ns_joinclient::HostName;
 use ns_roster::Roster;
 use ns_server::{Gate, Naming, Open, Pass, Server};
@@ -130,6 +131,7 @@ fn serve<B: Naming, R: Wait>(
 ) -> Option<()> {
     let around = Around::new(alloc, time, 10, Vec::new(alloc));
     let shared = Shared {
+        output: Output::Lines,
         rt,
         server,
         gate: &Open,
@@ -184,6 +186,7 @@ fn answer<B: Naming, R: Wait>(
     }
     let around = Around::new(alloc, time, 0, responses);
     let shared = Shared {
+        output: Output::Lines,
         rt,
         server,
         gate: &Open,
@@ -248,6 +251,7 @@ fn close_all<B: Naming, R: Wait>(
 ) -> Option<()> {
     let around = Around::new(alloc, time, 0, Vec::new(alloc));
     let shared = Shared {
+        output: Output::Lines,
         rt,
         server,
         gate: &Open,

@@ -8,6 +8,7 @@ ghost use Rattle.ns_tally.specs.Tally.{AreNamed};
 use crate::around::{Around, Scarce};
 use crate::runs::{close, closings};
 use crate::served::roster;
+use ns_events::Output;
 use ns_roster::Roster;
 use ns_server::{Gate, Naming, Open, Pass, Server};
 use ns_tally::Blanks;
@@ -92,6 +93,7 @@ fn close_one<B: Naming, R: Wait, G: Gate<R>>(
     let mut pass = pass;
     let around = Around::new(alloc, 0, 0, Vec::new(alloc));
     let shared = Shared {
+        output: Output::Lines,
         rt,
         server,
         gate,

@@ -5,6 +5,7 @@
 //!
 //! - `roster JSON` is its roster; a run without one has that of the run before;
 //! - `closing` asks for the closing roster;
+//! - `json` asks for uplinks as JSON;
 //! - `> STEP` is a step line;
 //! - any other is a line that is to be written: the answers to a step stand right below it, and `roster: O2` or the like is the
 //!   fault of the roster.
@@ -15,6 +16,7 @@
 
 ghost use Rattle.std.specs.Prelude.{◌<◌};
 
+use ns_events::Output;
 use ns_replay::{ReplayFault, replay};
 use ns_roster::Roster;
 use ns_types::Fuse;
@@ -27,6 +29,7 @@ use std::{env, fs};
 #[derive(Drop)]
 struct Worked {
     roster: String,
+    uplinks: Output,
     closing: bool,
     steps: String,
     lines: String,
@@ -37,6 +40,7 @@ impl Worked {
     fn new(alloc: Global) -> Worked {
         Worked {
             roster: String::new(alloc),
+            uplinks: Output::Lines,
             closing: false,
             steps: String::new(alloc),
             lines: String::new(alloc),
@@ -45,6 +49,7 @@ impl Worked {
 
     // The run of these lines, in place of the one before. Where they name no roster, that one's stays.
     fn read(&mut self, lines: &str) -> Result<(), AllocError> {
+        self.uplinks = Output::Lines;
         self.closing = false;
         self.steps.clear();
         self.lines.clear();
@@ -61,6 +66,8 @@ impl Worked {
             self.roster.push_str(roster)?;
         } else if line == "closing" {
             self.closing = true;
+        } else if line == "json" {
+            self.uplinks = Output::Json;
         } else if let Some(step) = line.strip_prefix(">") {
             self.steps.push_str(step.strip_prefix(" ").unwrap_or(step))?;
             self.steps.push_str("\n")?;
@@ -82,7 +89,14 @@ impl Worked {
         let input = Vec::from_slice(alloc, self.steps.as_bytes())?;
         let mut reader = Fuse::new(alloc, input, most, None, None);
         let mut writer = Fuse::new(alloc, Vec::new(alloc), most, None, None);
-        match replay(alloc, roster, self.closing, &mut reader, &mut writer) {
+        match replay(
+            alloc,
+            roster,
+            self.uplinks,
+            self.closing,
+            &mut reader,
+            &mut writer,
+        ) {
             Ok(()) => String::from_utf8_lossy(alloc, writer.written()),
             Err(ReplayFault::NoMemory) => Err(AllocError),
             Err(ReplayFault::Io) => String::from_str(alloc, "io\n"),

@@ -1,4 +1,4 @@
-use Rattle.std.proofs.Common.{rules, codes}
+use Rattle.std.proofs.Common.{rules}
 use Rattle.std.proofs.lemmas.Result.{IfOk-weaker}
 use Rattle.lorawan_ns.specs.Commands.{IsCommand, named_app, program}
 use Rattle.lorawan_ns.proofs.CommandLemmas.{IsCommand-subcommand}

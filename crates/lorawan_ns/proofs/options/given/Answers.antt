@@ -1,7 +1,15 @@
 use Rattle.std.proofs.Common.{◌≡◌, None, sym, subst}
+use Rattle.lorawan_ns.specs.Refused.{IsThere}
+use Rattle.lorawan_ns.proofs.RefusedLemmas.{from_err, is_there}
 use Rattle.clap.specs.Words.{found_of, one_of, rows_of}
 use Rattle.lorawan_ns.proofs.OptionLemmas.{no_value}
 use Rattle.lorawan_ns.proofs.options.given.Goals as goal
+
+pub returns-in_err-count-clause-refused : goal.returns-in_err-count-clause-refused
+returns-in_err-count-clause-refused c =
+    let found = found_of c.args.found.now in
+    let there = subst (λ id. IsThere id (rows_of found)) c.as_str.ensures (is_there found c.as_str.result.now (sym c.if-contains_id.ensures)) in
+    from_err c.from_residual.result _ c.in_err-count.field-0.0 (c.in_err-count.ensures.refused.0, there, c.in_err-count.ensures.refused.1) c.from_residual.ensures.1
 
 pub returns-else-contains_id-clause-number : goal.returns-else-contains_id-clause-number
 returns-else-contains_id-clause-number c =

@@ -1,8 +1,18 @@
-use Rattle.std.proofs.Common.{sym, codes}
+use Rattle.std.proofs.Common.{◌≡◌, ◌∙◌, true, false, inl, inr, sym, codes}
 use Rattle.std.proofs.lemmas.Slice.Eq.{bytes_eq-Decides}
 use Rattle.clap.specs.Words.{found_of}
+use Rattle.clap.proofs.WalkLemmas.{first_value-rows}
 use Rattle.lorawan_ns.proofs.OptionLemmas.{first_of-got}
 use Rattle.lorawan_ns.proofs.options.read_command.Goals as goal
+
+pub returns-in_default-clause-refused : goal.returns-in_default-clause-refused
+returns-in_default-clause-refused c = inl (sym (first_value-rows (found_of c.args.found.now) (codes "ROSTER")) ∙ sym c.in_default.ensures)
+
+pub returns-else-eq-2-clause-refused : goal.returns-else-eq-2-clause-refused
+returns-else-eq-2-clause-refused c = inr (
+  (λ is. let bad : false ≡ true = c.if-eq.ensures ∙ (bytes_eq-Decides c.args.name.now (codes "serve")).1 is in cc),
+  (λ is. let bad : false ≡ true = c.if-eq-2.ensures ∙ (bytes_eq-Decides c.args.name.now (codes "replay")).1 is in cc),
+)
 
 pub returns-in_ok-record_options-clause-asked : goal.returns-in_ok-record_options-clause-asked
 returns-in_ok-record_options-clause-asked c = (
@@ -10,8 +20,8 @@ returns-in_ok-record_options-clause-asked c = (
   (first_of-got (found_of c.args.found.now) (codes "ROSTER") c.in-Some.path.now (sym c.in-Some.ensures), c.in_ok-options.ensures.options, c.in_ok-record_options.ensures.record),
 )
 
-pub returns-then-eq-2-clause-asked : goal.returns-then-eq-2-clause-asked
-returns-then-eq-2-clause-asked c = (
+pub returns-in_ok-output-clause-asked : goal.returns-in_ok-output-clause-asked
+returns-in_ok-output-clause-asked c = (
   (bytes_eq-Decides c.args.name.now (codes "replay")).0 (sym c.if-eq-2.ensures),
-  (first_of-got (found_of c.args.found.now) (codes "ROSTER") c.in-Some.path.now (sym c.in-Some.ensures), c.flag.ensures),
+  (first_of-got (found_of c.args.found.now) (codes "ROSTER") c.in-Some.path.now (sym c.in-Some.ensures), c.in_ok-output.ensures.output, c.flag.ensures),
 )

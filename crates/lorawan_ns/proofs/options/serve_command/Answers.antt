@@ -10,6 +10,8 @@ returns c =
     let heard = c.in_ok-serve-2.ensures _ first in
     let worked = c.in_ok-serve-3.ensures _ heard in
     let limited = c.in_ok-serve-4.ensures _ worked in
-    let recorded = c.in_ok-with_record.ensures _ limited in
-    let told = IsCommand-arg _ _ c.in_ok-with_record.field-0 c.in_ok-serve-5.serve c.status.result recorded (c.status.ensures.rule, c.status.ensures.here) c.in_ok-serve-5.ensures in
-    IfOk-weaker c.arg-3.result _ _ (λ new added. IsCommand-arg _ _ c.in_ok-serve-5.serve new c.closing.result told (c.closing.ensures.rule, c.closing.ensures.here) added) c.arg-3.ensures
+    let recorded = c.in_ok-serve-5.ensures _ limited in
+    let written = c.in_ok-with_output.ensures _ recorded in
+    let happened = IsCommand-arg _ _ c.in_ok-with_output.field-0 c.in_ok-serve-6.serve c.events.result written (c.events.ensures.rule, c.events.ensures.here) c.in_ok-serve-6.ensures in
+    let told = IsCommand-arg _ _ c.in_ok-serve-6.serve c.in_ok-serve-7.serve c.status.result happened (c.status.ensures.rule, c.status.ensures.here) c.in_ok-serve-7.ensures in
+    IfOk-weaker c.arg-4.result _ _ (λ new added. IsCommand-arg _ _ c.in_ok-serve-7.serve new c.closing.result told (c.closing.ensures.rule, c.closing.ensures.here) added) c.arg-4.ensures

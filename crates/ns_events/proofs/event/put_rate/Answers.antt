@@ -1,4 +1,4 @@
-use Rattle.std.proofs.Common.{◌≡◌, ◌==◌, true, append_assoc, eq-eqb, sym}
+use Rattle.std.proofs.Common.{append_assoc, eq-eqb}
 use Rattle.ns_events.specs.Uplink.{rate_text}
 use Rattle.ns_events.proofs.event.put_rate.Goals as goal
 

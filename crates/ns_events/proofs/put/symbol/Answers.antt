@@ -1,4 +1,4 @@
-use Rattle.std.proofs.Common.{◌<◌, refl, lit<, subst, sym, ℕ}
+use Rattle.std.proofs.Common.{refl, lit<}
 use Rattle.ns_events.specs.Base64.{symbols}
 use Rattle.ns_events.proofs.Base64Lemmas.{below_at}
 use Rattle.ns_events.proofs.put.symbol.Goals as goal

@@ -1,4 +1,4 @@
-use Rattle.std.proofs.Common.{◌≡◌, eqb-true, eq-eqb}
+use Rattle.std.proofs.Common.{eqb-true, eq-eqb}
 use Rattle.ns_replay.proofs.HexDigits.{are_small}
 use Rattle.ns_replay.proofs.hex_digits.are_digits.Goals as goal
 

@@ -1,4 +1,3 @@
-use Rattle.std.proofs.Common.{◌≡◌}
 use Rattle.ns_replay.proofs.HexDigits.{sixteen_read, sixteen_small}
 use Rattle.ns_replay.proofs.hex_digits.sixteen_bytes.Goals as goal
 

@@ -16,10 +16,10 @@ pub lines-preserved : goal.lines-preserved
 lines-preserved g c =
     let (written, appended, whole) = c.lines.invariant.whole in
     let (more, parts, also) = c.in_ok-make_room.ensures.ok in
-    let next : flat_map text_of (woven (drop c.lines.is_step-index c.args.are_steps.now) c.lines.rest.now)
-    ≡ text_of (option_map (λ t. t.now) c.if-is_step.one) ++ flat_map text_of (woven (drop (c.lines.is_step-index + 1) c.args.are_steps.now) c.if-is_step.rest.now) = elim c.if-is_step.branch [
-      | then-is_step+in-Some w ↦ rw (w.one-is, w.rest-is) (ap (flat_map text_of) (woven_step c.args.are_steps.now c.lines.is_step-index c.lines.rest.now w.in-Some.others.now w.in-Some.one.now c.lines-test.true w.if-is_step.true w.in-Some.ensures.cases.0))
-      | else-is_step w ↦ rw (w.one-is, w.rest-is) (ap (flat_map text_of) (woven_refused c.args.are_steps.now c.lines.is_step-index c.lines.rest.now c.lines-test.true w.if-is_step.false))
+    let next : flat_map (text_of c.args.uplinks) (woven (drop c.lines.is_step-index c.args.are_steps.now) c.lines.rest.now)
+    ≡ text_of c.args.uplinks (option_map (λ t. t.now) c.if-is_step.one) ++ flat_map (text_of c.args.uplinks) (woven (drop (c.lines.is_step-index + 1) c.args.are_steps.now) c.if-is_step.rest.now) = elim c.if-is_step.branch [
+      | then-is_step+in-Some w ↦ rw (w.one-is, w.rest-is) (ap (flat_map (text_of c.args.uplinks)) (woven_step c.args.are_steps.now c.lines.is_step-index c.lines.rest.now w.in-Some.others.now w.in-Some.one.now c.lines-test.true w.if-is_step.true w.in-Some.ensures.cases.0))
+      | else-is_step w ↦ rw (w.one-is, w.rest-is) (ap (flat_map (text_of c.args.uplinks)) (woven_refused c.args.are_steps.now c.lines.is_step-index c.lines.rest.now c.lines-test.true w.if-is_step.false))
     ] in
     record {
       empty = search rules;

@@ -10,5 +10,5 @@ invariant-lines g l = record {
   empty : l.line.bytes ≡ [];
   sound : g.W.Stream.has_failed l.writer ≡ false;
   whole : (written : List ℕ) × Appends (g.W.Sink.taken l.initial.writer) (g.W.Sink.taken l.writer) written
-      × (written ++ (l.text.bytes ++ flat_map text_of (woven (drop l.is_step-index l.are_steps) l.rest)) ≡ flat_map text_of (woven l.are_steps l.taken));
+      × (written ++ (l.text.bytes ++ flat_map (text_of l.uplinks) (woven (drop l.is_step-index l.are_steps) l.rest)) ≡ flat_map (text_of l.uplinks) (woven l.are_steps l.taken));
 }

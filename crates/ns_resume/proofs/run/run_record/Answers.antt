@@ -3,10 +3,13 @@ use Rattle.std.specs.Arc.{arc_value}
 use Rattle.std.specs.Io.KnownBytes.{Consumes}
 use Rattle.ns_calls.specs.Text.{has_line_feed}
 use Rattle.ns_resume.specs.declared.fault.RecordFault.{RecordFault}
-use Rattle.ns_resume.specs.Resumed.{NamesLine}
+use Rattle.ns_shard.specs.State.{State}
+use Rattle.ns_roster.specs.Valid.{IsRoster}
+use Rattle.ns_resume.specs.Resumed.{AreOpenIn, NamesLine}
 use Rattle.ns_resume.specs.Private.Lines.{feed_of}
 use Rattle.ns_resume.proofs.Steps.{in_place}
 use Rattle.ns_resume.proofs.Runs.{up-to-none, up-to-more, up-to-end}
+use Rattle.ns_resume.proofs.OpenIn.{open-in}
 use Rattle.ns_resume.proofs.Faults.{from_err, names-line}
 use Rattle.ns_resume.proofs.run.run_record.Goals as goal
 
@@ -21,6 +24,13 @@ returns-then-not-branch-clause-resumed g c =
     up-to-end (arc_value c.args.roster) c.lines.number (g.S.Read.remaining c.args.steps.now) (g.S.Read.remaining c.lines.steps) (g.U.Read.remaining c.args.ups.now) (g.U.Read.remaining c.lines.ups)
     c.lines.running c.read_line.new.line.items c.in_ok-end.field-0 c.lines.invariant c.in_ok-read_line.ensures.feed (c.in_ok-read_line.ensures.ended c.if-not-branch.true) c.in_ok-finish.ensures.ended
     c.in_ok-end.ensures.shards (c.in_ok-end.ensures.torn ∙ omega arith) (c.in_ok-end.ensures.missing ∙ c.finish.ensures.missing) (c.in_ok-end.ensures.up_torn ∙ c.finish.ensures.torn)
+
+pub returns-then-not-branch-clause-open : goal.returns-then-not-branch-clause-open
+returns-then-not-branch-clause-open g c =
+    let valid : IsRoster (arc_value c.args.roster) = subst IsRoster c.deref.ensures c.net_id-net_id.ensures.valid in
+    subst (λ (ss : List State). AreOpenIn ss c.in_ok-end.field-0.windows.items c.in_ok-end.field-0.tickets.items) (sym c.in_ok-end.ensures.shards)
+    (open-in (arc_value c.args.roster) c.lines.invariant.steps c.lines.running.shards.items valid c.lines.invariant.has_run.shards
+    c.in_ok-end.field-0.windows.items c.in_ok-end.field-0.tickets.items c.in_ok-end.ensures.windows c.in_ok-end.ensures.tickets)
 
 pub returns-in_err-run_line-clause-fault : goal.returns-in_err-run_line-clause-fault
 returns-in_err-run_line-clause-fault g c =

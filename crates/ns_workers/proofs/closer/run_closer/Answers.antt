@@ -1,19 +1,16 @@
 use Rattle.std.proofs.Common.{rules, [], ◌∷◌, ◌++◌, Some, subst, sym}
 use Rattle.std.specs.Prelude.{All}
-use Rattle.std.specs.Io.KnownBytes.{Appends}
-use Rattle.std.proofs.KnownBytes.{Appends-nil}
 use Rattle.std.proofs.lemmas.List.Elements.{All-nil}
-use Rattle.ns_types.specs.Streams.{AppendsFront}
 use Rattle.ns_server.specs.declared.kept.Receipt.{Receipt}
 use Rattle.ns_workers.specs.declared.outside.WorkerFault.TheVariants.{SinkFailed}
 use Rattle.ns_workers.specs.Closing.{AreAnswered, Closes}
 use Rattle.ns_workers.specs.Counts.{RisesByReceipts}
 use Rattle.ns_workers.specs.Grown.{Grows}
-use Rattle.ns_workers.specs.Lines.{uplink_line, up_lines, downlinks_of}
+use Rattle.ns_workers.specs.Lines.{AppendsLine, AppendsLines, AppendsLinesFront, downlinks_of}
 use Rattle.ns_workers.specs.Notice.{call_replied}
 use Rattle.ns_workers.proofs.Closings.{Closed, closed_none, closed_more, closes_refused, closes_unsent}
 use Rattle.ns_workers.proofs.Counting.{rises_none, rises_more}
-use Rattle.ns_workers.proofs.Doings.{grows_none, answered_none, answered_more, told_more, lines_more, lines_front, downlinks_more}
+use Rattle.ns_workers.proofs.Doings.{grows_none, answered_none, answered_more, told_more, lines_none, lines_more, lines_front, downlinks_more}
 use Rattle.ns_workers.proofs.closer.run_closer.Goals as goal
 
 pub loop-jobs-init : goal.loop-jobs-init
@@ -29,7 +26,7 @@ loop-jobs-init g c =
       search rules,
       subst (λ l. Closed come given given l) none (closed_none come given),
       subst (λ l. RisesByReceipts c.args.pass.now c.args.pass.now l) none (rises_none c.args.pass.now),
-      subst (λ l. Appends text text (up_lines l)) none (Appends-nil text),
+      subst (λ l. AppendsLines c.args.shared.now.output text text l) none (lines_none c.args.shared.now.output text),
       subst (λ l. AreAnswered g.B.Naming.roster l) none (answered_none g.B.Naming.roster),
       subst (λ l. All (λ r. h (call_replied r)) l) none (All-nil (λ (r : Receipt). h (call_replied r))),
       subst (λ l. Grows down down (downlinks_of l)) none (grows_none down),
@@ -69,8 +66,8 @@ returns-then-is_err-clause-counted g c =
 
 pub returns-then-is_err-clause-front : goal.returns-then-is_err-clause-front
 returns-then-is_err-clause-front g c =
-    subst (λ l. AppendsFront (g.W.Sink.taken c.args.sink.now) (g.W.Sink.taken c.hand_out-handed.new.sink) (up_lines l)) (sym c.push_reserved.ensures.items)
-    (lines_front (g.W.Sink.taken c.args.sink.now) (g.W.Sink.taken c.loop-jobs.sink) (g.W.Sink.taken c.hand_out-handed.new.sink) c.loop-jobs.receipts.items c.in-Ok-close_due.receipt
+    subst (λ l. AppendsLinesFront c.args.shared.now.output (g.W.Sink.taken c.args.sink.now) (g.W.Sink.taken c.hand_out-handed.new.sink) l) (sym c.push_reserved.ensures.items)
+    (lines_front c.args.shared.now.output (g.W.Sink.taken c.args.sink.now) (g.W.Sink.taken c.loop-jobs.sink) (g.W.Sink.taken c.hand_out-handed.new.sink) c.loop-jobs.receipts.items c.in-Ok-close_due.receipt
     c.loop-jobs.invariant.5 c.hand_out-handed.ensures.front)
 
 pub loop-jobs-preserved : goal.loop-jobs-preserved
@@ -86,14 +83,14 @@ loop-jobs-preserved g c =
     let text' = g.W.Sink.taken c.hand_out-handed.new.sink in
     let down = g.D.Downlinks.taken c.args.down.now in
     let down' = g.D.Downlinks.taken c.hand_out-handed.new.down in
-    let line : Appends (g.W.Sink.taken c.loop-jobs.sink) (g.W.Sink.taken c.hand_out-handed.new.sink) (uplink_line c.in-Ok-close_due.receipt.uplink) = search rules in (
+    let line : AppendsLine c.args.shared.now.output (g.W.Sink.taken c.loop-jobs.sink) (g.W.Sink.taken c.hand_out-handed.new.sink) c.in-Ok-close_due.receipt.uplink = search rules in (
       search rules,
       search rules,
       search rules,
       subst (λ l. Closed come old now l) more
           (closed_more come old (g.J.JobSource.given c.loop-jobs.jobs) now rs r c.in-Job.job c.loop-jobs.invariant.3 c.in-Job.ensures c.in-Ok-close_due.ensures.waited c.in-Ok-close_due.ensures.call),
       subst (λ l. RisesByReceipts c.args.pass.now c.close_due.new.pass l) more (rises_more _ _ _ rs r c.loop-jobs.invariant.4 c.in-Ok-close_due.ensures.counted),
-      subst (λ l. Appends text text' (up_lines l)) more (lines_more text (g.W.Sink.taken c.loop-jobs.sink) text' rs r c.loop-jobs.invariant.5 line),
+      subst (λ l. AppendsLines c.args.shared.now.output text text' l) more (lines_more c.args.shared.now.output text (g.W.Sink.taken c.loop-jobs.sink) text' rs r c.loop-jobs.invariant.5 line),
       subst (λ l. AreAnswered g.B.Naming.roster l) more (answered_more g.B.Naming.roster rs r c.loop-jobs.invariant.6 c.in-Ok-close_due.ensures.answered),
       subst (λ l. All (λ q. h (call_replied q)) l) more (told_more h rs r c.loop-jobs.invariant.7 c.in-Ok-close_due.ensures.told),
       subst (λ l. Grows down down' (downlinks_of l)) more (downlinks_more down (g.D.Downlinks.taken c.loop-jobs.down) down' rs r c.loop-jobs.invariant.8 c.hand_out-handed.ensures.down),

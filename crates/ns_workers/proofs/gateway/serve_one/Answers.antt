@@ -10,7 +10,7 @@ pub returns-in-Err-clause-serves : goal.returns-in-Err-clause-serves
 returns-in-Err-clause-serves g c =
     let s : Served = c.args.served.now in
     let s' : Served = record { read = s.read + 1; refused = s.refused + 1; dropped = s.dropped; fault = s.fault } in
-    serves_refused g.B.Naming.roster (g.M.Monitor.has_heard c.args.shared.now.monitor.now) (g.T.Timer.has_told c.args.timer.now) c.args.window_ms s s' _ c.args.bytes.now c.in-Err.why
+    serves_refused g.B.Naming.roster c.args.shared.now.output (g.M.Monitor.has_heard c.args.shared.now.monitor.now) (g.T.Timer.has_told c.args.timer.now) c.args.window_ms s s' _ c.args.bytes.now c.in-Err.why
     (omega arith, omega arith, omega arith) c.requires.fault (sym c.in-Err.ensures) c.refused.ensures
 
 pub returns-in_default-clause-serves : goal.returns-in_default-clause-serves
@@ -23,9 +23,9 @@ returns-in_default-clause-serves g c =
     let jobs = g.P.Jobs.taken c.args.jobs.now in
     let down = g.D.Downlinks.taken c.args.down.now in
     let text = g.W.Sink.taken c.args.sink.now in
-    subst (λ p. Serves net h t c.args.window_ms s s' (effects c.args.pass.now jobs down text) (effects p jobs down text) (c.args.bytes.now ∷ []))
+    subst (λ p. Serves net c.args.shared.now.output h t c.args.window_ms s s' (effects c.args.pass.now jobs down text) (effects p jobs down text) (c.args.bytes.now ∷ []))
     (sym c.in_default.ensures.err)
-    (serves_dropped net h t c.args.window_ms s s' (effects c.args.pass.now jobs down text) c.args.bytes.now c.in-Ok.call
+    (serves_dropped net c.args.shared.now.output h t c.args.window_ms s s' (effects c.args.pass.now jobs down text) c.args.bytes.now c.in-Ok.call
     (omega arith, omega arith, omega arith) c.requires.fault (sym c.in-Ok.ensures) c.dropped.ensures)
 
 pub returns-in-Some-clause-serves : goal.returns-in-Some-clause-serves
@@ -38,10 +38,10 @@ returns-in-Some-clause-serves g c =
     let down = g.D.Downlinks.taken c.args.down.now in
     let text = g.W.Sink.taken c.args.sink.now in
     let r = c.in-Ok-make_call.receipt in
-    serves_followed net h (g.T.Timer.has_told c.args.timer.now) c.args.window_ms s s' (effects c.args.pass.now jobs down text) (effects c.make_call.new.pass jobs down text)
+    serves_followed net c.args.shared.now.output h (g.T.Timer.has_told c.args.timer.now) c.args.window_ms s s' (effects c.args.pass.now jobs down text) (effects c.make_call.new.pass jobs down text)
     _ c.args.bytes.now r c.now-now.result c.in-Some.job (omega arith, omega arith, omega arith)
     (sym c.in-Ok.ensures ∙ ap Ok (sym c.in-Ok-make_call.ensures.call)) c.now-now.ensures (sym c.in-Some.ensures)
-    (does_call net h c.args.pass.now c.make_call.new.pass jobs down text r c.in-Ok-make_call.ensures.answered c.in-Ok-make_call.ensures.counted c.in-Ok-make_call.ensures.told)
+    (does_call net c.args.shared.now.output h c.args.pass.now c.make_call.new.pass jobs down text r c.in-Ok-make_call.ensures.answered c.in-Ok-make_call.ensures.counted c.in-Ok-make_call.ensures.told)
     c.put_job-served.ensures.follows
 
 pub returns-in_default-job_of-clause-serves : goal.returns-in_default-job_of-clause-serves
@@ -54,7 +54,7 @@ returns-in_default-job_of-clause-serves g c =
     let down = g.D.Downlinks.taken c.args.down.now in
     let text = g.W.Sink.taken c.args.sink.now in
     let r = c.in-Ok-make_call.receipt in
-    serves_called net h (g.T.Timer.has_told c.args.timer.now) c.args.window_ms s s' (effects c.args.pass.now jobs down text) (effects c.make_call.new.pass jobs down text)
+    serves_called net c.args.shared.now.output h (g.T.Timer.has_told c.args.timer.now) c.args.window_ms s s' (effects c.args.pass.now jobs down text) (effects c.make_call.new.pass jobs down text)
     c.args.bytes.now r c.now-now.result (omega arith, omega arith, omega arith) c.requires.fault
     (sym c.in-Ok.ensures ∙ ap Ok (sym c.in-Ok-make_call.ensures.call)) c.now-now.ensures (sym c.in_default-job_of.ensures)
-    (does_call net h c.args.pass.now c.make_call.new.pass jobs down text r c.in-Ok-make_call.ensures.answered c.in-Ok-make_call.ensures.counted c.in-Ok-make_call.ensures.told)
+    (does_call net c.args.shared.now.output h c.args.pass.now c.make_call.new.pass jobs down text r c.in-Ok-make_call.ensures.answered c.in-Ok-make_call.ensures.counted c.in-Ok-make_call.ensures.told)

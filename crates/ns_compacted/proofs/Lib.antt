@@ -1,0 +1,2 @@
+pub mod Trimmed
+pub mod Lives

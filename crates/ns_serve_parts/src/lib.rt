@@ -1,0 +1,48 @@
+//! What a server over sockets is made of: each part by itself, without what the threads share.
+//!
+//! Tables of gateways' addresses, of devices that ask and of frames whose windows were closed; the tickets that wait; counters; the
+//! output and its lines, and those of events; moments of the wall clock; connections to the join server with one limit each; when a
+//! shard is trimmed; the closing roster; what is to be served and why serving ended. Each has a contract for what it gives, over its
+//! definition in `specs/`. What stands under a lock, and what the system does with a socket, no contract says.
+//! The crate stands on `ns_server` and `ns_workers`, on `ns_calls`, `ns_events`, `ns_joinclient`, `ns_joinwire`, `ns_link`,
+//! `ns_responses`, `ns_roster`, `ns_shard`, `ns_types` and `ns_views`, and on `arrayvec`, `itoa`, `jiff_core`, `log`, `lru` and
+//! `thiserror` of the kit.
+#![tactic(auto)]
+
+mod askers;
+mod asks;
+mod closing;
+mod counts;
+mod event_lines;
+mod held;
+mod join_server;
+mod late;
+mod made;
+mod options;
+mod output;
+mod peers;
+mod seed;
+mod seldom;
+mod trims;
+mod waiting;
+mod wall;
+mod words;
+
+pub use askers::Askers;
+pub use asks::Asks;
+pub use closing::closing_text;
+pub use counts::{Counts, more};
+pub use event_lines::EventLines;
+pub use held::Held;
+pub use join_server::{ToJoinServer, Within};
+pub use late::{FrameName, Lates};
+pub use made::Made;
+pub use options::{ServeFault, ServeOptions};
+pub use output::{Lines, Output, put_under_lock, write_whole};
+pub use peers::Peers;
+pub use seed::keys;
+pub use seldom::Seldom;
+pub use trims::{PLACES, Trimmed, Trims, trim_due, trims_of};
+pub use waiting::WaitingWriter;
+pub use wall::utc_of;
+pub use words::words_of;

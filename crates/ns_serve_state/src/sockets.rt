@@ -1,0 +1,276 @@
+//! Datagrams from gateways, and downlinks to them, by the socket of this server's own datagrams and by that of packet forwarders.
+ghost use Rattle.std.specs.Prelude.{◌≡◌, ◌≢◌, ◌<◌, ◌≤◌, ◌⊎◌, ◌↔◌, ℕ, None, IfOk};
+ghost use Rattle.ns_forwarder_socket.specs.Event.{FitsBuffer as FitsEvent};
+ghost use Rattle.ns_workers.specs.Datagrams.{FitsBuffer};
+
+use crate::clock::now_ms;
+use crate::events::{log_counts, log_message};
+use crate::record::write_record;
+use crate::state::State;
+use log::{Log, error, warn};
+use ns_calls::Downlink;
+use ns_forwarder_socket::{Event, Pending};
+use ns_link::{read_datagram, write_down};
+use ns_serve_parts::{FrameName, more};
+use ns_types::GatewayId;
+use ns_views::{PhyView, view};
+use ns_workers::{Datagrams, Downlinks, Received};
+use std::io::{Error, ErrorKind};
+use std::net::{SocketAddr, UdpSocket};
+use std::sync::Wait;
+use std::sync::atomic::Ordering;
+use std::time::{Clock, Duration};
+use std::{io, thread};
+
+// The counts are looked at after so many datagrams, and whenever none comes.
+const BETWEEN_LOOKS: u64 = 64;
+
+// How long a receive that failed is waited out.
+const FAILURE_MS: u64 = 100;
+
+// How many failures in a row a worker waits out. With the next one it takes the socket for lost.
+const MOST_FAILURES: u32 = 100;
+
+/// The datagrams of one of the sockets.
+#[derive(Drop)]
+pub struct FromSocket<'a> {
+    state: &'a State,
+    // The room for a message, where forwarders are heard.
+    pending: Option<Pending>,
+    // How many receives failed in a row.
+    failures: u32,
+}
+
+// What follows a receive that gave nothing.
+#[derive(Clone, Copy, Debug, PartialEq, Eq)]
+pub(crate) enum Without {
+    /// None came for a while.
+    Nothing,
+    /// It failed, and is tried again a little later.
+    Later,
+    /// It has failed too often.
+    Lost,
+}
+
+/// What follows a receive with an error of this kind, after so many failures in a row.
+pub(crate) fn after_error(kind: ErrorKind, failures: u32) -> Without
+    ensures nothing { (result ≡ Without.Nothing) ↔ ((kind ≡ ErrorKind.WouldBlock) ⊎ ((kind ≡ ErrorKind.TimedOut) ⊎ (kind ≡ ErrorKind.Interrupted))) }
+    ensures later { result ≡ Without.Later → failures < 100 }
+    ensures lost { result ≡ Without.Lost → 100 ≤ failures }
+{
+    match kind {
+        ErrorKind::WouldBlock | ErrorKind::TimedOut | ErrorKind::Interrupted => Without::Nothing,
+        _ if failures < MOST_FAILURES => Without::Later,
+        _ => Without::Lost,
+    }
+}
+
+impl<'a> FromSocket<'a> {
+    /// The datagrams of the forwarders' socket where there is room for their messages, and else of the other.
+    pub fn new(state: &'a State, pending: Option<Pending>) -> FromSocket<'a> {
+        FromSocket {
+            state,
+            pending,
+            failures: 0,
+        }
+    }
+
+    // Receives what comes next, with where it came from if it is one of this server's own datagrams.
+    fn receive<R: Wait + Clock>(
+        &mut self,
+        rt: &R,
+        buf: &mut [u8; 512],
+    ) -> io::Result<(Event, Option<SocketAddr>)>
+        ensures { IfOk result (λ heard. FitsEvent heard.0) }
+    {
+        let state = self.state;
+        if let (Some(pending), Some((forwarders, _))) = (&mut self.pending, &state.forwarders) {
+            return Ok((forwarders.next(rt, state.alloc, pending, buf)?, None));
+        }
+        let Some((socket, _)) = &state.own else {
+            return Err(Error::from(ErrorKind::NotConnected));
+        };
+        let (n, peer) = socket.recv_from(buf)?;
+        Ok((Event::Datagram(n), Some(peer)))
+    }
+
+    // Whom this hears.
+    fn senders(&self) -> &'static str {
+        match self.pending {
+            Some(_) => "forwarders",
+            None => "gateways",
+        }
+    }
+
+    // Says that none came. A failure is counted, logged and waited out; where there were too many in a row, the source has failed.
+    fn without<R: Wait + Clock + Log>(&mut self, rt: &R, error: &Error) -> Received
+        ensures none { (n : ℕ) → result ≢ Received.Got n }
+        ensures fits { FitsBuffer result }
+    {
+        let state = self.state;
+        match after_error(error.kind(), self.failures) {
+            Without::Nothing => {
+                self.failures = 0;
+                let _ = write_record(rt, state);
+                look(rt, state);
+                Received::Idle
+            }
+            Without::Later => {
+                self.failures += 1;
+                more(&state.counts.unreceived);
+                if let Some(count) = state.seldoms.receive.happened(now_ms(rt, state)) {
+                    warn!(rt; "receiving from {} failed: {error}, {count} since the line before", self.senders());
+                }
+                thread::sleep(rt, Duration::from_millis(FAILURE_MS));
+                Received::Idle
+            }
+            Without::Lost => {
+                error!(rt; "receiving from {} failed more than {MOST_FAILURES} times in a row: {error}", self.senders());
+                Received::Failed
+            }
+        }
+    }
+}
+
+/// What `serve` takes from a datagram before its call is made: who heard it, and which frame.
+#[derive(Clone, Copy, Debug, PartialEq, Eq)]
+pub(crate) struct Seen {
+    pub gateway: u64,
+    pub frame: Option<FrameName>,
+}
+
+/// What is seen of a datagram with the right layout.
+pub(crate) fn read_seen(datagram: &[u8]) -> Option<Seen> {
+    let Ok(read) = read_datagram(datagram) else {
+        return None;
+    };
+    let frame = match view(read.frame()) {
+        Ok(PhyView::Frame(frame)) => Some(FrameName::of(&frame)),
+        _ => None,
+    };
+    Some(Seen {
+        gateway: read.heard().gateway.0,
+        frame,
+    })
+}
+
+// Keeps where a gateway was heard that speaks this server's own datagrams, and says whether the datagram is a late copy.
+fn take_in<R: Wait + Clock>(
+    rt: &R,
+    state: &State,
+    datagram: &[u8],
+    peer: Option<SocketAddr>,
+) -> bool {
+    let Some(seen) = read_seen(datagram) else {
+        return false;
+    };
+    if let Some(peer) = peer {
+        let mut peers = state.peers.lock(rt);
+        let _ = peers.hear(seen.gateway, peer);
+    }
+    match seen.frame {
+        Some(frame) => state.lates.is_late(rt, frame, now_ms(rt, state)),
+        None => false,
+    }
+}
+
+// Counts a datagram of so many bytes, and gives it where it is no late copy and none too many.
+fn counted<R: Wait + Clock + Log>(
+    rt: &R,
+    state: &State,
+    buf: &[u8; 512],
+    n: usize,
+    peer: Option<SocketAddr>,
+) -> Received
+    requires { n ≤ 512 }
+    ensures { FitsBuffer result }
+{
+    let before = state.read.fetch_add(1, Ordering::SeqCst);
+    if before >= state.most {
+        return Received::End;
+    }
+    if before % BETWEEN_LOOKS == 0 {
+        look(rt, state);
+    }
+    if take_in(rt, state, &buf[..n], peer) {
+        more(&state.counts.late);
+        return Received::Idle;
+    }
+    Received::Got(n)
+}
+
+impl<'a, R: Wait + Clock + Log> Datagrams<R> for FromSocket<'a> {
+    ghost given = { λ _. None };
+
+    fn next(&mut self, rt: &R, buf: &mut [u8; 512]) -> Received {
+        let state = self.state;
+        if state.is_over() {
+            return Received::End;
+        }
+        let (event, peer) = match self.receive(rt, buf) {
+            Ok(heard) => heard,
+            Err(error) => return self.without(rt, &error),
+        };
+        self.failures = 0;
+        if let Event::Datagram(n) = event {
+            return counted(rt, state, buf, n, peer);
+        }
+        log_message(rt, state, event);
+        look(rt, state);
+        Received::Idle
+    }
+}
+
+// Logs the counts where a minute has passed.
+fn look<R: Clock + Log>(rt: &R, state: &State) {
+    if state.counts.is_due(now_ms(rt, state)) {
+        log_counts(rt, state);
+    }
+}
+
+/// Downlinks, each to where its gateway's forwarder asked for them last, and else to where the gateway was heard last.
+#[derive(Drop)]
+pub struct ToSocket<'a> {
+    pub state: &'a State,
+}
+
+impl<'a, R: Wait> Downlinks<R> for ToSocket<'a> {
+    fn send(&mut self, rt: &R, downlink: &Downlink) -> bool {
+        send_down(rt, self.state, downlink)
+    }
+}
+
+/// Sends a downlink once what it rests on is written, and says whether it was sent.
+pub(crate) fn send_down<R: Wait>(rt: &R, state: &State, downlink: &Downlink) -> bool {
+    if write_record(rt, state).is_err() {
+        return false;
+    }
+    let (gateway, frame) = (downlink.target.gateway, downlink.frame.as_slice());
+    if let Some((forwarders, _)) = &state.forwarders {
+        if let Some(route) = forwarders.route(rt, gateway) {
+            return forwarders.send(state.alloc, route, &downlink.target, frame);
+        }
+    }
+    match (&state.own, peer_of(rt, state, gateway)) {
+        (Some((socket, _)), Some(peer)) => send_own(socket, peer, downlink),
+        _ => false,
+    }
+}
+
+// Sends a downlink as a datagram of this server's own, and says whether it was sent.
+fn send_own(socket: &UdpSocket, peer: SocketAddr, downlink: &Downlink) -> bool {
+    let mut buf = [0u8; 61];
+    let Ok(datagram) = write_down(&downlink.target, downlink.frame.as_slice(), &mut buf) else {
+        return false;
+    };
+    match socket.send_to(datagram, peer) {
+        Ok(n) => n == datagram.len(),
+        Err(_) => false,
+    }
+}
+
+// Where a gateway was heard last.
+fn peer_of<R: Wait>(rt: &R, state: &State, gateway: GatewayId) -> Option<SocketAddr> {
+    let peers = state.peers.lock(rt);
+    peers.addr(gateway.0)
+}

@@ -1,0 +1,173 @@
+//! What all threads of a server share.
+
+ghost use Rattle.std.specs.Prelude.{◌≡◌, is_some, IfOk};
+ghost use Rattle.ns_serve_state.specs.Hearing.{hears_forwarders};
+
+use crate::events::Seldoms;
+use crate::queue::AskQueue;
+use crate::status::Status;
+use ns_events::Output;
+use ns_forwarder_socket::{Forwarders, Pending};
+use ns_record_files::{RecordFiles, Recorder};
+use ns_roster::Roster;
+use ns_serve_parts::{
+    Askers, Counts, EventLines, Lates, Made, Peers, ServeFault, ServeOptions, keys,
+};
+use ns_shard::Shard;
+use std::alloc::{AllocError, Global};
+use std::net::{SocketAddr, UdpSocket};
+use std::sync::atomic::{AtomicBool, AtomicU64, Ordering};
+use std::sync::{Arc, Mutex};
+use std::time::{Clock, Instant};
+
+// For how long a copy is late, in milliseconds: RX1's delay and 1 s, since a device repeats a frame at the earliest after RX2, which
+// opens 1 s after RX1 (LoRaWAN L2 1.0.4, 3.3.2). A delay of 0 means 1 s.
+fn late_ms(roster: &Roster) -> u64 {
+    (u64::from(roster.rx_delay()).max(1) + 1) * 1000
+}
+
+// Room for the lines of joins and acknowledgements, where they are asked for.
+fn notices(alloc: Global, events: bool) -> Option<Mutex<EventLines>>
+    ensures { is_some result ≡ events }
+{
+    if events {
+        Some(Mutex::new(EventLines::new(alloc)))
+    } else {
+        None
+    }
+}
+
+/// What all threads share.
+#[derive(Drop)]
+pub struct State {
+    pub alloc: Global,
+    /// Where gateways are heard that speak this server's own datagrams, if they are.
+    pub own: Option<(UdpSocket, SocketAddr)>,
+    /// Where packet forwarders are heard, if they are.
+    pub forwarders: Option<(Forwarders, SocketAddr)>,
+    /// When the server began.
+    pub start: Instant,
+    /// How long a window stays open, in milliseconds.
+    pub window_ms: u32,
+    /// How many datagrams came.
+    pub read: AtomicU64,
+    /// The server stops after so many.
+    pub most: u64,
+    /// Whether a worker has met a fault.
+    pub broken: AtomicBool,
+    /// Whether the input has ended at whose end the server stops.
+    pub ended: Arc<AtomicBool>,
+    /// How many gateway workers are at work.
+    pub gateways: AtomicU64,
+    /// Where gateways were last heard.
+    pub peers: Mutex<Peers>,
+    /// Frames whose windows were closed a while ago.
+    pub lates: Lates,
+    /// The tickets that wait for a join worker.
+    pub(crate) asks: AskQueue,
+    /// By which gateways devices asked to join.
+    pub askers: Mutex<Askers>,
+    /// How many entries each shard has.
+    pub made: Made,
+    /// How often each thing happened.
+    pub counts: Counts,
+    /// What is logged once a minute at most.
+    pub(crate) seldoms: Seldoms,
+    /// How uplinks are written.
+    pub uplinks: Output,
+    /// The lines of joins and acknowledgements that wait to be written, where they are.
+    pub notices: Option<Mutex<EventLines>>,
+    /// What its calls are put down in, if they are.
+    pub record: Option<Recorder<RecordFiles>>,
+    /// What is told over HTTP, where it is.
+    pub status: Option<Status>,
+}
+
+impl State {
+    /// The state of a server that begins now.
+    pub fn new<R: Clock>(
+        rt: &R,
+        alloc: Global,
+        own: Option<(UdpSocket, SocketAddr)>,
+        forwarders: Option<(UdpSocket, SocketAddr)>,
+        roster: &Roster,
+        options: &ServeOptions<'_>,
+        shards: &[Shard],
+        record: Option<Recorder<RecordFiles>>,
+        status: Option<Status>,
+    ) -> Result<State, ServeFault>
+        ensures window { IfOk result (λ s. s.window_ms ≡ options.now.window_ms) }
+        ensures uplinks { IfOk result (λ s. s.uplinks ≡ options.now.output) }
+    {
+        let (Ok(start), Ok(keys)) = (Instant::now(rt), keys(rt)) else {
+            return Err(ServeFault::Io);
+        };
+        let forwarders = match forwarders {
+            Some((socket, addr)) => {
+                let heard = Forwarders::new(alloc, keys, socket, start, options.power)?;
+                Some((heard, addr))
+            }
+            None => None,
+        };
+        let Ok(ended) = Arc::new(alloc, AtomicBool::new(false)) else {
+            return Err(ServeFault::NoMemory);
+        };
+        Ok(State {
+            alloc,
+            own,
+            forwarders,
+            start,
+            window_ms: options.window_ms,
+            read: AtomicU64::new(0),
+            most: options.stop_after.map_or(u64::MAX, u64::from),
+            broken: AtomicBool::new(false),
+            ended,
+            gateways: AtomicU64::new(0),
+            peers: Mutex::new(Peers::new(alloc, keys)?),
+            lates: Lates::new(alloc, keys, late_ms(roster))?,
+            asks: AskQueue::new(alloc),
+            askers: Mutex::new(Askers::new(alloc, keys)?),
+            made: Made::of(shards),
+            counts: Counts::new(),
+            seldoms: Seldoms::new(),
+            uplinks: options.output,
+            notices: notices(alloc, options.events),
+            record,
+            status,
+        })
+    }
+
+    /// The room for a message of the gateway worker at this place, if it hears forwarders: each does where no other datagrams are heard, and
+    /// else every second one.
+    pub fn pending_at(&self, place: usize) -> Result<Option<Pending>, AllocError>
+        ensures { IfOk result (λ p. is_some p ≡ hears_forwarders (is_some self.now.own) (is_some self.now.forwarders) place) }
+    {
+        if self.forwarders.is_some() && (self.own.is_none() || place % 2 == 1) {
+            Ok(Some(Pending::new(self.alloc)?))
+        } else {
+            Ok(None)
+        }
+    }
+
+    /// Whether no further datagram or job is to be taken.
+    pub fn is_over(&self) -> bool {
+        self.is_broken()
+            || self.ended.load(Ordering::SeqCst)
+            || self.read.load(Ordering::SeqCst) >= self.most
+    }
+
+    /// Whether a worker has met a fault.
+    pub fn is_broken(&self) -> bool {
+        self.broken.load(Ordering::SeqCst)
+    }
+
+    /// A worker has met a fault: all others are to stop.
+    pub fn break_off(&self) {
+        self.broken.store(true, Ordering::SeqCst);
+    }
+
+    /// Whether no gateway worker is left, so that no copy can come any more.
+    pub fn is_deaf(&self) -> bool {
+        self.gateways.load(Ordering::SeqCst) == 0
+    }
+}

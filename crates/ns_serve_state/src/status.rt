@@ -1,0 +1,131 @@
+//! What is known of devices and gateways, where it is told.
+
+use log::{Log, error, info};
+use ns_roster::Roster;
+use ns_serve_parts::{ServeFault, keys};
+use ns_server::Receipt;
+use ns_status::{Device, Devices, Gateway, Gateways, gateway_of, news_of};
+use ns_types::{DevEui, GatewayId};
+use std::alloc::{AllocError, Global};
+use std::io;
+use std::net::{Net, SocketAddr, TcpListener, TcpStream};
+use std::sync::{Mutex, Wait};
+use std::time::Clock;
+
+/// How many places of devices are looked at under the lock at once.
+pub(crate) const BATCH: usize = 64;
+
+/// What is known of devices and gateways, and where it is told.
+#[derive(Drop)]
+pub struct Status {
+    listener: TcpListener,
+    // When the server began, in milliseconds since 1970.
+    start_ms: u64,
+    devices: Mutex<Devices>,
+    gateways: Mutex<Gateways>,
+}
+
+// A listener at an address, whose accepts do not wait, and its address.
+fn bind<R: Net<Listener = TcpListener, Stream = TcpStream>>(
+    rt: &R,
+    addr: SocketAddr,
+) -> io::Result<(TcpListener, SocketAddr)> {
+    let listener = TcpListener::bind(rt, addr)?;
+    listener.set_nonblocking(true)?;
+    let bound = listener.local_addr()?;
+    Ok((listener, bound))
+}
+
+impl Status {
+    /// Where a status is told, if an address for it is given.
+    pub fn open<R: Net<Listener = TcpListener, Stream = TcpStream> + Clock + Log>(
+        rt: &R,
+        alloc: Global,
+        roster: &Roster,
+        addr: Option<SocketAddr>,
+    ) -> Result<Option<Status>, ServeFault> {
+        let Some(addr) = addr else {
+            return Ok(None);
+        };
+        let (listener, bound) = match bind(rt, addr) {
+            Ok(bound) => bound,
+            Err(error) => {
+                error!(rt; "cannot tell the status at {addr}: {error}");
+                return Err(ServeFault::Io);
+            }
+        };
+        let (Ok(since_1970), Ok(keys)) = (rt.since_1970(), keys(rt)) else {
+            return Err(ServeFault::Io);
+        };
+        info!(rt; "status at http://{bound}/");
+        Ok(Some(Status {
+            listener,
+            start_ms: u64::try_from(since_1970.as_millis()).unwrap_or(u64::MAX),
+            devices: Mutex::new(Devices::new(alloc, roster)?),
+            gateways: Mutex::new(Gateways::new(alloc, keys)?),
+        }))
+    }
+
+    /// Notes what a receipt tells of a device and of a gateway.
+    pub fn note<R: Wait>(&self, rt: &R, receipt: &Receipt, now_ms: u64) {
+        let entry = &receipt.entry;
+        if let Some(news) = news_of(&entry.call, &entry.reply) {
+            let mut devices = self.devices.lock(rt);
+            devices.note(&news, now_ms);
+        }
+        if let Some(gateway) = gateway_of(&entry.call) {
+            let mut gateways = self.gateways.lock(rt);
+            let _ = gateways.note(gateway, now_ms);
+        }
+    }
+
+    /// Takes the next connection of who asks, if there is one.
+    pub fn accept(&self) -> io::Result<TcpStream> {
+        let (stream, _) = self.listener.accept()?;
+        Ok(stream)
+    }
+
+    /// When the server began, in milliseconds since 1970.
+    pub fn start_ms(&self) -> u64 {
+        self.start_ms
+    }
+
+    /// How many devices there are, and how many of them have joined.
+    pub fn count_devices<R: Wait>(&self, rt: &R) -> (usize, usize) {
+        let devices = self.devices.lock(rt);
+        (devices.len(), devices.joined())
+    }
+
+    /// How many gateways are known.
+    pub fn count_gateways<R: Wait>(&self, rt: &R) -> usize {
+        let gateways = self.gateways.lock(rt);
+        gateways.len()
+    }
+
+    /// The gateways that are known.
+    pub fn all_gateways<R: Wait>(
+        &self,
+        rt: &R,
+        alloc: Global,
+    ) -> Result<Vec<(GatewayId, Gateway)>, AllocError> {
+        let gateways = self.gateways.lock(rt);
+        gateways.all(alloc)
+    }
+
+    /// The devices that have joined, among those at so many places from this one on. They replace what the list had.
+    pub fn batch<R: Wait>(
+        &self,
+        rt: &R,
+        place: usize,
+        batch: &mut Vec<(DevEui, Device)>,
+    ) -> Result<(), AllocError> {
+        batch.clear();
+        let devices = self.devices.lock(rt);
+        for i in place..place.saturating_add(BATCH) {
+            if let Some(row) = devices.joined_at(i) {
+                batch.push(row)?;
+            }
+        }
+        Ok(())
+    }
+}

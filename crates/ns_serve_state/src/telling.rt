@@ -1,0 +1,343 @@
+//! Who asks over HTTP for the status, and what is told.
+
+ghost use Rattle.std.specs.Prelude.{None};
+ghost use Rattle.std.specs.Io.{ReadsAtMost, WritesAtMost};
+
+use crate::clock::now_ms;
+use crate::state::State;
+use crate::status::{BATCH, Status};
+use ns_serve_parts::write_whole;
+use ns_status::{
+    Content, Lists, Request, RequestFault, Route, Status as Answer, Totals, head_of, page_text,
+    put_devices, put_end, put_front, put_gateways, put_metrics, read_request,
+};
+use ns_types::{Failed, Sink, Source, Stream};
+use std::alloc::{AllocError, Global};
+use std::io::{ErrorKind, Read, Write};
+use std::net::TcpStream;
+use std::sync::Wait;
+use std::sync::atomic::Ordering;
+use std::time::{Clock, Duration};
+use std::{io, thread};
+
+// How long a request may take to come, and then its answer to go, in milliseconds.
+const REQUEST_MS: u64 = 2000;
+
+const ANSWER_MS: u64 = 8000;
+
+// How long it is waited before it is looked whether the server stops.
+const NAP_MS: u64 = 50;
+
+/// Answers who asks for the status, one after the other, until no gateway worker is left or a worker has met a fault.
+pub fn tell<R: Wait + Clock>(rt: &R, alloc: Global, state: &State, status: &Status) {
+    for _turn in rt.forever() {
+        if state.is_deaf() || state.is_broken() {
+            return;
+        }
+        match status.accept() {
+            Ok(stream) => exchange(rt, alloc, state, status, stream),
+            Err(_) => thread::sleep(rt, Duration::from_millis(NAP_MS)),
+        }
+    }
+}
+
+// A connection, which fails once its time is up or the server stops.
+#[derive(Drop)]
+struct Asker<'a, R> {
+    rt: &'a R,
+    state: &'a State,
+    stream: TcpStream,
+    until_ms: u64,
+    failed: bool,
+}
+
+// Whether a read or a write did nothing but wait.
+fn is_wait(kind: ErrorKind) -> bool {
+    matches!(
+        kind,
+        ErrorKind::WouldBlock | ErrorKind::TimedOut | ErrorKind::Interrupted
+    )
+}
+
+impl<'a, R: Wait + Clock> Asker<'a, R> {
+    // Whether there is no time left.
+    fn is_over(&self) -> bool {
+        let state = self.state;
+        state.is_deaf() || state.is_broken() || now_ms(self.rt, state) >= self.until_ms
+    }
+
+    fn read_some(&self, buf: &mut [u8]) -> io::Result<usize>
+        ensures { ReadsAtMost result buf.new }
+    {
+        for _turn in self.rt.forever() {
+            if self.is_over() {
+                return Err(io::Error::from(ErrorKind::TimedOut));
+            }
+            match (&self.stream).read(buf) {
+                Ok(n) => return Ok(n),
+                Err(error) if is_wait(error.kind()) => {}
+                Err(error) => return Err(error),
+            }
+        }
+        unreachable!()
+    }
+
+    fn write_some(&self, bytes: &[u8]) -> io::Result<usize>
+        ensures { WritesAtMost result bytes.now }
+    {
+        for _turn in self.rt.forever() {
+            if self.is_over() {
+                return Err(io::Error::from(ErrorKind::TimedOut));
+            }
+            match (&self.stream).write(bytes) {
+                Ok(n) => return Ok(n),
+                Err(error) if is_wait(error.kind()) => {}
+                Err(error) => return Err(error),
+            }
+        }
+        unreachable!()
+    }
+}
+
+impl<'a, R> Stream for Asker<'a, R> {
+    ghost has_failed = { λ s. s.failed };
+
+    fn failed(&self) -> bool {
+        self.failed
+    }
+}
+
+impl<'a, R: Wait + Clock> Source for Asker<'a, R> {
+    ghost left = { λ _. None };
+
+    fn read(&mut self, buf: &mut [u8]) -> Result<usize, Failed> {
+        match self.read_some(buf) {
+            Ok(n) => Ok(n),
+            Err(_) => {
+                self.failed = true;
+                Err(Failed)
+            }
+        }
+    }
+}
+
+impl<'a, R: Wait + Clock> Sink for Asker<'a, R> {
+    ghost taken = { λ _. None };
+
+    fn write(&mut self, bytes: &[u8]) -> Result<usize, Failed> {
+        match self.write_some(bytes) {
+            Ok(n) if n > 0 => Ok(n),
+            _ => {
+                self.failed = true;
+                Err(Failed)
+            }
+        }
+    }
+}
+
+// Why an answer was not given whole.
+#[derive(Clone, Copy, Debug, PartialEq, Eq)]
+enum Untold {
+    NoMemory,
+    Failed,
+}
+
+impl From<AllocError> for Untold {
+    fn from(_error: AllocError) -> Untold {
+        Untold::NoMemory
+    }
+}
+
+impl From<Failed> for Untold {
+    fn from(_failed: Failed) -> Untold {
+        Untold::Failed
+    }
+}
+
+// Reads a request, and answers it.
+fn exchange<R: Wait + Clock>(
+    rt: &R,
+    alloc: Global,
+    state: &State,
+    status: &Status,
+    stream: TcpStream,
+) {
+    let nap = Some(Duration::from_millis(NAP_MS));
+    if stream.set_read_timeout(nap).is_err() || stream.set_write_timeout(nap).is_err() {
+        return;
+    }
+    let mut asker = Asker {
+        rt,
+        state,
+        stream,
+        until_ms: now_ms(rt, state).saturating_add(REQUEST_MS),
+        failed: false,
+    };
+    let request = read_request(&mut asker);
+    asker.until_ms = now_ms(rt, state).saturating_add(ANSWER_MS);
+    let told = match request {
+        Ok(request) => answer(rt, alloc, state, status, &mut asker, request),
+        Err(RequestFault::Refused(why)) => refuse(&mut asker, why, false),
+        Err(RequestFault::Ended) => return,
+    };
+    if told == Err(Untold::NoMemory) {
+        let _ = refuse(&mut asker, Answer::NoMemory, false);
+    }
+}
+
+// Writes a response of a head and a body, or the head alone.
+fn put_response<S: Sink>(
+    sink: &mut S,
+    why: Answer,
+    content: Content,
+    body: &str,
+    is_head: bool,
+) -> Result<(), Untold> {
+    write_whole(
+        sink,
+        head_of(why, content, Some(body.len())).as_str().as_bytes(),
+    )?;
+    if !is_head {
+        write_whole(sink, body.as_bytes())?;
+    }
+    Ok(())
+}
+
+// Answers a request that is not met.
+fn refuse<S: Sink>(sink: &mut S, why: Answer, is_head: bool) -> Result<(), Untold> {
+    put_response(sink, why, Content::Text, why.words(), is_head)
+}
+
+// Answers a request.
+fn answer<R: Wait + Clock, S: Sink>(
+    rt: &R,
+    alloc: Global,
+    state: &State,
+    status: &Status,
+    sink: &mut S,
+    request: Request,
+) -> Result<(), Untold> {
+    let (found, is_head) = (Answer::Found, request.is_head);
+    match request.route {
+        Route::Page => put_response(sink, found, Content::Html, page_text(), is_head),
+        Route::Metrics => {
+            let text = metrics_of(rt, alloc, state, status)?;
+            put_response(sink, found, Content::Metrics, text.as_str(), is_head)
+        }
+        Route::Devices | Route::Gateways => {
+            let mut text = String::with_capacity(alloc, 32_768)?;
+            text.push_str(head_of(found, Content::Json, None).as_str())?;
+            if is_head {
+                return put_piece(sink, &mut text);
+            }
+            let now_ms = now_ms(rt, state);
+            if request.route == Route::Devices {
+                put_front(&mut text, "devices", now_ms, status.start_ms())?;
+                put_device_rows(rt, alloc, status, sink, &mut text)?;
+            } else {
+                put_front(&mut text, "gateways", now_ms, status.start_ms())?;
+                put_gateway_rows(rt, alloc, status, sink, &mut text)?;
+            }
+            put_end(&mut text)?;
+            put_piece(sink, &mut text)
+        }
+    }
+}
+
+// Writes a piece of an answer, and empties it.
+fn put_piece<S: Sink>(sink: &mut S, text: &mut String) -> Result<(), Untold> {
+    write_whole(sink, text.as_str().as_bytes())?;
+    text.clear();
+    Ok(())
+}
+
+// Writes the rows of all devices that have joined, in pieces. No lock is held while one is written.
+fn put_device_rows<R: Wait, S: Sink>(
+    rt: &R,
+    alloc: Global,
+    status: &Status,
+    sink: &mut S,
+    text: &mut String,
+) -> Result<(), Untold> {
+    let (count, _) = status.count_devices(rt);
+    let mut batch = Vec::with_capacity(alloc, BATCH)?;
+    let mut is_first = true;
+    for part in 0..(count / BATCH).saturating_add(1) {
+        status.batch(rt, part.saturating_mul(BATCH), &mut batch)?;
+        put_devices(alloc, text, is_first, batch.as_slice())?;
+        is_first = is_first && batch.is_empty();
+        put_piece(sink, text)?;
+    }
+    Ok(())
+}
+
+// Writes the rows of all gateways, in pieces. No lock is held while one is written.
+fn put_gateway_rows<R: Wait, S: Sink>(
+    rt: &R,
+    alloc: Global,
+    status: &Status,
+    sink: &mut S,
+    text: &mut String,
+) -> Result<(), Untold> {
+    let all = status.all_gateways(rt, alloc)?;
+    let mut is_first = true;
+    for part in all.as_slice().chunks(BATCH) {
+        put_gateways(alloc, text, is_first, part)?;
+        is_first = false;
+        put_piece(sink, text)?;
+    }
+    Ok(())
+}
+
+// How often a reply was made.
+fn count_of(replies: &[(&'static str, u64)], name: &str) -> u64 {
+    for reply in replies {
+        if reply.0 == name {
+            return reply.1;
+        }
+    }
+    0
+}
+
+// The text of all counts.
+fn metrics_of<R: Wait>(
+    rt: &R,
+    alloc: Global,
+    state: &State,
+    status: &Status,
+) -> Result<String, AllocError> {
+    let counts = &state.counts;
+    let refusals = counts.refusals_by_name(alloc)?;
+    let replies = counts.replies_by_name(alloc)?;
+    let entries = state.made.all();
+    let of = |name: &str| count_of(replies.as_slice(), name);
+    let (devices, sessions) = status.count_devices(rt);
+    let totals = Totals {
+        start_seconds: status.start_ms() / 1000,
+        read: state.read.load(Ordering::SeqCst).min(state.most),
+        dropped: counts.dropped.load(Ordering::SeqCst),
+        late: counts.late.load(Ordering::SeqCst),
+        unreceived: counts.unreceived.load(Ordering::SeqCst),
+        unanswered: counts.unanswered.load(Ordering::SeqCst),
+        stale: counts.stale.load(Ordering::SeqCst),
+        unsent: counts.unsent.load(Ordering::SeqCst),
+        windows: of("opened")
+            .saturating_add(of("again"))
+            .saturating_sub(of("closed")),
+        tickets: of("ask")
+            .saturating_sub(of("accepted"))
+            .saturating_sub(of("joinrefused"))
+            .saturating_sub(of("joinstale")),
+        devices: devices as u64,
+        sessions: sessions as u64,
+        gateways: status.count_gateways(rt) as u64,
+    };
+    let lists = Lists {
+        refusals: refusals.as_slice(),
+        replies: replies.as_slice(),
+        entries: &entries,
+    };
+    let mut text = String::with_capacity(alloc, 8192)?;
+    put_metrics(&mut text, &totals, lists)?;
+    Ok(text)
+}

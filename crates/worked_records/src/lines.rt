@@ -1,0 +1,18 @@
+//! Texts of lines.
+
+use std::alloc::AllocError;
+
+/// Adds a line, with its line feed.
+pub fn put(text: &mut String, line: &str) -> Result<(), AllocError> {
+    text.push_str(line)?;
+    text.push_str("\n")
+}
+
+/// The text without its last line.
+pub fn without_last(text: &str) -> &str {
+    let whole = text.strip_suffix("\n").unwrap_or(text);
+    match whole.rsplit_once("\n") {
+        Some((before, _)) => &text[..before.len() + 1],
+        None => "",
+    }
+}

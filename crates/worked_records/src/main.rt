@@ -1,0 +1,39 @@
+//! Makes the lives of records that standard input tells, and prints the title of each. Where a record, a server or a start says other
+//! lines than the text does, it prints what was said and what was wanted.
+//!
+//! What stands before the first title says what the text is about. `# TITLE` begins with empty files and no server, and of the lines
+//! behind it
+//!
+//! - `roster JSON` is the roster of the starts from here on; a title without one has that of the title before;
+//! - `$ start` ends the server, if one runs, and begins the next one with the files. It says how many entries its shards made, what is cut
+//!   off each file, the `up` lines that are added, and the windows and tickets that are open; or why it does not begin;
+//! - `> STEP` is a step line for the server, which puts it down where later answers rest on it. It says the answer's lines;
+//! - `$ show FILE` says the lines of `steps` or `up`;
+//! - `$ put FILE LINE` adds a line to a file, and `$ tear FILE PART` adds bytes without a line feed;
+//! - `$ drop FILE` takes the last line of a file away, with its line feed;
+//! - any other is a line that is to be said: what comes of a line stands right below it.
+//!
+//! Empty lines stand for nothing.
+#![tactic(auto)]
+
+mod life;
+mod lines;
+
+use crate::life::Life;
+use std::io::Read;
+
+fn main(rt: HostRuntime) -> anyhow::Result<()> {
+    let mut input = Vec::new(rt.alloc());
+    rt.reader().read_to_end(&mut input)?;
+    let text = String::from_utf8(input)?;
+    let mut life = Life::new(rt.alloc());
+    for part in text.as_str().split("\n# ").skip(1) {
+        let (title, lines) = part.split_once("\n").unwrap_or((part, ""));
+        println!(rt; "{title}")?;
+        let (said, wanted) = life.told(lines)?;
+        if said.as_str() != wanted.as_str() {
+            println!(rt; "differs. Said:\n{said}Wanted:\n{wanted}")?;
+        }
+    }
+    Ok(())
+}
