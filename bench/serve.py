@@ -4,14 +4,15 @@ bench/plain_server), with 1, 2 and 4 workers that hear gateways; and with gatewa
 
     rustc -O --edition 2021 -o PLAIN bench/plain_server/main.rs
     python3 bench/serve.py PROGRAM PLAIN [--workers N,..] [--devices N] [--copies N] [--frames N] [--confirmed SHARE] [--window MS]
-                           [--seconds S] [--senders N] [--runs N] [--folder FOLDER]
+                           [--seconds S] [--senders N] [--runs N] [--rate N] [--folder FOLDER]
 
 Devices join (no part of what is measured), and send frames of 16 bytes, each heard by some gateways. All datagrams are made before
 the clock starts. First the senders send as fast as they can for some seconds: what the server takes a second of it, the rest being
 dropped by the system before its socket, is its top rate. Then they send at half of that: how many datagrams the system dropped, and
 the time from the first datagram of a confirmed frame to its acknowledgement, less the window. Processor time is that of the server's
 process, user and system, from /proc. Of several runs the one with the least processor time a datagram is told. Lines go to a file
-in a temporary folder below FOLDER. Behind the table stands what the program holds of rosters of three sizes. It ends with status 1 where an acknowledgement was not what it must be, or is missing at half of
+in a temporary folder below FOLDER. With --rate so many datagrams a second are sent in place of half of the top rate, which is not
+sought then. Behind the table stands what the program holds of rosters of three sizes. It ends with status 1 where an acknowledgement was not what it must be, or is missing at half of
 the top rate though no datagram was dropped.
 """
 import argparse
@@ -55,18 +56,21 @@ class Measured:
         return min((self.run(rate, self.options.seconds) for _ in range(self.options.runs)), key=load.Took.cost)
 
     def rows(self, workers):
-        """Measures and prints the row; the top run, and whether what came back was right."""
-        top = self.best(0)
-        half = self.best(top.taken() / top.seconds / 2)
+        """Measures and prints the row; the run at the top rate, or at the rate that is asked for, and whether what came back was right."""
+        top = None if self.options.rate else self.best(0)
+        half = self.best(self.options.rate or top.taken() / top.seconds / 2)
+        cells = ['-'] * 4 if top is None else [
+            format(round(top.taken() / top.seconds, -2), ',.0f'), '%.0f%%' % (100 * top.dropped / top.sent), '%.2f' % top.cost(),
+            '%.2f' % (1e6 * top.user / top.taken())]
         delays = ['%.2f' % half.delay(share) for share in (0.5, 0.99, 1)] if self.answers else ['-'] * 3
-        row((self.name, workers, format(round(top.taken() / top.seconds, -2), ',.0f'), '%.0f%%' % (100 * top.dropped / top.sent), '%.2f' % top.cost(),
-             '%.2f' % (1e6 * top.user / top.taken()), format(round(half.sent / half.seconds, -2), ',.0f'),
+        row((self.name, workers, *cells, format(round(half.sent / half.seconds, -2), ',.0f'),
              '%d of %s' % (half.dropped, format(half.sent, ',')), '%.2f' % half.cost(), *delays,
              format(round(half.grown / half.taken()), ',') if self.answers else '-'))
         missing = 0 if half.dropped or not self.answers else half.confirmed - half.acknowledged
-        if top.wrong or half.wrong or missing:
-            print('%d and %d wrong acknowledgements, %d missing' % (top.wrong, half.wrong, missing), file=sys.stderr)
-        return top, not (top.wrong or half.wrong or missing)
+        wrong = half.wrong + (top.wrong if top else 0)
+        if wrong or missing:
+            print('%d wrong acknowledgements, %d missing' % (wrong, missing), file=sys.stderr)
+        return top or half, not (wrong or missing)
 
 
 def at_rest(program, folder):
@@ -92,7 +96,7 @@ def options_of():
     parser.add_argument('plain', metavar='PLAIN')
     parser.add_argument('--workers', default='1,2,4', metavar='N,..')
     for name, kind, default in (('devices', int, 4096), ('copies', int, 3), ('frames', int, 0), ('confirmed', float, 0.1),
-                                ('window', int, 200), ('seconds', float, 2), ('senders', int, 2), ('runs', int, 1)):
+                                ('window', int, 200), ('seconds', float, 2), ('senders', int, 2), ('runs', int, 1), ('rate', float, 0)):
         parser.add_argument('--' + name, type=kind, default=default)
     parser.add_argument('--folder', metavar='FOLDER')
     return parser.parse_args()
@@ -125,8 +129,9 @@ def main():
                 is_right = is_right and right
                 found.append(top.cost())
             print('\n%s workers: proved to plain %.2f, proved to a bare receiver %.2f, plain to it %.2f, packet forwarders to own datagrams '
-                  '%.2f (processor time a datagram at the top rate)\n' % (
-                      workers, found[0] / found[2], found[0] / found[3], found[2] / found[3], found[1] / found[0]), flush=True)
+                  '%.2f (processor time a datagram at %s)\n' % (
+                      workers, found[0] / found[2], found[0] / found[3], found[2] / found[3], found[1] / found[0],
+                      'that rate' if options.rate else 'the top rate'), flush=True)
         print('at rest: %s' % at_rest(options.program, folder))
     joins.close()
     print('load average at the end %.1f' % os.getloadavg()[0])

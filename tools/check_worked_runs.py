@@ -21,7 +21,7 @@ class Run:
     """A run of a file: its title, its roster, and its steps with the lines below them."""
 
     def __init__(self, title, roster):
-        self.title, self.roster, self.closing = title, roster, False
+        self.title, self.roster, self.closing, self.as_json = title, roster, False, False
         self.steps = [(None, [])]      # what stands before the first step is below None
 
     def add(self, line):
@@ -29,6 +29,8 @@ class Run:
             self.roster = line[7:]
         elif line == b'closing':
             self.closing = True
+        elif line == b'json':
+            self.as_json = True
         elif line.startswith(b'>'):
             self.steps.append((line[2:] if line[1:2] == b' ' else line[1:], []))
         elif line:
@@ -37,7 +39,7 @@ class Run:
     def differences(self):
         """Each step whose lines are not those of the model, with these."""
         try:
-            server = model.Server(model.Roster(self.roster, True))
+            server = model.Server(model.Roster(self.roster, True), as_json=self.as_json)
         except model.Fault as fault:
             want = [(None, ['roster: %s' % fault])]
         else:

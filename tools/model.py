@@ -12,12 +12,14 @@
                        again. `versions`: rosters of version 2 with `last_nonce`.
     --no-downlinks     no acknowledgement numbers and no `down` lines
     --closing          prints the closing roster behind all lines
+    --output json      prints each uplink as a JSON object in place of its `up` line
     --own-aes          does not use the package `cryptography` where it is present
 
 It is written from the formats and rules of the project and from the standards
 (LoRaWAN L2 1.0.4, FIPS 197, RFC 4493), without the program's sources. A roster that is
 refused prints `roster: ` and the fault's number on standard error, with status 1.
 """
+import base64
 import json
 import re
 import sys
@@ -425,8 +427,8 @@ def number_of(word):
 
 
 class Server:
-    def __init__(self, roster, served=STAGES, downlinks=True):
-        self.roster, self.served, self.downlinks = roster, served, downlinks
+    def __init__(self, roster, served=STAGES, downlinks=True, as_json=False):
+        self.roster, self.served, self.downlinks, self.as_json = roster, served, downlinks, as_json
         self.by_frame = {}     # open windows by the bytes of their frame
 
     # -- step lines
@@ -590,7 +592,7 @@ class Server:
             session.acks += 1
         lines = ['closed %s %s' % (window.name(), '-' if ack is None else ack)]
         if turn == 1:
-            lines.append(self.up_line(window))
+            lines.append(self.up_object(window) if self.as_json else self.up_line(window))
         if ack is not None:
             signed = (b'\x60' + data.address.to_bytes(4, 'little') + b'\x20'
                       + (ack % 65536).to_bytes(2, 'little'))
@@ -600,13 +602,37 @@ class Server:
         return lines
 
     @staticmethod
-    def up_line(window):
+    def opened(window):
+        """The payload of a window's frame, and whether it is as received."""
         data, session = window.frame, window.session
         key = session.nwk if data.port == 0 else session.app
-        sealed = bool(data.payload) and key is None
-        payload = data.payload
-        if payload and key is not None:
-            payload = payload_cipher(key, UP, data.address, window.counter, payload)
+        if not data.payload or key is None:
+            return data.payload, bool(data.payload)
+        return payload_cipher(key, UP, data.address, window.counter, data.payload), False
+
+    @staticmethod
+    def copy_object(copy):
+        rate = {'bitRate': 50000}
+        if copy.dr < 7:
+            rate = {'spreadingFactor': max(7, 12 - copy.dr), 'bandwidth': 125000 << (copy.dr == 6)}
+        return {'gatewayId': copy.gateway, 'moment': copy.moment, 'frequency': copy.freq, 'dr': copy.dr,
+                **rate, 'rssi': copy.rssi / 10, 'snr': copy.snr / 10}
+
+    def up_object(self, window):
+        """The uplink of a window as JSON."""
+        data, (payload, sealed) = window.frame, self.opened(window)
+        flags = {name: bool(data.bytes[5] & 1 << bit)
+                 for name, bit in (('adr', 7), ('adrAckReq', 6), ('ack', 5), ('classB', 4))}
+        return json.dumps({
+            'devEui': '%016x' % window.device.eui, 'devAddr': '%08x' % data.address,
+            'session': window.session.number, 'fCnt': window.counter,
+            **({} if data.port is None else {'fPort': data.port}), 'confirmed': data.confirmed, **flags,
+            'fOpts': data.options.hex(), 'sealed': sealed, 'payload': payload.hex(),
+            'data': base64.b64encode(payload).decode(),
+            'rxInfo': [self.copy_object(copy) for copy in window.copies]}, separators=(',', ':'))
+
+    def up_line(self, window):
+        data, session, (payload, sealed) = window.frame, window.session, self.opened(window)
         return 'up %016x %d %d %s %s %s %s %d %s' % (
             window.device.eui, session.number, window.counter,
             '-' if data.port is None else data.port, 'sealed' if sealed else 'plain',
@@ -622,9 +648,9 @@ def step_lines(text):
 
 
 def replay(roster_text, text, served=STAGES, downlinks=True,
-           closing=False):
+           closing=False, as_json=False):
     """What `replay` prints, as a list of (step line or None, printed lines)."""
-    server = Server(Roster(roster_text, 'versions' in served), served, downlinks)
+    server = Server(Roster(roster_text, 'versions' in served), served, downlinks, as_json)
     out = [(line, server.line(line)) for line in step_lines(text)]
     if closing:
         out.append((None, [server.roster.closing()]))
@@ -633,6 +659,7 @@ def replay(roster_text, text, served=STAGES, downlinks=True,
 
 def main(arguments):
     served, downlinks, closing, files, test, long = STAGES, True, False, [], False, True
+    as_json = False
     words = iter(arguments)
     for word in words:
         if word == '--served':
@@ -641,6 +668,8 @@ def main(arguments):
             downlinks = False
         elif word == '--closing':
             closing = True
+        elif word == '--output':
+            as_json = next(words, '') == 'json'
         elif word == '--own-aes':
             use_own_aes()
         elif word in ('--selftest', '--short-selftest'):
@@ -656,7 +685,7 @@ def main(arguments):
     with open(files[0], 'rb') as file:
         roster = file.read()
     try:
-        out = replay(roster, sys.stdin.buffer.read(), served, downlinks, closing)
+        out = replay(roster, sys.stdin.buffer.read(), served, downlinks, closing, as_json)
     except Fault as fault:
         print('roster: %s' % fault, file=sys.stderr)
         return 1

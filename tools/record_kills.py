@@ -3,12 +3,17 @@
 no device notices.
 
     record_kills.py [--lives N] [--seed N] [--devices N] [--gateways N] [--rate N] [--rejoin N] [--longest SECONDS]
-                    [--folder DIR] [--program PATH] [-- WORD..]
+                    [--networks N] [--full KB | --machine] [--folder DIR] [--program PATH] [-- WORD..]
 
     --lives N           how often the program is begun (default 50); each but the last is ended after 0.05 to --longest seconds (1.6)
     --rate N            uplinks a second of all devices (default 150), of which half are confirmed and sent again until they are
                         acknowledged; --devices N (48), --gateways N (4)
     --rejoin N          a device joins again after N uplinks (default 0: never)
+    --networks N        so many networks side by side, each with its server, --lives N and a seed of its own
+    --full KB           the record lies on a file system of KB, and grows by as many before each life: each but the last has to end by
+                        itself with status 1 and a line `record:` in its log. Root alone may mount it
+    --machine           a life is ended with its machine: the record goes on from what its disk has at that moment, an ext4 file system in a
+                        file. With --sync, and root alone may
     --folder DIR        where the record is left (default: a folder that is removed)
     WORD..              further words of `serve`, as --sync
 
@@ -23,6 +28,7 @@ import collections
 import json
 import os
 import random
+import re
 import select
 import signal
 import socket
@@ -31,6 +37,7 @@ import sys
 import tempfile
 import time
 
+from network.disks import Crashing, Folder, Small
 from network.nodes import CHANNELS, Copy, Down, Gateway, Node, app_key, roster
 from network.servers import Joins
 
@@ -59,7 +66,8 @@ class Trial:
     def __init__(self, options, folder):
         self.options, self.pick, self.faults = options, random.Random(options.seed), collections.Counter()
         self.roster, self.record = os.path.join(folder, 'roster.json'), os.path.join(folder, 'record')
-        os.makedirs(self.record, exist_ok=True)
+        self.disk = (Small(self.record, options.full) if options.full else Crashing(self.record) if options.machine
+                     else Folder(self.record))
         with open(self.roster, 'w', encoding='utf-8') as file:
             json.dump(roster(options.devices, 0, 1), file)
         with socket.socket(socket.AF_INET, socket.SOCK_DGRAM) as sock:
@@ -88,8 +96,11 @@ class Trial:
         """Kills the program, takes what it told, and does to the record what a crash may."""
         self.look()
         now = time.monotonic()
-        if self.child.poll() is not None:
+        if self.child.poll() is not None and not self.has_ended_full():
             self.fault('a life that ended by itself with status %d' % self.child.returncode)
+        if self.options.machine:
+            self.child.send_signal(signal.SIGSTOP)
+            self.disk.stop()
         self.child.send_signal(signal.SIGKILL)
         self.child.wait()
         if self.is_heard:
@@ -98,14 +109,34 @@ class Trial:
         with open(self.out, encoding='utf-8') as file:
             self.told += [line for line in file.read().split('\n')[:-1] if line.startswith('up ')]
 
+    def has_ended_full(self):
+        """Whether a full disk has ended the life, as it has to."""
+        with open(self.out + '.log', encoding='utf-8') as file:
+            return bool(self.options.full) and self.child.returncode == 1 and 'record: ' in file.read()
+
+    def live(self):
+        """A life that is ended at any moment, or by a full disk."""
+        if not self.options.full:
+            return self.run(self.pick.uniform(0.05, self.options.longest))
+        end = time.monotonic() + QUIET
+        while self.child.poll() is None and time.monotonic() < end:
+            self.step(True)
+        if self.child.poll() is None:
+            self.fault('a life that no full disk ended')
+
     def crash(self):
+        self.disk.again()
+        if not self.options.full and not self.options.machine:
+            self.tear()
+        self.run(self.pick.uniform(0, 0.3))
+
+    def tear(self):
         steps, ups = os.path.join(self.record, 'steps'), os.path.join(self.record, 'up')
         if self.pick.random() < 0.3 and os.path.exists(steps):
             with open(steps, 'ab') as file:
                 file.write(self.pick.choice((b'h', b'heard 0101', b'close 0000', b'answer ')))
         if self.pick.random() < 0.3 and os.path.exists(ups):
             os.truncate(ups, max(0, os.path.getsize(ups) - self.pick.randrange(400)))
-        self.run(self.pick.uniform(0, 0.3))
 
     def look(self):
         """Whether the program says by now that it listens."""
@@ -212,9 +243,11 @@ class Trial:
     def trial(self):
         try:
             for life in range(self.options.lives):
+                if self.options.full and life + 1 == self.options.lives:
+                    self.disk.grow(1 << 20)
                 self.begin()
                 if life + 1 < self.options.lives:
-                    self.run(self.pick.uniform(0.05, self.options.longest))
+                    self.live()
                     self.end()
                     self.crash()
             self.run(self.options.longest)
@@ -226,6 +259,9 @@ class Trial:
         finally:
             if self.child:
                 self.child.kill()
+                self.child.wait()
+            self.kept = self.files()
+            self.disk.close()
             self.joins.close()
             for gateway in self.gateways:
                 gateway.close()
@@ -239,11 +275,16 @@ class Trial:
         """Whether an unconfirmed uplink was sent while nobody listened, or right before a kill."""
         return any(begin <= uplink.at <= end for begin, end in self.silent + [(self.silent_from, uplink.at)])
 
+    def files(self):
+        """The bytes of the record."""
+        found = []
+        for name in ('steps', 'up'):
+            with open(os.path.join(self.record, name), 'rb') as file:
+                found.append(file.read())
+        return found
+
     def check(self):
-        with open(os.path.join(self.record, 'steps'), 'rb') as file:
-            steps = file.read()
-        with open(os.path.join(self.record, 'up'), 'rb') as file:
-            up = file.read()
+        steps, up = self.kept
         done = subprocess.run([self.options.program, 'replay', self.roster], input=steps, capture_output=True, check=True)
         said = done.stdout.decode().splitlines()
         ups = [line for line in said if line.startswith('up ')]
@@ -278,13 +319,36 @@ class Trial:
         return 1 if self.faults else 0
 
 
+def side_by_side(options):
+    """Networks with seeds of their own, each by this program."""
+    words = [word for name in ('lives', 'devices', 'gateways', 'rate', 'rejoin', 'longest', 'full', 'program')
+             for word in ('--' + name, str(getattr(options, name)))]
+    words += ['--machine'] * options.machine
+    children = [subprocess.Popen([sys.executable, os.path.abspath(__file__), *words, '--seed', str(options.seed + number), '--',
+                                  *options.words], stdout=subprocess.PIPE, text=True) for number in range(options.networks)]
+    sums = collections.Counter()
+    for child in children:
+        for line in child.communicate()[0].splitlines():
+            print(line)
+            if line.startswith('lives '):
+                sums.update({name: int(count) for name, count in re.findall(r'([a-z ]+) (\d+)', line)})
+    print('all networks:' + ''.join('%s %d' % (name if name.startswith(' ') else ' ' + name, count) for name, count in sums.items()))
+    return max(child.returncode for child in children)
+
+
 def main():
     parser = argparse.ArgumentParser(description=__doc__, formatter_class=argparse.RawDescriptionHelpFormatter)
     for name, kind, default in (('lives', int, 50), ('seed', int, 1), ('devices', int, 48), ('gateways', int, 4), ('rate', float, 150.0),
-                                ('rejoin', int, 0), ('longest', float, 1.6), ('folder', str, None), ('program', str, PROGRAM)):
+                                ('rejoin', int, 0), ('longest', float, 1.6), ('networks', int, 1), ('full', int, 0),
+                                ('folder', str, None), ('program', str, PROGRAM)):
         parser.add_argument('--' + name, type=kind, default=default, help=argparse.SUPPRESS)
+    parser.add_argument('--machine', action='store_true', help=argparse.SUPPRESS)
     parser.add_argument('words', nargs='*', help=argparse.SUPPRESS)
     options = parser.parse_args()
+    if options.machine and '--sync' not in options.words:
+        options.words.append('--sync')
+    if options.networks > 1:
+        return side_by_side(options)
     if options.folder:
         return Trial(options, options.folder).trial()
     with tempfile.TemporaryDirectory() as folder:

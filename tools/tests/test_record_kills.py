@@ -21,6 +21,17 @@ class Kills(unittest.TestCase):
     def test_five_lives(self):
         self.tried('--seed', '5', '--rejoin', '8', '--', '--sync')
 
+    def test_two_networks(self):
+        self.tried('--seed', '7', '--networks', '2', '--devices', '16', '--rate', '50')
+
+    @unittest.skipUnless(os.geteuid() == 0, 'only root may mount a file system')
+    def test_full_disks(self):
+        self.tried('--seed', '5', '--full', '24')
+
+    @unittest.skipUnless(os.geteuid() == 0 and os.path.exists('/dev/loop-control'), 'only root may mount a file system of a file')
+    def test_machines_crash(self):
+        self.tried('--seed', '6', '--machine')
+
 
 if __name__ == '__main__':
     unittest.main()

@@ -1,0 +1,115 @@
+#!/usr/bin/env python3
+"""Counts the instructions of a datagram in `lorawan_ns serve` without a record, with one, and with one that is synced, by callgrind.
+
+    python3 bench/record_cost.py PROGRAM [--devices N] [--copies N] [--frames FEW,MANY] [--confirmed SHARE] [--rate N] [--folder DIR]
+
+Devices join (64, unless told otherwise), and each sends frames of 16 bytes, each heard by so many gateways (3); of the frames a part is
+confirmed (0.1). Of each way there are two runs, with few frames of each device and with many (10,60), which end by --stop-after; what
+is told is the difference of their instructions, for each datagram more. The system's own work is not counted. Ends with status 1 where a
+run does not end well.
+"""
+import argparse
+import json
+import os
+import re
+import subprocess
+import sys
+import tempfile
+import time
+
+sys.path.insert(0, os.path.join(os.path.dirname(os.path.dirname(os.path.abspath(__file__))), 'tools'))
+from network.nodes import CHANNELS, Copy, Down, Gateway, Node, app_key, roster  # noqa: E402
+from network.servers import Joins, Serve  # noqa: E402
+
+WAYS = ('without', []), ('with', ['--record']), ('synced', ['--record', '--sync'])
+LONGEST = 600       # seconds of a run
+
+
+class Run:
+    """A run of one way."""
+
+    def __init__(self, options, folder, words, frames):
+        self.options, self.frames, self.folder = options, frames, folder
+        self.count = options.devices * (1 + frames * options.copies)
+        self.joins = Joins(('127.0.0.1', 0), {eui.to_bytes(8, 'big'): app_key(1, eui) for eui in range(options.devices)})
+        path, self.out = os.path.join(folder, 'roster.json'), os.path.join(folder, 'callgrind')
+        with open(path, 'w', encoding='utf-8') as file:
+            json.dump(roster(options.devices, 0, 1), file)
+        if '--record' in words:
+            record = tempfile.mkdtemp(dir=folder)
+            words = ['--record', record] + words[1:]
+        self.lines = open(os.path.join(folder, 'lines'), 'wb')
+        self.server = Serve(['valgrind', '--tool=callgrind', '--callgrind-out-file=' + self.out, options.program, 'serve', path, '--join',
+                             '%s:%d' % self.joins.where, '--listen', '127.0.0.1:0', '--window', '500', '--stop-after', str(self.count), *words],
+                            self.lines)
+        self.gateways = [Gateway(number, self.server.where) for number in range(options.copies)]
+
+    def instructions(self):
+        """The instructions of all of it; none where it did not end well."""
+        try:
+            nodes = [Node(1, eui) for eui in range(self.options.devices)]
+            for node in nodes:
+                self.join(node)
+            for number in range(self.frames):
+                for node in nodes:
+                    self.send(node.next_frame(self.options.confirmed, size=16).bytes, self.gateways)
+            status = self.server.child.wait(timeout=LONGEST)
+        except (subprocess.TimeoutExpired, OSError) as error:
+            print(error, file=sys.stderr)
+            status = None
+        finally:
+            self.server.child.kill()
+            self.joins.close()
+            for gateway in self.gateways:
+                gateway.close()
+            self.lines.close()
+        if status != 0:
+            print('status %s' % status, '\n'.join(self.server.errors), file=sys.stderr)
+            return None
+        with open(self.out, encoding='utf-8') as file:
+            return int(re.search(r'^(?:summary|totals): (\d+)', file.read(), re.M).group(1))
+
+    def send(self, frame, gateways):
+        for gateway in gateways:
+            time.sleep(1 / self.options.rate)
+            gateway.socket.send(Copy(gateway, gateway.moment(time.monotonic()), 75, -900).datagram(CHANNELS[0], 5, frame))
+
+    def join(self, node):
+        """A device joins by the first gateway."""
+        gateway = self.gateways[0]
+        self.send(node.join_request(), [gateway])
+        end = time.monotonic() + 20
+        while time.monotonic() < end:
+            try:
+                node.accept(Down(gateway.socket.recv(600)).frame)
+                return
+            except BlockingIOError:
+                time.sleep(0.005)
+        raise OSError('no Join-Accept')
+
+
+def main():
+    parser = argparse.ArgumentParser(description=__doc__, formatter_class=argparse.RawDescriptionHelpFormatter)
+    parser.add_argument('program')
+    for name, kind, default in (('devices', int, 64), ('copies', int, 3), ('frames', str, '10,60'), ('confirmed', float, 0.1),
+                                ('rate', float, 400.0), ('folder', str, None)):
+        parser.add_argument('--' + name, type=kind, default=default, help=argparse.SUPPRESS)
+    options = parser.parse_args()
+    few, many = map(int, options.frames.split(','))
+    first, failed = None, False
+    for name, words in WAYS:
+        found = []
+        for frames in (few, many):
+            with tempfile.TemporaryDirectory(dir=options.folder) as folder:
+                found.append(Run(options, folder, words, frames).instructions())
+        if None in found:
+            failed = True
+            continue
+        each = (found[1] - found[0]) / (options.devices * options.copies * (many - few))
+        first = first or each
+        print('%-8s %8.0f instructions a datagram, %.3f times' % (name, each, each / first), flush=True)
+    return 1 if failed else 0
+
+
+if __name__ == '__main__':
+    sys.exit(main())
