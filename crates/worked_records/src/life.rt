@@ -1,6 +1,6 @@
 //! A record, and the server that writes it.
 
-use crate::lines::{put, without_last};
+use crate::lines::{put, without_end, without_last};
 use anyhow::bail;
 use ns_calls::{Answer, Line, lines, put_window, shard_of_call, up_line};
 use ns_record::{matters, step_line};
@@ -74,22 +74,15 @@ impl Life {
 
     // Does what is to be done to the record.
     fn follow(&mut self, order: &str) -> anyhow::Result<()> {
-        if order == "start" {
-            return self.start();
-        }
         let (word, rest) = order.split_once(" ").unwrap_or((order, ""));
         let (name, text) = rest.split_once(" ").unwrap_or((rest, ""));
-        let file = match name {
-            "steps" => &mut self.steps,
-            "up" => &mut self.up,
+        match (word, name) {
+            ("start", _) => self.start()?,
+            ("show", "steps") => self.said.push_str(self.steps.as_str())?,
+            ("show", "up") => self.said.push_str(self.up.as_str())?,
+            (_, "steps") => change(self.alloc, &mut self.steps, word, text)?,
+            (_, "up") => change(self.alloc, &mut self.up, word, text)?,
             _ => bail!("no file: {name}"),
-        };
-        match word {
-            "show" => self.said.push_str(file.as_str())?,
-            "put" => put(file, text)?,
-            "tear" => file.push_str(text)?,
-            "drop" => *file = String::from_str(self.alloc, without_last(file.as_str()))?,
-            _ => bail!("nothing to be done: {word}"),
         }
         Ok(())
     }
@@ -179,12 +172,23 @@ impl Life {
     fn cut(&mut self, steps: usize, up: usize) -> anyhow::Result<()> {
         if steps > 0 {
             writeln!(self.said, "cut steps {steps}")?;
-            self.steps.truncate(self.steps.len().saturating_sub(steps));
+            self.steps = String::from_str(self.alloc, without_end(self.steps.as_str(), steps))?;
         }
         if up > 0 {
             writeln!(self.said, "cut up {up}")?;
-            self.up.truncate(self.up.len().saturating_sub(up));
+            self.up = String::from_str(self.alloc, without_end(self.up.as_str(), up))?;
         }
         Ok(())
     }
+}
+
+// Changes a file by a line, a text without a line feed, or the loss of its last line.
+fn change(alloc: Global, file: &mut String, word: &str, text: &str) -> anyhow::Result<()> {
+    match word {
+        "put" => put(file, text)?,
+        "tear" => file.push_str(text)?,
+        "drop" => *file = String::from_str(alloc, without_last(file.as_str()))?,
+        _ => bail!("nothing to be done: {word}"),
+    }
+    Ok(())
 }

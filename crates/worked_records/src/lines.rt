@@ -16,3 +16,8 @@ pub fn without_last(text: &str) -> &str {
         None => "",
     }
 }
+
+/// The text without its last `torn` bytes.
+pub fn without_end(text: &str, torn: usize) -> &str {
+    text.get(..text.len().saturating_sub(torn)).unwrap_or("")
+}
