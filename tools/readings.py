@@ -1,9 +1,13 @@
 #!/usr/bin/env python3
 """Keeps the uplinks of `lorawan_ns serve .. --output json`, which it reads from standard input, in a table of an SQLite file, each as
-it comes: `lorawan_ns serve .. --output json | readings.py FILE`. What a payload means is the device's: here it is one number."""
+it comes: `lorawan_ns serve .. --output json | readings.py FILE`. With `-` in place of the file it writes them as lines of InfluxDB's
+line protocol. What a payload means is the device's: here it is one number."""
 import json
 import sqlite3
 import sys
+from datetime import datetime
+
+POINT = 'readings,device=%s session=%di,counter=%di,value=%di,rssi=%s,snr=%s %d'
 
 
 def value_of(payload):
@@ -11,17 +15,30 @@ def value_of(payload):
     return int.from_bytes(payload[:8], 'big', signed=True)
 
 
-def keep(lines, path):
-    table = sqlite3.connect(path)
-    table.execute('CREATE TABLE IF NOT EXISTS readings (time TEXT, device TEXT, session INTEGER, counter INTEGER, port INTEGER, value INTEGER, rssi REAL, snr REAL)')
+def readings(lines):
+    """The time, device, session, counter, port, value, RSSI and SNR of each uplink whose payload is known."""
     for line in lines:
         uplink = json.loads(line) if line.startswith('{') else {}
         if 'payload' in uplink and not uplink['sealed']:
             best = max(uplink['rxInfo'], key=lambda copy: copy['snr'])
             value = value_of(bytes.fromhex(uplink['payload']))
-            with table:
-                table.execute('INSERT INTO readings VALUES (?, ?, ?, ?, ?, ?, ?, ?)', (uplink.get('time'), uplink['devEui'], uplink['session'], uplink['fCnt'], uplink.get('fPort'), value, best['rssi'], best['snr']))
+            yield uplink.get('time'), uplink['devEui'], uplink['session'], uplink['fCnt'], uplink.get('fPort'), value, best['rssi'], best['snr']
+
+
+def keep(lines, path):
+    table = sqlite3.connect(path)
+    table.execute('CREATE TABLE IF NOT EXISTS readings (time TEXT, device TEXT, session INTEGER, counter INTEGER, port INTEGER, value INTEGER, rssi REAL, snr REAL)')
+    for reading in readings(lines):
+        with table:
+            table.execute('INSERT INTO readings VALUES (?, ?, ?, ?, ?, ?, ?, ?)', reading)
+
+
+def put(lines):
+    for time, device, session, counter, _, value, rssi, snr in readings(lines):
+        moment = datetime.fromisoformat(time)
+        nanoseconds = int(moment.timestamp()) * 10**9 + moment.microsecond * 1000
+        print(POINT % (device, session, counter, value, rssi, snr, nanoseconds), flush=True)
 
 
 if __name__ == '__main__':
-    keep(sys.stdin, sys.argv[1])
+    put(sys.stdin) if sys.argv[1] == '-' else keep(sys.stdin, sys.argv[1])

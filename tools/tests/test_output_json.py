@@ -113,6 +113,7 @@ class ServeJson(Served):
     def ran(self, *words):
         """A server that ran with these words: its lines and its record's folder."""
         folder = os.path.join(self.folder, 'record')
+        os.mkdir(folder)
         joins = self.joins(self.EUIS)
         server = self.serve(self.roster(self.EUIS), joins.where, '--window', '200', '--record', folder, '--stop-after', '15', '--output', 'json', *words)
         first, second = self.gateway(0xa1, server), self.gateway(0xa2, server)

@@ -6,7 +6,7 @@ import tempfile
 import time
 import unittest
 
-from live import LONGEST, PROGRAM, TOOLS, wait_for
+from live import LONGEST, PROGRAM, TOOLS
 from serving import NOWHERE, Lines, Served
 
 OPTION = '--stop-at-end-of-input'
@@ -73,8 +73,9 @@ class EndOfInput(Served):
             child = subprocess.Popen(command('ExecStart'), stdout=subprocess.PIPE, stderr=subprocess.PIPE, text=True)
             out, log = Lines(child.stdout), Lines(child.stderr)
             log.wait('stops at the end of standard input')
-            subprocess.run(command('ExecStop'), env={**os.environ, 'MAINPID': str(child.pid)}, check=True, timeout=LONGEST)
-            wait_for(lambda: child.poll() is not None, 'the end')
+            stop = subprocess.Popen(command('ExecStop'), env={**os.environ, 'MAINPID': str(child.pid)})
+            child.wait(LONGEST)     # only then is there no such process for the other
+            self.assertEqual(stop.wait(LONGEST), 0)
             out.join(LONGEST)
             log.join(LONGEST)
             child.stdout.close()

@@ -122,6 +122,7 @@ class Events(Served):
         self.begun('info')
         for turn in range(5):
             self.each(turn)
+            time.sleep(0.2)     # the join server has answered
         time.sleep(MINUTE)
         self.assertEqual(self.count('INFO', 'datagrams: read '), 1)
         self.assertEqual(self.count('INFO', 'replies: '), 1)

@@ -374,6 +374,7 @@ fn closing_rosters(rt: HostRuntime) -> Result<(), Fail> {
             &Discard,
             rt.alloc(),
             roster,
+            Output::Lines,
             closing,
             &mut reader,
             &mut writer,

@@ -117,6 +117,29 @@ fn trial_of(stop_after: u32) -> Trial {
     }
 }
 
+// A life of the record in this folder, which is counted when it has ended. What it wrote.
+fn counted<
+    R: Threads
+        + Wait
+        + Clock
+        + Net<Listener = TcpListener, Stream = TcpStream>
+        + Files<File = File>
+        + Log
+        + Sync,
+>(
+    rt: &R,
+    alloc: Global,
+    ended: &Ended,
+    folder: &str,
+    stop_after: u32,
+) -> Result<Vec<u8>, Fail> {
+    let mut output = Vec::new(alloc);
+    let outcome = live(rt, alloc, &trial_of(stop_after), folder, &mut output);
+    ended.fetch_add(1, Ordering::SeqCst);
+    outcome?;
+    Ok(output)
+}
+
 // Three lives, one after the other: two of the record, and one of what a kill would have left of it. What each wrote.
 fn lives<
     R: Threads
@@ -127,16 +150,10 @@ fn lives<
         + Log
         + Sync,
 >(rt: &R, alloc: Global, ended: &Ended) -> Result<[Vec<u8>; 3], Fail> {
-    let mut outputs = [Vec::new(alloc), Vec::new(alloc), Vec::new(alloc)];
-    for (life, (folder, stop_after)) in [(FOLDER, 3u32), (FOLDER, 3), (KILLED, 2)]
-        .into_iter()
-        .enumerate()
-    {
-        let outcome = live(rt, alloc, &trial_of(stop_after), folder, &mut outputs[life]);
-        ended.fetch_add(1, Ordering::SeqCst);
-        outcome?;
-    }
-    Ok(outputs)
+    let first = counted(rt, alloc, ended, FOLDER, 3)?;
+    let second = counted(rt, alloc, ended, FOLDER, 3)?;
+    let killed = counted(rt, alloc, ended, KILLED, 2)?;
+    Ok([first, second, killed])
 }
 
 // Waits until so many lives have ended, for ten seconds at most.

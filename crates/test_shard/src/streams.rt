@@ -128,7 +128,7 @@ fn a_failed_write_leaves_a_beginning(rt: HostRuntime) -> Result<(), Fail> {
     let steps = "hello\n".repeat(rt.alloc(), 12_000)?;
     let lines = "refused line\n".repeat(rt.alloc(), 12_000)?;
     let long = ends(&rt, steps.as_str(), lines.as_str(), 100_000)?;
-    assert!(rt; matches!(long, Some(count) if 0 < count && count < 20));
+    assert!(rt; matches!(long, Some(count) if 0 < count && count < 38));
     Ok(())
 }
 

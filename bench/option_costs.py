@@ -1,7 +1,8 @@
 #!/usr/bin/env python3
-"""Counts the instructions of a datagram in `lorawan_ns serve` without a record, with one, and with one that is synced, by callgrind.
+"""Counts the instructions of a datagram in `lorawan_ns serve`, by callgrind: without options, with a record, with one that is synced, with
+the status, with uplinks as JSON, and with these and events.
 
-    python3 bench/record_cost.py PROGRAM [--devices N] [--copies N] [--frames FEW,MANY] [--confirmed SHARE] [--rate N] [--folder DIR]
+    python3 bench/option_costs.py PROGRAM [--devices N] [--copies N] [--frames FEW,MANY] [--confirmed SHARE] [--rate N] [--folder DIR]
 
 Devices join (64, unless told otherwise), and each sends frames of 16 bytes, each heard by so many gateways (3); of the frames a part is
 confirmed (0.1). Of each way there are two runs, with few frames of each device and with many (10,60), which end by --stop-after; what
@@ -21,7 +22,8 @@ sys.path.insert(0, os.path.join(os.path.dirname(os.path.dirname(os.path.abspath(
 from network.nodes import CHANNELS, Copy, Down, Gateway, Node, app_key, roster  # noqa: E402
 from network.servers import Joins, Serve  # noqa: E402
 
-WAYS = ('without', []), ('with', ['--record']), ('synced', ['--record', '--sync'])
+WAYS = (('none', []), ('record', ['--record']), ('synced', ['--record', '--sync']), ('status', ['--status', '127.0.0.1:0']),
+        ('json', ['--output', 'json']), ('events', ['--output', 'json', '--events']))
 LONGEST = 600       # seconds of a run
 
 
