@@ -2,12 +2,14 @@
 import base64
 import json
 import struct
+import time
 
 from forwarder_bridge import DATA_RATES, PULL_ACK, PULL_DATA, PULL_RESP, PUSH_ACK, PUSH_DATA, TX_ACK, WRAP
 
 from network.nodes import Gateway
 
 HEAD = struct.Struct('>B2sB')       # version, token, kind
+KEPT_ALIVE = 10                     # seconds from one PULL_DATA to the next, at least
 
 
 def rxpk(tmst, hertz, rate, rssi, snr, frame):
@@ -61,6 +63,7 @@ class Forwarder(Gateway):
         return token
 
     def ask(self):
+        self.asked = time.monotonic()
         self.socket.send(message(self.version, self.token(PULL_ACK), PULL_DATA, self.eui))
 
     def move(self):
@@ -68,6 +71,8 @@ class Forwarder(Gateway):
         self.ask()
 
     def send(self, copy, hertz, rate, frame):
+        if time.monotonic() - self.asked > KEPT_ALIVE:
+            self.ask()
         item = rxpk(copy.moment % WRAP, hertz, rate, copy.rssi, copy.snr, frame)
         self.up.send(message(self.version, self.token(PUSH_ACK), PUSH_DATA, self.eui, {'rxpk': [item]}))
 
