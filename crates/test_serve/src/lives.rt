@@ -126,13 +126,7 @@ fn counted<
         + Files<File = File>
         + Log
         + Sync,
->(
-    rt: &R,
-    alloc: Global,
-    ended: &Ended,
-    folder: &str,
-    stop_after: u32,
-) -> Result<Vec<u8>, Fail> {
+>(rt: &R, alloc: Global, ended: &Ended, folder: &str, stop_after: u32) -> Result<Vec<u8>, Fail> {
     let mut output = Vec::new(alloc);
     let outcome = live(rt, alloc, &trial_of(stop_after), folder, &mut output);
     ended.fetch_add(1, Ordering::SeqCst);
