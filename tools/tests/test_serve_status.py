@@ -72,7 +72,8 @@ class Told(Served):
         self.assertEqual(self.list_of('gateways')['gateways'], [])
         self.network(server)
         devices, gateways, metrics = self.list_of('devices'), self.list_of('gateways'), self.metrics()
-        self.assertLess(abs(devices['startMs'] / 1000 - before), 10)
+        self.assertLess(abs(devices['startMs'] / 1000 + 5 - before), 5)
+        self.assertLess(abs((devices['startMs'] + devices['nowMs']) / 1000 - time.time()), 2)
         self.assertEqual([row['devEui'] for row in devices['devices']], ['%016x' % eui for eui in EUIS])
         for row, device in zip(devices['devices'], self.devices):
             last = device is self.devices[-1]

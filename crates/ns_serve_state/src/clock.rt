@@ -12,8 +12,8 @@ use std::time::{Clock, Duration};
 // How long a worker sleeps at most before it looks whether the gateway workers have ended.
 const NAP_MS: u64 = 100;
 
-// What the clock tells when the server begins, so that what was asked for in an earlier life of the program is too old at once.
-const BEGIN_MS: u128 = 5_000;
+/// What the clock tells when the server begins, so that what was asked for in an earlier life of the program is too old at once.
+pub const BEGIN_MS: u64 = 5_000;
 
 /// How long to sleep before it is looked whether a time has come, in milliseconds: until then, but 100 ms at most.
 pub fn nap_ms(due: u64, now: u64) -> u64
@@ -31,7 +31,9 @@ pub struct SinceStart<'a> {
 /// What the clock tells.
 pub fn now_ms<R: Clock>(rt: &R, state: &State) -> u64 {
     match state.start.elapsed(rt) {
-        Ok(elapsed) => u64::try_from(BEGIN_MS + elapsed.as_millis()).unwrap_or(u64::MAX),
+        Ok(elapsed) => u64::try_from(elapsed.as_millis())
+            .unwrap_or(u64::MAX)
+            .saturating_add(BEGIN_MS),
         Err(_) => u64::MAX,
     }
 }

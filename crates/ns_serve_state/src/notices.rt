@@ -7,9 +7,10 @@ use crate::state::State;
 use log::{Log, warn};
 use ns_calls::{Downlink, Reply};
 use ns_events::{Text, Utc, ack_json, join_json};
+use ns_serve_parts::EventLines;
 use ns_server::Receipt;
 use ns_types::DevAddr;
-use std::sync::Wait;
+use std::sync::{Mutex, Wait};
 use std::time::Clock;
 
 // The DevAddr in the frame of a downlink (LoRaWAN L2 1.0.4, 4.3.1).
@@ -35,17 +36,22 @@ fn notice_of(time: &Option<Utc>, receipt: &Receipt) -> Option<Text>
     }
 }
 
-/// Keeps the line of the join or the acknowledgement that a receipt tells, where such lines are written. It is lost where it cannot be
-/// kept.
-pub fn note_event<R: Clock + Wait + Log>(rt: &R, state: &State, receipt: &Receipt) {
-    let Some(notices) = &state.notices else {
-        return;
-    };
+// Keeps the line of the join or the acknowledgement that a receipt tells, if it tells one.
+fn put_notice<R: Clock + Wait + Log>(rt: &R, notices: &Mutex<EventLines>, receipt: &Receipt) {
     let Some(text) = notice_of(&utc_now(rt), receipt) else {
         return;
     };
     if !notices.lock(rt).put(text.as_str()) {
         warn!(rt; "a join or an acknowledgement is not written: too many wait, or there is no memory");
+    }
+}
+
+/// Keeps the line of the join or the acknowledgement that a receipt tells, where such lines are written. It is lost where it cannot be
+/// kept.
+pub fn note_event<R: Clock + Wait + Log>(rt: &R, state: &State, receipt: &Receipt) {
+    // (the room of a line is cleared at the begin of the function that has it)
+    if let Some(notices) = &state.notices {
+        put_notice(rt, notices, receipt);
     }
 }
 

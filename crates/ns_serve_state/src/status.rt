@@ -1,5 +1,6 @@
 //! What is known of devices and gateways, where it is told.
 
+use crate::clock::BEGIN_MS;
 use log::{Log, error, info};
 use ns_roster::Roster;
 use ns_serve_parts::{ServeFault, keys};
@@ -88,6 +89,11 @@ impl Status {
     /// When the server began, in milliseconds since 1970.
     pub fn start_ms(&self) -> u64 {
         self.start_ms
+    }
+
+    /// When the workers' clock would have told 0, in milliseconds since 1970.
+    pub fn clock_start_ms(&self) -> u64 {
+        self.start_ms.saturating_sub(BEGIN_MS)
     }
 
     /// How many devices there are, and how many of them have joined.

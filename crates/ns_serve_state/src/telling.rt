@@ -232,10 +232,10 @@ fn answer<R: Wait + Clock, S: Sink>(
             }
             let now_ms = now_ms(rt, state);
             if request.route == Route::Devices {
-                put_front(&mut text, "devices", now_ms, status.start_ms())?;
+                put_front(&mut text, "devices", now_ms, status.clock_start_ms())?;
                 put_device_rows(rt, alloc, status, sink, &mut text)?;
             } else {
-                put_front(&mut text, "gateways", now_ms, status.start_ms())?;
+                put_front(&mut text, "gateways", now_ms, status.clock_start_ms())?;
                 put_gateway_rows(rt, alloc, status, sink, &mut text)?;
             }
             put_end(&mut text)?;
