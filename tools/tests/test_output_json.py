@@ -1,5 +1,7 @@
 """Uplinks as JSON: the schemas and their examples, the worked runs, a consumer, and what `replay` and `serve` write."""
+import contextlib
 import glob
+import io
 import json
 import os
 import sqlite3
@@ -80,6 +82,13 @@ class Readings(unittest.TestCase):
             readings.keep([*lines[2:], 'settled 9\n'], path)
             rows = sqlite3.connect(path).execute('SELECT time, device, session, counter, port, value, rssi, snr FROM readings').fetchall()
         self.assertEqual(rows, [('T', 'd', 1, n, 2, -1 - n, -100.0, 8.0) for n in (0, 1, 2, 4)])
+
+    def test_line_protocol(self):
+        line = json.dumps({'time': '2026-11-25T06:53:36.623Z', 'devEui': 'd', 'session': 1, 'fCnt': 3, 'sealed': False, 'payload': 'ffff',
+                           'rxInfo': [{'rssi': -95.0, 'snr': 7.5}]})
+        with contextlib.redirect_stdout(io.StringIO()) as written:
+            readings.put(['listening 127.0.0.1:1700\n', line, 'settled 9\n'])
+        self.assertEqual(written.getvalue(), 'readings,device=d session=1i,counter=3i,value=-1i,rssi=-95.0,snr=7.5 1795589616623000000\n')
 
 
 @unittest.skipUnless(HAS_OUTPUT, 'no built program that writes JSON')
