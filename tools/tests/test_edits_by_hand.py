@@ -11,10 +11,11 @@ import unittest
 from live import TOOLS
 
 SCRIPT = os.path.join(TOOLS, 'edits_by_hand')
-RT = '''#!/bin/sh
+RT = r'''#!/bin/sh
 if [ "$1" = check ]; then
     if grep -q HANG src/*; then exec sleep 60; fi
-    if grep -q WRONG src/*; then echo "note: src/lib.rt:1:1: it is not proved"; echo logic=not-proved; exit 1; fi
+    sed -n 's/.*WRONG_\([a-z]*\).*/fn low::\1: no proof: it is wrong/p; s/.*LATER_\([a-z]*\).*/fn low::\1: no proof: it calls another/p' src/*
+    if grep -q 'WRONG\|LATER' src/*; then echo "note: src/lib.rt:1:1: it is not proved"; echo logic=not-proved; exit 1; fi
     echo "crate: modules loaded"; echo logic=proved
 else
     if grep -q SLOW ../low/src/*; then echo "test it::is_fast ... FAILED"; else echo "test it::is_fast ... ok"; fi
@@ -68,6 +69,20 @@ class Edits(unittest.TestCase):
         self.assertEqual(self.says('low'), (1, ['low/a: refused', 'low/b: ACCEPTED', 'low/c: NOT TRIED', '1 refused, 1 ACCEPTED, 1 NOT TRIED']))
         self.assertEqual(self.says('low/a', 'low/d'), (0, ['low/a: refused', 'low/d: refused', '2 refused, 0 ACCEPTED, 0 NOT TRIED']))
         self.assertEqual(self.says('high')[0], 1)
+
+    def test_functions_together(self):
+        self.put('crates/low/src/lib.rt', 'const A: u8 = 1;\nfn f() {\n    two\n}\n\nimpl B {\n    pub fn g(&self)\n        ensures { x }\n'
+                 '    {\n        three\n    }\n\n    fn h() {\n        four\n    }\n}\n')
+        self.edit('a', '    two', '    WRONG_f')
+        self.edit('b', '        three', '        WRONG_g')
+        self.edit('c', '        four', '        LATER_h')
+        self.edit('d', 'A: u8 = 1', 'A: u8 = 2')
+        self.edit('e', '    two', '    three')
+        lines = self.started('low').communicate(timeout=60)[0].splitlines()
+        told = [(line.partition(' (')[0], line.partition(') ')[2]) for line in lines]
+        self.assertEqual(told, [('low/a: refused', 'low::f: no proof: it is wrong'), ('low/b: refused', 'low::g: no proof: it is wrong'),
+                                ('low/c: refused', 'note: src/lib.rt:1:1: it is not proved'), ('low/d: ACCEPTED', ''),
+                                ('low/e: ACCEPTED', ''), ('3 refused, 2 ACCEPTED, 0 NOT TRIED', '')])
 
     def test_by_tests(self):
         self.edit('a', 'one', 'SLOW', 'tests: high\n')
