@@ -6,9 +6,9 @@
     python3 tools/crates_graph.py --update   puts the first into docs/DEVELOPING.md
     python3 tools/crates_graph.py --check    status 1 where docs/DEVELOPING.md has another
 
-crates.txt lists for each crate all libraries below it, since each is handed to the compiler. Drawn is what is not
-implied: an arrow leads from a crate to one that it stands on and that no other of its libraries stands on. Crates of
-the kit are left out.
+crates.txt lists for each crate the libraries that its files name. Drawn is what is not implied: an arrow leads from a
+crate to one that it lists and that no other of its libraries stands on, directly or by others. Crates of the kit are
+left out.
 """
 import argparse
 import sys
@@ -36,10 +36,18 @@ def listed(text):
     return {name: [x for x in libraries if x in below] for name, libraries in below.items()}, server
 
 
+def all_below(name, below, found):
+    """All libraries that a crate stands on, directly or by others."""
+    if name not in found:
+        found[name] = set(below[name]).union(*(all_below(low, below, found) for low in below[name]))
+    return found[name]
+
+
 def arrows(below):
     """What is not implied: (crate, library) where no other library of the crate stands on that library."""
+    found = {}
     return [(name, low) for name, libraries in below.items() for low in libraries
-            if not any(low in below[other] for other in libraries)]
+            if not any(low in all_below(other, below, found) for other in libraries)]
 
 
 def graph(all_of_them):
