@@ -14,7 +14,7 @@ SCRIPT = os.path.join(TOOLS, 'edits_by_hand')
 RT = r'''#!/bin/sh
 if [ "$1" = check ]; then
     if grep -q HANG src/*; then exec sleep 60; fi
-    sed -n 's/.*WRONG_\([a-z]*\).*/fn low::\1: no proof: it is wrong/p; s/.*LATER_\([a-z]*\).*/fn low::\1: no proof: it calls another/p' src/*
+    sed -n 's/.*WRONG_\([a-z]*\).*/fn low::\1: no proof: `search` did not prove `is`/p; s/.*LATER_\([a-z]*\).*/fn low::\1: no proof: it calls another/p' src/*
     if grep -q 'WRONG\|LATER' src/*; then echo "note: src/lib.rt:1:1: it is not proved"; echo logic=not-proved; exit 1; fi
     echo "crate: modules loaded"; echo logic=proved
 else
@@ -80,7 +80,7 @@ class Edits(unittest.TestCase):
         self.edit('e', '    two', '    three')
         lines = self.started('low').communicate(timeout=60)[0].splitlines()
         told = [(line.partition(' (')[0], line.partition(') ')[2]) for line in lines]
-        self.assertEqual(told, [('low/a: refused', 'low::f: no proof: it is wrong'), ('low/b: refused', 'low::g: no proof: it is wrong'),
+        self.assertEqual(told, [('low/a: refused', 'low::f: no proof: `search` did not prove `is`'), ('low/b: refused', 'low::g: no proof: `search` did not prove `is`'),
                                 ('low/c: refused', 'note: src/lib.rt:1:1: it is not proved'), ('low/d: ACCEPTED', ''),
                                 ('low/e: ACCEPTED', ''), ('3 refused, 2 ACCEPTED, 0 NOT TRIED', '')])
 
