@@ -5,6 +5,7 @@ ghost use Rattle.serde_json.specs.Data.{put};
 ghost use Rattle.serde_json.specs.View.{view, members_view};
 ghost use Rattle.ns_roster.specs.Object.{scalar_data, object_of};
 
+use crate::field::eui_text;
 use serde_json::{Map, Value};
 use std::alloc::{AllocError, Global};
 
@@ -16,6 +17,8 @@ pub enum Scalar<'a> {
     Whole(u64),
     /// A number that need not be whole. One that is not finite is written as null.
     Float(f64),
+    /// An EUI, in hex, as `eui_text` writes it.
+    Eui(u64),
     /// A text of the program.
     Word(&'static str),
     Text(&'a str),
@@ -30,6 +33,7 @@ fn scalar_value(alloc: Global, scalar: Scalar<'_>) -> Result<Value, AllocError>
         Scalar::Truth(truth) => Ok(Value::from(truth)),
         Scalar::Whole(number) => Ok(Value::from(number)),
         Scalar::Float(number) => Ok(Value::from(number)),
+        Scalar::Eui(eui) => Ok(Value::String(eui_text(alloc, eui)?)),
         Scalar::Word(text) => Ok(Value::String(String::from_str(alloc, text)?)),
         Scalar::Text(text) => Ok(Value::String(String::from_str(alloc, text)?)),
     }
@@ -49,7 +53,8 @@ fn put_field(
     serde_json::put(members, alloc, key, value)
 }
 
-/// The object with these fields. It says what `json!` does of an object, and the proof of a function with ten fields is a short one.
+/// The object with these fields; of equal keys the last counts. `json!` writes out two steps that may fail for each field, so a function
+/// that makes a large object by it takes long to prove.
 pub fn object_of(alloc: Global, fields: &[(&'static str, Scalar<'_>)]) -> Result<Value, AllocError>
     ensures { IfOk result (λ v. view v ≡ object_of fields.now) }
 {
