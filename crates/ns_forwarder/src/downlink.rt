@@ -4,6 +4,8 @@ ghost use Rattle.std.specs.Prelude.{◌≡◌, ◌≤◌, ◌%◌, ◌^◌, ◌�
 ghost use Rattle.serde_json.specs.View.{view};
 ghost use Rattle.serde_json.specs.Data.{number, float};
 ghost use Rattle.ns_roster.specs.Field.{value_of};
+ghost use Rattle.ns_roster.specs.Object.{scalar_data};
+ghost use Rattle.ns_roster.specs.declared.object.Scalar.TheVariants.{Float};
 ghost use Rattle.ns_link.specs.Datagram.{lowest_frequency, highest_frequency};
 ghost use Rattle.ns_forwarder.specs.declared.fault.ForwarderFault.TheVariants.{NoMemory, Downlink};
 ghost use Rattle.ns_forwarder.specs.Txpk.{is_of_band, rate_name, megahertz, base64, lora, fsk, txpk, request, IsPullResp, SaysToSend};
@@ -11,6 +13,8 @@ ghost use Rattle.ns_forwarder.specs.Txpk.{is_of_band, rate_name, megahertz, base
 use crate::ForwarderFault;
 use crate::item::{FSK_BITS, FSK_RATE, HIGHEST_FREQUENCY, LOWEST_FREQUENCY, MILLION};
 use base64::engine::general_purpose::STANDARD_PAD_INDIFFERENT;
+use ns_roster::object::Scalar::{Float, Text, Truth, Whole, Word};
+use ns_roster::object::object_of;
 use ns_types::Target;
 use serde_json::{Value, json};
 use std::alloc::{AllocError, Global};
@@ -22,7 +26,7 @@ const HEAD: usize = 4;
 /// How far a counter of 32 bits counts.
 const WRAP: u64 = 0x1_0000_0000;
 /// The deviation of FSK, in Hz (EU868).
-const FSK_DEVIATION: u32 = 25_000;
+const FSK_DEVIATION: u64 = 25_000;
 
 // The name of a data rate of LoRa.
 fn rate_name(dr: u8) -> &'static str
@@ -46,13 +50,14 @@ fn counter(moment: u64) -> u32
     (moment % WRAP) as u32
 }
 
-// A frequency of EU868 in MHz.
-fn frequency(freq: u32) -> Value
+// A frequency of EU868 in MHz, which is a number of JSON.
+fn megahertz(freq: u32) -> f64
     requires lowest { lowest_frequency ≤ freq }
     requires highest { freq ≤ highest_frequency }
-    ensures { view result ≡ number (float (megahertz freq)) }
+    ensures is { result ≡ megahertz freq }
+    ensures finite { scalar_data (Float result) ≡ number (float (megahertz freq)) }
 {
-    Value::from(f64::from(freq) / MILLION)
+    f64::from(freq) / MILLION
 }
 
 // The bytes of a frame in base64.
@@ -69,20 +74,23 @@ fn lora(alloc: Global, target: &Target, power: u8, frame: &[u8]) -> Result<Value
     ensures { IfOk result (λ v. view v ≡ lora target.now power frame.now) }
 {
     let data = base64_text(alloc, frame)?;
-    json!(in alloc; {
-        "codr": "4/5",
-        "data": data,
-        "datr": rate_name(target.dr),
-        "freq": frequency(target.freq),
-        "imme": false,
-        "ipol": true,
-        "modu": "LORA",
-        "ncrc": true,
-        "powe": power,
-        "rfch": 0u8,
-        "size": frame.len(),
-        "tmst": counter(target.moment)
-    })
+    object_of(
+        alloc,
+        &[
+            ("codr", Word("4/5")),
+            ("data", Text(data.as_str())),
+            ("datr", Word(rate_name(target.dr))),
+            ("freq", Float(megahertz(target.freq))),
+            ("imme", Truth(false)),
+            ("ipol", Truth(true)),
+            ("modu", Word("LORA")),
+            ("ncrc", Truth(true)),
+            ("powe", Whole(power as u64)),
+            ("rfch", Whole(0)),
+            ("size", Whole(frame.len() as u64)),
+            ("tmst", Whole(counter(target.moment) as u64)),
+        ],
+    )
 }
 
 // The `txpk` of FSK.
@@ -92,18 +100,21 @@ fn fsk(alloc: Global, target: &Target, power: u8, frame: &[u8]) -> Result<Value,
     ensures { IfOk result (λ v. view v ≡ fsk target.now power frame.now) }
 {
     let data = base64_text(alloc, frame)?;
-    json!(in alloc; {
-        "data": data,
-        "datr": FSK_BITS,
-        "fdev": FSK_DEVIATION,
-        "freq": frequency(target.freq),
-        "imme": false,
-        "modu": "FSK",
-        "powe": power,
-        "rfch": 0u8,
-        "size": frame.len(),
-        "tmst": counter(target.moment)
-    })
+    object_of(
+        alloc,
+        &[
+            ("data", Text(data.as_str())),
+            ("datr", Whole(FSK_BITS)),
+            ("fdev", Whole(FSK_DEVIATION)),
+            ("freq", Float(megahertz(target.freq))),
+            ("imme", Truth(false)),
+            ("modu", Word("FSK")),
+            ("powe", Whole(power as u64)),
+            ("rfch", Whole(0)),
+            ("size", Whole(frame.len() as u64)),
+            ("tmst", Whole(counter(target.moment) as u64)),
+        ],
+    )
 }
 
 // The `txpk` of a frame.

@@ -108,22 +108,15 @@ fn lora_rate(name: &str) -> Option<u8>
     ensures is { result ≡ lora_rate name.now }
     ensures most { IfSome result (λ dr. dr ≤ 6) }
 {
-    if name == "SF12BW125" {
-        Some(0)
-    } else if name == "SF11BW125" {
-        Some(1)
-    } else if name == "SF10BW125" {
-        Some(2)
-    } else if name == "SF9BW125" {
-        Some(3)
-    } else if name == "SF8BW125" {
-        Some(4)
-    } else if name == "SF7BW125" {
-        Some(5)
-    } else if name == "SF7BW250" {
-        Some(6)
-    } else {
-        None
+    match name {
+        "SF12BW125" => Some(0),
+        "SF11BW125" => Some(1),
+        "SF10BW125" => Some(2),
+        "SF9BW125" => Some(3),
+        "SF8BW125" => Some(4),
+        "SF7BW125" => Some(5),
+        "SF7BW250" => Some(6),
+        _ => None,
     }
 }
 

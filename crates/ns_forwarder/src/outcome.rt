@@ -56,24 +56,16 @@ fn are_blank(body: &[u8]) -> bool
 fn named(name: &str) -> Outcome
     ensures { result ≡ named name.now }
 {
-    if name == "NONE" {
-        Outcome::Sent
-    } else if name == "TOO_LATE" {
-        Outcome::TooLate
-    } else if name == "TOO_EARLY" {
-        Outcome::TooEarly
-    } else if name == "COLLISION_PACKET" {
-        Outcome::CollisionPacket
-    } else if name == "COLLISION_BEACON" {
-        Outcome::CollisionBeacon
-    } else if name == "TX_FREQ" {
-        Outcome::TxFreq
-    } else if name == "TX_POWER" {
-        Outcome::TxPower
-    } else if name == "GPS_UNLOCKED" {
-        Outcome::GpsUnlocked
-    } else {
-        Outcome::Other
+    match name {
+        "NONE" => Outcome::Sent,
+        "TOO_LATE" => Outcome::TooLate,
+        "TOO_EARLY" => Outcome::TooEarly,
+        "COLLISION_PACKET" => Outcome::CollisionPacket,
+        "COLLISION_BEACON" => Outcome::CollisionBeacon,
+        "TX_FREQ" => Outcome::TxFreq,
+        "TX_POWER" => Outcome::TxPower,
+        "GPS_UNLOCKED" => Outcome::GpsUnlocked,
+        _ => Outcome::Other,
     }
 }
 

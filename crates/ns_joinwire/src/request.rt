@@ -9,9 +9,11 @@ ghost use Rattle.ns_roster.specs.Field.{hex_bytes, hex_number};
 ghost use Rattle.ns_roster.specs.Network.{device_addr};
 
 use ns_roster::field::{eui_text, net_id_text};
+use ns_roster::object::Scalar::{Text, Whole, Word};
+use ns_roster::object::object_of;
 use ns_roster::{Device, Roster};
 use ns_types::{Ticket, addr_of};
-use serde_json::{Value, json};
+use serde_json::Value;
 use std::alloc::{AllocError, Global};
 
 // The fields of a message that differ from one to another, as they are written.
@@ -79,19 +81,22 @@ fn fields_of(
 fn message(alloc: Global, fields: &Fields) -> Result<Value, AllocError>
     ensures { IfOk result (λ v. view v ≡ message (fields_view fields.now)) }
 {
-    json!(in alloc; {
-        "DLSettings": fields.settings.as_str(),
-        "DevAddr": fields.dev_addr.as_str(),
-        "DevEUI": fields.dev_eui.as_str(),
-        "MACVersion": "1.0.4",
-        "MessageType": "JoinReq",
-        "PHYPayload": fields.frame.as_str(),
-        "ProtocolVersion": "1.0",
-        "ReceiverID": fields.join_eui.as_str(),
-        "RxDelay": fields.rx_delay,
-        "SenderID": fields.net_id.as_str(),
-        "TransactionID": fields.transaction
-    })
+    object_of(
+        alloc,
+        &[
+            ("DLSettings", Text(fields.settings.as_str())),
+            ("DevAddr", Text(fields.dev_addr.as_str())),
+            ("DevEUI", Text(fields.dev_eui.as_str())),
+            ("MACVersion", Word("1.0.4")),
+            ("MessageType", Word("JoinReq")),
+            ("PHYPayload", Text(fields.frame.as_str())),
+            ("ProtocolVersion", Word("1.0")),
+            ("ReceiverID", Text(fields.join_eui.as_str())),
+            ("RxDelay", Whole(fields.rx_delay as u64)),
+            ("SenderID", Text(fields.net_id.as_str())),
+            ("TransactionID", Whole(fields.transaction as u64)),
+        ],
+    )
 }
 
 /// The text that asks the device's join server about a Join-Request (TS002, JoinReq): compact JSON with its keys in byte order

@@ -213,7 +213,7 @@ impl<B: Naming> Server<B> {
         roster: Arc<Roster>,
         workers: usize,
         blanks: Blanks,
-        mut shards: Vec<Shard>,
+        shards: Vec<Shard>,
     ) -> Result<(Server<B>, Vec<Pass<B>>), AllocError>
         requires workers { (0 < workers) × (workers ≤ 64) }
         requires names { AreNamed B.ledger blanks.names }
@@ -225,6 +225,23 @@ impl<B: Naming> Server<B> {
     {
         let mut passes = Vec::with_capacity(alloc, workers)?;
         let (books, shares) = blanks.open::<B>();
+        put_passes(&mut passes, shares, workers);
+        let server = Server::<B>::locked(roster, workers, books, shards);
+        Ok((server, passes))
+    }
+
+    // Puts each of the sixteen shards under its lock, with its book.
+    fn locked(
+        roster: Arc<Roster>,
+        workers: usize,
+        books: Books<B>,
+        mut shards: Vec<Shard>,
+    ) -> Server<B>
+        requires workers { (0 < workers) × (B.workers ≡ workers) }
+        requires roster { arc_value roster ≡ B.roster }
+        requires shards { AreFirst B.roster B.begun shard_count shards.items }
+        ensures { result ≡ workers }
+    {
         let Books {
             k0,
             k1,
@@ -243,8 +260,7 @@ impl<B: Naming> Server<B> {
             k14,
             k15,
         } = books;
-        put_passes(&mut passes, shares, workers);
-        let server = Server {
+        Server {
             workers,
             k15: new_lock(&mut shards, k15),
             k14: new_lock(&mut shards, k14),
@@ -263,8 +279,7 @@ impl<B: Naming> Server<B> {
             k1: new_lock(&mut shards, k1),
             k0: new_lock(&mut shards, k0),
             roster,
-        };
-        Ok((server, passes))
+        }
     }
 
     /// Makes a call with a worker's pass, under the lock of the call's shard alone, with the visits of the gate. `NoMemory`

@@ -4,14 +4,16 @@ ghost use Rattle.std.specs.Prelude.{◌≡◌, ◌++◌, map, false, decimal, st
 ghost use Rattle.serde_json.specs.View.{view};
 ghost use Rattle.serde_json.specs.Written.{has_float};
 ghost use Rattle.ns_roster.specs.Field.{hex_number};
+ghost use Rattle.ns_roster.specs.Object.{scalar_data};
 ghost use Rattle.ns_status.specs.Rows.{front_text, end_text, fcnt_data, heard_gateway_data, heard_ms_data, device_data, gateway_data, row_text, rows_text, device_row, gateway_row};
 
 use crate::devices::{Device, HeardBy};
 use crate::gateways::Gateway;
 use itoa::Buffer;
-use ns_roster::field::eui_text;
+use ns_roster::object::Scalar::{Eui, Null, Text, Whole};
+use ns_roster::object::{Scalar, object_of};
 use ns_types::{DevAddr, DevEui, GatewayId};
-use serde_json::{Value, json};
+use serde_json::Value;
 use std::alloc::{AllocError, Global};
 
 // Puts a number in decimal.
@@ -54,27 +56,33 @@ fn addr_text(alloc: Global, addr: DevAddr) -> Result<String, AllocError>
     hex::encode(alloc, addr.0.to_be_bytes())
 }
 
-// The value of a counter.
-fn fcnt_value(alloc: Global, fcnt: Option<u32>) -> Result<Value, AllocError>
-    ensures { IfOk result (λ v. view v ≡ fcnt_data fcnt) }
+// The greatest counter of a device.
+fn fcnt<'a>(fcnt: Option<u32>) -> Scalar<'a>
+    ensures { scalar_data result ≡ fcnt_data fcnt }
 {
     match fcnt {
-        Some(fcnt) => json!(in alloc; fcnt),
-        None => Ok(Value::Null),
+        Some(fcnt) => Whole(fcnt as u64),
+        None => Null,
     }
 }
 
-// The values of who heard a device, and when.
-fn heard_values(alloc: Global, heard: Option<HeardBy>) -> Result<(Value, Value), AllocError>
-    ensures gateway { IfOk result (λ v. view v.0 ≡ heard_gateway_data heard) }
-    ensures moment { IfOk result (λ v. view v.1 ≡ heard_ms_data heard) }
+// Who heard a device.
+fn heard_gateway<'a>(heard: Option<HeardBy>) -> Scalar<'a>
+    ensures { scalar_data result ≡ heard_gateway_data heard }
 {
     match heard {
-        Some(heard) => {
-            let gateway = eui_text(alloc, heard.gateway.0)?;
-            Ok((json!(in alloc; gateway)?, json!(in alloc; heard.at_ms)?))
-        }
-        None => Ok((Value::Null, Value::Null)),
+        Some(heard) => Eui(heard.gateway.0),
+        None => Null,
+    }
+}
+
+// When a device was heard.
+fn heard_ms<'a>(heard: Option<HeardBy>) -> Scalar<'a>
+    ensures { scalar_data result ≡ heard_ms_data heard }
+{
+    match heard {
+        Some(heard) => Whole(heard.at_ms),
+        None => Null,
     }
 }
 
@@ -83,32 +91,33 @@ fn device_value(alloc: Global, eui: DevEui, device: &Device) -> Result<Value, Al
     ensures { IfOk result (λ v. view v ≡ device_data eui device.now) }
 {
     let dev_addr = addr_text(alloc, device.addr)?;
-    let dev_eui = eui_text(alloc, eui.0)?;
-    let fcnt = fcnt_value(alloc, device.fcnt)?;
-    let (gateway, heard_ms) = heard_values(alloc, device.heard)?;
-    let missed = device.missed();
-    json!(in alloc; {
-        "devAddr": dev_addr,
-        "devEui": dev_eui,
-        "fCnt": fcnt,
-        "gatewayId": gateway,
-        "heardMs": heard_ms,
-        "missed": missed,
-        "session": device.session,
-        "sinceMs": device.since_ms
-    })
+    object_of(
+        alloc,
+        &[
+            ("devAddr", Text(dev_addr.as_str())),
+            ("devEui", Eui(eui.0)),
+            ("fCnt", fcnt(device.fcnt)),
+            ("gatewayId", heard_gateway(device.heard)),
+            ("heardMs", heard_ms(device.heard)),
+            ("missed", Whole(device.missed())),
+            ("session", Whole(device.session as u64)),
+            ("sinceMs", Whole(device.since_ms)),
+        ],
+    )
 }
 
 // The value of a gateway.
 fn gateway_value(alloc: Global, id: GatewayId, gateway: &Gateway) -> Result<Value, AllocError>
     ensures { IfOk result (λ v. view v ≡ gateway_data id gateway.now) }
 {
-    let text = eui_text(alloc, id.0)?;
-    json!(in alloc; {
-        "frames": gateway.frames,
-        "gatewayId": text,
-        "heardMs": gateway.at_ms
-    })
+    object_of(
+        alloc,
+        &[
+            ("frames", Whole(gateway.frames)),
+            ("gatewayId", Eui(id.0)),
+            ("heardMs", Whole(gateway.at_ms)),
+        ],
+    )
 }
 
 // Puts a row, on a line of its own, with a comma before all but the first.
