@@ -2,7 +2,7 @@
 use Rattle.std.proofs.Common.{◌≡◌, ℕ, true, false, not, List, length, Option, None, Some, IfSome, option_map, refl, sym, ap, ap₂, subst, ◌∙◌, inl, inr}
 use Rattle.std.specs.Prelude.{IsSome}
 use Rattle.std.specs.List.{AllByRecursion}
-use Rattle.std.specs.Option.{option_map_or}
+use Rattle.std.specs.Option.{option_and_then}
 use Rattle.ns_types.specs.declared.identity.DevAddr.{DevAddr}
 use Rattle.ns_types.specs.declared.identity.DevEui.{DevEui}
 use Rattle.ns_types.specs.declared.identity.JoinEui.{JoinEui}
@@ -46,15 +46,13 @@ use Rattle.ns_windows.specs.declared.window.Window.{Window}
 use Rattle.ns_devices.specs.declared.own.Own.{Own}
 use Rattle.ns_shard.specs.Private.Devices.{own_in}
 use Rattle.ns_devices.specs.Devices.{own_of, with_change_of, after_answer}
-use Rattle.ns_shard.specs.declared.event.Event.TheVariants.{Quiet}
 use Rattle.ns_shard.specs.State.{quiet}
-use Rattle.ns_shard.specs.Private.Sending.{answer_of}
-use Rattle.ns_shard.specs.Private.Reaction.{answer_event, own_answer_event, shard_answer_event}
+use Rattle.ns_shard.specs.Private.Reaction.{answer_ended, own_answer_ended, shard_answer_ended}
 use Rattle.ns_shard.specs.Private.Parts.{Agrees}
 use Rattle.ns_shard.proofs.Roster.{own-found}
 use Rattle.ns_shard.proofs.DeviceSteps.{devices-changed}
 use Rattle.ns_shard.proofs.WindowSteps.{windows-quiet}
-use Rattle.ns_shard.proofs.PartSteps.{joined, others-stay, same_device-false}
+use Rattle.ns_shard.proofs.PartSteps.{joined, others-stay, same_device-false, ended_or}
 
 -- ---- the devices of open tickets are the roster's
 
@@ -120,7 +118,7 @@ no_ticket-out net h t outcome.Failed = refl
 no_ticket-out net h t (outcome.Success join) = refl
 
 decision-out : (net : Network) (h : List Entry) (t : Ticket) (o : Outcome) (d : AnswerDecision) → ((session : ℕ) (heard : Heard) → d ≡ decision.Accepted session heard → best (ticket_copies h t) ≡ Some heard) →
-    answer_of net None (answer_event (address net (dev_eui t)) t o d) ≡ answer_with net h t o (answer_decision_reply net t d)
+    ended_or net reply.NoTicket (answer_ended (address net (dev_eui t)) t o d) ≡ answer_with net h t o (answer_decision_reply net t d)
 decision-out net h t o decision.NoTicket copies = no_ticket-out net h t o
 decision-out net h t outcome.Failed decision.Refused copies = refl
 decision-out net h t (outcome.Success join) decision.Refused copies = refl
@@ -136,12 +134,12 @@ decision-out net h t (outcome.Success join) (decision.Accepted session heard) co
     } in a) (sym (copies session heard refl))
 
 pub answer-answered : (net : Network) (index : ℕ) (h : List Entry) (devices : List Own) (windows : List Window) (t : Ticket) (o : Outcome) → Agrees net index h devices windows → AnswersAgree net h → shard_of (dev_eui t) ≡ index →
-    answer_of net None (shard_answer_event devices t o) ≡ answer net h (call.JoinReply t o)
+    ended_or net reply.NoTicket (shard_answer_ended devices t o) ≡ answer net h (call.JoinReply t o)
 answer-answered net index h devices windows t o agrees law mine =
     ap told (ap (own_of (dev_eui t)) agrees.by_device ∙ own-found net index h (dev_eui t) mine) ∙ step (device net (dev_eui t)) refl
   where
     told : Option Own → Answer
-    told x = answer_of net None (option_map_or (own_answer_event t o) x (Quiet reply.NoTicket))
+    told x = ended_or net reply.NoTicket (option_and_then (own_answer_ended t o) x)
 
     step : (d : Option Device) → device net (dev_eui t) ≡ d → told (option_map (own_in net h) d) ≡ answer net h (call.JoinReply t o)
     step None is =
@@ -149,7 +147,7 @@ answer-answered net index h devices windows t o agrees law mine =
     step (Some d) is =
         let eui : d.eui ≡ dev_eui t = (found-device net (dev_eui t) d is).1 in
         let addr : device_addr net d ≡ address net (dev_eui t) = ap (λ (x : Option Device). Rattle.std.specs.Prelude.unwrap_or (option_map (device_addr net) x) (record { 0 = 0 })) (sym is) in
-        ap₂ (λ (a : DevAddr) (e : DevEui). answer_of net None (answer_event a t o (answer_decision (device_record net h e) t o))) addr eui
+        ap₂ (λ (a : DevAddr) (e : DevEui). ended_or net reply.NoTicket (answer_ended a t o (answer_decision (device_record net h e) t o))) addr eui
         ∙ (decision-out net h t o (answer_decision (device_record net h (dev_eui t)) t o) (λ session heard is. law.copies t o session heard is)
         ∙ ap (answer_with net h t o) (law.replies t o))
 

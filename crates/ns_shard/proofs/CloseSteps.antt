@@ -45,13 +45,13 @@ use Rattle.ns_devices.specs.declared.own.Own.{Own}
 use Rattle.ns_shard.specs.Private.Held.{window_of_opening, windows_in}
 use Rattle.ns_shard.specs.Private.Devices.{own_in, devices_in}
 use Rattle.ns_devices.specs.Devices.{own_of, with_change_of}
-use Rattle.ns_shard.specs.Private.Sending.{uplink_from, first_uplink_from, ack_from, answer_of}
-use Rattle.ns_shard.specs.Private.Reaction.{ack_of, close_event, with_closing}
+use Rattle.ns_shard.specs.Private.Sending.{uplink_from, first_uplink_from, ack_from}
+use Rattle.ns_shard.specs.Private.Reaction.{ack_of, close_ended, with_closing}
 use Rattle.ns_shard.specs.Private.Parts.{Agrees}
 use Rattle.ns_shard.proofs.Roster.{own-found, members}
 use Rattle.ns_shard.proofs.DeviceSteps.{devices-changed, devices-same}
 use Rattle.ns_shard.proofs.WindowSteps.{windows-quiet, windows-closed, windows-named}
-use Rattle.ns_shard.proofs.PartSteps.{joined, others-stay, same_device-false}
+use Rattle.ns_shard.proofs.PartSteps.{joined, others-stay, same_device-false, ended_or}
 use Rattle.ns_calls.proofs.Says.{join-says, answer-says, close-says}
 
 -- ---- the devices of open windows are the roster's
@@ -182,11 +182,11 @@ close-reply : (h : List Entry) (w : WindowName) (found : Option Opening) → ope
 close-reply h w found is = ap (λ (x : Option Opening). first_case (option_map (λ (o : Opening). reply.Closed w (ack_number h o)) x ∷ []) reply.NoWindow) is
 
 pub close-answered : (net : Network) (index : ℕ) (h : List Entry) (devices : List Own) (windows : List Window) (w : WindowName) → Agrees net index h devices windows → ClosingsAgree net h → shard_of w.eui ≡ index →
-    answer_of net (window_named w windows) (close_event devices (window_named w windows)) ≡ answer net h (call.Close w)
+    ended_or net reply.NoWindow (close_ended devices (window_named w windows)) ≡ answer net h (call.Close w)
 close-answered net index h devices windows w agrees law mine =
-    ap₂ (λ ds x. answer_of net x (close_event ds x)) agrees.by_device (ap (window_named w) agrees.by_window ∙ windows-named h w) ∙ step (open_window h w) refl
+    ap₂ (λ ds x. ended_or net reply.NoWindow (close_ended ds x)) agrees.by_device (ap (window_named w) agrees.by_window ∙ windows-named h w) ∙ step (open_window h w) refl
   where
-    step : (found : Option Opening) → open_window h w ≡ found → answer_of net (option_map (window_of_opening h) found) (close_event (devices_in net index h) (option_map (window_of_opening h) found)) ≡ answer net h (call.Close w)
+    step : (found : Option Opening) → open_window h w ≡ found → ended_or net reply.NoWindow (close_ended (devices_in net index h) (option_map (window_of_opening h) found)) ≡ answer net h (call.Close w)
     step None is = ap (close_with net h w) (sym (close-reply h w None is))
     step (Some o) is =
         let kept = open-kept net index h devices windows w o agrees is in

@@ -1,13 +1,14 @@
 -- Closings and answers by the devices and windows that agree with the entries: what ends, whose it is, and what stays where nothing ends.
 use Rattle.std.proofs.Common.{◌≡◌, ℕ, ◌==◌, Bool, true, false, ◌||◌, cond, List, [], ◌∷◌, length, filter, Option, None, Some, slice_get, option_map, refl, sym, ap, subst, ◌∙◌, arith, inl, inr}
+use Rattle.std.specs.Arc.{arc_value}
 use Rattle.std.specs.List.{AllByRecursion, list_any}
-use Rattle.std.specs.Option.{is_some, option_map_or}
+use Rattle.std.specs.Option.{is_some, option_and_then}
 use Rattle.std.proofs.lemmas.Bool.{false≢true}
 use Rattle.std.proofs.lemmas.Bool.Decides.{nat_tests}
 use Rattle.ns_types.specs.declared.identity.DevEui.{DevEui}
 use Rattle.ns_types.specs.declared.identity.WindowName.{WindowName}
 use Rattle.ns_types.specs.declared.ticket.Ticket.{Ticket}
-use Rattle.ns_types.specs.Cases.{when}
+use Rattle.ns_types.specs.declared.identity.DevAddr.{DevAddr}
 use Rattle.ns_types.specs.Identity.{shard_of, same_window}
 use Rattle.ns_types.specs.Ticket.{dev_eui}
 use Rattle.ns_roster.specs.declared.Device.{Device}
@@ -23,6 +24,7 @@ use Rattle.ns_calls.specs.Entries.{Opening, same_device, open_windows}
 use Rattle.ns_calls.specs.History.{asks_for, open_window, open_tickets, is_ticket_open}
 use Rattle.ns_calls.proofs.Says.{asking_in, is_ticket, asked-by}
 use Rattle.ns_calls.specs.Shards.{shard_of_call}
+use Rattle.ns_calls.specs.Out.{answer}
 use Rattle.ns_calls.specs.Legal.{IsHistory, entry_for, with_call}
 use Rattle.ns_calls.proofs.LocalLemmas.{bool_tells}
 use Rattle.ns_calls.proofs.Lists.{All-weaker, find-has, find-none, at_some}
@@ -31,29 +33,36 @@ use Rattle.ns_calls.proofs.NameLemmas.{same_window-eq}
 use Rattle.ns_calls.proofs.JoinLemmas.{same_device-eq}
 use Rattle.ns_calls.proofs.ShardLemmas.{Housed, IsOwn, open_windows-mine}
 use Rattle.ns_calls.proofs.Merges.{replies_name_own_devices, by_place}
+use Rattle.ns_calls.specs.declared.call.Outcome.{Outcome}
+use Rattle.ns_sessions.specs.declared.decision.AnswerDecision.{AnswerDecision}
+use Rattle.ns_sessions.specs.declared.decision.AnswerDecision.TheVariants as decision
+use Rattle.ns_sessions.specs.Record.{answer_decision}
+use Rattle.ns_sessions.specs.Laws.{concerns}
+use Rattle.ns_sessions.proofs.JoinAnswers.{answers_agree}
 use Rattle.ns_sessions.proofs.OpenTickets.{open_asked, at_member}
-use Rattle.ns_sessions.proofs.Uplinks.{others_stay}
+use Rattle.ns_sessions.proofs.Uplinks.{others_stay, closings_agree}
 use Rattle.ns_windows.specs.declared.window.Window.{Window}
-use Rattle.ns_windows.specs.Windows.{window_named, is_named}
+use Rattle.ns_windows.specs.Windows.{window_named, is_named, without}
 use Rattle.ns_windows.proofs.Places.{filter-none, none_found}
 use Rattle.ns_devices.specs.declared.own.Own.{Own}
-use Rattle.ns_shard.specs.declared.event.Event.{Event}
-use Rattle.ns_shard.specs.declared.event.Event.TheVariants.{Quiet}
 use Rattle.ns_shard.specs.Private.Devices.{own_in, devices_in}
-use Rattle.ns_devices.specs.Devices.{devices_of, is_own, own_of, with_state, after_answer}
+use Rattle.ns_devices.specs.Devices.{devices_of, is_own, own_of, with_state, with_change_of, after_answer}
 use Rattle.ns_shard.specs.Private.Held.{window_of_opening}
 use Rattle.ns_shard.specs.State.{ends_open}
-use Rattle.ns_shard.specs.Private.Sending.{reply_of}
-use Rattle.ns_shard.specs.Private.Room.{ends, is_ending}
-use Rattle.ns_shard.specs.Private.Reaction.{close_event, with_closing, own_answer_event, event_of, ending_event, devices_after, windows_after}
-use Rattle.ns_shard.specs.Private.Parts.{Agrees}
+use Rattle.ns_shard.specs.declared.event.Ended.{Ended}
+use Rattle.ns_shard.specs.declared.event.Ended.TheVariants.{Closed}
+use Rattle.ns_shard.specs.Private.Room.{opens}
+use Rattle.ns_shard.specs.Private.Reaction.{answer_ended, own_answer_ended, shard_answer_ended, ack_of, close_ended, with_closing}
+use Rattle.ns_shard.specs.declared.parts.Parts.{Parts}
+use Rattle.ns_shard.specs.Private.Parts.{Agrees, AreParts}
 use Rattle.ns_shard.proofs.Maps.{find-map}
 use Rattle.ns_shard.proofs.Places.{change_first-none}
 use Rattle.ns_shard.proofs.DeviceSteps.{devices-same}
 use Rattle.ns_shard.proofs.WindowSteps.{windows-named}
-use Rattle.ns_shard.proofs.AnswerSteps.{answer-unknown}
-use Rattle.ns_shard.proofs.Reactions.{call-answered, agrees-call}
-use Rattle.ns_shard.proofs.Totals.{is_some-map, ends-found}
+use Rattle.ns_shard.proofs.PartSteps.{ended_or}
+use Rattle.ns_shard.proofs.AnswerSteps.{answer-unknown, answer-answered, agrees-answer}
+use Rattle.ns_shard.proofs.CloseSteps.{close-answered, agrees-close}
+use Rattle.ns_shard.proofs.Totals.{is_some-map, is_some-none, ends, ends-found, answer-opens, close-opens}
 
 -- ---- whose it is
 
@@ -114,27 +123,29 @@ foreign-none net index h eui foreign =
 
 -- ---- what ends
 
--- what comes of a closing or an answer ends something exactly where its window or ticket is open
-pub ends-event : (net : Network) (index : ℕ) (h : List Entry) (devices : List Own) (windows : List Window) (c : Call) → Agrees net index h devices windows → is_ending c ≡ true →
-    ends c (reply_of (event_of devices windows c)) ≡ ends_open h c
-ends-event net index h devices windows (call.Uplink frame heard) agrees ending = absurd (false≢true ending)
-ends-event net index h devices windows (call.Join t heard) agrees ending = absurd (false≢true ending)
-ends-event net index h devices windows (call.Close w) agrees ending =
-    closes (window_named w windows) ∙ (ap (λ (o : Option Window). is_some o) (ap (window_named w) agrees.by_window ∙ windows-named h w) ∙ is_some-map (window_of_opening h) (open_window h w))
-  where
-    closes : (o : Option Window) → ends (call.Close w) (reply_of (close_event devices o)) ≡ is_some o
-    closes None = refl
-    closes (Some v) = refl
-ends-event net index h devices windows (call.JoinReply t o) agrees ending =
+-- an answer ends something exactly where its ticket is open
+answer-ends : (net : Network) (index : ℕ) (h : List Entry) (devices : List Own) (windows : List Window) (t : Ticket) (o : Outcome) → Agrees net index h devices windows → is_some (shard_answer_ended devices t o) ≡ is_ticket_open h t
+answer-ends net index h devices windows t o agrees =
     elim (bool_tells (shard_of (dev_eui t) == index)) [
       | inl mine ↦
           (let here : shard_of (dev_eui t) ≡ index = grind (arith, nat_tests) in
-          ap (λ (a : Answer). ends (call.JoinReply t o) a.reply) (call-answered net index h devices windows (call.JoinReply t o) agrees here) ∙ ends-found net h (call.JoinReply t o))
+          own-ends (own_of (dev_eui t) devices)
+          ∙ (ap (λ (a : Answer). ends (call.JoinReply t o) a.reply) (answer-answered net index h devices windows t o agrees (answers_agree net h) here) ∙ ends-found net h (call.JoinReply t o)))
       | inr foreign ↦
-          ap (λ (x : Option Own). ends (call.JoinReply t o) (reply_of (option_map_or (own_answer_event t o) x (Quiet reply.NoTicket)))) (ap (own_of (dev_eui t)) agrees.by_device ∙ foreign-none net index h (dev_eui t) foreign)
+          ap (λ (x : Option Own). is_some (option_and_then (own_answer_ended t o) x)) (ap (own_of (dev_eui t)) agrees.by_device ∙ foreign-none net index h (dev_eui t) foreign)
           ∙ sym (closed foreign)
     ]
   where
+    decision-ends : (addr : DevAddr) (d : AnswerDecision) → is_some (answer_ended addr t o d) ≡ ends (call.JoinReply t o) (ended_or net reply.NoTicket (answer_ended addr t o d)).reply
+    decision-ends addr decision.NoTicket = refl
+    decision-ends addr decision.Refused = refl
+    decision-ends addr (decision.Stale greatest) = refl
+    decision-ends addr (decision.Accepted session heard) = refl
+
+    own-ends : (x : Option Own) → is_some (option_and_then (own_answer_ended t o) x) ≡ ends (call.JoinReply t o) (ended_or net reply.NoTicket (option_and_then (own_answer_ended t o) x)).reply
+    own-ends None = refl
+    own-ends (Some own) = decision-ends own.addr (answer_decision own.state t o)
+
     closed : (shard_of (dev_eui t) == index) ≡ false → is_ticket_open h t ≡ false
     closed foreign =
         elim (bool_tells (is_ticket_open h t)) [
@@ -145,47 +156,63 @@ ends-event net index h devices windows (call.JoinReply t o) agrees ending =
           | inr none ↦ none
         ]
 
-pub ended-some : (c : Call) (x e : Event) → Some e ≡ ending_event c x → (e ≡ x) × (ends c (reply_of x) ≡ true)
-ended-some c x e is = step (ends c (reply_of x)) is
-  where
-    step : (b : Bool) → Some e ≡ when b x → (e ≡ x) × (b ≡ true)
-    step true some = (let same : e ≡ x = cc in (same, refl))
-    step false some = absurd (cc some)
+-- ---- what each does
 
-pub ended-none : (c : Call) (x : Event) → None ≡ ending_event c x → ends c (reply_of x) ≡ false
-ended-none c x is = step (ends c (reply_of x)) is
-  where
-    step : (b : Bool) → None ≡ when b x → b ≡ false
-    step true none = absurd (cc none)
-    step false none = refl
+-- What an answer or a closing ends, the reply where that is nothing, and the devices and windows after it: where nothing is open, they stay.
+pub record IsEnding (net : Network) (index : ℕ) (h : List Entry) (devices : List Own) (windows : List Window) (c : Call) (what : Option Ended) (r : Reply) (ds : List Own) (ws : List Window) : Type 0 where
+  pub ends : is_some what ≡ ends_open h c
+  pub opens_none : (x : Reply) → opens c x ≡ false
+  pub told : shard_of_call c ≡ index → ended_or net r what ≡ answer net h c
+  pub agrees : shard_of_call c ≡ index → Agrees net index (with_call net h (length h) c) ds ws
+  pub devices_stay : ends_open h c ≡ false → ds ≡ devices
+  pub windows_stay : ends_open h c ≡ false → ws ≡ windows
 
--- where nothing is open, a closing and an answer leave all as it is
-pub record Stay (devices : List Own) (windows : List Window) (c : Call) : Type 0 where
-  pub devices_stay : devices_after devices windows c ≡ devices
-  pub windows_stay : windows_after devices windows c ≡ windows
+module _ (p : Parts) (are : AreParts p) where
+  pub answer-ending : (t : Ticket) (o : Outcome) {ds : List Own} → ds ≡ with_change_of (dev_eui t) (after_answer t o) p.devices → IsEnding (arc_value p.roster) p.index are.history p.devices p.windows (call.JoinReply t o) (shard_answer_ended p.devices t o) reply.NoTicket ds p.windows
+  answer-ending t o {ds} is = record {
+    ends = answer-ends (arc_value p.roster) p.index are.history p.devices p.windows t o are.agrees;
+    opens_none = answer-opens t o;
+    told = λ own. answer-answered (arc_value p.roster) p.index are.history p.devices p.windows t o are.agrees (answers_agree (arc_value p.roster) are.history) own;
+    agrees = λ own. subst (λ (v : List Own). Agrees (arc_value p.roster) p.index now v p.windows) (sym is) (after own);
+    devices_stay = λ closed. is ∙ stays closed;
+    windows_stay = λ closed. refl;
+  }
+    where
+      now : List Entry
+      now = with_call (arc_value p.roster) are.history (length are.history) (call.JoinReply t o)
 
-pub nothing-ends : (net : Network) (index : ℕ) (h : List Entry) (devices : List Own) (windows : List Window) (c : Call) → Agrees net index h devices windows → is_ending c ≡ true → ends_open h c ≡ false → Stay devices windows c
-nothing-ends net index h devices windows (call.Uplink frame heard) agrees ending closed = absurd (false≢true ending)
-nothing-ends net index h devices windows (call.Join t heard) agrees ending closed = absurd (false≢true ending)
-nothing-ends net index h devices windows (call.Close w) agrees ending closed =
-    let none : window_named w windows ≡ None = ap (window_named w) agrees.by_window ∙ (windows-named h w ∙ step (open_window h w) closed) in
-    record { devices_stay = ap (λ (o : Option Window). with_closing o devices) none; windows_stay = filter-none (is_named w) windows (none_found (is_named w) windows none) }
-  where
-    step : (o : Option Opening) → is_some o ≡ false → option_map (window_of_opening h) o ≡ None
-    step None is = refl
-    step (Some x) is = absurd (false≢true (sym is))
-nothing-ends net index h devices windows (call.JoinReply t o) agrees ending closed = record {
-  devices_stay =
-      elim (bool_tells (shard_of (dev_eui t) == index)) [
-        | inl mine ↦
-            (let here : shard_of (dev_eui t) ≡ index = grind (arith, nat_tests) in
-            (agrees-call net index h devices windows (call.JoinReply t o) agrees here).by_device
-            ∙ (devices-same net index h now (λ eui. others_stay.others net h (entry_for net h (length h) (call.JoinReply t o)) eui (ap (λ (r : Reply). Rattle.ns_sessions.specs.Laws.concerns eui (call.JoinReply t o) r) (answer-unknown net h t o closed)))
-            ∙ sym agrees.by_device))
-        | inr foreign ↦ change_first-none (is_own (dev_eui t)) (with_state (after_answer t o)) devices (ap (own_of (dev_eui t)) agrees.by_device ∙ foreign-none net index h (dev_eui t) foreign)
-      ];
-  windows_stay = refl;
-}
-  where
-    now : List Entry
-    now = with_call net h (length h) (call.JoinReply t o)
+      after : shard_of (dev_eui t) ≡ p.index → Agrees (arc_value p.roster) p.index now (with_change_of (dev_eui t) (after_answer t o) p.devices) p.windows
+      after own = agrees-answer (arc_value p.roster) p.index are.history p.devices p.windows t o are.agrees others_stay (answers_agree (arc_value p.roster) are.history) own
+
+      stays : is_ticket_open are.history t ≡ false → with_change_of (dev_eui t) (after_answer t o) p.devices ≡ p.devices
+      stays closed =
+          elim (bool_tells (shard_of (dev_eui t) == p.index)) [
+            | inl mine ↦
+                (let own : shard_of (dev_eui t) ≡ p.index = grind (arith, nat_tests) in
+                (after own).by_device
+                ∙ (devices-same (arc_value p.roster) p.index are.history now (λ eui. others_stay.others (arc_value p.roster) are.history (entry_for (arc_value p.roster) are.history (length are.history) (call.JoinReply t o)) eui (ap (λ (r : Reply). concerns eui (call.JoinReply t o) r) (answer-unknown (arc_value p.roster) are.history t o closed)))
+                ∙ sym are.agrees.by_device))
+            | inr foreign ↦ change_first-none (is_own (dev_eui t)) (with_state (after_answer t o)) p.devices (ap (own_of (dev_eui t)) are.agrees.by_device ∙ foreign-none (arc_value p.roster) p.index are.history (dev_eui t) foreign)
+          ]
+
+  pub close-ending : (w : WindowName) {ds : List Own} {ws : List Window} → ds ≡ with_closing (window_named w p.windows) p.devices → ws ≡ without w p.windows →
+      IsEnding (arc_value p.roster) p.index are.history p.devices p.windows (call.Close w) (close_ended p.devices (window_named w p.windows)) reply.NoWindow ds ws
+  close-ending w {ds} {ws} devices_are windows_are = record {
+    ends = is_some-map (λ (v : Window). Closed v (ack_of p.devices v)) (window_named w p.windows) ∙ found;
+    opens_none = close-opens w;
+    told = λ own. close-answered (arc_value p.roster) p.index are.history p.devices p.windows w are.agrees (closings_agree (arc_value p.roster) are.history) own;
+    agrees = λ own.
+        subst (λ (v : List Own). Agrees (arc_value p.roster) p.index now v ws) (sym devices_are) (subst (λ (v : List Window). Agrees (arc_value p.roster) p.index now (with_closing (window_named w p.windows) p.devices) v) (sym windows_are)
+        (agrees-close (arc_value p.roster) p.index are.history p.devices p.windows w are.agrees others_stay (closings_agree (arc_value p.roster) are.history) own));
+    devices_stay = λ closed. devices_are ∙ ap (λ (o : Option Window). with_closing o p.devices) (none closed);
+    windows_stay = λ closed. windows_are ∙ filter-none (is_named w) p.windows (none_found (is_named w) p.windows (none closed));
+  }
+    where
+      now : List Entry
+      now = with_call (arc_value p.roster) are.history (length are.history) (call.Close w)
+
+      found : is_some (window_named w p.windows) ≡ is_some (open_window are.history w)
+      found = ap (λ (o : Option Window). is_some o) (ap (window_named w) are.agrees.by_window ∙ windows-named are.history w) ∙ is_some-map (window_of_opening are.history) (open_window are.history w)
+
+      none : is_some (open_window are.history w) ≡ false → window_named w p.windows ≡ None
+      none closed = is_some-none (window_named w p.windows) (found ∙ closed)

@@ -20,9 +20,7 @@ use Rattle.ns_kept.specs.Left.{Leaves}
 use Rattle.ns_kept.proofs.Law.{leaves-alike, leaves-answer, leaves-more}
 use Rattle.ns_calls.proofs.NameLemmas.{same_window-refl}
 use Rattle.ns_journal.specs.State.{JournalState, next_entry}
-use Rattle.ns_shard.specs.declared.parts.Parts.{Parts}
-use Rattle.ns_shard.specs.State.{State, Keeps, IsState, remains, ends_open, finds_open, answer_in, oldest_in, after_call}
-use Rattle.ns_shard.specs.Private.Parts.{AreParts, state_of}
+use Rattle.ns_shard.specs.State.{State, Keeps, remains, ends_open, finds_open, answer_in, oldest_in, after_call}
 
 -- where the reply is the plain server's, the entry is the call's
 pub pushed-is : (net : Network) (before : List Entry) (j : JournalState) (entries : List Entry) (call : Call) (r : Reply) → r ≡ reply_to net before call → entries ≡ j.entries ++ next_entry j call r ∷ [] →
@@ -61,6 +59,3 @@ keeps-more history s call keeps = record {
       subst (λ n. Leaves s.roster (with_call s.roster history (length history) call) (left.with_call s.roster n (remains s) call)) (sym keeps.made)
       (leaves-more s.roster history (remains s) keeps.left call);
 }
-
-pub parts-state : (p : Parts) → AreParts p → IsState (state_of p)
-parts-state p are = record { history = are.history; is_history = are.agrees.history; keeps = are.keeps }

@@ -9,7 +9,6 @@ pub mod PartSteps
 pub mod AnswerSteps
 pub mod CloseSteps
 pub mod UplinkSteps
-pub mod Reactions
 pub mod Endings
 pub mod PartsAfter
 pub mod RunSteps

@@ -1,5 +1,5 @@
 -- What comes of an uplink that no open window has, by where it fits.
-use Rattle.std.proofs.Common.{◌≡◌, ℕ, ◌+◌, Bool, true, false, cond, nat_le, nat_lt, length, List, [], ◌∷◌, Option, None, Some, option_map, refl, sym, ap, ap₂, ◌∙◌}
+use Rattle.std.proofs.Common.{◌≡◌, ℕ, Bool, false, cond, nat_le, length, List, [], ◌∷◌, Option, None, Some, option_map, refl, sym, ap, ap₂, ◌∙◌}
 use Rattle.std.specs.Option.{option_map_or}
 use Rattle.ns_types.specs.declared.identity.WindowName.{WindowName}
 use Rattle.ns_types.specs.declared.heard.Heard.{Heard}
@@ -8,14 +8,12 @@ use Rattle.ns_views.specs.Frame.{is_confirmed}
 use Rattle.ns_secure.specs.Counter.{above, below}
 use Rattle.ns_calls.specs.declared.call.Reply.{Reply}
 use Rattle.ns_calls.specs.declared.call.Reply.TheVariants as reply
-use Rattle.ns_calls.specs.Reply.{Fit, window_of, in_round, most_windows, copy_reply, unless_busy, uplink_rule}
-use Rattle.ns_calls.specs.Entries.{most_copies}
+use Rattle.ns_calls.specs.Reply.{Fit, window_of, in_round, most_windows, unless_busy, uplink_rule}
 use Rattle.ns_windows.specs.declared.window.Window.{Window}
-use Rattle.ns_windows.specs.declared.window.Addition.TheVariants as addition
 use Rattle.ns_windows.specs.Windows.{window_of_frame, addition, count, with_copy_in, with_copy_of}
 use Rattle.ns_devices.specs.declared.own.Own.{Own}
 use Rattle.ns_devices.specs.Devices.{first_own_fit}
-use Rattle.ns_shard.specs.Private.Reaction.{added_reply, open_reply, again_reply, round_of, uplink_reply}
+use Rattle.ns_shard.specs.Private.Reaction.{open_reply, again_reply, round_of, uplink_reply}
 
 pub nothing-framed : (frame : List ℕ) (windows : List Window) → None ≡ option_map addition (window_of_frame frame windows) → window_of_frame frame windows ≡ None
 nothing-framed frame windows none = step (window_of_frame frame windows) none
@@ -33,29 +31,10 @@ reply-by devices windows frame copied fresh stale = uplink_rule (record {
   below = option_map (λ f. (f, count f.eui windows, round_of devices windows f)) stale;
 })
 
--- a copy for an open window
-pub added-told : (w : Window) → added_reply (addition w) ≡ copy_reply w.name (length w.copies.items)
-added-told w = elim (nat_lt (length w.copies.items) most_copies) as (λ b. added_reply (cond b (addition.Copied w.name (length w.copies.items + 1)) (addition.Crowded w.name)) ≡ cond b (reply.Copied w.name (length w.copies.items + 1)) (reply.Crowded w.name)) [ true ↦ refl | false ↦ refl ]
-
-pub copied-reply : (devices : List Own) (windows : List Window) (frame : List ℕ) (w : Window) → window_of_frame frame windows ≡ Some w → added_reply (addition w) ≡ uplink_reply devices windows frame
-unfolding reply-by
-copied-reply devices windows frame w found =
-    added-told w ∙ sym (ap (λ (x : Option Window). reply-by devices windows frame x (first_own_fit above frame devices) (first_own_fit below frame devices)) found)
-
 pub fresh-reply : (devices : List Own) (windows : List Window) (frame : List ℕ) (f : Fit) → window_of_frame frame windows ≡ None → first_own_fit above frame devices ≡ Some f → open_reply windows f ≡ uplink_reply devices windows frame
 unfolding reply-by
 fresh-reply devices windows frame f none fits =
     sym (ap₂ (λ (x : Option Window) (y : Option Fit). reply-by devices windows frame x y (first_own_fit below frame devices)) none fits)
-
-pub stale-reply : (devices : List Own) (windows : List Window) (frame : List ℕ) (f : Fit) → window_of_frame frame windows ≡ None → first_own_fit above frame devices ≡ None → first_own_fit below frame devices ≡ Some f
-    → again_reply devices windows frame f ≡ uplink_reply devices windows frame
-unfolding reply-by
-stale-reply devices windows frame f none above_none fits =
-    sym (λ i. reply-by devices windows frame (none i) (above_none i) (fits i))
-
-pub no-reply : (devices : List Own) (windows : List Window) (frame : List ℕ) → window_of_frame frame windows ≡ None → first_own_fit above frame devices ≡ None → first_own_fit below frame devices ≡ None → reply.NoSession ≡ uplink_reply devices windows frame
-unfolding reply-by
-no-reply devices windows frame none above_none below_none = sym (λ i. reply-by devices windows frame (none i) (above_none i) (below_none i))
 
 -- the reply with which a window is opened, by whether its device is busy
 pub open-told : (windows : List Window) (f : Fit) (name : WindowName) (busy : Bool) → name ≡ window_of f → busy ≡ nat_le most_windows (count name.eui windows) → busy ≡ false → open_reply windows f ≡ reply.Opened (window_of f)

@@ -19,6 +19,7 @@ use Rattle.ns_calls.specs.declared.call.Call.TheVariants as call
 use Rattle.ns_calls.specs.declared.call.Reply.{Reply}
 use Rattle.ns_calls.specs.declared.call.Reply.TheVariants as reply
 use Rattle.ns_calls.specs.declared.call.Entry.{Entry}
+use Rattle.ns_calls.specs.declared.answer.Answer.{Answer}
 use Rattle.ns_calls.specs.Entries.{same_device, closed, opened}
 use Rattle.ns_calls.specs.History.{last_nonce, copied}
 use Rattle.ns_calls.specs.Reply.{reply_to, reply_to_join, JoinFacts, join_facts, join_rule}
@@ -32,6 +33,10 @@ use Rattle.ns_windows.specs.declared.window.Window.{Window}
 use Rattle.ns_devices.specs.declared.own.Own.{Own}
 use Rattle.ns_shard.specs.Private.Devices.{own_in, devices_in}
 use Rattle.ns_devices.specs.Devices.{devices_of, own, joinless, is_own, own_of, with_state, after_join, with_own_join, with_join_of}
+use Rattle.ns_shard.specs.declared.event.Ended.{Ended}
+use Rattle.ns_shard.specs.declared.event.Event.TheVariants as event
+use Rattle.ns_shard.specs.State.{quiet}
+use Rattle.ns_shard.specs.Private.Sending.{answer_of}
 use Rattle.ns_shard.specs.Private.Reaction.{own_join_reply, shard_join_reply}
 use Rattle.ns_shard.specs.Private.Parts.{Agrees}
 use Rattle.ns_shard.proofs.Places.{change_first-same, change_first-stays, change_first-none}
@@ -69,6 +74,10 @@ agrees-new net index stay valid = record {
         (each ds (λ k x within. held (suc k) x (omega (arith, within))))
 
 -- ---- any call
+
+-- the answer where something is ended, or else this reply
+abbrev pub ended_or : Network → Reply → Option Ended → Answer
+ended_or net r what = option_map_or (λ x. answer_of net (event.Ended x)) what (quiet r)
 
 pub joined : (net : Network) (index : ℕ) (h : List Entry) (devices : List Own) (windows : List Window) → Agrees net index h devices windows → WindowsHaveJoins h
 joined net index h devices windows agrees = (sessions_have_joins net h agrees.history.legal).of_windows

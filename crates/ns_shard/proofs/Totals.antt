@@ -31,7 +31,7 @@ use Rattle.ns_sessions.proofs.Apart as sessions
 use Rattle.ns_sessions.proofs.OpenTickets.{same_ticket-sym}
 use Rattle.ns_windows.proofs.Places.{none_found}
 use Rattle.ns_shard.specs.State.{ends_open}
-use Rattle.ns_shard.specs.Private.Room.{opens, ends, is_ending, open_total}
+use Rattle.ns_shard.specs.Private.Room.{opens, open_total}
 use Rattle.ns_shard.proofs.WindowSteps.{same_window-sym}
 use Rattle.ns_calls.proofs.RoundLemmas.{count-none}
 
@@ -70,6 +70,10 @@ option-length (Some x) = refl
 pub is_some-map : {X Y : Type 0} (f : X → Y) (o : Option X) → is_some (option_map f o) ≡ is_some o
 is_some-map f None = refl
 is_some-map f (Some x) = refl
+
+pub is_some-none : {X : Type 0} (o : Option X) → is_some o ≡ false → o ≡ None
+is_some-none None is = refl
+is_some-none (Some x) is = absurd (false≢true (sym is))
 
 is_some-when : {X : Type 0} (b : Bool) (x : X) → is_some (when b x) ≡ b
 is_some-when true x = refl
@@ -195,6 +199,10 @@ tickets-total net h number c legal =
 
 -- ---- both
 
+-- whether an entry closes a window, or ends a ticket
+abbrev pub ends : Call → Reply → Bool
+ends c r = is_some (closing_in c r) || is_some (ending_in c r)
+
 -- a closing or an answer ends something exactly where its window or ticket is open
 pub ends-found : (net : Network) (h : List Entry) (c : Call) → ends c (reply_to net h c) ≡ ends_open h c
 ends-found net h (call.Uplink frame heard) = uplink-says (λ s. (is_some (closed s) || is_some (ended s)) ≡ false) frame heard (λ w. refl) (λ w. refl) (λ w. refl) refl (reply_to net h (call.Uplink frame heard))
@@ -215,50 +223,20 @@ ends-one : (s : Said) → cond {A = ℕ} (is_some (closed s) || is_some (ended s
 ends-one Nothing = refl
 ends-one _ = refl
 
-total-after : (net : Network) (h : List Entry) (number : ℕ) (c : Call) → IsLegal net h →
-    open_total (with_call net h number c) + cond (ends c (reply_to net h c)) 1 0 ≡ open_total h + cond (opens c (reply_to net h c)) 1 0
+-- how many are open after a call: one more where it opens something, and one less where it ends something
+pub total-after : (net : Network) (h : List Entry) (number : ℕ) (c : Call) → IsLegal net h →
+    open_total (with_call net h number c) + cond (ends_open h c) 1 0 ≡ open_total h + cond (opens c (reply_to net h c)) 1 0
 total-after net h number c legal =
     let windows = windows-total net h number c legal in
     let tickets = tickets-total net h number c legal in
     let begun = opens-one (said c (reply_to net h c)) in
     let over = ends-one (said c (reply_to net h c)) in
-    omega (arith, windows, tickets, begun, over)
-
--- a closing or an answer takes one from it where it finds its window or ticket open
-total-ended : (net : Network) (h : List Entry) (number : ℕ) (c : Call) → IsLegal net h → is_ending c ≡ true → open_total (with_call net h number c) + cond (ends_open h c) 1 0 ≡ open_total h
-total-ended net h number c legal ending =
-    let all = total-after net h number c legal in
     let found = ap (λ b. cond {A = ℕ} b 1 0) (ends-found net h c) in
-    let none = ap (λ b. cond {A = ℕ} b 1 0) (opens-nothing c (reply_to net h c) ending) in
-    omega (arith, all, found, none)
-  where
-    opens-nothing : (k : Call) (r : Reply) → is_ending k ≡ true → opens k r ≡ false
-    opens-nothing (call.Uplink frame heard) r is = absurd (false≢true is)
-    opens-nothing (call.Join t heard) r is = absurd (false≢true is)
-    opens-nothing (call.JoinReply t o) r is = answer-says (λ s. (is_some (opened s) || is_some (asked s)) ≡ false) t o (λ n. refl) refl refl r
-    opens-nothing (call.Close w) r is = close-says (λ s. (is_some (opened s) || is_some (asked s)) ≡ false) w (λ ack. refl) refl r
+    omega (arith, windows, tickets, begun, over, found)
 
-pub total-lower : (net : Network) (h : List Entry) (number : ℕ) (c : Call) → IsLegal net h → is_ending c ≡ true → ends_open h c ≡ true → open_total (with_call net h number c) + 1 ≡ open_total h
-total-lower net h number c legal ending found =
-    let all = total-ended net h number c legal ending in
-    let one = ap (λ b. cond {A = ℕ} b 1 0) found in
-    omega (arith, all, one)
+-- an answer and a closing open nothing
+pub answer-opens : (t : Ticket) (o : Outcome) (r : Reply) → opens (call.JoinReply t o) r ≡ false
+answer-opens t o r = answer-says (λ s. (is_some (opened s) || is_some (asked s)) ≡ false) t o (λ n. refl) refl refl r
 
-pub total-stays : (net : Network) (h : List Entry) (number : ℕ) (c : Call) → IsLegal net h → is_ending c ≡ true → ends_open h c ≡ false → open_total (with_call net h number c) ≡ open_total h
-total-stays net h number c legal ending closed =
-    let all = total-ended net h number c legal ending in
-    let one = ap (λ b. cond {A = ℕ} b 1 0) closed in
-    omega (arith, all, one)
-
--- another one adds one where it opens something
-pub total-begun : (net : Network) (h : List Entry) (number : ℕ) (c : Call) → IsLegal net h → is_ending c ≡ false → open_total (with_call net h number c) ≡ open_total h + cond (opens c (reply_to net h c)) 1 0
-total-begun net h number c legal begins =
-    let all = total-after net h number c legal in
-    let none = ap (λ b. cond {A = ℕ} b 1 0) (ends-nothing c (reply_to net h c) begins) in
-    omega (arith, all, none)
-  where
-    ends-nothing : (k : Call) (r : Reply) → is_ending k ≡ false → ends k r ≡ false
-    ends-nothing (call.Uplink frame heard) r is = uplink-says (λ s. (is_some (closed s) || is_some (ended s)) ≡ false) frame heard (λ w. refl) (λ w. refl) (λ w. refl) refl r
-    ends-nothing (call.Join t heard) r is = join-says (λ s. (is_some (closed s) || is_some (ended s)) ≡ false) t heard refl refl refl r
-    ends-nothing (call.JoinReply t o) r is = absurd (false≢true (sym is))
-    ends-nothing (call.Close w) r is = absurd (false≢true (sym is))
+pub close-opens : (w : WindowName) (r : Reply) → opens (call.Close w) r ≡ false
+close-opens w r = close-says (λ s. (is_some (opened s) || is_some (asked s)) ≡ false) w (λ ack. refl) refl r

@@ -1,70 +1,79 @@
 //! What came of a call, and the answer that is made of it.
 
 ghost use Rattle.std.specs.Prelude.{◌≡◌};
-ghost use Rattle.ns_shard.specs.Private.Sending.{reply_of, downlink_of, answer_of};
+ghost use Rattle.ns_shard.specs.Private.Sending.{ended_reply, reply_of, answer_of};
 
 use crate::sending::{ack_from, uplink_of};
 use ns_calls::{Answer, Downlink, Reply};
 use ns_roster::Roster;
-use ns_types::WindowName;
 use ns_windows::BoxedWindow;
 
-/// What came of a call. It is small: a window that was closed stands beside it.
+/// What a join server's answer or a closing ended.
 #[derive(Drop)]
-pub enum Event {
-    /// Nothing goes out with this reply.
-    Quiet(Reply),
-    /// A join was accepted with this reply, and its Join-Accept goes out.
-    Accepted {
+pub enum Ended {
+    /// A ticket, with this reply. Where the join is accepted, its Join-Accept goes out.
+    Answered {
         reply: Reply,
         downlink: Option<Downlink>,
     },
-    /// The window of this name was closed, with this acknowledgement number.
+    /// A window, with this acknowledgement number.
     Closed {
-        window: WindowName,
+        window: BoxedWindow,
         ack: Option<u32>,
     },
 }
 
-impl Event {
+impl Ended {
     /// The reply.
     pub fn reply(&self) -> Reply
-        ensures { result ≡ reply_of self.now }
+        ensures { result ≡ ended_reply self.now }
     {
         match self {
-            Event::Quiet(reply) => *reply,
-            Event::Accepted { reply, .. } => *reply,
-            Event::Closed { window, ack } => Reply::Closed {
-                window: *window,
+            Ended::Answered { reply, .. } => *reply,
+            Ended::Closed { window, ack } => Reply::Closed {
+                window: window.as_ref().name,
                 ack: *ack,
             },
         }
     }
+}
 
-    /// The downlink that goes out, with the window that was closed, if any.
-    pub fn downlink(&self, roster: &Roster, closed: &Option<BoxedWindow>) -> Option<Downlink>
-        ensures { result ≡ downlink_of roster.now closed.now self.now }
+/// What came of a call.
+#[derive(Drop)]
+pub enum Event {
+    /// Nothing is opened or ended, and nothing goes out with this reply.
+    Quiet(Reply),
+    /// A window is opened with this reply, or a ticket is.
+    Opened(Reply),
+    /// A window or a ticket is ended.
+    Ended(Ended),
+}
+
+impl Event {
+    /// The answer.
+    pub fn answer(self, roster: &Roster) -> Answer
+        ensures { result ≡ answer_of roster.now self }
     {
         match self {
-            Event::Quiet(_) => None,
-            Event::Accepted { downlink, .. } => *downlink,
-            Event::Closed { ack, .. } => {
-                let number = (*ack)?;
-                ack_from(roster, closed.as_ref()?.as_ref(), number)
+            Event::Quiet(reply) | Event::Opened(reply) => Answer {
+                reply,
+                uplink: None,
+                downlink: None,
+            },
+            Event::Ended(Ended::Answered { reply, downlink }) => Answer {
+                reply,
+                uplink: None,
+                downlink,
+            },
+            Event::Ended(Ended::Closed { window, ack }) => {
+                let name = window.as_ref().name;
+                let downlink = ack_from(roster, window.as_ref(), ack);
+                Answer {
+                    reply: Reply::Closed { window: name, ack },
+                    uplink: uplink_of(window),
+                    downlink,
+                }
             }
-        }
-    }
-
-    /// The answer, with the window that was closed, if any.
-    pub fn answer(&self, roster: &Roster, closed: Option<BoxedWindow>) -> Answer
-        ensures { result ≡ answer_of roster.now closed self.now }
-    {
-        let reply = self.reply();
-        let downlink = self.downlink(roster, &closed);
-        Answer {
-            reply,
-            uplink: uplink_of(closed),
-            downlink,
         }
     }
 }

@@ -8,13 +8,13 @@
 #![tactic(auto)]
 
 mod calls;
+mod closing;
 mod event;
 mod joining;
 pub mod laws;
 mod open;
 mod packed;
 mod parts;
-mod reaction;
 mod room;
 mod run;
 mod sending;

@@ -1,12 +1,15 @@
 //! An answer that is kept in no more memory than it needs.
 
 ghost use Rattle.std.specs.Prelude.{◌≡◌, IfOk, Some, is_some};
+ghost use Rattle.ns_shard.specs.declared.event.Event.TheVariants as event;
 ghost use Rattle.ns_shard.specs.State.{quiet};
-ghost use Rattle.ns_shard.specs.Private.Sending.{uplink_of};
+ghost use Rattle.ns_shard.specs.Private.Sending.{first_uplink_from, answer_of};
 
-use crate::sending::uplink_from;
+use crate::event::{Ended, Event};
+use crate::sending::{ack_from, uplink_from};
 use arrayvec::ArrayVec;
 use ns_calls::{Answer, Bytes, Downlink, Reply, Uplink};
+use ns_roster::Roster;
 use ns_types::{DevAddr, Heard, WindowName};
 use ns_windows::BoxedWindow;
 use std::alloc::{AllocError, Global};
@@ -102,18 +105,12 @@ impl Model for PackedAnswer {
     ghost view = { λ a. record { reply = a.reply; uplink = option_and_then (λ s. s.value.uplink) a.sent; downlink = option_and_then (λ s. s.value.downlink) a.sent } };
 }
 
-// The uplink of a window that was closed, if any, where it is the first of its rounds, as it is kept.
+// The uplink of a window that was closed, where it is the first of its rounds, as it is kept.
 #[inline(always)]
-fn packed_uplink(
-    alloc: Global,
-    closed: Option<BoxedWindow>,
-) -> Result<Option<PackedUplink>, AllocError>
-    ensures { IfOk result (λ u. u ≡ uplink_of closed) }
+fn packed_uplink(alloc: Global, closed: BoxedWindow) -> Result<Option<PackedUplink>, AllocError>
+    ensures { IfOk result (λ u. u ≡ first_uplink_from closed) }
 {
-    let Some(boxed) = closed else {
-        return Ok(None);
-    };
-    let mut window = boxed.into_inner();
+    let mut window = closed.into_inner();
     if window.name.is_first() {
         let uplink = uplink_from(&mut window);
         Ok(Some(PackedUplink::new(alloc, &uplink)?))
@@ -130,25 +127,56 @@ impl PackedAnswer {
         PackedAnswer { reply, sent: None }
     }
 
-    /// A reply with which the uplink of a window goes out, or a downlink. `NoMemory` (`AllocError`) where they find no memory. It stays a
-    /// function of its own, so that a call with which nothing goes out makes no room for what does.
-    #[inline(never)]
-    pub(crate) fn sending(
+    // A reply with what goes out with it, if anything does.
+    #[inline(always)]
+    fn sending(
         alloc: Global,
         reply: Reply,
-        closed: Option<BoxedWindow>,
+        uplink: Option<PackedUplink>,
         downlink: Option<Downlink>,
     ) -> Result<PackedAnswer, AllocError>
-        ensures { IfOk result (λ a. a ≡ record { reply = reply; uplink = uplink_of closed; downlink = downlink }) }
+        ensures { IfOk result (λ a. a ≡ record { reply = reply; uplink = uplink; downlink = downlink }) }
     {
-        let sent = Sent {
-            uplink: packed_uplink(alloc, closed)?,
-            downlink,
-        };
+        if uplink.is_none() && downlink.is_none() {
+            return Ok(PackedAnswer::quiet(reply));
+        }
+        let sent = Sent { uplink, downlink };
         Ok(PackedAnswer {
             reply,
             sent: Some(Box::new(alloc, sent)?),
         })
+    }
+
+    // The answer where something was ended. It stays a function of its own, so that a call that ends nothing makes no room for a window.
+    #[inline(never)]
+    fn ending(alloc: Global, roster: &Roster, ended: Ended) -> Result<PackedAnswer, AllocError>
+        ensures { IfOk result (λ a. a ≡ answer_of roster.now (event.Ended ended)) }
+    {
+        match ended {
+            Ended::Answered { reply, downlink } => {
+                PackedAnswer::sending(alloc, reply, None, downlink)
+            }
+            Ended::Closed { window, ack } => {
+                let name = window.as_ref().name;
+                let downlink = ack_from(roster, window.as_ref(), ack);
+                let uplink = packed_uplink(alloc, window)?;
+                PackedAnswer::sending(alloc, Reply::Closed { window: name, ack }, uplink, downlink)
+            }
+        }
+    }
+
+    /// The answer to a call of which this came. `NoMemory` (`AllocError`) where what goes out finds no memory.
+    pub(crate) fn of(
+        alloc: Global,
+        roster: &Roster,
+        event: Event,
+    ) -> Result<PackedAnswer, AllocError>
+        ensures { IfOk result (λ a. a ≡ answer_of roster.now event) }
+    {
+        match event {
+            Event::Quiet(reply) | Event::Opened(reply) => Ok(PackedAnswer::quiet(reply)),
+            Event::Ended(ended) => PackedAnswer::ending(alloc, roster, ended),
+        }
     }
 
     /// The reply.

@@ -1,27 +1,30 @@
 //! The parts of a shard, and what each call does to them.
 
-ghost use Rattle.std.specs.Prelude.{◌≡◌, ◌<◌, true, false, is_some, None, IfSome, IfOk, OnOk, OnErr};
+ghost use Rattle.std.specs.Prelude.{◌≡◌, ◌<◌, false, is_some, IfSome, IfNone, IfOk, OnOk, OnErr};
 ghost use Rattle.std.specs.Arc.{arc_value};
 ghost use Rattle.ns_types.specs.Identity.{shard_count};
+ghost use Rattle.ns_calls.specs.declared.call.Call.TheVariants.{Uplink, Join, JoinReply, Close};
 ghost use Rattle.ns_calls.specs.Shards.{shard_of_call};
-ghost use Rattle.ns_shard.specs.Private.Parts.{AreParts, state_of};
-ghost use Rattle.ns_shard.specs.State.{no_entries, after_call, answer_in, finds_open, answer_if_open, after_if_open};
-ghost use Rattle.ns_shard.specs.Private.Room.{is_ending};
-ghost use Rattle.ns_shard.specs.State.{quiet};
-ghost use Rattle.ns_shard.specs.Private.Sending.{answer_of};
+ghost use Rattle.ns_shard.specs.State.{no_entries, after_call, answer_in, finds_open};
+ghost use Rattle.ns_shard.specs.Private.Parts.{AreParts, AreTaken, state_of};
 
+use crate::closing::close;
 use crate::event::Event;
+use crate::joining::{answer, join};
 use crate::packed::PackedAnswer;
-use crate::reaction::{begin, end};
-use crate::room::{is_ending, nothing_open, push};
-use ns_calls::{Answer, Call, Reply};
+use crate::room::push;
+use crate::uplink::uplink;
+use ns_calls::{Answer, Call, DataFrame, Outcome, Reply};
 use ns_devices::Devices;
 use ns_journal::Journal;
 use ns_roster::Roster;
-use ns_types::WindowName;
-use ns_windows::{BoxedWindow, Windows};
+use ns_types::{Heard, Ticket, WindowName};
+use ns_windows::Windows;
 use std::alloc::{AllocError, Global};
 use std::sync::Arc;
+
+// Room for an entry, and for the one that ends what it opens.
+const ROOM_TO_OPEN: usize = 2;
 
 /// What a shard keeps.
 #[derive(Drop)]
@@ -56,81 +59,100 @@ impl Parts {
         })
     }
 
-    // Takes an uplink or a Join-Request: what is kept changes, its entry is added, and its reply is told, with which nothing goes out. Room
-    // for its entry, and for the one that ends what it opens, is made first. Where a growth is refused, nothing has changed.
-    fn begin(&mut self, call: &Call) -> Result<Reply, AllocError>
-        requires begins { is_ending call.now ≡ false }
-        requires own { shard_of_call call.now ≡ self.old.index }
+    // Takes an uplink: the devices and windows change, and there is room for its entry, and for the one that ends what it opens. Where a
+    // growth is refused, nothing has changed.
+    fn uplink(&mut self, frame: &DataFrame, heard: &Heard) -> Result<Event, AllocError>
+        requires own { shard_of_call (Uplink frame.now heard.now) ≡ self.old.index }
         requires agree { AreParts self.old }
-        ensures roster { self.new.roster ≡ self.old.roster }
-        ensures answer { IfOk result (λ r. quiet r ≡ answer_in (state_of self.old) call.now) }
-        ensures state { OnOk result (state_of self.new ≡ after_call (state_of self.old) call.now) }
-        ensures err { OnErr result (state_of self.new ≡ state_of self.old) }
-        ensures agree { AreParts self.new }
+        ensures taken { IfOk result (AreTaken self.new (Uplink frame.now heard.now)) }
+        ensures state { state_of self.new ≡ state_of self.old }
+        ensures err { OnErr result (AreParts self.new) }
     {
-        self.journal.room(2)?;
-        let reply = begin(&mut self.devices, &mut self.windows, call)?;
-        push(&mut self.journal, *call, reply);
-        Ok(reply)
+        self.journal.room(ROOM_TO_OPEN)?;
+        uplink(&mut self.devices, &mut self.windows, frame, heard)
     }
 
-    // Takes a closing or a join server's answer. Where its window or ticket is open, what is kept changes, its entry is added in the room
-    // that is reserved for it, and what came of it is told, with the window that it closed, if any. Else nothing changes.
-    fn end(&mut self, call: &Call, closed: &mut Option<BoxedWindow>) -> Option<Event>
-        requires ends { is_ending call.now ≡ true }
+    // The same of a Join-Request.
+    fn join(&mut self, ticket: &Ticket, heard: &Heard) -> Result<Event, AllocError>
+        requires own { shard_of_call (Join ticket.now heard.now) ≡ self.old.index }
         requires agree { AreParts self.old }
-        requires none { closed.old ≡ None }
-        ensures roster { self.new.roster ≡ self.old.roster }
-        ensures open { is_some result ≡ finds_open (state_of self.old) call.now }
-        ensures answer { IfSome result (λ e. answer_of (arc_value self.old.roster) closed.new e ≡ answer_in (state_of self.old) call.now) }
-        ensures state { state_of self.new ≡ after_if_open (state_of self.old) call.now }
-        ensures closed { result ≡ None → closed.new ≡ None }
-        ensures agree { AreParts self.new }
+        ensures taken { IfOk result (AreTaken self.new (Join ticket.now heard.now)) }
+        ensures state { state_of self.new ≡ state_of self.old }
+        ensures err { OnErr result (AreParts self.new) }
     {
-        let event = end(&mut self.devices, &mut self.windows, call, closed)?;
-        self.journal.push_reserved(*call, event.reply());
-        Some(event)
+        self.journal.room(ROOM_TO_OPEN)?;
+        Ok(join(&mut self.devices, ticket, heard))
     }
 
-    // Takes a closing or a join server's answer that finds nothing open: its entry alone is added. Where a growth is refused, nothing has
-    // changed.
-    fn end_nothing(&mut self, call: &Call) -> Result<Event, AllocError>
-        requires ends { is_ending call.now ≡ true }
-        requires closed { finds_open (state_of self.old) call.now ≡ false }
-        requires own { shard_of_call call.now ≡ self.old.index }
+    /// Takes a join server's answer, where its ticket is open: room for its entry is reserved. Else nothing has changed.
+    pub fn answer(&mut self, ticket: &Ticket, outcome: &Outcome) -> Option<Event>
         requires agree { AreParts self.old }
-        ensures roster { self.new.roster ≡ self.old.roster }
-        ensures answer { IfOk result (λ e. answer_of (arc_value self.old.roster) None e ≡ answer_in (state_of self.old) call.now) }
-        ensures state { OnOk result (state_of self.new ≡ after_call (state_of self.old) call.now) }
-        ensures err { OnErr result (state_of self.new ≡ state_of self.old) }
-        ensures agree { AreParts self.new }
+        ensures open { is_some result ≡ finds_open (state_of self.old) (JoinReply ticket.now outcome.now) }
+        ensures taken { IfSome result (AreTaken self.new (JoinReply ticket.now outcome.now)) }
+        ensures state { state_of self.new ≡ state_of self.old }
+        ensures none { IfNone result (AreParts self.new) }
     {
-        self.journal.room(1)?;
-        let reply = nothing_open(call);
-        self.journal.push(*call, reply);
-        Ok(Event::Quiet(reply))
+        Some(Event::Ended(answer(&mut self.devices, ticket, outcome)?))
     }
 
-    // Takes a call: what is kept changes, its entry is added, and what came of it is told, with the window that it closed, if any. Where
-    // a growth is refused, nothing has changed.
-    fn enter(&mut self, call: &Call, closed: &mut Option<BoxedWindow>) -> Result<Event, AllocError>
+    /// The same of a closing, where its window is open.
+    pub fn close(&mut self, window: &WindowName) -> Option<Event>
+        requires agree { AreParts self.old }
+        ensures open { is_some result ≡ finds_open (state_of self.old) (Close window.now) }
+        ensures taken { IfSome result (AreTaken self.new (Close window.now)) }
+        ensures state { state_of self.new ≡ state_of self.old }
+        ensures none { IfNone result (AreParts self.new) }
+    {
+        Some(Event::Ended(close(&mut self.devices, &mut self.windows, window)?))
+    }
+
+    // Takes a call: the devices and windows change, and there is room for its entry. Where a growth is refused, nothing has changed.
+    fn take(&mut self, call: &Call) -> Result<Event, AllocError>
         requires own { shard_of_call call.now ≡ self.old.index }
         requires agree { AreParts self.old }
-        requires none { closed.old ≡ None }
-        ensures roster { self.new.roster ≡ self.old.roster }
-        ensures answer { IfOk result (λ e. answer_of (arc_value self.old.roster) closed.new e ≡ answer_in (state_of self.old) call.now) }
-        ensures state { OnOk result (state_of self.new ≡ after_call (state_of self.old) call.now) }
+        ensures taken { IfOk result (AreTaken self.new call.now) }
+        ensures state { state_of self.new ≡ state_of self.old }
         ensures open { OnErr result (finds_open (state_of self.old) call.now ≡ false) }
-        ensures err { OnErr result (state_of self.new ≡ state_of self.old) }
+        ensures err { OnErr result (AreParts self.new) }
+    {
+        match call {
+            Call::Uplink { frame, heard } => self.uplink(frame, heard),
+            Call::Join { ticket, heard } => self.join(ticket, heard),
+            Call::JoinReply { ticket, outcome } => match self.answer(ticket, outcome) {
+                Some(event) => Ok(event),
+                None => {
+                    self.journal.room(1)?;
+                    Ok(Event::Quiet(Reply::NoTicket))
+                }
+            },
+            Call::Close { window } => match self.close(window) {
+                Some(event) => Ok(event),
+                None => {
+                    self.journal.room(1)?;
+                    Ok(Event::Quiet(Reply::NoWindow))
+                }
+            },
+        }
+    }
+
+    // Adds the entry of a call that was taken.
+    fn push(&mut self, call: &Call, event: &Event)
+        requires { AreTaken self.old call.now event.now }
+        ensures state { state_of self.new ≡ after_call (state_of self.old) call.now }
         ensures agree { AreParts self.new }
     {
-        if !is_ending(call) {
-            return Ok(Event::Quiet(self.begin(call)?));
-        }
-        match self.end(call, closed) {
-            Some(event) => Ok(event),
-            None => self.end_nothing(call),
-        }
+        push(&mut self.journal, call, event);
+    }
+
+    /// Adds the entry of a call that was taken, and gives the answer.
+    pub fn answered(&mut self, call: &Call, event: Event) -> Answer
+        requires { AreTaken self.old call.now event }
+        ensures answer { result ≡ answer_in (state_of self.old) call.now }
+        ensures state { state_of self.new ≡ after_call (state_of self.old) call.now }
+        ensures agree { AreParts self.new }
+    {
+        self.push(call, &event);
+        event.answer(&self.roster)
     }
 
     /// Answers a call. Where a growth is refused, nothing has changed.
@@ -143,23 +165,8 @@ impl Parts {
         ensures err { OnErr result (state_of self.new ≡ state_of self.old) }
         ensures agree { AreParts self.new }
     {
-        let mut closed = None;
-        let event = self.enter(call, &mut closed)?;
-        Ok(event.answer(&self.roster, closed))
-    }
-
-    /// Answers a closing or a join server's answer that finds its window or ticket open. At another one nothing changes, and there is no
-    /// answer.
-    pub fn apply_if_open(&mut self, call: &Call) -> Option<Answer>
-        requires ends { is_ending call.now ≡ true }
-        requires agree { AreParts self.old }
-        ensures answer { result ≡ answer_if_open (state_of self.old) call.now }
-        ensures state { state_of self.new ≡ after_if_open (state_of self.old) call.now }
-        ensures agree { AreParts self.new }
-    {
-        let mut closed = None;
-        let event = self.end(call, &mut closed)?;
-        Some(event.answer(&self.roster, closed))
+        let event = self.take(call)?;
+        Ok(self.answered(call, event))
     }
 
     /// Answers a call, with an answer that is kept. Where a growth is refused, the call may have been taken.
@@ -170,27 +177,8 @@ impl Parts {
         ensures state { OnOk result (state_of self.new ≡ after_call (state_of self.old) call.now) }
         ensures agree { AreParts self.new }
     {
-        if is_ending(call) {
-            return self.end_packed(alloc, call);
-        }
-        Ok(PackedAnswer::quiet(self.begin(call)?))
-    }
-
-    // The same for a closing or a join server's answer. It stays a function of its own, so that the other calls make no room for a window.
-    #[inline(never)]
-    fn end_packed(&mut self, alloc: Global, call: &Call) -> Result<PackedAnswer, AllocError>
-        requires own { shard_of_call call.now ≡ self.old.index }
-        requires agree { AreParts self.old }
-        ensures answer { IfOk result (λ a. a ≡ answer_in (state_of self.old) call.now) }
-        ensures state { OnOk result (state_of self.new ≡ after_call (state_of self.old) call.now) }
-        ensures agree { AreParts self.new }
-    {
-        let mut closed = None;
-        let event = self.enter(call, &mut closed)?;
-        let downlink = event.downlink(&self.roster, &closed);
-        if closed.is_none() && downlink.is_none() {
-            return Ok(PackedAnswer::quiet(event.reply()));
-        }
-        PackedAnswer::sending(alloc, event.reply(), closed, downlink)
+        let event = self.take(call)?;
+        self.push(call, &event);
+        PackedAnswer::of(alloc, &self.roster, event)
     }
 }

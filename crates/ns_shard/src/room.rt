@@ -1,67 +1,25 @@
-//! Which entries open a window or a ticket, and which end one: an entry that opens reserves room for the one that ends.
+//! The room of entries: one that opens a window or asks for a ticket reserves room for the one that ends that.
 
-ghost use Rattle.std.specs.Prelude.{◌≡◌, ◌≤◌, ◌+◌, [], ◌∷◌, ◌++◌, if◌then◌else◌};
+ghost use Rattle.std.specs.Prelude.{◌≡◌, ◌+◌, [], ◌∷◌, ◌++◌};
 ghost use Rattle.ns_journal.specs.State.{next_entry};
-ghost use Rattle.ns_shard.specs.Private.Room.{opens, ends, is_ending, nothing_open};
+ghost use Rattle.ns_shard.specs.Private.Sending.{reply_of};
+ghost use Rattle.ns_shard.specs.Private.Room.{HasRoom, reserved_after};
 
-use ns_calls::{Call, Reply};
+use crate::event::Event;
+use ns_calls::Call;
 use ns_journal::Journal;
 
-/// Whether the entry of a call and its reply opens a window, or asks for a ticket.
-pub fn opens(call: &Call, reply: &Reply) -> bool
-    ensures { result ≡ opens call.now reply.now }
-{
-    match (call, reply) {
-        (Call::Uplink { .. }, Reply::Opened { .. } | Reply::Again { .. }) => true,
-        (Call::Join { .. }, Reply::Ask { .. }) => true,
-        _ => false,
-    }
-}
-
-/// Adds an entry, and where it opens something, reserves room for the one that ends that.
+/// Adds the entry of a call, of which this came.
 #[inline(always)]
-pub fn push(journal: &mut Journal, call: Call, reply: Reply)
-    requires { journal.old.reserved + 2 ≤ journal.old.room }
+pub fn push(journal: &mut Journal, call: &Call, event: &Event)
+    requires { HasRoom event.now journal.old }
     ensures made { journal.new.made ≡ journal.old.made + 1 }
-    ensures entries { journal.new.entries ≡ journal.old.entries ++ next_entry journal.old call reply ∷ [] }
-    ensures reserved { journal.new.reserved ≡ journal.old.reserved + (if opens call reply then 1 else 0) }
+    ensures entries { journal.new.entries ≡ journal.old.entries ++ next_entry journal.old call.now (reply_of event.now) ∷ [] }
+    ensures reserved { journal.new.reserved ≡ reserved_after event.now journal.old.reserved }
 {
-    if opens(&call, &reply) {
-        journal.push_reserving(call, reply);
-    } else {
-        journal.push(call, reply);
-    }
-}
-
-/// Whether the entry of a call and its reply closes a window, or ends a ticket.
-pub fn ends(call: &Call, reply: &Reply) -> bool
-    ensures { result ≡ ends call.now reply.now }
-{
-    match (call, reply) {
-        (Call::Close { .. }, Reply::Closed { .. }) => true,
-        (Call::JoinReply { .. }, Reply::Accepted { .. }) => true,
-        (Call::JoinReply { .. }, Reply::JoinRefused) => true,
-        (Call::JoinReply { .. }, Reply::JoinStale { .. }) => true,
-        _ => false,
-    }
-}
-
-/// Whether a call is a closing, or a join server's answer.
-pub fn is_ending(call: &Call) -> bool
-    ensures { result ≡ is_ending call.now }
-{
-    match call {
-        Call::Uplink { .. } | Call::Join { .. } => false,
-        Call::JoinReply { .. } | Call::Close { .. } => true,
-    }
-}
-
-/// The reply to a closing or an answer that finds nothing open.
-pub fn nothing_open(call: &Call) -> Reply
-    ensures { result ≡ nothing_open call.now }
-{
-    match call {
-        Call::JoinReply { .. } => Reply::NoTicket,
-        _ => Reply::NoWindow,
-    }
+    match event {
+        Event::Quiet(reply) => journal.push(*call, *reply),
+        Event::Opened(reply) => journal.push_reserving(*call, *reply),
+        Event::Ended(ended) => journal.push_reserved(*call, ended.reply()),
+    };
 }

@@ -1,7 +1,7 @@
 //! What goes out where a window is closed.
 
-ghost use Rattle.std.specs.Prelude.{◌≡◌};
-ghost use Rattle.ns_shard.specs.Private.Sending.{uplink_from, uplink_of, ack_from};
+ghost use Rattle.std.specs.Prelude.{◌≡◌, option_and_then};
+ghost use Rattle.ns_shard.specs.Private.Sending.{uplink_from, first_uplink_from, ack_from};
 
 use arrayvec::ArrayVec;
 use ns_calls::{Downlink, Uplink, payload_key};
@@ -20,12 +20,12 @@ pub fn uplink_from(window: &mut Window) -> Uplink
     Uplink::under(window.name, &mut window.frame, copies, key)
 }
 
-/// The uplink of a window that was closed, if any, where it is the first of its rounds.
+/// The uplink of a window that was closed, where it is the first of its rounds.
 #[inline(always)]
-pub fn uplink_of(closed: Option<BoxedWindow>) -> Option<Uplink>
-    ensures { result ≡ uplink_of closed }
+pub fn uplink_of(closed: BoxedWindow) -> Option<Uplink>
+    ensures { result ≡ first_uplink_from closed }
 {
-    let mut window = closed?.into_inner();
+    let mut window = closed.into_inner();
     if window.name.is_first() {
         Some(uplink_from(&mut window))
     } else {
@@ -33,15 +33,15 @@ pub fn uplink_of(closed: Option<BoxedWindow>) -> Option<Uplink>
     }
 }
 
-/// The acknowledgement of a window with this number, at RX1 of its best copy.
-pub fn ack_from(roster: &Roster, window: &Window, n: u32) -> Option<Downlink>
-    ensures { result ≡ ack_from roster.now window.now n }
+/// The acknowledgement of a window with this number, if any, at RX1 of its best copy.
+pub fn ack_from(roster: &Roster, window: &Window, number: Option<u32>) -> Option<Downlink>
+    ensures { result ≡ option_and_then (ack_from roster.now window.now) number }
 {
     acknowledgement(
         roster,
         &window.frame,
         &window.nwk,
-        n,
+        number?,
         window.copies.as_slice(),
     )
 }

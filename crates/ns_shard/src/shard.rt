@@ -71,7 +71,8 @@ impl Shard {
         ensures entry { self.new ≡ after_if_open self.old (Close window.now) }
         ensures state { IsState self.new }
     {
-        self.parts.apply_if_open(&Call::Close { window: *window })
+        let event = self.parts.close(window)?;
+        Some(self.parts.answered(&Call::Close { window: *window }, event))
     }
 
     /// Answers a ticket, where it is open: this is what `apply` does with a join server's answer, and takes no memory. Where it is not
@@ -81,10 +82,12 @@ impl Shard {
         ensures entry { self.new ≡ after_if_open self.old (JoinReply ticket.now outcome) }
         ensures state { IsState self.new }
     {
-        self.parts.apply_if_open(&Call::JoinReply {
+        let event = self.parts.answer(ticket, &outcome)?;
+        let call = Call::JoinReply {
             ticket: *ticket,
             outcome,
-        })
+        };
+        Some(self.parts.answered(&call, event))
     }
 
     /// Drops the entries on which no answer rests, and hands them out: of each device the last join that was accepted and the last uplink

@@ -7,10 +7,12 @@ ghost use Rattle.ns_calls.specs.declared.call.Call.TheVariants.{Uplink};
 ghost use Rattle.ns_calls.specs.declared.call.Reply.TheVariants.{Opened, Again};
 ghost use Rattle.ns_calls.specs.Reply.{most_windows, window_of};
 ghost use Rattle.ns_windows.specs.Windows.{window_named, window_of_frame, count};
-ghost use Rattle.ns_shard.specs.Private.Room.{opens};
 ghost use Rattle.ns_devices.specs.Devices.{is_own, fit_at, IsNew, keys_in};
+ghost use Rattle.ns_shard.specs.Private.Sending.{reply_of};
+ghost use Rattle.ns_shard.specs.Private.Room.{opens, opening_event};
 ghost use Rattle.ns_shard.specs.Private.Reaction.{added_reply, new_window, with_window, open_reply, round_of, again_reply, uplink_reply, with_shard_uplink, with_copy_or_window, HasPlace, CanOpen};
 
+use crate::event::Event;
 use arrayvec::ArrayVec;
 use ns_calls::{DataFrame, MOST_WINDOWS, Reply};
 use ns_devices::{Devices, Placed};
@@ -88,25 +90,26 @@ fn open(
     fit: &Placed,
     frame: &DataFrame,
     heard: &Heard,
-) -> Result<Reply, AllocError>
+) -> Result<Event, AllocError>
     requires fit { position (is_own fit.now.eui) devices.old ≡ Some fit.now.place }
     requires new { IsNew devices.old (window_of (fit_at fit.now)) }
     requires place { let f = fit_at fit.now in open_reply windows.old f ≡ Opened (window_of f) → HasPlace devices.old windows.old (window_of f) }
     requires frame { window_of_frame frame.now windows.old ≡ None }
-    ensures reply { IfOk result (λ r. r ≡ open_reply windows.old (fit_at fit.now)) }
-    ensures devices { IfOk result (λ r. devices.new ≡ with_shard_uplink r devices.old) }
-    ensures windows { IfOk result (λ r. windows.new ≡ with_copy_or_window r frame.now heard.now devices.old windows.old) }
+    ensures reply { IfOk result (λ e. reply_of e ≡ open_reply windows.old (fit_at fit.now)) }
+    ensures opened { IfOk result (λ e. e ≡ opening_event (Uplink frame.now heard.now) (reply_of e)) }
+    ensures devices { IfOk result (λ e. devices.new ≡ with_shard_uplink (reply_of e) devices.old) }
+    ensures windows { IfOk result (λ e. windows.new ≡ with_copy_or_window (reply_of e) frame.now heard.now devices.old windows.old) }
     ensures memory { OnErr result (opens (Uplink frame.now heard.now) (open_reply windows.old (fit_at fit.now)) ≡ true) }
     ensures err_devices { OnErr result (devices.new ≡ devices.old) }
     ensures err_windows { OnErr result (windows.new ≡ windows.old) }
 {
     let name = fit.window();
     if is_busy(windows, name.eui) {
-        return Ok(Reply::Busy { eui: name.eui });
+        return Ok(Event::Quiet(Reply::Busy { eui: name.eui }));
     }
     put(devices, windows, fit.place, &name, frame, heard)?;
     devices.open(fit.place, &name);
-    Ok(Reply::Opened { window: name })
+    Ok(Event::Opened(Reply::Opened { window: name }))
 }
 
 // The round in which a frame is acknowledged again, which fits there: it is a Confirmed Data Up, and the window of the round before is
@@ -133,32 +136,33 @@ fn open_again(
     fit: &Placed,
     frame: &DataFrame,
     heard: &Heard,
-) -> Result<Reply, AllocError>
+) -> Result<Event, AllocError>
     requires fit { position (is_own fit.now.eui) devices.old ≡ Some fit.now.place }
     requires place { (name : WindowName) → again_reply devices.old windows.old frame.now (fit_at fit.now) ≡ Again name
         → HasPlace devices.old windows.old name }
     requires frame { window_of_frame frame.now windows.old ≡ None }
-    ensures reply { IfOk result (λ r. r ≡ again_reply devices.old windows.old frame.now (fit_at fit.now)) }
-    ensures devices { IfOk result (λ r. devices.new ≡ with_shard_uplink r devices.old) }
-    ensures windows { IfOk result (λ r. windows.new ≡ with_copy_or_window r frame.now heard.now devices.old windows.old) }
+    ensures reply { IfOk result (λ e. reply_of e ≡ again_reply devices.old windows.old frame.now (fit_at fit.now)) }
+    ensures opened { IfOk result (λ e. e ≡ opening_event (Uplink frame.now heard.now) (reply_of e)) }
+    ensures devices { IfOk result (λ e. devices.new ≡ with_shard_uplink (reply_of e) devices.old) }
+    ensures windows { IfOk result (λ e. windows.new ≡ with_copy_or_window (reply_of e) frame.now heard.now devices.old windows.old) }
     ensures memory { OnErr result (opens (Uplink frame.now heard.now) (again_reply devices.old windows.old frame.now (fit_at fit.now)) ≡ true) }
     ensures err_devices { OnErr result (devices.new ≡ devices.old) }
     ensures err_windows { OnErr result (windows.new ≡ windows.old) }
 {
     let Some(round) = round_of(devices, windows, fit, frame) else {
-        return Ok(Reply::Old {
+        return Ok(Event::Quiet(Reply::Old {
             eui: fit.eui,
             session: fit.session,
             fcnt: fit.counter,
-        });
+        }));
     };
     let name = fit.in_round(round);
     if is_busy(windows, name.eui) {
-        return Ok(Reply::Busy { eui: name.eui });
+        return Ok(Event::Quiet(Reply::Busy { eui: name.eui }));
     }
     put(devices, windows, fit.place, &name, frame, heard)?;
     devices.open_again(fit.place, &name);
-    Ok(Reply::Again { window: name })
+    Ok(Event::Opened(Reply::Again { window: name }))
 }
 
 /// Takes an uplink. Only an opening wants memory: where a growth is refused, nothing has changed.
@@ -167,17 +171,18 @@ pub fn uplink(
     windows: &mut Windows,
     frame: &DataFrame,
     heard: &Heard,
-) -> Result<Reply, AllocError>
+) -> Result<Event, AllocError>
     requires open { CanOpen devices.old windows.old frame.now }
-    ensures reply { IfOk result (λ r. r ≡ uplink_reply devices.old windows.old frame.now) }
-    ensures devices { IfOk result (λ r. devices.new ≡ with_shard_uplink r devices.old) }
-    ensures windows { IfOk result (λ r. windows.new ≡ with_copy_or_window r frame.now heard.now devices.old windows.old) }
+    ensures reply { IfOk result (λ e. reply_of e ≡ uplink_reply devices.old windows.old frame.now) }
+    ensures opened { IfOk result (λ e. e ≡ opening_event (Uplink frame.now heard.now) (reply_of e)) }
+    ensures devices { IfOk result (λ e. devices.new ≡ with_shard_uplink (reply_of e) devices.old) }
+    ensures windows { IfOk result (λ e. windows.new ≡ with_copy_or_window (reply_of e) frame.now heard.now devices.old windows.old) }
     ensures memory { OnErr result (opens (Uplink frame.now heard.now) (uplink_reply devices.old windows.old frame.now) ≡ true) }
     ensures err_devices { OnErr result (devices.new ≡ devices.old) }
     ensures err_windows { OnErr result (windows.new ≡ windows.old) }
 {
     if let Some(addition) = windows.add_copy(frame.bytes(), heard) {
-        return Ok(copy_reply(addition));
+        return Ok(Event::Quiet(copy_reply(addition)));
     }
     let view = frame.view();
     if let Some(fit) = devices.fit(Recovery::Above, &view) {
@@ -185,6 +190,6 @@ pub fn uplink(
     }
     match devices.fit(Recovery::Below, &view) {
         Some(fit) => open_again(devices, windows, &fit, frame, heard),
-        None => Ok(Reply::NoSession),
+        None => Ok(Event::Quiet(Reply::NoSession)),
     }
 }

@@ -12,8 +12,6 @@ use Rattle.ns_views.specs.Frame.{is_confirmed}
 use Rattle.ns_secure.specs.Counter.{above, below}
 use Rattle.ns_calls.specs.declared.call.Outcome.{Outcome}
 use Rattle.ns_calls.specs.declared.call.Outcome.TheVariants as outcome
-use Rattle.ns_calls.specs.declared.call.Call.{Call}
-use Rattle.ns_calls.specs.declared.call.Call.TheVariants as call
 use Rattle.ns_calls.specs.declared.call.Reply.{Reply}
 use Rattle.ns_calls.specs.declared.call.Reply.TheVariants as reply
 use Rattle.ns_calls.specs.declared.answer.Downlink.{Downlink}
@@ -26,13 +24,11 @@ use Rattle.ns_sessions.specs.Laws.{join_decision_reply}
 use Rattle.ns_windows.specs.declared.window.Window.{Window}
 use Rattle.ns_windows.specs.declared.window.Addition.{Addition}
 use Rattle.ns_windows.specs.declared.window.Addition.TheVariants as addition
-use Rattle.ns_windows.specs.Windows.{with_copy_in, count, window_of_frame, window_named, without}
+use Rattle.ns_windows.specs.Windows.{with_copy_in, count, window_of_frame, window_named}
 use Rattle.ns_devices.specs.declared.own.Own.{Own}
-use Rattle.ns_shard.specs.declared.event.Event.{Event}
-use Rattle.ns_shard.specs.declared.event.Event.TheVariants.{Quiet, Accepted, Closed}
-use Rattle.ns_shard.specs.Private.Sending.{reply_of}
-use Rattle.ns_shard.specs.Private.Room.{ends}
-use Rattle.ns_devices.specs.Devices.{own_of, keys_in, with_change_of, with_join_of, after_answer, first_own_fit, next_round}
+use Rattle.ns_shard.specs.declared.event.Ended.{Ended}
+use Rattle.ns_shard.specs.declared.event.Ended.TheVariants.{Answered, Closed}
+use Rattle.ns_devices.specs.Devices.{own_of, keys_in, with_change_of, first_own_fit, next_round}
 
 -- ---- joins
 
@@ -50,17 +46,18 @@ abbrev pub accept_downlink : Outcome → Heard → Option Downlink
 accept_downlink (outcome.Success join) heard = Some (accept_at join heard)
 accept_downlink outcome.Failed heard = None
 
-abbrev pub answer_event : DevAddr → Ticket → Outcome → AnswerDecision → Event
-answer_event addr t o decision.NoTicket = Quiet reply.NoTicket
-answer_event addr t o decision.Refused = Quiet reply.JoinRefused
-answer_event addr t o (decision.Stale greatest) = Quiet (reply.JoinStale greatest)
-answer_event addr t o (decision.Accepted session heard) = Accepted (reply.Accepted (dev_eui t) session addr) (accept_downlink o heard)
+-- what the answer ends
+abbrev pub answer_ended : DevAddr → Ticket → Outcome → AnswerDecision → Option Ended
+answer_ended addr t o decision.NoTicket = None
+answer_ended addr t o decision.Refused = Some (Answered reply.JoinRefused None)
+answer_ended addr t o (decision.Stale greatest) = Some (Answered (reply.JoinStale greatest) None)
+answer_ended addr t o (decision.Accepted session heard) = Some (Answered (reply.Accepted (dev_eui t) session addr) (accept_downlink o heard))
 
-abbrev pub own_answer_event : Ticket → Outcome → Own → Event
-own_answer_event t outcome o = answer_event o.addr t outcome (answer_decision o.state t outcome)
+abbrev pub own_answer_ended : Ticket → Outcome → Own → Option Ended
+own_answer_ended t outcome o = answer_ended o.addr t outcome (answer_decision o.state t outcome)
 
-abbrev pub shard_answer_event : List Own → Ticket → Outcome → Event
-shard_answer_event devices t outcome = option_map_or (own_answer_event t outcome) (own_of (dev_eui t) devices) (Quiet reply.NoTicket)
+abbrev pub shard_answer_ended : List Own → Ticket → Outcome → Option Ended
+shard_answer_ended devices t outcome = option_and_then (own_answer_ended t outcome) (own_of (dev_eui t) devices)
 
 -- ---- closings
 
@@ -71,9 +68,9 @@ ack_of devices w = if is_confirmed w.frame then option_and_then (λ o. ack_in o.
 abbrev pub with_shard_ack : Window → List Own → List Own
 with_shard_ack w devices = if is_confirmed w.frame then with_change_of w.name.eui (with_ack w.name.session) devices else devices
 
-abbrev pub close_event : List Own → Option Window → Event
-close_event devices None = Quiet reply.NoWindow
-close_event devices (Some w) = Closed w.name (ack_of devices w)
+-- what a closing ends
+abbrev pub close_ended : List Own → Option Window → Option Ended
+close_ended devices found = option_map (λ w. Closed w (ack_of devices w)) found
 
 abbrev pub with_closing : Option Window → List Own → List Own
 with_closing None devices = devices
@@ -138,40 +135,3 @@ pub record HasPlace (devices : List Own) (windows : List Window) (name : WindowN
 pub record CanOpen (devices : List Own) (windows : List Window) (frame : List ℕ) : Type 0 where
   pub place : (name : WindowName) → uplink_reply devices windows frame ≡ reply.Opened name → HasPlace devices windows name
   pub again : (name : WindowName) → uplink_reply devices windows frame ≡ reply.Again name → HasPlace devices windows name
-
--- ---- any call
-
-abbrev pub CanReact : List Own → List Window → Call → Type 0
-CanReact devices windows (call.Uplink frame heard) = CanOpen devices windows frame
-CanReact devices windows (call.Join t heard) = Unit {0}
-CanReact devices windows (call.JoinReply t outcome) = Unit {0}
-CanReact devices windows (call.Close name) = Unit {0}
-
-abbrev pub event_of : List Own → List Window → Call → Event
-event_of devices windows (call.Uplink frame heard) = Quiet (uplink_reply devices windows frame)
-event_of devices windows (call.Join t heard) = Quiet (shard_join_reply devices t)
-event_of devices windows (call.JoinReply t outcome) = shard_answer_event devices t outcome
-event_of devices windows (call.Close name) = close_event devices (window_named name windows)
-
--- what came of a closing or an answer that ended something
-abbrev pub ending_event : Call → Event → Option Event
-ending_event call event = when (ends call (reply_of event)) event
-
--- the window that a call closes
-abbrev pub window_closed_by : List Window → Call → Option Window
-window_closed_by windows (call.Uplink frame heard) = None
-window_closed_by windows (call.Join t heard) = None
-window_closed_by windows (call.JoinReply t outcome) = None
-window_closed_by windows (call.Close name) = window_named name windows
-
-abbrev pub devices_after : List Own → List Window → Call → List Own
-devices_after devices windows (call.Uplink frame heard) = with_shard_uplink (uplink_reply devices windows frame) devices
-devices_after devices windows (call.Join t heard) = with_join_of t heard devices
-devices_after devices windows (call.JoinReply t outcome) = with_change_of (dev_eui t) (after_answer t outcome) devices
-devices_after devices windows (call.Close name) = with_closing (window_named name windows) devices
-
-abbrev pub windows_after : List Own → List Window → Call → List Window
-windows_after devices windows (call.Uplink frame heard) = with_copy_or_window (uplink_reply devices windows frame) frame heard devices windows
-windows_after devices windows (call.Join t heard) = windows
-windows_after devices windows (call.JoinReply t outcome) = windows
-windows_after devices windows (call.Close name) = without name windows

@@ -12,8 +12,10 @@ use Rattle.ns_calls.specs.declared.answer.Downlink.{Downlink}
 use Rattle.ns_calls.specs.declared.answer.Answer.{Answer}
 use Rattle.ns_calls.specs.Out.{payload_key, uplink_under, ack_at}
 use Rattle.ns_windows.specs.declared.window.Window.{Window}
+use Rattle.ns_shard.specs.declared.event.Ended.{Ended}
+use Rattle.ns_shard.specs.declared.event.Ended.TheVariants.{Answered, Closed}
 use Rattle.ns_shard.specs.declared.event.Event.{Event}
-use Rattle.ns_shard.specs.declared.event.Event.TheVariants.{Quiet, Accepted, Closed}
+use Rattle.ns_shard.specs.declared.event.Event.TheVariants as event
 
 -- ---- of a window that was closed
 
@@ -24,24 +26,29 @@ uplink_from w = uplink_under w.name w.frame w.copies.items (payload_key (data_fi
 abbrev pub ack_from : Network → Window → ℕ → Option Downlink
 ack_from net w n = option_map (ack_at net w.frame w.nwk n) (best w.copies.items)
 
--- ---- of any call, with the window that it closed, if any
-
-abbrev pub reply_of : Event → Reply
-reply_of (Quiet r) = r
-reply_of (Accepted r downlink) = r
-reply_of (Closed name ack) = reply.Closed name ack
-
 -- the uplink goes out with the first window of its rounds
 abbrev pub first_uplink_from : Window → Option Uplink
 first_uplink_from w = when (is_first w.name) (uplink_from w)
 
-abbrev pub uplink_of : Option Window → Option Uplink
-uplink_of closed = option_and_then first_uplink_from closed
+-- ---- of any call
 
-abbrev pub downlink_of : Network → Option Window → Event → Option Downlink
-downlink_of net closed (Quiet r) = None
-downlink_of net closed (Accepted r downlink) = downlink
-downlink_of net closed (Closed name ack) = option_and_then (λ n. option_and_then (λ w. ack_from net w n) closed) ack
+abbrev pub ended_reply : Ended → Reply
+ended_reply (Answered r downlink) = r
+ended_reply (Closed w ack) = reply.Closed w.name ack
 
-abbrev pub answer_of : Network → Option Window → Event → Answer
-answer_of net closed e = record { reply = reply_of e; uplink = uplink_of closed; downlink = downlink_of net closed e }
+abbrev pub reply_of : Event → Reply
+reply_of (event.Quiet r) = r
+reply_of (event.Opened r) = r
+reply_of (event.Ended what) = ended_reply what
+
+abbrev pub uplink_of : Event → Option Uplink
+uplink_of (event.Ended (Closed w ack)) = first_uplink_from w
+uplink_of _ = None
+
+abbrev pub downlink_of : Network → Event → Option Downlink
+downlink_of net (event.Ended (Answered r downlink)) = downlink
+downlink_of net (event.Ended (Closed w ack)) = option_and_then (ack_from net w) ack
+downlink_of net _ = None
+
+abbrev pub answer_of : Network → Event → Answer
+answer_of net e = record { reply = reply_of e; uplink = uplink_of e; downlink = downlink_of net e }
