@@ -6,7 +6,7 @@ ghost use Rattle.serde_json.specs.Written.{compact_text};
 ghost use Rattle.ns_joinwire.specs.JoinAns.{joinans};
 ghost use Rattle.test_device.specs.Joins.{BeginsAccept, GrantReadsBack, HexReadsBack, ReadsBack, read_of};
 ghost use Rattle.serde_json.specs.View.{view};
-ghost use Rattle.test_device.specs.Reply.{failed, handed_over, is_success, joined, message, plain_key, result_code};
+ghost use Rattle.test_device.specs.Reply.{failed, handed_over, is_success, joined, message};
 
 use ns_types::Key;
 use serde_json::{Value, json};
@@ -33,30 +33,15 @@ pub enum Answer {
     Other,
 }
 
-// The object in Result.
-fn result_code(alloc: Global, code: &str) -> Result<Value, AllocError>
-    ensures { IfOk result (λ v. view v ≡ result_code code.now) }
-{
-    json!(in alloc; {"ResultCode": code})
-}
-
 // The message of a join that failed.
 fn failed(alloc: Global, code: &str, transaction: u32) -> Result<Value, AllocError>
     ensures { IfOk result (λ v. view v ≡ failed code.now transaction) }
 {
-    let result_code = result_code(alloc, code)?;
     json!(in alloc; {
         "MessageType": "JoinAns",
-        "Result": result_code,
+        "Result": {"ResultCode": code},
         "TransactionID": transaction
     })
-}
-
-// A key in hex that none wraps.
-fn plain_key(alloc: Global, text: &str) -> Result<Value, AllocError>
-    ensures { IfOk result (λ v. view v ≡ plain_key text.now) }
-{
-    json!(in alloc; {"AESKey": text, "KEKLabel": ""})
 }
 
 // The message of a join that succeeded, with its Join-Accept and its keys in hex.
@@ -69,15 +54,12 @@ fn joined(
 ) -> Result<Value, AllocError>
     ensures { IfOk result (λ v. view v ≡ joined accept.now nwk.now app.now transaction) }
 {
-    let app = plain_key(alloc, app)?;
-    let nwk = plain_key(alloc, nwk)?;
-    let result_code = result_code(alloc, "Success")?;
     json!(in alloc; {
-        "AppSKey": app,
+        "AppSKey": {"AESKey": app, "KEKLabel": ""},
         "MessageType": "JoinAns",
-        "NwkSKey": nwk,
+        "NwkSKey": {"AESKey": nwk, "KEKLabel": ""},
         "PHYPayload": accept,
-        "Result": result_code,
+        "Result": {"ResultCode": "Success"},
         "TransactionID": transaction
     })
 }
