@@ -30,7 +30,7 @@ use Rattle.ns_shard.specs.declared.event.Event.TheVariants as event
 use Rattle.ns_shard.specs.Private.Sending.{reply_of, answer_of}
 use Rattle.ns_shard.specs.Private.Reaction.{uplink_reply, with_shard_uplink, with_copy_or_window, shard_join_reply}
 use Rattle.ns_shard.specs.State.{State, Keeps, quiet, seen, ends_open, finds_open, answer_in, after_call}
-use Rattle.ns_shard.specs.Private.Room.{opens, opening_event, open_total, HasRoom, reserved_after}
+use Rattle.ns_shard.specs.Private.Room.{opens, opening_event, open_total, IsRoomFor, reserved_after}
 use Rattle.ns_shard.specs.Private.Parts.{Agrees, AreParts, AreTaken, state_of}
 use Rattle.ns_shard.proofs.Entries.{pushed-is, answer-is, finds_open-is, keeps-more}
 use Rattle.ns_shard.proofs.PartSteps.{ended_or, join-replied, agrees-join}
@@ -77,7 +77,7 @@ total-by p are c r is =
 
 module _ (p q : Parts) (are : AreParts p) (c : Call) (same : state_of q ≡ state_of p) (agrees : Agrees (arc_value p.roster) p.index (history-after p are c) q.devices q.windows) (kept : q.journal.reserved ≡ p.journal.reserved) where
   -- by the answer and the room
-  taken-by : (e : Event) → answer_of (arc_value p.roster) e ≡ answer (arc_value p.roster) are.history c → HasRoom e q.journal → reserved_after e q.journal.reserved ≡ open_total (history-after p are c) → AreTaken q c e
+  taken-by : (e : Event) → answer_of (arc_value p.roster) e ≡ answer (arc_value p.roster) are.history c → IsRoomFor e q.journal → reserved_after e q.journal.reserved ≡ open_total (history-after p are c) → AreTaken q c e
   taken-by e told room reserved = record {
     small = subst (λ (s : State). s.index < shard_count) (sym same) are.small;
     history = are.history;

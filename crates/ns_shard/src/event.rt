@@ -1,6 +1,7 @@
 //! What came of a call, and the answer that is made of it.
 
 ghost use Rattle.std.specs.Prelude.{◌≡◌};
+ghost use Rattle.ns_shard.specs.declared.event.Event.TheVariants as event;
 ghost use Rattle.ns_shard.specs.Private.Sending.{ended_reply, reply_of, answer_of};
 
 use crate::sending::{ack_from, uplink_of};
@@ -36,6 +37,29 @@ impl Ended {
             },
         }
     }
+
+    /// The answer. It stays a function of its own, so that a call that ends nothing makes no room for a window.
+    #[inline(never)]
+    fn answer(self, roster: &Roster) -> Answer
+        ensures { result ≡ answer_of roster.now (event.Ended self) }
+    {
+        match self {
+            Ended::Answered { reply, downlink } => Answer {
+                reply,
+                uplink: None,
+                downlink,
+            },
+            Ended::Closed { window, ack } => {
+                let name = window.as_ref().name;
+                let downlink = ack_from(roster, window.as_ref(), ack);
+                Answer {
+                    reply: Reply::Closed { window: name, ack },
+                    uplink: uplink_of(window),
+                    downlink,
+                }
+            }
+        }
+    }
 }
 
 /// What came of a call.
@@ -60,20 +84,7 @@ impl Event {
                 uplink: None,
                 downlink: None,
             },
-            Event::Ended(Ended::Answered { reply, downlink }) => Answer {
-                reply,
-                uplink: None,
-                downlink,
-            },
-            Event::Ended(Ended::Closed { window, ack }) => {
-                let name = window.as_ref().name;
-                let downlink = ack_from(roster, window.as_ref(), ack);
-                Answer {
-                    reply: Reply::Closed { window: name, ack },
-                    uplink: uplink_of(window),
-                    downlink,
-                }
-            }
+            Event::Ended(ended) => ended.answer(roster),
         }
     }
 }

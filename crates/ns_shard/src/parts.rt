@@ -166,7 +166,8 @@ impl Parts {
         ensures agree { AreParts self.new }
     {
         let event = self.take(call)?;
-        Ok(self.answered(call, event))
+        self.push(call, &event);
+        Ok(event.answer(&self.roster))
     }
 
     /// Answers a call, with an answer that is kept. Where a growth is refused, the call may have been taken.

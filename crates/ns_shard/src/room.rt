@@ -3,7 +3,7 @@
 ghost use Rattle.std.specs.Prelude.{◌≡◌, ◌+◌, [], ◌∷◌, ◌++◌};
 ghost use Rattle.ns_journal.specs.State.{next_entry};
 ghost use Rattle.ns_shard.specs.Private.Sending.{reply_of};
-ghost use Rattle.ns_shard.specs.Private.Room.{HasRoom, reserved_after};
+ghost use Rattle.ns_shard.specs.Private.Room.{IsRoomFor, reserved_after};
 
 use crate::event::Event;
 use ns_calls::Call;
@@ -12,7 +12,7 @@ use ns_journal::Journal;
 /// Adds the entry of a call, of which this came.
 #[inline(always)]
 pub fn push(journal: &mut Journal, call: &Call, event: &Event)
-    requires { HasRoom event.now journal.old }
+    requires { IsRoomFor event.now journal.old }
     ensures made { journal.new.made ≡ journal.old.made + 1 }
     ensures entries { journal.new.entries ≡ journal.old.entries ++ next_entry journal.old call.now (reply_of event.now) ∷ [] }
     ensures reserved { journal.new.reserved ≡ reserved_after event.now journal.old.reserved }

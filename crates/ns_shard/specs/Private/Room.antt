@@ -22,10 +22,10 @@ abbrev pub open_total : List Entry → ℕ
 open_total h = length (open_windows h) + length (open_tickets h)
 
 -- there is room for the entry of an event, and for the one that ends what it opens
-abbrev pub HasRoom : Event → JournalState → Type 0
-HasRoom (Quiet reply) j = j.reserved < j.room
-HasRoom (Opened reply) j = j.reserved + 2 ≤ j.room
-HasRoom (Ended what) j = 0 < j.reserved
+abbrev pub IsRoomFor : Event → JournalState → Type 0
+IsRoomFor (Quiet reply) j = j.reserved < j.room
+IsRoomFor (Opened reply) j = j.reserved + 2 ≤ j.room
+IsRoomFor (Ended what) j = 0 < j.reserved
 
 -- how many places are reserved after it
 abbrev pub reserved_after : Event → ℕ → ℕ
