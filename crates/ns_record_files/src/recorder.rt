@@ -23,6 +23,13 @@ struct Lines {
     ups: Vec<u8>,
 }
 
+// What waits of one shard. Whether that is anything is told beside the lock, so that a shard with nothing is passed over.
+#[derive(Drop)]
+struct Waiting {
+    lines: Mutex<Lines>,
+    is_some: AtomicBool,
+}
+
 // The writer, and the lines that it is given.
 #[derive(Drop)]
 struct Writing<D: Disk> {
@@ -36,7 +43,7 @@ struct Writing<D: Disk> {
 /// A lock of the lines is taken behind all others, and none is taken while it is held; that of the writer is taken before those of lines.
 #[derive(Drop)]
 pub struct Recorder<D: Disk> {
-    shards: Vec<Mutex<Lines>>,
+    shards: Vec<Waiting>,
     writing: Mutex<Writing<D>>,
     // How many bytes are not written yet.
     pending: AtomicU64,
@@ -86,7 +93,10 @@ impl<D: Disk + Drop> Recorder<D> {
     pub fn new(alloc: Global, writer: RecordWriter<D>) -> Result<Recorder<D>, AllocError> {
         let mut shards = Vec::with_capacity(alloc, usize::from(SHARDS))?;
         for _shard in 0..SHARDS {
-            shards.push(Mutex::new(Lines::new(alloc)?))?;
+            shards.push(Waiting {
+                lines: Mutex::new(Lines::new(alloc)?),
+                is_some: AtomicBool::new(false),
+            })?;
         }
         let writing = Writing {
             writer,
@@ -104,13 +114,14 @@ impl<D: Disk + Drop> Recorder<D> {
     /// Keeps a step line of a shard, and the `up` line that it implies, where there is one. Neither has its line feed. Where there is no
     /// memory for them every write fails from then on.
     pub fn put<R: Wait>(&self, rt: &R, shard: u8, step: &[u8], up: Option<&[u8]>) {
-        let Some(lines) = self.shards.get(usize::from(shard)) else {
+        let Some(waiting) = self.shards.get(usize::from(shard)) else {
             return;
         };
-        let mut lines = lines.lock(rt);
+        let mut lines = waiting.lines.lock(rt);
         if lines.put(step, up).is_err() {
             self.lost.store(true, Ordering::SeqCst);
         }
+        waiting.is_some.store(true, Ordering::SeqCst);
         let len = step.len() as u64 + up.map_or(0, |up| up.len() as u64);
         self.pending.fetch_add(len, Ordering::SeqCst);
     }
@@ -145,9 +156,12 @@ impl<D: Disk + Drop> Recorder<D> {
     ) -> Result<(), AllocError> {
         steps.clear();
         ups.clear();
-        for lines in &self.shards {
-            let mut lines = lines.lock(rt);
-            lines.take(steps, ups)?;
+        for waiting in &self.shards {
+            if waiting.is_some.load(Ordering::SeqCst) {
+                let mut lines = waiting.lines.lock(rt);
+                lines.take(steps, ups)?;
+                waiting.is_some.store(false, Ordering::SeqCst);
+            }
         }
         self.pending.store(0, Ordering::SeqCst);
         Ok(())

@@ -37,6 +37,7 @@ fn notice_of(time: &Option<Utc>, receipt: &Receipt) -> Option<Text>
 }
 
 // Keeps the line of the join or the acknowledgement that a receipt tells, if it tells one.
+#[inline(never)]
 fn put_notice<R: Clock + Wait + Log>(rt: &R, notices: &Mutex<EventLines>, receipt: &Receipt) {
     let Some(text) = notice_of(&utc_now(rt), receipt) else {
         return;

@@ -7,8 +7,8 @@ ghost use Rattle.ns_serve_state.specs.Begun.{IsBegun};
 
 use crate::state::State;
 use log::{Log, error, info, warn};
-use ns_calls::up_line;
-use ns_record::{matters, step_line};
+use ns_calls::{Line, Uplink, up_line};
+use ns_record::{matters, put_step};
 use ns_record_files::{RecordFiles, RecordWriter, Recorder};
 use ns_resume::{RecordFault, Resumed, run_record};
 use ns_roster::Roster;
@@ -107,22 +107,38 @@ impl Begun {
     }
 }
 
+// Puts down a step line of a shard, and the `up` line that it implies.
+#[inline(never)]
+fn put_with_up<R: Wait>(
+    rt: &R,
+    record: &Recorder<RecordFiles>,
+    shard: u8,
+    step: &[u8],
+    uplink: &Uplink,
+) {
+    let up = up_line(uplink);
+    record.put(rt, shard, step, Some(up.as_str().as_bytes()));
+}
+
+// Puts down a call, and the `up` line of what goes up with it.
+#[inline(never)]
+fn put_call<R: Wait>(rt: &R, record: &Recorder<RecordFiles>, receipt: &Receipt) {
+    let mut line = Line::new();
+    put_step(&mut line, &receipt.entry.call);
+    let step = line.as_str().as_bytes();
+    match &receipt.uplink {
+        Some(uplink) => put_with_up(rt, record, receipt.shard, step, uplink),
+        None => record.put(rt, receipt.shard, step, None),
+    }
+}
+
 /// Puts down a call on which later answers rest, and the `up` line of what goes up with it.
 pub fn record_call<R: Wait>(rt: &R, state: &State, receipt: &Receipt) {
-    let Some(record) = &state.record else {
-        return;
-    };
-    if !matters(&receipt.entry.reply) {
-        return;
-    }
-    let step = step_line(&receipt.entry.call);
-    match &receipt.uplink {
-        Some(uplink) => {
-            let up = up_line(uplink);
-            let up = Some(up.as_str().as_bytes());
-            record.put(rt, receipt.shard, step.as_str().as_bytes(), up);
+    // (the room of a line is cleared at the begin of the function that has it)
+    if let Some(record) = &state.record {
+        if matters(&receipt.entry.reply) {
+            put_call(rt, record, receipt);
         }
-        None => record.put(rt, receipt.shard, step.as_str().as_bytes(), None),
     }
 }
 

@@ -6,15 +6,16 @@ ghost use Rattle.ns_calls.specs.Shards.{shard_of_call};
 ghost use Rattle.ns_kept.specs.Bound.{most_kept};
 ghost use Rattle.ns_shard.specs.State.{after_call, after_trim, dropped, finds_open};
 ghost use Rattle.ns_shard.specs.declared.trim.TrimFault.TheVariants.{Full};
-ghost use Rattle.ns_server.specs.Receipts.{receipt_of, receipt_for, HasHistory, AnswersFrom, RisesAt};
+ghost use Rattle.ns_server.specs.Receipts.{empty_receipt, receipt_of, receipt_for, HasHistory, AnswersFrom, RisesAt};
 ghost use Rattle.ns_server.specs.Kept.{IsStateOf};
 ghost use Rattle.ns_server.specs.Trims.{IsTrimOf};
 
 use crate::names::Naming;
 use crate::pass::Pass;
-use ns_calls::{Answer, Call, Downlink, Entry, Uplink};
+use ns_calls::{Answer, Call, Downlink, Entry, Reply, Uplink};
 use ns_shard::{Dropped, Shard, TrimFault};
 use ns_tally::ShardBook;
+use ns_types::{DevEui, WindowName};
 use std::alloc::{AllocError, Global};
 use std::marker::Model;
 
@@ -27,8 +28,54 @@ pub struct Receipt {
     pub downlink: Option<Downlink>,
 }
 
+impl Receipt {
+    /// A receipt of no call: room for those of calls.
+    pub fn empty() -> Receipt
+        ensures { result ≡ empty_receipt }
+    {
+        let window = WindowName {
+            eui: DevEui(0),
+            session: 0,
+            fcnt: 0,
+            round: 0,
+        };
+        Receipt {
+            shard: 0,
+            entry: Entry {
+                number: 0,
+                call: Call::Close { window },
+                reply: Reply::NoWindow,
+            },
+            uplink: None,
+            downlink: None,
+        }
+    }
+
+    // Puts the receipt of a call that made the entry of this number, with this answer, in the place of this one.
+    #[inline(always)]
+    fn put(&mut self, shard: u8, number: u64, call: &Call, answer: Answer)
+        ensures { self.new ≡ receipt_of shard number call.now answer }
+    {
+        put_uplink(&mut self.uplink, answer.uplink);
+        self.downlink = answer.downlink;
+        self.entry.reply = answer.reply;
+        self.entry.call = *call;
+        self.entry.number = number;
+        self.shard = shard;
+    }
+}
+
+// Puts an uplink in the place of another. The room for them is large: where neither is there, nothing is moved.
+#[inline(always)]
+fn put_uplink(place: &mut Option<Uplink>, uplink: Option<Uplink>)
+    ensures { place.new ≡ uplink }
+{
+    if place.is_some() || uplink.is_some() {
+        *place = uplink;
+    }
+}
+
 // The receipt of a call that made the entry of this number, with this answer.
-#[inline]
 pub(crate) fn receipt_of(shard: u8, number: u64, call: &Call, answer: Answer) -> Receipt
     ensures { result ≡ receipt_of shard number call.now answer }
 {
@@ -72,25 +119,34 @@ impl<B: Naming, const K: usize> Kept<B, K> {
         self.shard.made()
     }
 
-    /// Makes a call of the shard, and counts its entry in the book and in the pass. Where a growth was refused nothing has changed. A
-    /// closing or a join answer that finds its window or ticket open takes no memory.
-    pub fn step(&mut self, pass: &mut Pass<B>, call: Call) -> Result<Receipt, AllocError>
-        requires { shard_of_call call ≡ K }
-        ensures entry { OnOk result (self.new ≡ after_call self.old call) }
-        ensures receipt { IfOk result (λ r. r ≡ receipt_for self.old call) }
+    /// Makes a call of the shard, counts its entry in the book and in the pass, and puts its receipt in the place of another. Where a
+    /// growth was refused nothing has changed. A closing or a join answer that finds its window or ticket open takes no memory.
+    pub fn step(
+        &mut self,
+        pass: &mut Pass<B>,
+        call: &Call,
+        receipt: &mut Receipt,
+    ) -> Result<(), AllocError>
+        requires { shard_of_call call.now ≡ K }
+        ensures entry { OnOk result (self.new ≡ after_call self.old call.now) }
+        ensures receipt { OnOk result (receipt.new ≡ receipt_for self.old call.now) }
         ensures counted { OnOk result (RisesAt K pass.old pass.new) }
-        ensures err { OnErr result ((self.new ≡ self.old) × (pass.new ≡ pass.old)) }
-        ensures open { finds_open self.old call ≡ true → IsOk result }
+        ensures err { OnErr result ((self.new ≡ self.old) × (pass.new ≡ pass.old) × (receipt.new ≡ receipt.old)) }
+        ensures open { finds_open self.old call.now ≡ true → IsOk result }
         ensures state { IsStateOf B.roster K self.new }
         ensures behind { OnOk result (slice_index pass.old K ≤ self.old.made) }
-        ensures answered { IfOk result (λ r. HasHistory B.roster K r) }
-        ensures begun { IfOk result (AnswersFrom B.roster (B.begun K) K) }
+        ensures answered { OnOk result (HasHistory B.roster K receipt.new) }
+        ensures begun { OnOk result (AnswersFrom B.roster (B.begun K) K receipt.new) }
     {
-        let answer = self.shard.apply(call)?;
+        let answer = match self.shard.apply(*call) {
+            Ok(answer) => answer,
+            Err(refused) => return Err(refused),
+        };
         let made = self.shard.made();
         self.book.add_one(&mut pass.shares);
         pass.counts[K] += 1;
-        Ok(receipt_of(self.shard.index(), made - 1, &call, answer))
+        receipt.put(self.shard.index(), made - 1, call, answer);
+        Ok(())
     }
 
     /// Drops the entries on which no answer rests, and hands them out. The count stays: it is of all entries that were ever made. `Full`

@@ -90,24 +90,23 @@ fn run<B: Naming, const K: usize, R: Wait, G: Gate<R>>(
     pass: &mut Pass<B>,
     call: &Call,
     gate: &G,
-) -> Result<Receipt, AllocError>
+    receipt: &mut Receipt,
+) -> Result<(), AllocError>
     requires { shard_of_call call.now ≡ K }
-    ensures call { IfOk result (λ r. (r.shard ≡ K) × (r.entry.call ≡ call.now)) }
-    ensures number { IfOk result (λ r. slice_index pass.old K ≤ r.entry.number) }
-    ensures answered { IfOk result (λ r. HasHistory B.roster K r) }
-    ensures begun { IfOk result (AnswersFrom B.roster (B.begun K) K) }
+    ensures call { OnOk result ((receipt.new.shard ≡ K) × (receipt.new.entry.call ≡ call.now)) }
+    ensures number { OnOk result (slice_index pass.old K ≤ receipt.new.entry.number) }
+    ensures answered { OnOk result (HasHistory B.roster K receipt.new) }
+    ensures begun { OnOk result (AnswersFrom B.roster (B.begun K) K receipt.new) }
     ensures counted { OnOk result (RisesAt K pass.old pass.new) }
-    ensures err { OnErr result (pass.new ≡ pass.old) }
+    ensures err { OnErr result ((pass.new ≡ pass.old) × (receipt.new ≡ receipt.old)) }
 {
     let shard = shard_of_call(call);
     gate.before(rt, shard);
     let mut kept = lock.lock(rt);
     gate.visit(rt, shard, kept.made());
-    let answered = kept.step(pass, *call);
-    if let Ok(receipt) = &answered {
-        gate.made(rt, receipt);
-    }
-    answered
+    kept.step(pass, call, receipt)?;
+    gate.made(rt, receipt);
+    Ok(())
 }
 
 // Takes the lock and trims.
@@ -300,23 +299,45 @@ impl<B: Naming> Server<B> {
         ensures counted { OnOk result (RisesAt (shard_of_call call) pass.old pass.new) }
         ensures err { OnErr result (pass.new ≡ pass.old) }
     {
-        match shard_of_call(&call) {
-            0 => run(rt, &self.k0, pass, &call, gate),
-            1 => run(rt, &self.k1, pass, &call, gate),
-            2 => run(rt, &self.k2, pass, &call, gate),
-            3 => run(rt, &self.k3, pass, &call, gate),
-            4 => run(rt, &self.k4, pass, &call, gate),
-            5 => run(rt, &self.k5, pass, &call, gate),
-            6 => run(rt, &self.k6, pass, &call, gate),
-            7 => run(rt, &self.k7, pass, &call, gate),
-            8 => run(rt, &self.k8, pass, &call, gate),
-            9 => run(rt, &self.k9, pass, &call, gate),
-            10 => run(rt, &self.k10, pass, &call, gate),
-            11 => run(rt, &self.k11, pass, &call, gate),
-            12 => run(rt, &self.k12, pass, &call, gate),
-            13 => run(rt, &self.k13, pass, &call, gate),
-            14 => run(rt, &self.k14, pass, &call, gate),
-            _ => run(rt, &self.k15, pass, &call, gate),
+        let mut receipt = Receipt::empty();
+        self.call_into(rt, pass, &call, gate, &mut receipt)?;
+        Ok(receipt)
+    }
+
+    /// The same, with the receipt put in the place of another, which stays where a growth was refused. A receipt is large: who makes many
+    /// calls moves none so.
+    pub fn call_into<R: Wait, G: Gate<R>>(
+        &self,
+        rt: &R,
+        pass: &mut Pass<B>,
+        call: &Call,
+        gate: &G,
+        receipt: &mut Receipt,
+    ) -> Result<(), AllocError>
+        ensures call { OnOk result ((receipt.new.shard ≡ shard_of_call call.now) × (receipt.new.entry.call ≡ call.now)) }
+        ensures number { OnOk result (slice_index pass.old (shard_of_call call.now) ≤ receipt.new.entry.number) }
+        ensures answered { OnOk result (HasHistory B.roster (shard_of_call call.now) receipt.new) }
+        ensures begun { OnOk result (AnswersFrom B.roster (B.begun (shard_of_call call.now)) (shard_of_call call.now) receipt.new) }
+        ensures counted { OnOk result (RisesAt (shard_of_call call.now) pass.old pass.new) }
+        ensures err { OnErr result ((pass.new ≡ pass.old) × (receipt.new ≡ receipt.old)) }
+    {
+        match shard_of_call(call) {
+            0 => run(rt, &self.k0, pass, call, gate, receipt),
+            1 => run(rt, &self.k1, pass, call, gate, receipt),
+            2 => run(rt, &self.k2, pass, call, gate, receipt),
+            3 => run(rt, &self.k3, pass, call, gate, receipt),
+            4 => run(rt, &self.k4, pass, call, gate, receipt),
+            5 => run(rt, &self.k5, pass, call, gate, receipt),
+            6 => run(rt, &self.k6, pass, call, gate, receipt),
+            7 => run(rt, &self.k7, pass, call, gate, receipt),
+            8 => run(rt, &self.k8, pass, call, gate, receipt),
+            9 => run(rt, &self.k9, pass, call, gate, receipt),
+            10 => run(rt, &self.k10, pass, call, gate, receipt),
+            11 => run(rt, &self.k11, pass, call, gate, receipt),
+            12 => run(rt, &self.k12, pass, call, gate, receipt),
+            13 => run(rt, &self.k13, pass, call, gate, receipt),
+            14 => run(rt, &self.k14, pass, call, gate, receipt),
+            _ => run(rt, &self.k15, pass, call, gate, receipt),
         }
     }
 

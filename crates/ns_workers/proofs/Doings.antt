@@ -1,6 +1,6 @@
 -- What calls do, one after the other.
-use Rattle.std.proofs.Common.{◌≡◌, ◌≢◌, ℕ, List, [], ◌∷◌, ◌++◌, Option, None, Some, Result, Ok, Err, refl, sym, ap, ◌∙◌, subst, append_assoc, append-nil}
-use Rattle.std.specs.Prelude.{All, IfOk, IfSome, MatchOption, option_to_list}
+use Rattle.std.proofs.Common.{◌≡◌, ◌≢◌, ℕ, List, [], ◌∷◌, ◌++◌, Option, None, Some, refl, sym, ap, ◌∙◌, subst, append_assoc, append-nil}
+use Rattle.std.specs.Prelude.{All, IfSome, MatchOption, option_to_list}
 use Rattle.std.specs.List.{AllZip}
 use Rattle.std.proofs.KnownBytes.{Appends-nil, Appends-trans}
 use Rattle.std.proofs.lemmas.List.Concat.{flat_map-append}
@@ -54,15 +54,13 @@ answered_both net rs qs before now = record { each = All-append (λ (q : Receipt
 pub told_more : (h : Notice → Type 0) (rs : List Receipt) (r : Receipt) → All (λ q. h (call_replied q)) rs → h (call_replied r) → All (λ q. h (call_replied q)) (rs ++ r ∷ [])
 told_more h rs r before now = All-push (λ (q : Receipt). h (call_replied q)) rs r before now
 
--- the answer of a call that may be refused
-pub counted_answer : {E : Type 0} (net : Network) (result : Result Receipt E) (call : Call)
-    → IfOk result (λ r. (r.shard ≡ shard_of_call call) × (r.entry.call ≡ call)) → IfOk result (λ r. HasHistory net (shard_of_call call) r)
-    → IfOk result (λ r. HasAnswer net r)
-counted_answer net (Ok r) call named history = record {
+-- the answer of a call
+pub counted_answer : (net : Network) (r : Receipt) (call : Call)
+    → (r.shard ≡ shard_of_call call) × (r.entry.call ≡ call) → HasHistory net (shard_of_call call) r → HasAnswer net r
+counted_answer net r call named history = record {
   shard = named.0 ∙ ap shard_of_call (sym named.1);
   history = subst (λ c. HasHistory net (shard_of_call c) r) (sym named.1) history;
 }
-counted_answer net (Err e) call named history = tt
 
 -- ---- lines and downlinks
 

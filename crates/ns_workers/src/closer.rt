@@ -1,5 +1,5 @@
 //! Closes windows as they become due.
-ghost use Rattle.std.specs.Prelude.{◌≡◌, ◌≢◌, Some, false, true, option_to_list, All, IfOk, OnOk, OnErr};
+ghost use Rattle.std.specs.Prelude.{◌≡◌, ◌≢◌, Some, false, true, option_to_list, All, OnOk, OnErr};
 ghost use Rattle.ns_server.specs.Receipts.{RisesAt};
 ghost use Rattle.ns_workers.specs.Closing.{Closes, AreAnswered, HasAnswer, closing};
 ghost use Rattle.ns_workers.specs.Counts.{RisesByReceipts};
@@ -24,23 +24,24 @@ pub struct Ended {
     pub fault: Option<WorkerFault>,
 }
 
-// Waits until the job is due, and closes its window.
+// Waits until the job is due, and closes its window. Puts the receipt in the place of another.
 fn close_due<B: Naming, R: Wait, G: Gate<R>, M: Monitor<R>, T: Timer<R>>(
     shared: &Shared<'_, B, R, G, M>,
     pass: &mut Pass<B>,
     timer: &T,
     job: CloseJob,
-) -> Result<Receipt, AllocError>
+    receipt: &mut Receipt,
+) -> Result<(), AllocError>
     ensures waited { T.has_come timer.now job.due }
-    ensures call { IfOk result (λ r. r.entry.call ≡ closing job) }
-    ensures answered { IfOk result (λ r. HasAnswer B.roster r) }
-    ensures counted { IfOk result (λ r. RisesAt r.shard pass.old pass.new) }
-    ensures told { IfOk result (λ r. M.has_heard shared.now.monitor.now (call_replied r)) }
+    ensures call { OnOk result (receipt.new.entry.call ≡ closing job) }
+    ensures answered { OnOk result (HasAnswer B.roster receipt.new) }
+    ensures counted { OnOk result (RisesAt receipt.new.shard pass.old pass.new) }
+    ensures told { OnOk result (M.has_heard shared.now.monitor.now (call_replied receipt.new)) }
     ensures err { OnErr result (pass.new ≡ pass.old) }
 {
     timer.until(shared.rt, job.due);
     let call = Call::Close { window: job.name };
-    make_call(shared, pass, call)
+    make_call(shared, pass, &call, receipt)
 }
 
 // Sends what goes down, and writes the line of what goes up, whose window was due then.
@@ -124,7 +125,8 @@ pub fn run_closer<
                 };
             }
         };
-        let Ok(receipt) = close_due(shared, pass, timer, job) else {
+        let mut receipt = Receipt::empty();
+        let Ok(()) = close_due(shared, pass, timer, job, &mut receipt) else {
             return Ended {
                 receipts,
                 fault: Some(WorkerFault::NoMemory),

@@ -1,5 +1,5 @@
 //! Calls, and what goes down with them.
-ghost use Rattle.std.specs.Prelude.{◌≡◌, option_to_list, IfOk, OnErr};
+ghost use Rattle.std.specs.Prelude.{◌≡◌, option_to_list, OnOk, OnErr};
 ghost use Rattle.ns_server.specs.Receipts.{RisesAt};
 ghost use Rattle.ns_workers.specs.Closing.{HasAnswer};
 ghost use Rattle.ns_workers.specs.Grown.{Grows};
@@ -11,24 +11,25 @@ use ns_server::{Gate, Naming, Pass, Receipt};
 use std::alloc::AllocError;
 use std::sync::Wait;
 
-// Makes a call and tells its receipt.
+// Makes a call and tells its receipt, which it puts in the place of another.
 #[tactic(auto, using(crate::proofs::Doings::counted_answer))]
 pub(crate) fn make_call<B: Naming, R: Wait, G: Gate<R>, M: Monitor<R>>(
     shared: &Shared<'_, B, R, G, M>,
     pass: &mut Pass<B>,
-    call: Call,
-) -> Result<Receipt, AllocError>
-    ensures call { IfOk result (λ r. r.entry.call ≡ call) }
-    ensures answered { IfOk result (λ r. HasAnswer B.roster r) }
-    ensures counted { IfOk result (λ r. RisesAt r.shard pass.old pass.new) }
-    ensures told { IfOk result (λ r. M.has_heard shared.now.monitor.now (call_replied r)) }
+    call: &Call,
+    receipt: &mut Receipt,
+) -> Result<(), AllocError>
+    ensures call { OnOk result (receipt.new.entry.call ≡ call.now) }
+    ensures answered { OnOk result (HasAnswer B.roster receipt.new) }
+    ensures counted { OnOk result (RisesAt receipt.new.shard pass.old pass.new) }
+    ensures told { OnOk result (M.has_heard shared.now.monitor.now (call_replied receipt.new)) }
     ensures err { OnErr result (pass.new ≡ pass.old) }
 {
-    let answered = shared.server.call(shared.rt, pass, call, shared.gate);
-    if let Ok(receipt) = &answered {
-        shared.monitor.replied(shared.rt, receipt);
-    }
-    answered
+    shared
+        .server
+        .call_into(shared.rt, pass, call, shared.gate, receipt)?;
+    shared.monitor.replied(shared.rt, receipt);
+    Ok(())
 }
 
 // Sends what goes down with a receipt. What cannot be sent is lost.

@@ -8,7 +8,7 @@ use crate::counted::make_call;
 use crate::datagram::call_of;
 use crate::job::{Job, call_at_once, job_of};
 use crate::outside::{Datagrams, Downlinks, Jobs, Monitor, Received, Shared, Timer, WorkerFault};
-use ns_server::{Gate, Naming, Pass};
+use ns_server::{Gate, Naming, Pass, Receipt};
 use ns_types::Sink;
 use std::sync::Wait;
 
@@ -26,7 +26,7 @@ pub struct Served {
 const MOST: u64 = 1 << 63;
 
 // Puts a job; where it cannot be put, the worker does at once what it asks, and hands out what comes of that. Gives the fault where
-// that could not be done.
+// that could not be done. The receipt is room.
 #[tactic(auto, using(crate::proofs::Servings::follows_put, crate::proofs::Servings::follows_itself, crate::proofs::Servings::follows_unsent, crate::proofs::Servings::follows_undone, crate::proofs::Doings::does_own, crate::proofs::Doings::does_put,))]
 fn put_job<
     B: Naming,
@@ -44,6 +44,7 @@ fn put_job<
     jobs: &mut P,
     down: &mut D,
     sink: &mut W,
+    receipt: &mut Receipt,
     job: Job,
 ) -> Option<WorkerFault>
     requires { W.has_failed sink.old ≡ false }
@@ -57,16 +58,16 @@ fn put_job<
     let Err(job) = jobs.put(shared.rt, job) else {
         return None;
     };
-    let Ok(receipt) = make_call(shared, pass, call_at_once(&job)) else {
+    let Ok(()) = make_call(shared, pass, &call_at_once(&job), receipt) else {
         return Some(WorkerFault::NoMemory);
     };
-    match hand_out(shared, timer, job.due(), down, sink, &receipt) {
+    match hand_out(shared, timer, job.due(), down, sink, receipt) {
         Ok(()) => None,
         Err(_) => Some(WorkerFault::SinkFailed),
     }
 }
 
-// Makes the call of a datagram that is not refused, and puts the job that follows, if one does.
+// Makes the call of a datagram that is not refused, and puts the job that follows, if one does. The receipt is room.
 #[tactic(auto, using(crate::proofs::Servings::serves_refused, crate::proofs::Servings::serves_dropped, crate::proofs::Servings::serves_called, crate::proofs::Servings::serves_followed, crate::proofs::Doings::does_call,))]
 fn serve_one<
     B: Naming,
@@ -85,6 +86,7 @@ fn serve_one<
     down: &mut D,
     sink: &mut W,
     window_ms: u32,
+    receipt: &mut Receipt,
     served: &mut Served,
     bytes: &[u8],
 )
@@ -108,14 +110,14 @@ fn serve_one<
             return;
         }
     };
-    let Ok(receipt) = make_call(shared, pass, call) else {
+    let Ok(()) = make_call(shared, pass, &call, receipt) else {
         shared.monitor.dropped(shared.rt);
         served.dropped += 1;
         return;
     };
     let now = timer.now(shared.rt);
     if let Some(job) = job_of(&receipt.entry.reply, now, window_ms) {
-        served.fault = put_job(shared, pass, timer, jobs, down, sink, job);
+        served.fault = put_job(shared, pass, timer, jobs, down, sink, receipt, job);
     }
 }
 
@@ -157,6 +159,7 @@ pub fn run_gateway<
 {
     let rt = shared.rt;
     let mut buf = [0u8; 512];
+    let mut receipt = Receipt::empty();
     let mut served = Served {
         read: 0,
         refused: 0,
@@ -181,6 +184,7 @@ pub fn run_gateway<
             down,
             sink,
             window_ms,
+            &mut receipt,
             &mut served,
             &buf[..n],
         );

@@ -179,7 +179,8 @@ fn answer_job<
         ticket: job.ticket,
         outcome,
     };
-    let receipt = make_call(shared, pass, call)?;
+    let mut receipt = Receipt::empty();
+    make_call(shared, pass, &call, &mut receipt)?;
     send_down(shared, down, &receipt);
     Ok(receipt)
 }

@@ -43,7 +43,7 @@ returns-then-is_err-clause-jobs g c =
     let old = g.J.JobSource.given c.args.jobs.now in
     let now = g.J.JobSource.given c.take.new.self in
     let rs = c.loop-jobs.receipts.items in
-    let r = c.in-Ok-close_due.receipt in
+    let r = c.close_due.new.receipt in
     subst (λ l. Closes come c.args.limit old now l (Some SinkFailed)) (sym c.push_reserved.ensures.items)
     (closes_unsent come c.args.limit old now (rs ++ r ∷ [])
     (closed_more come old (g.J.JobSource.given c.loop-jobs.jobs) now rs r c.in-Job.job c.loop-jobs.invariant.3 c.in-Job.ensures c.in-Ok-close_due.ensures.waited c.in-Ok-close_due.ensures.call))
@@ -51,23 +51,23 @@ returns-then-is_err-clause-jobs g c =
 pub returns-then-is_err-clause-answered : goal.returns-then-is_err-clause-answered
 returns-then-is_err-clause-answered g c =
     subst (λ l. AreAnswered g.B.Naming.roster l) (sym c.push_reserved.ensures.items)
-    (answered_more g.B.Naming.roster c.loop-jobs.receipts.items c.in-Ok-close_due.receipt c.loop-jobs.invariant.6 c.in-Ok-close_due.ensures.answered)
+    (answered_more g.B.Naming.roster c.loop-jobs.receipts.items c.close_due.new.receipt c.loop-jobs.invariant.6 c.in-Ok-close_due.ensures.answered)
 
 pub returns-then-is_err-clause-told : goal.returns-then-is_err-clause-told
 returns-then-is_err-clause-told g c =
     let h = g.M.Monitor.has_heard c.args.shared.now.monitor.now in
     subst (λ l. All (λ r. h (call_replied r)) l) (sym c.push_reserved.ensures.items)
-    (told_more h c.loop-jobs.receipts.items c.in-Ok-close_due.receipt c.loop-jobs.invariant.7 c.in-Ok-close_due.ensures.told)
+    (told_more h c.loop-jobs.receipts.items c.close_due.new.receipt c.loop-jobs.invariant.7 c.in-Ok-close_due.ensures.told)
 
 pub returns-then-is_err-clause-counted : goal.returns-then-is_err-clause-counted
 returns-then-is_err-clause-counted g c =
     subst (λ l. RisesByReceipts c.args.pass.now c.close_due.new.pass l) (sym c.push_reserved.ensures.items)
-    (rises_more _ _ _ c.loop-jobs.receipts.items c.in-Ok-close_due.receipt c.loop-jobs.invariant.4 c.in-Ok-close_due.ensures.counted)
+    (rises_more _ _ _ c.loop-jobs.receipts.items c.close_due.new.receipt c.loop-jobs.invariant.4 c.in-Ok-close_due.ensures.counted)
 
 pub returns-then-is_err-clause-front : goal.returns-then-is_err-clause-front
 returns-then-is_err-clause-front g c =
     subst (λ l. AppendsLinesFront c.args.shared.now.output (g.W.Sink.taken c.args.sink.now) (g.W.Sink.taken c.hand_out-handed.new.sink) l) (sym c.push_reserved.ensures.items)
-    (lines_front c.args.shared.now.output (g.W.Sink.taken c.args.sink.now) (g.W.Sink.taken c.loop-jobs.sink) (g.W.Sink.taken c.hand_out-handed.new.sink) c.loop-jobs.receipts.items c.in-Ok-close_due.receipt
+    (lines_front c.args.shared.now.output (g.W.Sink.taken c.args.sink.now) (g.W.Sink.taken c.loop-jobs.sink) (g.W.Sink.taken c.hand_out-handed.new.sink) c.loop-jobs.receipts.items c.close_due.new.receipt
     c.loop-jobs.invariant.5 c.hand_out-handed.ensures.front)
 
 pub loop-jobs-preserved : goal.loop-jobs-preserved
@@ -77,13 +77,13 @@ loop-jobs-preserved g c =
     let old = g.J.JobSource.given c.args.jobs.now in
     let now = g.J.JobSource.given c.take.new.self in
     let rs = c.loop-jobs.receipts.items in
-    let r = c.in-Ok-close_due.receipt in
+    let r = c.close_due.new.receipt in
     let more = sym c.push_reserved.ensures.items in
     let text = g.W.Sink.taken c.args.sink.now in
     let text' = g.W.Sink.taken c.hand_out-handed.new.sink in
     let down = g.D.Downlinks.taken c.args.down.now in
     let down' = g.D.Downlinks.taken c.hand_out-handed.new.down in
-    let line : AppendsLine c.args.shared.now.output (g.W.Sink.taken c.loop-jobs.sink) (g.W.Sink.taken c.hand_out-handed.new.sink) c.in-Ok-close_due.receipt.uplink = search rules in (
+    let line : AppendsLine c.args.shared.now.output (g.W.Sink.taken c.loop-jobs.sink) (g.W.Sink.taken c.hand_out-handed.new.sink) c.close_due.new.receipt.uplink = search rules in (
       search rules,
       search rules,
       search rules,

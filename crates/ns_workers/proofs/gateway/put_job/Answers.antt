@@ -31,10 +31,10 @@ pub returns-in-Ok-hand_out-clause-follows : goal.returns-in-Ok-hand_out-clause-f
 returns-in-Ok-hand_out-clause-follows g c =
     let net = g.B.Naming.roster in
     let h = g.M.Monitor.has_heard c.args.shared.now.monitor.now in
-    follows_itself net c.args.shared.now.output h c.args.job c.in-Ok.receipt _ _
+    follows_itself net c.args.shared.now.output h c.args.job c.make_call.new.receipt _ _
     (c.in-Ok.ensures.call ∙ c.call_at_once.ensures ∙ ap call_at_once c.in-Err.ensures.back)
     (does_own net c.args.shared.now.output h None c.args.pass.now c.make_call.new.pass (g.P.Jobs.taken c.args.jobs.now) (g.P.Jobs.taken c.put.new.self)
-    (g.D.Downlinks.taken c.args.down.now) (g.D.Downlinks.taken c.hand_out.new.down) (g.W.Sink.taken c.args.sink.now) (g.W.Sink.taken c.hand_out.new.sink) c.in-Ok.receipt
+    (g.D.Downlinks.taken c.args.down.now) (g.D.Downlinks.taken c.hand_out.new.down) (g.W.Sink.taken c.args.sink.now) (g.W.Sink.taken c.hand_out.new.sink) c.make_call.new.receipt
     c.in-Ok.ensures.answered c.in-Ok.ensures.counted c.in-Ok.ensures.told c.in-Err.ensures.kept c.in-Ok-hand_out.ensures.down
     (λ _. c.in-Ok-hand_out.ensures.ok) c.in-Ok-hand_out.ensures.front)
 
@@ -42,9 +42,9 @@ pub returns-in-Err-hand_out-clause-follows : goal.returns-in-Err-hand_out-clause
 returns-in-Err-hand_out-clause-follows g c =
     let net = g.B.Naming.roster in
     let h = g.M.Monitor.has_heard c.args.shared.now.monitor.now in
-    follows_unsent net c.args.shared.now.output h c.args.job c.in-Ok.receipt _ _
+    follows_unsent net c.args.shared.now.output h c.args.job c.make_call.new.receipt _ _
     (c.in-Ok.ensures.call ∙ c.call_at_once.ensures ∙ ap call_at_once c.in-Err.ensures.back)
     (does_own net c.args.shared.now.output h (Some SinkFailed) c.args.pass.now c.make_call.new.pass (g.P.Jobs.taken c.args.jobs.now) (g.P.Jobs.taken c.put.new.self)
-    (g.D.Downlinks.taken c.args.down.now) (g.D.Downlinks.taken c.hand_out.new.down) (g.W.Sink.taken c.args.sink.now) (g.W.Sink.taken c.hand_out.new.sink) c.in-Ok.receipt
+    (g.D.Downlinks.taken c.args.down.now) (g.D.Downlinks.taken c.hand_out.new.down) (g.W.Sink.taken c.args.sink.now) (g.W.Sink.taken c.hand_out.new.sink) c.make_call.new.receipt
     c.in-Ok.ensures.answered c.in-Ok.ensures.counted c.in-Ok.ensures.told c.in-Err.ensures.kept c.in-Err-hand_out.ensures.down
     (λ other. absurd (other refl)) c.in-Err-hand_out.ensures.front)

@@ -37,7 +37,7 @@ returns-in-Some-clause-serves g c =
     let jobs = g.P.Jobs.taken c.args.jobs.now in
     let down = g.D.Downlinks.taken c.args.down.now in
     let text = g.W.Sink.taken c.args.sink.now in
-    let r = c.in-Ok-make_call.receipt in
+    let r = c.make_call.new.receipt in
     serves_followed net c.args.shared.now.output h (g.T.Timer.has_told c.args.timer.now) c.args.window_ms s s' (effects c.args.pass.now jobs down text) (effects c.make_call.new.pass jobs down text)
     _ c.args.bytes.now r c.now-now.result c.in-Some.job (omega arith, omega arith, omega arith)
     (sym c.in-Ok.ensures ∙ ap Ok (sym c.in-Ok-make_call.ensures.call)) c.now-now.ensures (sym c.in-Some.ensures)
@@ -53,7 +53,7 @@ returns-in_default-job_of-clause-serves g c =
     let jobs = g.P.Jobs.taken c.args.jobs.now in
     let down = g.D.Downlinks.taken c.args.down.now in
     let text = g.W.Sink.taken c.args.sink.now in
-    let r = c.in-Ok-make_call.receipt in
+    let r = c.make_call.new.receipt in
     serves_called net c.args.shared.now.output h (g.T.Timer.has_told c.args.timer.now) c.args.window_ms s s' (effects c.args.pass.now jobs down text) (effects c.make_call.new.pass jobs down text)
     c.args.bytes.now r c.now-now.result (omega arith, omega arith, omega arith) c.requires.fault
     (sym c.in-Ok.ensures ∙ ap Ok (sym c.in-Ok-make_call.ensures.call)) c.now-now.ensures (sym c.in_default-job_of.ensures)
