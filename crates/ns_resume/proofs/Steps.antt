@@ -25,8 +25,8 @@ use Rattle.ns_shard.specs.Steps.{shard_history, all_taken, step_taken, call_take
 use Rattle.ns_shard.proofs.Entries.{keeps-more, answer-is}
 use Rattle.ns_shard.proofs.RunSteps.{one_call, shard_history-other, shard_history-own}
 use Rattle.ns_shard.proofs.RunHistories.{shard_history-is}
-use Rattle.ns_resume.specs.Resumed.{IsResumedAt, AreResumed, fits, AllFit, up_of, ups_of}
-use Rattle.ns_resume.specs.Private.Running.{AreInPlace, MayBeTrimmed, HasAnswered}
+use Rattle.ns_resume.specs.Resumed.{IsResumedAt, AreResumed, MayBeTrimmed, fits, AllFit, up_of, ups_since}
+use Rattle.ns_resume.specs.Private.Running.{AreInPlace, HasAnswered}
 
 -- ---- shards in place
 

@@ -29,6 +29,12 @@ pub enum RecordFault {
     /// There are more `up` lines than the record implies, which are so many.
     #[error("record: more than the {0} up lines of this record")]
     UpLonger(u64),
+    /// The first line begins as a base, and is none, or tells of more lines than there are.
+    #[error("record: line 1 is not the base of this record")]
+    BadBase,
+    /// The `up` lines have fewer bytes than the base tells of.
+    #[error("record: up has fewer than the {0} bytes of the base")]
+    UpShorter(u64),
     /// There are 2^64 - 2 lines and more.
     #[error("record: too many lines")]
     TooMany,

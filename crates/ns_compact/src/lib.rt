@@ -1,0 +1,18 @@
+//! Fewer step lines after which every later answer of a record is the same.
+//!
+//! `shorten` runs a record and writes the lines of it that it chooses. `serves_as_well` runs the lines that were written, and tells
+//! whether a trim leaves the same of both: then every later answer is the same, by `ns_compacted`. So the choice needs no proof: where it
+//! is wrong the lines are not taken. Stands on `ns_resume` for runs of lines.
+#![tactic(auto)]
+
+mod choice;
+mod device;
+mod lines;
+mod rerun;
+mod same;
+mod session;
+mod shorten;
+mod trims;
+
+pub use same::serves_as_well;
+pub use shorten::{Shortened, shorten};

@@ -1,0 +1,65 @@
+//! Whether fewer lines serve as well.
+
+ghost use Rattle.std.specs.Prelude.{◌≡◌, true, List, IfOk};
+ghost use Rattle.ns_roster.specs.Network.{Network};
+ghost use Rattle.ns_shard.specs.declared.step.Step.{Step};
+ghost use Rattle.ns_shard.specs.State.{remains};
+ghost use Rattle.ns_compacted.specs.Compacted.{LookTheSame};
+ghost use Rattle.ns_compact.specs.Compact.{AreLeftBy, GoOnTheSame, AllLookTheSame};
+
+use crate::trims::trim_all;
+use ns_compacted::tell_the_same;
+use ns_resume::{RecordFault, run_record};
+use ns_roster::Roster;
+use ns_shard::Shard;
+use std::alloc::{AllocError, Global};
+use std::io::BufRead;
+use std::sync::Arc;
+
+// Whether what trims left of two shards looks the same.
+fn look_the_same(alloc: Global, a: &Shard, b: &Shard) -> Result<bool, AllocError>
+    ensures { IfOk result (λ same. same ≡ true → LookTheSame (remains a.now) (remains b.now)) }
+{
+    if !tell_the_same(a.entries(), b.entries()) {
+        return Ok(false);
+    }
+    let open = a.open_windows(alloc)?;
+    Ok(open.as_slice() == b.open_windows(alloc)?.as_slice())
+}
+
+// Whether what trims left of shards looks the same, shard by shard.
+fn all_look_the_same(alloc: Global, old: &[Shard], new: &[Shard]) -> Result<bool, AllocError>
+    ensures { IfOk result (λ same. same ≡ true → AllLookTheSame old.now new.now) }
+{
+    let mut left = old;
+    let mut right = new;
+    'shards: while let Some((a, left_after)) = left.split_first() {
+        let Some((b, right_after)) = right.split_first() else {
+            return Ok(false);
+        };
+        if !look_the_same(alloc, a, b)? {
+            return Ok(false);
+        }
+        left = left_after;
+        right = right_after;
+    }
+    Ok(right.is_empty())
+}
+
+/// Runs fewer lines, as a start would, beside `up` lines that are whole, and tells whether a trim leaves the same of them as of the lines
+/// of which trims left `old`. Then every later answer is the same.
+pub fn serves_as_well<S: BufRead, U: BufRead>(
+    alloc: Global,
+    roster: &Arc<Roster>,
+    old: &[Shard],
+    steps: &mut S,
+    ups: &mut U,
+) -> Result<bool, RecordFault>
+{
+    let mut resumed = run_record(alloc, roster.clone()?, steps, ups)?;
+    if resumed.torn > 0 || resumed.up_torn > 0 || !resumed.missing.is_empty() {
+        return Ok(false);
+    }
+    trim_all(alloc, resumed.shards.as_mut_slice())?;
+    Ok(all_look_the_same(alloc, old, resumed.shards.as_slice())?)
+}

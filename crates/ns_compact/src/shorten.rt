@@ -1,0 +1,83 @@
+//! A run of a record, and the choice of its lines.
+
+use crate::choice::Choice;
+use crate::lines::LineWriter;
+use crate::rerun::Rerun;
+use crate::trims::trim_all;
+use ns_resume::{RecordFault, Resumed, read_base, run_record};
+use ns_roster::Roster;
+use ns_shard::Shard;
+use std::alloc::Global;
+use std::io::{BufRead, Write};
+use std::sync::Arc;
+
+/// What of a record was chosen.
+#[derive(Drop)]
+pub struct Shortened {
+    /// The sixteen shards after all lines, trimmed.
+    pub shards: Vec<Shard>,
+    /// How many bytes of a torn line follow the whole step lines, and how many of one the `up` lines.
+    pub torn: usize,
+    pub up_torn: usize,
+    /// The `up` lines that are missing behind the whole ones.
+    pub missing: Vec<u8>,
+    /// How many lines there were, and how many were written.
+    pub lines: u64,
+    pub written: u64,
+}
+
+// Writes the lines that are chosen of a record, after all of which trims left this. Gives how many there were, and how many were written.
+fn choose<S: BufRead, W: Write>(
+    alloc: Global,
+    roster: Arc<Roster>,
+    left: &[Shard],
+    steps: &mut S,
+    out: &mut W,
+) -> Result<(u64, u64), RecordFault> {
+    read_base(alloc, steps)?;
+    let mut rerun = Rerun::new(alloc, roster)?;
+    let mut choice = Choice::new(alloc, left)?;
+    let mut out = LineWriter::new(out);
+    let mut line = Vec::new(alloc);
+    'lines: for number in 1..u64::MAX {
+        line.clear();
+        steps.read_until(b'\n', &mut line)?;
+        if line.pop() != Some(b'\n') {
+            return Ok((number - 1, out.count));
+        }
+        let made = rerun.run(number, line.as_slice())?;
+        choice.take(&made, &mut out)?;
+    }
+    Err(RecordFault::TooMany)
+}
+
+/// Runs a record, as a start does, and writes the lines of it that are chosen. `again` are its steps once more. What was written serves as
+/// well only where `serves_as_well` says so.
+pub fn shorten<S: BufRead, U: BufRead, T: BufRead, W: Write>(
+    alloc: Global,
+    roster: &Arc<Roster>,
+    steps: &mut S,
+    ups: &mut U,
+    again: &mut T,
+    out: &mut W,
+) -> Result<Shortened, RecordFault>
+{
+    let Resumed {
+        mut shards,
+        torn,
+        up_torn,
+        missing,
+        windows: _,
+        tickets: _,
+    } = run_record(alloc, roster.clone()?, steps, ups)?;
+    trim_all(alloc, shards.as_mut_slice())?;
+    let (lines, written) = choose(alloc, roster.clone()?, shards.as_slice(), again, out)?;
+    Ok(Shortened {
+        shards,
+        torn,
+        up_torn,
+        missing,
+        lines,
+        written,
+    })
+}
