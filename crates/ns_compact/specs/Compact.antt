@@ -1,5 +1,5 @@
 -- Fewer step lines that serve as well as those of a record.
-use Rattle.std.specs.Prelude.{◌≡◌, ℕ, ◌<◌, List, [], ◌∷◌, ◌++◌, map, Option}
+use Rattle.std.specs.Prelude.{◌≡◌, ℕ, ◌<◌, List, [], ◌∷◌, ◌++◌, length, slice_get, Option, Some}
 use Rattle.ns_types.specs.Identity.{shard_count}
 use Rattle.ns_roster.specs.Network.{Network}
 use Rattle.ns_calls.specs.declared.call.Call.{Call}
@@ -24,8 +24,9 @@ pub record TellsSteps (net : Network) (text : List ℕ) (steps : List Step) : Ty
   pub fit : AllFit net steps
 
 -- each shard was trimmed
-abbrev pub AreTrimmed : List State → List State → Type 0
-AreTrimmed old new = new ≡ map after_trim old
+pub record AreTrimmed (old new : List State) : Type 0 where
+  pub many : length new ≡ length old
+  pub each : (shard : ℕ) (s : State) → slice_get old shard ≡ Some s → slice_get new shard ≡ Some (after_trim s)
 
 -- the shards are what trims leave after a run of these steps
 abbrev pub AreLeftBy : Network → List Step → List State → Type 0

@@ -1,11 +1,12 @@
 //! Whether fewer lines serve as well.
 
-ghost use Rattle.std.specs.Prelude.{◌≡◌, true, List, IfOk};
-ghost use Rattle.ns_roster.specs.Network.{Network};
+ghost use Rattle.std.specs.Prelude.{◌≡◌, ℕ, true, List, IfOk};
+ghost use Rattle.std.specs.Arc.{arc_value};
 ghost use Rattle.ns_shard.specs.declared.step.Step.{Step};
 ghost use Rattle.ns_shard.specs.State.{remains};
 ghost use Rattle.ns_compacted.specs.Compacted.{LookTheSame};
-ghost use Rattle.ns_compact.specs.Compact.{AreLeftBy, GoOnTheSame, AllLookTheSame};
+ghost use Rattle.ns_resume.specs.Resumed.{IsAllOf};
+ghost use Rattle.ns_compact.specs.Compact.{TellsSteps, AreLeftBy, GoOnTheSame, AllLookTheSame};
 
 use crate::trims::trim_all;
 use ns_compacted::tell_the_same;
@@ -55,6 +56,9 @@ pub fn serves_as_well<S: BufRead, U: BufRead>(
     steps: &mut S,
     ups: &mut U,
 ) -> Result<bool, RecordFault>
+    ensures { IfOk result (λ same. same ≡ true → (text : List ℕ) × (shorter : List Step) × IsAllOf (S.remaining steps.old) text
+        × TellsSteps (arc_value roster.now) text shorter
+        × ((told : List Step) → AreLeftBy (arc_value roster.now) told old.now → GoOnTheSame (arc_value roster.now) told shorter)) }
 {
     let mut resumed = run_record(alloc, roster.clone()?, steps, ups)?;
     if resumed.torn > 0 || resumed.up_torn > 0 || !resumed.missing.is_empty() {

@@ -1,5 +1,11 @@
 //! A run of a record, and the choice of its lines.
 
+ghost use Rattle.std.specs.Prelude.{ℕ, List, IfOk};
+ghost use Rattle.std.specs.Arc.{arc_value};
+ghost use Rattle.ns_shard.specs.declared.step.Step.{Step};
+ghost use Rattle.ns_resume.specs.Resumed.{IsAllOf};
+ghost use Rattle.ns_compact.specs.Compact.{TellsSteps, AreLeftBy};
+
 use crate::choice::Choice;
 use crate::lines::LineWriter;
 use crate::rerun::Rerun;
@@ -61,6 +67,8 @@ pub fn shorten<S: BufRead, U: BufRead, T: BufRead, W: Write>(
     again: &mut T,
     out: &mut W,
 ) -> Result<Shortened, RecordFault>
+    ensures { IfOk result (λ s. (text : List ℕ) × (told : List Step) × IsAllOf (S.remaining steps.old) text
+        × TellsSteps (arc_value roster.now) text told × AreLeftBy (arc_value roster.now) told s.shards.items) }
 {
     let Resumed {
         mut shards,

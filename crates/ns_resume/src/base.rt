@@ -1,18 +1,15 @@
 //! The base of a record: the lines that a compaction left.
 
-ghost use Rattle.std.specs.Prelude.{◌≡◌, ℕ, List, length, IfOk, IfErr, IfSome, OnOk};
+ghost use Rattle.std.specs.Prelude.{◌≡◌, ◌≤◌, List, ℕ, length, IfOk, IfErr, IfSome, OnOk};
 ghost use Rattle.std.specs.Io.KnownBytes.{Consumes};
-ghost use Rattle.ns_resume.specs.Base.{base_text, head_text};
+ghost use Rattle.ns_resume.specs.Base.{base_text, first_number, head_text, lines_before, ups_before};
 ghost use Rattle.ns_resume.specs.Private.Faults.{NamesNoLine};
 
 use crate::fault::RecordFault;
 use crate::line::read_line;
 use ns_calls::{Line, put_hex};
 use std::alloc::Global;
-use std::io::{BufRead, ErrorKind};
-
-// How many bytes are passed over at once.
-const PIECE: u64 = 4_096;
+use std::io::BufRead;
 
 /// What the first line of a compacted record tells: how many lines behind it the compaction left, and how many bytes of the `up` lines were
 /// written before it.
@@ -59,6 +56,27 @@ fn base_in(line: &[u8]) -> Option<Base>
     }
 }
 
+/// The number of the first step line of a record: lines are numbered from 1.
+pub fn first_number(base: &Option<Base>) -> u64
+    ensures is { result ≡ first_number base.now }
+    ensures small { result ≤ 2 }
+{
+    match base {
+        Some(_) => 2,
+        None => 1,
+    }
+}
+
+/// How many step lines a compaction left.
+pub fn lines_before(base: &Option<Base>) -> u64
+    ensures { result ≡ lines_before base.now }
+{
+    match base {
+        Some(base) => base.lines,
+        None => 0,
+    }
+}
+
 /// Reads the first line of a record where that tells a base. A step line begins with another letter, and is not read.
 pub fn read_base<S: BufRead>(alloc: Global, steps: &mut S) -> Result<Option<Base>, RecordFault>
     ensures bytes { IfOk result (λ base. Consumes (S.remaining steps.old) (S.remaining steps.new) (head_text base)) }
@@ -77,22 +95,34 @@ pub fn read_base<S: BufRead>(alloc: Global, steps: &mut S) -> Result<Option<Base
     }
 }
 
-/// Reads so many bytes of `up` lines, which are there.
-pub fn skip_ups<U: BufRead>(ups: &mut U, bytes: u64) -> Result<(), RecordFault>
+/// How many bytes of the `up` lines were written before the compaction.
+pub fn ups_before(base: &Option<Base>) -> u64
+    ensures { result ≡ ups_before base.now }
+{
+    match base {
+        Some(base) => base.ups,
+        None => 0,
+    }
+}
+
+/// Reads so many bytes of `up` lines, which are whole lines and are there.
+pub fn skip_ups<U: BufRead>(alloc: Global, ups: &mut U, bytes: u64) -> Result<(), RecordFault>
     ensures bytes { OnOk result ((there : List ℕ) × Consumes (U.remaining ups.old) (U.remaining ups.new) there × (length there ≡ bytes)) }
     ensures fault { IfErr result NamesNoLine }
 {
-    let mut piece = [0u8; 4_096];
+    let mut line = Vec::new(alloc);
     let mut left = bytes;
-    'pieces: while left > 0 {
-        let len = left.min(PIECE);
-        match ups.read_exact(&mut piece[..len as usize]) {
-            Ok(()) => left -= len,
-            Err(error) if error.kind() == ErrorKind::UnexpectedEof => {
-                return Err(RecordFault::UpShorter(bytes));
-            }
-            Err(_) => return Err(RecordFault::Io),
+    'lines: while left > 0 {
+        let is_whole = read_line(ups, &mut line)?;
+        if !is_whole {
+            return Err(RecordFault::UpShorter(bytes));
         }
+        left -= 1;
+        let len = line.len() as u64;
+        if len > left {
+            return Err(RecordFault::UpShorter(bytes));
+        }
+        left -= len;
     }
     Ok(())
 }

@@ -7,7 +7,7 @@ use std::alloc::AllocError;
 use std::io;
 use thiserror::Error;
 
-/// Why a record was not run to its end. Lines are numbered from 1.
+/// Why a record was not run to its end, or not compacted. Lines are numbered from 1.
 #[derive(Clone, Copy, Debug, PartialEq, Eq, Error)]
 pub enum RecordFault {
     /// A growth was refused.
@@ -32,9 +32,12 @@ pub enum RecordFault {
     /// The first line begins as a base, and is none, or tells of more lines than there are.
     #[error("record: line 1 is not the base of this record")]
     BadBase,
-    /// The `up` lines have fewer bytes than the base tells of.
-    #[error("record: up has fewer than the {0} bytes of the base")]
+    /// The `up` lines do not begin with whole lines of so many bytes, of which the base tells.
+    #[error("record: up does not begin with the {0} bytes of the base")]
     UpShorter(u64),
+    /// After fewer lines of it some later answer may be another: the record stays as it is.
+    #[error("record: fewer lines do not serve as well")]
+    NotAsWell,
     /// There are 2^64 - 2 lines and more.
     #[error("record: too many lines")]
     TooMany,

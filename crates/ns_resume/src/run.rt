@@ -11,7 +11,7 @@ ghost use Rattle.ns_resume.specs.Resumed.{IsAllOf, MayBeTrimmed, HasRunAll, IsRe
 ghost use Rattle.ns_resume.specs.Private.Running.{AreInPlace, HasAnswered, HasRun, RunsOn};
 ghost use Rattle.ns_resume.specs.Private.Faults.{MakesNoCall, DoesNotMatter, RefusesLine};
 
-use crate::base::{Base, read_base, skip_ups};
+use crate::base::{Base, first_number, lines_before, read_base, skip_ups, ups_before};
 use crate::fault::RecordFault;
 use crate::line::read_line;
 use crate::open::{Open, open_in};
@@ -119,9 +119,12 @@ impl Running {
     {
         let call = call_in(alloc, number, line)?;
         let answer = self.answer(alloc, number, call)?;
+        if !is_new {
+            return Ok(());
+        }
         match &answer.uplink {
-            Some(uplink) if is_new => self.ups.implied(ups, up_line(uplink).as_str().as_bytes()),
-            _ => Ok(()),
+            Some(uplink) => self.ups.implied(ups, up_line(uplink).as_str().as_bytes()),
+            None => Ok(()),
         }
     }
 
@@ -167,10 +170,8 @@ fn run_lines<S: BufRead, U: BufRead>(
 {
     // A roster that is read is valid: the laws of histories rest on that.
     let _net_id = roster.net_id();
-    let (first, before) = match base {
-        Some(base) => (2, base.lines),
-        None => (1, 0),
-    };
+    let first = first_number(base);
+    let before = lines_before(base);
     let mut running = Running {
         shards: new_shards(alloc, roster)?,
         most: [TRIM_FROM; 16],
@@ -208,8 +209,6 @@ pub fn run_record<S: BufRead, U: BufRead>(
     ensures fault { IfErr result (NamesLine (arc_value roster) (S.remaining steps.old)) }
 {
     let base = read_base(alloc, steps)?;
-    if let Some(base) = &base {
-        skip_ups(ups, base.ups)?;
-    }
+    skip_ups(alloc, ups, ups_before(&base))?;
     run_lines(alloc, roster, &base, steps, ups)
 }
