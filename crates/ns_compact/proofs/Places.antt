@@ -1,5 +1,5 @@
 -- Shards that are trimmed one after the other.
-use Rattle.std.proofs.Common.{◌≡◌, ◌≢◌, ℕ, ◌+◌, ◌<◌, ◌≤◌, nat_lt, zero, suc, Bool, true, false, cond, List, [], ◌∷◌, length, slice_get, slice_set, Option, None, Some, refl, sym, ap, ◌∙◌, subst, arith, inl, inr}
+use Rattle.std.proofs.Common.{◌≡◌, ◌≢◌, ◌⊎◌, eqb, ℕ, ◌+◌, ◌<◌, ◌≤◌, nat_lt, zero, suc, Bool, true, false, cond, List, [], ◌∷◌, length, slice_get, slice_set, Option, None, Some, refl, sym, ap, ◌∙◌, subst, arith, inl, inr}
 use Rattle.std.proofs.lemmas.Bool.Decides.{eqb_tells, nat_tests}
 use Rattle.std.proofs.lemmas.List.{length-set}
 use Rattle.std.proofs.lemmas.Option.{slice_get_within}
@@ -46,7 +46,7 @@ trimmed-more place old now before after are at is = record {
   each = λ shard s of_old. by shard s of_old (eqb_tells shard place);
 }
   where
-    by : (shard : ℕ) (s : State) → slice_get old shard ≡ Some s → _ → slice_get (slice_set now place after) shard ≡ Some (cond (nat_lt shard (place + 1)) (after_trim s) s)
+    by : (shard : ℕ) (s : State) → slice_get old shard ≡ Some s → ((eqb shard place ≡ true) × (shard ≡ place)) ⊎ ((eqb shard place ≡ false) × (shard ≢ place)) → slice_get (slice_set now place after) shard ≡ Some (cond (nat_lt shard (place + 1)) (after_trim s) s)
     by shard s of_old (inl same) =
         let here : Some before ≡ Some s =
         sym at ∙ (ap (slice_get now) (sym same.1) ∙ (are.each shard s of_old ∙ ap (λ b. Some (cond {A = State} b (after_trim s) s)) (not_below shard place same.1))) in

@@ -1,7 +1,7 @@
 //! Which lines of a record stay.
 
 use crate::device::DeviceLines;
-use crate::lines::{LineWriter, Made};
+use crate::lines::{Made, put};
 use indexmap::IndexMap;
 use ns_calls::Reply;
 use ns_resume::RecordFault;
@@ -74,17 +74,19 @@ impl<'a> Choice<'a> {
     /// Writes the lines that stay because of this one, which is the next of the record.
     pub fn take<W: Write>(
         &mut self,
-        made: &Made<'_>,
-        out: &mut LineWriter<W>,
+        made: &Made,
+        line: &[u8],
+        out: &mut W,
+        count: &mut u64,
     ) -> Result<(), RecordFault> {
         let was_left = self.was_left(made.shard, made.number);
         if let Some(eui) = made.device() {
             if let Some(device) = self.devices.get_mut(&eui) {
-                return device.take(self.alloc, made, was_left, out);
+                return device.take(self.alloc, made, line, was_left, out, count);
             }
         }
         if was_left {
-            out.put(made.line)?;
+            put(out, count, line)?;
         }
         Ok(())
     }

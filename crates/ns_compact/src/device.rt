@@ -1,6 +1,6 @@
 //! Which lines of a device stay.
 
-use crate::lines::{LineWriter, Made};
+use crate::lines::{Made, put};
 use crate::session::SessionLines;
 use ns_calls::{Call, Reply};
 use ns_resume::RecordFault;
@@ -56,10 +56,7 @@ impl DeviceLines {
 
     // The line that asked for this ticket, which is open no longer.
     fn take_asked(&mut self, ticket: &Ticket) -> Option<Asked> {
-        let place = self
-            .asked
-            .iter()
-            .position(|asked| asked.ticket == *ticket)?;
+        let place = self.asked.iter().position(|asked| asked.ticket == *ticket)?;
         Some(self.asked.swap_remove(place))
     }
 
@@ -80,28 +77,31 @@ impl DeviceLines {
         &mut self,
         ticket: &Ticket,
         line: &[u8],
-        out: &mut LineWriter<W>,
+        out: &mut W,
+        count: &mut u64,
     ) -> Result<(), RecordFault> {
         if let Some(asked) = self.take_asked(ticket) {
-            out.put(asked.line.as_slice())?;
+            put(out, count, asked.line.as_slice())?;
         }
-        out.put(line)
+        put(out, count, line)
     }
 
     /// Writes the lines of the device that stay because of this one. `was_left` says whether trims left its entry.
     pub fn take<W: Write>(
         &mut self,
         alloc: Global,
-        made: &Made<'_>,
+        made: &Made,
+        line: &[u8],
         was_left: bool,
-        out: &mut LineWriter<W>,
+        out: &mut W,
+        count: &mut u64,
     ) -> Result<(), RecordFault> {
         match (&made.call, &made.reply) {
             (Call::Join { ticket, .. }, Reply::Ask { .. }) if !was_left => {
-                self.ask(alloc, ticket, made.line)
+                self.ask(alloc, ticket, line)
             }
             (Call::JoinReply { ticket, .. }, Reply::Accepted { .. }) => {
-                self.accept(ticket, made.line, out)
+                self.accept(ticket, line, out, count)
             }
             (Call::JoinReply { ticket, .. }, _) => {
                 self.take_asked(ticket);
@@ -109,19 +109,19 @@ impl DeviceLines {
             }
             (call, Reply::Opened { window }) => match self.session(window.session) {
                 Some(session) => {
-                    session.opened(window, made.line, was_left || is_confirmed(call), out)
+                    session.opened(window, line, was_left || is_confirmed(call), out, count)
                 }
                 None => Ok(()),
             },
             (_, Reply::Again { window }) => match self.session(window.session) {
-                Some(session) => session.repeated(window, made.line, out),
+                Some(session) => session.repeated(window, line, out, count),
                 None => Ok(()),
             },
             (_, Reply::Closed { window, .. }) => match self.session(window.session) {
-                Some(session) => session.closed(window, made.line, out),
+                Some(session) => session.closed(window, line, out, count),
                 None => Ok(()),
             },
-            _ if was_left => out.put(made.line),
+            _ if was_left => put(out, count, line),
             _ => Ok(()),
         }
     }

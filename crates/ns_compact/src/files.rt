@@ -1,7 +1,7 @@
 //! The compaction of the files of a record.
 
 use crate::same::serves_as_well;
-use crate::shorten::{Shortened, shorten};
+use crate::shortening::{Shortened, shorten};
 use log::{Log, error};
 use ns_record_files::{FilesFault, RecordFiles, ShorterSteps, read_again};
 use ns_resume::{Base, RecordFault, base_line};
@@ -60,7 +60,7 @@ impl<'a, R: Files<File = File>, L: Log> Folder<'a, R, L> {
         out.write_all(b"\n")?;
         let left = shorten(
             self.alloc,
-            self.roster,
+            self.roster.clone()?,
             &mut steps,
             &mut ups,
             &mut again,
@@ -76,7 +76,7 @@ impl<'a, R: Files<File = File>, L: Log> Folder<'a, R, L> {
         let mut ups = self.read("up")?;
         serves_as_well(
             self.alloc,
-            self.roster,
+            self.roster.clone()?,
             left.shards.as_slice(),
             &mut steps,
             &mut ups,

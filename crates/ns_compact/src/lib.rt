@@ -13,9 +13,9 @@ mod lines;
 mod rerun;
 mod same;
 mod session;
-mod shorten;
+mod shortening;
 mod trims;
 
 pub use files::{Compacted, Folder};
 pub use same::serves_as_well;
-pub use shorten::{Shortened, shorten};
+pub use shortening::{Shortened, shorten};

@@ -5,17 +5,16 @@ use ns_resume::RecordFault;
 use ns_types::DevEui;
 use std::io::Write;
 
-/// A line of a record, with what came of it.
+/// What came of a line of a record.
 #[derive(Drop)]
-pub struct Made<'l> {
-    pub line: &'l [u8],
+pub struct Made {
     pub shard: usize,
     pub number: u64,
     pub call: Call,
     pub reply: Reply,
 }
 
-impl<'l> Made<'l> {
+impl Made {
     /// The device that the line is of, where one is named.
     pub fn device(&self) -> Option<DevEui> {
         match (&self.call, &self.reply) {
@@ -31,24 +30,10 @@ impl<'l> Made<'l> {
     }
 }
 
-/// Takes lines, and counts them.
-#[derive(Drop)]
-pub struct LineWriter<'a, W: Write> {
-    out: &'a mut W,
-    pub count: u64,
-}
-
-impl<'a, W: Write> LineWriter<'a, W> {
-    /// It has taken none.
-    pub fn new(out: &'a mut W) -> LineWriter<'a, W> {
-        LineWriter { out, count: 0 }
-    }
-
-    /// Writes a line, which is given without its line feed.
-    pub fn put(&mut self, line: &[u8]) -> Result<(), RecordFault> {
-        self.out.write_all(line)?;
-        self.out.write_all(b"\n")?;
-        self.count = self.count.saturating_add(1);
-        Ok(())
-    }
+/// Writes a line, which is given without its line feed, and counts it.
+pub fn put<W: Write>(out: &mut W, count: &mut u64, line: &[u8]) -> Result<(), RecordFault> {
+    out.write_all(line)?;
+    out.write_all(b"\n")?;
+    *count = count.saturating_add(1);
+    Ok(())
 }

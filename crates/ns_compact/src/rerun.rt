@@ -39,7 +39,7 @@ impl Rerun {
     }
 
     /// Runs the line of this number.
-    pub fn run<'l>(&mut self, number: u64, line: &'l [u8]) -> Result<Made<'l>, RecordFault> {
+    pub fn run(&mut self, number: u64, line: &[u8]) -> Result<Made, RecordFault> {
         let call = self.call(number, line)?;
         let place = shard_of_call(&call);
         let at = usize::from(place);
@@ -53,7 +53,6 @@ impl Rerun {
         let answer = shard.apply(call)?;
         trim_if_due(self.alloc, shard, most);
         Ok(Made {
-            line,
             shard: at,
             number: made,
             call,

@@ -8,24 +8,49 @@ ghost use Rattle.ns_compacted.specs.Compacted.{LookTheSame};
 ghost use Rattle.ns_resume.specs.Resumed.{IsAllOf};
 ghost use Rattle.ns_compact.specs.Compact.{TellsSteps, AreLeftBy, GoOnTheSame, AllLookTheSame};
 
-use crate::trims::trim_all;
+use crate::trims::run_trimmed;
 use ns_compacted::tell_the_same;
-use ns_resume::{RecordFault, run_record};
+use ns_resume::RecordFault;
 use ns_roster::Roster;
 use ns_shard::Shard;
+use ns_types::WindowName;
 use std::alloc::{AllocError, Global};
 use std::io::BufRead;
 use std::sync::Arc;
+
+// Whether two names are the same.
+fn is_same_name(a: &WindowName, b: &WindowName) -> bool
+    ensures { result ≡ true → a.now ≡ b.now }
+{
+    a == b
+}
+
+// Whether these are the same names, in order.
+fn are_same_names(xs: &[WindowName], ys: &[WindowName]) -> bool
+    ensures { result ≡ true → xs.now ≡ ys.now }
+{
+    let mut left = xs;
+    let mut right = ys;
+    'names: while let Some((x, xs_after)) = left.split_first() {
+        let Some((y, ys_after)) = right.split_first() else {
+            return false;
+        };
+        if !is_same_name(x, y) {
+            return false;
+        }
+        left = xs_after;
+        right = ys_after;
+    }
+    right.is_empty()
+}
 
 // Whether what trims left of two shards looks the same.
 fn look_the_same(alloc: Global, a: &Shard, b: &Shard) -> Result<bool, AllocError>
     ensures { IfOk result (λ same. same ≡ true → LookTheSame (remains a.now) (remains b.now)) }
 {
-    if !tell_the_same(a.entries(), b.entries()) {
-        return Ok(false);
-    }
     let open = a.open_windows(alloc)?;
-    Ok(open.as_slice() == b.open_windows(alloc)?.as_slice())
+    let other = b.open_windows(alloc)?;
+    Ok(tell_the_same(a.entries(), b.entries()) && are_same_names(open.as_slice(), other.as_slice()))
 }
 
 // Whether what trims left of shards looks the same, shard by shard.
@@ -51,19 +76,18 @@ fn all_look_the_same(alloc: Global, old: &[Shard], new: &[Shard]) -> Result<bool
 /// of which trims left `old`. Then every later answer is the same.
 pub fn serves_as_well<S: BufRead, U: BufRead>(
     alloc: Global,
-    roster: &Arc<Roster>,
+    roster: Arc<Roster>,
     old: &[Shard],
     steps: &mut S,
     ups: &mut U,
 ) -> Result<bool, RecordFault>
     ensures { IfOk result (λ same. same ≡ true → (text : List ℕ) × (shorter : List Step) × IsAllOf (S.remaining steps.old) text
-        × TellsSteps (arc_value roster.now) text shorter
-        × ((told : List Step) → AreLeftBy (arc_value roster.now) told old.now → GoOnTheSame (arc_value roster.now) told shorter)) }
+        × TellsSteps (arc_value roster) text shorter
+        × ((told : List Step) → AreLeftBy (arc_value roster) told old.now → GoOnTheSame (arc_value roster) told shorter)) }
 {
-    let mut resumed = run_record(alloc, roster.clone()?, steps, ups)?;
+    let resumed = run_trimmed(alloc, roster, steps, ups)?;
     if resumed.torn > 0 || resumed.up_torn > 0 || !resumed.missing.is_empty() {
         return Ok(false);
     }
-    trim_all(alloc, resumed.shards.as_mut_slice())?;
     Ok(all_look_the_same(alloc, old, resumed.shards.as_slice())?)
 }

@@ -1,6 +1,6 @@
 //! Which lines of a session stay.
 
-use crate::lines::LineWriter;
+use crate::lines::put;
 use ns_calls::Call;
 use ns_record::step_line;
 use ns_resume::RecordFault;
@@ -45,12 +45,16 @@ impl SessionLines {
     }
 
     // The last opening stays, and its window, which is not acknowledged, is closed at once.
-    fn keep_last<W: Write>(&mut self, out: &mut LineWriter<W>) -> Result<(), RecordFault> {
+    fn keep_last<W: Write>(&mut self, out: &mut W, count: &mut u64) -> Result<(), RecordFault> {
         let Some(window) = self.last.take() else {
             return Ok(());
         };
-        out.put(self.line.as_slice())?;
-        out.put(step_line(&Call::Close { window }).as_str().as_bytes())?;
+        put(out, count, self.line.as_slice())?;
+        put(
+            out,
+            count,
+            step_line(&Call::Close { window }).as_str().as_bytes(),
+        )?;
         self.counter = Some(window.fcnt);
         Ok(())
     }
@@ -61,15 +65,16 @@ impl SessionLines {
         window: &WindowName,
         line: &[u8],
         stays: bool,
-        out: &mut LineWriter<W>,
+        out: &mut W,
+        count: &mut u64,
     ) -> Result<(), RecordFault> {
         if self.is_far(window.fcnt) {
-            self.keep_last(out)?;
+            self.keep_last(out, count)?;
         }
         if stays || self.counter.is_none() {
             self.last = None;
             self.counter = Some(window.fcnt);
-            return self.repeated(window, line, out);
+            return self.repeated(window, line, out, count);
         }
         self.last = Some(*window);
         self.line.clear();
@@ -81,12 +86,13 @@ impl SessionLines {
         &mut self,
         window: &WindowName,
         line: &[u8],
-        out: &mut LineWriter<W>,
+        out: &mut W,
+        count: &mut u64,
     ) -> Result<(), RecordFault> {
         if self.open.push(*window).is_err() {
             return Err(RecordFault::NoMemory);
         }
-        out.put(line)
+        put(out, count, line)
     }
 
     /// A window was closed: its line stays where that of its opening did.
@@ -94,12 +100,13 @@ impl SessionLines {
         &mut self,
         window: &WindowName,
         line: &[u8],
-        out: &mut LineWriter<W>,
+        out: &mut W,
+        count: &mut u64,
     ) -> Result<(), RecordFault> {
         match self.open.iter().position(|open| open == window) {
             Some(place) => {
                 self.open.swap_remove(place);
-                out.put(line)
+                put(out, count, line)
             }
             None => Ok(()),
         }

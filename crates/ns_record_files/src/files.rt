@@ -5,12 +5,11 @@ use crate::disk::Disk;
 use log::{Log, error};
 use ns_types::Failed;
 use std::alloc::Global;
-use std::fs;
 use std::fs::{File, OpenOptions, TryLockError};
-use std::io;
 use std::io::Write;
 use std::os::unix::fs::{FileExt, OpenOptionsExt};
 use std::rt::Files;
+use std::{fs, io};
 use thiserror::Error;
 
 /// Why the files of a record were not opened.
@@ -191,7 +190,10 @@ impl RecordFiles {
         shorter: &ShorterSteps,
     ) -> Result<(), FilesFault> {
         told(log, shorter.file.sync_all())?;
-        told(log, fs::rename(rt, shorter.path.as_str(), shorter.steps_path.as_str()))?;
+        told(
+            log,
+            fs::rename(rt, shorter.path.as_str(), shorter.steps_path.as_str()),
+        )?;
         told(log, self.folder.sync_all())
     }
 

@@ -205,7 +205,7 @@ impl Life {
         let mut steps = BufReader::with_capacity(alloc, 1_000, self.steps.as_slice())?;
         let mut ups = BufReader::with_capacity(alloc, 1_000, self.ups.as_slice())?;
         let mut again = BufReader::with_capacity(alloc, 1_000, self.steps.as_slice())?;
-        let left = shorten(alloc, &self.roster, &mut steps, &mut ups, &mut again, &mut shorter)?;
+        let left = shorten(alloc, self.roster.clone()?, &mut steps, &mut ups, &mut again, &mut shorter)?;
         let base = Base {
             lines: left.written,
             ups: self.ups.len() as u64,
@@ -216,7 +216,7 @@ impl Life {
         text.extend_from_slice(shorter.as_slice())?;
         let mut steps = BufReader::with_capacity(alloc, 1_000, text.as_slice())?;
         let mut ups = BufReader::with_capacity(alloc, 1_000, self.ups.as_slice())?;
-        if !serves_as_well(alloc, &self.roster, left.shards.as_slice(), &mut steps, &mut ups)? {
+        if !serves_as_well(alloc, self.roster.clone()?, left.shards.as_slice(), &mut steps, &mut ups)? {
             return Err(RecordFault::BadBase);
         }
         self.steps = text;

@@ -7,10 +7,9 @@ ghost use Rattle.ns_resume.specs.Resumed.{IsAllOf};
 ghost use Rattle.ns_compact.specs.Compact.{TellsSteps, AreLeftBy};
 
 use crate::choice::Choice;
-use crate::lines::LineWriter;
 use crate::rerun::Rerun;
-use crate::trims::trim_all;
-use ns_resume::{RecordFault, Resumed, read_base, run_record};
+use crate::trims::run_trimmed;
+use ns_resume::{RecordFault, Resumed, read_base};
 use ns_roster::Roster;
 use ns_shard::Shard;
 use std::alloc::Global;
@@ -43,16 +42,16 @@ fn choose<S: BufRead, W: Write>(
     read_base(alloc, steps)?;
     let mut rerun = Rerun::new(alloc, roster)?;
     let mut choice = Choice::new(alloc, left)?;
-    let mut out = LineWriter::new(out);
+    let mut count = 0;
     let mut line = Vec::new(alloc);
     'lines: for number in 1..u64::MAX {
         line.clear();
         steps.read_until(b'\n', &mut line)?;
         if line.pop() != Some(b'\n') {
-            return Ok((number - 1, out.count));
+            return Ok((number - 1, count));
         }
         let made = rerun.run(number, line.as_slice())?;
-        choice.take(&made, &mut out)?;
+        choice.take(&made, line.as_slice(), out, &mut count)?;
     }
     Err(RecordFault::TooMany)
 }
@@ -61,25 +60,25 @@ fn choose<S: BufRead, W: Write>(
 /// well only where `serves_as_well` says so.
 pub fn shorten<S: BufRead, U: BufRead, T: BufRead, W: Write>(
     alloc: Global,
-    roster: &Arc<Roster>,
+    roster: Arc<Roster>,
     steps: &mut S,
     ups: &mut U,
     again: &mut T,
     out: &mut W,
 ) -> Result<Shortened, RecordFault>
     ensures { IfOk result (λ s. (text : List ℕ) × (told : List Step) × IsAllOf (S.remaining steps.old) text
-        × TellsSteps (arc_value roster.now) text told × AreLeftBy (arc_value roster.now) told s.shards.items) }
+        × TellsSteps (arc_value roster) text told × AreLeftBy (arc_value roster) told s.shards.items) }
 {
+    let roster_again = roster.clone()?;
     let Resumed {
-        mut shards,
+        shards,
         torn,
         up_torn,
         missing,
         windows: _,
         tickets: _,
-    } = run_record(alloc, roster.clone()?, steps, ups)?;
-    trim_all(alloc, shards.as_mut_slice())?;
-    let (lines, written) = choose(alloc, roster.clone()?, shards.as_slice(), again, out)?;
+    } = run_trimmed(alloc, roster, steps, ups)?;
+    let (lines, written) = choose(alloc, roster_again, shards.as_slice(), again, out)?;
     Ok(Shortened {
         shards,
         torn,
