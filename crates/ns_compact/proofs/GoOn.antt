@@ -1,9 +1,7 @@
 -- Fewer lines that leave the same answer the same.
-use Rattle.std.proofs.Common.{◌≡◌, ℕ, ◌<◌, zero, suc, List, [], ◌∷◌, length, slice_get, Option, None, Some, refl, sym, ap, ◌∙◌, subst, arith}
+use Rattle.std.proofs.Common.{◌≡◌, ℕ, ◌<◌, zero, suc, List, [], ◌∷◌, length, slice_get, Some, refl, sym, subst, arith}
 use Rattle.ns_types.specs.Identity.{shard_count}
 use Rattle.ns_roster.specs.Network.{Network}
-use Rattle.ns_calls.specs.declared.call.Call.{Call}
-use Rattle.ns_calls.specs.declared.call.Entry.{Entry}
 use Rattle.ns_kept.specs.Kept.{keep}
 use Rattle.ns_kept.specs.Left.{Leaves}
 use Rattle.ns_compacted.specs.Compacted.{LeaveTheSame, LookTheSame}
@@ -12,8 +10,8 @@ use Rattle.ns_shard.specs.declared.step.Step.{Step}
 use Rattle.ns_shard.specs.State.{State, remains, after_trim}
 use Rattle.ns_shard.specs.Steps.{shard_history}
 use Rattle.ns_resume.specs.declared.run.Resumed.{Resumed}
-use Rattle.ns_resume.specs.Resumed.{IsResumedAt, AreResumed, IsResumed}
-use Rattle.ns_compact.specs.Compact.{TellsSteps, AreTrimmed, AreLeftBy, AllLookTheSame, GoOnTheSame}
+use Rattle.ns_resume.specs.Resumed.{IsResumedAt, IsResumed}
+use Rattle.ns_compact.specs.Compact.{TellsSteps, AreLeftBy, AllLookTheSame, GoOnTheSame}
 
 -- the steps that a record tells
 pub told-steps : (net : Network) (text there : List ℕ) (r : Resumed) → (is : IsResumed net text there r) → TellsSteps net text is.run.steps

@@ -1,5 +1,5 @@
 -- Shards that are trimmed one after the other.
-use Rattle.std.proofs.Common.{◌≡◌, ◌≢◌, ◌⊎◌, eqb, ℕ, ◌+◌, ◌<◌, ◌≤◌, nat_lt, zero, suc, Bool, true, false, cond, List, [], ◌∷◌, length, slice_get, slice_set, Option, None, Some, refl, sym, ap, ◌∙◌, subst, arith, inl, inr}
+use Rattle.std.proofs.Common.{◌≡◌, ◌≢◌, ◌⊎◌, eqb, ℕ, ◌+◌, ◌<◌, ◌≤◌, nat_lt, zero, suc, true, false, cond, List, [], ◌∷◌, length, slice_get, slice_set, Some, refl, sym, ap, ◌∙◌, arith, inl, inr}
 use Rattle.std.proofs.lemmas.Bool.Decides.{eqb_tells, nat_tests}
 use Rattle.std.proofs.lemmas.List.{length-set}
 use Rattle.std.proofs.lemmas.Option.{slice_get_within}
@@ -54,7 +54,7 @@ trimmed-more place old now before after are at is = record {
         ∙ (set_same now place before after at
         ∙ (ap Some (is ∙ ap after_trim (same_some before s here)) ∙ ap (λ b. Some (cond {A = State} b (after_trim s) s)) (sym (below_own shard place same.1))))
     by shard s of_old (inr other) =
-        slice_get-set_other now place shard after (λ e. other.1 (sym e))
+        slice_get-set_other now place shard after other.1
         ∙ (are.each shard s of_old ∙ ap (λ b. Some (cond {A = State} b (after_trim s) s)) (below_next shard place other.1))
 
 within_all : (n k : ℕ) → n < k → nat_lt n k ≡ true

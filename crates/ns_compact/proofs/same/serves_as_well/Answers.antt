@@ -1,4 +1,4 @@
-use Rattle.std.proofs.Common.{◌≡◌, List, subst}
+use Rattle.std.proofs.Common.{List, subst}
 use Rattle.std.specs.Arc.{arc_value}
 use Rattle.ns_shard.specs.State.{State}
 use Rattle.ns_compact.specs.Compact.{AllLookTheSame}
