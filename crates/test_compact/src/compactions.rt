@@ -62,7 +62,12 @@ fn roster(alloc: Global) -> Result<Arc<Roster>, RecordFault> {
     }
 }
 
-fn text_of(alloc: Global, steps: &[u8], ups: &[u8], roster: &Arc<Roster>) -> Result<Resumed, RecordFault> {
+fn text_of(
+    alloc: Global,
+    steps: &[u8],
+    ups: &[u8],
+    roster: &Arc<Roster>,
+) -> Result<Resumed, RecordFault> {
     let mut steps = BufReader::with_capacity(alloc, 1_000, steps)?;
     let mut ups = BufReader::with_capacity(alloc, 1_000, ups)?;
     run_record(alloc, roster.clone()?, &mut steps, &mut ups)
@@ -106,7 +111,8 @@ impl Life {
             self.steps.extend_from_slice(line.as_str().as_bytes())?;
             self.steps.extend_from_slice(b"\n")?;
             if let Some(uplink) = &answer.uplink {
-                self.ups.extend_from_slice(up_line(uplink).as_str().as_bytes())?;
+                self.ups
+                    .extend_from_slice(up_line(uplink).as_str().as_bytes())?;
                 self.ups.extend_from_slice(b"\n")?;
             }
         }
@@ -154,7 +160,13 @@ impl Life {
             return Ok(());
         }
         self.devices[at].sessions[which].1 = counter + 1;
-        if let Some(call) = uplink(at as u32, nonce, counter, random.below(3) == 0, random.below(3)) {
+        if let Some(call) = uplink(
+            at as u32,
+            nonce,
+            counter,
+            random.below(3) == 0,
+            random.below(3),
+        ) {
             self.last = Some(call);
             self.hear(call)?;
         }
@@ -205,7 +217,14 @@ impl Life {
         let mut steps = BufReader::with_capacity(alloc, 1_000, self.steps.as_slice())?;
         let mut ups = BufReader::with_capacity(alloc, 1_000, self.ups.as_slice())?;
         let mut again = BufReader::with_capacity(alloc, 1_000, self.steps.as_slice())?;
-        let left = shorten(alloc, self.roster.clone()?, &mut steps, &mut ups, &mut again, &mut shorter)?;
+        let left = shorten(
+            alloc,
+            self.roster.clone()?,
+            &mut steps,
+            &mut ups,
+            &mut again,
+            &mut shorter,
+        )?;
         let base = Base {
             lines: left.written,
             ups: self.ups.len() as u64,
@@ -216,7 +235,13 @@ impl Life {
         text.extend_from_slice(shorter.as_slice())?;
         let mut steps = BufReader::with_capacity(alloc, 1_000, text.as_slice())?;
         let mut ups = BufReader::with_capacity(alloc, 1_000, self.ups.as_slice())?;
-        if !serves_as_well(alloc, self.roster.clone()?, left.shards.as_slice(), &mut steps, &mut ups)? {
+        if !serves_as_well(
+            alloc,
+            self.roster.clone()?,
+            left.shards.as_slice(),
+            &mut steps,
+            &mut ups,
+        )? {
             return Err(RecordFault::BadBase);
         }
         self.steps = text;
@@ -225,7 +250,12 @@ impl Life {
 
     // Goes on with the record.
     fn restart(&mut self) -> Result<(), RecordFault> {
-        let resumed = text_of(self.alloc, self.steps.as_slice(), self.ups.as_slice(), &self.roster)?;
+        let resumed = text_of(
+            self.alloc,
+            self.steps.as_slice(),
+            self.ups.as_slice(),
+            &self.roster,
+        )?;
         self.shards = resumed.shards;
         Ok(())
     }

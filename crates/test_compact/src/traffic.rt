@@ -82,7 +82,13 @@ pub fn join_reply(device: u32, nonce: u32, is_success: bool) -> Call {
 }
 
 /// The device's uplink with this counter in the session of this nonce, as a gateway heard it.
-pub fn uplink(device: u32, nonce: u32, counter: u32, confirmed: bool, gateway: u32) -> Option<Call> {
+pub fn uplink(
+    device: u32,
+    nonce: u32,
+    counter: u32,
+    confirmed: bool,
+    gateway: u32,
+) -> Option<Call> {
     let creator = DataCreator {
         dir: Dir::Up,
         confirmed,
