@@ -236,7 +236,15 @@ fn compact<'a, R: Files<File = File> + AllocGlobal + Print, L: Log>(
         path: folder,
         roster: &roster,
     };
-    let done = match compaction.compact(files) {
+    let compacted = compaction.compact(files);
+    let Folder {
+        rt: _,
+        log: _,
+        alloc: _,
+        path: _,
+        roster: _,
+    } = compaction;
+    let done = match compacted {
         Ok(done) => done,
         Err(fault) => {
             error!(log; "{folder}: {fault}");
