@@ -8,6 +8,7 @@ what a start says is here, as FORMATS tells it: a line of `steps` for each answe
 line of these. Prints how many records and lines there were, and each line that differs; status 1 where one does.
 """
 import os
+import re
 import sys
 
 import model
@@ -87,13 +88,27 @@ class Life:
             self.files[b'up'] += b''.join(line + b'\n' for line in ups_of(lines))
         return lines
 
+    def base(self):
+        """The first line, where it tells a base, how many lines and how many bytes of `up` it tells of, and the lines behind it."""
+        steps = self.files[b'steps']
+        if not steps.startswith(b'b'):
+            return b'', 0, 0, steps
+        found = re.match(rb'base ([0-9a-f]{16}) ([0-9a-f]{16})\n', steps)
+        if not found:
+            raise Refused('record: line 1 is not the base of this record')
+        return found[0], int(found[1], 16), int(found[2], 16), steps[found.end():]
+
     def start(self):
         self.server = None
         server = model.Server(model.Roster(self.roster, True))
-        steps, torn = whole(self.files[b'steps'])
-        there, up_torn = whole(self.files[b'up'])
+        head, before, up_bytes, rest = self.base()
+        earlier = self.files[b'up'][:up_bytes]
+        if len(earlier) < up_bytes or not (earlier + b'\n' * (not earlier)).endswith(b'\n'):
+            raise Refused('record: up does not begin with the %d bytes of the base' % up_bytes)
+        steps, torn = whole(rest)
+        there, up_torn = whole(self.files[b'up'][up_bytes:])
         ups, asked = [], []
-        for number, step in enumerate(steps, 1):
+        for number, step in enumerate(steps, 2 if head else 1):
             lines = list(server.line(step))
             if lines == model.REFUSED:
                 raise Refused('record: line %d is no step line' % number)
@@ -101,17 +116,19 @@ class Life:
                 raise Refused('record: line %d does not fit the roster' % number)
             if lines[0].startswith('ask '):
                 asked.append(bytes.fromhex(lines[0][4:]))
-            for up in ups_of(lines):
+            for up in ups_of(lines) if number - 2 >= before or not head else []:
                 ups.append(up)
                 place = len(ups)
                 if place <= len(there) and there[place - 1] != up or (
                         place == len(there) + 1 and not up.startswith(up_torn)):
                     raise Refused('record: up line %d is not of this record' % place)
+        if len(steps) < before:
+            raise Refused('record: line 1 is not the base of this record')
         if len(there) > len(ups) or (len(there) == len(ups) and up_torn):
             raise Refused('record: more than the %d up lines of this record' % len(ups))
         missing = ups[len(there):]
-        self.files[b'steps'] = b''.join(line + b'\n' for line in steps)
-        self.files[b'up'] = b''.join(line + b'\n' for line in ups)
+        self.files[b'steps'] = head + b''.join(line + b'\n' for line in steps)
+        self.files[b'up'] = earlier + b''.join(line + b'\n' for line in ups)
         self.server = server
         return (['made %d' % len(steps)]
                 + ['cut steps %d' % len(torn)] * bool(torn) + ['cut up %d' % len(up_torn)] * bool(up_torn)

@@ -3,7 +3,7 @@
 no device notices.
 
     record_kills.py [--lives N] [--seed N] [--devices N] [--gateways N] [--rate N] [--rejoin N] [--longest SECONDS]
-                    [--networks N] [--full KB | --machine] [--folder DIR] [--program PATH] [-- WORD..]
+                    [--networks N] [--full KB | --machine] [--compact] [--folder DIR] [--program PATH] [-- WORD..]
 
     --lives N           how often the program is begun (default 50); each but the last is ended after 0.05 to --longest seconds (1.6)
     --rate N            uplinks a second of all devices (default 150), of which half are confirmed and sent again until they are
@@ -14,6 +14,7 @@ no device notices.
                         itself with status 1 and a line `record:` in its log. Root alone may mount it
     --machine           a life is ended with its machine: the record goes on from what its disk has at that moment, an ext4 file system in a
                         file. With --sync, and root alone may
+    --compact           between two lives the record is compacted, and the compaction is ended by SIGKILL half of the time
     --folder DIR        where the record is left (default: a folder that is removed)
     WORD..              further words of `serve`, as --sync
 
@@ -136,7 +137,23 @@ class Trial:
             with open(steps, 'ab') as file:
                 file.write(self.pick.choice((b'h', b'heard 0101', b'close 0000', b'answer ')))
         if self.pick.random() < 0.3 and os.path.exists(ups):
-            os.truncate(ups, max(0, os.path.getsize(ups) - self.pick.randrange(400)))
+            os.truncate(ups, max(self.base()[1], os.path.getsize(ups) - self.pick.randrange(400)))
+
+    def base(self):
+        """How many lines of `steps`, and bytes of `up`, are of a base, and where the lines behind its line begin."""
+        with open(os.path.join(self.record, 'steps'), 'rb') as file:
+            found = re.match(rb'base ([0-9a-f]{16}) ([0-9a-f]{16})\n', file.readline())
+        return (int(found[1], 16), int(found[2], 16), found.end()) if found else (0, 0, 0)
+
+    def compact(self):
+        with open(os.path.join(self.record, '..', 'compact.log'), 'wb') as log:
+            child = subprocess.Popen([self.options.program, 'compact', self.roster, self.record], stdout=log, stderr=log)
+            if self.pick.random() < 0.5:
+                time.sleep(self.pick.uniform(0, 0.2))
+                child.kill()
+            elif child.wait():
+                self.fault('a compaction that ended with status %d' % child.returncode)
+            child.wait()
 
     def look(self):
         """Whether the program says by now that it listens."""
@@ -250,6 +267,8 @@ class Trial:
                     self.live()
                     self.end()
                     self.crash()
+                    if self.options.compact:
+                        self.compact()
             self.run(self.options.longest)
             end = time.monotonic() + QUIET
             while (self.waiting or self.joining) and time.monotonic() < end:
@@ -260,7 +279,7 @@ class Trial:
             if self.child:
                 self.child.kill()
                 self.child.wait()
-            self.kept = self.files()
+            self.kept = self.base(), *self.files()
             self.disk.close()
             self.joins.close()
             for gateway in self.gateways:
@@ -283,13 +302,19 @@ class Trial:
                 found.append(file.read())
         return found
 
+    def replay(self, lines):
+        done = subprocess.run([self.options.program, 'replay', self.roster], input=b''.join(lines), capture_output=True, check=True)
+        return done.stdout.decode().splitlines()
+
     def check(self):
-        steps, up = self.kept
-        done = subprocess.run([self.options.program, 'replay', self.roster], input=steps, capture_output=True, check=True)
-        said = done.stdout.decode().splitlines()
+        (before, earlier, begin), steps, up = self.kept
+        lines = steps[begin:].splitlines(True)
+        said = self.replay(lines)
         ups = [line for line in said if line.startswith('up ')]
-        if ''.join(line + '\n' for line in ups).encode() != up:
+        later = ups[sum(line.startswith('up ') for line in self.replay(lines[:before])):]
+        if ''.join(line + '\n' for line in later).encode() != up[earlier:]:
             self.fault('`up` is not what `replay` says of `steps`')
+        ups = up.decode().splitlines()
         for line in said:
             if line.split()[0] in WITHOUT_EFFECT:
                 self.fault('a reply %s in the record' % line.split()[0])
@@ -342,7 +367,8 @@ def main():
                                 ('rejoin', int, 0), ('longest', float, 1.6), ('networks', int, 1), ('full', int, 0),
                                 ('folder', str, None), ('program', str, PROGRAM)):
         parser.add_argument('--' + name, type=kind, default=default, help=argparse.SUPPRESS)
-    parser.add_argument('--machine', action='store_true', help=argparse.SUPPRESS)
+    for name in 'machine', 'compact':
+        parser.add_argument('--' + name, action='store_true', help=argparse.SUPPRESS)
     parser.add_argument('words', nargs='*', help=argparse.SUPPRESS)
     options = parser.parse_args()
     if options.machine and '--sync' not in options.words:

@@ -6,7 +6,7 @@ use Rattle.clap.specs.declared.builder.texts.Texts.TheVariants.{One}
 use Rattle.clap.specs.declared.builder.arg.Arg.{Arg}
 use Rattle.clap.specs.declared.builder.command.Command.{Command}
 use Rattle.clap.specs.declared.builder.command.Command.TheViews.{out-Command}
-use Rattle.lorawan_ns.specs.Commands.{IsCommand, else_value, needed, program, replay_app, serve_app}
+use Rattle.lorawan_ns.specs.Commands.{IsCommand, else_value, compact_app, needed, program, replay_app, serve_app}
 
 -- the argument is read by this rule, in its own command alone
 abbrev pub IsArg : Rule → Arg → Type 0
@@ -35,10 +35,10 @@ IsCommand-subcommand app below old sub new is is_sub added = (
 
 -- clap gives the matches of the program's words exactly
 pub program_simple : is_simple program ≡ true
-unfolding program serve_app replay_app
+unfolding program serve_app replay_app compact_app
 program_simple = refl
 
 -- and the kinds of its errors
 pub program_free : is_simple_and_free program ≡ true
-unfolding program serve_app replay_app
+unfolding program serve_app replay_app compact_app
 program_free = refl

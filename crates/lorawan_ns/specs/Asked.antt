@@ -10,7 +10,7 @@ use Rattle.ns_events.specs.declared.output.Output.{Output}
 use Rattle.ns_events.specs.declared.output.Output.TheVariants as output
 use Rattle.ns_serve_parts.specs.declared.options.ServeOptions.{ServeOptions}
 use Rattle.lorawan_ns.specs.declared.options.Asked.{Asked}
-use Rattle.lorawan_ns.specs.declared.options.Asked.TheVariants.{Replay, Serve}
+use Rattle.lorawan_ns.specs.declared.options.Asked.TheVariants.{Replay, Serve, Compact}
 use Rattle.lorawan_ns.specs.declared.options.Recorded.{Recorded}
 use Rattle.lorawan_ns.specs.declared.options.OptionName.{OptionName}
 use Rattle.lorawan_ns.specs.declared.options.OptionName.TheVariants.{Join, Host, Listen, Forwarders, Power, Status, Workers, JoinWorkers, Window, StopAfter, Trim, Record}
@@ -98,11 +98,13 @@ pub record HasRecord (rows : List Row) (r : Recorded) : Type 0 where
 abbrev pub IsAskedBy : List Row → Asked → Type 0
 IsAskedBy rows (Replay path uplinks closing) = (first_of (codes "ROSTER") rows ≡ Some path.now) × IsOutput rows uplinks × IsFlag (codes "closing") rows closing
 IsAskedBy rows (Serve path options recorded) = (first_of (codes "ROSTER") rows ≡ Some path.now) × HasOptions rows options × HasRecord rows recorded
+IsAskedBy rows (Compact path folder) = (first_of (codes "ROSTER") rows ≡ Some path.now) × (first_of (codes "DIR") rows ≡ Some folder.now)
 
 -- the command that is asked for
 abbrev pub command_of : Asked → Text
 command_of (Replay path uplinks closing) = codes "replay"
 command_of (Serve path options recorded) = codes "serve"
+command_of (Compact path folder) = codes "compact"
 
 -- clap finds no fault in the words, they name the command, and what stands behind it asks for this
 abbrev pub IsAsked : List Text → Asked → Type 0

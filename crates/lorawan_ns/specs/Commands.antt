@@ -10,6 +10,10 @@ use Rattle.clap.specs.declared.builder.value_parser.ValueParser.TheVariants.{Uns
 abbrev pub roster_rule : Rule
 roster_rule = record (new_rule (codes "ROSTER")) { required = true; action = Some Set }
 
+-- the folder of a record
+abbrev pub folder_rule : Rule
+folder_rule = record (new_rule (codes "DIR")) { required = true; action = Some Set }
+
 -- an option with a text
 abbrev pub option_rule : Text → Rule
 option_rule name = record (new_rule name) { long = Some name; action = Some Set; value_names = 1 }
@@ -86,12 +90,15 @@ serve_app =
 unfoldable pub replay_app : App
 replay_app = with_rule (with_rules (with_rule (new_app (codes "replay")) roster_rule) output_rules) closing_rule
 
+unfoldable pub compact_app : App
+compact_app = with_rule (with_rule (new_app (codes "compact")) roster_rule) folder_rule
+
 -- the program, with a version
 abbrev pub named_app : App
 named_app = let app = new_app (codes "lorawan_ns") in record app { top = record app.top { has_version = true; subcommand_required = true } }
 
 unfoldable pub program : App
-program = with_subcommand (with_subcommand named_app replay_app.top) serve_app.top
+program = with_subcommand (with_subcommand (with_subcommand named_app replay_app.top) compact_app.top) serve_app.top
 
 -- the command is this one, with no argument that holds for the commands below it
 abbrev pub IsCommand : App → Command → Type 0

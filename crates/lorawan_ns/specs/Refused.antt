@@ -69,10 +69,16 @@ IsRefused rows (Shown error) = ⊥
 abbrev pub HasOption : Text → OptionName → Type 0
 HasOption name option = (name ≡ codes "serve") ⊎ ((name ≡ codes "replay") × (option ≡ Output))
 
--- the same behind a command's name; nothing else is refused but a command that the program has not, or one without the roster's file
+-- the program has a command of this name
+abbrev pub IsCommandName : Text → Type 0
+IsCommandName name = (name ≡ codes "serve") ⊎ (name ≡ codes "replay") ⊎ (name ≡ codes "compact")
+
+-- the same behind a command's name; nothing else is refused but a command that the program has not, one without the roster's file, or a
+-- compaction without a folder
 abbrev pub IsRefusedBehind : Text → List Row → BadWords → Type 0
 IsRefusedBehind name rows (BadValue option) = HasOption name option × HasBadValue option rows
-IsRefusedBehind name rows NoMemory = (first_of (codes "ROSTER") rows ≡ None) ⊎ ((name ≢ codes "serve") × (name ≢ codes "replay"))
+IsRefusedBehind name rows NoMemory =
+    (first_of (codes "ROSTER") rows ≡ None) ⊎ ((name ≡ codes "compact") × (first_of (codes "DIR") rows ≡ None)) ⊎ (¬ IsCommandName name)
 IsRefusedBehind name rows NotText = ⊥
 IsRefusedBehind name rows (Shown error) = ⊥
 

@@ -9,7 +9,7 @@ use Rattle.lorawan_ns.specs.Refused.{IsRefusal}
 use Rattle.lorawan_ns.specs.declared.options.BadWords.{BadWords}
 use Rattle.lorawan_ns.specs.declared.options.BadWords.TheVariants.{NoMemory, NotText, BadValue, Shown}
 use Rattle.lorawan_ns.specs.declared.options.Asked.{Asked}
-use Rattle.lorawan_ns.specs.declared.options.Asked.TheVariants.{Replay, Serve}
+use Rattle.lorawan_ns.specs.declared.options.Asked.TheVariants.{Replay, Serve, Compact}
 use Rattle.lorawan_ns.specs.declared.End.{End}
 use Rattle.lorawan_ns.specs.declared.End.TheVariants.{Ran, Refused}
 use Rattle.ns_serve_parts.specs.declared.options.ServeOptions.{ServeOptions}
@@ -45,6 +45,7 @@ IsServed options = ((0 < options.workers) × (options.workers ≤ 16)) × ((0 < 
 abbrev pub IsDoable : Asked → Type 0
 IsDoable (Replay path uplinks closing) = ⊤
 IsDoable (Serve path options recorded) = IsServed options
+IsDoable (Compact path folder) = ⊤
 
 -- a run is of what the words ask for, and a refusal is of words that are refused, and told
 abbrev pub IsRun : List Text → End → Type 0

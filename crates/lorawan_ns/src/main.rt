@@ -2,11 +2,12 @@
 //!
 //! `lorawan_ns replay ROSTER` reads step lines from standard input and writes the lines of their answers to standard output. The
 //! contract of `replay` in `ns_replay` says what is written. `lorawan_ns serve ROSTER --join ADDR` hears gateways over UDP and writes
-//! their uplinks: `serve` of `ns_serve` does it, with threads and sockets. Here are the command line, the texts of faults, log lines and
+//! their uplinks: `serve` of `ns_serve` does it, with threads and sockets. `lorawan_ns compact ROSTER DIR` makes a record shorter:
+//! `ns_compact` does it. Here are the command line, the texts of faults, log lines and
 //! the exit statuses. What the words ask for, when they are refused, which fault each refusal is, and which status follows stand in
 //! contracts; the texts are shown by tests. Before a run ends early, a log line of level error says where and why. The program stands on
 //! `ns_roster`, which reads the roster, on `ns_roster_place`, which names the place of its fault, on `ns_joinclient` for a host's name, on
-//! `ns_types` for streams, on `ns_replay` and `ns_serve`, and on `arrayvec`, `clap`, `jiff_core`, `jiff_fmt`, `log` and `thiserror` of the
+//! `ns_types` for streams, on `ns_replay`, `ns_serve` and `ns_compact`, and on `arrayvec`, `clap`, `jiff_core`, `jiff_fmt`, `log` and `thiserror` of the
 //! kit.
 #![tactic(auto)]
 
@@ -34,6 +35,7 @@ use crate::streams::Told;
 use clap::Error;
 use log::filter::{Filter, FilteredLog};
 use log::{Log, error};
+use ns_compact::Folder;
 use ns_events::Output;
 use ns_record_files::RecordFiles;
 use ns_replay::{ReplayFault, replay};
@@ -150,6 +152,22 @@ fn read_filter<R: Env + AllocGlobal>(rt: &R) -> Result<Filter, AllocError> {
     }
 }
 
+// The files of a record's folder. Why they are not opened is logged.
+fn open_record<R: Files<File = File> + AllocGlobal, L: Log>(
+    rt: &R,
+    log: &L,
+    folder: &str,
+    sync: bool,
+) -> Result<RecordFiles, Fault<'static>> {
+    match RecordFiles::open(rt, log, rt.alloc(), folder, sync) {
+        Ok(files) => Ok(files),
+        Err(fault) => {
+            error!(log; "{folder}: {fault}");
+            Err(of_files(fault))
+        }
+    }
+}
+
 // With what a server begins: the record of a folder, if one is given.
 fn begin<R: Files<File = File> + AllocGlobal, L: Log>(
     rt: &R,
@@ -169,13 +187,7 @@ fn begin<R: Files<File = File> + AllocGlobal, L: Log>(
             }
         };
     };
-    let files = match RecordFiles::open(rt, log, alloc, folder, record.sync) {
-        Ok(files) => files,
-        Err(fault) => {
-            error!(log; "{folder}: {fault}");
-            return Err(of_files(fault));
-        }
-    };
+    let files = open_record(rt, log, folder, record.sync)?;
     match Begun::resume(log, alloc, roster, files) {
         Ok(begun) => Ok(begun),
         Err(fault) => {
@@ -205,6 +217,47 @@ where
     let begun = begin(rt, log, &roster, record)?;
     let writer = OverStd::new(WaitingWriter::new(log, io::writer(rt)));
     of_serve(serve(log, rt.alloc(), roster, options, begun, stop, writer))
+}
+
+// Makes a record shorter, and prints how many lines it had and has.
+fn compact<'a, R: Files<File = File> + AllocGlobal + Print, L: Log>(
+    rt: &R,
+    log: &L,
+    path: &'a str,
+    folder: &str,
+) -> Result<(), Fault<'a>> {
+    let roster = read_roster(rt, log, path)?;
+    let alloc = rt.alloc();
+    let files = open_record(rt, log, folder, true)?;
+    let compaction = Folder {
+        rt,
+        log,
+        alloc,
+        path: folder,
+        roster: &roster,
+    };
+    let compacted = compaction.compact(files);
+    let Folder {
+        rt: _,
+        log: _,
+        alloc: _,
+        path: _,
+        roster: _,
+    } = compaction;
+    let done = match compacted {
+        Ok(done) => done,
+        Err(fault) => {
+            error!(log; "{folder}: {fault}");
+            return Err(of_record(fault));
+        }
+    };
+    match println!(rt; "compacted {} {}", done.before, done.after) {
+        Ok(()) => Ok(()),
+        Err(error) => {
+            error!(log; "standard output: {error}");
+            Err(Fault::Io)
+        }
+    }
 }
 
 // The words of the command line, the program's name first.
@@ -294,6 +347,7 @@ where
         Ok(Asked::Serve(path, options, record)) => {
             End::Ran(run_serve(rt, log, path, &options, record, stop))
         }
+        Ok(Asked::Compact(path, folder)) => End::Ran(compact(rt, log, path, folder)),
         Err(bad) => End::Refused(bad),
     }
 }

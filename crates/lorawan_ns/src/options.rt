@@ -5,7 +5,7 @@ ghost use Rattle.ns_joinclient.specs.Request.{host_text};
 ghost use Rattle.clap.specs.Words.{app_of, first_of, found_of, new_app, rows_of, rule_of};
 ghost use Rattle.lorawan_ns.specs.Asked.{HasOptions, HasRecord, IsAddr, IsAddrIfGiven, IsAsked, IsAskedBy, IsFlag, IsNumber, IsNumberIfGiven, IsNumberOrNever, IsOutput, command_of, name_of};
 ghost use Rattle.lorawan_ns.specs.declared.options.BadWords.TheVariants as refusal;
-ghost use Rattle.lorawan_ns.specs.Commands.{IsCommand, address_rules, closing_rule, events_rule, limit_rules, number_rule, option_rule, output_rules, program, record_rules, replay_app, roster_rule, serve_app, status_rule, switch_rule, with_rules, worker_rules};
+ghost use Rattle.lorawan_ns.specs.Commands.{IsCommand, address_rules, closing_rule, compact_app, events_rule, folder_rule, limit_rules, number_rule, option_rule, output_rules, program, record_rules, replay_app, roster_rule, serve_app, status_rule, switch_rule, with_rules, worker_rules};
 ghost use Rattle.lorawan_ns.specs.Refused.{HasNoAddr, HasNoCount, HasNoHost, IsNoOutput, IsNotNever, IsOfClap, IsRefusal, IsRefused, IsRefusedBehind, IsThere};
 ghost use Rattle.lorawan_ns.specs.Status.{IsTold, IsServed, IsDoable};
 
@@ -35,7 +35,8 @@ Standard input: step lines (replay); with --stop-at-end-of-input, serve stops at
 its end.
 Standard output: the lines of their answers (replay), the uplinks (serve), each
 uplink a line or, with --output json, a JSON object on a line; with --closing the
-last line is the roster from which the next run begins.
+last line is the roster from which the next run begins; how many lines a record
+had and has (compact).
 Standard error: log lines, and in the last line why the program ended early.
 
 Status: 0 at a good end; 1 for a roster or a file that could not be read, for
@@ -53,6 +54,8 @@ pub enum Asked<'a> {
     Replay(&'a str, Output, bool),
     /// To serve gateways over the roster of this file.
     Serve(&'a str, ServeOptions<'a>, Recorded<'a>),
+    /// To compact, over the roster of this file, the record of this folder.
+    Compact(&'a str, &'a str),
 }
 
 /// What the calls of a server are put down in.
@@ -179,6 +182,17 @@ fn roster<'a>(alloc: Global) -> Arg<'a>
         .required(true)
         .action(ArgAction::Set)
         .help("The roster's file")
+}
+
+// The folder of a record.
+fn folder<'a>(alloc: Global) -> Arg<'a>
+    ensures rule { rule_of result ≡ folder_rule }
+    ensures here { result.global ≡ false }
+{
+    Arg::new(alloc, "DIR")
+        .required(true)
+        .action(ArgAction::Set)
+        .help("The folder of the record")
 }
 
 // An option with a text.
@@ -402,16 +416,27 @@ fn replay_command<'a>(alloc: Global) -> Result<Command<'a>, AllocError>
     with_output(alloc, replay)?.arg(closing(alloc))
 }
 
+// The command that compacts a record.
+fn compact_command<'a>(alloc: Global) -> Result<Command<'a>, AllocError>
+    ensures { IfOk result (IsCommand compact_app) }
+{
+    let about = "Makes a record shorter that no server runs on; later answers are the same";
+    let compact = command(alloc, "compact", about).arg(roster(alloc))?;
+    compact.arg(folder(alloc))
+}
+
 // The program's commands.
 fn commands<'a>(alloc: Global) -> Result<Command<'a>, AllocError>
     ensures { IfOk result (λ c. app_of c ≡ program) }
 {
     let serve = serve_command(alloc)?;
     let replay = replay_command(alloc)?;
+    let compact = compact_command(alloc)?;
     command(alloc, "lorawan_ns", "A LoRaWAN network server")
         .version(VERSION)
         .subcommand_required(true)
         .subcommand(replay)?
+        .subcommand(compact)?
         .subcommand(serve)
 }
 
@@ -567,6 +592,11 @@ fn read_command<'a>(name: &str, found: &ArgMatches<'a>) -> Result<Asked<'a>, Bad
     } else if name == "replay" {
         let output = output_of(found)?;
         Ok(Asked::Replay(path, output, flag(found, "closing")))
+    } else if name == "compact" {
+        match found.get_str("DIR") {
+            Some(folder) => Ok(Asked::Compact(path, folder)),
+            None => Err(BadWords::NoMemory),
+        }
     } else {
         Err(BadWords::NoMemory)
     }

@@ -95,6 +95,7 @@ fn asked(rt: &HostRuntime, list: &[&str]) -> Result<(char, ExitCode), Fail> {
         Ok(Asked::Replay("roster.json", Output::Lines, false)) => ('R', ExitCode::SUCCESS),
         Ok(Asked::Replay("roster.json", Output::Json, false)) => ('J', ExitCode::SUCCESS),
         Ok(Asked::Replay("roster.json", Output::Lines, true)) => ('C', ExitCode::SUCCESS),
+        Ok(Asked::Compact("roster.json", "dir")) => ('K', ExitCode::SUCCESS),
         Ok(Asked::Serve("roster.json", options, _)) if are_usual(&options) => (
             'U',
             ExitCode::SUCCESS,
@@ -136,6 +137,14 @@ fn words_of_the_command_line(rt: HostRuntime) -> Result<(), Fail> {
         let words = ["lorawan_ns", "replay", "roster.json", "--output", form];
         assert_eq!(rt; asked(&rt, &words)?, wanted);
     }
+    assert_eq!(rt;
+        asked(&rt, &["lorawan_ns", "compact", "roster.json", "dir"])?,
+        ('K', done)
+    );
+    assert_eq!(rt;
+        asked(&rt, &["lorawan_ns", "compact", "roster.json"])?,
+        ('E', bad)
+    );
     assert_eq!(rt; asked(&rt, &["lorawan_ns", "--help"])?, ('T', done));
     assert_eq!(rt;
         asked(&rt, &["lorawan_ns", "replay", "--help"])?,

@@ -6,10 +6,10 @@ use log::{Log, error};
 use ns_types::Failed;
 use std::alloc::Global;
 use std::fs::{File, OpenOptions, TryLockError};
-use std::io;
 use std::io::Write;
-use std::os::unix::fs::OpenOptionsExt;
+use std::os::unix::fs::{FileExt, OpenOptionsExt};
 use std::rt::Files;
+use std::{fs, io};
 use thiserror::Error;
 
 /// Why the files of a record were not opened.
@@ -30,6 +30,8 @@ pub enum FilesFault {
 /// keys.
 #[derive(Drop)]
 pub struct RecordFiles {
+    // The folder is locked, since other steps may take the place of these, and these too.
+    folder: File,
     steps: File,
     ups: File,
     // Whether a step outlives the end of the machine, and not that of the program alone.
@@ -48,6 +50,14 @@ fn told<L: Log, T: Drop>(log: &L, outcome: io::Result<T>) -> Result<T, FilesFaul
     }
 }
 
+// The path of a file of a folder.
+fn path_of(alloc: Global, folder: &str, name: &str) -> Result<String, FilesFault> {
+    match format!(in alloc; "{folder}/{name}") {
+        Ok(path) => Ok(path),
+        Err(_) => Err(FilesFault::NoMemory),
+    }
+}
+
 // Opens a file to be read and to be appended to. It is made where it is not there.
 fn open_file<R: Files<File = File>>(rt: &R, path: &str) -> io::Result<File> {
     let mut how = OpenOptions::new();
@@ -55,9 +65,13 @@ fn open_file<R: Files<File = File>>(rt: &R, path: &str) -> io::Result<File> {
     how.open(rt, path)
 }
 
-// Brings to the disk which files a folder has.
-fn sync_folder<R: Files<File = File>>(rt: &R, path: &str) -> io::Result<()> {
-    File::open(rt, path)?.sync_all()
+// Takes a lock that ends with the program.
+fn lock<L: Log>(log: &L, file: &File) -> Result<(), FilesFault> {
+    match file.try_lock() {
+        Ok(()) => Ok(()),
+        Err(TryLockError::WouldBlock) => Err(FilesFault::InUse),
+        Err(TryLockError::Error(error)) => told(log, Err(error)),
+    }
 }
 
 // Cuts bytes off the end of a file.
@@ -67,6 +81,55 @@ fn cut(file: &File, bytes: u64) -> io::Result<()> {
     }
     let len = file.metadata()?.len();
     file.set_len(len.saturating_sub(bytes))
+}
+
+/// Opens a file of a record's folder, to be read from its beginning.
+pub fn read_again<R: Files<File = File>, L: Log>(
+    rt: &R,
+    log: &L,
+    alloc: Global,
+    folder: &str,
+    name: &str,
+) -> Result<File, FilesFault> {
+    let path = path_of(alloc, folder, name)?;
+    told(log, File::open(rt, path.as_str()))
+}
+
+/// Fewer steps, in the file `steps.new` of a folder, before they take the place of its steps.
+#[derive(Drop)]
+pub struct ShorterSteps {
+    file: File,
+    path: String,
+    steps_path: String,
+}
+
+impl ShorterSteps {
+    /// Makes the file, for its owner alone, without bytes.
+    pub fn create<R: Files<File = File>, L: Log>(
+        rt: &R,
+        log: &L,
+        alloc: Global,
+        folder: &str,
+    ) -> Result<ShorterSteps, FilesFault> {
+        let path = path_of(alloc, folder, "steps.new")?;
+        let mut how = OpenOptions::new();
+        how.write(true).create(true).truncate(true).mode(0o600);
+        Ok(ShorterSteps {
+            file: told(log, how.open(rt, path.as_str()))?,
+            path,
+            steps_path: path_of(alloc, folder, "steps")?,
+        })
+    }
+
+    /// Lends the file, to be written from where it was written last.
+    pub fn file(&self) -> &File {
+        &self.file
+    }
+
+    /// Writes its first bytes anew.
+    pub fn begin_with<L: Log>(&self, log: &L, bytes: &[u8]) -> Result<(), FilesFault> {
+        told(log, self.file.write_all_at(bytes, 0))
+    }
 }
 
 impl RecordFiles {
@@ -79,21 +142,16 @@ impl RecordFiles {
         folder: &str,
         sync: bool,
     ) -> Result<RecordFiles, FilesFault> {
-        let (Ok(steps_path), Ok(ups_path)) = (
-            format!(in alloc; "{folder}/steps"),
-            format!(in alloc; "{folder}/up"),
-        ) else {
-            return Err(FilesFault::NoMemory);
-        };
+        let steps_path = path_of(alloc, folder, "steps")?;
+        let ups_path = path_of(alloc, folder, "up")?;
+        let folder = told(log, File::open(rt, folder))?;
+        lock(log, &folder)?;
         let steps = told(log, open_file(rt, steps_path.as_str()))?;
-        match steps.try_lock() {
-            Ok(()) => {}
-            Err(TryLockError::WouldBlock) => return Err(FilesFault::InUse),
-            Err(TryLockError::Error(error)) => told(log, Err(error))?,
-        }
+        lock(log, &steps)?;
         let ups = told(log, open_file(rt, ups_path.as_str()))?;
-        told(log, sync_folder(rt, folder))?;
+        told(log, folder.sync_all())?;
         Ok(RecordFiles {
+            folder,
             steps,
             ups,
             sync,
@@ -114,6 +172,29 @@ impl RecordFiles {
     /// Why a call of them failed, if one has.
     pub fn failure(&self) -> &Option<io::Error> {
         &self.failure
+    }
+
+    /// Brings both files to the disk, and tells how many bytes the `up` lines have.
+    pub fn sync_all<L: Log>(&self, log: &L) -> Result<u64, FilesFault> {
+        told(log, self.steps.sync_all())?;
+        told(log, self.ups.sync_all())?;
+        Ok(told(log, self.ups.metadata())?.len())
+    }
+
+    /// Puts fewer steps, of this folder, in the place of these: after a crash at any moment the folder has the ones or the others. The lines
+    /// of these are not appended to from then on.
+    pub fn replace<R: Files<File = File>, L: Log>(
+        self,
+        rt: &R,
+        log: &L,
+        shorter: &ShorterSteps,
+    ) -> Result<(), FilesFault> {
+        told(log, shorter.file.sync_all())?;
+        told(
+            log,
+            fs::rename(rt, shorter.path.as_str(), shorter.steps_path.as_str()),
+        )?;
+        told(log, self.folder.sync_all())
     }
 
     // Whether a call of the system was done. Where it was not, why is kept.

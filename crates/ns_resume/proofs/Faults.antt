@@ -20,7 +20,7 @@ use Rattle.ns_record.specs.StepText.{ReadsBack}
 use Rattle.ns_resume.specs.declared.fault.RecordFault.{RecordFault}
 use Rattle.ns_resume.specs.declared.fault.RecordFault.TheVariants.{NoStep, NoFit}
 use Rattle.ns_resume.specs.declared.run.Running.{Running}
-use Rattle.ns_resume.specs.Resumed.{AreResumed, fits, NamesLine}
+use Rattle.ns_resume.specs.Resumed.{AreResumed, fits, NamesLineFrom}
 use Rattle.ns_resume.specs.Private.Running.{HasRun, RunsUpTo}
 use Rattle.ns_resume.specs.Private.Faults.{NamesNoLine, MakesNoCall, DoesNotMatter, RefusesLine}
 
@@ -64,10 +64,10 @@ refused-never net steps line number (NoStep n) is = absurd is
 refused-never net steps line number (NoFit n) is = absurd is
 refused-never net steps line number _ is = tt
 
-pub names-none : (net : Network) (known : Option (List ℕ)) (e : RecordFault) → NamesNoLine e → NamesLine net known e
-names-none net known (NoStep n) is = absurd is
-names-none net known (NoFit n) is = absurd is
-names-none net known _ is = tt
+pub names-none : (net : Network) (start : ℕ) (known : Option (List ℕ)) (e : RecordFault) → NamesNoLine e → NamesLineFrom net start known e
+names-none net start known (NoStep n) is = absurd is
+names-none net start known (NoFit n) is = absurd is
+names-none net start known _ is = tt
 
 -- the line stands behind the others in what a source has
 stands : (first now next : Option (List ℕ)) (lines line : List ℕ) → Consumes first now lines → Consumes now next line → IfSome first (λ text. (rest : List ℕ) × (text ≡ lines ++ (line ++ rest)))
@@ -76,15 +76,15 @@ stands (Some xs) None next lines line read more = absurd read
 stands (Some xs) (Some ys) None lines line read more = absurd more
 stands (Some xs) (Some ys) (Some zs) lines line read more = (zs, read ∙ ap (λ l. lines ++ l) more)
 
-pub names-line : (net : Network) (number : ℕ) (first now next ups_first ups_now : Option (List ℕ)) (run : Running) (line : List ℕ) (e : RecordFault)
-    → RunsUpTo net number first now ups_first ups_now run → Consumes now next (ended line)
-    → ((n : Network) (steps : List Step) (read : List ℕ) → HasRun n steps read run → RefusesLine n steps line number e) → NamesLine net first e
-names-line net number first now next ups_first ups_now run line e up_to more refuses = by e (refuses net up_to.steps up_to.read up_to.has_run)
+pub names-line : (net : Network) (start before number : ℕ) (first now next ups_first ups_now : Option (List ℕ)) (run : Running) (line : List ℕ) (e : RecordFault)
+    → RunsUpTo net start before number first now ups_first ups_now run → Consumes now next (ended line)
+    → ((n : Network) (b : ℕ) (steps : List Step) (read : List ℕ) → HasRun n b steps read run → RefusesLine n steps line number e) → NamesLineFrom net start first e
+names-line net start before number first now next ups_first ups_now run line e up_to more refuses = by e (refuses net before up_to.steps up_to.read up_to.has_run)
   where
     begins : IfSome first (λ text. (rest : List ℕ) × (text ≡ flat_map ended up_to.lines ++ (ended line ++ rest)))
     begins = stands first now next (flat_map ended up_to.lines) (ended line) up_to.consumed more
 
-    by : (f : RecordFault) → RefusesLine net up_to.steps line number f → NamesLine net first f
+    by : (f : RecordFault) → RefusesLine net up_to.steps line number f → NamesLineFrom net start first f
     by (NoStep n) is = record { lines = up_to.lines; line = line; begins = begins; steps = up_to.steps; are_steps = up_to.are_steps; fit = up_to.has_run.fit; numbered = up_to.numbered ∙ sym is.0; refused = is.1 }
     by (NoFit n) is = record { lines = up_to.lines; line = line; begins = begins; steps = up_to.steps; are_steps = up_to.are_steps; fit = up_to.has_run.fit; numbered = up_to.numbered ∙ sym is.0; refused = is.1 }
     by _ is = tt

@@ -1,9 +1,9 @@
 -- The shards after one step more, and what came of it.
-use Rattle.std.proofs.Common.{◌≡◌, ℕ, ◌<◌, zero, suc, true, Ok, List, [], ◌∷◌, ◌++◌, length, slice_get, slice_set, cond, Some, refl, sym, ap, ◌∙◌, subst, arith, eqb, eq-eqb, inl, inr, append-nil, append_assoc}
+use Rattle.std.proofs.Common.{◌≡◌, ℕ, ◌<◌, ◌≤◌, drop, zero, suc, true, Ok, List, [], ◌∷◌, ◌++◌, length, slice_get, slice_set, cond, Some, refl, sym, ap, ◌∙◌, subst, arith, eqb, eq-eqb, inl, inr, append-nil, append_assoc}
 use Rattle.std.specs.Prelude.{flat_map}
 use Rattle.std.specs.List.{AllByRecursion}
 use Rattle.std.proofs.lemmas.Bool.Decides.{eqb_tells}
-use Rattle.std.proofs.lemmas.List.{length-set}
+use Rattle.std.proofs.lemmas.List.{length-set, drop-append-le, drop_all}
 use Rattle.std.proofs.lemmas.Option.{slice_get_within}
 use Rattle.ns_roster.specs.Network.{Network}
 use Rattle.ns_calls.specs.declared.call.Call.{Call}
@@ -25,8 +25,8 @@ use Rattle.ns_shard.specs.Steps.{shard_history, all_taken, step_taken, call_take
 use Rattle.ns_shard.proofs.Entries.{keeps-more, answer-is}
 use Rattle.ns_shard.proofs.RunSteps.{one_call, shard_history-other, shard_history-own}
 use Rattle.ns_shard.proofs.RunHistories.{shard_history-is}
-use Rattle.ns_resume.specs.Resumed.{IsResumedAt, AreResumed, fits, AllFit, up_of, ups_of}
-use Rattle.ns_resume.specs.Private.Running.{AreInPlace, MayBeTrimmed, HasAnswered}
+use Rattle.ns_resume.specs.Resumed.{IsResumedAt, AreResumed, MayBeTrimmed, fits, AllFit, up_of, ups_since}
+use Rattle.ns_resume.specs.Private.Running.{AreInPlace, HasAnswered}
 
 -- ---- shards in place
 
@@ -142,7 +142,22 @@ fit-push net steps step shard number a all made fit =
     subst (AllByRecursion (λ t. fits t ≡ true)) (sym (all_taken-push net [] steps step))
     (All-push (λ t. fits t ≡ true) (all_taken net [] steps) (step_taken net steps step) all (ap fits made ∙ fit))
 
-pub ups-push : (net : Network) (steps : List Step) (step : Step) (shard number : ℕ) (a : Answer) → step_taken net steps step ≡ Made shard number a → ups_of net (steps ++ step ∷ []) ≡ ups_of net steps ++ up_of (Made shard number a)
-ups-push net steps step shard number a made =
-    ap (flat_map up_of) (all_taken-push net [] steps step) ∙ (flat_map-push up_of (all_taken net [] steps) (step_taken net steps step)
-    ∙ ap (λ t. ups_of net steps ++ up_of t) made)
+-- as many things come of steps as there are
+pub length-taken : (net : Network) (before steps : List Step) → length (all_taken net before steps) ≡ length steps
+length-taken net before [] = refl
+length-taken net before (s ∷ steps) = ap suc (length-taken net (before ++ s ∷ []) steps)
+
+-- the `up` line of one step more, where it is not one of the first ones, which imply none
+pub ups-push : (net : Network) (before : ℕ) (steps : List Step) (step : Step) (shard number : ℕ) (a : Answer) → before ≤ length steps → step_taken net steps step ≡ Made shard number a
+    → ups_since net before (steps ++ step ∷ []) ≡ ups_since net before steps ++ up_of (Made shard number a)
+ups-push net before steps step shard number a within made =
+    let long : length (all_taken net [] steps) ≡ length steps = length-taken net [] steps in
+    ap (λ ts. flat_map up_of (drop before ts)) (all_taken-push net [] steps step)
+    ∙ (ap (flat_map up_of) (drop-append-le before (all_taken net [] steps) (step_taken net steps step ∷ []) (omega (arith, long, within)))
+    ∙ (flat_map-push up_of (drop before (all_taken net [] steps)) (step_taken net steps step)
+    ∙ ap (λ t. ups_since net before steps ++ up_of t) made))
+
+pub ups-first : (net : Network) (before : ℕ) (steps : List Step) → length steps ≤ before → ups_since net before steps ≡ []
+ups-first net before steps within =
+    let long : length (all_taken net [] steps) ≡ length steps = length-taken net [] steps in
+    ap (flat_map up_of) (drop_all before (all_taken net [] steps) (omega (arith, long, within)))

@@ -1,2 +1,3 @@
+pub mod Base
 pub mod Resumed
 pub mod Private

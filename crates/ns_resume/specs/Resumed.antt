@@ -1,7 +1,8 @@
 -- What a record leaves: the shards after the steps of its whole lines, and the `up` lines that go on from those that are there.
-use Rattle.std.specs.Prelude.{◌≡◌, ℕ, ◌+◌, ◌≤◌, Bool, false, true, List, [], ◌++◌, length, map, flat_map, count_by, slice_get, Option, None, Some, IfSome}
+use Rattle.std.specs.Prelude.{◌≡◌, ◌⊎◌, ℕ, ◌+◌, ◌≤◌, Bool, false, true, List, [], ◌++◌, length, map, flat_map, count_by, slice_get, drop, Option, None, Some, IfSome}
 use Rattle.std.specs.List.{AllByRecursion, list_any}
 use Rattle.std.specs.Option.{option_map_or}
+use Rattle.std.specs.Io.KnownBytes.{Consumes}
 use Rattle.ns_types.specs.Identity.{shard_count, same_window}
 use Rattle.ns_types.specs.declared.identity.WindowName.{WindowName}
 use Rattle.ns_types.specs.declared.ticket.Ticket.{Ticket}
@@ -14,13 +15,15 @@ use Rattle.ns_shard.specs.declared.step.Act.{Act}
 use Rattle.ns_shard.specs.declared.step.Step.{Step}
 use Rattle.ns_shard.specs.declared.run.Taken.{Taken}
 use Rattle.ns_shard.specs.declared.run.Taken.TheVariants.{Link, View, Made}
-use Rattle.ns_shard.specs.State.{State, Keeps, seen, open_tickets_in}
+use Rattle.ns_shard.specs.State.{State, Keeps, seen, open_tickets_in, after_trim}
 use Rattle.ns_shard.specs.Steps.{shard_history, step_taken, all_taken}
 use Rattle.ns_replay.specs.StepLines.{step}
 use Rattle.ns_replay.specs.Output.{ended, step_of}
 use Rattle.ns_resume.specs.declared.fault.RecordFault.{RecordFault}
 use Rattle.ns_resume.specs.declared.fault.RecordFault.TheVariants.{NoStep, NoFit}
 use Rattle.ns_resume.specs.declared.run.Resumed.{Resumed}
+use Rattle.ns_resume.specs.declared.base.Base.{Base}
+use Rattle.ns_resume.specs.Base.{head_text, first_number, lines_before, ups_before}
 
 -- the text is all that a source has, where that tells it
 abbrev pub IsAllOf : Option (List ℕ) → List ℕ → Type 0
@@ -41,6 +44,10 @@ pub record IsResumedAt (net : Network) (steps : List Step) (shard : ℕ) (s : St
   pub roster : s.roster ≡ net
   pub index : s.index ≡ shard
   pub keeps : Keeps (shard_history net shard steps) s
+
+-- the shard is as it was, or was trimmed
+abbrev pub MayBeTrimmed : State → State → Type 0
+MayBeTrimmed old new = (new ≡ old) ⊎ (new ≡ after_trim old)
 
 -- the sixteen shards are what a run of these steps leaves, trimmed or not
 pub record AreResumed (net : Network) (steps : List Step) (shards : List State) : Type 0 where
@@ -63,9 +70,9 @@ up_of (Link fault) = []
 up_of (View fault) = []
 up_of (Made shard number answer) = option_map_or (λ u. ended (up_text u)) answer.uplink []
 
--- the `up` lines of a run of steps
-abbrev pub ups_of : Network → List Step → List ℕ
-ups_of net steps = flat_map up_of (all_taken net [] steps)
+-- the `up` lines of a run of steps, but those of so many first ones
+abbrev pub ups_since : Network → ℕ → List Step → List ℕ
+ups_since net before steps = flat_map up_of (drop before (all_taken net [] steps))
 
 -- What is there of these `up` lines ends with so many bytes of a torn one, with which the missing lines begin.
 pub record AreUps (there ups missing : List ℕ) (torn : ℕ) : Type 0 where
@@ -77,17 +84,30 @@ pub record AreUps (there ups missing : List ℕ) (torn : ℕ) : Type 0 where
   pub begins : missing ≡ rest ++ more
   pub bytes : length rest ≡ torn
 
--- The record of this text, beside this text of `up` lines, leaves these shards, and these `up` lines are missing.
-pub record IsResumed (net : Network) (text there : List ℕ) (r : Resumed) : Type 0 where
+-- The step lines of this text leave these shards, and beside this text of `up` lines these are missing, where so many first lines imply none.
+pub record HasRunAll (net : Network) (before : ℕ) (text there : List ℕ) (r : Resumed) : Type 0 where
   pub lines : List (List ℕ)
   pub torn : List ℕ
   pub cut : IsCut text lines torn
   pub torn_bytes : r.torn ≡ length torn
+  pub enough : before ≤ length lines
   pub steps : List Step
   pub are_steps : AreStepsOf lines steps
   pub fit : AllFit net steps
   pub shards : AreResumed net steps r.shards.items
-  pub ups : AreUps there (ups_of net steps) r.missing.items r.up_torn
+  pub ups : AreUps there (ups_since net before steps) r.missing.items r.up_torn
+
+-- The record of this text, beside this text of `up` lines, leaves these shards, and these `up` lines are missing. Where it has a base, its
+-- first line tells it, and the `up` lines of the lines that it tells of are so many first bytes there.
+pub record IsResumed (net : Network) (text there : List ℕ) (r : Resumed) : Type 0 where
+  pub base : Option Base
+  pub lines : List ℕ
+  pub is_text : text ≡ head_text base ++ lines
+  pub earlier : List ℕ
+  pub later : List ℕ
+  pub are_there : there ≡ earlier ++ later
+  pub earlier_bytes : length earlier ≡ ups_before base
+  pub run : HasRunAll net (lines_before base) lines later r
 
 -- ---- what is open
 
@@ -108,15 +128,16 @@ pub record AreOpenIn (shards : List State) (windows : List WindowName) (tickets 
 
 -- ---- why a run ends early
 
--- The steps of these lines, with which the text begins, fit, and the line behind them has this number and is refused so.
-pub record StopsAt (net : Network) (known : Option (List ℕ)) (number : ℕ) (IsRefused : List Step → List ℕ → Type 0) : Type 0 where
+-- The steps of these lines, with which the text begins, fit, and the line behind them has this number and is refused so, where the first
+-- line has that number.
+pub record StopsAt (net : Network) (first : ℕ) (known : Option (List ℕ)) (number : ℕ) (IsRefused : List Step → List ℕ → Type 0) : Type 0 where
   pub lines : List (List ℕ)
   pub line : List ℕ
   pub begins : IfSome known (λ text. (rest : List ℕ) × (text ≡ flat_map ended lines ++ (ended line ++ rest)))
   pub steps : List Step
   pub are_steps : AreStepsOf lines steps
   pub fit : AllFit net steps
-  pub numbered : length lines + 1 ≡ number
+  pub numbered : length lines + first ≡ number
   pub refused : IsRefused steps line
 
 -- the line is no step line
@@ -127,8 +148,12 @@ IsNoStep steps line = step line ≡ None
 abbrev pub DoesNotFit : Network → List Step → List ℕ → Type 0
 DoesNotFit net steps line = (act : Act) × (step line ≡ Some act) × (fits (step_taken net steps (step_of act)) ≡ false)
 
--- the fault names the first line that is refused
+-- the fault names the first line that is refused, where the first line has this number
+abbrev pub NamesLineFrom : Network → ℕ → Option (List ℕ) → RecordFault → Type 0
+NamesLineFrom net first known (NoStep n) = StopsAt net first known n IsNoStep
+NamesLineFrom net first known (NoFit n) = StopsAt net first known n (DoesNotFit net)
+NamesLineFrom net first known _ = Unit {0}
+
+-- the fault names the first step line that is refused, behind the line that tells the base
 abbrev pub NamesLine : Network → Option (List ℕ) → RecordFault → Type 0
-NamesLine net known (NoStep n) = StopsAt net known n IsNoStep
-NamesLine net known (NoFit n) = StopsAt net known n (DoesNotFit net)
-NamesLine net known _ = Unit {0}
+NamesLine net known e = (base : Option Base) × (rest : Option (List ℕ)) × Consumes known rest (head_text base) × NamesLineFrom net (first_number base) rest e

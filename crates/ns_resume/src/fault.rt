@@ -7,7 +7,7 @@ use std::alloc::AllocError;
 use std::io;
 use thiserror::Error;
 
-/// Why a record was not run to its end. Lines are numbered from 1.
+/// Why a record was not run to its end, or not compacted. Lines are numbered from 1.
 #[derive(Clone, Copy, Debug, PartialEq, Eq, Error)]
 pub enum RecordFault {
     /// A growth was refused.
@@ -29,6 +29,15 @@ pub enum RecordFault {
     /// There are more `up` lines than the record implies, which are so many.
     #[error("record: more than the {0} up lines of this record")]
     UpLonger(u64),
+    /// The first line begins as a base, and is none, or tells of more lines than there are.
+    #[error("record: line 1 is not the base of this record")]
+    BadBase,
+    /// The `up` lines do not begin with whole lines of so many bytes, of which the base tells.
+    #[error("record: up does not begin with the {0} bytes of the base")]
+    UpShorter(u64),
+    /// After fewer lines of it some later answer may be another: the record stays as it is.
+    #[error("record: fewer lines do not serve as well")]
+    NotAsWell,
     /// There are 2^64 - 2 lines and more.
     #[error("record: too many lines")]
     TooMany,

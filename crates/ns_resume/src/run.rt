@@ -1,15 +1,17 @@
 //! A run of the step lines of a record.
 
-ghost use Rattle.std.specs.Prelude.{◌≡◌, ℕ, List, length, IfOk, IfErr, OnOk};
+ghost use Rattle.std.specs.Prelude.{◌≡◌, ℕ, nat_le, List, length, IfOk, IfErr, OnOk};
 ghost use Rattle.std.specs.Arc.{arc_value};
 ghost use Rattle.ns_types.specs.Identity.{shard_count};
 ghost use Rattle.ns_roster.specs.Network.{Network};
 ghost use Rattle.ns_shard.specs.declared.step.Step.{Step};
 ghost use Rattle.ns_record.specs.StepText.{ReadsBack};
-ghost use Rattle.ns_resume.specs.Resumed.{IsAllOf, IsResumed, AreOpenIn, NamesLine, windows_in, tickets_in};
-ghost use Rattle.ns_resume.specs.Private.Running.{AreInPlace, MayBeTrimmed, HasAnswered, HasRun, RunsOn};
+ghost use Rattle.ns_resume.specs.Base.{first_number, lines_before};
+ghost use Rattle.ns_resume.specs.Resumed.{IsAllOf, MayBeTrimmed, HasRunAll, IsResumed, AreOpenIn, NamesLine, NamesLineFrom, windows_in, tickets_in};
+ghost use Rattle.ns_resume.specs.Private.Running.{AreInPlace, HasAnswered, HasRun, RunsOn};
 ghost use Rattle.ns_resume.specs.Private.Faults.{MakesNoCall, DoesNotMatter, RefusesLine};
 
+use crate::base::{Base, first_number, lines_before, read_base, skip_ups, ups_before};
 use crate::fault::RecordFault;
 use crate::line::read_line;
 use crate::open::{Open, open_in};
@@ -24,9 +26,9 @@ use std::alloc::{AllocError, Global};
 use std::io::BufRead;
 use std::sync::Arc;
 
-// A shard is trimmed once it holds twice what its last trim left, and so many entries: so trims take a part of the time that does not
-// grow with the devices.
-const TRIM_FROM: usize = 8_192;
+/// A shard is trimmed once it holds twice what its last trim left, and so many entries: so trims take a part of the time that does not
+/// grow with the devices.
+pub const TRIM_FROM: usize = 8_192;
 
 /// What a record leaves.
 #[derive(Drop)]
@@ -69,8 +71,8 @@ fn call_in(alloc: Global, number: u64, line: &[u8]) -> Result<Call, RecordFault>
     }
 }
 
-// Trims a shard that holds `most` entries. Where that is refused it stays as it is.
-fn trim_if_due(alloc: Global, shard: &mut Shard, most: &mut usize)
+/// Trims a shard that holds `most` entries. Where that is refused it stays as it is.
+pub fn trim_if_due(alloc: Global, shard: &mut Shard, most: &mut usize)
     ensures { MayBeTrimmed shard.old shard.new }
 {
     if shard.entries().len() < *most {
@@ -99,23 +101,27 @@ impl Running {
         Ok(answer)
     }
 
-    // Runs the line of this number.
+    // Runs the line of this number. Its `up` line is implied where it is new.
     fn run_line<U: BufRead>(
         &mut self,
         alloc: Global,
         number: u64,
         line: &[u8],
+        is_new: bool,
         ups: &mut U,
     ) -> Result<(), RecordFault>
         requires sixteen { length self.old.shards.items ≡ shard_count }
         requires in_place { AreInPlace self.old.shards.items }
-        ensures run { OnOk result ((net : Network) (steps : List Step) (read : List ℕ) → HasRun net steps read self.old
-            → RunsOn (U.remaining ups.old) (U.remaining ups.new) net steps line.now read self.new) }
-        ensures fault { IfErr result (λ e. (net : Network) (steps : List Step) (read : List ℕ) → HasRun net steps read self.old
+        ensures run { OnOk result ((net : Network) (before : ℕ) (steps : List Step) (read : List ℕ) → HasRun net before steps read self.old
+            → is_new ≡ nat_le before (length steps) → RunsOn (U.remaining ups.old) (U.remaining ups.new) net before steps line.now read self.new) }
+        ensures fault { IfErr result (λ e. (net : Network) (before : ℕ) (steps : List Step) (read : List ℕ) → HasRun net before steps read self.old
             → RefusesLine net steps line.now number e) }
     {
         let call = call_in(alloc, number, line)?;
         let answer = self.answer(alloc, number, call)?;
+        if !is_new {
+            return Ok(());
+        }
         match &answer.uplink {
             Some(uplink) => self.ups.implied(ups, up_line(uplink).as_str().as_bytes()),
             None => Ok(()),
@@ -148,9 +154,48 @@ impl Running {
     }
 }
 
+// Runs the whole lines behind the first one of a record that has a base, and all lines of another.
+fn run_lines<S: BufRead, U: BufRead>(
+    alloc: Global,
+    roster: Arc<Roster>,
+    base: &Option<Base>,
+    steps: &mut S,
+    ups: &mut U,
+) -> Result<Resumed, RecordFault>
+    ensures resumed { IfOk result (λ r. (text : List ℕ) × (there : List ℕ)
+        × IsAllOf (S.remaining steps.old) text × IsAllOf (U.remaining ups.old) there
+        × HasRunAll (arc_value roster) (lines_before base.now) text there r) }
+    ensures open { IfOk result (λ r. AreOpenIn r.shards.items r.windows.items r.tickets.items) }
+    ensures fault { IfErr result (NamesLineFrom (arc_value roster) (first_number base.now) (S.remaining steps.old)) }
+{
+    // A roster that is read is valid: the laws of histories rest on that.
+    let _net_id = roster.net_id();
+    let first = first_number(base);
+    let before = lines_before(base);
+    let mut running = Running {
+        shards: new_shards(alloc, roster)?,
+        most: [TRIM_FROM; 16],
+        ups: Ups::new(alloc),
+    };
+    let mut line = Vec::new(alloc);
+    'lines: for number in first..u64::MAX {
+        let is_new = number - first >= before;
+        if !read_line(steps, &mut line)? {
+            if !is_new {
+                return Err(RecordFault::BadBase);
+            }
+            running.ups.finish(ups)?;
+            return Ok(running.end(alloc, line.len())?);
+        }
+        running.run_line(alloc, number, line.as_slice(), is_new, ups)?;
+    }
+    Err(RecordFault::TooMany)
+}
+
 /// Runs the whole lines of a record at shards without entries, and holds the `up` lines that are there against those that go out, as
 /// far as they reach. Each line is a step line of `replay`, and its reply is one on which later answers rest; a torn last line is told,
-/// and is not run. It reads both sources to their ends, line by line, and writes nothing.
+/// and is not run. Where the first line tells a base, the `up` lines of the lines that it tells of are the first bytes there, and are held
+/// against none. It reads both sources to their ends, line by line, and writes nothing.
 pub fn run_record<S: BufRead, U: BufRead>(
     alloc: Global,
     roster: Arc<Roster>,
@@ -163,20 +208,7 @@ pub fn run_record<S: BufRead, U: BufRead>(
     ensures open { IfOk result (λ r. AreOpenIn r.shards.items r.windows.items r.tickets.items) }
     ensures fault { IfErr result (NamesLine (arc_value roster) (S.remaining steps.old)) }
 {
-    // A roster that is read is valid: the laws of histories rest on that.
-    let _net_id = roster.net_id();
-    let mut running = Running {
-        shards: new_shards(alloc, roster)?,
-        most: [TRIM_FROM; 16],
-        ups: Ups::new(alloc),
-    };
-    let mut line = Vec::new(alloc);
-    'lines: for number in 1..u64::MAX {
-        if !read_line(steps, &mut line)? {
-            running.ups.finish(ups)?;
-            return Ok(running.end(alloc, line.len())?);
-        }
-        running.run_line(alloc, number, line.as_slice(), ups)?;
-    }
-    Err(RecordFault::TooMany)
+    let base = read_base(alloc, steps)?;
+    skip_ups(alloc, ups, ups_before(&base))?;
+    run_lines(alloc, roster, &base, steps, ups)
 }

@@ -1,5 +1,5 @@
 -- A run of lines so far.
-use Rattle.std.specs.Prelude.{◌≡◌, ◌⊎◌, ℕ, ◌+◌, false, true, List, [], ◌∷◌, ◌++◌, length, flat_map, slice_get, slice_set, Option, Some}
+use Rattle.std.specs.Prelude.{◌≡◌, ℕ, ◌+◌, false, true, List, [], ◌∷◌, ◌++◌, length, flat_map, slice_get, slice_set, Option, Some}
 use Rattle.std.specs.List.{AllByRecursion}
 use Rattle.std.specs.Io.KnownBytes.{Consumes}
 use Rattle.ns_roster.specs.Network.{Network}
@@ -9,19 +9,15 @@ use Rattle.ns_calls.specs.Shards.{shard_of_call}
 use Rattle.ns_calls.specs.Text.{has_line_feed}
 use Rattle.ns_recorded.specs.Recorded.{matters}
 use Rattle.ns_shard.specs.declared.step.Step.{Step}
-use Rattle.ns_shard.specs.State.{State, answer_in, after_call, after_trim}
+use Rattle.ns_shard.specs.State.{State, answer_in, after_call}
 use Rattle.ns_replay.specs.StepLines as lines
 use Rattle.ns_replay.specs.Output.{ended}
-use Rattle.ns_resume.specs.Resumed.{AreStepsOf, AreResumed, AllFit, AreUps, ups_of}
+use Rattle.ns_resume.specs.Resumed.{AreStepsOf, AreResumed, AllFit, AreUps, MayBeTrimmed, ups_since}
 use Rattle.ns_resume.specs.declared.run.Running.{Running}
 
 -- each shard stands at its number
 abbrev pub AreInPlace : List State → Type 0
 AreInPlace shards = (shard : ℕ) (s : State) → slice_get shards shard ≡ Some s → s.index ≡ shard
-
--- the shard is as it was, or was trimmed
-abbrev pub MayBeTrimmed : State → State → Type 0
-MayBeTrimmed old new = (new ≡ old) ⊎ (new ≡ after_trim old)
 
 -- the call was made at its shard, which may have been trimmed then, and this is its answer, on which later answers rest
 pub record HasAnswered (old new : List State) (c : Call) (a : Answer) : Type 0 where
@@ -33,28 +29,29 @@ pub record HasAnswered (old new : List State) (c : Call) (a : Answer) : Type 0 w
   pub trimmed : MayBeTrimmed (after_call before c) after
   pub shards : new ≡ slice_set old (shard_of_call c) after
 
--- the run of these steps so far, where so much of the `up` lines was read
-pub record HasRun (net : Network) (steps : List Step) (read : List ℕ) (r : Running) : Type 0 where
+-- the run of these steps so far, where so much of the `up` lines was read, and so many first steps imply none
+pub record HasRun (net : Network) (before : ℕ) (steps : List Step) (read : List ℕ) (r : Running) : Type 0 where
   pub shards : AreResumed net steps r.shards.items
   pub fit : AllFit net steps
-  pub ups : AreUps read (ups_of net steps) r.ups.missing.items r.ups.torn
+  pub ups : AreUps read (ups_since net before steps) r.ups.missing.items r.ups.torn
 
 -- One step more, that of this line, was run, and some bytes of the `up` lines were read.
-pub record RunsOn (old new : Option (List ℕ)) (net : Network) (steps : List Step) (line read : List ℕ) (r : Running) : Type 0 where
+pub record RunsOn (old new : Option (List ℕ)) (net : Network) (before : ℕ) (steps : List Step) (line read : List ℕ) (r : Running) : Type 0 where
   pub step : Step
   pub is_step : lines.step line ≡ Some step.act
   pub bytes : List ℕ
   pub consumed : Consumes old new bytes
-  pub has_run : HasRun net (steps ++ step ∷ []) (read ++ bytes) r
+  pub has_run : HasRun net before (steps ++ step ∷ []) (read ++ bytes) r
 
--- All lines before the one of this number were run, from where the steps and the `up` lines began to where they are now.
-pub record RunsUpTo (net : Network) (number : ℕ) (first now ups_first ups_now : Option (List ℕ)) (r : Running) : Type 0 where
+-- All lines before the one of this number were run, from where the steps and the `up` lines began to where they are now. The first line
+-- has that number, and so many lines imply no `up` line.
+pub record RunsUpTo (net : Network) (first_number before number : ℕ) (first now ups_first ups_now : Option (List ℕ)) (r : Running) : Type 0 where
   pub lines : List (List ℕ)
-  pub numbered : length lines + 1 ≡ number
+  pub numbered : length lines + first_number ≡ number
   pub whole : AllByRecursion (λ line. has_line_feed line ≡ false) lines
   pub consumed : Consumes first now (flat_map ended lines)
   pub steps : List Step
   pub are_steps : AreStepsOf lines steps
   pub read : List ℕ
   pub ups_consumed : Consumes ups_first ups_now read
-  pub has_run : HasRun net steps read r
+  pub has_run : HasRun net before steps read r

@@ -9,4 +9,5 @@ unfolding program
 returns c =
     let start : IsCommand named_app c.subcommand_required.result = (search rules, search rules) in
     let first = IsCommand-subcommand _ _ _ _ _ start c.in_ok-replay.ensures c.in_ok-subcommand.ensures in
-    IfOk-weaker c.subcommand-2.result _ _ (λ new added. (IsCommand-subcommand _ _ _ _ new first c.in_ok-serve.ensures added).0) c.subcommand-2.ensures
+    let second = IsCommand-subcommand _ _ _ _ _ first c.in_ok-compact.ensures c.in_ok-subcommand-2.ensures in
+    IfOk-weaker c.subcommand-3.result _ _ (λ new added. (IsCommand-subcommand _ _ _ _ new second c.in_ok-serve.ensures added).0) c.subcommand-3.ensures

@@ -8,10 +8,23 @@ use Rattle.lorawan_ns.proofs.options.read_command.Goals as goal
 pub returns-in_default-clause-refused : goal.returns-in_default-clause-refused
 returns-in_default-clause-refused c = inl (sym (first_value-rows (found_of c.args.found.now) (codes "ROSTER")) ∙ sym c.in_default.ensures)
 
-pub returns-else-eq-2-clause-refused : goal.returns-else-eq-2-clause-refused
-returns-else-eq-2-clause-refused c = inr (
-  (λ is. let bad : false ≡ true = c.if-eq.ensures ∙ (bytes_eq-Decides c.args.name.now (codes "serve")).1 is in cc),
-  (λ is. let bad : false ≡ true = c.if-eq-2.ensures ∙ (bytes_eq-Decides c.args.name.now (codes "replay")).1 is in cc),
+pub returns-else-eq-3-clause-refused : goal.returns-else-eq-3-clause-refused
+returns-else-eq-3-clause-refused c = inr (inr (λ named. elim named [
+  | inl is ↦ (let bad : false ≡ true = c.if-eq.ensures ∙ (bytes_eq-Decides c.args.name.now (codes "serve")).1 is in cc)
+  | inr (inl is) ↦ (let bad : false ≡ true = c.if-eq-2.ensures ∙ (bytes_eq-Decides c.args.name.now (codes "replay")).1 is in cc)
+  | inr (inr is) ↦ (let bad : false ≡ true = c.if-eq-3.ensures ∙ (bytes_eq-Decides c.args.name.now (codes "compact")).1 is in cc)
+]))
+
+pub returns-in-None-clause-refused : goal.returns-in-None-clause-refused
+returns-in-None-clause-refused c = inr (inl (
+  (bytes_eq-Decides c.args.name.now (codes "compact")).0 (sym c.if-eq-3.ensures),
+  sym (first_value-rows (found_of c.args.found.now) (codes "DIR")) ∙ sym c.in-None.ensures,
+))
+
+pub returns-in-Some-clause-asked : goal.returns-in-Some-clause-asked
+returns-in-Some-clause-asked c = (
+  (bytes_eq-Decides c.args.name.now (codes "compact")).0 (sym c.if-eq-3.ensures),
+  (first_of-got (found_of c.args.found.now) (codes "ROSTER") c.in-Some.path.now (sym c.in-Some.ensures), first_of-got (found_of c.args.found.now) (codes "DIR") c.in-Some-2.folder.now (sym c.in-Some-2.ensures)),
 )
 
 pub returns-in_ok-record_options-clause-asked : goal.returns-in_ok-record_options-clause-asked

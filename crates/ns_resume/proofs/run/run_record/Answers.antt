@@ -1,53 +1,37 @@
-use Rattle.std.proofs.Common.{ℕ, List, [], ◌∷◌, ◌++◌, Option, sym, ap, ◌∙◌, subst, arith}
+use Rattle.std.proofs.Common.{ℕ, List, ◌++◌, Option, None, Result, Ok, Err, refl, ◌∙◌}
+use Rattle.std.specs.Prelude.{IfOk}
 use Rattle.std.specs.Arc.{arc_value}
-use Rattle.std.specs.Io.KnownBytes.{Consumes}
-use Rattle.ns_calls.specs.Text.{has_line_feed}
+use Rattle.ns_roster.specs.Network.{Network}
+use Rattle.ns_resume.specs.declared.base.Base.{Base}
 use Rattle.ns_resume.specs.declared.fault.RecordFault.{RecordFault}
-use Rattle.ns_shard.specs.State.{State}
-use Rattle.ns_roster.specs.Valid.{IsRoster}
-use Rattle.ns_resume.specs.Resumed.{AreOpenIn, NamesLine}
-use Rattle.ns_resume.specs.Private.Lines.{feed_of}
-use Rattle.ns_resume.proofs.Steps.{in_place}
-use Rattle.ns_resume.proofs.Runs.{up-to-none, up-to-more, up-to-end}
-use Rattle.ns_resume.proofs.OpenIn.{open-in}
-use Rattle.ns_resume.proofs.Faults.{from_err, names-line}
+use Rattle.ns_resume.specs.Base.{head_text}
+use Rattle.ns_resume.specs.Resumed.{NamesLine}
+use Rattle.ns_resume.proofs.Lines.{known-then}
+use Rattle.ns_resume.proofs.UpLines.{consumes-none}
+use Rattle.ns_resume.proofs.Faults.{from_err, names-none}
 use Rattle.ns_resume.proofs.run.run_record.Goals as goal
 
-pub lines-init : goal.lines-init
-lines-init g c = up-to-none (arc_value c.args.roster) (g.S.Read.remaining c.args.steps.now) (g.U.Read.remaining c.args.ups.now) _ c.in_ok-new_shards.ensures c.new.ensures.missing c.new.ensures.torn
+if_ok : {A E : Type 0} {P Q : A → Type 0} (r : Result A E) → ((a : A) → P a → Q a) → IfOk r P → IfOk r Q
+if_ok (Ok a) f p = f a p
+if_ok (Err e) f p = p
 
-pub run_line-requires-clause-in_place : goal.run_line-requires-clause-in_place
-run_line-requires-clause-in_place g c = in_place (arc_value c.args.roster) c.lines.invariant.steps c.lines.running.shards.items c.lines.invariant.has_run.shards
+pub returns-in_err-base-clause-fault : goal.returns-in_err-base-clause-fault
+returns-in_err-base-clause-fault g c =
+    let net : Network = arc_value c.args.roster in
+    let known : Option (List ℕ) = g.S.Read.remaining c.args.steps.now in
+    let e : RecordFault = c.in_err-base.field-0.0 in
+    from_err c.from_residual.result (NamesLine net known) e (None, known, consumes-none known, names-none net 1 known e c.in_err-base.ensures.fault) c.from_residual.ensures.1
 
-pub returns-then-not-branch-clause-resumed : goal.returns-then-not-branch-clause-resumed
-returns-then-not-branch-clause-resumed g c =
-    up-to-end (arc_value c.args.roster) c.lines.number (g.S.Read.remaining c.args.steps.now) (g.S.Read.remaining c.lines.steps) (g.U.Read.remaining c.args.ups.now) (g.U.Read.remaining c.lines.ups)
-    c.lines.running c.read_line.new.line.items c.in_ok-end.field-0 c.lines.invariant c.in_ok-read_line.ensures.feed (c.in_ok-read_line.ensures.ended c.if-not-branch.true) c.in_ok-finish.ensures.ended
-    c.in_ok-end.ensures.shards (c.in_ok-end.ensures.torn ∙ omega arith) (c.in_ok-end.ensures.missing ∙ c.finish.ensures.missing) (c.in_ok-end.ensures.up_torn ∙ c.finish.ensures.torn)
-
-pub returns-then-not-branch-clause-open : goal.returns-then-not-branch-clause-open
-returns-then-not-branch-clause-open g c =
-    let valid : IsRoster (arc_value c.args.roster) = subst IsRoster c.deref.ensures c.net_id-net_id.ensures.valid in
-    subst (λ (ss : List State). AreOpenIn ss c.in_ok-end.field-0.windows.items c.in_ok-end.field-0.tickets.items) (sym c.in_ok-end.ensures.shards)
-    (open-in (arc_value c.args.roster) c.lines.invariant.steps c.lines.running.shards.items valid c.lines.invariant.has_run.shards
-    c.in_ok-end.field-0.windows.items c.in_ok-end.field-0.tickets.items c.in_ok-end.ensures.windows c.in_ok-end.ensures.tickets)
-
-pub returns-in_err-run_line-clause-fault : goal.returns-in_err-run_line-clause-fault
-returns-in_err-run_line-clause-fault g c =
-    let now : Option (List ℕ) = g.S.Read.remaining c.lines.steps in
-    let next : Option (List ℕ) = g.S.Read.remaining c.read_line.new.source in
-    let e : RecordFault = c.in_err-run_line.field-0.0 in
-    let read : Consumes now next (c.read_line.new.line.items ++ 10 ∷ []) = subst (λ w. Consumes now next (c.read_line.new.line.items ++ feed_of w)) c.if-not-branch.false c.in_ok-read_line.ensures.bytes in
-    from_err c.from_residual-in_err-run_line.result (NamesLine (arc_value c.args.roster) (g.S.Read.remaining c.args.steps.now)) e
-    (names-line (arc_value c.args.roster) c.lines.number (g.S.Read.remaining c.args.steps.now) now next (g.U.Read.remaining c.args.ups.now) (g.U.Read.remaining c.lines.ups)
-    c.lines.running c.as_slice.result.now e c.lines.invariant (subst (λ l. Consumes now next (l ++ 10 ∷ [])) (sym c.as_slice.ensures.value) read) c.in_err-run_line.ensures.fault)
-    c.from_residual-in_err-run_line.ensures.1
-
-pub lines-preserved : goal.lines-preserved
-lines-preserved g c =
-    let now : Option (List ℕ) = g.S.Read.remaining c.lines.steps in
-    let next : Option (List ℕ) = g.S.Read.remaining c.read_line.new.source in
-    let read : Consumes now next (c.read_line.new.line.items ++ 10 ∷ []) = subst (λ w. Consumes now next (c.read_line.new.line.items ++ feed_of w)) c.if-not-branch.false c.in_ok-read_line.ensures.bytes in
-    up-to-more (arc_value c.args.roster) c.lines.number (g.S.Read.remaining c.args.steps.now) now next (g.U.Read.remaining c.args.ups.now) (g.U.Read.remaining c.lines.ups) (g.U.Read.remaining c.run_line.new.ups)
-    c.lines.running c.run_line.new.self c.as_slice.result.now c.lines.invariant (subst (λ l. Consumes now next (l ++ 10 ∷ [])) (sym c.as_slice.ensures.value) read)
-    (ap has_line_feed c.as_slice.ensures.value ∙ c.in_ok-read_line.ensures.feed) c.in_ok-run_line.ensures.run
+pub returns-clause-resumed : goal.returns-clause-resumed
+returns-clause-resumed g c =
+    let base : Option Base = c.in_ok-base.base in
+    let (earlier, skipped, long) = c.in_ok-skip_ups.ensures.bytes in
+    if_ok c.run_lines.result
+    (λ r (text, there, all, ups_all, run). (
+      head_text base ++ text,
+      earlier ++ there,
+      known-then (g.S.Read.remaining c.args.steps.now) (g.S.Read.remaining c.read_base.new.steps) (head_text base) text c.in_ok-base.ensures.bytes all,
+      known-then (g.U.Read.remaining c.args.ups.now) (g.U.Read.remaining c.skip_ups.new.ups) earlier there skipped ups_all,
+      record { base = base; lines = text; is_text = refl; earlier = earlier; later = there; are_there = refl; earlier_bytes = long ∙ c.ups_before.ensures; run = run },
+    ))
+    c.run_lines.ensures.resumed

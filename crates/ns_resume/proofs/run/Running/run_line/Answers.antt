@@ -1,4 +1,5 @@
-use Rattle.std.proofs.Common.{◌≡◌, ℕ, List, [], ◌++◌, Result, Ok, Err, subst, sym, ap, ◌∙◌}
+use Rattle.std.proofs.Common.{◌≡◌, ℕ, ◌<◌, ◌≤◌, nat_le, Bool, true, false, List, [], ◌++◌, length, Result, Ok, Err, subst, sym, ap, ◌∙◌, arith}
+use Rattle.std.proofs.lemmas.Bool.Decides.{nat_tests}
 use Rattle.std.specs.Prelude.{OnOk}
 use Rattle.std.specs.Option.{option_map_or}
 use Rattle.ns_roster.specs.Network.{Network}
@@ -10,7 +11,7 @@ use Rattle.ns_resume.specs.declared.ups.Ups.{Ups}
 use Rattle.ns_resume.specs.Resumed.{AreUps}
 use Rattle.ns_resume.specs.Private.Ups.{GoOn}
 use Rattle.ns_resume.proofs.UpLines.{goes-on-none}
-use Rattle.ns_resume.proofs.Runs.{runs-on}
+use Rattle.ns_resume.proofs.Runs.{runs-on, runs-on-first}
 use Rattle.ns_resume.specs.declared.fault.RecordFault.{RecordFault}
 use Rattle.ns_resume.specs.Private.Running.{HasRun}
 use Rattle.ns_resume.specs.Private.Faults.{RefusesLine}
@@ -21,13 +22,30 @@ pub returns-in_err-answer-clause-fault : goal.returns-in_err-answer-clause-fault
 returns-in_err-answer-clause-fault g c =
     let e : RecordFault = c.in_err-answer.field-0.0 in
     from_err c.from_residual-in_err-answer.result
-    (λ f. (net : Network) (steps : List Step) (read : List ℕ) → HasRun net steps read c.args.self.now → RefusesLine net steps c.args.line.now c.args.number f) e
-    (λ net steps read run. refused-answer net steps c.args.line.now c.args.number c.args.self.now.shards.items c.in_ok-call.call e run.shards c.in_ok-call.ensures.call c.in_err-answer.ensures.fault)
+    (λ f. (net : Network) (before : ℕ) (steps : List Step) (read : List ℕ) → HasRun net before steps read c.args.self.now → RefusesLine net steps c.args.line.now c.args.number f) e
+    (λ net before steps read run. refused-answer net steps c.args.line.now c.args.number c.args.self.now.shards.items c.in_ok-call.call e run.shards c.in_ok-call.ensures.call c.in_err-answer.ensures.fault)
     c.from_residual-in_err-answer.ensures.1
 
 on_ok : {A E P Q : Type 0} (r : Result A E) → (P → Q) → OnOk r P → OnOk r Q
 on_ok (Ok a) f p = f p
 on_ok (Err e) f p = p
+
+within : (before long : ℕ) (is_new : Bool) → is_new ≡ nat_le before long → is_new ≡ true → before ≤ long
+within before long is_new is new = by (sym is ∙ new)
+  where
+    by : nat_le before long ≡ true → before ≤ long
+    by h = grind (arith, nat_tests, h)
+
+first : (before long : ℕ) (is_new : Bool) → is_new ≡ nat_le before long → is_new ≡ false → long < before
+first before long is_new is new = by (sym is ∙ new)
+  where
+    by : nat_le before long ≡ false → long < before
+    by h = grind (arith, nat_tests, h)
+
+pub returns-then-not-is_new-clause-run : goal.returns-then-not-is_new-clause-run
+returns-then-not-is_new-clause-run g c = λ net before steps read run is.
+    runs-on-first net before steps c.args.line.now read c.args.self.now c.answer.new.self c.in_ok-call.call c.in_ok-answer.answer run c.in_ok-call.ensures.call c.in_ok-answer.ensures.answered
+    (g.U.Read.remaining c.args.ups.now) (first before (length steps) c.args.is_new is c.if-not-is_new.true) c.answer.ensures.ups
 
 pub returns-in-Some-clause-run : goal.returns-in-Some-clause-run
 returns-in-Some-clause-run g c =
@@ -35,17 +53,19 @@ returns-in-Some-clause-run g c =
     let out : option_map_or (λ (u : Uplink). ended (up_text u)) c.in_ok-answer.answer.uplink [] ≡ ended c.as_bytes.result.now =
     ap (λ o. option_map_or (λ (u : Uplink). ended (up_text u)) o []) c.in-Some.is ∙ ap ended (sym text) in
     on_ok c.implied.result
-    (λ goes net steps read run.
-    runs-on (g.U.Read.remaining c.args.ups.now) (g.U.Read.remaining c.implied.new.source) net steps c.args.line.now read c.args.self.now
+    (λ goes net before steps read run is.
+    runs-on net before steps c.args.line.now read c.args.self.now
     (record { shards = c.answer.new.self.shards; most = c.answer.new.self.most; ups = c.implied.new.self }) c.in_ok-call.call c.in_ok-answer.answer run c.in_ok-call.ensures.call c.in_ok-answer.ensures.answered
+    (g.U.Read.remaining c.args.ups.now) (g.U.Read.remaining c.implied.new.source) (within before (length steps) c.args.is_new is c.if-not-is_new.false)
     (λ there ups are.
     subst (λ l. GoOn (g.U.Read.remaining c.args.ups.now) (g.U.Read.remaining c.implied.new.source) there (ups ++ l) c.implied.new.self) (sym out)
     (goes there ups (subst (λ (u : Ups). AreUps there ups u.missing.items u.torn) (sym c.answer.ensures.ups) are))))
     c.implied.ensures.ups
 
 pub returns-in-None-clause-run : goal.returns-in-None-clause-run
-returns-in-None-clause-run g c = λ net steps read run.
-    runs-on (g.U.Read.remaining c.args.ups.now) (g.U.Read.remaining c.args.ups.now) net steps c.args.line.now read c.args.self.now c.answer.new.self c.in_ok-call.call c.in_ok-answer.answer run c.in_ok-call.ensures.call c.in_ok-answer.ensures.answered
+returns-in-None-clause-run g c = λ net before steps read run is.
+    runs-on net before steps c.args.line.now read c.args.self.now c.answer.new.self c.in_ok-call.call c.in_ok-answer.answer run c.in_ok-call.ensures.call c.in_ok-answer.ensures.answered
+    (g.U.Read.remaining c.args.ups.now) (g.U.Read.remaining c.args.ups.now) (within before (length steps) c.args.is_new is c.if-not-is_new.false)
     (λ there ups are.
     subst (λ o. GoOn (g.U.Read.remaining c.args.ups.now) (g.U.Read.remaining c.args.ups.now) there (ups ++ option_map_or (λ (u : Uplink). ended (up_text u)) o []) c.answer.new.self.ups) (sym c.in-None.is)
     (subst (GoOn (g.U.Read.remaining c.args.ups.now) (g.U.Read.remaining c.args.ups.now) there (ups ++ [])) (sym c.answer.ensures.ups)

@@ -1,7 +1,0 @@
-use Rattle.std.specs.Arc.{arc_value}
-use Rattle.ns_resume.specs.Private.Running.{RunsUpTo}
-use Rattle.ns_resume.proofs.run.run_record.Given as goal
-
--- the lines so far were run
-abbrev pub invariant-lines : goal.invariant-lines
-invariant-lines g l = RunsUpTo (arc_value l.fn.roster) l.number (g.S.Read.remaining l.initial.steps) (g.S.Read.remaining l.steps) (g.U.Read.remaining l.initial.ups) (g.U.Read.remaining l.ups) l.running
