@@ -236,15 +236,7 @@ fn compact<'a, R: Files<File = File> + AllocGlobal + Print, L: Log>(
         path: folder,
         roster: &roster,
     };
-    let compacted = compaction.compact(files);
-    let Folder {
-        rt: _,
-        log: _,
-        alloc: _,
-        path: _,
-        roster: _,
-    } = compaction;
-    let done = match compacted {
+    let done = match compaction.compact(files) {
         Ok(done) => done,
         Err(fault) => {
             error!(log; "{folder}: {fault}");

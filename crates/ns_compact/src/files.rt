@@ -23,6 +23,7 @@ pub struct Compacted {
 }
 
 /// What a compaction works with: the folder of a record, and its roster.
+#[derive(Drop)]
 pub struct Folder<'a, R, L> {
     pub rt: &'a R,
     pub log: &'a L,
