@@ -11,7 +11,7 @@ in_place : (net : Network) (known ups : Option (List ℕ)) (r : Resumed)
     → ((text : List ℕ) × (there : List ℕ) × IsAllOf known text × IsAllOf ups there × IsResumed net text there r)
     → ArePlaced net r.shards.items × (vec_len r.shards ≡ shard_count)
 in_place net known ups r (text, there, all, all_ups, is) =
-    ((λ k s at. let placed = is.shards.each k s at in (placed.roster, placed.index)), r.shards.ok.0 ∙ is.shards.sixteen)
+    ((λ k s at. let placed = is.run.shards.each k s at in (placed.roster, placed.index)), r.shards.ok.0 ∙ is.run.shards.sixteen)
 
 pub resumed_in_place : {E : Type 0} (net other : Network) (known ups : Option (List ℕ)) (result : Result Resumed E)
     → IfOk result (λ r. (text : List ℕ) × (there : List ℕ) × IsAllOf known text × IsAllOf ups there × IsResumed other text there r) → other ≡ net
