@@ -21,10 +21,10 @@ returns-in-None-clause-refused c = inr (inl (
   sym (first_value-rows (found_of c.args.found.now) (codes "DIR")) ∙ sym c.in-None.ensures,
 ))
 
-pub returns-in-Some-clause-asked : goal.returns-in-Some-clause-asked
-returns-in-Some-clause-asked c = (
+pub returns-in-Some-get_str-clause-asked : goal.returns-in-Some-get_str-clause-asked
+returns-in-Some-get_str-clause-asked c = (
   (bytes_eq-Decides c.args.name.now (codes "compact")).0 (sym c.if-eq-3.ensures),
-  (first_of-got (found_of c.args.found.now) (codes "ROSTER") c.in-Some.path.now (sym c.in-Some.ensures), first_of-got (found_of c.args.found.now) (codes "DIR") c.in-Some-2.folder.now (sym c.in-Some-2.ensures)),
+  (first_of-got (found_of c.args.found.now) (codes "ROSTER") c.in-Some.path.now (sym c.in-Some.ensures), first_of-got (found_of c.args.found.now) (codes "DIR") c.in-Some-get_str.folder.now (sym c.in-Some-get_str.ensures)),
 )
 
 pub returns-in_ok-record_options-clause-asked : goal.returns-in_ok-record_options-clause-asked
