@@ -1,18 +1,21 @@
 #!/usr/bin/env python3
 """Counts the instructions of a datagram in `lorawan_ns serve`, by callgrind: without options, with a record, with one that is synced, with
-the status, with uplinks as JSON, and with these and events.
+the status, with uplinks as JSON, and with these and events; and, where the plain server of bench/plain_server is given, in its `serve`, and
+where it receives and does no more.
 
-    python3 bench/option_costs.py PROGRAM [--devices N] [--copies N] [--frames FEW,MANY] [--confirmed SHARE] [--rate N] [--folder DIR]
+    python3 bench/option_costs.py PROGRAM [--plain PLAIN] [--ways WAY,..] [--devices N] [--copies N] [--frames FEW,MANY] [--confirmed SHARE]
+                                  [--rate N] [--folder DIR] [--keep FILE]
 
 Devices join (64, unless told otherwise), and each sends frames of 16 bytes, each heard by so many gateways (3); of the frames a part is
 confirmed (0.1). Of each way there are two runs, with few frames of each device and with many (10,60), which end by --stop-after; what
-is told is the difference of their instructions, for each datagram more. The system's own work is not counted. Ends with status 1 where a
-run does not end well.
+is told is the difference of their instructions, for each datagram more. The system's own work is not counted. FILE gets what callgrind wrote
+of the last run with many frames. Ends with status 1 where a run does not end well.
 """
 import argparse
 import json
 import os
 import re
+import shutil
 import subprocess
 import sys
 import tempfile
@@ -24,14 +27,15 @@ from network.servers import Joins, Serve  # noqa: E402
 
 WAYS = (('none', []), ('record', ['--record']), ('synced', ['--record', '--sync']), ('status', ['--status', '127.0.0.1:0']),
         ('json', ['--output', 'json']), ('events', ['--output', 'json', '--events']))
+PLAIN_WAYS = ('plain', 'receive')     # the plain server's commands are `serve` and `receive`
 LONGEST = 600       # seconds of a run
 
 
 class Run:
     """A run of one way."""
 
-    def __init__(self, options, folder, words, frames):
-        self.options, self.frames, self.folder = options, frames, folder
+    def __init__(self, options, folder, way, words, frames):
+        self.options, self.frames, self.folder, self.joined = options, frames, folder, way != 'receive'
         self.count = options.devices * (1 + frames * options.copies)
         self.joins = Joins(('127.0.0.1', 0), {eui.to_bytes(8, 'big'): app_key(1, eui) for eui in range(options.devices)})
         path, self.out = os.path.join(folder, 'roster.json'), os.path.join(folder, 'callgrind')
@@ -41,7 +45,8 @@ class Run:
             record = tempfile.mkdtemp(dir=folder)
             words = ['--record', record] + words[1:]
         self.lines = open(os.path.join(folder, 'lines'), 'wb')
-        self.server = Serve(['valgrind', '--tool=callgrind', '--callgrind-out-file=' + self.out, options.program, 'serve', path, '--join',
+        program = [options.plain if way in PLAIN_WAYS else options.program] + (['serve', path] if self.joined else ['receive'])
+        self.server = Serve(['valgrind', '--tool=callgrind', '--callgrind-out-file=' + self.out, *program, '--join',
                              '%s:%d' % self.joins.where, '--listen', '127.0.0.1:0', '--window', '500', '--stop-after', str(self.count), *words],
                             self.lines)
         self.gateways = [Gateway(number, self.server.where) for number in range(options.copies)]
@@ -54,7 +59,8 @@ class Run:
                 self.join(node)
             for number in range(self.frames):
                 for node in nodes:
-                    self.send(node.next_frame(self.options.confirmed, size=16).bytes, self.gateways)
+                    frame = node.next_frame(self.options.confirmed, size=16).bytes if self.joined else bytes(29)
+                    self.send(frame, self.gateways)
             status = self.server.child.wait(timeout=LONGEST)
         except (subprocess.TimeoutExpired, OSError) as error:
             print(error, file=sys.stderr)
@@ -80,6 +86,8 @@ class Run:
         """A device joins by the first gateway."""
         gateway = self.gateways[0]
         self.send(node.join_request(), [gateway])
+        if not self.joined:
+            return
         end = time.monotonic() + 20
         while time.monotonic() < end:
             try:
@@ -94,16 +102,22 @@ def main():
     parser = argparse.ArgumentParser(description=__doc__, formatter_class=argparse.RawDescriptionHelpFormatter)
     parser.add_argument('program')
     for name, kind, default in (('devices', int, 64), ('copies', int, 3), ('frames', str, '10,60'), ('confirmed', float, 0.1),
-                                ('rate', float, 400.0), ('folder', str, None)):
+                                ('rate', float, 400.0), ('folder', str, None), ('plain', str, None), ('ways', str, None),
+                                ('keep', str, None)):
         parser.add_argument('--' + name, type=kind, default=default, help=argparse.SUPPRESS)
     options = parser.parse_args()
     few, many = map(int, options.frames.split(','))
     first, failed = None, False
-    for name, words in WAYS:
+    ways = WAYS + tuple((way, []) for way in PLAIN_WAYS if options.plain)
+    for name, words in ways:
+        if options.ways and name not in options.ways.split(','):
+            continue
         found = []
         for frames in (few, many):
             with tempfile.TemporaryDirectory(dir=options.folder) as folder:
-                found.append(Run(options, folder, words, frames).instructions())
+                found.append(Run(options, folder, name, words, frames).instructions())
+                if options.keep:
+                    shutil.copy(os.path.join(folder, 'callgrind'), options.keep)
         if None in found:
             failed = True
             continue

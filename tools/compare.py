@@ -463,7 +463,9 @@ def compare(options, seed, folder, replies):
     except model.Fault as fault:
         want = (1, '', 'roster: %s\n' % fault)
         replies['roster %s' % fault] += 1
-        got = run_program(options, roster, b'', folder)
+        status, lines, told = run_program(options, roster, b'', folder)
+        # Before the fault stands a log line, which says where it is.
+        got = status, lines, ''.join(line for line in told.splitlines(True) if ' ERROR ' not in line)
         return None if got == want else (roster, b'', 'roster\n  want %s\n  got  %s' % (want, got))
     server = model.Server(read, options.served, options.downlinks)
     steps = Steps(pick, devices, server, net)

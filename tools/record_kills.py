@@ -14,7 +14,8 @@ no device notices.
                         itself with status 1 and a line `record:` in its log. Root alone may mount it
     --machine           a life is ended with its machine: the record goes on from what its disk has at that moment, an ext4 file system in a
                         file. With --sync, and root alone may
-    --compact           between two lives the record is compacted, and the compaction is ended by SIGKILL half of the time
+    --compact           between two lives the record is compacted, and half of the time the compaction is ended by SIGKILL, or with --machine
+                        with its machine. With --full one that finds the disk full has to leave all lines as they are
     --folder DIR        where the record is left (default: a folder that is removed)
     WORD..              further words of `serve`, as --sync
 
@@ -82,6 +83,7 @@ class Trial:
         self.moments, self.sent, self.silent = {}, [], []
         self.next_at, self.life, self.child, self.told = time.monotonic(), 0, None, []
         self.is_heard, self.silent_from, self.wants_joins = False, 0, 0
+        self.compactions, self.seconds = collections.Counter(), 0.02
 
     # ------------------------------------------------------------ lives
 
@@ -146,14 +148,41 @@ class Trial:
         return (int(found[1], 16), int(found[2], 16), found.end()) if found else (0, 0, 0)
 
     def compact(self):
-        with open(os.path.join(self.record, '..', 'compact.log'), 'wb') as log:
-            child = subprocess.Popen([self.options.program, 'compact', self.roster, self.record], stdout=log, stderr=log)
-            if self.pick.random() < 0.5:
-                time.sleep(self.pick.uniform(0, 0.2))
-                child.kill()
-            elif child.wait():
-                self.fault('a compaction that ended with status %d' % child.returncode)
+        """Compacts the record, or ends its compaction at any moment."""
+        log, before = os.path.join(self.record, '..', 'compact.log'), self.files()[0]
+        begun = time.monotonic()
+        with open(log, 'wb') as file:
+            child = subprocess.Popen([self.options.program, 'compact', self.roster, self.record], stdout=file, stderr=file)
+            is_killed = self.pick.random() < 0.5 and self.kill_within(child)
             child.wait()
+        self.compactions['killed'] += is_killed
+        if is_killed:
+            return
+        with open(log, encoding='utf-8') as file:
+            text = file.read()
+        if child.returncode == 0:
+            self.seconds = time.monotonic() - begun
+            self.compactions['whole'] += 1
+            self.compactions['lines'] += int(text.split()[-2]) - int(text.split()[-1])
+        elif self.options.full and child.returncode == 1 and 'record: ' in text:
+            self.compactions['full'] += 1
+            if self.files()[0] != before[:before.rfind(b'\n') + 1]:
+                self.fault('a compaction that failed and changed the steps')
+        else:
+            self.fault('a compaction that ended with status %d: %s' % (child.returncode, text))
+
+    def kill_within(self, child):
+        """Ends a compaction after a part of the time that one takes, and tells whether it was still at work."""
+        time.sleep(self.pick.uniform(0, self.seconds))
+        child.send_signal(signal.SIGSTOP)
+        if self.options.machine:
+            self.disk.stop()
+        is_within = child.poll() is None
+        child.kill()
+        child.wait()
+        if self.options.machine:
+            self.disk.again()
+        return is_within
 
     def look(self):
         """Whether the program says by now that it listens."""
@@ -335,6 +364,10 @@ class Trial:
         if twice or lost:
             self.faults['uplinks lost, or twice in `up`'] += twice + lost
         sessions = sum(line.startswith('accepted ') for line in said)
+        counts = self.compactions
+        if self.options.compact:
+            print('compactions %d lines less %d compactions killed %d compactions on a full disk %d' % (
+                counts['whole'], counts['lines'], counts['killed'], counts['full']))
         print('lives %d uplinks %d acknowledged %d sessions %d (wanted %d) steps %d up %d missing by kills %d lost %d used twice %d' % (
             self.life, len(self.sent), sum(uplink.is_acknowledged for uplink in self.sent), sessions, self.wants_joins,
             steps.count(b'\n'), len(ups), len(missing), lost, twice + self.faults['a number of an acknowledgement used twice']))
@@ -348,14 +381,14 @@ def side_by_side(options):
     """Networks with seeds of their own, each by this program."""
     words = [word for name in ('lives', 'devices', 'gateways', 'rate', 'rejoin', 'longest', 'full', 'program')
              for word in ('--' + name, str(getattr(options, name)))]
-    words += ['--machine'] * options.machine
+    words += ['--machine'] * options.machine + ['--compact'] * options.compact
     children = [subprocess.Popen([sys.executable, os.path.abspath(__file__), *words, '--seed', str(options.seed + number), '--',
                                   *options.words], stdout=subprocess.PIPE, text=True) for number in range(options.networks)]
     sums = collections.Counter()
     for child in children:
         for line in child.communicate()[0].splitlines():
             print(line)
-            if line.startswith('lives '):
+            if line.startswith(('lives ', 'compactions ')):
                 sums.update({name: int(count) for name, count in re.findall(r'([a-z ]+) (\d+)', line)})
     print('all networks:' + ''.join('%s %d' % (name if name.startswith(' ') else ' ' + name, count) for name, count in sums.items()))
     return max(child.returncode for child in children)

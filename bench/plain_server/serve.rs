@@ -62,7 +62,7 @@ fn listen(options: &Options) -> Result<UdpSocket, String> {
     Ok(socket)
 }
 
-/// Receives datagrams until it is killed.
+/// Receives datagrams until so many came.
 pub fn receive(words: &[&str]) -> Result<(), String> {
     let options = Options::read(words)?;
     let socket = listen(&options)?;
@@ -71,7 +71,7 @@ pub fn receive(words: &[&str]) -> Result<(), String> {
         for _ in 0..options.workers {
             scope.spawn(|| {
                 let mut buffer = [0; 512];
-                loop {
+                while read.load(Ordering::SeqCst) < options.stop_after {
                     if socket.recv_from(&mut buffer).is_ok() {
                         read.fetch_add(1, Ordering::SeqCst);
                     }

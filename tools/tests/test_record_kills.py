@@ -24,6 +24,9 @@ class Kills(unittest.TestCase):
     def test_two_networks(self):
         self.tried('--seed', '7', '--networks', '2', '--devices', '16', '--rate', '50')
 
+    def test_compactions(self):
+        self.tried('--seed', '8', '--rejoin', '8', '--compact')
+
     @unittest.skipUnless(os.geteuid() == 0, 'only root may mount a file system')
     def test_full_disks(self):
         self.tried('--seed', '5', '--full', '24')

@@ -1,8 +1,9 @@
 //! The compaction of the files of a record.
 
+use crate::growth::{bytes_left, is_due};
 use crate::same::serves_as_well;
 use crate::shortening::{Shortened, shorten};
-use log::{Log, error};
+use log::{Log, error, info, warn};
 use ns_record_files::{FilesFault, RecordFiles, ShorterSteps, read_again};
 use ns_resume::{Base, RecordFault, base_line};
 use ns_roster::Roster;
@@ -84,14 +85,13 @@ impl<'a, R: Files<File = File>, L: Log> Folder<'a, R, L> {
         )
     }
 
-    /// Puts fewer lines in the place of the steps of its record, after which every later answer is the same, and brings them to the disk:
-    /// after a crash at any moment the folder has the ones or the others. First the record is mended, as a start does.
-    pub fn compact(&self, mut files: RecordFiles) -> Result<Compacted, RecordFault> {
-        let shorter = match ShorterSteps::create(self.rt, self.log, self.alloc, self.path) {
-            Ok(shorter) => shorter,
-            Err(fault) => return Err(of_files(fault)),
-        };
-        let left = self.choose(&shorter)?;
+    // Writes fewer lines into `steps.new`, and brings the record to the disk. First the record is mended, as a start does.
+    fn prepare(
+        &self,
+        files: &mut RecordFiles,
+        shorter: &ShorterSteps,
+    ) -> Result<Compacted, RecordFault> {
+        let left = self.choose(shorter)?;
         if files
             .mend(left.torn, left.up_torn, left.missing.as_slice())
             .is_err()
@@ -114,12 +114,51 @@ impl<'a, R: Files<File = File>, L: Log> Folder<'a, R, L> {
         if !self.is_as_well(&left)? {
             return Err(RecordFault::NotAsWell);
         }
+        Ok(Compacted {
+            before: left.lines,
+            after: left.written,
+        })
+    }
+
+    /// Puts fewer lines in the place of the steps of its record, after which every later answer is the same, and brings them to the disk:
+    /// after a crash at any moment the folder has the ones or the others. First the record is mended, as a start does. After a fault all
+    /// whole lines are there as before.
+    pub fn compact(&self, mut files: RecordFiles) -> Result<Compacted, RecordFault> {
+        let shorter = match ShorterSteps::create(self.rt, self.log, self.alloc, self.path) {
+            Ok(shorter) => shorter,
+            Err(fault) => return Err(of_files(fault)),
+        };
+        let compacted = match self.prepare(&mut files, &shorter) {
+            Ok(compacted) => compacted,
+            Err(fault) => {
+                shorter.remove(self.rt);
+                return Err(fault);
+            }
+        };
         match files.replace(self.rt, self.log, &shorter) {
-            Ok(()) => Ok(Compacted {
-                before: left.lines,
-                after: left.written,
-            }),
+            Ok(()) => Ok(compacted),
             Err(fault) => Err(of_files(fault)),
         }
+    }
+
+    // Whether the steps have grown so much that fewer are to take their place.
+    fn has_grown(&self, files: &RecordFiles) -> Result<bool, RecordFault> {
+        let bytes = files.steps().metadata()?.len();
+        let mut steps = self.read("steps")?;
+        Ok(is_due(bytes_left(self.alloc, &mut steps)?, bytes))
+    }
+
+    /// Opens the record for a start. Where its steps have grown to 4 MiB and to eight times what the last compaction left, fewer take
+    /// their place first; where that fails all whole lines are there as before, and why is logged.
+    pub fn open(&self, sync: bool) -> Result<RecordFiles, FilesFault> {
+        let files = RecordFiles::open(self.rt, self.log, self.alloc, self.path, sync)?;
+        if !self.has_grown(&files).unwrap_or(false) {
+            return Ok(files);
+        }
+        match self.compact(files) {
+            Ok(done) => info!(self.log; "record: compacted {} {}", done.before, done.after),
+            Err(fault) => warn!(self.log; "{}: not compacted: {fault}", self.path),
+        }
+        RecordFiles::open(self.rt, self.log, self.alloc, self.path, sync)
     }
 }

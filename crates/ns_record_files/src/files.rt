@@ -2,6 +2,7 @@
 ghost use Rattle.std.specs.Prelude.{None};
 
 use crate::disk::Disk;
+use crate::swap::{Swap, swap_in};
 use log::{Log, error};
 use ns_types::Failed;
 use std::alloc::Global;
@@ -130,6 +131,11 @@ impl ShorterSteps {
     pub fn begin_with<L: Log>(&self, log: &L, bytes: &[u8]) -> Result<(), FilesFault> {
         told(log, self.file.write_all_at(bytes, 0))
     }
+
+    /// Takes the file away, where it still has its name, so that it takes no room.
+    pub fn remove<R: Files<File = File>>(&self, rt: &R) {
+        let _ = fs::remove_file(rt, self.path.as_str());
+    }
 }
 
 impl RecordFiles {
@@ -189,12 +195,16 @@ impl RecordFiles {
         log: &L,
         shorter: &ShorterSteps,
     ) -> Result<(), FilesFault> {
-        told(log, shorter.file.sync_all())?;
-        told(
+        let mut swap = InFolder {
+            rt,
             log,
-            fs::rename(rt, shorter.path.as_str(), shorter.steps_path.as_str()),
-        )?;
-        told(log, self.folder.sync_all())
+            files: self,
+            shorter,
+        };
+        match swap_in(&mut swap) {
+            Ok(()) => Ok(()),
+            Err(_) => Err(FilesFault::Io),
+        }
     }
 
     // Whether a call of the system was done. Where it was not, why is kept.
@@ -216,6 +226,40 @@ impl RecordFiles {
         self.keep(cut_ups)?;
         self.sync_steps()?;
         self.append_ups(missing)
+    }
+}
+
+// A folder in which fewer steps take the place of those of a record.
+#[derive(Drop)]
+struct InFolder<'a, R, L> {
+    rt: &'a R,
+    log: &'a L,
+    files: RecordFiles,
+    shorter: &'a ShorterSteps,
+}
+
+// Whether a call of the system was done. Where it was not, why is logged.
+fn done<L: Log>(log: &L, outcome: io::Result<()>) -> Result<(), Failed> {
+    match told(log, outcome) {
+        Ok(()) => Ok(()),
+        Err(_) => Err(Failed),
+    }
+}
+
+impl<'a, R: Files<File = File>, L: Log> Swap for InFolder<'a, R, L> {
+    ghost moments = { λ _. None };
+
+    fn sync_new(&mut self) -> Result<(), Failed> {
+        done(self.log, self.shorter.file.sync_all())
+    }
+
+    fn rename(&mut self) -> Result<(), Failed> {
+        let (from, to) = (&self.shorter.path, &self.shorter.steps_path);
+        done(self.log, fs::rename(self.rt, from.as_str(), to.as_str()))
+    }
+
+    fn sync_names(&mut self) -> Result<(), Failed> {
+        done(self.log, self.files.folder.sync_all())
     }
 }
 

@@ -1,7 +1,6 @@
 -- What is written while windows are closed at the end.
-use Rattle.std.proofs.Common.{ℕ, List, ◌++◌, Option, Result, Ok, Err}
+use Rattle.std.proofs.Common.{ℕ, List, Option, Result, Ok, Err}
 use Rattle.std.specs.Prelude.{OnOk}
-use Rattle.std.specs.Io.KnownBytes.{Appends}
 use Rattle.ns_calls.specs.declared.answer.Uplink.{Uplink}
 use Rattle.ns_events.specs.declared.output.Output.{Output}
 use Rattle.ns_serve_parts.specs.Output.{Grows}

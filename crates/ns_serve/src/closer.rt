@@ -11,7 +11,7 @@ use crossbeam_channel::{Receiver, RecvTimeoutError};
 use log::{Log, error};
 use ns_events::Output as Written;
 use ns_serve_parts::{Held, Output, ServeFault, put_under_lock};
-use ns_serve_state::{Events, Later, Recording, SinceStart, State, nap_ms, now_ms, take_notices};
+use ns_serve_state::{Events, Later, Recording, SinceMoment, State, nap_ms, now_ms, take_notices};
 use ns_server::{Naming, Pass};
 use ns_types::Sink;
 use ns_workers::{CloseJob, Ended, ListedJobs, Shared, WorkerFault, run_closer};
@@ -104,34 +104,36 @@ impl<'a> Closings<'a> {
         requires { self.old.held ≡ None }
         ensures { IfOk result (IsTurnWith first self.new.held) }
     {
-        if !self.comes(rt, first.due) {
+        let Some(now) = self.comes(rt, first.due) else {
             self.held = Some(first);
             return Ok(Turn::Idle);
-        }
-        Ok(Turn::Close(self.batch(rt, alloc, first)?))
+        };
+        Ok(Turn::Close(self.batch(rt, alloc, first, now)?))
     }
 
-    // Waits a while for a time, and says whether it has come.
-    fn comes<R: Clock>(&self, rt: &R, due: u64) -> bool {
+    // Waits a while for a time, and gives the moment then, if it has come.
+    fn comes<R: Clock>(&self, rt: &R, due: u64) -> Option<u64> {
+        let begun = now_ms(rt, self.state);
+        if has_come(due, begun, self.state.is_deaf()) {
+            return Some(begun);
+        }
+        thread::sleep(rt, Duration::from_millis(nap_ms(due, begun)));
         let now = now_ms(rt, self.state);
-        if !has_come(due, now, self.state.is_deaf()) {
-            thread::sleep(rt, Duration::from_millis(nap_ms(due, now)));
+        if has_come(due, now, self.state.is_deaf()) {
+            Some(now)
+        } else {
+            None
         }
-        self.is_due(rt, due)
     }
 
-    // Whether a time has come.
-    fn is_due<R: Clock>(&self, rt: &R, due: u64) -> bool {
-        has_come(due, now_ms(rt, self.state), self.state.is_deaf())
-    }
-
-    // This job, which is due, and those behind it that are.
+    // This job, which is due, and those behind it that are due at this moment.
     #[tactic(auto, using(crate::proofs::TurnLemmas::first_stays))]
     fn batch<R: Wait + Clock>(
         &mut self,
         rt: &R,
         alloc: Global,
         first: CloseJob,
+        now: u64,
     ) -> Result<Vec<CloseJob>, AllocError>
         requires { self.old.held ≡ None }
         ensures count { IfOk result (λ jobs. (0 < vec_len jobs) × (vec_len jobs ≤ 64)) }
@@ -143,7 +145,7 @@ impl<'a> Closings<'a> {
             let Ok(job) = self.receiver.try_recv(rt) else {
                 break;
             };
-            if !self.is_due(rt, job.due) {
+            if !has_come(job.due, now, self.state.is_deaf()) {
                 self.held = Some(job);
                 break;
             }
@@ -158,7 +160,7 @@ pub(crate) fn close_all<B: Naming, R: Wait + Clock + Log>(
     alloc: Global,
     shared: &Shared<'_, B, R, Recording<'_>, Events<'_>>,
     pass: &mut Pass<B>,
-    timer: &SinceStart<'_>,
+    timer: &SinceMoment<'_>,
     down: &mut Later<'_>,
     jobs: Vec<CloseJob>,
     held: &mut Held,
@@ -202,7 +204,7 @@ pub(crate) fn close_and_write<B: Naming, R: Wait + Clock + Log, W: Sink>(
     ensures sound { held.new.failed ≡ false }
     ensures receipts { HasReceipts B.roster pass.old pass.new }
 {
-    let timer = SinceStart { state };
+    let timer = SinceMoment::now(shared.rt, state);
     let ended = close_all(alloc, shared, pass, &timer, later, jobs, held);
     later.send_all(shared.rt);
     let written = put_under_lock(shared.rt, output, held.lines());

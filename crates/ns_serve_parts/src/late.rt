@@ -1,6 +1,7 @@
 //! Frames whose windows were closed a while ago, so that a late copy is not taken for a repetition.
 
-ghost use Rattle.std.specs.Prelude.{◌≡◌, ℕ, [], IfOk, OnOk, OnErr};
+ghost use Rattle.std.specs.Prelude.{◌≡◌, ℕ, [], false, IfOk, OnOk, OnErr};
+ghost use Rattle.std.specs.Option.{option_map_or};
 ghost use Rattle.std.specs.NonZero.{non_zero_usize_get};
 ghost use Rattle.ns_serve_parts.specs.Late.{is_within, is_late_after, is_late, after_noting};
 
@@ -88,6 +89,18 @@ impl Late {
         }
     }
 
+    /// When the window of a frame is closed, where that is noted: no copy of another frame is late, and none before then.
+    pub fn due(&self, frame: FrameName) -> Option<u64>
+        ensures { (now : ℕ) → is_late self.now frame now ≡ option_map_or (λ due. is_within self.now.span_ms due now) result false }
+    {
+        let closing = self.closings.peek(&frame.mic)?;
+        if closing.addr == frame.addr && closing.fcnt == frame.fcnt {
+            Some(closing.due)
+        } else {
+            None
+        }
+    }
+
     /// Whether a copy of a frame that comes at this time is late.
     pub fn is_late(&self, frame: FrameName, now: u64) -> bool
         ensures { result ≡ is_late self.now frame now }
@@ -138,6 +151,12 @@ impl Lates {
             let mut late = lock.lock(rt);
             let _ = late.note(frame, due);
         }
+    }
+
+    /// When the window of a frame is closed, where that is noted.
+    pub fn due<R: Wait>(&self, rt: &R, frame: FrameName) -> Option<u64> {
+        let lock = self.lock_of(frame.addr)?;
+        lock.lock(rt).due(frame)
     }
 
     /// Whether a copy of a frame that comes at this time is late.

@@ -28,6 +28,23 @@ pub struct SinceStart<'a> {
     pub state: &'a State,
 }
 
+/// The same clock for windows that are closed together: it is not asked about a time that had come when this was made.
+#[derive(Clone, Copy)]
+pub struct SinceMoment<'a> {
+    since: SinceStart<'a>,
+    moment: u64,
+}
+
+impl<'a> SinceMoment<'a> {
+    /// The clock from this moment on.
+    pub fn now<R: Clock>(rt: &R, state: &'a State) -> SinceMoment<'a> {
+        SinceMoment {
+            since: SinceStart { state },
+            moment: now_ms(rt, state),
+        }
+    }
+}
+
 /// What the clock tells.
 pub fn now_ms<R: Clock>(rt: &R, state: &State) -> u64 {
     match state.start.elapsed(rt) {
@@ -72,5 +89,21 @@ impl<'a, R: Wait + Clock> Timer<R> for SinceStart<'a> {
     fn times(&self, rt: &R, due: u64) -> Option<Times> {
         let opened = due.saturating_sub(u64::from(self.state.window_ms));
         times_of(rt, self.state, opened)
+    }
+}
+
+impl<'a, R: Wait + Clock> Timer<R> for SinceMoment<'a> {
+    fn now(&self, rt: &R) -> u64 {
+        now_ms(rt, self.since.state)
+    }
+
+    fn until(&self, rt: &R, due: u64) {
+        if due > self.moment {
+            self.since.until(rt, due);
+        }
+    }
+
+    fn times(&self, rt: &R, due: u64) -> Option<Times> {
+        self.since.times(rt, due)
     }
 }

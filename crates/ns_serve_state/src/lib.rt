@@ -13,6 +13,7 @@ mod after;
 mod channels;
 mod clock;
 mod events;
+mod front;
 mod notices;
 mod queue;
 mod record;
@@ -23,7 +24,7 @@ mod telling;
 
 pub use after::{AfterRecord, Later};
 pub use channels::{IntoQueues, hand_on};
-pub use clock::{SinceStart, nap_ms, now_ms, times_of};
+pub use clock::{SinceMoment, SinceStart, nap_ms, now_ms, times_of};
 pub use events::{Events, log_counts, log_unsent};
 pub use notices::{note_event, take_notices};
 pub use queue::FromQueue;

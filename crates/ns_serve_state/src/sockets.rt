@@ -5,15 +5,15 @@ ghost use Rattle.ns_workers.specs.Datagrams.{FitsBuffer};
 
 use crate::clock::now_ms;
 use crate::events::{log_counts, log_message};
+use crate::front::{NotedPeers, front_of, read_seen};
 use crate::record::write_record;
 use crate::state::State;
 use log::{Log, error, warn};
 use ns_calls::Downlink;
 use ns_forwarder_socket::{Event, Pending};
-use ns_link::{read_datagram, write_down};
-use ns_serve_parts::{FrameName, more};
+use ns_link::write_down;
+use ns_serve_parts::more;
 use ns_types::GatewayId;
-use ns_views::{PhyView, view};
 use ns_workers::{Datagrams, Downlinks, Received};
 use std::io::{Error, ErrorKind};
 use std::net::{SocketAddr, UdpSocket};
@@ -39,6 +39,8 @@ pub struct FromSocket<'a> {
     pending: Option<Pending>,
     // How many receives failed in a row.
     failures: u32,
+    // The gateways that it heard last.
+    noted: NotedPeers,
 }
 
 // What follows a receive that gave nothing.
@@ -72,6 +74,7 @@ impl<'a> FromSocket<'a> {
             state,
             pending,
             failures: 0,
+            noted: NotedPeers::new(),
         }
     }
 
@@ -132,41 +135,60 @@ impl<'a> FromSocket<'a> {
     }
 }
 
-/// What `serve` takes from a datagram before its call is made: who heard it, and which frame.
-#[derive(Clone, Copy, Debug, PartialEq, Eq)]
-pub(crate) struct Seen {
-    pub gateway: u64,
-    pub frame: Option<FrameName>,
+// A gateway with this number was heard from here.
+fn hear<R: Wait>(rt: &R, state: &State, noted: &mut NotedPeers, gateway: u64, peer: SocketAddr) {
+    let mut peers = state.peers.lock(rt);
+    let is_same = peers.addr(gateway) == Some(peer);
+    if peers.hear(gateway, peer).is_err() {
+        return;
+    }
+    if !is_same {
+        more(&state.peer_changes);
+    }
+    let changes = state.peer_changes.load(Ordering::SeqCst);
+    drop(peers);
+    noted.put(gateway, peer, changes);
 }
 
-/// What is seen of a datagram with the right layout.
-pub(crate) fn read_seen(datagram: &[u8]) -> Option<Seen> {
-    let Ok(read) = read_datagram(datagram) else {
-        return None;
+// Whether nothing is to be done before the call of a datagram, by what stands in it where its gateway and its frame would: the address
+// of the gateway is noted, and no copy of the frame is late.
+fn is_plain<R: Wait + Clock>(
+    rt: &R,
+    state: &State,
+    noted: &NotedPeers,
+    datagram: &[u8],
+    peer: Option<SocketAddr>,
+) -> bool {
+    let Some((gateway, frame)) = front_of(datagram) else {
+        return false;
     };
-    let frame = match view(read.frame()) {
-        Ok(PhyView::Frame(frame)) => Some(FrameName::of(&frame)),
-        _ => None,
-    };
-    Some(Seen {
-        gateway: read.heard().gateway.0,
-        frame,
-    })
+    if let Some(peer) = peer {
+        if !noted.has(gateway, peer, state.peer_changes.load(Ordering::SeqCst)) {
+            return false;
+        }
+    }
+    match state.lates.due(rt, frame) {
+        Some(due) => now_ms(rt, state) < due,
+        None => true,
+    }
 }
 
 // Keeps where a gateway was heard that speaks this server's own datagrams, and says whether the datagram is a late copy.
 fn take_in<R: Wait + Clock>(
     rt: &R,
     state: &State,
+    noted: &mut NotedPeers,
     datagram: &[u8],
     peer: Option<SocketAddr>,
 ) -> bool {
+    if is_plain(rt, state, noted, datagram, peer) {
+        return false;
+    }
     let Some(seen) = read_seen(datagram) else {
         return false;
     };
     if let Some(peer) = peer {
-        let mut peers = state.peers.lock(rt);
-        let _ = peers.hear(seen.gateway, peer);
+        hear(rt, state, noted, seen.gateway, peer);
     }
     match seen.frame {
         Some(frame) => state.lates.is_late(rt, frame, now_ms(rt, state)),
@@ -178,6 +200,7 @@ fn take_in<R: Wait + Clock>(
 fn counted<R: Wait + Clock + Log>(
     rt: &R,
     state: &State,
+    noted: &mut NotedPeers,
     buf: &[u8; 512],
     n: usize,
     peer: Option<SocketAddr>,
@@ -192,7 +215,7 @@ fn counted<R: Wait + Clock + Log>(
     if before % BETWEEN_LOOKS == 0 {
         look(rt, state);
     }
-    if take_in(rt, state, &buf[..n], peer) {
+    if take_in(rt, state, noted, &buf[..n], peer) {
         more(&state.counts.late);
         return Received::Idle;
     }
@@ -213,7 +236,7 @@ impl<'a, R: Wait + Clock + Log> Datagrams<R> for FromSocket<'a> {
         };
         self.failures = 0;
         if let Event::Datagram(n) = event {
-            return counted(rt, state, buf, n, peer);
+            return counted(rt, state, &mut self.noted, buf, n, peer);
         }
         log_message(rt, state, event);
         look(rt, state);

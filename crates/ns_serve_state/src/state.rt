@@ -61,6 +61,8 @@ pub struct State {
     pub gateways: AtomicU64,
     /// Where gateways were last heard.
     pub peers: Mutex<Peers>,
+    /// How often one of these changed or came. It rises under the lock of `peers`.
+    pub(crate) peer_changes: AtomicU64,
     /// Frames whose windows were closed a while ago.
     pub lates: Lates,
     /// The tickets that wait for a join worker.
@@ -124,6 +126,7 @@ impl State {
             ended,
             gateways: AtomicU64::new(0),
             peers: Mutex::new(Peers::new(alloc, keys)?),
+            peer_changes: AtomicU64::new(0),
             lates: Lates::new(alloc, keys, late_ms(roster))?,
             asks: AskQueue::new(alloc),
             askers: Mutex::new(Askers::new(alloc, keys)?),

@@ -67,64 +67,53 @@ impl Disk for Memory {
     }
 }
 
-// What the files have after three batches, by how many calls were done.
-const STEPS: [&str; 10] = [
-    "on",
-    "one\n",
-    "one\n",
-    "one\nclose",
-    "one\nclose 1\nx\n",
-    "one\nclose 1\nx\n",
-    "one\nclose 1\nx\nclos",
-    "one\nclose 1\nx\nclose 2\n",
-    "one\nclose 1\nx\nclose 2\n",
-    "one\nclose 1\nx\nclose 2\n",
+// By how many calls were done: what the files have after three batches, how many bytes of the steps are safe, and how many batches are
+// told as written.
+const AFTER: &[(u32, &str, usize, &str, u32)] = &[
+    (0, "on", 0, "", 0),
+    (1, "one\n", 0, "", 0),
+    (2, "one\n", 4, "", 0),
+    (3, "one\nclose", 4, "", 1),
+    (4, "one\nclose 1\nx\n", 4, "", 1),
+    (5, "one\nclose 1\nx\n", 14, "up", 1),
+    (6, "one\nclose 1\nx\nclos", 14, "up 1\n", 2),
+    (7, "one\nclose 1\nx\nclose 2\n", 14, "up 1\n", 2),
+    (8, "one\nclose 1\nx\nclose 2\n", 22, "up 1\nup", 2),
+    (9, "one\nclose 1\nx\nclose 2\n", 22, "up 1\nup 2\n", 3),
 ];
 
-const SAFE: [usize; 10] = [0, 0, 4, 4, 4, 14, 14, 14, 22, 22];
+// Writes three batches. How many are told as written.
+fn write_three(writer: &mut RecordWriter<Memory>) -> u32 {
+    let mut told = 0u32;
+    for (steps, ups) in [
+        ("one\n", ""),
+        ("close 1\nx\n", "up 1\n"),
+        ("close 2\n", "up 2\n"),
+    ] {
+        let is_told = writer.write(steps.as_bytes(), ups.as_bytes()).is_ok();
+        told = told.wrapping_add(u32::from(is_told));
+    }
+    told
+}
 
-const UPS: [&str; 10] = [
-    "",
-    "",
-    "",
-    "",
-    "",
-    "up",
-    "up 1\n",
-    "up 1\n",
-    "up 1\nup",
-    "up 1\nup 2\n",
-];
-
-// How many of the batches are told as written, by how many calls were done.
-const TOLD: [u32; 10] = [0, 0, 0, 1, 1, 1, 2, 2, 2, 3];
+// Whether the files have these bytes.
+fn has(disk: &Memory, steps: &str, safe: usize, ups: &str) -> bool {
+    disk.steps.as_slice() == steps.as_bytes()
+        && disk.safe == safe
+        && disk.ups.as_slice() == ups.as_bytes()
+}
 
 #[test]
 fn each_call_fails_in_turn(rt: HostRuntime) {
-    for done in 0..10u32 {
+    for &(done, steps, safe, ups, told) in AFTER {
         let mut writer = RecordWriter::new(Memory::new(rt.alloc(), done));
-        let mut told = 0;
-        for (steps, ups) in [
-            ("one\n", ""),
-            ("close 1\nx\n", "up 1\n"),
-            ("close 2\n", "up 2\n"),
-        ] {
-            if writer.write(steps.as_bytes(), ups.as_bytes()).is_ok() {
-                told = u32::saturating_add(told, 1);
-            }
-        }
+        let told_now = write_three(&mut writer);
         let has_failed = writer.has_failed();
-        let disk = writer.into_disk();
-        let at = done as usize;
-        assert_eq!(rt; told, TOLD[at], "told at {done}");
-        assert_eq!(rt; has_failed, done < 9, "failed at {done}");
-        assert_eq!(rt;
-            disk.steps.as_slice(),
-            STEPS[at].as_bytes(),
-            "steps at {done}"
+        let is_right = has(&writer.into_disk(), steps, safe, ups);
+        assert!(rt;
+            is_right && told_now == told && has_failed == (done < 9),
+            "after {done} calls"
         );
-        assert_eq!(rt; disk.safe, SAFE[at], "safe at {done}");
-        assert_eq!(rt; disk.ups.as_slice(), UPS[at].as_bytes(), "up at {done}");
     }
 }
 

@@ -4,7 +4,7 @@ use crate::exchanges::Asked;
 use crate::scarce::Try;
 use crate::text::bytes_of;
 use crate::{devices, exchanges, messages, rosters, scarce};
-use anyhow::{Context, bail};
+use anyhow::Context;
 use ns_joinclient::AskFault;
 use ns_joinwire::AnsFault;
 use ns_roster::field::hex_bytes;
@@ -94,68 +94,104 @@ impl Worked {
         let bytes = self.bytes(alloc, text)?;
         let base = bytes_of(alloc, self.text.as_str())?;
         let response = self.response(alloc, text)?;
-        let (bytes, base, response) = (bytes.as_slice(), base.as_slice(), response.as_slice());
-        let ticket = Ticket(hex_bytes::<23>(text).unwrap_or([0; 23]));
-        let number = self.transaction;
+        let texts = Texts {
+            bytes: bytes.as_slice(),
+            base: base.as_slice(),
+            response: response.as_slice(),
+        };
+        if word == "scarce" {
+            return Ok(self.scarce(alloc, text)?);
+        }
+        Ok(self.answered(alloc, word, text, texts)?)
+    }
+
+    // What a question about these texts comes to.
+    fn answered(
+        &mut self,
+        alloc: Global,
+        word: &str,
+        text: &str,
+        texts: Texts<'_>,
+    ) -> Result<String, AllocError> {
         let asked = Asked {
             message: self.message.as_str(),
-            transaction: number,
+            transaction: self.transaction,
         };
-        Ok(match word {
-            "holds" => rosters::roster(alloc, bytes)?,
-            "find" => rosters::found(alloc, base, text)?,
-            "knows" => rosters::known(alloc, base, text)?,
-            "field" => rosters::field(alloc, base, text)?,
-            "question" => messages::question(alloc, base, &ticket)?,
-            "answer" => messages::answer(alloc, bytes, number)?,
-            "fronts" => messages::fronts(alloc, base, number)?,
-            "host" => exchanges::host(alloc, bytes)?,
-            "exchange" => exchanges::response(alloc, asked, response)?,
-            "written" => exchanges::written(alloc, asked, response)?,
-            "ends" => exchanges::ends(alloc, asked, response)?,
-            "failed_reads" => exchanges::failed_reads(alloc, asked, response)?,
-            "failed_writes" => exchanges::failed_writes(alloc, asked, response)?,
-            "decided" => exchanges::decided(alloc, asked, bytes, base)?,
-            "reply" => devices::reply(alloc, &mut self.server, bytes)?,
-            "join_request" => devices::join_request(alloc, &self.device, text)?,
-            "accept" => devices::accept(alloc, &mut self.device, text)?,
-            "scarce" => self.scarce(alloc, text)?,
-            "words" => words(alloc)?,
-            _ => bail!("no question: {word}"),
-        })
+        match word {
+            "holds" => rosters::roster(alloc, texts.bytes),
+            "find" => rosters::found(alloc, texts.base, text),
+            "knows" => rosters::known(alloc, texts.base, text),
+            "field" => rosters::field(alloc, texts.base, text),
+            "question" => messages::question(alloc, texts.base, &ticket(text)),
+            "answer" => messages::answer(alloc, texts.bytes, asked.transaction),
+            "fronts" => messages::fronts(alloc, texts.base, asked.transaction),
+            "host" => exchanges::host(alloc, texts.bytes),
+            "exchange" => exchanges::response(alloc, asked, texts.response),
+            "written" => exchanges::written(alloc, asked, texts.response),
+            "ends" => exchanges::ends(alloc, asked, texts.response),
+            "failed_reads" => exchanges::failed_reads(alloc, asked, texts.response),
+            "failed_writes" => exchanges::failed_writes(alloc, asked, texts.response),
+            "decided" => exchanges::decided(alloc, asked, texts.bytes, texts.base),
+            "reply" => devices::reply(alloc, &mut self.server, texts.bytes),
+            "join_request" => devices::join_request(alloc, &self.device, text),
+            "accept" => devices::accept(alloc, &mut self.device, text),
+            "words" => words(alloc),
+            _ => String::from_str(alloc, "no question"),
+        }
     }
 
     // What a question comes to without memory.
-    fn scarce(&mut self, alloc: Global, question: &str) -> anyhow::Result<String> {
+    fn scarce(&mut self, alloc: Global, question: &str) -> Result<String, AllocError> {
         let (word, text) = question.split_once(" ").unwrap_or((question, ""));
         let bytes = bytes_of(alloc, text)?;
         let base = bytes_of(alloc, self.text.as_str())?;
         let response = self.response(alloc, text)?;
         let roster = Roster::read(alloc, base.as_slice()).ok();
-        let ticket = Ticket(hex_bytes::<23>(text).unwrap_or([0; 23]));
-        let server = &mut self.server;
-        Ok(match word {
-            "holds" => scarce::outcome(alloc, server, Try::Read(bytes.as_slice()))?,
-            "closing" => {
-                let roster = roster.as_ref().context("no roster")?;
-                scarce::outcome(alloc, server, Try::Close(roster))?
-            }
-            "question" => {
-                let roster = roster.as_ref().context("no roster")?;
-                scarce::outcome(alloc, server, Try::Question(roster, ticket))?
-            }
-            "answer" => {
-                let tried = Try::Answer(bytes.as_slice(), self.transaction);
-                scarce::outcome(alloc, server, tried)?
-            }
-            "exchange" => {
-                let message = self.message.as_str();
-                let tried = Try::Exchange(message, self.transaction, response.as_slice());
-                scarce::outcome(alloc, server, tried)?
-            }
-            "reply" => scarce::outcome(alloc, server, Try::Reply(bytes.as_slice()))?,
-            _ => bail!("no question: {word}"),
-        })
+        let texts = Texts {
+            bytes: bytes.as_slice(),
+            base: base.as_slice(),
+            response: response.as_slice(),
+        };
+        let asked = Asked {
+            message: self.message.as_str(),
+            transaction: self.transaction,
+        };
+        match tried(word, asked, ticket(text), texts, roster.as_ref()) {
+            Some(tried) => scarce::outcome(alloc, &mut self.server, tried),
+            None => String::from_str(alloc, "no question"),
+        }
+    }
+}
+
+// The bytes of a question's text, those of the last `text`, and those of a response: the last `text` behind the question's.
+#[derive(Clone, Copy)]
+struct Texts<'a> {
+    bytes: &'a [u8],
+    base: &'a [u8],
+    response: &'a [u8],
+}
+
+// The Join-Request of a text in hex.
+fn ticket(text: &str) -> Ticket {
+    Ticket(hex_bytes::<23>(text).unwrap_or([0; 23]))
+}
+
+// What a question tries without memory; None where it is no question, or there is no roster that it is about.
+fn tried<'a>(
+    word: &str,
+    asked: Asked<'a>,
+    ticket: Ticket,
+    texts: Texts<'a>,
+    roster: Option<&'a Roster>,
+) -> Option<Try<'a>> {
+    match word {
+        "holds" => Some(Try::Read(texts.bytes)),
+        "closing" => Some(Try::Close(roster?)),
+        "question" => Some(Try::Question(roster?, ticket)),
+        "answer" => Some(Try::Answer(texts.bytes, asked.transaction)),
+        "exchange" => Some(Try::Exchange(asked.message, asked.transaction, texts.response)),
+        "reply" => Some(Try::Reply(texts.bytes)),
+        _ => None,
     }
 }
 

@@ -1,0 +1,216 @@
+//! Traffic at random, whose record is compacted now and then: no later answer changes.
+
+use crate::life::Life;
+use crate::traffic::{join, join_reply, uplink};
+use ns_calls::{Call, Reply};
+use ns_resume::RecordFault;
+use ns_types::WindowName;
+use std::alloc::Global;
+use std::test::*;
+
+const DEVICES: usize = 3;
+
+// Numbers at random.
+#[derive(Drop)]
+struct Random {
+    state: u32,
+}
+
+impl Random {
+    // A number below this one, or 0.
+    fn below(&mut self, bound: u32) -> u32 {
+        let next = self.state.wrapping_mul(1_664_525);
+        self.state = next.wrapping_add(1_013_904_223);
+        (self.state / 65_536).checked_rem(bound).unwrap_or(0)
+    }
+
+    // A place in a list of so many.
+    fn place(&mut self, len: usize) -> usize {
+        (self.below(65_536) as usize).checked_rem(len).unwrap_or(0)
+    }
+}
+
+// A device: the nonce of its last Join-Request, and of its live session the nonce, if it has joined, and the next counter.
+#[derive(Clone, Copy, Drop)]
+struct Device {
+    eui: u32,
+    nonce: u32,
+    session: u32,
+    counter: u32,
+}
+
+// An uplink, and the gateway that heard it.
+#[derive(Clone, Copy, Drop)]
+struct Sent {
+    eui: u32,
+    session: u32,
+    counter: u32,
+    is_confirmed: bool,
+    gateway: u32,
+}
+
+// A network, with the windows and tickets that may be open, and the uplink before.
+#[derive(Drop)]
+struct Network {
+    life: Life,
+    random: Random,
+    devices: Vec<Device>,
+    windows: Vec<WindowName>,
+    tickets: Vec<(usize, u32)>,
+    last: Option<Sent>,
+}
+
+impl Network {
+    fn new(alloc: Global, seed: u32) -> Result<Network, RecordFault> {
+        let mut devices = Vec::new(alloc);
+        // Two of them are of one shard.
+        for eui in [0, 1, 16u32] {
+            let device = Device {
+                eui,
+                nonce: 0,
+                session: 0,
+                counter: 0,
+            };
+            devices.extend_from_slice(&[device])?;
+        }
+        Ok(Network {
+            life: Life::new(alloc)?,
+            random: Random { state: seed },
+            devices,
+            windows: Vec::new(alloc),
+            tickets: Vec::new(alloc),
+            last: None,
+        })
+    }
+
+    // A device asks to join.
+    fn ask(&mut self, at: usize) -> Result<(), RecordFault> {
+        let Some(device) = self.devices.get_mut(at) else {
+            return Ok(());
+        };
+        device.nonce = device.nonce.saturating_add(self.random.below(3));
+        let (eui, nonce) = (device.eui, device.nonce);
+        let call = join(eui, nonce, self.random.below(3));
+        if let Reply::Ask { .. } = self.life.make(call)? {
+            let _ = self.tickets.push((at, nonce));
+        }
+        Ok(())
+    }
+
+    // A ticket is answered.
+    fn answer(&mut self) -> Result<(), RecordFault> {
+        let place = self.random.place(self.tickets.len());
+        if place >= self.tickets.len() {
+            return Ok(());
+        }
+        let (at, nonce) = self.tickets.swap_remove(place);
+        let Some(device) = self.devices.get_mut(at) else {
+            return Ok(());
+        };
+        let call = join_reply(device.eui, nonce, self.random.below(4) > 0);
+        if let Reply::Accepted { .. } = self.life.make(call)? {
+            device.session = nonce;
+            device.counter = 0;
+        }
+        Ok(())
+    }
+
+    // A device sends an uplink. Now and then many before it were not heard.
+    fn send(&mut self, at: usize) -> Result<(), RecordFault> {
+        let silent = match self.random.below(12) {
+            0 => 30_000u32.saturating_add(self.random.below(35_000)),
+            _ => self.random.below(3),
+        };
+        let is_confirmed = self.random.below(3) == 0;
+        let gateway = self.random.below(3);
+        let Some(device) = self.devices.get_mut(at) else {
+            return Ok(());
+        };
+        let counter = device.counter.saturating_add(silent);
+        device.counter = counter.saturating_add(1);
+        let (eui, session) = (device.eui, device.session);
+        self.hear(Sent {
+            eui,
+            session,
+            counter,
+            is_confirmed,
+            gateway,
+        })
+    }
+
+    // An uplink is heard.
+    fn hear(&mut self, sent: Sent) -> Result<(), RecordFault> {
+        self.last = Some(sent);
+        let Some(call) = uplink(
+            sent.eui,
+            sent.session,
+            sent.counter,
+            sent.is_confirmed,
+            sent.gateway,
+        ) else {
+            return Ok(());
+        };
+        if let Reply::Opened { window } | Reply::Again { window } = self.life.make(call)? {
+            let _ = self.windows.push(window);
+        }
+        Ok(())
+    }
+
+    // A window is closed.
+    fn close(&mut self) -> Result<(), RecordFault> {
+        let place = self.random.place(self.windows.len());
+        if place >= self.windows.len() {
+            return Ok(());
+        }
+        let window = self.windows.swap_remove(place);
+        self.life.make(Call::Close { window })?;
+        Ok(())
+    }
+
+    // Something happens.
+    fn step(&mut self) -> Result<(), RecordFault> {
+        let at = self.random.place(DEVICES);
+        match self.random.below(40) {
+            0..2 => self.ask(at),
+            2..5 => self.answer(),
+            5..16 => self.send(at),
+            16..24 => match self.last {
+                Some(sent) => self.hear(sent),
+                None => Ok(()),
+            },
+            _ => self.close(),
+        }
+    }
+
+    // Compacts the record, and goes on with it. Gives how many lines it has less, if the fewer serve as well.
+    fn compact(&mut self) -> Result<Option<u64>, RecordFault> {
+        let fewer = self.life.fewer()?;
+        if !self.life.take(&fewer, fewer.text())? {
+            return Ok(None);
+        }
+        self.life.restart()?;
+        Ok(Some(fewer.saved()))
+    }
+}
+
+#[test]
+fn no_later_answer_changes(rt: HostRuntime) -> Result<(), RecordFault> {
+    let mut saved = 0u64;
+    for seed in [1, 2u32] {
+        let mut plain = Network::new(rt.alloc(), seed)?;
+        let mut other = Network::new(rt.alloc(), seed)?;
+        for _compaction in 0..4 {
+            for _step in 0..200 {
+                plain.step()?;
+                other.step()?;
+            }
+            assert_eq!(rt; plain.life.said.as_str(), other.life.said.as_str());
+            assert!(rt; plain.life.ups.as_slice() == other.life.ups.as_slice());
+            let fewer = other.compact()?;
+            assert!(rt; fewer.is_some());
+            saved = saved.saturating_add(fewer.unwrap_or(0));
+        }
+    }
+    assert!(rt; saved > 300, "{saved}");
+    Ok(())
+}
