@@ -6,7 +6,7 @@ use std::alloc::{AllocError, Global};
 pub const BLOCKS: usize = 200_000;
 
 // How much of the stack is used once before memory is gone, in bytes.
-const STACK: usize = 262_144;
+const STACK: usize = 524_288;
 
 // Writes to all of this, and adds up what stands there then: no compiler leaves out the room for it.
 #[inline(never)]
@@ -32,7 +32,7 @@ fn use_stack(seed: u8) -> u32 {
 
 /// Takes all memory that is left, in blocks of falling size, into a list that has room for `BLOCKS`.
 ///
-/// 256 KB of the stack are used before: where no address is left it cannot grow any more, and the test would end by a signal.
+/// 512 KB of the stack are used before: where no address is left it cannot grow any more, and the test would end by a signal.
 pub fn take_all(alloc: Global, held: &mut Vec<Vec<u8>>) -> Result<(), AllocError> {
     // The sum is used, so that the stack is: it begins with one of two sizes, of which each is too much.
     let sum = use_stack((held.len() % 256) as u8);
