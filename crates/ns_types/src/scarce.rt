@@ -5,8 +5,8 @@ use std::alloc::{AllocError, Global};
 /// How many blocks a test holds at most.
 pub const BLOCKS: usize = 200_000;
 
-// How much of the stack is used once before memory is gone, in bytes.
-const STACK: usize = 524_288;
+// How much of the stack one of two functions uses before memory is gone, in bytes.
+const STACK: usize = 262_144;
 
 // Writes to all of this, and adds up what stands there then: no compiler leaves out the room for it.
 #[inline(never)]
@@ -23,11 +23,19 @@ fn write_all_of(room: &mut [u8], seed: u8) -> u32 {
     sum
 }
 
+// Uses half of the stack that a test may need.
+#[inline(never)]
+fn use_half(seed: u8) -> u32 {
+    let mut room = [0u8; STACK];
+    write_all_of(&mut room, seed)
+}
+
 // Uses the stack once as far as a test may need it.
 #[inline(never)]
 fn use_stack(seed: u8) -> u32 {
     let mut room = [0u8; STACK];
-    write_all_of(&mut room, seed)
+    let below = use_half(seed);
+    write_all_of(&mut room, seed).wrapping_add(below)
 }
 
 /// Takes all memory that is left, in blocks of falling size, into a list that has room for `BLOCKS`.
