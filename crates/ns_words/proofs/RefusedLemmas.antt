@@ -1,0 +1,98 @@
+-- Lemmas on values that an option cannot have.
+use Rattle.std.proofs.Common.{◌≡◌, ◌<◌, ◌^◌, ℕ, List, [], true, Option, Some, None, Ok, Err, Result, option_map, is_some, refl, sym, ap, subst, ◌∙◌, arith, inl, inr}
+use Rattle.std.specs.Prelude.{IfErr, find}
+use Rattle.std.specs.Result.{IsErrAnd}
+use Rattle.std.specs.Str.{bytes_eq}
+use Rattle.std.specs.Option.{ok_or}
+use Rattle.std.specs.Net.Grammar.{IsSocketText, Parses}
+use Rattle.std.specs.Str.Parse.{IsNumeral, ParsesUnsigned, digits_value, without_leading_plus}
+use Rattle.std.specs.declared.net.socket_addr.SocketAddr.{SocketAddr}
+use Rattle.clap.specs.Words.{ReadsOne, HasKind, IsAmong, Row, Text, fault_of, first_of, first_value, matched_of, one_of, one_text, rows_of, subcommand_of}
+use Rattle.clap.specs.Values.{kind_of}
+use Rattle.clap.specs.declared.error.Error.{Error}
+use Rattle.clap.specs.declared.parser.matches.Found.{Found}
+use Rattle.clap.specs.Facts.{Entry}
+use Rattle.clap.specs.Walk.{row_of}
+use Rattle.clap.proofs.WalkLemmas.{find_row, first_value-rows, one_text-rows}
+use Rattle.ns_words.specs.declared.options.BadWords.{BadWords}
+use Rattle.ns_words.specs.declared.options.BadWords.TheVariants.{NoMemory, NotText, BadValue, Shown}
+use Rattle.ns_words.specs.Asked.{IsNumber}
+use Rattle.ns_words.specs.Refused.{HasNoAddr, HasNoCount, IsOfClap, IsRefusal, IsRefusedBehind, IsThere}
+use Rattle.ns_words.specs.Commands.{program}
+
+-- no value was read: what the option's text says is none
+pub none_read : {T E : Type 0} (G : Text → Result T E → Type 0) (f : Found) (id : Text) (r : Option T) (P : Text → Type 0)
+    → ((t : Text) → one_text f id ≡ Some t → ReadsOne G t r) → r ≡ None → ((t : Text) (e : E) → G t (Err e) → ¬ P t)
+    → (t : Text) → one_of id (rows_of f) ≡ Some t → ¬ P t
+none_read G f id r P value none bad t is p =
+    let read : ReadsOne G t None = subst (ReadsOne G t) none (value t (one_text-rows f id ∙ is)) in
+    bad t read.0 read.1 p
+
+pub HasNoAddr-read : (E : Type 0) (f : Found) (id : Text) (r : Option SocketAddr)
+    → ((t : Text) → one_text f id ≡ Some t → ReadsOne {E = E} (Parses IsSocketText) t r) → r ≡ None → HasNoAddr id (rows_of f)
+HasNoAddr-read E f id r value none addr has =
+    none_read (Parses IsSocketText) f id r (λ t. IsSocketText t addr) value none (λ t e h. h addr) has.0 has.1 has.2
+
+pub HasNoCount-read : (E : Type 0) (Q R : Text → Result ℕ E → Type 0) (f : Found) (id : Text) (r : Option ℕ) (most : ℕ) → most < 2 ^ 32
+    → ((t : Text) → one_text f id ≡ Some t → ReadsOne (λ t r. ParsesUnsigned 32 10 t r × Q t r × R t r) t r) → r ≡ None
+    → HasNoCount id most (rows_of f)
+HasNoCount-read E Q R f id r most below value none n has =
+    let number = has.0 in
+    let small : digits_value 10 (without_leading_plus number.0) < 2 ^ 32 = subst (λ k. k < 2 ^ 32) number.3 (omega arith) in
+    none_read (λ t r. ParsesUnsigned 32 10 t r × Q t r × R t r) f id r
+    (λ t. IsNumeral 10 (without_leading_plus t) × (digits_value 10 (without_leading_plus t) < 2 ^ 32)) value none (λ t e h. h.0) number.0 number.1
+    (number.2, small)
+
+pub some_same : {A : Type 0} (x y : A) → Some x ≡ Some y → x ≡ y
+some_same x y same = cc
+
+-- an option's value is one number
+pub one_number : (id : Text) (rows : List Row) (m n : ℕ) → IsNumber id rows m → IsNumber id rows n → m ≡ n
+one_number id rows m n a b =
+    let same : a.0 ≡ b.0 = some_same a.0 b.0 (sym a.1 ∙ b.1) in
+    a.3 ∙ (ap (λ (t : Text). digits_value 10 (without_leading_plus t)) same ∙ sym b.3)
+
+-- an option with an entry is there
+pub is_there : (f : Found) (id : Text) → is_some (matched_of f id) ≡ true → IsThere id (rows_of f)
+is_there f id has =
+    ap (λ o. is_some (option_map (λ (r : Row). r.values) o)) (find_row f.entries.items id) ∙ go (find (λ e. bytes_eq e.0.now id) f.entries.items) has
+  where
+    go : (o : Option Entry) → is_some (option_map (λ (e : Entry). e.1) o) ≡ true → is_some (option_map (λ (r : Row). r.values) (option_map row_of o)) ≡ true
+    go None h = h
+    go (Some e) h = refl
+
+pub IfErr-ok_or : {A E : Type 0} (r : Option A) (e : E) (P : E → Type 0) → (r ≡ None → P e) → IfErr (ok_or r e) P
+IfErr-ok_or None e P h = h refl
+IfErr-ok_or (Some x) e P h = tt
+
+-- what the words are refused for, by clap and behind a command's name
+pub refusal_by_clap : (words : List Text) (error : Error) (bad : BadWords) → HasKind (fault_of program words) error → IsOfClap error bad → IsRefusal words bad
+refusal_by_clap words error NoMemory kinds h = tt
+refusal_by_clap words error NotText kinds h = absurd h
+refusal_by_clap words error (BadValue option) kinds h = absurd h
+refusal_by_clap words error (Shown shown) (inl memory) h = absurd (h.1 memory)
+refusal_by_clap words error (Shown shown) (inr among) h = subst (λ (e : Error). IsAmong (kind_of e) (fault_of program words)) (sym h.0) among
+
+pub refusal_behind : (words : List Text) (name : Text) (rows : List Row) (bad : BadWords) → fault_of program words ≡ []
+    → subcommand_of program words ≡ Some (name, rows) → IsRefusedBehind name rows bad → IsRefusal words bad
+refusal_behind words name rows NoMemory none named h = tt
+refusal_behind words name rows NotText none named h = absurd h
+refusal_behind words name rows (BadValue option) none named h = (none, (name, rows, named, h.0, h.1))
+refusal_behind words name rows (Shown error) none named h = absurd h
+
+-- an option without a first value has none in its row
+pub no_first : (f : Found) (id t : Text) → None ≡ first_value f id → first_of id (rows_of f) ≡ Some t → ⊥
+no_first f id t none is = let bad : None ≡ Some t = none ∙ (first_value-rows f id ∙ is) in cc
+
+-- the error that a `?` made of another
+pub made_err : {T E : Type 0} (r : Result T E) (P Q : E → Type 0) → ((e : E) → Q e → P e) → IsErrAnd r Q → IfErr r P
+made_err (Ok x) P Q f is = absurd is
+made_err (Err x) P Q f is = f x is
+
+-- and one that it passes on
+pub from_err : {T E : Type 0} (r : Result T E) (P : E → Type 0) (e : E) → P e → IsErrAnd r (λ x. x ≡ e) → IfErr r P
+from_err r P e p is = made_err r P (λ x. x ≡ e) (λ x is. subst P (sym is) p) is
+
+pub is_some-map : {A B : Type 0} (f : A → B) (o : Option A) → is_some (option_map f o) ≡ is_some o
+is_some-map f None = refl
+is_some-map f (Some x) = refl

@@ -1,0 +1,168 @@
+//! The texts of faults and of times, how runs end, and the exit statuses.
+
+use log::sink::Discard;
+use log::{Level, Log, Logged};
+use ns_commands::{
+    End, Fault, answer, compact, concluded, ended, of_reading, of_replay, of_roster, of_serve,
+    read_roster, refused, run_replay, time_text,
+};
+use ns_events::Output;
+use ns_replay::ReplayFault;
+use ns_roster::{Roster, RosterFault};
+use ns_serve_parts::ServeFault;
+use ns_types::OverStd;
+use ns_words::{Asked, BadWords, read_words};
+use std::io::ErrorKind;
+use std::process::ExitCode;
+use std::sync::Arc;
+use std::test::Fail;
+use std::time::Duration;
+
+#[test]
+fn faults_are_printed(rt: HostRuntime) -> Result<(), Fail> {
+    for (fault, text) in [
+        (of_roster(RosterFault::NotJson), "roster: O1"),
+        (of_roster(RosterFault::TooMany), "roster: O6"),
+        (of_roster(RosterFault::NoMemory), "no memory"),
+        (
+            of_reading(ErrorKind::NotFound, "a/b.json"),
+            "cannot read a/b.json",
+        ),
+        (of_reading(ErrorKind::OutOfMemory, "a/b.json"), "no memory"),
+    ] {
+        assert_eq!(rt; format!(in rt.alloc(); "{fault}")?.as_str(), text);
+    }
+    for (outcome, text) in [
+        (of_replay(Err(ReplayFault::NoMemory)), "no memory"),
+        (of_replay(Err(ReplayFault::Io)), "io"),
+        (of_serve(Err(ServeFault::NoMemory)), "no memory"),
+        (of_serve(Err(ServeFault::Io)), "io"),
+    ] {
+        let Err(fault) = outcome else {
+            return Err(Fail::new("no fault"));
+        };
+        assert_eq!(rt; format!(in rt.alloc(); "{fault}")?.as_str(), text);
+    }
+    assert!(rt; of_replay(Ok(())).is_ok() && of_serve(Ok(0)).is_ok());
+    Ok(())
+}
+
+// The expected texts are those of `date -u --iso-8601` at these seconds.
+#[test]
+fn times(rt: HostRuntime) {
+    for (seconds, nanos, wanted) in [
+        (0, 0, "1970-01-01T00:00:00.000Z"),
+        (1_795_512_600, 125_999_999, "2026-11-24T09:30:00.125Z"),
+        (1_709_164_800, 7_000_000, "2024-02-29T00:00:00.007Z"),
+    ] {
+        let text = time_text(Duration::new(seconds, nanos));
+        let Some(text) = text else {
+            continue;
+        };
+        assert_eq!(rt; text.as_str(), wanted);
+    }
+    assert!(rt; time_text(Duration::new(1_795_512_600, 0)).is_some());
+    assert!(rt; time_text(Duration::new(253_402_300_800, 0)).is_none());
+}
+
+#[test]
+fn statuses(rt: HostRuntime) {
+    assert_eq!(rt; ended(&rt, &Ok(())), ExitCode::SUCCESS);
+    for fault in [
+        Fault::Roster(RosterFault::Field),
+        Fault::NoMemory,
+        Fault::CannotRead("a"),
+        Fault::Io,
+    ] {
+        assert_eq!(rt; ended(&rt, &Err(fault)), ExitCode::FAILURE);
+    }
+    assert_eq!(rt;
+        refused(&rt, &Discard, &BadWords::NoMemory),
+        ExitCode::from(1)
+    );
+    assert_eq!(rt;
+        refused(&rt, &Discard, &BadWords::NotText),
+        ExitCode::from(2)
+    );
+}
+
+// How the program ends with these words, whose roster is not there. A server is not begun.
+fn end_of<'a, L: Log>(rt: &HostRuntime, log: &L, words: &'a [String]) -> End<'a> {
+    match read_words(rt.alloc(), words) {
+        Ok(Asked::Replay(path, uplinks, closing)) => {
+            End::Ran(run_replay(rt, log, path, uplinks, closing))
+        }
+        Ok(Asked::Serve(path, _, _)) => match read_roster(rt, log, path) {
+            Ok(_) => End::Ran(Ok(())),
+            Err(fault) => End::Ran(Err(fault)),
+        },
+        Ok(Asked::Compact(path, folder)) => End::Ran(compact(rt, log, path, folder)),
+        Err(bad) => End::Refused(bad),
+    }
+}
+
+// A run whose roster is not there ends with status 1, also one that is to serve, and one of bad words with 2.
+#[test]
+fn runs_that_fail(rt: HostRuntime) -> Result<(), Fail> {
+    let log = Logged::new(&rt, Level::Error, Discard);
+    for (list, status) in [
+        (
+            ["lorawan_ns", "replay", "no/such/roster.json", "--closing"].as_slice(),
+            1u8,
+        ),
+        (
+            [
+                "lorawan_ns",
+                "serve",
+                "no/such/roster.json",
+                "--join",
+                "127.0.0.1:9",
+            ]
+            .as_slice(),
+            1u8,
+        ),
+        (
+            ["lorawan_ns", "compact", "no/such/roster.json", "no/such"].as_slice(),
+            1u8,
+        ),
+        (["lorawan_ns", "replay"].as_slice(), 2u8),
+    ] {
+        let mut words = Vec::new(rt.alloc());
+        for word in list {
+            words.push(String::from_str(rt.alloc(), word)?)?;
+        }
+        let end = end_of(&rt, &log, words.as_slice());
+        assert_eq!(rt; concluded(&rt, &log, &end), ExitCode::from(status));
+    }
+    Ok(())
+}
+
+// What a run over a roster of one device prints for no steps, with and without the closing roster.
+#[test]
+fn closing_rosters(rt: HostRuntime) -> Result<(), Fail> {
+    let text =
+        "{\"devices\":[{\"dev_eui\":\"000000000000000d\",\"join_eui\":\"0102030401020304\",\"last_nonce\":7,\"slot\":1}],\"net_id\":\"000024\",\"rx1_offset\":0,\"rx_delay\":1,\"version\":2}";
+    for (closing, lines) in [(false, 0), (true, 1)] {
+        let roster = Arc::new(rt.alloc(), Roster::read(rt.alloc(), text.as_bytes())?)?;
+        let mut reader = OverStd::new(b"".as_slice());
+        let mut writer = OverStd::new(Vec::<u8>::new(rt.alloc()));
+        let outcome = answer(
+            &Discard,
+            rt.alloc(),
+            roster,
+            Output::Lines,
+            closing,
+            &mut reader,
+            &mut writer,
+        );
+        assert!(rt; outcome.is_ok());
+        let written = writer.into_inner();
+        assert_eq!(rt; written.len(), lines * (text.len() + 1));
+        assert!(rt;
+            written
+                .as_slice()
+                .starts_with(if closing { text.as_bytes() } else { b"" })
+        );
+    }
+    Ok(())
+}

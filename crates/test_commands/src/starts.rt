@@ -1,0 +1,79 @@
+//! A start over the record of a folder: where its steps have grown much, fewer take their place first.
+
+use log::sink::Discard;
+use ns_commands::open_record;
+use ns_roster::Roster;
+use std::fs;
+use std::fs::File;
+use std::io::Read;
+use std::sync::Arc;
+use std::test::Fail;
+
+const ROSTER: &str =
+    "{\"version\":1,\"net_id\":\"000024\",\"rx1_offset\":0,\"rx_delay\":1,\"devices\":[{\"dev_eui\":\"000000000000000d\",\"join_eui\":\"0102030401020304\",\"slot\":1998321}]}";
+
+// A Join-Request that is not answered.
+const LOST: &str =
+    "heard 010100000000000000a100000000000f424033be27a005fc4a004b170004030201040302010d00000000000000010001000000\nlost 0004030201040302010d00000000000000010001000000\n";
+
+// A window that is not open, which no record has.
+const UNFIT: &str = "close 000000000000000d 1 2\n";
+
+// From how many bytes on fewer steps take the place.
+const MANY: usize = 4_194_304;
+
+// The steps of a record after a start over these.
+fn after(rt: &HostRuntime, folder: &str, steps: &[u8]) -> Result<Vec<u8>, Fail> {
+    let alloc = rt.alloc();
+    let roster = Arc::new(alloc, Roster::read(alloc, ROSTER.as_bytes())?)?;
+    let _ = fs::remove_dir_all(rt, folder);
+    fs::create_dir(rt, folder)?;
+    let path = format!(in alloc; "{folder}/steps")?;
+    fs::write(rt, path.as_str(), steps)?;
+    if open_record(rt, &Discard, &roster, folder, false).is_err() {
+        return Err(Fail::new("not opened"));
+    }
+    let mut left = Vec::new(alloc);
+    File::open(rt, path.as_str())?.read_to_end(&mut left)?;
+    fs::remove_dir_all(rt, folder)?;
+    Ok(left)
+}
+
+// Steps of so many bytes or a few more.
+fn steps_of(rt: &HostRuntime, bytes: usize) -> Result<Vec<u8>, Fail> {
+    let mut steps = Vec::with_capacity(rt.alloc(), bytes.saturating_add(LOST.len()))?;
+    for _ in 0..bytes.div_ceil(LOST.len()) {
+        steps.extend_from_slice(LOST.as_bytes())?;
+    }
+    Ok(steps)
+}
+
+// Steps of less than 4 MiB stay as they are.
+#[test]
+fn small_records_stay(rt: HostRuntime) -> Result<(), Fail> {
+    let steps = steps_of(&rt, MANY.saturating_sub(2 * LOST.len()))?;
+    assert!(rt; steps.len() < MANY);
+    let left = after(&rt, "test_commands_small", steps.as_slice())?;
+    assert!(rt; left.as_slice() == steps.as_slice());
+    Ok(())
+}
+
+// Those of 4 MiB of which nothing is needed become few, behind the line of their base.
+#[test]
+fn grown_records_become_small(rt: HostRuntime) -> Result<(), Fail> {
+    let steps = steps_of(&rt, MANY)?;
+    let left = after(&rt, "test_commands_grown", steps.as_slice())?;
+    assert!(rt; left.as_slice().starts_with(b"base "));
+    assert!(rt; left.len() < MANY / 8);
+    Ok(())
+}
+
+// Where that cannot be done they stay as they are, and the start goes on.
+#[test]
+fn unfit_records_stay(rt: HostRuntime) -> Result<(), Fail> {
+    let mut steps = steps_of(&rt, MANY)?;
+    steps.extend_from_slice(UNFIT.as_bytes())?;
+    let left = after(&rt, "test_commands_unfit", steps.as_slice())?;
+    assert!(rt; left.as_slice() == steps.as_slice());
+    Ok(())
+}

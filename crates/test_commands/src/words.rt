@@ -1,0 +1,269 @@
+//! What words ask for.
+
+use log::sink::Discard;
+use ns_commands::refused;
+use ns_events::Output;
+use ns_serve_parts::ServeOptions;
+use ns_words::{Asked, BadWords, OptionName, read_words};
+use std::net::SocketAddr;
+use std::process::ExitCode;
+use std::test::Fail;
+
+// Whether the options are those that stand where no word names them.
+fn are_usual(options: &ServeOptions<'_>) -> bool {
+    options.join == SocketAddr::from(([127, 0, 0, 1], 8080))
+        && options.host.as_str() == "localhost"
+        && options.listen.is_none()
+        && options.forwarders.is_none()
+        && options.power == 14
+        && options.workers == 4
+        && options.join_workers == 1
+        && options.window_ms == 200
+        && options.stop_after.is_none()
+        && !options.stop_at_end
+        && options.trim == Some(20_000)
+        && options.output == Output::Lines
+        && !options.events
+        && !options.closing
+}
+
+// What some words ask for: R to replay, J to replay with uplinks as JSON, C to replay with the closing roster, U to serve with the usual options, D to serve with the
+// closing roster, S to serve with others, T a text that was asked for; V is a value that an option cannot have, E another error. Beside
+// it the exit status where nothing is to be done.
+fn asked(rt: &HostRuntime, list: &[&str]) -> Result<(char, ExitCode), Fail> {
+    let mut words = Vec::new(rt.alloc());
+    for word in list {
+        words.push(String::from_str(rt.alloc(), word)?)?;
+    }
+    Ok(match read_words(rt.alloc(), words.as_slice()) {
+        Ok(Asked::Replay("roster.json", Output::Lines, false)) => ('R', ExitCode::SUCCESS),
+        Ok(Asked::Replay("roster.json", Output::Json, false)) => ('J', ExitCode::SUCCESS),
+        Ok(Asked::Replay("roster.json", Output::Lines, true)) => ('C', ExitCode::SUCCESS),
+        Ok(Asked::Compact("roster.json", "dir")) => ('K', ExitCode::SUCCESS),
+        Ok(Asked::Serve("roster.json", options, _)) if are_usual(&options) => (
+            'U',
+            ExitCode::SUCCESS,
+        ),
+        Ok(Asked::Serve("roster.json", options, _)) if options.closing => ('D', ExitCode::SUCCESS),
+        Ok(Asked::Serve("roster.json", _, _)) => ('S', ExitCode::SUCCESS),
+        Ok(_) => ('?', ExitCode::SUCCESS),
+        Err(bad) => (letter(&bad), refused(rt, &Discard, &bad)),
+    })
+}
+
+fn letter(bad: &BadWords) -> char {
+    match bad {
+        BadWords::Shown(error) if error.use_stderr() => 'E',
+        BadWords::Shown(_) => 'T',
+        BadWords::BadValue(_) => 'V',
+        _ => '?',
+    }
+}
+
+#[test]
+fn words_of_the_command_line(rt: HostRuntime) -> Result<(), Fail> {
+    let done = ExitCode::SUCCESS;
+    let bad = ExitCode::from(2);
+    assert_eq!(rt;
+        asked(&rt, &["lorawan_ns", "replay", "roster.json"])?,
+        ('R', done)
+    );
+    assert_eq!(rt;
+        asked(&rt, &["lorawan_ns", "replay", "roster.json", "--closing"])?,
+        ('C', done)
+    );
+    for (form, wanted) in [
+        ("lines", ('R', done)),
+        ("json", ('J', done)),
+        ("JSON", ('V', bad)),
+        ("", ('V', bad)),
+    ] {
+        let words = ["lorawan_ns", "replay", "roster.json", "--output", form];
+        assert_eq!(rt; asked(&rt, &words)?, wanted);
+    }
+    assert_eq!(rt;
+        asked(&rt, &["lorawan_ns", "compact", "roster.json", "dir"])?,
+        ('K', done)
+    );
+    assert_eq!(rt;
+        asked(&rt, &["lorawan_ns", "compact", "roster.json"])?,
+        ('E', bad)
+    );
+    assert_eq!(rt; asked(&rt, &["lorawan_ns", "--help"])?, ('T', done));
+    assert_eq!(rt;
+        asked(&rt, &["lorawan_ns", "replay", "--help"])?,
+        ('T', done)
+    );
+    assert_eq!(rt; asked(&rt, &["lorawan_ns", "--version"])?, ('T', done));
+    assert_eq!(rt; asked(&rt, &["lorawan_ns"])?, ('E', bad));
+    assert_eq!(rt; asked(&rt, &["lorawan_ns", "replay"])?, ('E', bad));
+    assert_eq!(rt;
+        asked(&rt, &["lorawan_ns", "replay", "roster.json", "more"])?,
+        ('E', bad)
+    );
+    Ok(())
+}
+
+#[test]
+fn words_of_serving(rt: HostRuntime) -> Result<(), Fail> {
+    let done = ExitCode::SUCCESS;
+    let bad = ExitCode::from(2);
+    assert_eq!(rt;
+        asked(&rt, &["lorawan_ns", "serve", "roster.json"])?,
+        ('E', bad)
+    );
+    let words = [
+        "lorawan_ns",
+        "serve",
+        "roster.json",
+        "--join",
+        "127.0.0.1:8080",
+        "--closing",
+    ];
+    assert_eq!(rt; asked(&rt, &words)?, ('D', done));
+    for (name, value, wanted) in [
+        ("--host", "localhost", ('U', done)),
+        ("--host", "js.local", ('S', done)),
+        ("--host", "a b", ('V', bad)),
+        ("--listen", "127.0.0.1:1701", ('S', done)),
+        ("--listen", "localhost", ('V', bad)),
+        ("--forwarders", "127.0.0.1:1700", ('S', done)),
+        ("--forwarders", "localhost", ('V', bad)),
+        ("--power", "27", ('S', done)),
+        ("--power", "14", ('U', done)),
+        ("--power", "0", ('E', bad)),
+        ("--power", "28", ('E', bad)),
+        ("--workers", "16", ('S', done)),
+        ("--workers", "0", ('E', bad)),
+        ("--workers", "17", ('E', bad)),
+        ("--join-workers", "16", ('S', done)),
+        ("--join-workers", "17", ('E', bad)),
+        ("--window", "60000", ('S', done)),
+        ("--window", "60001", ('E', bad)),
+        ("--stop-after", "4294967295", ('S', done)),
+        ("--stop-after", "4294967296", ('E', bad)),
+        ("--trim", "1", ('S', done)),
+        ("--trim", "4294967295", ('S', done)),
+        ("--trim", "20000", ('U', done)),
+        ("--trim", "never", ('S', done)),
+        ("--trim", "0", ('V', bad)),
+        ("--trim", "4294967296", ('V', bad)),
+        ("--trim", "Never", ('V', bad)),
+        ("--output", "lines", ('U', done)),
+        ("--output", "json", ('S', done)),
+        ("--output", "xml", ('V', bad)),
+    ] {
+        let words = [
+            "lorawan_ns",
+            "serve",
+            "roster.json",
+            "--join",
+            "127.0.0.1:8080",
+            name,
+            value,
+        ];
+        assert_eq!(rt; asked(&rt, &words)?, wanted);
+    }
+    Ok(())
+}
+
+// Each option's value goes into the field of its name, and no other.
+#[test]
+fn each_option_is_its_field(rt: HostRuntime) -> Result<(), Fail> {
+    let mut words = Vec::new(rt.alloc());
+    for word in [
+        "lorawan_ns",
+        "serve",
+        "r.json",
+        "--join",
+        "127.0.0.3:8081",
+        "--host",
+        "js",
+        "--listen",
+        "127.0.0.2:1711",
+        "--forwarders",
+        "127.0.0.4:1712",
+        "--power",
+        "9",
+        "--workers",
+        "3",
+        "--join-workers",
+        "5",
+        "--window",
+        "77",
+        "--stop-after",
+        "11",
+        "--stop-at-end-of-input",
+        "--trim",
+        "13",
+        "--output",
+        "json",
+        "--events",
+        "--closing",
+    ] {
+        words.push(String::from_str(rt.alloc(), word)?)?;
+    }
+    let Ok(Asked::Serve("r.json", options, _)) = read_words(rt.alloc(), words.as_slice()) else {
+        return Err(Fail::new("not asked to serve"));
+    };
+    assert_eq!(rt; options.join, SocketAddr::from(([127, 0, 0, 3], 8081)));
+    assert_eq!(rt; options.host.as_str(), "js");
+    assert_eq!(rt;
+        options.listen,
+        Some(SocketAddr::from(([127, 0, 0, 2], 1711)))
+    );
+    assert_eq!(rt;
+        options.forwarders,
+        Some(SocketAddr::from(([127, 0, 0, 4], 1712)))
+    );
+    assert_eq!(rt; options.power, 9);
+    assert_eq!(rt; (options.workers, options.join_workers), (3, 5));
+    assert_eq!(rt; options.window_ms, 77);
+    assert_eq!(rt; options.stop_after, Some(11));
+    assert!(rt; options.stop_at_end);
+    assert_eq!(rt; options.trim, Some(13));
+    assert!(rt; options.output == Output::Json && options.events && options.closing);
+    Ok(())
+}
+
+// What is said of an option whose value it cannot have.
+#[test]
+fn options_say_what_they_take(rt: HostRuntime) {
+    for (name, wanted) in [
+        (OptionName::Join, "IP address and a port"),
+        (OptionName::Join, "no name"),
+        (OptionName::Join, "no http://"),
+        (OptionName::Listen, "IP address and a port"),
+        (OptionName::Host, "name"),
+        (OptionName::Trim, "never"),
+        (OptionName::Output, "json"),
+        (OptionName::StopAfter, "1 to 4294967295"),
+        (OptionName::Workers, "1 to 16"),
+        (OptionName::Window, "1 to 60000"),
+    ] {
+        assert!(rt; name.takes().contains(wanted), "{name}");
+    }
+}
+
+// What `--help` and `--version` print.
+#[test]
+fn help_names_streams_and_statuses(rt: HostRuntime) -> Result<(), Fail> {
+    for (word, wanted) in [
+        ("--help", "Standard input"),
+        ("--help", "Standard output"),
+        ("--help", "Status"),
+        ("--help", "docs/FORMATS.md"),
+        ("--help", "log lines"),
+        ("--version", "lorawan_ns 0.1.0"),
+    ] {
+        let mut words = Vec::new(rt.alloc());
+        words.push(String::from_str(rt.alloc(), "lorawan_ns")?)?;
+        words.push(String::from_str(rt.alloc(), word)?)?;
+        let Err(BadWords::Shown(error)) = read_words(rt.alloc(), words.as_slice()) else {
+            return Err(Fail::new("no text"));
+        };
+        let text = format!(in rt.alloc(); "{error}")?;
+        assert!(rt; text.as_str().contains(wanted), "{word}");
+    }
+    Ok(())
+}
