@@ -12,9 +12,12 @@ use std::test::Fail;
 const ROSTER: &str =
     "{\"version\":1,\"net_id\":\"000024\",\"rx1_offset\":0,\"rx_delay\":1,\"devices\":[{\"dev_eui\":\"000000000000000d\",\"join_eui\":\"0102030401020304\",\"slot\":1998321}]}";
 
-// A Join-Request that is not answered.
-const LOST: &str =
-    "heard 010100000000000000a100000000000f424033be27a005fc4a004b170004030201040302010d00000000000000010001000000\nlost 0004030201040302010d00000000000000010001000000\n";
+// A Join-Request, and the front of the answer to it.
+const ASKED: &str =
+    "heard 010100000000000000a100000000000f424033be27a005fc4a004b170004030201040302010d00000000000000010001000000\nanswer 0004030201040302010d00000000000000010001000000 ";
+
+// What stands in the answer again and again: no JSON, so the join fails.
+const TEXT: [u8; 1024] = [b'x'; 1024];
 
 // A window that is not open, which no record has.
 const UNFIT: &str = "close 000000000000000d 1 2\n";
@@ -39,11 +42,15 @@ fn after(rt: &HostRuntime, folder: &str, steps: &[u8]) -> Result<Vec<u8>, Fail> 
     Ok(left)
 }
 
-// Steps of so many bytes or a few more.
-fn steps_of(rt: &HostRuntime, bytes: usize) -> Result<Vec<u8>, Fail> {
-    let mut steps = Vec::with_capacity(rt.alloc(), bytes.saturating_add(LOST.len()))?;
-    for _ in 0..bytes.div_ceil(LOST.len()) {
-        steps.extend_from_slice(LOST.as_bytes())?;
+// Steps of so many joins that failed, each of a little more than 64 KiB.
+fn joins(rt: &HostRuntime, count: usize) -> Result<Vec<u8>, Fail> {
+    let mut steps = Vec::new(rt.alloc());
+    for _ in 0..count {
+        steps.extend_from_slice(ASKED.as_bytes())?;
+        for _ in 0..64 {
+            steps.extend_from_slice(&TEXT)?;
+        }
+        steps.extend_from_slice(b"\n")?;
     }
     Ok(steps)
 }
@@ -51,7 +58,7 @@ fn steps_of(rt: &HostRuntime, bytes: usize) -> Result<Vec<u8>, Fail> {
 // Steps of less than 4 MiB stay as they are.
 #[test]
 fn small_records_stay(rt: HostRuntime) -> Result<(), Fail> {
-    let steps = steps_of(&rt, MANY.saturating_sub(2 * LOST.len()))?;
+    let steps = joins(&rt, 63)?;
     assert!(rt; steps.len() < MANY);
     let left = after(&rt, "test_commands_small", steps.as_slice())?;
     assert!(rt; left.as_slice() == steps.as_slice());
@@ -61,7 +68,7 @@ fn small_records_stay(rt: HostRuntime) -> Result<(), Fail> {
 // Those of 4 MiB of which nothing is needed become few, behind the line of their base.
 #[test]
 fn grown_records_become_small(rt: HostRuntime) -> Result<(), Fail> {
-    let steps = steps_of(&rt, MANY)?;
+    let steps = joins(&rt, 64)?;
     let left = after(&rt, "test_commands_grown", steps.as_slice())?;
     assert!(rt; left.as_slice().starts_with(b"base "));
     assert!(rt; left.len() < MANY / 8);
@@ -71,7 +78,7 @@ fn grown_records_become_small(rt: HostRuntime) -> Result<(), Fail> {
 // Where that cannot be done they stay as they are, and the start goes on.
 #[test]
 fn unfit_records_stay(rt: HostRuntime) -> Result<(), Fail> {
-    let mut steps = steps_of(&rt, MANY)?;
+    let mut steps = joins(&rt, 64)?;
     steps.extend_from_slice(UNFIT.as_bytes())?;
     let left = after(&rt, "test_commands_unfit", steps.as_slice())?;
     assert!(rt; left.as_slice() == steps.as_slice());
