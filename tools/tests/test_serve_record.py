@@ -122,6 +122,32 @@ class Lives(Recorded):
             self.kill(self.life(roster, NOWHERE))
             self.assertEqual((self.bytes_of(self.steps), self.bytes_of(self.ups)), (steps, ups))
 
+    def test_grown(self):
+        """Steps that have grown to 4 MiB become few at a start, and no later answer changes; the start after it leaves them."""
+        joins, roster = self.joins([13]), self.roster([13, 14])
+        server = self.life(roster, joins.where)
+        gateway, device = self.joined(server, 13)
+        self.acknowledged(gateway, device, 0, 0)
+        server.out.wait('up ')
+        self.kill(server)
+        heard = 'heard %s\n' % gateway.datagram(self.device(14).join_request(1)).hex()
+        ticket = replayed(roster, heard)[0].split()[1]
+        self.put(self.steps, (heard + 'answer %s %s\n' % (ticket, 'x' * 65536)).encode() * 64)
+        ups = self.bytes_of(self.ups)
+        server = self.life(roster, NOWHERE)
+        server.log.wait('record: compacted 132 ')
+        gateway = self.gateway(0xa1, server)
+        self.acknowledged(gateway, device, 1, 1)
+        server.out.wait('up ')
+        self.kill(server)
+        steps = self.bytes_of(self.steps)
+        self.assertTrue(steps.startswith(b'base ') and len(steps) < 65536, steps[:200])
+        self.assertTrue(self.bytes_of(self.ups).startswith(ups))
+        server = self.life(roster, NOWHERE)
+        self.assertEqual(server.log.count('compacted'), 0)
+        self.kill(server)
+        self.assertEqual(self.bytes_of(self.steps), steps)
+
     def test_a_device_more(self):
         """A roster with a device more is taken: the others' sessions go on."""
         joins = self.joins([13, 14])
