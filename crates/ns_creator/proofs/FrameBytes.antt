@@ -2,7 +2,8 @@
 use Rattle.std.proofs.Common.{ℕ, zero, suc, ◌<◌, ◌≤◌, List, ◌∷◌, ◌++◌, Option, None, Some, IfSome, subst, sym, arith}
 use Rattle.std.specs.Int.{w16, w32, w64, to_le_bytes, byte_at, bytes_low_first}
 use Rattle.std.proofs.lemmas.List.Elements.{All-nil, All-cons, All-append}
-use Rattle.ns_views.specs.Grammar.{AreBytes, DataFields, JoinFields, IsDataFrame, IsJoinRequest, frame_before_mic, mhdr, ported, join_request}
+use Rattle.ns_types.specs.Bytes.{AreBytes}
+use Rattle.ns_views.specs.Grammar.{DataFields, JoinFields, IsDataFrame, IsJoinRequest, frame_before_mic, mhdr, ported, join_request}
 
 abbrev cons : (b : ℕ) (bytes : List ℕ) → b < 256 → AreBytes bytes → AreBytes (b ∷ bytes)
 cons = All-cons (λ b. b < 256)

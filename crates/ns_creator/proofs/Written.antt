@@ -2,8 +2,10 @@
 use Rattle.std.proofs.Common.{◌≡◌, ℕ, ◌%◌, ◌^◌, ◌<◌, ◌≤◌, Bool, true, false, List, [], ◌∷◌, ◌++◌, length, Option, None, Some, IfSome, IfNone, refl, ap, sym, subst, ◌∙◌, arith}
 use Rattle.std.proofs.lemmas.List.Elements.{All-head, All-tail}
 use Rattle.std.specs.Int.{w16, w32, to_le_bytes}
+use Rattle.ns_types.proofs.ByteLemmas.{AreBytes-front, AreBytes-back}
+use Rattle.ns_types.specs.Bytes.{AreBytes}
 use Rattle.ns_aes_cmac.specs.Aes.{xor_bytes}
-use Rattle.ns_views.specs.Grammar.{AreBytes, DataFields, IsDataFrame, IsJoinRequest, frame_before_mic, mhdr, ported}
+use Rattle.ns_views.specs.Grammar.{DataFields, IsDataFrame, IsJoinRequest, frame_before_mic, mhdr, ported}
 use Rattle.ns_secure.specs.Integrity.{mic, join_mic}
 use Rattle.ns_secure.specs.declared.Dir.{Dir}
 use Rattle.ns_secure.specs.declared.Dir.TheVariants.{Up, Down}
@@ -12,7 +14,6 @@ use Rattle.ns_creator.specs.declared.keys.Keys.{Keys}
 use Rattle.ns_creator.specs.declared.join.JoinRequestCreator.{JoinRequestCreator}
 use Rattle.ns_creator.specs.JoinFrame.{request_before_mic, request_fields}
 use Rattle.ns_creator.specs.DataFrame.{PlainFrame, AreFlags, data_type, written_fields, data_mic, data_before_mic, lacks_port}
-use Rattle.ns_creator.proofs.Parts.{AreBytes-front, AreBytes-back}
 
 -- an empty payload stays empty
 cipher-empty : (key : List ℕ) (dir : Dir) (addr counter : ℕ) → cipher key dir addr counter [] ≡ []

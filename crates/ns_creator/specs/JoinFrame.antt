@@ -1,7 +1,8 @@
 -- The frames of a join as they are written (LoRaWAN L2 1.0.4, 6.2.5 and 6.2.6). Reserved bits are 0.
 use Rattle.std.specs.Prelude.{◌≡◌, ℕ, ◌+◌, ◌^◌, ◌<◌, nat_lt, List, [], ◌∷◌, ◌++◌, length, take, is_some, Option, None, Some, if◌then◌else◌}
 use Rattle.std.specs.Int.{w16, w32, w64, to_le_bytes}
-use Rattle.ns_views.specs.Grammar.{AreBytes, JoinFields, mhdr, join_request}
+use Rattle.ns_types.specs.Bytes.{AreBytes}
+use Rattle.ns_views.specs.Grammar.{JoinFields, mhdr, join_request}
 use Rattle.ns_secure.specs.Integrity.{join_mic}
 use Rattle.ns_secure.specs.Cipher.{accept_cipher}
 use Rattle.ns_creator.specs.declared.fault.CreateFault.{CreateFault}

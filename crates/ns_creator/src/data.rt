@@ -2,11 +2,12 @@
 
 ghost use Rattle.std.specs.Prelude.{◌≡◌, ◌≤◌, ◌+◌, ◌++◌, length, IfOk, OnOk, OnErr, false};
 ghost use Rattle.std.specs.Result.{result_err};
+ghost use Rattle.ns_types.specs.Results.{or_fault};
 ghost use Rattle.ns_views.specs.Grammar.{ported, IsDataFrame, IsDataUplink};
 ghost use Rattle.ns_secure.specs.declared.Dir.TheVariants.{Up};
 ghost use Rattle.ns_secure.specs.Cipher.{cipher};
 ghost use Rattle.ns_creator.specs.DataFrame.{plain_frame, AreFlags, payload_key, data_header, data_before_mic, data_frame, frame_size, data_fault, written_fields, lacks_port, ack};
-ghost use Rattle.ns_creator.specs.Built.{with_front, unless};
+ghost use Rattle.ns_creator.specs.Built.{with_front};
 
 use crate::{CreateFault, Keys};
 use ns_secure::{Dir, cipher_in_place, mic_of};
@@ -65,7 +66,7 @@ impl DataCreator<'_> {
     /// Writes the frame to the front of `buf`, and gives its size. Refuses as `build_into` does.
     pub fn write_into(&self, keys: &Keys, buf: &mut [u8]) -> Result<usize, CreateFault>
         requires flags { AreFlags self.now.dir self.now.flags }
-        ensures size { result ≡ unless (data_fault (plain_frame self.now) (length buf.old)) (frame_size (plain_frame self.now)) }
+        ensures size { result ≡ or_fault (data_fault (plain_frame self.now) (length buf.old)) (frame_size (plain_frame self.now)) }
         ensures length { IfOk result (λ size. length (data_frame keys.now (plain_frame self.now)) ≡ size) }
         ensures written { OnOk result (buf.new ≡ with_front buf.old (data_frame keys.now (plain_frame self.now))) }
         ensures grammar { OnOk result (IsDataFrame (data_frame keys.now (plain_frame self.now)) (written_fields keys.now (plain_frame self.now))) }
@@ -147,7 +148,7 @@ impl DataCreator<'_> {
 
     /// The frame's size, or the first of C2, C3, C4 and C1.
     fn size_within(&self, room: usize) -> Result<usize, CreateFault>
-        ensures { result ≡ unless (data_fault (plain_frame self.now) room) (frame_size (plain_frame self.now)) }
+        ensures { result ≡ or_fault (data_fault (plain_frame self.now) room) (frame_size (plain_frame self.now)) }
     {
         if self.fopts.len() > 15 {
             return Err(CreateFault::OptionsTooLong);

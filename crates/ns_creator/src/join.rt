@@ -2,9 +2,11 @@
 
 ghost use Rattle.std.specs.Prelude.{◌≡◌, ◌≤◌, ◌<◌, ◌^◌, ◌+◌, length, IfOk, OnOk, OnErr};
 ghost use Rattle.std.specs.Result.{result_err};
-ghost use Rattle.ns_views.specs.Grammar.{AreBytes, IsJoinRequest};
+ghost use Rattle.ns_types.specs.Results.{or_fault};
+ghost use Rattle.ns_types.specs.Bytes.{AreBytes};
+ghost use Rattle.ns_views.specs.Grammar.{IsJoinRequest};
 ghost use Rattle.ns_creator.specs.JoinFrame.{request_before_mic, request_fields, join_request_frame, accept_fields, accept_mic, plain_accept, join_accept_frame, accept_size, IsJoinAccept, room_fault};
-ghost use Rattle.ns_creator.specs.Built.{with_front, unless};
+ghost use Rattle.ns_creator.specs.Built.{with_front};
 
 use crate::{CreateFault, Keys};
 use ns_secure::{accept_cipher_in_place, join_mic_of};
@@ -32,7 +34,7 @@ impl JoinRequestCreator {
 
     /// Writes the frame to the front of `buf`, and gives its size. Refuses as `build_into` does.
     pub fn write_into(&self, keys: &Keys, buf: &mut [u8]) -> Result<usize, CreateFault>
-        ensures size { result ≡ unless (room_fault 23 (length buf.old)) 23 }
+        ensures size { result ≡ or_fault (room_fault 23 (length buf.old)) 23 }
         ensures length { IfOk result (λ size. length (join_request_frame keys.now.root.0 self.now) ≡ size) }
         ensures written { OnOk result (buf.new ≡ with_front buf.old (join_request_frame keys.now.root.0 self.now)) }
         ensures grammar { OnOk result (IsJoinRequest (join_request_frame keys.now.root.0 self.now) (request_fields keys.now.root.0 self.now)) }
@@ -107,7 +109,7 @@ impl JoinAcceptCreator {
     /// Writes the frame to the front of `buf`, and gives its size. Refuses as `build_into` does.
     pub fn write_into(&self, keys: &Keys, buf: &mut [u8]) -> Result<usize, CreateFault>
         requires net { self.now.net_id.0 < 2 ^ 24 }
-        ensures size { result ≡ unless (room_fault (accept_size self.now) (length buf.old)) (accept_size self.now) }
+        ensures size { result ≡ or_fault (room_fault (accept_size self.now) (length buf.old)) (accept_size self.now) }
         ensures length { IfOk result (λ size. length (join_accept_frame keys.now.root.0 self.now) ≡ size) }
         ensures accept { OnOk result (IsJoinAccept keys.now.root.0 (join_accept_frame keys.now.root.0 self.now) self.now) }
         ensures written { OnOk result (buf.new ≡ with_front buf.old (join_accept_frame keys.now.root.0 self.now)) }

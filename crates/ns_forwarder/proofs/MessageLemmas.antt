@@ -7,15 +7,15 @@ use Rattle.std.proofs.lemmas.Bool.{eqb-true}
 use Rattle.std.proofs.lemmas.Bool.Decides.{nat_tests}
 use Rattle.std.proofs.lemmas.List.{take-append-drop, drop_more, drop-drop}
 use Rattle.std.proofs.lemmas.Nat.{from_be_bytes-to_be_bytes_8}
-use Rattle.ns_link.specs.Datagram.{AreBytes}
+use Rattle.ns_types.specs.Bytes.{AreBytes}
 use Rattle.ns_link.proofs.Parts.{number_of_8, below_8}
+use Rattle.ns_types.specs.Results as results
 use Rattle.ns_forwarder.specs.declared.head.Kind.{Kind}
 use Rattle.ns_forwarder.specs.declared.head.Kind.TheVariants.{PushData, PullData, TxAck}
 use Rattle.ns_forwarder.specs.declared.head.Head.{Head}
 use Rattle.ns_forwarder.specs.declared.fault.ForwarderFault.{ForwarderFault}
 use Rattle.ns_forwarder.specs.declared.fault.ForwarderFault.TheVariants.{TooLong, Short, Version}
 use Rattle.ns_forwarder.specs.declared.fault.ForwarderFault.TheVariants as fault
-use Rattle.ns_forwarder.specs.Faults as faults
 use Rattle.ns_forwarder.specs.Message.{most_bytes, identifier, kind_of, is_version, IsMessage, gateway_of, head_of, message_of}
 use Rattle.ns_forwarder.specs.Laws.{MessagesExactly}
 
@@ -139,7 +139,7 @@ tests too_long short known kind bytes =
     if too_long then Err TooLong
     else if short then Err Short
     else if not known then Err Version
-    else faults.◌>>=◌ (ok_or kind fault.Kind) (λ kind. Ok (head_of bytes kind, drop 12 bytes))
+    else results.◌>>=◌ (ok_or kind fault.Kind) (λ kind. Ok (head_of bytes kind, drop 12 bytes))
 
 pub message_of-read : (bytes : List ℕ) (kind : Kind) → IsRead bytes kind → message_of bytes ≡ Ok (head_of bytes kind, drop 12 bytes)
 message_of-read bytes kind r =

@@ -22,9 +22,9 @@ use Rattle.serde_json.specs.Data.{Data, number, float, null, object, member, no_
 use Rattle.serde_json.specs.Find.{of_float}
 use Rattle.serde_json.specs.Read.{max_depth}
 use Rattle.ns_types.specs.declared.heard.Target.{Target}
+use Rattle.ns_types.specs.Results as results
 use Rattle.ns_forwarder.specs.declared.fault.ForwarderFault.{ForwarderFault}
 use Rattle.ns_forwarder.specs.declared.fault.ForwarderFault.TheVariants.{Field, Outside}
-use Rattle.ns_forwarder.specs.Faults as faults
 use Rattle.ns_roster.specs.Field.{is_missing, text_at, whole_at}
 use Rattle.ns_forwarder.specs.Rxpk.{lora_rate, is_size_of, frame_from, frame_of}
 use Rattle.ns_forwarder.specs.Txpk.{rate_name, megahertz, base64, lora, fsk, txpk, request, SaysToSend}
@@ -97,8 +97,8 @@ frame-back d frame text size len bytes =
     let decoded : decode_of standard_pad_indifferent (base64 frame) ≡ Ok frame = decode_of-encode_of standard_pad_indifferent frame tt bytes in
     let sized : is_size_of (length frame) d ≡ true
     = ap (λ (o : Option ℕ). option_map_or (λ s. s == length frame) o (is_missing (codes "size") d)) size ∙ itself (length frame) in
-    ap (λ (o : Option (List ℕ)). faults.◌>>=◌ (ok_or o Field) (λ t. faults.◌>>=◌ (ok_or (result_ok (decode_of standard_pad_indifferent t)) Field) (λ f. frame_from f d))) text
-    ∙ ap (λ (r : Result (List ℕ) DecodeError). faults.◌>>=◌ (ok_or (result_ok r) Field) (λ f. frame_from f d)) decoded
+    ap (λ (o : Option (List ℕ)). results.◌>>=◌ (ok_or o Field) (λ t. results.◌>>=◌ (ok_or (result_ok (decode_of standard_pad_indifferent t)) Field) (λ f. frame_from f d))) text
+    ∙ ap (λ (r : Result (List ℕ) DecodeError). results.◌>>=◌ (ok_or (result_ok r) Field) (λ f. frame_from f d)) decoded
     ∙ ap₂ (λ (a b : Bool). if a && b then Ok frame else Err Field) (short (length frame) len) sized
 
 -- ---- the whole

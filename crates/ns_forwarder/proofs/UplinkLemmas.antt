@@ -1,8 +1,9 @@
 -- The datagram of an item's frame.
 use Rattle.std.proofs.Common.{◌≡◌, ℕ, List, subst}
+use Rattle.ns_types.specs.Bytes.{AreBytes}
 use Rattle.ns_types.specs.declared.identity.GatewayId.{GatewayId}
 use Rattle.ns_types.specs.declared.heard.Heard.{Heard}
-use Rattle.ns_link.specs.Datagram.{AreBytes, IsUpDatagram, up_datagram}
+use Rattle.ns_link.specs.Datagram.{IsUpDatagram, up_datagram}
 use Rattle.ns_forwarder.specs.Rxpk.{Item}
 use Rattle.ns_forwarder.specs.Uplink.{IsOfBand, HasRanges, heard_of}
 

@@ -1,6 +1,7 @@
 -- Which datagrams the frames of a message are handed on as.
 use Rattle.std.specs.Prelude.{ℕ, List, [], ◌∷◌, map, Result, Ok}
 use Rattle.std.specs.List.{All}
+use Rattle.ns_types.specs.Results.{◌>>=◌}
 use Rattle.ns_types.specs.declared.identity.GatewayId.{GatewayId}
 use Rattle.ns_types.specs.declared.heard.Heard.{Heard}
 use Rattle.ns_link.specs.Datagram.{up_datagram}
@@ -8,7 +9,6 @@ use Rattle.ns_forwarder.specs.declared.clock.Clock.{Clock}
 use Rattle.ns_forwarder.specs.declared.fault.ForwarderFault.{ForwarderFault}
 use Rattle.ns_forwarder.specs.declared.handed.Handed as code_handed
 use Rattle.ns_forwarder.specs.declared.item.Item as code
-use Rattle.ns_forwarder.specs.Faults.{◌>>=◌}
 use Rattle.ns_forwarder.specs.Clock.{moment_at, clock_after}
 use Rattle.ns_forwarder.specs.Rxpk.{Item}
 use Rattle.ns_forwarder.specs.Uplink.{IsOfBand, heard_of}

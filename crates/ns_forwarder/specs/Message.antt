@@ -2,6 +2,7 @@
 use Rattle.std.specs.Prelude.{◌≡◌, ℕ, ◌^◌, ◌<◌, ◌≤◌, ◌⊎◌, not, ◌||◌, ◌==◌, Bool, nat_lt, List, [], ◌∷◌, ◌++◌, length, take, drop, slice_index, Option, None, Some, Result, Ok, Err, if◌then◌else◌}
 use Rattle.std.specs.Int.{w64, to_be_bytes, from_be_bytes}
 use Rattle.std.specs.Option.{ok_or}
+use Rattle.ns_types.specs.Results.{◌>>=◌}
 use Rattle.ns_types.specs.declared.identity.GatewayId.{GatewayId}
 use Rattle.ns_forwarder.specs.declared.head.Kind.{Kind}
 use Rattle.ns_forwarder.specs.declared.head.Kind.TheVariants.{PushData, PullData, TxAck}
@@ -9,7 +10,6 @@ use Rattle.ns_forwarder.specs.declared.head.Head.{Head}
 use Rattle.ns_forwarder.specs.declared.fault.ForwarderFault.{ForwarderFault}
 use Rattle.ns_forwarder.specs.declared.fault.ForwarderFault.TheVariants.{TooLong, Short, Version}
 use Rattle.ns_forwarder.specs.declared.fault.ForwarderFault.TheVariants as fault
-use Rattle.ns_forwarder.specs.Faults.{◌>>=◌}
 
 -- the longest message that is looked at, in bytes
 abbrev pub most_bytes : ℕ

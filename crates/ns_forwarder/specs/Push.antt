@@ -4,11 +4,11 @@ use Rattle.std.specs.Option.{ok_or, option_map}
 use Rattle.std.specs.Result.{result_ok, result_err}
 use Rattle.serde_json.specs.Data.{Data}
 use Rattle.serde_json.specs.Find.{get, as_array, as_object}
+use Rattle.ns_types.specs.Results.{◌>>=◌}
 use Rattle.ns_roster.specs.Field.{value_of}
 use Rattle.ns_roster.specs.Text.{items_list}
 use Rattle.ns_forwarder.specs.declared.fault.ForwarderFault.{ForwarderFault}
 use Rattle.ns_forwarder.specs.declared.fault.ForwarderFault.TheVariants.{TooMany, Body}
-use Rattle.ns_forwarder.specs.Faults.{◌>>=◌}
 use Rattle.ns_forwarder.specs.Rxpk.{Item, item_of}
 
 -- the most items of a body that are looked at

@@ -9,12 +9,12 @@ use Rattle.serde_json.specs.Data.{Data}
 use Rattle.serde_json.specs.Find.{get, as_number, as_i64, to_float}
 use Rattle.base64.specs.Engines.{standard_pad_indifferent}
 use Rattle.base64.specs.GeneralPurpose.{decode_of}
+use Rattle.ns_types.specs.Results.{◌>>=◌}
 use Rattle.ns_link.specs.Datagram.{lowest_frequency, highest_frequency}
 use Rattle.ns_roster.specs.Field.{is_missing, text_at, whole_at}
 use Rattle.ns_forwarder.specs.declared.item.TheConstants.{FAR, FAR_BELOW, MILLION, TEN}
 use Rattle.ns_forwarder.specs.declared.fault.ForwarderFault.{ForwarderFault}
 use Rattle.ns_forwarder.specs.declared.fault.ForwarderFault.TheVariants.{Field, BadCrc, NoCrc, Outside}
-use Rattle.ns_forwarder.specs.Faults.{◌>>=◌}
 
 -- a number at a key, as the nearest binary64, which is less than 10^9 in size
 abbrev pub level_from : Float → Option Float

@@ -3,12 +3,12 @@ use Rattle.std.specs.Prelude.{ℕ, ◌==◌, ◌&&◌, ◌||◌, Bool, true, Lis
 use Rattle.std.specs.Option.{ok_or, option_map_or}
 use Rattle.serde_json.specs.Data.{Data}
 use Rattle.serde_json.specs.Find.{get, as_str, as_object}
+use Rattle.ns_types.specs.Results.{◌>>=◌}
 use Rattle.ns_roster.specs.Field.{value_of}
 use Rattle.ns_forwarder.specs.declared.outcome.Outcome.{Outcome}
 use Rattle.ns_forwarder.specs.declared.outcome.Outcome.TheVariants.{Sent, TooLate, TooEarly, CollisionPacket, CollisionBeacon, TxFreq, TxPower, GpsUnlocked, Other}
 use Rattle.ns_forwarder.specs.declared.fault.ForwarderFault.{ForwarderFault}
 use Rattle.ns_forwarder.specs.declared.fault.ForwarderFault.TheVariants.{Body}
-use Rattle.ns_forwarder.specs.Faults.{◌>>=◌}
 
 -- NUL, a line feed, a carriage return or a space
 abbrev pub is_blank : ℕ → Bool

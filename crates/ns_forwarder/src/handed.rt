@@ -1,9 +1,9 @@
 //! The datagrams that the body of a PUSH_DATA becomes.
 
 ghost use Rattle.std.specs.Prelude.{◌≡◌, map, Ok, IfOk, IfErr, OnOk, OnErr};
+ghost use Rattle.ns_types.specs.Results.{Gives};
 ghost use Rattle.ns_link.specs.Datagram.{up_datagram, datagram_of};
 ghost use Rattle.ns_forwarder.specs.declared.fault.ForwarderFault.TheVariants.{NoMemory};
-ghost use Rattle.ns_forwarder.specs.Faults.{Gives};
 ghost use Rattle.ns_forwarder.specs.Push.{push_of};
 ghost use Rattle.ns_forwarder.specs.Handed.{AreOfBand, heard_from, clock_from, handed_view, handed_of};
 ghost use Rattle.ns_forwarder.specs.Held.{item_view, push_view};
@@ -63,7 +63,7 @@ pub fn hand_on(
     clock: &mut Clock,
     now: u64,
 ) -> Result<Handed, ForwarderFault>
-    ensures gives { Gives handed_view result (handed_of body.now gateway clock.old now) }
+    ensures gives { Gives NoMemory handed_view result (handed_of body.now gateway clock.old now) }
     ensures read_back { IfOk result (λ h. IfOk (push_of body.now)
         (λ p. map (λ d. datagram_of d.items) h.datagrams.items ≡ map (λ h. Ok h) (heard_from p.items gateway clock.old now))) }
     ensures follows { OnOk result (IfOk (push_of body.now) (λ p. clock.new ≡ clock_from p.items clock.old now)) }

@@ -4,7 +4,8 @@ ghost use Rattle.std.specs.Prelude.{◌≡◌, ◌≤◌, ◌<◌, length, optio
 ghost use Rattle.std.specs.Float.{binary64, round_ties_even};
 ghost use Rattle.std.specs.Float.Ieee.{mul};
 ghost use Rattle.serde_json.specs.View.{view};
-ghost use Rattle.ns_forwarder.specs.Faults.{Gives};
+ghost use Rattle.ns_types.specs.Results.{Gives};
+ghost use Rattle.ns_forwarder.specs.declared.fault.ForwarderFault.TheVariants.{NoMemory};
 ghost use Rattle.ns_forwarder.specs.Rxpk.{level_at, hertz_of, tenths_at, crc_of, lora_rate, rate_of, snr_of, frame_of, is_size_of, counter_of, item_of};
 ghost use Rattle.ns_forwarder.specs.Held.{item_view};
 ghost use Rattle.ns_forwarder.specs.Uplink.{IsOfBand};
@@ -164,7 +165,7 @@ fn is_size_of(item: &Value, len: usize) -> bool
 
 // The frame's bytes: `data` in base64, with padding or without, and `size`.
 fn frame_of(alloc: Global, item: &Value) -> Result<Vec<u8>, ForwarderFault>
-    ensures gives { Gives (λ v. v.items) result (frame_of (view item.now)) }
+    ensures gives { Gives NoMemory (λ v. v.items) result (frame_of (view item.now)) }
     ensures most { IfOk result (λ v. length v.items ≤ 255) }
 {
     let text = text_at(item, "data").ok_or(ForwarderFault::Field)?;
@@ -195,7 +196,7 @@ fn counter_of(item: &Value) -> Option<u32>
 /// F10), the band (F10), `rssi`, `lsnr`, `data` and `size`, `tmst` (F7). NoMemory where memory ran out before the answer was known.
 #[tactic(auto, unfolding(crate::specs::Rxpk::item_of))]
 pub fn read_item(alloc: Global, item: &Value) -> Result<Item, ForwarderFault>
-    ensures gives { Gives item_view result (item_of (view item.now)) }
+    ensures gives { Gives NoMemory item_view result (item_of (view item.now)) }
     ensures band { IfOk result (λ i. IsOfBand (item_view i)) }
 {
     crc_of(item)?;

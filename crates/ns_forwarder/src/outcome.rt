@@ -2,7 +2,8 @@
 
 ghost use Rattle.std.specs.Prelude.{◌≡◌};
 ghost use Rattle.serde_json.specs.View.{view};
-ghost use Rattle.ns_forwarder.specs.Faults.{Gives};
+ghost use Rattle.ns_types.specs.Results.{Gives};
+ghost use Rattle.ns_forwarder.specs.declared.fault.ForwarderFault.TheVariants.{NoMemory};
 ghost use Rattle.ns_forwarder.specs.TxAck.{are_blank, is_blank, named, outcome_of, tx_ack_of};
 
 use crate::ForwarderFault;
@@ -88,7 +89,7 @@ fn outcome_of(ack: &Value) -> Outcome
 /// Reads the body of a TX_ACK: what came of the downlink with its token. A blank body and one without `txpk_ack` or without an error tell
 /// no error. F6 where another body is no JSON object; NoMemory where memory ran out before the answer was known.
 pub fn read_tx_ack(alloc: Global, body: &[u8]) -> Result<Outcome, ForwarderFault>
-    ensures { Gives (λ o. o) result (tx_ack_of body.now) }
+    ensures { Gives NoMemory (λ o. o) result (tx_ack_of body.now) }
 {
     if are_blank(body) {
         return Ok(Outcome::Sent);

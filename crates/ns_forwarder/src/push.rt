@@ -2,8 +2,8 @@
 
 ghost use Rattle.std.specs.Prelude.{◌≡◌, ◌+◌, ◌≤◌, length, map, IfOk, IfErr, OnOk};
 ghost use Rattle.serde_json.specs.View.{view};
+ghost use Rattle.ns_types.specs.Results.{Gives};
 ghost use Rattle.ns_forwarder.specs.declared.fault.ForwarderFault.TheVariants.{NoMemory};
-ghost use Rattle.ns_forwarder.specs.Faults.{Gives};
 ghost use Rattle.ns_forwarder.specs.Rxpk.{item_of};
 ghost use Rattle.ns_forwarder.specs.Push.{push_from, with_result, values_of, push_of};
 ghost use Rattle.ns_forwarder.specs.Held.{push_view};
@@ -30,7 +30,7 @@ pub struct Push {
 // The items of the list `rxpk`; none where there is no such list.
 #[tactic(auto, using(ns_roster::proofs::TextLemmas::items_list_of_items))]
 fn values_of(root: &Value) -> Result<&[Value], ForwarderFault>
-    ensures { Gives (λ v. map view v.now) result (values_of (view root.now)) }
+    ensures { Gives NoMemory (λ v. map view v.now) result (values_of (view root.now)) }
 {
     root.as_object().ok_or(ForwarderFault::Body)?;
     match root.get("rxpk") {
@@ -78,7 +78,7 @@ fn read_items(alloc: Global, values: &[Value]) -> Result<Push, ForwarderFault>
 /// NoMemory where memory ran out before the answer was known.
 #[tactic(auto, unfolding(crate::specs::Push::push_of))]
 pub fn read_push(alloc: Global, body: &[u8]) -> Result<Push, ForwarderFault>
-    ensures gives { Gives push_view result (push_of body.now) }
+    ensures gives { Gives NoMemory push_view result (push_of body.now) }
     ensures band { IfOk result (λ p. AreOfBand p.items.items) }
 {
     let root = value_of(alloc, body)?.ok_or(ForwarderFault::Body)?;

@@ -1,7 +1,8 @@
 //! The datagram of a frame that a forwarder handed on.
 
 ghost use Rattle.std.specs.Prelude.{◌≡◌, ◌≤◌, length, IfOk, Ok};
-ghost use Rattle.ns_link.specs.Datagram.{AreBytes, IsUpDatagram, up_datagram, datagram_of};
+ghost use Rattle.ns_types.specs.Bytes.{AreBytes};
+ghost use Rattle.ns_link.specs.Datagram.{IsUpDatagram, up_datagram, datagram_of};
 ghost use Rattle.ns_forwarder.specs.Uplink.{HasRanges, IsOfBand, heard, heard_of, up_header};
 ghost use Rattle.ns_forwarder.specs.Held.{item_view};
 

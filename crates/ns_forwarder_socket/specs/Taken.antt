@@ -1,12 +1,12 @@
 -- What a message of a forwarder becomes.
 use Rattle.std.specs.Prelude.{ℕ, List, Result, Ok}
+use Rattle.ns_types.specs.Results.{◌>>=◌}
 use Rattle.ns_forwarder.specs.declared.clock.Clock.{Clock}
 use Rattle.ns_forwarder.specs.declared.fault.ForwarderFault.{ForwarderFault}
 use Rattle.ns_forwarder.specs.declared.head.Head.{Head}
 use Rattle.ns_forwarder.specs.declared.head.Kind.{Kind}
 use Rattle.ns_forwarder.specs.declared.head.Kind.TheVariants.{PushData, PullData, TxAck}
 use Rattle.ns_forwarder.specs.declared.outcome.Outcome.{Outcome}
-use Rattle.ns_forwarder.specs.Faults.{◌>>=◌}
 use Rattle.ns_forwarder.specs.Handed.{Handed, handed_view, handed_from, clock_from}
 use Rattle.ns_forwarder.specs.Push.{push_of}
 use Rattle.ns_forwarder.specs.TxAck.{tx_ack_of}

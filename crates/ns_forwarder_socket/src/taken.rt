@@ -1,7 +1,8 @@
 //! What a message of a forwarder becomes.
 
 ghost use Rattle.std.specs.Prelude.{◌≡◌};
-ghost use Rattle.ns_forwarder.specs.Faults.{Gives};
+ghost use Rattle.ns_types.specs.Results.{Gives};
+ghost use Rattle.ns_forwarder.specs.declared.fault.ForwarderFault.TheVariants.{NoMemory};
 ghost use Rattle.ns_forwarder_socket.specs.Taken.{taken_view, taken_of};
 
 use ns_forwarder::{Clock, ForwarderFault, Handed, Kind, Message, Outcome, hand_on, read_tx_ack};
@@ -26,7 +27,7 @@ pub fn take(
     clock: Clock,
     now: u64,
 ) -> Result<Taken, ForwarderFault>
-    ensures { Gives taken_view result (taken_of message.now.0 message.now.1 clock now) }
+    ensures { Gives NoMemory taken_view result (taken_of message.now.0 message.now.1 clock now) }
 {
     let head = message.head();
     match head.kind {

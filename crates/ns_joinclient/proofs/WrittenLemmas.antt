@@ -15,9 +15,10 @@ use Rattle.httparse.specs.Grammar.{crlf, Field, IsField, print_field, is_ows, is
 use Rattle.httparse.specs.Ascii.{crlf_bytes}
 use Rattle.httparse.specs.Spans.{name_and_value}
 use Rattle.httparse.proofs.TrimLemmas.{skip_ows_no, trim_ows_space}
+use Rattle.ns_types.specs.Results.{◌>>=◌}
 use Rattle.ns_calls.specs.declared.call.JoinAns.{JoinAns}
 use Rattle.ns_joinwire.specs.JoinAns.{joinans}
-use Rattle.ns_joinclient.specs.Head.{◌>>=◌, has_name, values_of, decimal_value, within_limit, content_length, length_by, body_length}
+use Rattle.ns_joinclient.specs.Head.{has_name, values_of, decimal_value, within_limit, content_length, length_by, body_length}
 use Rattle.ns_joinclient.specs.Exchange.{Exchange, answered}
 use Rattle.ns_joinclient.specs.Written.{Written, length_text, written_headers, header_line, written_head, IsHeader, IsWritten}
 use Rattle.ns_joinclient.proofs.HeadLemmas.{values_of-append, values_of-named}

@@ -1,6 +1,6 @@
 -- A text is an answer exactly where it spells one.
 use Rattle.std.proofs.Common.{◌≡◌, ℕ, ◌<◌, List, [], ◌∷◌, Bool, true, false, ◌&&◌, Option, Some, None, Ok, Err, option_map, length, refl, ◌∙◌, ap, subst, inl, inr, arith, bytes_eq}
-use Rattle.std.specs.Prelude.{Result, if◌then◌else◌, ◌==◌, codes, option_and_then, ⊤}
+use Rattle.std.specs.Prelude.{Result, if◌then◌else◌, ◌==◌, codes, option_and_then}
 use Rattle.std.specs.Option.{ok_or, option_map_or}
 use Rattle.std.proofs.lemmas.Bool.{eqb-true}
 use Rattle.std.proofs.lemmas.Bool.Decides.{nat_tests}
@@ -8,36 +8,19 @@ use Rattle.std.proofs.lemmas.Slice.Eq.{bytes_eq-Decides}
 use Rattle.serde_json.specs.Data.{Data}
 use Rattle.serde_json.specs.Find.{get}
 use Rattle.ns_types.specs.declared.identity.Key.{Key}
+use Rattle.ns_types.specs.Results.{unless}
+use Rattle.ns_types.proofs.ResultLemmas.{bind-ok, ok_or-ok, unless-ok, bind-some}
 use Rattle.ns_calls.specs.declared.call.JoinAns.{JoinAns}
 use Rattle.ns_roster.specs.Field.{value_of, text_at, hex_bytes}
 use Rattle.ns_joinwire.specs.declared.fault.AnsFault.{AnsFault}
 use Rattle.ns_joinwire.specs.declared.fault.AnsFault.TheVariants.{NotJson, Field, AnotherMessage, Refused, NoJoinAccept, NwkSKey}
 use Rattle.ns_joinwire.specs.Front.{code_of}
-use Rattle.ns_joinwire.specs.JoinAns as spec
-use Rattle.ns_joinwire.specs.JoinAns.{unless, joinans}
+use Rattle.ns_joinwire.specs.JoinAns.{joinans}
 use Rattle.ns_joinwire.specs.Parts.{Head, Body, KeyEnvelope, field, transaction_of, result_code_of, head_of, label_of, envelope_of, app_envelope, body_of, is_plain, key_of, nwk_key, app_key, join_accept_of}
 use Rattle.ns_joinwire.specs.Spelled.{SpellsKey, SpellsAppSKey, SpellsAnswer, Spells}
 
--- both steps gave a value
-bind-ok : {A B : Type 0} (r : Result A AnsFault) (f : A → Result B AnsFault) (y : B) → (spec.◌>>=◌ r f) ≡ Ok y → (x : A) × (r ≡ Ok x) × (f x ≡ Ok y)
-bind-ok (Ok x) f y h = (x, refl, h)
-bind-ok (Err e) f y h = cc
-
-ok_or-ok : {A : Type 0} (o : Option A) (e : AnsFault) (x : A) → ok_or o e ≡ Ok x → o ≡ Some x
-ok_or-ok None e x h = cc
-ok_or-ok (Some y) e x h = cc
-
-unless-ok : (e : AnsFault) (b : Bool) (x : ⊤) → unless e b ≡ Ok x → b ≡ true
-unless-ok e true x h = refl
-unless-ok e false x h = cc
-
 Ok-same : (x y : JoinAns) → ◌≡◌ {A = Result JoinAns AnsFault} (Ok x) (Ok y) → x ≡ y
 Ok-same x y h = cc
-
--- both parts are there
-bind-some : {A B : Type 0} (o : Option A) (f : A → Option B) (y : B) → option_and_then f o ≡ Some y → (x : A) × (o ≡ Some x) × (f x ≡ Some y)
-bind-some None f y h = cc
-bind-some (Some x) f y h = (x, refl, h)
 
 both : (a b : Bool) → (a && b) ≡ true → (a ≡ true) × (b ≡ true)
 both true b h = (refl, h)

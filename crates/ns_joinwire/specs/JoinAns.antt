@@ -1,29 +1,14 @@
 -- What a join server's text answers to a transaction, or its first fault (TS002, JoinAns; this server's profile).
-use Rattle.std.specs.Prelude.{ℕ, List, ◌==◌, ◌≡◌, ◌≢◌, ◌&&◌, Bool, true, false, ⊤, bytes_eq, codes, Result, Ok, Err}
+use Rattle.std.specs.Prelude.{ℕ, List, ◌==◌, ◌&&◌, bytes_eq, codes, Result, Ok}
 use Rattle.std.specs.Option.{ok_or}
 use Rattle.serde_json.specs.Data.{Data}
+use Rattle.ns_types.specs.Results.{◌>>=◌, unless}
 use Rattle.ns_calls.specs.declared.call.JoinAns.{JoinAns}
 use Rattle.ns_joinwire.specs.declared.fault.AnsFault.{AnsFault}
-use Rattle.ns_joinwire.specs.declared.fault.AnsFault.TheVariants.{NotJson, Field, AnotherMessage, Refused, NoJoinAccept, NwkSKey, NoMemory}
+use Rattle.ns_joinwire.specs.declared.fault.AnsFault.TheVariants.{NotJson, Field, AnotherMessage, Refused, NoJoinAccept, NwkSKey}
 use Rattle.ns_roster.specs.Field.{value_of}
 use Rattle.ns_joinwire.specs.Front.{code_of}
 use Rattle.ns_joinwire.specs.Parts.{head_of, body_of, nwk_key, app_key, join_accept_of}
-
--- What a call returned is what the definition gives, unless memory ran out.
-abbrev pub Gives : {X : Type 0} → Result X AnsFault → Result X AnsFault → Type 0
-Gives (Ok x) found = found ≡ Ok x
-Gives (Err e) found = e ≢ NoMemory → found ≡ Err e
-
--- the next step, where this one gave a value
-infixl 10 ◌>>=◌
-abbrev pub ◌>>=◌ : {A B : Type 0} → Result A AnsFault → (A → Result B AnsFault) → Result B AnsFault
-(Ok x) >>= f = f x
-(Err e) >>= f = Err e
-
--- the fault, unless the test holds
-abbrev pub unless : AnsFault → Bool → Result ⊤ AnsFault
-unless fault true = Ok tt
-unless fault false = Err fault
 
 -- the answer that a message gives to a transaction, or the first fault, by its number
 abbrev pub answer_of : Data → ℕ → Result JoinAns AnsFault

@@ -1,17 +1,13 @@
 -- The parts of a JoinAns (TS002; this server's profile): None where one is missing or wrong.
-use Rattle.std.specs.Prelude.{ℕ, ◌/◌, ◌%◌, ◌^◌, List, [], ◌==◌, ◌&&◌, Bool, nat_lt, length, slice_index, codes, Option, Some, None, is_some, option_map, option_and_then, if◌then◌else◌}
+use Rattle.std.specs.Prelude.{ℕ, ◌/◌, ◌%◌, ◌^◌, List, [], ◌==◌, ◌&&◌, Bool, nat_lt, length, slice_index, codes, Option, Some, None, is_some, option_map, if◌then◌else◌}
 use Rattle.std.specs.Option.{option_or, option_map_or}
 use Rattle.serde_json.specs.Data.{Data}
 use Rattle.serde_json.specs.Find.{get, as_null, as_str}
 use Rattle.ns_types.specs.declared.identity.Key.{Key}
+use Rattle.ns_types.specs.Options.{◌>>=◌}
 use Rattle.ns_calls.specs.declared.accept.JoinAccept.{JoinAccept}
 use Rattle.ns_calls.specs.Accept.{accept_bytes, accept_of}
 use Rattle.ns_roster.specs.Field.{text_at, whole_at, hex_bytes}
-
--- the next part, where this one is there
-infixl 10 ◌>>=◌
-abbrev pub ◌>>=◌ : {A B : Type 0} → Option A → (A → Option B) → Option B
-part >>= next = option_and_then next part
 
 -- a value, where it is not null
 abbrev pub present : Data → Option Data

@@ -2,7 +2,9 @@
 
 ghost use Rattle.std.specs.Prelude.{◌≡◌, option_map};
 ghost use Rattle.serde_json.specs.View.{view};
-ghost use Rattle.ns_joinwire.specs.JoinAns.{Gives, answer_of, joinans};
+ghost use Rattle.ns_types.specs.Results.{Gives};
+ghost use Rattle.ns_joinwire.specs.declared.fault.AnsFault.TheVariants.{NoMemory};
+ghost use Rattle.ns_joinwire.specs.JoinAns.{answer_of, joinans};
 ghost use Rattle.ns_joinwire.specs.Parts.{head_of, body_of, transaction_of, result_code_of, app_envelope};
 ghost use Rattle.ns_joinwire.specs.Private.Held.{head_view, body_view, envelope_view};
 
@@ -109,7 +111,7 @@ fn answer_of(message: &Value, transaction: u32) -> Result<JoinAns, AnsFault>
 /// wrapped and is not 16 bytes. NoMemory where memory ran out before the answer was known.
 #[tactic(auto, unfolding(crate::specs::JoinAns::joinans))]
 pub fn join_ans(alloc: Global, bytes: &[u8], transaction: u32) -> Result<JoinAns, AnsFault>
-    ensures { Gives result (joinans bytes.now transaction) }
+    ensures { Gives NoMemory (λ answer. answer) result (joinans bytes.now transaction) }
 {
     let message = value_of(alloc, bytes)?.ok_or(AnsFault::NotJson)?;
     answer_of(&message, transaction)

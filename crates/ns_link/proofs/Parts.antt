@@ -1,34 +1,13 @@
 -- The parts of a datagram's bytes, and the numbers that they write.
-use Rattle.std.proofs.Common.{◌≡◌, ℕ, ◌+◌, ◌%◌, ◌^◌, ◌<◌, ◌≤◌, List, ◌∷◌, ◌++◌, length, get_or, take, drop, refl, sym, ap, subst, ◌∙◌, inl, inr, arith, ℤ, pos, negsuc}
-use Rattle.std.proofs.lemmas.List.{append_assoc, take-append-drop, length-take, length-drop, get_or_past, drop_more, drop-drop}
-use Rattle.std.proofs.lemmas.List.Elements.{All-take, All-drop, All-get_or, All-from_get_or}
-use Rattle.std.proofs.lemmas.Bool.{cases_lt}
+use Rattle.std.proofs.Common.{◌≡◌, ℕ, ◌+◌, ◌%◌, ◌^◌, ◌<◌, ◌≤◌, List, ◌∷◌, ◌++◌, length, get_or, take, drop, refl, sym, ap, subst, ◌∙◌, arith, ℤ, pos, negsuc}
+use Rattle.std.proofs.lemmas.List.{append_assoc, take-append-drop, drop_more, drop-drop}
 use Rattle.std.proofs.lemmas.Nat.{be_bytes_2, be_bytes_4, be_bytes_8, from_be_bytes-to_be_bytes_2}
 use Rattle.std.proofs.lemmas.Int.{of_z-to_z, to_z-of_z, SFits-int_wrap}
 use Rattle.std.specs.Prelude.{FitsSigned}
 use Rattle.std.specs.Int.{w16, w32, w64, to_be_bytes, from_be_bytes, cast_signed, cast_unsigned, int_wrap}
-use Rattle.ns_link.specs.Datagram.{AreBytes, two_complement}
-
-pub each_byte : (bytes : List ℕ) → AreBytes bytes → (i : ℕ) → get_or bytes i 0 < 256
-each_byte bytes h i =
-    elim (cases_lt i (length bytes)) [
-      | inl inside ↦ All-get_or (λ b. b < 256) bytes i 0 inside h
-      | inr outside ↦ let past = get_or_past bytes i 0 outside in omega arith
-    ]
-
--- what the elements of a slice of bytes are
-pub AreBytes-slice : (bytes : List ℕ) → ((i : ℕ) → get_or bytes i 0 < 256) → AreBytes bytes
-AreBytes-slice bytes h = All-from_get_or (λ b. b < 256) bytes 0 (λ i _. h i)
-
-pub AreBytes-drop : (bytes : List ℕ) (from : ℕ) → AreBytes bytes → AreBytes (drop from bytes)
-AreBytes-drop bytes from h = All-drop (λ b. b < 256) from bytes h
-
--- the bytes of a part are bytes, and as many as are asked for
-part_byte : (bytes : List ℕ) (from n : ℕ) → AreBytes bytes → (i : ℕ) → get_or (take n (drop from bytes)) i 0 < 256
-part_byte bytes from n h = each_byte (take n (drop from bytes)) (All-take (λ b. b < 256) n (drop from bytes) (AreBytes-drop bytes from h))
-
-length-part : (bytes : List ℕ) (from n : ℕ) → from + n ≤ length bytes → length (take n (drop from bytes)) ≡ n
-length-part bytes from n h = omega (arith, length-take n (drop from bytes), length-drop from bytes)
+use Rattle.ns_types.specs.Bytes.{AreBytes}
+use Rattle.ns_types.proofs.ByteLemmas.{part_byte, length-part}
+use Rattle.ns_link.specs.Datagram.{two_complement}
 
 -- a number that was read is below that power
 pub below_8 : (bytes : List ℕ) (from : ℕ) → AreBytes bytes → from_be_bytes w64 (take 8 (drop from bytes)) < 2 ^ 64

@@ -1,13 +1,17 @@
 -- Bytes that pass the tests are a datagram, and a datagram passes them.
-use Rattle.std.proofs.Common.{◌≡◌, ℕ, ◌+◌, ◌<◌, ◌≤◌, List, length, get_or, drop, Option, None, Some, Result, Ok, refl, sym, ap, subst, ◌∙◌, arith, ℤ, ◌^◌}
+use Rattle.std.proofs.Common.{◌≡◌, ℕ, ◌+◌, ◌<◌, ◌≤◌, List, length, get_or, drop, Option, None, Result, Ok, refl, sym, ap, subst, ◌∙◌, arith, ℤ, ◌^◌}
 use Rattle.std.proofs.lemmas.List.{length-drop}
 use Rattle.std.proofs.lemmas.Bool.Decides.{nat_tests}
 use Rattle.std.proofs.lemmas.Nat.{from_be_bytes-to_be_bytes_4, from_be_bytes-to_be_bytes_8}
+use Rattle.ns_types.specs.Results.{or_fault}
+use Rattle.ns_types.proofs.ResultLemmas.{or_fault-ok}
+use Rattle.ns_types.proofs.ByteLemmas.{each_byte, AreBytes-drop}
+use Rattle.ns_types.specs.Bytes.{AreBytes}
 use Rattle.ns_types.specs.declared.heard.Heard.{Heard}
 use Rattle.ns_link.specs.declared.LinkFault.{LinkFault}
-use Rattle.ns_link.specs.Datagram.{AreBytes, IsUpDatagram, up_datagram, heard_of, link_fault, unless, datagram_of, lowest_frequency, highest_frequency}
+use Rattle.ns_link.specs.Datagram.{IsUpDatagram, up_datagram, heard_of, link_fault, datagram_of, lowest_frequency, highest_frequency}
 use Rattle.ns_link.specs.Laws.{ReadsExactly}
-use Rattle.ns_link.proofs.Parts.{each_byte, AreBytes-drop, below_8, number_of_8, number_of_4, number_of_2, signed_fits, signed_again, parts-are, same_parts}
+use Rattle.ns_link.proofs.Parts.{below_8, number_of_8, number_of_4, number_of_2, signed_fits, signed_again, parts-are, same_parts}
 
 -- what the tests of a datagram say
 pub record IsSized (bytes : List ℕ) : Type 0 where
@@ -96,13 +100,8 @@ IsSized-datagram bytes h frame is =
       dr = subst (λ (x : Heard). x.dr ≤ 7) (sym e) is.dr;
     }
 
--- a value where there is no fault
-no_fault-ok : {X : Type 0} (fault : Option LinkFault) (x y : X) → unless fault x ≡ Ok y → (fault ≡ None) × (x ≡ y)
-no_fault-ok None x y e = (refl, cc)
-no_fault-ok (Some f) x y e = absurd cc
-
 pub datagram_of-sized : (bytes : List ℕ) → IsSized bytes → datagram_of bytes ≡ Ok (heard_of bytes, drop 28 bytes)
-datagram_of-sized bytes h = ap (λ (fault : Option LinkFault). unless fault (heard_of bytes, drop 28 bytes)) (no_fault bytes h)
+datagram_of-sized bytes h = ap (λ (fault : Option LinkFault). or_fault fault (heard_of bytes, drop 28 bytes)) (no_fault bytes h)
 
 abbrev pub read : Heard → List ℕ → Result (Heard × List ℕ) LinkFault
 read h frame = Ok (h, frame)
@@ -117,7 +116,7 @@ datagram_of-datagram bytes h frame is =
 -- what is read is a datagram
 datagram_of-read : (bytes : List ℕ) (h : Heard) (frame : List ℕ) → AreBytes bytes → datagram_of bytes ≡ Ok (h, frame) → IsUpDatagram bytes h frame
 datagram_of-read bytes h frame b e =
-    let (none, is) = no_fault-ok (link_fault bytes) (heard_of bytes, drop 28 bytes) (h, frame) e in
+    let (none, is) = or_fault-ok (link_fault bytes) (heard_of bytes, drop 28 bytes) (h, frame) e in
     subst (λ (x : Heard × List ℕ). IsUpDatagram bytes x.0 x.1) is (IsUpDatagram-sized bytes b (sized bytes none))
 
 pub reads-exactly : ReadsExactly

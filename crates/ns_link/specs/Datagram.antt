@@ -1,8 +1,9 @@
 -- The layout of the gateways' datagrams, which is this server's own. Numbers have their highest byte first.
-use Rattle.std.specs.Prelude.{◌≡◌, ℕ, ◌+◌, ◌<◌, ◌≤◌, ◌^◌, not, ◌||◌, ◌==◌, nat_lt, List, [], ◌∷◌, ◌++◌, length, take, drop, slice_index, Option, None, Some, Result, Ok, Err, ℤ, FitsSigned}
+use Rattle.std.specs.Prelude.{◌≡◌, ℕ, ◌+◌, ◌<◌, ◌≤◌, ◌^◌, not, ◌||◌, ◌==◌, nat_lt, List, [], ◌∷◌, ◌++◌, length, take, drop, slice_index, Option, Result, ℤ, FitsSigned}
 use Rattle.std.specs.Int.{w16, w32, w64, to_be_bytes, from_be_bytes, cast_signed, cast_unsigned}
-use Rattle.std.specs.List.{All}
 use Rattle.ns_types.specs.Cases.{when, first_of}
+use Rattle.ns_types.specs.Results.{or_fault}
+use Rattle.ns_types.specs.Bytes.{AreBytes}
 use Rattle.ns_types.specs.declared.heard.Heard.{Heard}
 use Rattle.ns_types.specs.declared.heard.Target.{Target}
 use Rattle.ns_link.specs.declared.LinkFault.{LinkFault}
@@ -34,10 +35,6 @@ down_header t n =
 -- the datagram of a frame that a gateway is to send
 abbrev pub down_datagram : Target → List ℕ → List ℕ
 down_datagram t frame = down_header t (length frame) ++ frame
-
--- each is a byte
-abbrev pub AreBytes : List ℕ → Type 0
-AreBytes bytes = All (λ b. b < 256) bytes
 
 -- the bytes are the datagram of this frame, heard so
 pub record IsUpDatagram (bytes : List ℕ) (h : Heard) (frame : List ℕ) : Type 0 where
@@ -74,11 +71,6 @@ link_fault bytes = first_of (
     ∷ when (nat_lt 7 (heard_of bytes).dr) DataRate
     ∷ [])
 
--- a value, or the fault where there is one
-abbrev pub unless : {X : Type 0} → Option LinkFault → X → Result X LinkFault
-unless None x = Ok x
-unless (Some fault) x = Err fault
-
 -- what a datagram holds, or its first fault
 abbrev pub datagram_of : List ℕ → Result (Heard × List ℕ) LinkFault
-datagram_of bytes = unless (link_fault bytes) (heard_of bytes, drop 28 bytes)
+datagram_of bytes = or_fault (link_fault bytes) (heard_of bytes, drop 28 bytes)

@@ -1,7 +1,8 @@
 -- A law of the layout.
 use Rattle.std.specs.Prelude.{◌≡◌, ℕ, List, ◌↔◌, Ok}
+use Rattle.ns_types.specs.Bytes.{AreBytes}
 use Rattle.ns_types.specs.declared.heard.Heard.{Heard}
-use Rattle.ns_link.specs.Datagram.{AreBytes, IsUpDatagram, datagram_of}
+use Rattle.ns_link.specs.Datagram.{IsUpDatagram, datagram_of}
 
 -- bytes hold a frame, heard so, exactly where they are its datagram
 abbrev pub ReadsExactly : Type 0

@@ -8,6 +8,8 @@ use Rattle.std.proofs.lemmas.Str.{is_utf8-from_IsUtf8, IsUtf8-from_ascii}
 use Rattle.serde_json.specs.Data.{Data, object}
 use Rattle.hex.specs.Hex.{encode_lower}
 use Rattle.hex.proofs.HexLemmas.{decode_of-encode_lower, decode_sized-encode_lower}
+use Rattle.ns_types.proofs.ByteLemmas.{each_byte}
+use Rattle.ns_types.specs.Bytes.{AreBytes}
 use Rattle.ns_types.specs.declared.identity.Key.{Key}
 use Rattle.ns_types.specs.declared.identity.WindowName.{WindowName}
 use Rattle.ns_types.specs.declared.heard.Heard.{Heard}
@@ -17,8 +19,7 @@ use Rattle.ns_views.specs.declared.ViewFault.{ViewFault}
 use Rattle.ns_views.specs.Grammar.{join_request}
 use Rattle.ns_views.specs.Frame.{view_fault, ftype_of}
 use Rattle.ns_link.specs.declared.LinkFault.{LinkFault}
-use Rattle.ns_link.specs.Datagram.{AreBytes, IsUpDatagram, datagram_of}
-use Rattle.ns_link.proofs.Parts.{each_byte}
+use Rattle.ns_link.specs.Datagram.{IsUpDatagram, datagram_of}
 use Rattle.ns_link.proofs.UpLayout.{reads-exactly}
 use Rattle.ns_calls.specs.declared.call.JoinAns.{JoinAns}
 use Rattle.ns_calls.specs.declared.call.Outcome.TheVariants.{Success, Failed}

@@ -13,6 +13,7 @@ use Rattle.hex.specs.Hex.{decode_of, decode_sized, decode_pairs, hex_digit_value
 use Rattle.hex.specs.declared.error.FromHexError.{FromHexError}
 use Rattle.hex.specs.declared.error.FromHexError.TheVariants.{OddLength, InvalidStringLength}
 use Rattle.ns_types.specs.Cases.{when}
+use Rattle.ns_types.proofs.ResultLemmas.{bind-some}
 use Rattle.ns_types.specs.declared.identity.DevEui.{DevEui}
 use Rattle.ns_types.specs.declared.identity.WindowName.{WindowName}
 use Rattle.ns_types.specs.declared.ticket.Ticket.{Ticket}
@@ -193,10 +194,6 @@ number-without byte none text n is =
     digits-without byte none text (and_parts (nat_lt 0 (length text)) (list_all is_digit text) p.0).1
 
 -- ---- what is read is spelled
-
-bind-some : {A B : Type 0} (o : Option A) (f : A → Option B) (y : B) → option_and_then f o ≡ Some y → (x : A) × (o ≡ Some x) × (f x ≡ Some y)
-bind-some None f y h = cc
-bind-some (Some x) f y h = (x, refl, h)
 
 map-some : {A B : Type 0} (o : Option A) (f : A → B) (y : B) → option_map f o ≡ Some y → (x : A) × (o ≡ Some x) × (f x ≡ y)
 map-some None f y h = cc

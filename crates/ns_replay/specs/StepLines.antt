@@ -1,10 +1,11 @@
 -- The step lines of a text: what stands between line feeds, and the step that each line asks for.
-use Rattle.std.specs.Prelude.{ℕ, ◌+◌, ◌-◌, ◌*◌, ◌^◌, Bool, ◌&&◌, ◌==◌, nat_le, nat_lt, List, [], ◌∷◌, length, take, drop, map, position, fold, slice_index, codes, bytes_eq, Option, None, Some, option_map, option_and_then, if◌then◌else◌}
+use Rattle.std.specs.Prelude.{ℕ, ◌+◌, ◌-◌, ◌*◌, ◌^◌, Bool, ◌&&◌, ◌==◌, nat_le, nat_lt, List, [], ◌∷◌, length, take, drop, map, position, fold, slice_index, codes, bytes_eq, Option, None, Some, option_map, if◌then◌else◌}
 use Rattle.std.specs.List.{list_all, slice_split}
 use Rattle.std.specs.Result.{result_ok}
 use Rattle.std.specs.Int.{w64, from_be_bytes}
 use Rattle.hex.specs.Hex.{decode_of, decode_sized}
 use Rattle.ns_types.specs.Cases.{when}
+use Rattle.ns_types.specs.Options.{◌>>=◌}
 use Rattle.ns_types.specs.declared.identity.DevEui.{DevEui}
 use Rattle.ns_types.specs.declared.identity.WindowName.{WindowName}
 use Rattle.ns_types.specs.declared.ticket.Ticket.{Ticket}
@@ -56,11 +57,6 @@ abbrev pub ticket : List ℕ → Option Ticket
 ticket text = option_map (λ bytes. record { 0 = bytes }) (result_ok (decode_sized text 23))
 
 -- ---- steps
-
--- the next part, where this one was read
-infixl 10 ◌>>=◌
-abbrev pub ◌>>=◌ : {A B : Type 0} → Option A → (A → Option B) → Option B
-part >>= f = option_and_then f part
 
 -- `heard HEX`: one byte or more
 unfoldable pub datagram_step : List ℕ → Option Act

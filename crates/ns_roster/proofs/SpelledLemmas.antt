@@ -8,11 +8,12 @@ use Rattle.std.proofs.lemmas.List.{append_assoc, append-nil}
 use Rattle.serde_json.specs.Data.{Data, null, boolean, number, string, array, object, Items}
 use Rattle.serde_json.specs.Find.{get, as_null, as_number, as_u64}
 use Rattle.ns_types.specs.declared.identity.DevNonce.{DevNonce}
+use Rattle.ns_types.specs.Results.{◌>>=◌}
+use Rattle.ns_types.proofs.ResultLemmas.{bind-ok, ok_or-ok}
 use Rattle.ns_roster.specs.declared.Device.{Device}
 use Rattle.ns_roster.specs.declared.fault.RosterFault.{RosterFault}
 use Rattle.ns_roster.specs.declared.fault.RosterFault.TheVariants.{NotJson, Field, Slot, Twice, TooMany}
 use Rattle.ns_roster.specs.declared.fault.RosterFault.TheVariants as fault
-use Rattle.ns_roster.specs.Fault.{◌>>=◌}
 use Rattle.ns_roster.specs.Field.{value_of, is_missing, whole_at, list_at}
 use Rattle.ns_roster.specs.Network.{Network}
 use Rattle.ns_roster.specs.Text.{Outer, eui_at, net_id_at, items_list, is_version, outer_from, outer_of, nonce_from, last_nonce_of, device_from, device_of, device_with, with_device, with_value, devices_from, network_of, network_from, roster_of}
@@ -20,16 +21,6 @@ use Rattle.ns_roster.specs.Valid.{max_slot, max_nonce, max_rx1_offset, max_rx_de
 use Rattle.ns_roster.specs.Spelled.{SpellsNonce, SpellsDevice, SpellDevices, SpellsNetwork, Spells}
 use Rattle.ns_roster.proofs.ValidLemmas.{AreDevices-push}
 use Rattle.ns_roster.proofs.DeviceLemmas.{later_differ, rest_apart}
-
--- both steps gave a value
-bind-ok : {A B : Type 0} (r : Result A RosterFault) (f : A → Result B RosterFault) (y : B) → (r >>= f) ≡ Ok y → (x : A) × (r ≡ Ok x) × (f x ≡ Ok y)
-bind-ok (Ok x) f y h = (x, refl, h)
-bind-ok (Err e) f y h = cc
-
--- an option with a value
-ok_or-ok : {A : Type 0} (o : Option A) (e : RosterFault) (x : A) → ok_or o e ≡ Ok x → o ≡ Some x
-ok_or-ok None e x h = cc
-ok_or-ok (Some y) e x h = cc
 
 -- the test passed
 test-ok : {A : Type 0} (b : Bool) (e : RosterFault) (x y : A) → (if b then Ok x else Err e) ≡ Ok y → (b ≡ true) × (x ≡ y)

@@ -10,9 +10,9 @@ use Rattle.std.specs.Option.{option_or}
 use Rattle.serde_json.specs.Data.{Data}
 use Rattle.serde_json.specs.Read.{read}
 use Rattle.serde_json.specs.View.{items_of}
+use Rattle.ns_types.specs.Results.{◌>>=◌}
 use Rattle.ns_roster.specs.declared.Device.{Device}
 use Rattle.ns_roster.specs.declared.fault.RosterFault.{RosterFault}
-use Rattle.ns_roster.specs.Fault.{◌>>=◌}
 use Rattle.ns_roster.specs.Field.{value_of}
 use Rattle.ns_roster.specs.Text.{device_with, with_value, devices_from, items_list}
 

@@ -3,13 +3,13 @@ use Rattle.std.specs.Prelude.{ℕ, List, [], ◌∷◌, ◌++◌, ◌==◌, ◌&
 use Rattle.std.specs.Option.{ok_or}
 use Rattle.std.specs.Int.{w32, w64, from_be_bytes}
 use Rattle.serde_json.specs.Data.{Data, Items, no_items, item}
+use Rattle.ns_types.specs.Results.{◌>>=◌}
 use Rattle.ns_types.specs.declared.identity.NetId.{NetId}
 use Rattle.ns_types.specs.declared.identity.DevNonce.{DevNonce}
 use Rattle.ns_roster.specs.declared.Device.{Device}
 use Rattle.ns_roster.specs.declared.fault.RosterFault.{RosterFault}
 use Rattle.ns_roster.specs.declared.fault.RosterFault.TheVariants.{NotJson, Field, Twice, Slot, TooMany}
 use Rattle.ns_roster.specs.declared.fault.RosterFault.TheVariants as fault
-use Rattle.ns_roster.specs.Fault.{◌>>=◌}
 use Rattle.ns_roster.specs.Field.{value_of, is_missing, whole_at, text_at, list_at, hex_bytes}
 use Rattle.ns_roster.specs.Network.{Network}
 use Rattle.ns_roster.specs.Valid.{max_net_id, max_rx1_offset, max_rx_delay, max_devices, max_slot, max_nonce}

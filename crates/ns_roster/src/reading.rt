@@ -2,7 +2,8 @@
 
 ghost use Rattle.std.specs.Prelude.{◌≡◌, ◌+◌, ◌≤◌, length, map, [], OnOk, IfOk, option_map};
 ghost use Rattle.serde_json.specs.View.{view};
-ghost use Rattle.ns_roster.specs.Fault.{Gives, GivesExactly};
+ghost use Rattle.ns_types.specs.Results.{Gives, GivesExactly};
+ghost use Rattle.ns_roster.specs.declared.fault.RosterFault.TheVariants.{NoMemory};
 ghost use Rattle.ns_roster.specs.Text.{eui_at, net_id_at, outer_of, is_version, last_nonce_of, device_of, with_device, with_value, devices_from};
 ghost use Rattle.ns_roster.specs.Valid.{max_slot, AreDevices};
 ghost use Rattle.ns_roster.specs.Held.{Indexes, outer_view};
@@ -127,7 +128,7 @@ fn add(
     requires indexed { Indexes by_eui.old devices.old.items }
     requires valid { AreDevices devices.old.items }
     requires slot { device.slot ≤ max_slot }
-    ensures gives { Gives (λ _. devices.new.items) result (with_device devices.old.items device) }
+    ensures gives { Gives NoMemory (λ _. devices.new.items) result (with_device devices.old.items device) }
     ensures indexed { OnOk result (Indexes by_eui.new devices.new.items) }
     ensures valid { OnOk result (AreDevices devices.new.items) }
     ensures len { OnOk result (length devices.new.items ≡ length devices.old.items + 1) }
@@ -149,7 +150,7 @@ fn add_value(
 ) -> Result<(), RosterFault>
     requires indexed { Indexes by_eui.old devices.old.items }
     requires valid { AreDevices devices.old.items }
-    ensures gives { Gives (λ _. devices.new.items) result
+    ensures gives { Gives NoMemory (λ _. devices.new.items) result
         (with_value version devices.old.items (view value.now)) }
     ensures indexed { OnOk result (Indexes by_eui.new devices.new.items) }
     ensures valid { OnOk result (AreDevices devices.new.items) }
@@ -165,7 +166,7 @@ pub(crate) fn read_devices(
     version: u64,
     values: &[Value],
 ) -> Result<(Vec<Device>, HashMap<u64, Device>), RosterFault>
-    ensures gives { Gives (λ r. r.0.items) result (devices_from version [] (map view values.now)) }
+    ensures gives { Gives NoMemory (λ r. r.0.items) result (devices_from version [] (map view values.now)) }
     ensures indexed { IfOk result (λ r. Indexes r.1 r.0.items) }
     ensures valid { IfOk result (λ r. AreDevices r.0.items) }
     ensures len { IfOk result (λ r. length r.0.items ≡ length values.now) }

@@ -1,8 +1,9 @@
 //! A roster and its readers.
 
 ghost use Rattle.std.specs.Prelude.{◌≡◌, Contains, IfOk, IfSome, option_map};
+ghost use Rattle.ns_types.specs.Results.{Gives};
 ghost use Rattle.ns_types.specs.Identity.{shard_of, shard_of_addr};
-ghost use Rattle.ns_roster.specs.Fault.{Gives};
+ghost use Rattle.ns_roster.specs.declared.fault.RosterFault.TheVariants.{NoMemory};
 ghost use Rattle.ns_roster.specs.Network.{device, device_addr, has_join_eui, is_known};
 ghost use Rattle.ns_roster.specs.Text.{roster_of};
 ghost use Rattle.ns_roster.specs.Valid.{AreInShards, IsRoster};
@@ -49,7 +50,7 @@ impl Roster {
     /// in turn O2, O5, O3. NoMemory where memory ran out before that was known.
     #[tactic(auto, unfolding(crate::specs::Text::roster_of))]
     pub fn read(alloc: Global, bytes: &[u8]) -> Result<Roster, RosterFault>
-        ensures gives { Gives (λ r. r) result (roster_of bytes.now) }
+        ensures gives { Gives NoMemory (λ r. r) result (roster_of bytes.now) }
         ensures valid { IfOk result IsRoster }
     {
         let root = value_of(alloc, bytes)?.ok_or(RosterFault::NotJson)?;

@@ -4,11 +4,11 @@ use Rattle.std.specs.Prelude.{Result, if◌then◌else◌, nat_le, codes}
 use Rattle.std.specs.Option.{ok_or}
 use Rattle.std.proofs.lemmas.Bool.{le-leb}
 use Rattle.serde_json.specs.Data.{Data}
+use Rattle.ns_types.specs.Results.{◌>>=◌}
 use Rattle.ns_types.specs.declared.identity.DevNonce.{DevNonce}
 use Rattle.ns_roster.specs.declared.Device.{Device}
 use Rattle.ns_roster.specs.declared.fault.RosterFault.{RosterFault}
 use Rattle.ns_roster.specs.declared.fault.RosterFault.TheVariants as fault
-use Rattle.ns_roster.specs.Fault.{◌>>=◌}
 use Rattle.ns_roster.specs.Field.{whole_at, is_missing}
 use Rattle.ns_roster.specs.Text.{eui_at, nonce_from, last_nonce_of, device_of, device_from}
 use Rattle.ns_roster.specs.Valid.{max_slot, max_nonce}

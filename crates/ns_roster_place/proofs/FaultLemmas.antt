@@ -3,10 +3,10 @@ use Rattle.std.proofs.Common.{◌≡◌, ℕ, ◌+◌, List, [], ◌∷◌, Bool
 use Rattle.std.specs.Prelude.{Result, if◌then◌else◌, nat_lt}
 use Rattle.std.specs.Option.{ok_or}
 use Rattle.serde_json.specs.Data.{Data}
+use Rattle.ns_types.specs.Results.{◌>>=◌}
 use Rattle.ns_roster.specs.declared.Device.{Device}
 use Rattle.ns_roster.specs.declared.fault.RosterFault.{RosterFault}
 use Rattle.ns_roster.specs.declared.fault.RosterFault.TheVariants as fault
-use Rattle.ns_roster.specs.Fault.{◌>>=◌}
 use Rattle.ns_roster.specs.Field.{value_of}
 use Rattle.ns_roster.specs.Text.{Outer, outer_of, with_value, devices_from, network_of, network_from, roster_of}
 use Rattle.ns_roster.specs.Valid.{max_net_id, max_devices}

@@ -2,7 +2,7 @@
 
 ghost use Rattle.std.specs.Prelude.{◌≡◌};
 ghost use Rattle.serde_json.specs.View.{view};
-ghost use Rattle.ns_roster.specs.Fault.{GivesExactly};
+ghost use Rattle.ns_types.specs.Results.{GivesExactly};
 ghost use Rattle.ns_roster.specs.Text.{eui_at, last_nonce_of, device_of};
 ghost use Rattle.ns_roster_place.specs.Device.{missing_field, wrong_field};
 

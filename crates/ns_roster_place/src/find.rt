@@ -2,7 +2,8 @@
 
 ghost use Rattle.std.specs.Prelude.{◌≡◌, [], IfOk, OnOk, Ok, Err, map, option_map, string_bytes};
 ghost use Rattle.serde_json.specs.View.{view};
-ghost use Rattle.ns_roster.specs.Fault.{Gives};
+ghost use Rattle.ns_types.specs.Results.{Gives};
+ghost use Rattle.ns_roster.specs.declared.fault.RosterFault.TheVariants.{NoMemory};
 ghost use Rattle.ns_roster.specs.Held.{Indexes};
 ghost use Rattle.ns_roster.specs.Text.{roster_of, with_device, with_value};
 ghost use Rattle.ns_roster_place.specs.Place.{placed_view, in_device, fault_from, fault_in, first_fault, refusal_of};
@@ -59,7 +60,7 @@ fn add(
     device: Device,
 ) -> Result<(), RosterFault>
     requires { Indexes by_eui.old devices.old.items }
-    ensures gives { Gives (λ _. devices.new.items) result (with_device devices.old.items device) }
+    ensures gives { Gives NoMemory (λ _. devices.new.items) result (with_device devices.old.items device) }
     ensures indexed { OnOk result (Indexes by_eui.new devices.new.items) }
 {
     if by_eui.contains_key(&device.eui.0) {
@@ -78,7 +79,7 @@ fn add_value(
     value: &Value,
 ) -> Result<(), RosterFault>
     requires { Indexes by_eui.old devices.old.items }
-    ensures gives { Gives (λ _. devices.new.items) result
+    ensures gives { Gives NoMemory (λ _. devices.new.items) result
         (with_value version devices.old.items (view value.now)) }
     ensures indexed { OnOk result (Indexes by_eui.new devices.new.items) }
 {

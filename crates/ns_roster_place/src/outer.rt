@@ -2,7 +2,7 @@
 
 ghost use Rattle.std.specs.Prelude.{◌≡◌};
 ghost use Rattle.serde_json.specs.View.{view};
-ghost use Rattle.ns_roster.specs.Fault.{GivesExactly};
+ghost use Rattle.ns_types.specs.Results.{GivesExactly};
 ghost use Rattle.ns_roster.specs.Text.{net_id_at, outer_of, is_version};
 ghost use Rattle.ns_roster_place.specs.Outer.{outer_view, is_version_at, is_at_most, wrong_outer};
 

@@ -4,7 +4,8 @@ use Rattle.std.proofs.lemmas.List.{take-take, drop-take, drop-drop, length-take}
 use Rattle.std.proofs.Math.ListN.{drop_of_length-le}
 use Rattle.std.proofs.lemmas.Bool.{cases_lt}
 use Rattle.std.specs.Fn.{Once}
-use Rattle.ns_views.specs.Grammar.{AreBytes, IsDataUplink}
+use Rattle.ns_types.specs.Bytes.{AreBytes}
+use Rattle.ns_views.specs.Grammar.{IsDataUplink}
 use Rattle.ns_views.specs.Frame.{data_fields, fopts_len}
 use Rattle.ns_views.specs.Parts.{with_payload}
 use Rattle.ns_views.specs.Work.{Lent, lent_header, lent_options, lent_payload, Left, left_of, ShowsParts, WorksOnParts}

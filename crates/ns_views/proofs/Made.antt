@@ -1,12 +1,13 @@
 -- Bytes that pass the tests of a view are a frame of the grammar, with the fields that are read off them.
 use Rattle.std.proofs.Common.{◌≡◌, ℕ, ◌+◌, ◌-◌, ◌/◌, ◌%◌, ◌^◌, ◌<◌, ◌≤◌, ◌⊎◌, List, [], ◌∷◌, ◌++◌, length, get_or, take, drop, IfSome, IfNone, refl, sym, ap, ◌∙◌, inl, inr, arith}
 use Rattle.std.proofs.Math.Seq.{take-add}
-use Rattle.std.proofs.lemmas.List.{append_assoc, take-append-drop, take-take, length-take, length-drop, get_or_past}
-use Rattle.std.proofs.lemmas.List.Elements.{All-take, All-drop, All-get_or, All-from_get_or}
-use Rattle.std.proofs.lemmas.Bool.{cases_lt}
+use Rattle.std.proofs.lemmas.List.{append_assoc, take-append-drop, take-take, length-drop}
+use Rattle.std.proofs.lemmas.List.Elements.{All-get_or}
 use Rattle.std.proofs.lemmas.Nat.{le_bytes_2, le_bytes_4, le_bytes_8}
 use Rattle.std.specs.Int.{w16, w32, w64, to_le_bytes, from_le_bytes}
-use Rattle.ns_views.specs.Grammar.{AreBytes, IsDataFrame, IsDataUplink, IsJoinRequest, mhdr, ported, frame_before_mic, join_request}
+use Rattle.ns_types.specs.Bytes.{AreBytes}
+use Rattle.ns_types.proofs.ByteLemmas.{each_byte, part_byte, AreBytes-take, AreBytes-drop, AreBytes-part, length-part}
+use Rattle.ns_views.specs.Grammar.{IsDataFrame, IsDataUplink, IsJoinRequest, mhdr, ported, frame_before_mic, join_request}
 use Rattle.ns_views.specs.Frame.{ftype_of, major_of, fopts_len, signed, port_and_payload, first_byte, data_fields, join_fields}
 
 -- what the tests of a data frame say
@@ -22,13 +23,6 @@ pub record IsJoinSized (bytes : List ℕ) : Type 0 where
   pub major : major_of bytes ≡ 0
   pub ftype : ftype_of bytes ≡ join_request
   pub size : length bytes ≡ 23
-
-pub each_byte : (bytes : List ℕ) → AreBytes bytes → (i : ℕ) → get_or bytes i 0 < 256
-each_byte bytes h i =
-    elim (cases_lt i (length bytes)) [
-      | inl inside ↦ All-get_or (λ b. b < 256) bytes i 0 inside h
-      | inr outside ↦ let past = get_or_past bytes i 0 outside in omega arith
-    ]
 
 -- the bytes up to the options are these parts
 pub header-is : (bytes : List ℕ) → 8 ≤ length bytes → take 8 bytes ≡ get_or bytes 0 0 ∷ take 4 (drop 1 bytes) ++ (get_or bytes 5 0 ∷ take 2 (drop 6 bytes))
@@ -68,22 +62,15 @@ below_2 bytes h = omega (arith, h 0, h 1)
 below_8 : (bytes : List ℕ) → ((i : ℕ) → get_or bytes i 0 < 256) → from_le_bytes w64 bytes < 2 ^ 64
 below_8 bytes h = omega (arith, h 0, h 1, h 2, h 3, h 4, h 5, h 6, h 7)
 
--- a part of bytes is bytes, and is as long as it is asked to be
-AreBytes-part : (bytes : List ℕ) (from n : ℕ) → AreBytes bytes → AreBytes (take n (drop from bytes))
-AreBytes-part bytes from n h = All-take (λ b. b < 256) n (drop from bytes) (All-drop (λ b. b < 256) from bytes h)
-
-length-part : (bytes : List ℕ) (from n : ℕ) → from + n ≤ length bytes → length (take n (drop from bytes)) ≡ n
-length-part bytes from n h = omega (arith, length-take n (drop from bytes), length-drop from bytes)
-
 -- the numbers that were read, written again
 addr-is : (bytes : List ℕ) → AreBytes bytes → 5 ≤ length bytes → to_le_bytes w32 (from_le_bytes w32 (take 4 (drop 1 bytes))) ≡ take 4 (drop 1 bytes)
-addr-is bytes h n = le_bytes_4 (take 4 (drop 1 bytes)) _ (length-part bytes 1 4 n) (each_byte (take 4 (drop 1 bytes)) (AreBytes-part bytes 1 4 h)) refl
+addr-is bytes h n = le_bytes_4 (take 4 (drop 1 bytes)) _ (length-part bytes 1 4 n) (part_byte bytes 1 4 h) refl
 
 number_of_2 : (bytes : List ℕ) (from : ℕ) → AreBytes bytes → from + 2 ≤ length bytes → to_le_bytes w16 (from_le_bytes w16 (take 2 (drop from bytes))) ≡ take 2 (drop from bytes)
-number_of_2 bytes from h n = le_bytes_2 (take 2 (drop from bytes)) _ (length-part bytes from 2 n) (each_byte (take 2 (drop from bytes)) (AreBytes-part bytes from 2 h)) refl
+number_of_2 bytes from h n = le_bytes_2 (take 2 (drop from bytes)) _ (length-part bytes from 2 n) (part_byte bytes from 2 h) refl
 
 number_of_8 : (bytes : List ℕ) (from : ℕ) → AreBytes bytes → from + 8 ≤ length bytes → to_le_bytes w64 (from_le_bytes w64 (take 8 (drop from bytes))) ≡ take 8 (drop from bytes)
-number_of_8 bytes from h n = le_bytes_8 (take 8 (drop from bytes)) _ (length-part bytes from 8 n) (each_byte (take 8 (drop from bytes)) (AreBytes-part bytes from 8 h)) refl
+number_of_8 bytes from h n = le_bytes_8 (take 8 (drop from bytes)) _ (length-part bytes from 8 n) (part_byte bytes from 8 h) refl
 
 -- the parts, joined in the grammar's way
 joined : (a c : ℕ) (address counter options rest : List ℕ) → ((a ∷ address ++ (c ∷ counter)) ++ options) ++ rest ≡ a ∷ address ++ (c ∷ counter ++ options ++ rest)
@@ -115,7 +102,7 @@ no_port-no_payload [] = refl
 no_port-no_payload (b ∷ bytes) = tt
 
 AreBytes-signed : (bytes : List ℕ) → AreBytes bytes → AreBytes (port_and_payload bytes)
-AreBytes-signed bytes b = All-drop (λ b. b < 256) (8 + fopts_len bytes) (signed bytes) (All-take (λ b. b < 256) (length bytes - 4) bytes b)
+AreBytes-signed bytes b = AreBytes-drop (signed bytes) (8 + fopts_len bytes) (AreBytes-take bytes (length bytes - 4) b)
 
 -- bytes that pass the tests of a data uplink are one
 pub IsDataUplink-sized : (bytes : List ℕ) → AreBytes bytes → IsDataSized bytes → IsDataUplink bytes (data_fields bytes)
@@ -126,16 +113,16 @@ IsDataUplink-sized bytes b h =
     let fits : IsDataFrame bytes (data_fields bytes) = record {
       parts = (get_or bytes 0 0 % 32 / 4, omega arith, frame-is bytes b h);
       ftype = elim (h.ftype) [ inl e ↦ (omega arith, omega arith) | inr e ↦ (omega arith, omega arith) ];
-      addr = below_4 (take 4 (drop 1 bytes)) (each_byte (take 4 (drop 1 bytes)) (AreBytes-part bytes 1 4 b));
+      addr = below_4 (take 4 (drop 1 bytes)) (part_byte bytes 1 4 b);
       fctrl = fifth;
-      fcnt16 = below_2 (take 2 (drop 6 bytes)) (each_byte (take 2 (drop 6 bytes)) (AreBytes-part bytes 6 2 b));
+      fcnt16 = below_2 (take 2 (drop 6 bytes)) (part_byte bytes 6 2 b);
       fopts = length-part bytes 8 (fopts_len bytes) (omega (arith, h.options));
       fopts_bytes = AreBytes-part bytes 8 (fopts_len bytes) b;
       port = port-byte (port_and_payload bytes) (AreBytes-signed bytes b);
       no_port = no_port-no_payload (port_and_payload bytes);
-      payload_bytes = All-drop (λ b. b < 256) 1 (port_and_payload bytes) (AreBytes-signed bytes b);
+      payload_bytes = AreBytes-drop (port_and_payload bytes) 1 (AreBytes-signed bytes b);
       mic = omega (arith, length-drop (length bytes - 4) bytes);
-      mic_bytes = All-drop (λ b. b < 256) (length bytes - 4) bytes b;
+      mic_bytes = AreBytes-drop bytes (length bytes - 4) b;
       size = h.most;
     } in
     (fits, h.ftype)
@@ -167,13 +154,9 @@ IsJoinRequest-sized bytes b h =
     let size = h.size in
     record {
       parts = (get_or bytes 0 0 % 32 / 4, omega arith, join-is bytes b h);
-      join_eui = below_8 (take 8 (drop 1 bytes)) (each_byte (take 8 (drop 1 bytes)) (AreBytes-part bytes 1 8 b));
-      dev_eui = below_8 (take 8 (drop 9 bytes)) (each_byte (take 8 (drop 9 bytes)) (AreBytes-part bytes 9 8 b));
-      nonce = below_2 (take 2 (drop 17 bytes)) (each_byte (take 2 (drop 17 bytes)) (AreBytes-part bytes 17 2 b));
+      join_eui = below_8 (take 8 (drop 1 bytes)) (part_byte bytes 1 8 b);
+      dev_eui = below_8 (take 8 (drop 9 bytes)) (part_byte bytes 9 8 b);
+      nonce = below_2 (take 2 (drop 17 bytes)) (part_byte bytes 17 2 b);
       mic = omega (arith, length-drop 19 bytes);
-      mic_bytes = All-drop (λ b. b < 256) 19 bytes b;
+      mic_bytes = AreBytes-drop bytes 19 b;
     }
-
--- what the elements of a slice of bytes are
-pub AreBytes-slice : (bytes : List ℕ) → ((i : ℕ) → get_or bytes i 0 < 256) → AreBytes bytes
-AreBytes-slice bytes h = All-from_get_or (λ b. b < 256) bytes 0 (λ i _. h i)

@@ -1,9 +1,10 @@
 -- A data uplink with another payload of the same length.
 use Rattle.std.proofs.Common.{◌≡◌, ℕ, ◌-◌, ◌<◌, List, [], ◌∷◌, ◌++◌, length, take, Option, None, Some, IfNone, refl, sym, ap, subst, ◌∙◌, arith, length-append}
-use Rattle.std.proofs.lemmas.List.{append_assoc, nil_from_length, take_at, drop_at}
-use Rattle.std.proofs.lemmas.List.Elements.{All-take, All-drop}
+use Rattle.std.proofs.lemmas.List.{append_assoc, nil_from_length, take_at}
 use Rattle.std.specs.Int.{w16, w32, to_le_bytes}
-use Rattle.ns_views.specs.Grammar.{DataFields, AreBytes, IsDataFrame, IsDataUplink, mhdr, ported, frame_before_mic}
+use Rattle.ns_types.specs.Bytes.{AreBytes}
+use Rattle.ns_types.proofs.ByteLemmas.{AreBytes-front, AreBytes-back}
+use Rattle.ns_views.specs.Grammar.{DataFields, IsDataFrame, IsDataUplink, mhdr, ported, frame_before_mic}
 use Rattle.ns_views.specs.Frame.{data_fields}
 use Rattle.ns_views.specs.Parts.{before_payload, with_payload}
 use Rattle.ns_views.specs.Laws.{PayloadsAreReplaced}
@@ -70,15 +71,10 @@ IsDataFrame-replaced bytes written d h b e =
 pub IsDataUplink-with_payload : PayloadsAreReplaced
 IsDataUplink-with_payload bytes written u b e = (IsDataFrame-replaced bytes written (data_fields bytes) u.0 b e, u.1)
 
--- a part of bytes is bytes
-AreBytes-part : (before part behind : List ℕ) → AreBytes ((before ++ part) ++ behind) → AreBytes part
-AreBytes-part before part behind h =
-    let front : AreBytes (before ++ part) = subst AreBytes (take_at (before ++ part) behind (length (before ++ part)) refl) (All-take (λ b. b < 256) (length (before ++ part)) ((before ++ part) ++ behind) h) in
-    subst AreBytes (drop_at before part (length before) refl) (All-drop (λ b. b < 256) (length before) (before ++ part) front)
-
 -- bytes that are a data uplink with another payload of the same length
 pub IsDataUplink-replaced : (bytes written after : List ℕ) → IsDataUplink bytes (data_fields bytes) → AreBytes after → length written ≡ length (data_fields bytes).payload → after ≡ with_payload bytes written →
     IsDataUplink after (record (data_fields bytes) { payload = written })
 IsDataUplink-replaced bytes written after u are e f =
-    let b = AreBytes-part (before_payload bytes) written (data_fields bytes).mic (subst AreBytes f are) in
+    let front = AreBytes-front (before_payload bytes ++ written) (data_fields bytes).mic (subst AreBytes f are) in
+    let b = AreBytes-back (before_payload bytes) written front in
     subst (λ x. IsDataUplink x (record (data_fields bytes) { payload = written })) (sym f) (IsDataUplink-with_payload bytes written u b e)

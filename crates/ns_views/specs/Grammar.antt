@@ -1,7 +1,7 @@
 -- The grammar of uplink frames (LoRaWAN L2 1.0.4, 4 and 6.2.5) as relations between bytes and fields. Numbers have their lowest byte first.
 use Rattle.std.specs.Prelude.{◌≡◌, ℕ, ◌+◌, ◌*◌, ◌%◌, ◌^◌, ◌<◌, ◌≤◌, ◌⊎◌, List, [], ◌∷◌, ◌++◌, length, Option, None, Some, IfSome, IfNone}
 use Rattle.std.specs.Int.{w16, w32, w64, to_le_bytes}
-use Rattle.std.specs.List.{All}
+use Rattle.ns_types.specs.Bytes.{AreBytes}
 
 -- the frame types (4.2.1)
 abbrev pub join_request : ℕ
@@ -23,10 +23,6 @@ pub record DataFields : Type 0 where
   pub port : Option ℕ
   pub payload : List ℕ
   pub mic : List ℕ
-
--- each is a byte
-abbrev pub AreBytes : List ℕ → Type 0
-AreBytes bytes = All (λ b. b < 256) bytes
 
 -- MHDR of a type, with Major 0 and the three bits that are reserved (4.2)
 abbrev pub mhdr : ℕ → ℕ → ℕ

@@ -1,6 +1,7 @@
 -- Laws of the grammar of uplinks.
 use Rattle.std.specs.Prelude.{◌≡◌, ℕ, List, ◌⊎◌, ◌↔◌, ◌++◌, length, None}
-use Rattle.ns_views.specs.Grammar.{DataFields, JoinFields, AreBytes, IsDataFrame, IsDataUplink, IsJoinRequest, ported}
+use Rattle.ns_types.specs.Bytes.{AreBytes}
+use Rattle.ns_views.specs.Grammar.{DataFields, JoinFields, IsDataFrame, IsDataUplink, IsJoinRequest, ported}
 use Rattle.ns_views.specs.Parts.{header, with_payload}
 use Rattle.ns_views.specs.Frame.{data_fields, join_fields, signed, view_fault, parts_fault}
 

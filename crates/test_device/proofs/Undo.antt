@@ -3,8 +3,8 @@ use Rattle.std.proofs.Common.{◌≡◌, ℕ, ◌<◌, ◌⊎◌, List, ◌++◌
 use Rattle.std.proofs.Math.Seq.{take-append_seam, drop-append_seam}
 use Rattle.std.proofs.lemmas.List.{take_all, take-append-drop, append-nil}
 use Rattle.std.proofs.lemmas.List.Elements.{All-take, All-drop}
+use Rattle.ns_types.specs.Bytes.{AreBytes}
 use Rattle.ns_aes_cmac.specs.Aes.{aes, unaes, IsBlock}
-use Rattle.ns_views.specs.Grammar.{AreBytes}
 use Rattle.ns_secure.specs.Cipher.{accept_cipher, accept_decipher, each_block, numbers}
 use Rattle.test_device.proofs.Blocks.{length-unaes}
 

@@ -2,12 +2,12 @@
 use Rattle.std.specs.Prelude.{ℕ, ◌^◌, ◌&&◌, ◌==◌, Bool, List, ◌∷◌, nat_lt, nat_le, bytes_eq, codes, slice_index, Option, Some, None, option_map, option_and_then, if◌then◌else◌}
 use Rattle.std.specs.Int.{w32, from_be_bytes}
 use Rattle.serde_json.specs.Data.{Data}
+use Rattle.ns_types.specs.Options.{◌>>=◌}
 use Rattle.ns_types.specs.declared.identity.NetId.{NetId}
 use Rattle.ns_types.specs.declared.identity.DevAddr.{DevAddr}
 use Rattle.ns_types.specs.declared.ticket.Ticket.{Ticket}
 use Rattle.ns_views.specs.Frame.{is_join_type, major_of}
 use Rattle.ns_roster.specs.Field.{value_of, text_at, whole_at, hex_bytes}
-use Rattle.ns_joinwire.specs.Parts.{◌>>=◌}
 use Rattle.test_device.specs.declared.request.JoinReq.{JoinReq}
 
 -- the value, where the test holds

@@ -1,7 +1,7 @@
 use Rattle.std.proofs.Common.{◌≡◌, ◌-◌, ◌∷◌, [], List, ℕ, length, get_or, take, drop, inl, inr, sym, ap, subst, ◌∙◌, rules}
 use Rattle.std.proofs.lemmas.List.{take_rest}
+use Rattle.ns_types.proofs.ByteLemmas.{AreBytes-slice}
 use Rattle.ns_types.specs.declared.identity.GatewayId.{GatewayId}
-use Rattle.ns_link.proofs.Parts.{AreBytes-slice}
 use Rattle.ns_forwarder.specs.declared.head.Head.{Head}
 use Rattle.ns_forwarder.specs.declared.head.Kind.{Kind}
 use Rattle.ns_forwarder.specs.Message.{IsMessage, head_of, message_of}

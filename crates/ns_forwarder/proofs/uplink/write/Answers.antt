@@ -1,5 +1,5 @@
 use Rattle.std.proofs.Common.{rules}
-use Rattle.ns_link.proofs.Parts.{AreBytes-slice}
+use Rattle.ns_types.proofs.ByteLemmas.{AreBytes-slice}
 use Rattle.ns_forwarder.proofs.uplink.write.Goals as goal
 
 pub returns : goal.returns

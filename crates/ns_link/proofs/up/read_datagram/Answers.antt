@@ -1,8 +1,8 @@
 use Rattle.std.proofs.Common.{◌≡◌, ◌-◌, ◌≤◌, List, ℕ, length, take, drop, sym, ap, subst, ◌∙◌, arith, rules}
 use Rattle.std.proofs.lemmas.List.{take_rest}
+use Rattle.ns_types.proofs.ByteLemmas.{AreBytes-slice}
 use Rattle.ns_types.specs.declared.heard.Heard.{Heard}
 use Rattle.ns_link.specs.Datagram.{IsUpDatagram, lowest_frequency, highest_frequency, heard_of, datagram_of}
-use Rattle.ns_link.proofs.Parts.{AreBytes-slice}
 use Rattle.ns_link.proofs.UpLayout.{IsSized, IsUpDatagram-sized, datagram_of-sized, datagram_of-datagram, read}
 use Rattle.ns_link.proofs.up.read_datagram.Goals as goal
 

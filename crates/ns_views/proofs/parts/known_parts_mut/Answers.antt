@@ -1,5 +1,5 @@
 use Rattle.std.proofs.Common.{rules, ◌++◌, drop, length, refl, ap, ◌∙◌}
-use Rattle.ns_views.proofs.Made.{AreBytes-slice}
+use Rattle.ns_types.proofs.ByteLemmas.{AreBytes-slice}
 use Rattle.ns_views.proofs.Lent.{WorksOnParts-call, ShowsParts-cuts, writes-cut}
 use Rattle.ns_views.proofs.parts.known_parts_mut.Goals as goal
 

@@ -1,4 +1,4 @@
-use Rattle.ns_views.proofs.Made.{AreBytes-slice}
+use Rattle.ns_types.proofs.ByteLemmas.{AreBytes-slice}
 use Rattle.test_device.proofs.join_server.key_bytes.Goals as goal
 
 pub returns-clause-block : goal.returns-clause-block

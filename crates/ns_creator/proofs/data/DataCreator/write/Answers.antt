@@ -1,6 +1,6 @@
 use Rattle.std.proofs.Common.{◌≡◌, ◌++◌, ◌≤◌, length, length-append, ◌∙◌, rules, arith}
+use Rattle.ns_types.proofs.ByteLemmas.{AreBytes-slice}
 use Rattle.ns_creator.specs.DataFrame.{plain_frame}
-use Rattle.ns_views.proofs.Made.{AreBytes-slice}
 use Rattle.ns_creator.proofs.Written.{IsDataFrame-written}
 use Rattle.ns_creator.proofs.data.DataCreator.write.Goals as goal
 

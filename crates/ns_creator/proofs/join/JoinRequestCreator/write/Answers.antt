@@ -1,5 +1,5 @@
 use Rattle.std.proofs.Common.{◌≡◌, ◌++◌, length, ◌∙◌, rules}
-use Rattle.ns_views.proofs.Made.{AreBytes-slice}
+use Rattle.ns_types.proofs.ByteLemmas.{AreBytes-slice}
 use Rattle.ns_creator.proofs.Written.{IsJoinRequest-written}
 use Rattle.ns_creator.proofs.join.JoinRequestCreator.write.Goals as goal
 

@@ -1,6 +1,7 @@
 use Rattle.std.proofs.Common.{◌≡◌, List, ℕ, subst}
 use Rattle.std.proofs.lemmas.Result.{IfOk-weaker}
-use Rattle.ns_link.specs.Datagram.{AreBytes, IsUpDatagram, up_datagram}
+use Rattle.ns_types.specs.Bytes.{AreBytes}
+use Rattle.ns_link.specs.Datagram.{IsUpDatagram, up_datagram}
 use Rattle.ns_link.proofs.UpLayout.{datagram_of-datagram}
 use Rattle.ns_forwarder.specs.Uplink.{heard_of}
 use Rattle.ns_forwarder.specs.Held.{item_view}

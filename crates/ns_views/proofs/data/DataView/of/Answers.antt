@@ -1,5 +1,6 @@
 use Rattle.std.proofs.Common.{refl, arith, rules}
-use Rattle.ns_views.proofs.Made.{IsDataSized, IsDataUplink-sized, AreBytes-slice}
+use Rattle.ns_types.proofs.ByteLemmas.{AreBytes-slice}
+use Rattle.ns_views.proofs.Made.{IsDataSized, IsDataUplink-sized}
 use Rattle.ns_views.proofs.Sized.{data_type-cases}
 use Rattle.ns_views.proofs.data.DataView.of.Goals as goal
 

@@ -1,6 +1,7 @@
 use Rattle.std.proofs.Common.{refl, arith, rules}
 use Rattle.std.proofs.lemmas.Bool.Decides.{nat_tests}
-use Rattle.ns_views.proofs.Made.{IsJoinSized, IsJoinRequest-sized, AreBytes-slice}
+use Rattle.ns_types.proofs.ByteLemmas.{AreBytes-slice}
+use Rattle.ns_views.proofs.Made.{IsJoinSized, IsJoinRequest-sized}
 use Rattle.ns_views.proofs.join.JoinView.of.Goals as goal
 
 pub invariant_of-result : goal.invariant_of-result
