@@ -30,21 +30,27 @@ fn use_half(seed: u8) -> u32 {
     write_all_of(&mut room, seed)
 }
 
-// Uses the stack once as far as a test may need it.
+/// Uses 512 KB of the stack, once, and says that it did. Where no address is left the stack cannot grow any more, and a test would end by
+/// a signal: so this is called before all memory is taken, by a function from which a test goes less deep.
 #[inline(never)]
-fn use_stack(seed: u8) -> u32 {
+pub fn use_stack() -> bool {
     let mut room = [0u8; STACK];
-    let below = use_half(seed);
-    write_all_of(&mut room, seed).wrapping_add(below)
+    let below = use_half(1);
+    // (what a caller asks for is not left out)
+    write_all_of(&mut room, 2).wrapping_add(below) != 0
 }
 
-/// Takes all memory that is left, in blocks of falling size, into a list that has room for `BLOCKS`.
-///
-/// 512 KB of the stack are used before: where no address is left it cannot grow any more, and the test would end by a signal.
+/// Takes all memory that is left, in blocks of falling size, into a list that has room for `BLOCKS`. The stack is used before.
 pub fn take_all(alloc: Global, held: &mut Vec<Vec<u8>>) -> Result<(), AllocError> {
-    // The sum is used, so that the stack is: it begins with one of two sizes, of which each is too much.
-    let sum = use_stack((held.len() % 256) as u8);
-    let mut size = 1usize << (46 + sum % 2);
+    if !use_stack() {
+        return Err(AllocError);
+    }
+    take_rest(alloc, held)
+}
+
+/// The same where the stack was used before.
+pub fn take_rest(alloc: Global, held: &mut Vec<Vec<u8>>) -> Result<(), AllocError> {
+    let mut size = 1usize << 47;
     for _ in 0..400_000u32 {
         if size < 16 || held.len() >= BLOCKS {
             break;

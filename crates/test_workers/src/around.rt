@@ -4,7 +4,7 @@ ghost use Rattle.std.specs.Prelude.{None};
 
 use ns_calls::Downlink;
 use ns_server::Receipt;
-use ns_types::{BLOCKS, Fuse, Ticket, take_all};
+use ns_types::{BLOCKS, Fuse, Ticket, take_rest};
 use ns_workers::{
     Connections, Datagrams, Downlinks, Job, JobSource, Jobs, JoinFault, Monitor, Next, Received,
     Refused, Timer,
@@ -149,7 +149,7 @@ impl<R> Jobs<R, Job> for Put {
 }
 
 /// A source behind which memory goes and comes: before the turn of the first number all of it is taken but this many blocks, and before
-/// that of the second it is given back.
+/// that of the second it is given back. The stack is used before (`use_stack`).
 #[derive(Drop)]
 pub struct Scarce<S> {
     alloc: Global,
@@ -178,7 +178,7 @@ impl<S: Drop> Scarce<S> {
     // The next turn.
     fn turn(&mut self) {
         if self.turn == self.from {
-            let _ = take_all(self.alloc, &mut self.held);
+            let _ = take_rest(self.alloc, &mut self.held);
             for _ in 0..self.blocks {
                 let _ = self.held.pop();
             }

@@ -8,7 +8,7 @@ use ns_events::Output;
 use ns_joinclient::HostName;
 use ns_roster::Roster;
 use ns_server::{Gate, Naming, Open, Pass, Server};
-use ns_types::{BLOCKS, DevEui, Fuse, Ticket, WindowName, take_all};
+use ns_types::{BLOCKS, DevEui, Fuse, Ticket, WindowName, take_rest};
 use ns_workers::{
     AskJob, CloseJob, ListedDatagrams, ListedJobs, Shared, run_closer, run_gateway, run_join,
 };
@@ -268,7 +268,7 @@ fn close_all<B: Naming, R: Wait>(
 // Takes all memory but 64 MB, so that it takes less time to take the rest again and again.
 fn take_most(alloc: Global, held: &mut Vec<Vec<u8>>) -> Option<()> {
     let _left: Vec<u8> = Vec::with_capacity(alloc, 1 << 26).ok()?;
-    take_all(alloc, held).ok()
+    take_rest(alloc, held).ok()
 }
 
 // Has a ticket answered until it is accepted, which takes more than one block of memory.

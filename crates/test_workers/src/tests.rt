@@ -12,7 +12,7 @@ use crate::runs::Run::{Answer, Close, LeaveOut, Serve, UntilAccepted};
 use crate::runs::{Asked, Due, Faults, NONE, Reads, Run};
 use crate::served::told;
 use ns_calls::Reply;
-use ns_types::{DevEui, Ticket, WindowName};
+use ns_types::{DevEui, Ticket, WindowName, use_stack};
 use ns_workers::{AskJob, CloseJob, Job, MOST_AGE_MS, job_of};
 use std::test::*;
 
@@ -503,6 +503,7 @@ fn runs_of_workers(rt: HostRuntime) -> Result<(), Fail> {
 /// What workers do without memory, by the cases above.
 #[test]
 fn runs_without_memory(rt: HostRuntime) -> Result<(), Fail> {
+    assert!(rt; use_stack());
     for (runs, wanted) in [
         LINES_BEFORE_NO_MEMORY,
         DROPPED_UPLINK_IS_HEARD_AGAIN,
