@@ -143,7 +143,8 @@ fn add(
     Ok(())
 }
 
-/// Adds the device that a value describes, in a text of this version.
+/// Adds the device that a value describes, in a text of this version, to devices that are valid, and to the map that has each of them at
+/// its DevEUI. What it leaves after a fault is of no use.
 pub fn add_value(
     version: u64,
     devices: &mut Vec<Device>,
