@@ -6,7 +6,7 @@ ghost use Rattle.ns_forwarder.specs.declared.head.Head.{Head};
 ghost use Rattle.ns_forwarder.specs.Message.{IsMessage, message_of, kind_of, ack_of, gateway_of};
 
 use crate::ForwarderFault;
-use ns_types::GatewayId;
+use ns_types::{GatewayId, array_at};
 use std::marker::Model;
 
 /// How many bytes stand before the body.
@@ -128,7 +128,5 @@ fn gateway_of(bytes: &[u8]) -> GatewayId
     requires { 12 ≤ length bytes.now }
     ensures { result ≡ gateway_of bytes.now }
 {
-    let mut number = [0; 8];
-    number.copy_from_slice(&bytes[4..HEAD]);
-    GatewayId(u64::from_be_bytes(number))
+    GatewayId(u64::from_be_bytes(array_at(bytes, 4)))
 }

@@ -1,5 +1,5 @@
 -- A text is an answer exactly where it spells one.
-use Rattle.std.proofs.Common.{◌≡◌, ℕ, ◌<◌, List, [], ◌∷◌, Bool, true, false, ◌&&◌, Option, Some, None, Ok, Err, option_map, length, refl, ◌∙◌, ap, subst, inl, inr, arith, bytes_eq}
+use Rattle.std.proofs.Common.{◌≡◌, ℕ, ◌<◌, List, [], ◌∷◌, Bool, true, false, ◌&&◌, Option, Some, None, Ok, option_map, length, refl, ◌∙◌, ap, subst, inl, inr, arith, bytes_eq}
 use Rattle.std.specs.Prelude.{Result, if◌then◌else◌, ◌==◌, codes, option_and_then}
 use Rattle.std.specs.Option.{ok_or, option_map_or}
 use Rattle.std.proofs.lemmas.Bool.{eqb-true}

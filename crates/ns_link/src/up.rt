@@ -1,12 +1,11 @@
 //! The datagram of a frame that a gateway heard.
 
-ghost use Rattle.std.specs.Prelude.{◌≡◌, ◌+◌, ◌≤◌, ℕ, List, length, take, drop, Ok, IfOk};
-ghost use Rattle.std.specs.Int.{w16, w32, w64, from_be_bytes};
+ghost use Rattle.std.specs.Prelude.{◌≡◌, ◌≤◌, ℕ, List, length, Ok, IfOk};
 ghost use Rattle.ns_types.specs.declared.heard.Heard.{Heard};
 ghost use Rattle.ns_link.specs.Datagram.{IsUpDatagram, datagram_of, heard_of};
 
 use crate::LinkFault;
-use ns_types::{GatewayId, Heard};
+use ns_types::{GatewayId, Heard, array_at};
 use std::marker::Model;
 
 /// How many bytes stand before the frame.
@@ -87,41 +86,11 @@ fn heard_of(bytes: &[u8]) -> Heard
     ensures { result ≡ heard_of bytes.now }
 {
     Heard {
-        gateway: GatewayId(u64_at(bytes, 2)),
-        moment: u64_at(bytes, 10),
-        freq: u32_at(bytes, 18),
+        gateway: GatewayId(u64::from_be_bytes(array_at(bytes, 2))),
+        moment: u64::from_be_bytes(array_at(bytes, 10)),
+        freq: u32::from_be_bytes(array_at(bytes, 18)),
         dr: bytes[22],
-        rssi: u16_at(bytes, 23).cast_signed(),
-        snr: u16_at(bytes, 25).cast_signed(),
+        rssi: u16::from_be_bytes(array_at(bytes, 23)).cast_signed(),
+        snr: u16::from_be_bytes(array_at(bytes, 25)).cast_signed(),
     }
-}
-
-// The number of 8 bytes, highest byte first.
-fn u64_at(bytes: &[u8], at: usize) -> u64
-    requires { at + 8 ≤ length bytes.now }
-    ensures { result ≡ from_be_bytes w64 (take 8 (drop at bytes.now)) }
-{
-    let mut number = [0; 8];
-    number.copy_from_slice(&bytes[at..at + 8]);
-    u64::from_be_bytes(number)
-}
-
-// The number of 4 bytes, highest byte first.
-fn u32_at(bytes: &[u8], at: usize) -> u32
-    requires { at + 4 ≤ length bytes.now }
-    ensures { result ≡ from_be_bytes w32 (take 4 (drop at bytes.now)) }
-{
-    let mut number = [0; 4];
-    number.copy_from_slice(&bytes[at..at + 4]);
-    u32::from_be_bytes(number)
-}
-
-// The number of 2 bytes, highest byte first.
-fn u16_at(bytes: &[u8], at: usize) -> u16
-    requires { at + 2 ≤ length bytes.now }
-    ensures { result ≡ from_be_bytes w16 (take 2 (drop at bytes.now)) }
-{
-    let mut number = [0; 2];
-    number.copy_from_slice(&bytes[at..at + 2]);
-    u16::from_be_bytes(number)
 }

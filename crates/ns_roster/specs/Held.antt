@@ -1,4 +1,4 @@
--- What the code's own values stand for; for private clauses.
+-- What the code's own values stand for.
 use Rattle.std.specs.Prelude.{ℕ, List, map, nat_eq, ◌≡◌}
 use Rattle.std.specs.declared.hash.FoldHasher.{FoldHasher}
 use Rattle.std.specs.declared.hash.BuildHasherDefault.{BuildHasherDefault}

@@ -1,4 +1,4 @@
-//! The parts of a roster's text.
+//! The parts of a roster's text, as each reader of one takes them.
 
 ghost use Rattle.std.specs.Prelude.{◌≡◌, ◌+◌, ◌≤◌, length, map, [], OnOk, IfOk, option_map};
 ghost use Rattle.serde_json.specs.View.{view};
@@ -21,33 +21,34 @@ const VERSION_1: u64 = 1;
 // In this version a device may name its last nonce.
 const VERSION_2: u64 = 2;
 
-const MAX_RX1_OFFSET: u64 = 5;
-
-const MAX_RX_DELAY: u64 = 15;
+/// The greatest Rx1DrOffset.
+pub const MAX_RX1_OFFSET: u64 = 5;
+/// The greatest delay of the first receive window, in seconds.
+pub const MAX_RX_DELAY: u64 = 15;
 
 const MAX_SLOT: u64 = 0x1F_FFFF;
 
 const MAX_NONCE: u64 = 0xFFFF;
 
-// The EUI at a key.
-fn eui_at(value: &Value, key: &str) -> Option<u64>
+/// The EUI at a key.
+pub fn eui_at(value: &Value, key: &str) -> Option<u64>
     ensures { result ≡ eui_at key.now (view value.now) }
 {
     let bytes = hex_bytes::<8>(text_at(value, key)?)?;
     Some(u64::from_be_bytes(bytes))
 }
 
-// The NetID at a key.
-fn net_id_at(value: &Value, key: &str) -> Option<u32>
+/// The NetID at a key.
+pub fn net_id_at(value: &Value, key: &str) -> Option<u32>
     ensures { result ≡ net_id_at key.now (view value.now) }
 {
     let bytes = hex_bytes::<3>(text_at(value, key)?)?;
     Some(u32::from_be_bytes([0, bytes[0], bytes[1], bytes[2]]))
 }
 
-// The outer fields, and the values of the devices.
+/// The outer fields, and the values of the devices.
 #[derive(Drop)]
-pub(crate) struct Outer<'a> {
+pub struct Outer<'a> {
     pub version: u64,
     pub net_id: NetId,
     pub rx1_offset: u8,
@@ -55,15 +56,16 @@ pub(crate) struct Outer<'a> {
     pub devices: &'a [Value],
 }
 
-fn is_version(version: u64) -> bool
+/// Whether a text may be of this version.
+pub fn is_version(version: u64) -> bool
     ensures { result ≡ is_version version }
 {
     version == VERSION_1 || version == VERSION_2
 }
 
-// The outer fields of a value. It takes no memory.
+/// The outer fields of a value. It takes no memory.
 #[tactic(auto, using(crate::proofs::TextLemmas::items_list_of_items), unfolding(crate::specs::Text::outer_of))]
-pub(crate) fn outer_of(root: &Value) -> Result<Outer<'_>, RosterFault>
+pub fn outer_of(root: &Value) -> Result<Outer<'_>, RosterFault>
     ensures gives { GivesExactly outer_view result (outer_of (view root.now)) }
     ensures within { IfOk result (λ o. (o.rx1_offset ≤ 5) × (o.rx_delay ≤ 15)) }
 {
@@ -141,8 +143,9 @@ fn add(
     Ok(())
 }
 
-// Adds the device that a value describes, in a text of this version.
-fn add_value(
+/// Adds the device that a value describes, in a text of this version, to devices that are valid, and to the map that has each of them at
+/// its DevEUI. What it leaves after a fault is of no use.
+pub fn add_value(
     version: u64,
     devices: &mut Vec<Device>,
     by_eui: &mut HashMap<u64, Device>,

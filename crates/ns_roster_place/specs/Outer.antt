@@ -1,18 +1,12 @@
 -- Which field beside those of the devices a fault is about.
-use Rattle.std.specs.Prelude.{ℕ, List, Bool, false, not, map, nat_le, is_some, if◌then◌else◌, codes}
+use Rattle.std.specs.Prelude.{ℕ, List, Bool, false, not, nat_le, is_some, if◌then◌else◌, codes}
 use Rattle.std.specs.Option.{option_map_or}
 use Rattle.serde_json.specs.Data.{Data}
-use Rattle.serde_json.specs.View.{view}
 use Rattle.ns_roster.specs.Field.{whole_at}
-use Rattle.ns_roster.specs.Text.{Outer, net_id_at, is_version}
+use Rattle.ns_roster.specs.Text.{net_id_at, is_version}
 use Rattle.ns_roster.specs.Valid.{max_rx1_offset, max_rx_delay}
-use Rattle.ns_roster_place.specs.declared.outer.Outer as code
 use Rattle.ns_roster_place.specs.declared.place.OuterField.{OuterField}
 use Rattle.ns_roster_place.specs.declared.place.OuterField.TheVariants.{Version, NetId, Rx1Offset, RxDelay, Devices}
-
--- the outer fields in the code
-abbrev pub outer_view : code.Outer → Outer
-outer_view o = record { version = o.version; net_id = o.net_id; rx1_offset = o.rx1_offset; rx_delay = o.rx_delay; devices = map view o.devices.now }
 
 -- whether the version is one of a roster's
 abbrev pub is_version_at : Data → Bool

@@ -1,18 +1,16 @@
 //! The first fault of a text.
 
-ghost use Rattle.std.specs.Prelude.{◌≡◌, [], IfOk, OnOk, Ok, Err, map, option_map, string_bytes};
+ghost use Rattle.std.specs.Prelude.{◌≡◌, [], IfOk, map, option_map, string_bytes};
 ghost use Rattle.serde_json.specs.View.{view};
-ghost use Rattle.ns_types.specs.Results.{Gives};
-ghost use Rattle.ns_roster.specs.declared.fault.RosterFault.TheVariants.{NoMemory};
-ghost use Rattle.ns_roster.specs.Held.{Indexes};
-ghost use Rattle.ns_roster.specs.Text.{roster_of, with_device, with_value};
+ghost use Rattle.ns_roster.specs.Text.{roster_of};
 ghost use Rattle.ns_roster_place.specs.Place.{placed_view, in_device, fault_from, fault_in, first_fault, refusal_of};
 
-use crate::device::{device_of, wrong_field};
-use crate::outer::{outer_of, wrong_outer};
+use crate::device::wrong_field;
+use crate::outer::wrong_outer;
 use crate::place::{OuterField, Place, PlacedFault};
+use ns_roster::RosterFault;
 use ns_roster::field::{text_at, value_of};
-use ns_roster::{Device, RosterFault};
+use ns_roster::reading::{add_value, outer_of};
 use serde_json::Value;
 use std::alloc::{AllocError, Global};
 use std::collections::HashMap;
@@ -51,40 +49,6 @@ fn in_device(
         place: Place::Device(place, wrong_field(value, fault)),
         eui,
     })
-}
-
-// Adds a device that none of the others has the DevEUI of.
-fn add(
-    devices: &mut Vec<Device>,
-    by_eui: &mut HashMap<u64, Device>,
-    device: Device,
-) -> Result<(), RosterFault>
-    requires { Indexes by_eui.old devices.old.items }
-    ensures gives { Gives NoMemory (λ _. devices.new.items) result (with_device devices.old.items device) }
-    ensures indexed { OnOk result (Indexes by_eui.new devices.new.items) }
-{
-    if by_eui.contains_key(&device.eui.0) {
-        return Err(RosterFault::Twice);
-    }
-    by_eui.insert(device.eui.0, device)?;
-    devices.push(device)?;
-    Ok(())
-}
-
-// Adds the device that a value describes, in a text of this version.
-fn add_value(
-    version: u64,
-    devices: &mut Vec<Device>,
-    by_eui: &mut HashMap<u64, Device>,
-    value: &Value,
-) -> Result<(), RosterFault>
-    requires { Indexes by_eui.old devices.old.items }
-    ensures gives { Gives NoMemory (λ _. devices.new.items) result
-        (with_value version devices.old.items (view value.now)) }
-    ensures indexed { OnOk result (Indexes by_eui.new devices.new.items) }
-{
-    let device = device_of(version, value)?;
-    add(devices, by_eui, device)
 }
 
 // The first fault of the devices.

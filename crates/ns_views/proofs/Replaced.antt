@@ -1,5 +1,5 @@
 -- A data uplink with another payload of the same length.
-use Rattle.std.proofs.Common.{◌≡◌, ℕ, ◌-◌, ◌<◌, List, [], ◌∷◌, ◌++◌, length, take, Option, None, Some, IfNone, refl, sym, ap, subst, ◌∙◌, arith, length-append}
+use Rattle.std.proofs.Common.{◌≡◌, ℕ, ◌-◌, List, [], ◌∷◌, ◌++◌, length, take, Option, None, Some, IfNone, refl, sym, ap, subst, ◌∙◌, arith, length-append}
 use Rattle.std.proofs.lemmas.List.{append_assoc, nil_from_length, take_at}
 use Rattle.std.specs.Int.{w16, w32, to_le_bytes}
 use Rattle.ns_types.specs.Bytes.{AreBytes}

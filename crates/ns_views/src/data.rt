@@ -6,7 +6,7 @@ ghost use Rattle.ns_views.specs.Frame.{data_fields, signed, is_confirmed, is_dat
 ghost use Rattle.ns_views.specs.Laws.{PartsCover};
 
 use crate::ViewFault;
-use ns_types::{DevAddr, Mic};
+use ns_types::{DevAddr, Mic, array_at};
 use std::marker::Model;
 
 /// A data uplink. A contract sees its bytes.
@@ -77,8 +77,7 @@ impl<'a> DataView<'a> {
     pub fn dev_addr(&self) -> DevAddr
         ensures { result.0 ≡ (data_fields self.now).addr }
     {
-        let bytes = self.bytes();
-        DevAddr(u32::from_le_bytes([bytes[1], bytes[2], bytes[3], bytes[4]]))
+        DevAddr(u32::from_le_bytes(array_at(self.bytes(), 1)))
     }
 
     /// FCtrl: ADR, ADRACKReq, ACK, ClassB and, in bits 3 to 0, how many bytes of options follow.
@@ -92,8 +91,7 @@ impl<'a> DataView<'a> {
     pub fn fcnt16(&self) -> u16
         ensures { result ≡ (data_fields self.now).fcnt16 }
     {
-        let bytes = self.bytes();
-        u16::from_le_bytes([bytes[6], bytes[7]])
+        u16::from_le_bytes(array_at(self.bytes(), 6))
     }
 
     /// Where the options end.
@@ -154,7 +152,6 @@ impl<'a> DataView<'a> {
         ensures { result.0 ≡ (data_fields self.now).mic }
     {
         let bytes = self.bytes();
-        let at = bytes.len() - 4;
-        Mic([bytes[at], bytes[at + 1], bytes[at + 2], bytes[at + 3]])
+        Mic(array_at(bytes, bytes.len() - 4))
     }
 }

@@ -1,13 +1,12 @@
 //! The view of a Join-Request (LoRaWAN L2 1.0.4, 6.2.5).
 
-ghost use Rattle.std.specs.Prelude.{◌≡◌, ◌+◌, ◌<◌, ◌≤◌, List, ℕ, length, take, drop, IsTrue, OnOk, IfOk, IfErr, Some, None};
-ghost use Rattle.std.specs.Int.{w64, from_le_bytes};
+ghost use Rattle.std.specs.Prelude.{◌≡◌, ◌<◌, ◌≤◌, List, ℕ, length, IsTrue, OnOk, IfOk, IfErr, Some, None};
 ghost use Rattle.ns_types.specs.Ticket.{dev_eui, join_eui, nonce};
 ghost use Rattle.ns_views.specs.Grammar.{IsJoinRequest};
 ghost use Rattle.ns_views.specs.Frame.{join_fields, is_join_type, major_of, view_fault};
 
 use crate::ViewFault;
-use ns_types::{DevEui, DevNonce, JoinEui, Mic, Ticket};
+use ns_types::{DevEui, DevNonce, JoinEui, Mic, Ticket, array_at};
 use std::marker::Model;
 
 /// A Join-Request. A contract sees its bytes.
@@ -53,30 +52,28 @@ impl<'a> JoinView<'a> {
     pub fn join_eui(&self) -> JoinEui
         ensures { result.0 ≡ (join_fields self.now).join_eui }
     {
-        JoinEui(self.number_at(1))
+        JoinEui(u64::from_le_bytes(array_at(self.bytes(), 1)))
     }
 
     /// The EUI of the device.
     pub fn dev_eui(&self) -> DevEui
         ensures { result.0 ≡ (join_fields self.now).dev_eui }
     {
-        DevEui(self.number_at(9))
+        DevEui(u64::from_le_bytes(array_at(self.bytes(), 9)))
     }
 
     /// DevNonce: the device's counter of Join-Requests.
     pub fn nonce(&self) -> DevNonce
         ensures { result.0 ≡ (join_fields self.now).nonce }
     {
-        let bytes = self.bytes();
-        DevNonce(u16::from_le_bytes([bytes[17], bytes[18]]))
+        DevNonce(u16::from_le_bytes(array_at(self.bytes(), 17)))
     }
 
     /// The last four bytes.
     pub fn mic(&self) -> Mic
         ensures { result.0 ≡ (join_fields self.now).mic }
     {
-        let bytes = self.bytes();
-        Mic([bytes[19], bytes[20], bytes[21], bytes[22]])
+        Mic(array_at(self.bytes(), 19))
     }
 
     /// The request as the name of a join in progress.
@@ -90,14 +87,5 @@ impl<'a> JoinView<'a> {
         let mut bytes = [0; 23];
         bytes.copy_from_slice(self.bytes());
         Ticket(bytes)
-    }
-
-    /// The number in the eight bytes from `at`.
-    fn number_at(&self, at: usize) -> u64
-        requires { at ≤ 15 }
-        ensures { result ≡ from_le_bytes w64 (take 8 (drop at self.now)) }
-    {
-        let b = &self.bytes()[at..at + 8];
-        u64::from_le_bytes([b[0], b[1], b[2], b[3], b[4], b[5], b[6], b[7]])
     }
 }

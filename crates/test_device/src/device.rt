@@ -8,7 +8,7 @@ ghost use Rattle.std.specs.Result.{result_err};
 use crate::{DeviceFault, Session};
 use ns_creator::{DataCreator, JoinRequestCreator, Keys};
 use ns_secure::{Dir, accept_decipher_in_place, join_mic_of, session_keys};
-use ns_types::{DevAddr, DevEui, DevNonce, JoinEui, Key, NetId};
+use ns_types::{DevAddr, DevEui, DevNonce, JoinEui, Key, NetId, array_at};
 
 /// A device for tests: it asks to join, takes a Join-Accept, and sends uplinks.
 #[derive(Clone, Copy)]
@@ -118,7 +118,7 @@ impl TestDevice {
         requires { 17 ≤ length plain.now }
         ensures { result ≡ session_of_accept self.now.app_key.0 nonce plain.now }
     {
-        let join_nonce = bytes_at(plain, 1);
+        let join_nonce = array_at::<3>(plain, 1);
         let net_id = net_id_in(plain);
         let addr = addr_in(plain);
         let (nwk, app) = session_keys(&self.app_key, join_nonce, net_id, nonce);
@@ -185,20 +185,12 @@ impl TestDevice {
     }
 }
 
-/// The three bytes from `at`.
-fn bytes_at(plain: &[u8], at: usize) -> [u8; 3]
-    requires { at + 3 ≤ length plain.now }
-    ensures { result ≡ take 3 (drop at plain.now) }
-{
-    [plain[at], plain[at + 1], plain[at + 2]]
-}
-
 /// The NetID in a deciphered Join-Accept.
 fn net_id_in(plain: &[u8]) -> NetId
     requires { 17 ≤ length plain.now }
     ensures { result.0 ≡ from_le_bytes w32 (take 3 (drop 4 plain.now) ++ 0 ∷ []) }
 {
-    let [a, b, c] = bytes_at(plain, 4);
+    let [a, b, c] = array_at::<3>(plain, 4);
     NetId(u32::from_le_bytes([a, b, c, 0]))
 }
 
@@ -207,5 +199,5 @@ fn addr_in(plain: &[u8]) -> DevAddr
     requires { 17 ≤ length plain.now }
     ensures { result.0 ≡ from_le_bytes w32 (take 4 (drop 7 plain.now)) }
 {
-    DevAddr(u32::from_le_bytes([plain[7], plain[8], plain[9], plain[10]]))
+    DevAddr(u32::from_le_bytes(array_at(plain, 7)))
 }

@@ -14,4 +14,5 @@ loop-index-preserved c = (
   sym (fault_from-next c.args.version view c.loop-index.devices.items c.args.values.now c.loop-index.index c.index-values-index.result (Ok c.add_value.new.devices.items) c.loop-index-test.true c.index-values-index.is c.in-Ok.ensures.gives)
       ∙ c.loop-index.invariant.0,
   c.in-Ok.ensures.indexed,
+  c.in-Ok.ensures.valid,
 )
