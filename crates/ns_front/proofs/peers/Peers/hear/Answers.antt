@@ -1,7 +1,7 @@
 use Rattle.std.proofs.Common.{nat_eq}
 use Rattle.std.specs.Cmp.{nat_eq_equiv}
 use Rattle.lru.proofs.CallerLemmas.{lookup-put_entries}
-use Rattle.ns_serve_parts.proofs.peers.Peers.hear.Goals as goal
+use Rattle.ns_front.proofs.peers.Peers.hear.Goals as goal
 
 pub returns-in-Ok-clause-here : goal.returns-in-Ok-clause-here
 returns-in-Ok-clause-here c =
