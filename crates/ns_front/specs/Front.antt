@@ -1,5 +1,5 @@
 -- Which gateway and which frame a datagram names.
-use Rattle.std.specs.Prelude.{◌≡◌, ⊤, ℕ, ◌×◌, ◌&&◌, nat_le, is_none, List, length, drop, Option, None, Some, IfSome, Result, Ok, Err}
+use Rattle.std.specs.Prelude.{◌≡◌, ⊤, ℕ, ◌&&◌, nat_le, is_none, List, length, drop, Option, None, Some, IfSome, Result, Ok, Err}
 use Rattle.std.specs.Int.{w32, from_le_bytes}
 use Rattle.ns_types.specs.Cases.{when}
 use Rattle.ns_types.specs.declared.heard.Heard.{Heard}

@@ -40,6 +40,22 @@ impl Addresses {
         self.peers.addr(target.gateway.0)
     }
 
+    // The same without what a worker noted.
+    fn hear_counted(&mut self, gateway: u64, addr: SocketAddr) -> Result<(), AllocError>
+        ensures here { OnOk result (addr_of self.new.peers gateway ≡ Some addr) }
+        ensures order { OnOk result (known_peers self.new.peers ≡ after_hearing self.old.peers gateway addr) }
+        ensures others { (other : NotedSoFar) → IsRight other self.old → IsRight other self.new }
+        ensures refused { OnErr result (self.new ≡ self.old) }
+        ensures unknown { OnErr result (addr_of self.old.peers gateway ≡ None) }
+    {
+        let is_same = self.peers.addr(gateway) == Some(addr);
+        self.peers.hear(gateway, addr)?;
+        if !is_same {
+            self.changes = self.changes.saturating_add(1);
+        }
+        Ok(())
+    }
+
     /// A gateway was heard from here by the worker that noted these. What workers noted stays right, of this one and of each other.
     /// Where a growth is refused, nothing has changed, and the gateway is not known.
     pub fn hear(
@@ -56,11 +72,7 @@ impl Addresses {
         ensures refused { OnErr result ((self.new ≡ self.old) × (noted.new ≡ noted.old)) }
         ensures unknown { OnErr result (addr_of self.old.peers gateway ≡ None) }
     {
-        let is_same = self.peers.addr(gateway) == Some(addr);
-        self.peers.hear(gateway, addr)?;
-        if !is_same {
-            self.changes = self.changes.saturating_add(1);
-        }
+        self.hear_counted(gateway, addr)?;
         if self.changes < u64::MAX {
             noted.put(gateway, addr, self.changes);
         }

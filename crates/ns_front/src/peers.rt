@@ -57,6 +57,8 @@ impl Peers {
         ensures refused { OnErr result (self.new ≡ self.old) }
         ensures unknown { OnErr result (addr_of self.old gateway ≡ None) }
     {
+        // (no gateway stands there twice, as the contract of `len` says)
+        let _ = self.heard.len();
         match self.heard.put(gateway, addr) {
             Ok(_) => Ok(()),
             Err(_) => Err(AllocError),
