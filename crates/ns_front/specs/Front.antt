@@ -1,5 +1,5 @@
 -- Which gateway and which frame a datagram names.
-use Rattle.std.specs.Prelude.{◌≡◌, ⊤, ℕ, ◌&&◌, nat_le, is_none, List, length, drop, Option, None, Some, IfSome, Result, Ok, Err}
+use Rattle.std.specs.Prelude.{◌≡◌, ⊤, ℕ, ◌&&◌, nat_le, is_none, List, length, drop, Option, None, Some, IfSome, IsSome, Result, Ok, Err}
 use Rattle.std.specs.Int.{w32, from_le_bytes}
 use Rattle.ns_types.specs.Cases.{when}
 use Rattle.ns_types.specs.declared.heard.Heard.{Heard}
@@ -25,6 +25,14 @@ seen_in (Err fault) = None
 
 abbrev pub seen_of : List ℕ → Option Seen
 seen_of datagram = seen_in (datagram_of datagram)
+
+-- the name of the data frame that it names, where it names one
+abbrev pub frame_in : Option Seen → Option FrameName
+frame_in None = None
+frame_in (Some seen) = seen.frame
+
+abbrev pub NamesFrame : List ℕ → Type 0
+NamesFrame datagram = IsSome (frame_in (seen_of datagram))
 
 -- the same by the places alone, of bytes that are no fewer than those of a datagram with the shortest data frame
 abbrev pub front : List ℕ → Option (ℕ × FrameName)

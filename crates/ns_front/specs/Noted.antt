@@ -1,5 +1,5 @@
 -- Of which gateways a worker knows that their addresses are in the table.
-use Rattle.std.specs.Prelude.{◌≡◌, ℕ, ◌%◌, ◌^◌, ◌-◌, ◌<◌, ◌≤◌, Option, None, Some, slice_index_or}
+use Rattle.std.specs.Prelude.{◌≡◌, ◌⊎◌, ℕ, ◌%◌, ◌^◌, ◌-◌, ◌<◌, ◌≤◌, Option, None, Some, slice_index_or}
 use Rattle.std.specs.declared.net.socket_addr.SocketAddr.{SocketAddr}
 use Rattle.ns_front.specs.Peers.{addr_of}
 use Rattle.ns_front.specs.declared.noted.Noted.{Noted}
@@ -17,6 +17,10 @@ at_place noted place = slice_index_or noted.places place None
 -- this address of a gateway is noted, as of when addresses had changed so often
 abbrev pub IsNoted : NotedPeers → ℕ → SocketAddr → ℕ → Type 0
 IsNoted noted gateway addr changes = at_place noted (place_of gateway) ≡ Some (record { gateway = gateway; addr = addr; changes = changes })
+
+-- all that is noted besides is that this gateway was heard from here
+abbrev pub NotesOnly : NotedPeers → NotedPeers → ℕ → SocketAddr → Type 0
+NotesOnly old new gateway addr = (g : ℕ) (a : SocketAddr) (n : ℕ) → IsNoted new g a n → IsNoted old g a n ⊎ ((g ≡ gateway) × (a ≡ addr))
 
 -- what a worker noted is right: where no address has changed since, the gateway has this one in the table
 pub record IsRightOf (addresses : Addresses) (gateway : ℕ) (addr : SocketAddr) (changes : ℕ) : Type 0 where

@@ -3,7 +3,7 @@
 ghost use Rattle.std.specs.Prelude.{◌≡◌, ◌-◌, ◌^◌, ◌<◌, Some, None, OnOk, OnErr};
 ghost use Rattle.ns_front.specs.declared.noted.NotedPeers.{NotedPeers as NotedSoFar};
 ghost use Rattle.ns_front.specs.Peers.{known_peers, addr_of, after_hearing};
-ghost use Rattle.ns_front.specs.Noted.{IsNoted, IsRight};
+ghost use Rattle.ns_front.specs.Noted.{IsNoted, IsRight, NotesOnly};
 
 use crate::noted::NotedPeers;
 use crate::peers::Peers;
@@ -67,6 +67,7 @@ impl Addresses {
         ensures here { OnOk result (addr_of self.new.peers gateway ≡ Some addr) }
         ensures order { OnOk result (known_peers self.new.peers ≡ after_hearing self.old.peers gateway addr) }
         ensures noted { OnOk result (self.new.changes < 2 ^ 64 - 1 → IsNoted noted.new gateway addr self.new.changes) }
+        ensures only { NotesOnly noted.old noted.new gateway addr }
         ensures right { IsRight noted.old self.old → IsRight noted.new self.new }
         ensures others { (other : NotedSoFar) → IsRight other self.old → IsRight other self.new }
         ensures refused { OnErr result ((self.new ≡ self.old) × (noted.new ≡ noted.old)) }

@@ -4,7 +4,7 @@ ghost use Rattle.std.specs.Prelude.{◌≡◌, ◌≢◌, ◌↔◌, ℕ, IsTrue
 ghost use Rattle.std.specs.declared.net.socket_addr.SocketAddr.{SocketAddr as Addr};
 ghost use Rattle.ns_front.specs.declared.addresses.Addresses.{Addresses};
 ghost use Rattle.ns_front.specs.Peers.{addr_of};
-ghost use Rattle.ns_front.specs.Noted.{place_of, IsNoted, IsRight};
+ghost use Rattle.ns_front.specs.Noted.{place_of, IsNoted, IsRight, NotesOnly};
 
 use std::net::SocketAddr;
 
@@ -54,6 +54,7 @@ impl NotedPeers {
     pub fn put(&mut self, gateway: u64, addr: SocketAddr, changes: u64)
         ensures here { IsNoted self.new gateway addr changes }
         ensures place { (g : ℕ) (a : Addr) (n : ℕ) → place_of g ≡ place_of gateway → IsNoted self.new g a n → (g ≡ gateway) × ((a ≡ addr) × (n ≡ changes)) }
+        ensures only { NotesOnly self.old self.new gateway addr }
         ensures others { (g : ℕ) (a : Addr) (n : ℕ) → place_of g ≢ place_of gateway → IsNoted self.new g a n ↔ IsNoted self.old g a n }
     {
         self.places[(gateway % PLACES as u64) as usize] = Some(Noted {
