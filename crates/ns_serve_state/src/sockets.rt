@@ -158,6 +158,16 @@ fn hear<R: Wait>(
     state.address_changes.store(changes, Ordering::SeqCst);
 }
 
+// Whether it is noted that a gateway was heard from here, if it speaks this server's own datagrams, and no address has changed since.
+fn is_noted(state: &State, noted: &NotedPeers, gateway: u64, peer: Option<SocketAddr>) -> bool
+    ensures { IsTrue result → IfSome peer (λ peer. (n : ℕ) × IsNoted noted.now gateway peer n) }
+{
+    match peer {
+        Some(peer) => noted.has(gateway, peer, state.address_changes.load(Ordering::SeqCst)),
+        None => true,
+    }
+}
+
 // Whether nothing is to be done before the call of a datagram, by what stands in it where its gateway and its frame would: the address
 // of the gateway is noted, and no copy of the frame is late.
 fn is_plain<R: Wait + Clock>(
@@ -169,15 +179,13 @@ fn is_plain<R: Wait + Clock>(
 ) -> bool
     ensures { IsTrue result → IfSome peer (λ peer. (seen : Seen) → seen_of datagram.now ≡ Some seen → (n : ℕ) × IsNoted noted.now seen.gateway peer n) }
 {
-    let Some((gateway, frame)) = front_of(datagram) else {
+    let Some(front) = front_of(datagram) else {
         return false;
     };
-    if let Some(peer) = peer {
-        if !noted.has(gateway, peer, state.address_changes.load(Ordering::SeqCst)) {
-            return false;
-        }
+    if !is_noted(state, noted, front.0, peer) {
+        return false;
     }
-    match state.lates.due(rt, frame) {
+    match state.lates.due(rt, front.1) {
         Some(due) => now_ms(rt, state) < due,
         None => true,
     }

@@ -11,9 +11,7 @@ use ns_forwarder_socket::{Forwarders, Pending};
 use ns_front::{Addresses, Lates, Peers};
 use ns_record_files::{RecordFiles, Recorder};
 use ns_roster::Roster;
-use ns_serve_parts::{
-    Askers, Counts, EventLines, Made, ServeFault, ServeOptions, keys,
-};
+use ns_serve_parts::{Askers, Counts, EventLines, Made, ServeFault, ServeOptions, keys};
 use ns_shard::Shard;
 use std::alloc::{AllocError, Global};
 use std::net::{SocketAddr, UdpSocket};
