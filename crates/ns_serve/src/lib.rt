@@ -5,7 +5,7 @@
 //! contract says what each thread did with its pass; that `serve` starts them all, that a message or a datagram comes, and what stands
 //! under a lock is shown by tests alone. `Peers`, `Trims` and `trim_due` are also for who runs the workers over sockets of its own.
 //! The crate stands on `ns_serve_state` for what the threads share and on `ns_serve_parts` for the parts of it, on `ns_workers` and
-//! `ns_server` for the workers, on `ns_calls`, `ns_events`, `ns_forwarder_socket`, `ns_joinclient`, `ns_record_files`, `ns_responses`,
+//! `ns_server` for the workers, on `ns_calls`, `ns_events`, `ns_front` for `Peers`, `ns_forwarder_socket`, `ns_joinclient`, `ns_record_files`, `ns_responses`,
 //! `ns_roster`, `ns_shard`, `ns_tally` and `ns_types`, and on `crossbeam_channel` and `log` of the kit.
 #![tactic(auto)]
 
@@ -15,8 +15,9 @@ mod run;
 mod service;
 
 pub use ending::{EndOfInput, Stop};
+pub use ns_front::Peers;
 pub use ns_serve_parts::{
-    PLACES, Peers, ServeFault, ServeOptions, Trimmed, Trims, WaitingWriter, trim_due,
+    PLACES, ServeFault, ServeOptions, Trimmed, Trims, WaitingWriter, trim_due,
 };
 pub use ns_serve_state::Begun;
 pub use service::serve;

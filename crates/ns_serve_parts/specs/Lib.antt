@@ -2,8 +2,6 @@ pub mod Asks
 pub mod Closing
 pub mod Counts
 pub mod Ends
-pub mod Late
 pub mod Output
-pub mod Peers
 pub mod Trims
 pub mod Wall

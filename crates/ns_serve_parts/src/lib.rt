@@ -1,7 +1,6 @@
 //! What a server over sockets is made of: each part by itself, without what the threads share.
 //!
-//! Tables of gateways' addresses, of devices that ask and of frames whose windows were closed; the tickets that wait; counters; the
-//! output and its lines, and those of events; moments of the wall clock; connections to the join server with one limit each; when a
+//! The table of devices that ask; the tickets that wait; counters; the output and its lines, and those of events; moments of the wall clock; connections to the join server with one limit each; when a
 //! shard is trimmed; the closing roster; what is to be served and why serving ended. Each has a contract for what it gives, over its
 //! definition in `specs/`. What stands under a lock, and what the system does with a socket, no contract says.
 //! The crate stands on `ns_server` and `ns_workers`, on `ns_calls`, `ns_events`, `ns_joinclient`, `ns_joinwire`, `ns_link`,
@@ -16,11 +15,9 @@ mod counts;
 mod event_lines;
 mod held;
 mod join_server;
-mod late;
 mod made;
 mod options;
 mod output;
-mod peers;
 mod seed;
 mod seldom;
 mod trims;
@@ -35,11 +32,9 @@ pub use counts::{Counts, more};
 pub use event_lines::EventLines;
 pub use held::Held;
 pub use join_server::{ToJoinServer, Within};
-pub use late::{FrameName, Lates};
 pub use made::Made;
 pub use options::{ServeFault, ServeOptions};
 pub use output::{Lines, Output, put_under_lock, write_whole};
-pub use peers::Peers;
 pub use seed::keys;
 pub use seldom::Seldom;
 pub use trims::{PLACES, Trimmed, Trims, trim_due, trims_of};

@@ -1,2 +1,3 @@
 mod RecordLemmas
 mod NoticeLemmas
+mod FrontLemmas

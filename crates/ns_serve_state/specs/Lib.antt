@@ -1,3 +1,4 @@
 pub mod Begun
+pub mod Front
 pub mod Hearing
 pub mod Notices

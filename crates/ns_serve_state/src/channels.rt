@@ -1,6 +1,6 @@
 //! Where the jobs of gateway workers go.
 
-use crate::clock::now_ms;
+use crate::clock::{closing_of, now_ms};
 use crate::state::State;
 use crossbeam_channel::Sender;
 use ns_types::{Ticket, WindowName};
@@ -42,7 +42,7 @@ pub fn hand_on<R: Wait + Clock>(
     tickets: Vec<Ticket>,
     closes: &Sender<CloseJob>,
 ) -> Result<(), AllocError> {
-    let due = now_ms(rt, state).saturating_add(u64::from(state.window_ms));
+    let due = closing_of(now_ms(rt, state), state.window_ms);
     for name in windows {
         if closes.send(rt, CloseJob { name, due }).is_err() {
             return Err(AllocError);

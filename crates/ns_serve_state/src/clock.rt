@@ -1,5 +1,6 @@
 //! The workers' clock.
-ghost use Rattle.std.specs.Prelude.{◌≡◌, ◌-◌, min};
+ghost use Rattle.std.specs.Prelude.{◌≡◌, ◌+◌, ◌-◌, ◌/◌, ◌^◌, ◌≤◌, min};
+ghost use Rattle.std.specs.Duration.{as_nanos};
 
 use crate::state::State;
 use ns_events::{Times, Utc};
@@ -45,14 +46,30 @@ impl<'a> SinceMoment<'a> {
     }
 }
 
+// What the clock tells so long after the begin.
+fn told_ms(elapsed: Duration) -> u64
+    ensures { result ≡ min (as_nanos elapsed / 1_000_000 + 5_000) (2 ^ 64 - 1) }
+{
+    u64::try_from(elapsed.as_millis())
+        .unwrap_or(u64::MAX)
+        .saturating_add(BEGIN_MS)
+}
+
 /// What the clock tells.
-pub fn now_ms<R: Clock>(rt: &R, state: &State) -> u64 {
+pub fn now_ms<R: Clock>(rt: &R, state: &State) -> u64
+    ensures { 5_000 ≤ result }
+{
     match state.start.elapsed(rt) {
-        Ok(elapsed) => u64::try_from(elapsed.as_millis())
-            .unwrap_or(u64::MAX)
-            .saturating_add(BEGIN_MS),
+        Ok(elapsed) => told_ms(elapsed),
         Err(_) => u64::MAX,
     }
+}
+
+/// When a window is closed that is opened at this time.
+pub fn closing_of(opened: u64, window_ms: u32) -> u64
+    ensures { result ≡ min (opened + window_ms) (2 ^ 64 - 1) }
+{
+    opened.saturating_add(u64::from(window_ms))
 }
 
 /// The moment now, by the wall clock, if there is one.

@@ -1,15 +1,16 @@
 //! What the workers are told to tell: it is counted, kept where it is needed, and logged.
 
-use crate::clock::now_ms;
+use crate::clock::{closing_of, now_ms};
 use crate::notices::note_event;
 use crate::state::State;
 use log::{Log, debug, info, warn};
 use ns_calls::{Call, Downlink, Reply};
 use ns_forwarder::{ForwarderFault, Outcome};
 use ns_forwarder_socket::{Event, outcome_name};
+use ns_front::FrameName;
 use ns_joinclient::AskFault;
 use ns_joinwire::AnsFault;
-use ns_serve_parts::{FrameName, Seldom, more, words_of};
+use ns_serve_parts::{Seldom, more, words_of};
 use ns_server::Receipt;
 use ns_types::{DevEui, Ticket};
 use ns_workers::{JoinFault, Monitor, Refused};
@@ -137,7 +138,7 @@ pub(crate) fn log_message<R: Log + Clock>(rt: &R, state: &State, event: Event) {
 fn note_closing<R: Clock + Wait>(rt: &R, state: &State, receipt: &Receipt) {
     if let Call::Uplink { frame, .. } = &receipt.entry.call {
         if let Reply::Opened { .. } | Reply::Again { .. } = receipt.entry.reply {
-            let due = now_ms(rt, state).saturating_add(u64::from(state.window_ms));
+            let due = closing_of(now_ms(rt, state), state.window_ms);
             state.lates.note(rt, FrameName::of(&frame.view()), due);
         }
     }

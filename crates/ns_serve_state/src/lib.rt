@@ -5,7 +5,7 @@
 //! the record (`AfterRecord`) and the answers over HTTP (`tell`). That a server begins with sixteen shards, each at its place, is a
 //! contract, and which workers hear forwarders; what stands under a lock and what the system does is shown by tests alone.
 //! The crate stands on `ns_serve_parts`, on `ns_workers` and `ns_server`, on `ns_calls`, `ns_events`, `ns_forwarder`, `ns_forwarder_socket`,
-//! `ns_joinclient`, `ns_joinwire`, `ns_link`, `ns_roster`, `ns_shard`, `ns_types` and `ns_views`, on `ns_record`, `ns_record_files` and
+//! `ns_front`, `ns_joinclient`, `ns_joinwire`, `ns_link`, `ns_roster`, `ns_shard` and `ns_types`, on `ns_record`, `ns_record_files` and
 //! `ns_resume` for the record, on `ns_status`, and on `crossbeam_channel` and `log` of the kit.
 #![tactic(auto)]
 
@@ -13,7 +13,6 @@ mod after;
 mod channels;
 mod clock;
 mod events;
-mod front;
 mod notices;
 mod queue;
 mod record;

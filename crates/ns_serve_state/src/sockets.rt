@@ -1,19 +1,23 @@
 //! Datagrams from gateways, and downlinks to them, by the socket of this server's own datagrams and by that of packet forwarders.
-ghost use Rattle.std.specs.Prelude.{◌≡◌, ◌≢◌, ◌<◌, ◌≤◌, ◌⊎◌, ◌↔◌, ℕ, None, IfOk};
+ghost use Rattle.std.specs.Prelude.{◌≡◌, ◌≢◌, ◌<◌, ◌≤◌, ◌⊎◌, ◌↔◌, ℕ, None, IfOk, IsTrue, IfSome, Some, take};
 ghost use Rattle.ns_forwarder_socket.specs.Event.{FitsBuffer as FitsEvent};
 ghost use Rattle.ns_workers.specs.Datagrams.{FitsBuffer};
+ghost use Rattle.ns_front.specs.declared.front.Seen.{Seen};
+ghost use Rattle.ns_front.specs.Front.{seen_of, NamesFrame};
+ghost use Rattle.ns_front.specs.Noted.{IsNoted};
+ghost use Rattle.ns_serve_state.specs.Front.{NotesAt, NotesNamed};
 
 use crate::clock::now_ms;
 use crate::events::{log_counts, log_message};
-use crate::front::{NotedPeers, front_of, read_seen};
 use crate::record::write_record;
 use crate::state::State;
 use log::{Log, error, warn};
 use ns_calls::Downlink;
 use ns_forwarder_socket::{Event, Pending};
+use ns_front::{NotedPeers, front_of, read_seen};
 use ns_link::write_down;
 use ns_serve_parts::more;
-use ns_types::GatewayId;
+use ns_types::Target;
 use ns_workers::{Datagrams, Downlinks, Received};
 use std::io::{Error, ErrorKind};
 use std::net::{SocketAddr, UdpSocket};
@@ -135,19 +139,33 @@ impl<'a> FromSocket<'a> {
     }
 }
 
-// A gateway with this number was heard from here.
-fn hear<R: Wait>(rt: &R, state: &State, noted: &mut NotedPeers, gateway: u64, peer: SocketAddr) {
-    let mut peers = state.peers.lock(rt);
-    let is_same = peers.addr(gateway) == Some(peer);
-    if peers.hear(gateway, peer).is_err() {
+// A gateway with this number was heard from here, if it speaks this server's own datagrams.
+fn hear<R: Wait>(
+    rt: &R,
+    state: &State,
+    noted: &mut NotedPeers,
+    gateway: u64,
+    peer: Option<SocketAddr>,
+)
+    ensures { NotesAt noted.old noted.new gateway peer }
+{
+    let Some(peer) = peer else {
         return;
+    };
+    let mut addresses = state.addresses.lock(rt);
+    let _ = addresses.hear(noted, gateway, peer);
+    let changes = addresses.changes();
+    state.address_changes.store(changes, Ordering::SeqCst);
+}
+
+// Whether it is noted that a gateway was heard from here, if it speaks this server's own datagrams, and no address has changed since.
+fn is_noted(state: &State, noted: &NotedPeers, gateway: u64, peer: Option<SocketAddr>) -> bool
+    ensures { IsTrue result → IfSome peer (λ peer. (n : ℕ) × IsNoted noted.now gateway peer n) }
+{
+    match peer {
+        Some(peer) => noted.has(gateway, peer, state.address_changes.load(Ordering::SeqCst)),
+        None => true,
     }
-    if !is_same {
-        more(&state.peer_changes);
-    }
-    let changes = state.peer_changes.load(Ordering::SeqCst);
-    drop(peers);
-    noted.put(gateway, peer, changes);
 }
 
 // Whether nothing is to be done before the call of a datagram, by what stands in it where its gateway and its frame would: the address
@@ -158,16 +176,16 @@ fn is_plain<R: Wait + Clock>(
     noted: &NotedPeers,
     datagram: &[u8],
     peer: Option<SocketAddr>,
-) -> bool {
-    let Some((gateway, frame)) = front_of(datagram) else {
+) -> bool
+    ensures { IsTrue result → IfSome peer (λ peer. (seen : Seen) → seen_of datagram.now ≡ Some seen → (n : ℕ) × IsNoted noted.now seen.gateway peer n) }
+{
+    let Some(front) = front_of(datagram) else {
         return false;
     };
-    if let Some(peer) = peer {
-        if !noted.has(gateway, peer, state.peer_changes.load(Ordering::SeqCst)) {
-            return false;
-        }
+    if !is_noted(state, noted, front.0, peer) {
+        return false;
     }
-    match state.lates.due(rt, frame) {
+    match state.lates.due(rt, front.1) {
         Some(due) => now_ms(rt, state) < due,
         None => true,
     }
@@ -180,16 +198,17 @@ fn take_in<R: Wait + Clock>(
     noted: &mut NotedPeers,
     datagram: &[u8],
     peer: Option<SocketAddr>,
-) -> bool {
+) -> bool
+    ensures notes { NotesNamed noted.old noted.new datagram.now peer }
+    ensures late { IsTrue result → NamesFrame datagram.now }
+{
     if is_plain(rt, state, noted, datagram, peer) {
         return false;
     }
     let Some(seen) = read_seen(datagram) else {
         return false;
     };
-    if let Some(peer) = peer {
-        hear(rt, state, noted, seen.gateway, peer);
-    }
+    hear(rt, state, noted, seen.gateway, peer);
     match seen.frame {
         Some(frame) => state.lates.is_late(rt, frame, now_ms(rt, state)),
         None => false,
@@ -206,7 +225,11 @@ fn counted<R: Wait + Clock + Log>(
     peer: Option<SocketAddr>,
 ) -> Received
     requires { n ≤ 512 }
-    ensures { FitsBuffer result }
+    ensures fits { FitsBuffer result }
+    ensures whole { (m : ℕ) → result ≡ Received.Got m → m ≡ n }
+    ensures late { result ≡ Received.Idle → NamesFrame (take n buf.now) }
+    ensures heard { result ≢ Received.Failed }
+    ensures notes { NotesNamed noted.old noted.new (take n buf.now) peer }
 {
     let before = state.read.fetch_add(1, Ordering::SeqCst);
     if before >= state.most {
@@ -274,7 +297,7 @@ pub(crate) fn send_down<R: Wait>(rt: &R, state: &State, downlink: &Downlink) -> 
             return forwarders.send(state.alloc, route, &downlink.target, frame);
         }
     }
-    match (&state.own, peer_of(rt, state, gateway)) {
+    match (&state.own, peer_of(rt, state, &downlink.target)) {
         (Some((socket, _)), Some(peer)) => send_own(socket, peer, downlink),
         _ => false,
     }
@@ -292,8 +315,8 @@ fn send_own(socket: &UdpSocket, peer: SocketAddr, downlink: &Downlink) -> bool {
     }
 }
 
-// Where a gateway was heard last.
-fn peer_of<R: Wait>(rt: &R, state: &State, gateway: GatewayId) -> Option<SocketAddr> {
-    let peers = state.peers.lock(rt);
-    peers.addr(gateway.0)
+// Where the gateway of a downlink was heard last.
+fn peer_of<R: Wait>(rt: &R, state: &State, target: &Target) -> Option<SocketAddr> {
+    let addresses = state.addresses.lock(rt);
+    addresses.addr_for(target)
 }

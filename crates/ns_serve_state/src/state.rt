@@ -1,6 +1,6 @@
 //! What all threads of a server share.
 
-ghost use Rattle.std.specs.Prelude.{◌≡◌, is_some, IfOk};
+ghost use Rattle.std.specs.Prelude.{◌≡◌, ◌+◌, ◌*◌, max, is_some, IfOk};
 ghost use Rattle.ns_serve_state.specs.Hearing.{hears_forwarders};
 
 use crate::events::Seldoms;
@@ -8,11 +8,10 @@ use crate::queue::AskQueue;
 use crate::status::Status;
 use ns_events::Output;
 use ns_forwarder_socket::{Forwarders, Pending};
+use ns_front::{Addresses, Lates, Peers};
 use ns_record_files::{RecordFiles, Recorder};
 use ns_roster::Roster;
-use ns_serve_parts::{
-    Askers, Counts, EventLines, Lates, Made, Peers, ServeFault, ServeOptions, keys,
-};
+use ns_serve_parts::{Askers, Counts, EventLines, Made, ServeFault, ServeOptions, keys};
 use ns_shard::Shard;
 use std::alloc::{AllocError, Global};
 use std::net::{SocketAddr, UdpSocket};
@@ -22,7 +21,9 @@ use std::time::{Clock, Instant};
 
 // For how long a copy is late, in milliseconds: RX1's delay and 1 s, since a device repeats a frame at the earliest after RX2, which
 // opens 1 s after RX1 (LoRaWAN L2 1.0.4, 3.3.2). A delay of 0 means 1 s.
-fn late_ms(roster: &Roster) -> u64 {
+fn late_ms(roster: &Roster) -> u64
+    ensures { result ≡ (max roster.now.rx_delay 1 + 1) * 1000 }
+{
     (u64::from(roster.rx_delay()).max(1) + 1) * 1000
 }
 
@@ -60,9 +61,9 @@ pub struct State {
     /// How many gateway workers are at work.
     pub gateways: AtomicU64,
     /// Where gateways were last heard.
-    pub peers: Mutex<Peers>,
-    /// How often one of these changed or came. It rises under the lock of `peers`.
-    pub(crate) peer_changes: AtomicU64,
+    pub addresses: Mutex<Addresses>,
+    /// How often one of these changed or came. It is written under the lock of `addresses`.
+    pub(crate) address_changes: AtomicU64,
     /// Frames whose windows were closed a while ago.
     pub lates: Lates,
     /// The tickets that wait for a join worker.
@@ -125,8 +126,8 @@ impl State {
             broken: AtomicBool::new(false),
             ended,
             gateways: AtomicU64::new(0),
-            peers: Mutex::new(Peers::new(alloc, keys)?),
-            peer_changes: AtomicU64::new(0),
+            addresses: Mutex::new(Addresses::new(Peers::new(alloc, keys)?)),
+            address_changes: AtomicU64::new(0),
             lates: Lates::new(alloc, keys, late_ms(roster))?,
             asks: AskQueue::new(alloc),
             askers: Mutex::new(Askers::new(alloc, keys)?),

@@ -1,7 +1,7 @@
 //! The addresses from which gateways were last heard.
-ghost use Rattle.std.specs.Prelude.{◌≡◌, [], None, Some, IfOk, OnOk, OnErr};
+ghost use Rattle.std.specs.Prelude.{◌≡◌, ◌≢◌, ◌⊎◌, ℕ, [], None, Some, IfOk, OnOk, OnErr};
 ghost use Rattle.std.specs.NonZero.{non_zero_usize_get};
-ghost use Rattle.ns_serve_parts.specs.Peers.{known_peers, most_peers, addr_of, after_hearing};
+ghost use Rattle.ns_front.specs.Peers.{known_peers, most_peers, addr_of, after_hearing, Goes};
 
 use lru::LruCache;
 use std::alloc::{AllocError, Global};
@@ -45,14 +45,20 @@ impl Peers {
         self.heard.peek(&gateway).copied()
     }
 
-    /// A gateway was heard from here. Where a growth is refused, nothing has changed, and the gateway is not known.
+    /// A gateway was heard from here, and comes first. Where it is a further one and there is no room, the last goes, which was not heard
+    /// for longest, and no other does. Where a growth is refused, nothing has changed, and the gateway is not known.
     pub fn hear(&mut self, gateway: u64, addr: SocketAddr) -> Result<(), AllocError>
         ensures order { OnOk result (known_peers self.new ≡ after_hearing self.old gateway addr) }
         ensures here { OnOk result (addr_of self.new gateway ≡ Some addr) }
+        ensures same { OnOk result (addr_of self.old gateway ≡ Some addr → (other : ℕ) → addr_of self.new other ≡ addr_of self.old other) }
+        ensures kept { OnOk result ((other : ℕ) → other ≢ gateway → Goes self.old gateway other ⊎ (addr_of self.new other ≡ addr_of self.old other)) }
+        ensures goes { OnOk result ((gone : ℕ) → Goes self.old gateway gone → addr_of self.new gone ≡ None) }
         ensures most { most_peers self.new ≡ most_peers self.old }
         ensures refused { OnErr result (self.new ≡ self.old) }
         ensures unknown { OnErr result (addr_of self.old gateway ≡ None) }
     {
+        // (no gateway stands there twice, as the contract of `len` says)
+        let _ = self.heard.len();
         match self.heard.put(gateway, addr) {
             Ok(_) => Ok(()),
             Err(_) => Err(AllocError),

@@ -3,9 +3,9 @@ use Rattle.std.specs.Prelude.{ℕ, ◌+◌, ◌==◌, ◌&&◌, nat_le, nat_eq, 
 use Rattle.std.specs.Option.{option_map_or}
 use Rattle.std.specs.Map.{lookup}
 use Rattle.lru.specs.LruCache.{put_entries}
-use Rattle.ns_serve_parts.specs.declared.late.FrameName.{FrameName}
-use Rattle.ns_serve_parts.specs.declared.late.Closing.{Closing}
-use Rattle.ns_serve_parts.specs.declared.late.Late.{Late}
+use Rattle.ns_front.specs.declared.front.FrameName.{FrameName}
+use Rattle.ns_front.specs.declared.late.Closing.{Closing}
+use Rattle.ns_front.specs.declared.late.Late.{Late}
 
 -- whether a time is at or after this one, by less than a span
 abbrev pub is_within : ℕ → ℕ → ℕ → Bool

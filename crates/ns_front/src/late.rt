@@ -3,11 +3,11 @@
 ghost use Rattle.std.specs.Prelude.{◌≡◌, ℕ, [], false, IfOk, OnOk, OnErr};
 ghost use Rattle.std.specs.Option.{option_map_or};
 ghost use Rattle.std.specs.NonZero.{non_zero_usize_get};
-ghost use Rattle.ns_serve_parts.specs.Late.{is_within, is_late_after, is_late, after_noting};
+ghost use Rattle.ns_front.specs.Late.{is_within, is_late_after, is_late, after_noting};
 
+use crate::front::FrameName;
 use lru::LruCache;
 use ns_types::{DevAddr, SHARDS, shard_of_addr};
-use ns_views::DataView;
 use std::alloc::{AllocError, Global};
 use std::collections::hash_map::RandomState;
 use std::num::NonZeroUsize;
@@ -15,28 +15,6 @@ use std::sync::{Mutex, Wait};
 
 // Of how many frames of a shard it is kept when their windows are closed.
 const MOST: usize = 4096;
-
-/// What tells a frame from others: its address, the low half of its counter, and its MIC.
-#[derive(Clone, Copy, Debug, PartialEq, Eq)]
-pub struct FrameName {
-    /// Its DevAddr.
-    pub addr: u32,
-    /// The low half of its FCnt.
-    pub fcnt: u16,
-    /// Its MIC, as a number.
-    pub mic: u32,
-}
-
-impl FrameName {
-    /// The name of the frame that a view shows.
-    pub fn of(view: &DataView) -> FrameName {
-        FrameName {
-            addr: view.dev_addr().0,
-            fcnt: view.fcnt16(),
-            mic: u32::from_le_bytes(view.mic().0),
-        }
-    }
-}
 
 // Of which frame a window is closed, and when.
 #[derive(Clone, Copy)]

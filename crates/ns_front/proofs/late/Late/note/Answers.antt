@@ -2,7 +2,7 @@ use Rattle.std.proofs.Common.{nat_eq, arith}
 use Rattle.std.specs.Cmp.{nat_eq_equiv}
 use Rattle.std.proofs.lemmas.Bool.Decides.{nat_tests}
 use Rattle.lru.proofs.CallerLemmas.{lookup-put_entries}
-use Rattle.ns_serve_parts.proofs.late.Late.note.Goals as goal
+use Rattle.ns_front.proofs.late.Late.note.Goals as goal
 
 pub returns-in-Ok-clause-late : goal.returns-in-Ok-clause-late
 returns-in-Ok-clause-late c = λ now.

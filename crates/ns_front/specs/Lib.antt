@@ -1,0 +1,4 @@
+pub mod Front
+pub mod Late
+pub mod Noted
+pub mod Peers
