@@ -6,7 +6,8 @@ use Rattle.std.proofs.lemmas.Bool.Decides.{nat_tests}
 use Rattle.ns_types.specs.Cases.{when}
 use Rattle.ns_views.specs.Frame.{data_fields}
 use Rattle.ns_link.specs.declared.LinkFault.{LinkFault}
-use Rattle.ns_link.specs.Datagram.{heard_of, link_fault, unless}
+use Rattle.ns_types.specs.Results.{or_fault}
+use Rattle.ns_link.specs.Datagram.{heard_of, link_fault}
 use Rattle.ns_front.specs.declared.front.FrameName.{FrameName}
 use Rattle.ns_front.specs.Front.{name_of, seen_in, front, Agree}
 use Rattle.ns_front.proofs.front.front_of.Goals as goal
@@ -25,7 +26,7 @@ named f n en true = sym en
 named f n en false = tt
 
 agrees : (b : List ℕ) (g : ℕ) (n : FrameName) → g ≡ (heard_of b).gateway.0 → n ≡ name_of (data_fields (drop 28 b)) → (fault : Option LinkFault)
-    → Agree (Some (g, n)) (seen_in (unless fault (heard_of b, drop 28 b)))
+    → Agree (Some (g, n)) (seen_in (or_fault fault (heard_of b, drop 28 b)))
 agrees b g n eg en None = (eg, named (drop 28 b) n en _)
 agrees b g n eg en (Some fault) = tt
 
