@@ -1,7 +1,8 @@
 #!/usr/bin/env python3
 """Keeps the uplinks of `lorawan_ns serve .. --output json`, which it reads from standard input, in a table of an SQLite file, each as
 it comes: `lorawan_ns serve .. --output json | readings.py FILE`. With `-` in place of the file it writes them as lines of InfluxDB's
-line protocol. What a payload means is the device's: here it is one number."""
+line protocol, but for those without a time, as `replay` says them. An uplink that is there stays as it is. What a payload means is the
+device's: here it is one number."""
 import json
 import sqlite3
 import sys
@@ -27,18 +28,23 @@ def readings(lines):
 
 def keep(lines, path):
     table = sqlite3.connect(path)
-    table.execute('CREATE TABLE IF NOT EXISTS readings (time TEXT, device TEXT, session INTEGER, counter INTEGER, port INTEGER, value INTEGER, rssi REAL, snr REAL)')
+    table.execute('CREATE TABLE IF NOT EXISTS readings (time TEXT, device TEXT, session INTEGER, counter INTEGER, port INTEGER, value INTEGER,'
+                  ' rssi REAL, snr REAL, PRIMARY KEY (device, session, counter))')
     for reading in readings(lines):
         with table:
-            table.execute('INSERT INTO readings VALUES (?, ?, ?, ?, ?, ?, ?, ?)', reading)
+            table.execute('INSERT OR IGNORE INTO readings VALUES (?, ?, ?, ?, ?, ?, ?, ?)', reading)
 
 
 def put(lines):
     for time, device, session, counter, _, value, rssi, snr in readings(lines):
+        if time is None:
+            continue
         moment = datetime.fromisoformat(time)
         nanoseconds = int(moment.timestamp()) * 10**9 + moment.microsecond * 1000
         print(POINT % (device, session, counter, value, rssi, snr, nanoseconds), flush=True)
 
 
 if __name__ == '__main__':
+    if len(sys.argv) != 2 or sys.argv[1].startswith('--'):
+        sys.exit(__doc__)
     put(sys.stdin) if sys.argv[1] == '-' else keep(sys.stdin, sys.argv[1])
