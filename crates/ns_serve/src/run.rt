@@ -421,7 +421,11 @@ fn join_all<B: Naming, R: Threads + Wait>(
     rt: &R,
     ends: &mut Ends<B>,
     workers: Vec<JoinHandle<Back<B>>>,
-) {
+)
+    ensures none { IsNone ends.new.fault → IsNone ends.old.fault }
+    ensures memory { ends.old.fault ≡ Some ServeFault.NoMemory → ends.new.fault ≡ Some ServeFault.NoMemory }
+    ensures kept { IsNone ends.new.fault → vec_len ends.new.passes ≡ vec_len ends.old.passes + vec_len workers }
+{
     for worker in workers {
         keep(ends, worker.join(rt));
     }
