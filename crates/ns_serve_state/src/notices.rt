@@ -36,6 +36,14 @@ fn notice_of(time: &Option<Utc>, receipt: &Receipt) -> Option<Text>
     }
 }
 
+// Whether a receipt tells a join or an acknowledgement.
+fn has_notice(receipt: &Receipt) -> bool {
+    match (&receipt.entry.reply, &receipt.downlink) {
+        (Reply::Accepted { .. }, _) | (Reply::Closed { .. }, Some(_)) => true,
+        _ => false,
+    }
+}
+
 // Keeps the line of the join or the acknowledgement that a receipt tells, if it tells one.
 #[inline(never)]
 fn put_notice<R: Clock + Wait + Log>(rt: &R, notices: &Mutex<EventLines>, receipt: &Receipt) {
@@ -52,7 +60,9 @@ fn put_notice<R: Clock + Wait + Log>(rt: &R, notices: &Mutex<EventLines>, receip
 pub fn note_event<R: Clock + Wait + Log>(rt: &R, state: &State, receipt: &Receipt) {
     // (the room of a line is cleared at the begin of the function that has it)
     if let Some(notices) = &state.notices {
-        put_notice(rt, notices, receipt);
+        if has_notice(receipt) {
+            put_notice(rt, notices, receipt);
+        }
     }
 }
 
