@@ -7,6 +7,7 @@ use crate::disk::Disk;
 use crate::writer::RecordWriter;
 use ns_types::{Failed, SHARDS};
 use std::alloc::{AllocError, Global};
+use std::mem;
 use std::sync::atomic::{AtomicBool, AtomicU64, Ordering};
 use std::sync::{Mutex, Wait};
 
@@ -23,13 +24,6 @@ struct Lines {
     ups: Vec<u8>,
 }
 
-// What waits of one shard. Whether that is anything is told beside the lock, so that a shard with nothing is passed over.
-#[derive(Drop)]
-struct Waiting {
-    lines: Mutex<Lines>,
-    is_some: AtomicBool,
-}
-
 // The writer, and the lines that it is given.
 #[derive(Drop)]
 struct Writing<D: Disk> {
@@ -43,12 +37,36 @@ struct Writing<D: Disk> {
 /// A lock of the lines is taken behind all others, and none is taken while it is held; that of the writer is taken before those of lines.
 #[derive(Drop)]
 pub struct Recorder<D: Disk> {
-    shards: Vec<Waiting>,
+    shards: Vec<Mutex<Lines>>,
     writing: Mutex<Writing<D>>,
+    // A bit for each shard that has lines, so that one with none is passed over. It is changed under the lock of these.
+    waiting: AtomicU64,
     // How many bytes are not written yet.
     pending: AtomicU64,
     // Whether a line could not be kept.
     lost: AtomicBool,
+}
+
+// Hands bytes over, to the end of others. Where there are no others, the two change places.
+fn hand_over(from: &mut Vec<u8>, to: &mut Vec<u8>) -> Result<(), AllocError>
+    ensures all { OnOk result (to.new.items ≡ to.old.items ++ from.old.items) }
+    ensures none { OnOk result (from.new.items ≡ []) }
+{
+    if from.is_empty() {
+        return Ok(());
+    }
+    if to.is_empty() {
+        mem::swap(from, to);
+        return Ok(());
+    }
+    to.extend_from_slice(from.as_slice())?;
+    from.clear();
+    Ok(())
+}
+
+// The bit of a shard.
+fn bit_of(shard: u32) -> u64 {
+    1u64.wrapping_shl(shard)
 }
 
 impl Lines {
@@ -80,11 +98,8 @@ impl Lines {
         ensures ups { OnOk result (ups.new.items ≡ ups.old.items ++ self.old.ups.items) }
         ensures none { OnOk result ((self.new.steps.items ≡ []) × (self.new.ups.items ≡ [])) }
     {
-        steps.extend_from_slice(self.steps.as_slice())?;
-        ups.extend_from_slice(self.ups.as_slice())?;
-        self.steps.clear();
-        self.ups.clear();
-        Ok(())
+        hand_over(&mut self.steps, steps)?;
+        hand_over(&mut self.ups, ups)
     }
 }
 
@@ -93,10 +108,7 @@ impl<D: Disk + Drop> Recorder<D> {
     pub fn new(alloc: Global, writer: RecordWriter<D>) -> Result<Recorder<D>, AllocError> {
         let mut shards = Vec::with_capacity(alloc, usize::from(SHARDS))?;
         for _shard in 0..SHARDS {
-            shards.push(Waiting {
-                lines: Mutex::new(Lines::new(alloc)?),
-                is_some: AtomicBool::new(false),
-            })?;
+            shards.push(Mutex::new(Lines::new(alloc)?))?;
         }
         let writing = Writing {
             writer,
@@ -106,6 +118,7 @@ impl<D: Disk + Drop> Recorder<D> {
         Ok(Recorder {
             shards,
             writing: Mutex::new(writing),
+            waiting: AtomicU64::new(0),
             pending: AtomicU64::new(0),
             lost: AtomicBool::new(false),
         })
@@ -114,14 +127,17 @@ impl<D: Disk + Drop> Recorder<D> {
     /// Keeps a step line of a shard, and the `up` line that it implies, where there is one. Neither has its line feed. Where there is no
     /// memory for them every write fails from then on.
     pub fn put<R: Wait>(&self, rt: &R, shard: u8, step: &[u8], up: Option<&[u8]>) {
-        let Some(waiting) = self.shards.get(usize::from(shard)) else {
+        let Some(lines) = self.shards.get(usize::from(shard)) else {
             return;
         };
-        let mut lines = waiting.lines.lock(rt);
+        let mut lines = lines.lock(rt);
         if lines.put(step, up).is_err() {
             self.lost.store(true, Ordering::SeqCst);
         }
-        waiting.is_some.store(true, Ordering::SeqCst);
+        let bit = bit_of(u32::from(shard));
+        if self.waiting.load(Ordering::SeqCst) & bit == 0 {
+            self.waiting.fetch_or(bit, Ordering::SeqCst);
+        }
         let len = step.len() as u64 + up.map_or(0, |up| up.len() as u64);
         self.pending.fetch_add(len, Ordering::SeqCst);
     }
@@ -131,6 +147,7 @@ impl<D: Disk + Drop> Recorder<D> {
         let Recorder {
             shards: _,
             writing,
+            waiting: _,
             pending: _,
             lost: _,
         } = self;
@@ -156,11 +173,14 @@ impl<D: Disk + Drop> Recorder<D> {
     ) -> Result<(), AllocError> {
         steps.clear();
         ups.clear();
-        for waiting in &self.shards {
-            if waiting.is_some.load(Ordering::SeqCst) {
-                let mut lines = waiting.lines.lock(rt);
+        let mut rest = self.waiting.load(Ordering::SeqCst);
+        for _shard in 0..rest.count_ones() {
+            let shard = rest.trailing_zeros();
+            rest &= !bit_of(shard);
+            if let Some(lines) = self.shards.get(shard as usize) {
+                let mut lines = lines.lock(rt);
                 lines.take(steps, ups)?;
-                waiting.is_some.store(false, Ordering::SeqCst);
+                self.waiting.fetch_and(!bit_of(shard), Ordering::SeqCst);
             }
         }
         self.pending.store(0, Ordering::SeqCst);
