@@ -4,6 +4,7 @@ ghost use Rattle.std.specs.Option.{option_map_or};
 ghost use Rattle.ns_record_files.specs.Record.{with_feed};
 
 use crate::disk::Disk;
+use crate::lines::{LineText, RecordLines};
 use crate::writer::RecordWriter;
 use ns_types::{Failed, SHARDS};
 use std::alloc::{AllocError, Global};
@@ -22,6 +23,8 @@ const MANY: u64 = 65_536;
 struct Lines {
     steps: Vec<u8>,
     ups: Vec<u8>,
+    // Where a line is formed: room of its own would be cleared for each.
+    line: LineText,
 }
 
 // The writer, and the lines that it is given.
@@ -64,6 +67,15 @@ fn hand_over(from: &mut Vec<u8>, to: &mut Vec<u8>) -> Result<(), AllocError>
     Ok(())
 }
 
+// Appends a line and its line feed.
+fn append_line(to: &mut Vec<u8>, line: &LineText) -> Result<(), AllocError>
+    ensures { OnOk result (to.new.items ≡ to.old.items ++ with_feed line.now.bytes) }
+{
+    to.extend_from_slice(line.as_str().as_bytes())?;
+    to.push(b'\n')?;
+    Ok(())
+}
+
 // The bit of a shard.
 fn bit_of(shard: u32) -> u64 {
     1u64.wrapping_shl(shard)
@@ -75,21 +87,28 @@ impl Lines {
         Ok(Lines {
             steps: Vec::with_capacity(alloc, ROOM)?,
             ups: Vec::with_capacity(alloc, ROOM)?,
+            line: LineText::new(),
         })
     }
 
-    // Keeps a step line, and the `up` line that it implies, where there is one.
-    fn put(&mut self, step: &[u8], up: Option<&[u8]>) -> Result<(), AllocError>
-        ensures steps { OnOk result (self.new.steps.items ≡ self.old.steps.items ++ with_feed step.now) }
-        ensures ups { OnOk result (self.new.ups.items ≡ self.old.ups.items ++ option_map_or (λ u. with_feed u.now) up.entry []) }
+    // Keeps the step line of a call, and the `up` line that it implies, where there is one.
+    fn put<C: RecordLines>(&mut self, call: &C) -> Result<(), AllocError>
+        ensures steps { OnOk result (self.new.steps.items ≡ self.old.steps.items ++ with_feed (C.step call.now)) }
+        ensures ups { OnOk result (self.new.ups.items ≡ self.old.ups.items ++ option_map_or with_feed (C.up call.now) []) }
     {
-        self.steps.extend_from_slice(step)?;
-        self.steps.push(b'\n')?;
-        if let Some(up) = up {
-            self.ups.extend_from_slice(up)?;
-            self.ups.push(b'\n')?;
+        self.line.clear();
+        call.put_step(&mut self.line);
+        append_line(&mut self.steps, &self.line)?;
+        self.line.clear();
+        if call.put_up(&mut self.line) {
+            append_line(&mut self.ups, &self.line)?;
         }
         Ok(())
+    }
+
+    // How many bytes they have.
+    fn len(&self) -> u64 {
+        self.steps.len() as u64 + self.ups.len() as u64
     }
 
     // Hands all lines over.
@@ -124,21 +143,22 @@ impl<D: Disk + Drop> Recorder<D> {
         })
     }
 
-    /// Keeps a step line of a shard, and the `up` line that it implies, where there is one. Neither has its line feed. Where there is no
-    /// memory for them every write fails from then on.
-    pub fn put<R: Wait>(&self, rt: &R, shard: u8, step: &[u8], up: Option<&[u8]>) {
+    /// Keeps the step line of a shard's call, and the `up` line that it implies, where there is one. Where there is no memory for them every
+    /// write fails from then on.
+    pub fn put<R: Wait, C: RecordLines>(&self, rt: &R, shard: u8, call: &C) {
         let Some(lines) = self.shards.get(usize::from(shard)) else {
             return;
         };
         let mut lines = lines.lock(rt);
-        if lines.put(step, up).is_err() {
+        let before = lines.len();
+        if lines.put(call).is_err() {
             self.lost.store(true, Ordering::SeqCst);
         }
         let bit = bit_of(u32::from(shard));
         if self.waiting.load(Ordering::SeqCst) & bit == 0 {
             self.waiting.fetch_or(bit, Ordering::SeqCst);
         }
-        let len = step.len() as u64 + up.map_or(0, |up| up.len() as u64);
+        let len = lines.len().wrapping_sub(before);
         self.pending.fetch_add(len, Ordering::SeqCst);
     }
 
