@@ -127,3 +127,27 @@ text_of_halves v long fits =
     joined (low_digit a7 fits.1.1.1.1.1.1.1.0.fits) (
     refl)))))))))))))))))
     v long fits
+
+-- ---- four bytes, as the first half of eight
+
+four : (P : List ℕ → Type 0) → ((a0 a1 a2 a3 : ℕ) → P (a0 ∷ a1 ∷ a2 ∷ a3 ∷ [])) → (v : List ℕ) → length v ≡ 4 → P v
+four P f ([]) long = absurd (omega (arith, long))
+four P f (a0 ∷ []) long = absurd (omega (arith, long))
+four P f (a0 ∷ a1 ∷ []) long = absurd (omega (arith, long))
+four P f (a0 ∷ a1 ∷ a2 ∷ []) long = absurd (omega (arith, long))
+four P f (a0 ∷ a1 ∷ a2 ∷ a3 ∷ []) long = f a0 a1 a2 a3
+four P f (a0 ∷ a1 ∷ a2 ∷ a3 ∷ a4 ∷ rest) long = absurd (omega (arith, long))
+
+-- four bytes and as many of no meaning
+abbrev pub padded : List ℕ → List ℕ
+padded v = get_or v 0 0 ∷ get_or v 1 0 ∷ get_or v 2 0 ∷ get_or v 3 0 ∷ 0 ∷ 0 ∷ 0 ∷ 0 ∷ []
+
+-- the first half of sixteen
+abbrev pub first_half : List ℕ → List ℕ
+first_half r =
+    get_or (r ++ r) 0 0 ∷ get_or (r ++ r) 1 0 ∷ get_or (r ++ r) 2 0 ∷ get_or (r ++ r) 3 0
+    ∷ get_or (r ++ r) 4 0 ∷ get_or (r ++ r) 5 0 ∷ get_or (r ++ r) 6 0 ∷ get_or (r ++ r) 7 0 ∷ []
+
+pub text_of_padded : (v : List ℕ) → length v ≡ 4 → first_half (encode_lower (padded v)) ≡ encode_lower v
+unfolding encode_with
+text_of_padded v long = four (λ v. first_half (encode_lower (padded v)) ≡ encode_lower v) (λ a0 a1 a2 a3. refl) v long

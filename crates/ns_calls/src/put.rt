@@ -4,7 +4,7 @@ ghost use Rattle.std.specs.Int.{w32, w64, to_be_bytes};
 ghost use Rattle.arrayvec.specs.ArrayString.{array_string_len};
 ghost use Rattle.hex.specs.Hex.{encode_lower};
 
-use crate::digits::{digits_of_byte, digits_of_eight};
+use crate::digits::{digits_of_byte, digits_of_eight, digits_of_four};
 use arrayvec::ArrayString;
 use itoa::Buffer;
 
@@ -47,6 +47,17 @@ fn put_eight(line: &mut Line, bytes: &[u8])
     put_text(line, &digits_of_eight(bytes));
 }
 
+// Puts four bytes in hex.
+#[inline(always)]
+fn put_four(line: &mut Line, bytes: &[u8])
+    requires room { array_string_len line.old + 8 ≤ 1024 }
+    requires four { length bytes.now ≡ 4 }
+    ensures bytes { line.new.bytes ≡ line.old.bytes ++ encode_lower bytes.now }
+    ensures len { array_string_len line.new ≡ array_string_len line.old + 8 }
+{
+    put_text(line, &digits_of_four(bytes));
+}
+
 // Puts a byte in hex.
 #[inline(always)]
 fn put_byte(line: &mut Line, byte: u8)
@@ -57,7 +68,7 @@ fn put_byte(line: &mut Line, byte: u8)
     put_text(line, &digits_of_byte(byte));
 }
 
-// Puts fewer than eight bytes, or more, in hex.
+// Puts fewer than four bytes, or more, in hex.
 #[inline(always)]
 fn put_few(line: &mut Line, bytes: &[u8])
     requires { array_string_len line.old + 2 * length bytes.now ≤ 1024 }
@@ -66,6 +77,32 @@ fn put_few(line: &mut Line, bytes: &[u8])
 {
     for byte in bytes {
         put_byte(line, *byte);
+    }
+}
+
+// Puts four bytes or more in hex.
+#[inline(always)]
+fn put_four_and_few(line: &mut Line, bytes: &[u8])
+    requires room { array_string_len line.old + 2 * length bytes.now ≤ 1024 }
+    requires four { 4 ≤ length bytes.now }
+    ensures bytes { line.new.bytes ≡ line.old.bytes ++ encode_lower bytes.now }
+    ensures len { array_string_len line.new ≡ array_string_len line.old + 2 * length bytes.now }
+{
+    put_four(line, &bytes[..4]);
+    put_few(line, &bytes[4..]);
+}
+
+// Puts fewer than eight bytes, or more, in hex.
+#[inline(always)]
+fn put_rest(line: &mut Line, bytes: &[u8])
+    requires { array_string_len line.old + 2 * length bytes.now ≤ 1024 }
+    ensures bytes { line.new.bytes ≡ line.old.bytes ++ encode_lower bytes.now }
+    ensures len { array_string_len line.new ≡ array_string_len line.old + 2 * length bytes.now }
+{
+    if bytes.len() < 4 {
+        put_few(line, bytes);
+    } else {
+        put_four_and_few(line, bytes);
     }
 }
 
@@ -80,7 +117,7 @@ pub fn put_hex(line: &mut Line, bytes: &[u8])
         put_eight(line, &rest[..8]);
         rest = &rest[8..];
     }
-    put_few(line, rest);
+    put_rest(line, rest);
 }
 
 // Puts an identity of eight bytes in hex, the highest first.
@@ -98,5 +135,5 @@ pub(crate) fn put_address(line: &mut Line, n: u32)
     ensures bytes { line.new.bytes ≡ line.old.bytes ++ encode_lower (to_be_bytes w32 n) }
     ensures len { array_string_len line.new ≡ array_string_len line.old + 8 }
 {
-    put_few(line, &n.to_be_bytes());
+    put_four(line, &n.to_be_bytes());
 }

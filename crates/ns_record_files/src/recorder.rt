@@ -4,9 +4,11 @@ ghost use Rattle.std.specs.Option.{option_map_or};
 ghost use Rattle.ns_record_files.specs.Record.{with_feed};
 
 use crate::disk::Disk;
+use crate::lines::{LineText, RecordLines};
 use crate::writer::RecordWriter;
 use ns_types::{Failed, SHARDS};
 use std::alloc::{AllocError, Global};
+use std::mem;
 use std::sync::atomic::{AtomicBool, AtomicU64, Ordering};
 use std::sync::{Mutex, Wait};
 
@@ -21,13 +23,8 @@ const MANY: u64 = 65_536;
 struct Lines {
     steps: Vec<u8>,
     ups: Vec<u8>,
-}
-
-// What waits of one shard. Whether that is anything is told beside the lock, so that a shard with nothing is passed over.
-#[derive(Drop)]
-struct Waiting {
-    lines: Mutex<Lines>,
-    is_some: AtomicBool,
+    // Where a line is formed: room of its own would be cleared for each.
+    line: LineText,
 }
 
 // The writer, and the lines that it is given.
@@ -43,12 +40,45 @@ struct Writing<D: Disk> {
 /// A lock of the lines is taken behind all others, and none is taken while it is held; that of the writer is taken before those of lines.
 #[derive(Drop)]
 pub struct Recorder<D: Disk> {
-    shards: Vec<Waiting>,
+    shards: Vec<Mutex<Lines>>,
     writing: Mutex<Writing<D>>,
+    // A bit for each shard that has lines, so that one with none is passed over. It is changed under the lock of these.
+    waiting: AtomicU64,
     // How many bytes are not written yet.
     pending: AtomicU64,
     // Whether a line could not be kept.
     lost: AtomicBool,
+}
+
+// Hands bytes over, to the end of others. Where there are no others, the two change places.
+fn hand_over(from: &mut Vec<u8>, to: &mut Vec<u8>) -> Result<(), AllocError>
+    ensures all { OnOk result (to.new.items ≡ to.old.items ++ from.old.items) }
+    ensures none { OnOk result (from.new.items ≡ []) }
+{
+    if from.is_empty() {
+        return Ok(());
+    }
+    if to.is_empty() {
+        mem::swap(from, to);
+        return Ok(());
+    }
+    to.extend_from_slice(from.as_slice())?;
+    from.clear();
+    Ok(())
+}
+
+// Appends a line and its line feed.
+fn append_line(to: &mut Vec<u8>, line: &LineText) -> Result<(), AllocError>
+    ensures { OnOk result (to.new.items ≡ to.old.items ++ with_feed line.now.bytes) }
+{
+    to.extend_from_slice(line.as_str().as_bytes())?;
+    to.push(b'\n')?;
+    Ok(())
+}
+
+// The bit of a shard.
+fn bit_of(shard: u32) -> u64 {
+    1u64.wrapping_shl(shard)
 }
 
 impl Lines {
@@ -57,21 +87,28 @@ impl Lines {
         Ok(Lines {
             steps: Vec::with_capacity(alloc, ROOM)?,
             ups: Vec::with_capacity(alloc, ROOM)?,
+            line: LineText::new(),
         })
     }
 
-    // Keeps a step line, and the `up` line that it implies, where there is one.
-    fn put(&mut self, step: &[u8], up: Option<&[u8]>) -> Result<(), AllocError>
-        ensures steps { OnOk result (self.new.steps.items ≡ self.old.steps.items ++ with_feed step.now) }
-        ensures ups { OnOk result (self.new.ups.items ≡ self.old.ups.items ++ option_map_or (λ u. with_feed u.now) up.entry []) }
+    // Keeps the step line of a call, and the `up` line that it implies, where there is one.
+    fn put<C: RecordLines>(&mut self, call: &C) -> Result<(), AllocError>
+        ensures steps { OnOk result (self.new.steps.items ≡ self.old.steps.items ++ with_feed (C.step call.now)) }
+        ensures ups { OnOk result (self.new.ups.items ≡ self.old.ups.items ++ option_map_or with_feed (C.up call.now) []) }
     {
-        self.steps.extend_from_slice(step)?;
-        self.steps.push(b'\n')?;
-        if let Some(up) = up {
-            self.ups.extend_from_slice(up)?;
-            self.ups.push(b'\n')?;
+        self.line.clear();
+        call.put_step(&mut self.line);
+        append_line(&mut self.steps, &self.line)?;
+        self.line.clear();
+        if call.put_up(&mut self.line) {
+            append_line(&mut self.ups, &self.line)?;
         }
         Ok(())
+    }
+
+    // How many bytes they have.
+    fn len(&self) -> u64 {
+        self.steps.len() as u64 + self.ups.len() as u64
     }
 
     // Hands all lines over.
@@ -80,11 +117,8 @@ impl Lines {
         ensures ups { OnOk result (ups.new.items ≡ ups.old.items ++ self.old.ups.items) }
         ensures none { OnOk result ((self.new.steps.items ≡ []) × (self.new.ups.items ≡ [])) }
     {
-        steps.extend_from_slice(self.steps.as_slice())?;
-        ups.extend_from_slice(self.ups.as_slice())?;
-        self.steps.clear();
-        self.ups.clear();
-        Ok(())
+        hand_over(&mut self.steps, steps)?;
+        hand_over(&mut self.ups, ups)
     }
 }
 
@@ -93,10 +127,7 @@ impl<D: Disk + Drop> Recorder<D> {
     pub fn new(alloc: Global, writer: RecordWriter<D>) -> Result<Recorder<D>, AllocError> {
         let mut shards = Vec::with_capacity(alloc, usize::from(SHARDS))?;
         for _shard in 0..SHARDS {
-            shards.push(Waiting {
-                lines: Mutex::new(Lines::new(alloc)?),
-                is_some: AtomicBool::new(false),
-            })?;
+            shards.push(Mutex::new(Lines::new(alloc)?))?;
         }
         let writing = Writing {
             writer,
@@ -106,23 +137,28 @@ impl<D: Disk + Drop> Recorder<D> {
         Ok(Recorder {
             shards,
             writing: Mutex::new(writing),
+            waiting: AtomicU64::new(0),
             pending: AtomicU64::new(0),
             lost: AtomicBool::new(false),
         })
     }
 
-    /// Keeps a step line of a shard, and the `up` line that it implies, where there is one. Neither has its line feed. Where there is no
-    /// memory for them every write fails from then on.
-    pub fn put<R: Wait>(&self, rt: &R, shard: u8, step: &[u8], up: Option<&[u8]>) {
-        let Some(waiting) = self.shards.get(usize::from(shard)) else {
+    /// Keeps the step line of a shard's call, and the `up` line that it implies, where there is one. Where there is no memory for them every
+    /// write fails from then on.
+    pub fn put<R: Wait, C: RecordLines>(&self, rt: &R, shard: u8, call: &C) {
+        let Some(lines) = self.shards.get(usize::from(shard)) else {
             return;
         };
-        let mut lines = waiting.lines.lock(rt);
-        if lines.put(step, up).is_err() {
+        let mut lines = lines.lock(rt);
+        let before = lines.len();
+        if lines.put(call).is_err() {
             self.lost.store(true, Ordering::SeqCst);
         }
-        waiting.is_some.store(true, Ordering::SeqCst);
-        let len = step.len() as u64 + up.map_or(0, |up| up.len() as u64);
+        let bit = bit_of(u32::from(shard));
+        if self.waiting.load(Ordering::SeqCst) & bit == 0 {
+            self.waiting.fetch_or(bit, Ordering::SeqCst);
+        }
+        let len = lines.len().wrapping_sub(before);
         self.pending.fetch_add(len, Ordering::SeqCst);
     }
 
@@ -131,6 +167,7 @@ impl<D: Disk + Drop> Recorder<D> {
         let Recorder {
             shards: _,
             writing,
+            waiting: _,
             pending: _,
             lost: _,
         } = self;
@@ -156,11 +193,14 @@ impl<D: Disk + Drop> Recorder<D> {
     ) -> Result<(), AllocError> {
         steps.clear();
         ups.clear();
-        for waiting in &self.shards {
-            if waiting.is_some.load(Ordering::SeqCst) {
-                let mut lines = waiting.lines.lock(rt);
+        let mut rest = self.waiting.load(Ordering::SeqCst);
+        for _shard in 0..rest.count_ones() {
+            let shard = rest.trailing_zeros();
+            rest &= !bit_of(shard);
+            if let Some(lines) = self.shards.get(shard as usize) {
+                let mut lines = lines.lock(rt);
                 lines.take(steps, ups)?;
-                waiting.is_some.store(false, Ordering::SeqCst);
+                self.waiting.fetch_and(!bit_of(shard), Ordering::SeqCst);
             }
         }
         self.pending.store(0, Ordering::SeqCst);

@@ -1,15 +1,18 @@
 //! The record of a server: where an earlier life of the program left its shards, and what is put down of its calls.
 ghost use Rattle.std.specs.Prelude.{◌≡◌, IfOk, vec_len};
 ghost use Rattle.std.specs.Arc.{arc_value};
+ghost use Rattle.std.specs.Option.{option_map};
 ghost use Rattle.ns_types.specs.Identity.{shard_count};
+ghost use Rattle.ns_calls.specs.Text.{up_text};
+ghost use Rattle.ns_record.specs.StepText.{step_text};
 ghost use Rattle.ns_server.specs.Begun.{ArePlaced};
 ghost use Rattle.ns_serve_state.specs.Begun.{IsBegun};
 
 use crate::state::State;
 use log::{Log, error, info, warn};
-use ns_calls::{Line, Uplink, up_line};
+use ns_calls::put_uplink;
 use ns_record::{matters, put_step};
-use ns_record_files::{RecordFiles, RecordWriter, Recorder};
+use ns_record_files::{LineText, RecordFiles, RecordLines, RecordWriter, Recorder};
 use ns_resume::{RecordFault, Resumed, run_record};
 use ns_roster::Roster;
 use ns_server::{Gate, Receipt, new_shards};
@@ -107,37 +110,35 @@ impl Begun {
     }
 }
 
-// Puts down a step line of a shard, and the `up` line that it implies.
-#[inline(never)]
-fn put_with_up<R: Wait>(
-    rt: &R,
-    record: &Recorder<RecordFiles>,
-    shard: u8,
-    step: &[u8],
-    uplink: &Uplink,
-) {
-    let up = up_line(uplink);
-    record.put(rt, shard, step, Some(up.as_str().as_bytes()));
+// A call with its answer, of which a record has the step line, and the `up` line of what goes up with it.
+#[derive(Drop)]
+struct Answered<'a> {
+    receipt: &'a Receipt,
 }
 
-// Puts down a call, and the `up` line of what goes up with it.
-#[inline(never)]
-fn put_call<R: Wait>(rt: &R, record: &Recorder<RecordFiles>, receipt: &Receipt) {
-    let mut line = Line::new();
-    put_step(&mut line, &receipt.entry.call);
-    let step = line.as_str().as_bytes();
-    match &receipt.uplink {
-        Some(uplink) => put_with_up(rt, record, receipt.shard, step, uplink),
-        None => record.put(rt, receipt.shard, step, None),
+impl<'a> RecordLines for Answered<'a> {
+    ghost step = { λ a. step_text a.receipt.now.entry.call };
+
+    ghost up = { λ a. option_map up_text a.receipt.now.uplink };
+
+    fn put_step(&self, line: &mut LineText) {
+        put_step(line, &self.receipt.entry.call);
+    }
+
+    fn put_up(&self, line: &mut LineText) -> bool {
+        let Some(uplink) = &self.receipt.uplink else {
+            return false;
+        };
+        put_uplink(line, uplink);
+        true
     }
 }
 
 /// Puts down a call on which later answers rest, and the `up` line of what goes up with it.
 pub fn record_call<R: Wait>(rt: &R, state: &State, receipt: &Receipt) {
-    // (the room of a line is cleared at the begin of the function that has it)
     if let Some(record) = &state.record {
         if matters(&receipt.entry.reply) {
-            put_call(rt, record, receipt);
+            record.put(rt, receipt.shard, &Answered { receipt });
         }
     }
 }

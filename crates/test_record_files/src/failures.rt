@@ -1,7 +1,8 @@
 // Files in memory whose calls fail from one on, of which the failing append takes a front.
 ghost use Rattle.std.specs.Prelude.{None};
+ghost use Rattle.std.specs.Option.{option_map};
 
-use ns_record_files::{Disk, RecordWriter, Recorder};
+use ns_record_files::{Disk, LineText, RecordLines, RecordWriter, Recorder};
 use ns_types::Failed;
 use std::alloc::{AllocError, Global};
 
@@ -117,17 +118,58 @@ fn each_call_fails_in_turn(rt: HostRuntime) {
     }
 }
 
+// A call of which a record has these lines.
+#[derive(Drop)]
+struct Told {
+    step: LineText,
+    up: Option<LineText>,
+}
+
+impl Told {
+    fn new(step: &str, up: Option<&str>) -> Told {
+        Told {
+            step: line_of(step),
+            up: up.map(line_of),
+        }
+    }
+}
+
+// A line with this text, where it has room for it.
+fn line_of(text: &str) -> LineText {
+    let mut line = LineText::new();
+    let _ = line.try_push_str(text);
+    line
+}
+
+impl RecordLines for Told {
+    ghost step = { λ t. t.step.bytes };
+
+    ghost up = { λ t. option_map (λ l. l.bytes) t.up };
+
+    fn put_step(&self, line: &mut LineText) {
+        line.push_str(self.step.as_str());
+    }
+
+    fn put_up(&self, line: &mut LineText) -> bool {
+        let Some(up) = &self.up else {
+            return false;
+        };
+        line.push_str(up.as_str());
+        true
+    }
+}
+
 #[test]
 fn lines_of_shards_are_written_once(rt: HostRuntime) -> Result<(), AllocError> {
     let writer = RecordWriter::new(Memory::new(rt.alloc(), 9));
     let recorder = Recorder::new(rt.alloc(), writer)?;
-    recorder.put(&rt, 15, b"b", None);
-    recorder.put(&rt, 0, b"a", Some(b"up a"));
-    recorder.put(&rt, 15, b"c", Some(b"up c"));
+    recorder.put(&rt, 15, &Told::new("b", None));
+    recorder.put(&rt, 0, &Told::new("a", Some("up a")));
+    recorder.put(&rt, 15, &Told::new("c", Some("up c")));
     assert!(rt; !recorder.is_due());
     assert!(rt; recorder.write(&rt).is_ok());
     assert!(rt; recorder.write(&rt).is_ok());
-    recorder.put(&rt, 1, b"d", None);
+    recorder.put(&rt, 1, &Told::new("d", None));
     assert!(rt; recorder.write(&rt).is_ok());
     let disk = recorder.into_disk();
     assert_eq!(rt; disk.calls, 6);

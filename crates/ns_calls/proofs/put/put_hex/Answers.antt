@@ -17,7 +17,7 @@ eights-preserved c =
     )
 
 pub returns-clause-bytes : goal.returns-clause-bytes
-returns-clause-bytes c = c.put_few.ensures.bytes ∙ c.eights.invariant.0
+returns-clause-bytes c = c.put_rest.ensures.bytes ∙ c.eights.invariant.0
 
 pub returns-clause-len : goal.returns-clause-len
-returns-clause-len c = omega (arith, c.put_few.ensures.len, c.eights.invariant.1)
+returns-clause-len c = omega (arith, c.put_rest.ensures.len, c.eights.invariant.1)
