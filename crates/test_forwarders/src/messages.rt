@@ -1,17 +1,26 @@
 //! Messages as forwarders send them; expected values are those of the protocol's text and of tools/tests/test_forwarder_bridge.py.
 
 use ns_forwarder::{
-    Clock, ForwarderFault, Kind, Outcome, hand_on, pull_resp, read_item, read_message, read_push,
-    read_tx_ack,
+    Clock, ForwarderFault, Item, Kind, Message, Outcome, hand_on, pull_resp, read_item,
+    read_message, read_push, read_tx_ack,
 };
 use ns_link::read_datagram;
 use ns_types::{GatewayId, Target};
 use serde_json::Value;
+use std::alloc::Global;
+use std::process::Abort;
 use std::test::Fail;
 
 const PUSH: [u8; 14] = [2, 7, 8, 0, 0, 0, 0, 0, 0, 0, 0, 0xa1, b'{', b'}'];
 
 const WRAP: u64 = 1 << 32;
+
+// A message is acknowledged by these bytes.
+fn is_acknowledged<R: Abort>(rt: &R, message: &Message<'_>, want: &[u8]) -> Result<(), Fail> {
+    let ack = message.head().ack().ok_or("no acknowledgement")?;
+    assert_eq!(rt; ack.as_slice(), want);
+    Ok(())
+}
 
 #[test]
 fn a_push_is_read_and_acknowledged(rt: HostRuntime) -> Result<(), Fail> {
@@ -20,62 +29,88 @@ fn a_push_is_read_and_acknowledged(rt: HostRuntime) -> Result<(), Fail> {
     assert!(rt; head.kind == Kind::PushData);
     assert_eq!(rt; head.gateway.0, GatewayId(0xa1).0);
     assert_eq!(rt; message.body().len(), 2);
-    let ack = head.ack().ok_or("no acknowledgement")?;
-    assert_eq!(rt; ack.as_slice(), [2, 7, 8, 1].as_slice());
-    Ok(())
+    is_acknowledged(&rt, &message, &[2, 7, 8, 1])
 }
 
 #[test]
 fn a_pull_of_version_1_is_acknowledged(rt: HostRuntime) -> Result<(), Fail> {
     let message = read_message(&[1, 9, 10, 2, 0, 0, 0, 0, 0, 0, 0, 0xa2])?;
-    let ack = message.head().ack().ok_or("no acknowledgement")?;
-    assert_eq!(rt; ack.as_slice(), [1, 9, 10, 4].as_slice());
-    Ok(())
+    is_acknowledged(&rt, &message, &[1, 9, 10, 4])
 }
+
+// Why a message is refused, if it is.
+fn refused(bytes: &[u8]) -> Option<ForwarderFault> {
+    match read_message(bytes) {
+        Ok(_) => None,
+        Err(fault) => Some(fault),
+    }
+}
+
+// Messages, and why each is refused.
+const REFUSED: &[(&[u8], ForwarderFault)] = &[
+    (&[], ForwarderFault::Short),
+    (
+        &[3, 0, 0, 0, 0, 0, 0, 0, 0, 0, 0, 0],
+        ForwarderFault::Version,
+    ),
+    (&[2, 0, 0, 1, 0, 0, 0, 0, 0, 0, 0, 0], ForwarderFault::Kind),
+    (&[0; 16_385], ForwarderFault::TooLong),
+];
 
 #[test]
 fn other_messages_are_refused(rt: HostRuntime) {
-    assert!(rt; matches!(read_message(&[]), Err(ForwarderFault::Short)));
-    assert!(rt;
-        matches!(
-            read_message(&[3, 0, 0, 0, 0, 0, 0, 0, 0, 0, 0, 0]),
-            Err(ForwarderFault::Version)
-        )
-    );
-    assert!(rt;
-        matches!(
-            read_message(&[2, 0, 0, 1, 0, 0, 0, 0, 0, 0, 0, 0]),
-            Err(ForwarderFault::Kind)
-        )
-    );
-    assert!(rt; matches!(read_message(&[0; 16_385]), Err(ForwarderFault::TooLong)));
+    for &(bytes, fault) in REFUSED {
+        assert_eq!(rt; refused(bytes), Some(fault));
+    }
+}
+
+// Readings of a counter, each with the time at which it comes and its moment.
+fn are_followed<R: Abort>(rt: &R, readings: &[(u32, u64, u64)]) {
+    let mut clock = Clock::default();
+    for &(counter, now, moment) in readings {
+        assert_eq!(rt; clock.read(counter, now), moment);
+    }
 }
 
 #[test]
 fn a_counter_is_followed_over_its_wraps(rt: HostRuntime) {
-    let mut clock = Clock::default();
-    assert_eq!(rt; clock.read(4_294_967_286, 0), WRAP - 10);
-    assert_eq!(rt; clock.read(5, 15), WRAP + 5);
-    assert_eq!(rt; clock.read(4_294_967_295, WRAP + 9), 2 * WRAP - 1);
-    assert_eq!(rt; clock.read(0, WRAP + 10), 2 * WRAP);
+    are_followed(
+        &rt,
+        &[
+            (4_294_967_286, 0, WRAP - 10),
+            (5, 15, WRAP + 5),
+            (4_294_967_295, WRAP + 9, 2 * WRAP - 1),
+            (0, WRAP + 10, 2 * WRAP),
+        ],
+    );
 }
 
 #[test]
 fn counters_may_come_out_of_order(rt: HostRuntime) {
-    let mut clock = Clock::default();
-    assert_eq!(rt; clock.read(4_294_966_296, 0), WRAP - 1000);
-    assert_eq!(rt; clock.read(500, 2000), WRAP + 500);
-    assert_eq!(rt; clock.read(4_294_966_396, 2100), WRAP - 900);
-    assert_eq!(rt; clock.read(600, 2200), WRAP + 600);
+    are_followed(
+        &rt,
+        &[
+            (4_294_966_296, 0, WRAP - 1000),
+            (500, 2000, WRAP + 500),
+            (4_294_966_396, 2100, WRAP - 900),
+            (600, 2200, WRAP + 600),
+        ],
+    );
 }
 
 // An item as a forwarder writes it.
 const ITEM: &str =
     r#"{"tmst":1000000,"chan":0,"rfch":0,"freq":868.1,"stat":1,"modu":"LORA","datr":"SF7BW125","codr":"4/5","rssi":-95,"lsnr":7.5,"size":23,"data":"AAQDAgEEAwIBDQAAAAAAAAABAAEAAAA="}"#;
 
+// Reads an item.
+fn item(alloc: Global, text: &str) -> Result<Item, Fail> {
+    let value = Value::from_str(alloc, text)?;
+    Ok(read_item(alloc, &value)?)
+}
+
 #[test]
 fn an_item_is_read(rt: HostRuntime) -> Result<(), Fail> {
-    let item = read_item(rt.alloc(), &Value::from_str(rt.alloc(), ITEM)?)?;
+    let item = item(rt.alloc(), ITEM)?;
     assert_eq!(rt;
         (item.counter, item.freq, item.dr),
         (1_000_000, 868_100_000, 5)
@@ -129,20 +164,43 @@ fn other_bodies_are_refused(rt: HostRuntime) {
     }
 }
 
+// A body with so many items, of which none is read.
+fn body_of(alloc: Global, count: u32) -> Result<Vec<u8>, Fail> {
+    let mut body = Vec::new(alloc);
+    body.extend_from_slice(b"{\"rxpk\":[0")?;
+    for _ in 1..count {
+        body.extend_from_slice(b",0")?;
+    }
+    body.extend_from_slice(b"]}")?;
+    Ok(body)
+}
+
+// How many items of a body are left out, or why it is refused.
+fn left_out(alloc: Global, body: &[u8]) -> Result<usize, ForwarderFault> {
+    Ok(read_push(alloc, body)?.left_out.len())
+}
+
 #[test]
 fn a_list_of_more_than_255_items_is_refused(rt: HostRuntime) -> Result<(), Fail> {
-    for (count, taken) in [(255, true), (256, false)] {
-        let mut body = Vec::new(rt.alloc());
-        body.extend_from_slice(b"{\"rxpk\":[0")?;
-        for _ in 1..count {
-            body.extend_from_slice(b",0")?;
-        }
-        body.extend_from_slice(b"]}")?;
-        match read_push(rt.alloc(), body.as_slice()) {
-            Ok(push) => assert!(rt; taken && push.left_out.len() == 255),
-            Err(fault) => assert!(rt; !taken && fault == ForwarderFault::TooMany),
-        }
+    for (count, want) in [(255, Ok(255)), (256, Err(ForwarderFault::TooMany))] {
+        let body = body_of(rt.alloc(), count)?;
+        assert_eq!(rt; left_out(rt.alloc(), body.as_slice()), want);
     }
+    Ok(())
+}
+
+// The datagram's head: the gateway, the moment, the frequency, the data rate, and how strong it was heard.
+const HEAD: [u8; 28] = [
+    1, 1, 0, 0, 0, 0, 0, 0, 0, 0xa1, 0, 0, 0, 1, 0, 0, 0, 5, 0x33, 0xbe, 0x27, 0xa0, 5, 0xfc, 0x4a,
+    0, 75, 23,
+];
+
+// A datagram with that head is read back as the item.
+fn is_read_back<R: Abort>(rt: &R, item: &Item, bytes: &[u8]) -> Result<(), Fail> {
+    let datagram = read_datagram(bytes)?;
+    assert!(rt; datagram.heard() == item.heard(GatewayId(0xa1), 0x1_0000_0005));
+    assert_eq!(rt; datagram.frame(), item.frame.as_slice());
+    assert_eq!(rt; bytes.get(..28), Some(HEAD.as_slice()));
     Ok(())
 }
 
@@ -150,26 +208,26 @@ fn a_list_of_more_than_255_items_is_refused(rt: HostRuntime) -> Result<(), Fail>
 fn the_datagram_of_an_item_is_read_back(rt: HostRuntime) -> Result<(), Fail> {
     let item = read_item(rt.alloc(), &Value::from_str(rt.alloc(), ITEM)?)?;
     let bytes = item.datagram(rt.alloc(), GatewayId(0xa1), 0x1_0000_0005)?;
-    let datagram = read_datagram(bytes.as_slice())?;
-    assert!(rt; datagram.heard() == item.heard(GatewayId(0xa1), 0x1_0000_0005));
-    assert_eq!(rt; datagram.frame(), item.frame.as_slice());
-    assert_eq!(rt;
-        &bytes.as_slice()[..10],
-        [1, 1, 0, 0, 0, 0, 0, 0, 0, 0xa1].as_slice()
-    );
-    assert_eq!(rt;
-        &bytes.as_slice()[10..28],
-        [
-            0, 0, 0, 1, 0, 0, 0, 5, 0x33, 0xbe, 0x27, 0xa0, 5, 0xfc, 0x4a, 0, 75, 23
-        ]
-        .as_slice()
-    );
-    Ok(())
+    is_read_back(&rt, &item, bytes.as_slice())
 }
 
 // Two frames across a wrap of the counter, and an item without a CRC between them.
 const TWO: &[u8] =
     br#"{"rxpk":[{"tmst":4294967290,"freq":868.1,"stat":1,"modu":"LORA","datr":"SF7BW125","rssi":-95,"lsnr":7.5,"data":"AQ=="},{"stat":0},{"tmst":4,"freq":868.3,"stat":1,"modu":"LORA","datr":"SF9BW125","rssi":-100,"lsnr":-3,"data":"AgM="}]}"#;
+
+// A datagram of this moment, frequency, data rate and frame.
+fn is_heard<R: Abort>(
+    rt: &R,
+    bytes: &[u8],
+    want: (u64, u32, u8),
+    frame: &[u8],
+) -> Result<(), Fail> {
+    let datagram = read_datagram(bytes)?;
+    let heard = datagram.heard();
+    assert_eq!(rt; (heard.moment, heard.freq, heard.dr), want);
+    assert_eq!(rt; datagram.frame(), frame);
+    Ok(())
+}
 
 #[test]
 fn a_body_becomes_datagrams_that_follow_the_clock(rt: HostRuntime) -> Result<(), Fail> {
@@ -177,35 +235,38 @@ fn a_body_becomes_datagrams_that_follow_the_clock(rt: HostRuntime) -> Result<(),
     let handed = hand_on(rt.alloc(), GatewayId(0xa1), TWO, &mut clock, 1000)?;
     assert_eq!(rt; numbers(handed.left_out.as_slice()), 9);
     assert_eq!(rt; handed.datagrams.len(), 2);
-    let first = read_datagram(handed.datagrams[0].as_slice())?;
-    assert_eq!(rt;
-        (first.heard().moment, first.heard().freq),
-        (WRAP - 6, 868_100_000)
-    );
-    let second = read_datagram(handed.datagrams[1].as_slice())?;
-    assert_eq!(rt; (second.heard().moment, second.heard().dr), (WRAP + 4, 3));
-    assert_eq!(rt; second.frame(), [2, 3].as_slice());
+    let (first, second) = (&handed.datagrams[0], &handed.datagrams[1]);
+    is_heard(&rt, first.as_slice(), (WRAP - 6, 868_100_000, 5), &[1])?;
+    is_heard(&rt, second.as_slice(), (WRAP + 4, 868_300_000, 3), &[2, 3])?;
     assert_eq!(rt; clock.read(5, 1001), WRAP + 5);
     Ok(())
 }
 
+// An item of FSK with this frequency.
+fn item_at(alloc: Global, freq: &str) -> Result<Item, Fail> {
+    let mut text = String::from_str(
+        alloc,
+        "{\"tmst\":0,\"stat\":1,\"modu\":\"FSK\",\"datr\":50000,\"rssi\":-7,\"data\":\"AA\",\"freq\":",
+    )?;
+    text.push_str(freq)?;
+    text.push_str("}")?;
+    item(alloc, text.as_str())
+}
+
+// Spellings of frequencies in MHz, and what each is in Hz.
+const SPELLINGS: &[(&str, u32)] = &[
+    ("868.1", 868_100_000),
+    ("868.100000", 868_100_000),
+    ("8681e-1", 868_100_000),
+    ("868", 868_000_000),
+    ("867.899999", 867_899_999),
+    ("869.525", 869_525_000),
+];
+
 #[test]
 fn a_frequency_is_read_from_each_spelling(rt: HostRuntime) -> Result<(), Fail> {
-    for (freq, hertz) in [
-        ("868.1", 868_100_000),
-        ("868.100000", 868_100_000),
-        ("8681e-1", 868_100_000),
-        ("868", 868_000_000),
-        ("867.899999", 867_899_999),
-        ("869.525", 869_525_000),
-    ] {
-        let mut text = String::new(rt.alloc());
-        text.push_str(
-            "{\"tmst\":0,\"stat\":1,\"modu\":\"FSK\",\"datr\":50000,\"rssi\":-7,\"data\":\"AA\",\"freq\":",
-        )?;
-        text.push_str(freq)?;
-        text.push_str("}")?;
-        let item = read_item(rt.alloc(), &Value::from_str(rt.alloc(), text.as_str())?)?;
+    for &(freq, hertz) in SPELLINGS {
+        let item = item_at(rt.alloc(), freq)?;
         assert_eq!(rt;
             (item.freq, item.dr, item.snr, item.frame.len()),
             (hertz, 7, 0, 1)
@@ -257,38 +318,41 @@ fn a_downlink_outside_the_band_is_refused(rt: HostRuntime) {
     }
 }
 
+// Bodies of TX_ACK, and what each says.
+const OUTCOMES: &[(&[u8], Outcome)] = &[
+    (b"", Outcome::Sent),
+    (b"\0", Outcome::Sent),
+    (b" \r\n", Outcome::Sent),
+    (br#"{"txpk_ack":{"error":"NONE"}}"#, Outcome::Sent),
+    (br#"{"txpk_ack":{}}"#, Outcome::Sent),
+    (
+        br#"{"txpk_ack":{"warn":"TX_POWER","value":14}}"#,
+        Outcome::Sent,
+    ),
+    (br#"{"txpk_ack":{"error":"TOO_LATE"}}"#, Outcome::TooLate),
+    (br#"{"txpk_ack":{"error":"TOO_EARLY"}}"#, Outcome::TooEarly),
+    (
+        br#"{"txpk_ack":{"error":"COLLISION_PACKET"}}"#,
+        Outcome::CollisionPacket,
+    ),
+    (
+        br#"{"txpk_ack":{"error":"COLLISION_BEACON"}}"#,
+        Outcome::CollisionBeacon,
+    ),
+    (br#"{"txpk_ack":{"error":"TX_FREQ"}}"#, Outcome::TxFreq),
+    (br#"{"txpk_ack":{"error":"TX_POWER"}}"#, Outcome::TxPower),
+    (
+        br#"{"txpk_ack":{"error":"GPS_UNLOCKED"}}"#,
+        Outcome::GpsUnlocked,
+    ),
+    (br#"{"txpk_ack":{"error":"made up"}}"#, Outcome::Other),
+    (br#"{"txpk_ack":{"error":[]}}"#, Outcome::Other),
+    (br#"{"txpk_ack":3}"#, Outcome::Other),
+];
+
 #[test]
 fn a_tx_ack_says_what_came_of_a_downlink(rt: HostRuntime) -> Result<(), Fail> {
-    for (body, outcome) in [
-        (b"".as_slice(), Outcome::Sent),
-        (b"\0", Outcome::Sent),
-        (b" \r\n", Outcome::Sent),
-        (br#"{"txpk_ack":{"error":"NONE"}}"#, Outcome::Sent),
-        (br#"{"txpk_ack":{}}"#, Outcome::Sent),
-        (
-            br#"{"txpk_ack":{"warn":"TX_POWER","value":14}}"#,
-            Outcome::Sent,
-        ),
-        (br#"{"txpk_ack":{"error":"TOO_LATE"}}"#, Outcome::TooLate),
-        (br#"{"txpk_ack":{"error":"TOO_EARLY"}}"#, Outcome::TooEarly),
-        (
-            br#"{"txpk_ack":{"error":"COLLISION_PACKET"}}"#,
-            Outcome::CollisionPacket,
-        ),
-        (
-            br#"{"txpk_ack":{"error":"COLLISION_BEACON"}}"#,
-            Outcome::CollisionBeacon,
-        ),
-        (br#"{"txpk_ack":{"error":"TX_FREQ"}}"#, Outcome::TxFreq),
-        (br#"{"txpk_ack":{"error":"TX_POWER"}}"#, Outcome::TxPower),
-        (
-            br#"{"txpk_ack":{"error":"GPS_UNLOCKED"}}"#,
-            Outcome::GpsUnlocked,
-        ),
-        (br#"{"txpk_ack":{"error":"made up"}}"#, Outcome::Other),
-        (br#"{"txpk_ack":{"error":[]}}"#, Outcome::Other),
-        (br#"{"txpk_ack":3}"#, Outcome::Other),
-    ] {
+    for &(body, outcome) in OUTCOMES {
         assert!(rt; read_tx_ack(rt.alloc(), body)? == outcome);
     }
     for body in [b"{".as_slice(), b"[]", b"\xff"] {
