@@ -3,13 +3,16 @@
 use ns_calls::{Call, DataFrame, Outcome, lines, shard_of_call};
 use ns_joinwire::join_ans;
 use ns_link::read_datagram;
+use ns_roster::Roster;
 use ns_shard::Shard;
 use ns_types::Ticket;
 use ns_views::{PhyView, view};
+use std::alloc::Global;
+use std::sync::Arc;
 use std::test::Fail;
 
-/// The roster of the device.
-pub const ROSTER: &str =
+/// The roster of the device, as text.
+const ROSTER: &str =
     r#"{"version":1,"net_id":"000024","rx1_offset":0,"rx_delay":1,"devices":[{"dev_eui":"000000000000000d","join_eui":"0102030401020304","slot":1998321}]}"#;
 
 /// The join server's answer to its Join-Request.
@@ -25,6 +28,12 @@ pub const H2: &str = "010100000000000000a200000000000f462833be27a005fc180050";
 pub const J: &str = "0004030201040302010d00000000000000010001000000";
 
 pub const F: &str = "40f17dbe4900020001954378762b11ff0d";
+
+/// The roster of the device.
+pub fn roster(alloc: Global) -> Result<Arc<Roster>, Fail> {
+    let roster = Roster::read(alloc, ROSTER.as_bytes())?;
+    Ok(Arc::new(alloc, roster)?)
+}
 
 // The call of a datagram.
 fn datagram_call(bytes: &[u8]) -> Result<Call, Fail> {

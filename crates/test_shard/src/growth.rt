@@ -3,12 +3,13 @@
 //! Blocks are given back one at a time, the smallest first. Several growths of one call may pass with one block, so these tests show what
 //! a refused call leaves and that it is answered in the end, and not each growth refused alone.
 
-use crate::calls::{F, H1, H2, J, ROSTER, call_of};
+ghost use Rattle.std.specs.Prelude.{◌<◌};
+ghost use Rattle.ns_types.specs.Identity.{shard_count};
+
+use crate::calls::{F, H1, H2, J, call_of, roster};
 use ns_calls::{Call, Entry, lines, shard_of_call};
-use ns_roster::Roster;
 use ns_shard::Shard;
 use ns_types::{BLOCKS, take_all};
-use std::sync::Arc;
 use std::test::Fail;
 
 // A Join-Request of a device that is not in the roster.
@@ -73,6 +74,20 @@ fn are_refused(refused: &[u64], count: usize, places: &[usize]) -> bool {
     refused.len() == count && places.iter().all(|place| refused.get(*place) > Some(&0))
 }
 
+// Whether a shard with no entries answers these steps as wanted, with memory refused to those of these places.
+fn run_is_refused(
+    rt: &HostRuntime,
+    index: u8,
+    steps: &[(&str, &str, &str)],
+    places: &[usize],
+) -> Result<bool, Fail>
+    requires { index < shard_count }
+{
+    let mut shard = Shard::new(rt.alloc(), roster(rt.alloc())?, index)?;
+    let refused = refusals(rt, &mut shard, steps)?;
+    Ok(are_refused(refused.as_slice(), steps.len(), places))
+}
+
 // A join that two gateways hear, its answer, an answer too many, and an uplink that two gateways hear.
 const WORKED: &[(&str, &str, &str)] = &[
     (H1, J, "ask 0004030201040302010d00000000000000010001000000"),
@@ -87,18 +102,13 @@ const WORKED: &[(&str, &str, &str)] = &[
 // run. The first entry and the first window need memory.
 #[test]
 fn memory_refused_to_a_run(rt: HostRuntime) -> Result<(), Fail> {
-    let roster = Arc::new(rt.alloc(), Roster::read(rt.alloc(), ROSTER.as_bytes())?)?;
-    let mut shard = Shard::new(rt.alloc(), roster, 13)?;
-    let refused = refusals(&rt, &mut shard, WORKED)?;
-    assert!(rt; are_refused(refused.as_slice(), 6, &[0, 4]));
+    assert!(rt; run_is_refused(&rt, 13, WORKED, &[0, 4])?);
     Ok(())
 }
 
 #[test]
 fn memory_refused_for_an_unknown_device(rt: HostRuntime) -> Result<(), Fail> {
-    let roster = Arc::new(rt.alloc(), Roster::read(rt.alloc(), ROSTER.as_bytes())?)?;
-    let mut shard = Shard::new(rt.alloc(), roster, 14)?;
-    let refused = refusals(&rt, &mut shard, &[(H1, UNKNOWN, "nodevice")])?;
-    assert!(rt; are_refused(refused.as_slice(), 1, &[0]));
+    let steps = [(H1, UNKNOWN, "nodevice")];
+    assert!(rt; run_is_refused(&rt, 14, &steps, &[0])?);
     Ok(())
 }

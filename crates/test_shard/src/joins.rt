@@ -1,10 +1,9 @@
 //! Join-Requests, answered by a shard and by the plain server, which searches the entries.
 
-use crate::calls::{H1, H2, J, ROSTER, call_of, first_line};
+use crate::calls::{H1, H2, J, call_of, first_line, roster};
 use ns_calls::{Answer, Call, Reply, lines, reply_to_join};
 use ns_roster::Roster;
 use ns_shard::Shard;
-use std::sync::Arc;
 use std::test::Fail;
 
 // Join-Requests of the device with other nonces, and one of an unknown device of its shard.
@@ -125,14 +124,22 @@ fn other_copy(rt: &HostRuntime, roster: &Roster, shard: &mut Shard) -> Result<Op
     Ok(None)
 }
 
+// The first call and the place of the first copy that are answered otherwise.
+fn others(
+    rt: &HostRuntime,
+    roster: &Roster,
+    shard: &mut Shard,
+) -> Result<(Option<&'static str>, Option<u32>), Fail> {
+    let call = other_call(rt, roster, shard)?;
+    Ok((call, other_copy(rt, roster, shard)?))
+}
+
 #[test]
 fn the_plain_server_replies_alike(rt: HostRuntime) -> Result<(), Fail> {
-    let roster = Arc::new(rt.alloc(), Roster::read(rt.alloc(), ROSTER.as_bytes())?)?;
+    let roster = roster(rt.alloc())?;
     let mut shard = Shard::new(rt.alloc(), roster.clone()?, 13)?;
-    let call = other_call(&rt, &roster, &mut shard)?;
-    assert_eq!(rt; call, None);
-    let copy = other_copy(&rt, &roster, &mut shard)?;
-    assert_eq!(rt; copy, None);
+    let others = others(&rt, &roster, &mut shard)?;
+    assert_eq!(rt; others, (None, None));
     Ok(())
 }
 

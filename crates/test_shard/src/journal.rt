@@ -89,18 +89,23 @@ fn a_cut_leaves_the_reserved_room(rt: HostRuntime) -> Result<(), Fail> {
 #[test]
 fn growth_and_cut_take_no_more_than_they_need(rt: HostRuntime) -> Result<(), Fail> {
     let mut journal = Journal::new(rt.alloc());
-    let mut held: Vec<Vec<u8>> = Vec::with_capacity(rt.alloc(), BLOCKS)?;
     for fcnt in 0..65_536u32 {
         add(&mut journal, fcnt)?;
     }
-    let spare: Vec<u8> = Vec::with_capacity(rt.alloc(), 1 << 26)?;
-    take_all(rt.alloc(), &mut held)?;
+    let grown = grown_and_cut(&mut journal, rt.alloc())?;
+    assert_eq!(rt; grown, (true, true, true));
+    Ok(())
+}
+
+// Whether a growth is refused where all memory is gone, whether it is made with 64 MB more, and whether a cut of all is made with none.
+fn grown_and_cut(journal: &mut Journal, alloc: Global) -> Result<(bool, bool, bool), AllocError> {
+    let mut held: Vec<Vec<u8>> = Vec::with_capacity(alloc, BLOCKS)?;
+    let spare: Vec<u8> = Vec::with_capacity(alloc, 1 << 26)?;
+    take_all(alloc, &mut held)?;
     let is_refused = journal.room(1).is_err();
     drop(spare);
     let is_grown = journal.room(1).is_ok();
-    take_all(rt.alloc(), &mut held)?;
-    let is_cut = cut_all(&mut journal, rt.alloc()).is_ok();
-    drop(held);
-    assert_eq!(rt; (is_refused, is_grown, is_cut), (true, true, true));
-    Ok(())
+    take_all(alloc, &mut held)?;
+    let is_cut = cut_all(journal, alloc).is_ok();
+    Ok((is_refused, is_grown, is_cut))
 }

@@ -4,6 +4,7 @@ use ns_calls::{JoinAccept, JoinAns, Outcome};
 use ns_sessions::{DeviceState, Recovery};
 use ns_types::{Heard, Key, Ticket};
 use ns_views::{PhyView, view};
+use std::process::Abort;
 use std::test::Fail;
 
 // An unconfirmed uplink with counter 2 under the NwkSKey below.
@@ -19,10 +20,29 @@ const NWK_S_KEY: Key = Key([
 /// The uplink with a session's greatest counter has a next round until the last, and no other has one.
 #[test]
 fn rounds_of_the_greatest_counter(rt: HostRuntime) -> Result<(), Fail> {
-    let mut state = DeviceState::new(None);
     let PhyView::Frame(frame) = view(&FRAME).map_err(|_| "refused")? else {
         return Err("no data frame".into());
     };
+    let mut state = joined();
+    are_next(&rt, &state, &[(1, 2, None)]);
+    let (session, counter) = state.fit(Recovery::Above, &frame).ok_or("no session")?;
+    state.open(session, counter);
+    assert_eq!(rt; (session, counter), (1, 2));
+    are_next(&rt, &state, &[(1, 2, Some(2)), (1, 1, None), (2, 2, None)]);
+    for (round, next) in [
+        (2, Some(3)),
+        (0xffff_fffe, Some(0xffff_ffff)),
+        (0xffff_ffff, None),
+    ] {
+        state.open_again(1, round);
+        are_next(&rt, &state, &[(1, 2, next)]);
+    }
+    Ok(())
+}
+
+// A device that has joined, with no uplink yet.
+fn joined() -> DeviceState {
+    let mut state = DeviceState::new(None);
     let ticket = Ticket([
         0, 4, 3, 2, 1, 4, 3, 2, 1, 13, 0, 0, 0, 0, 0, 0, 0, 1, 0, 1, 0, 0, 0,
     ]);
@@ -33,18 +53,12 @@ fn rounds_of_the_greatest_counter(rt: HostRuntime) -> Result<(), Fail> {
         app: None,
     };
     state.answer(&ticket, &Outcome::Success(join));
-    assert_eq!(rt; state.next_round(1, 2), None);
-    let (session, counter) = state.fit(Recovery::Above, &frame).ok_or("no session")?;
-    state.open(session, counter);
-    assert_eq!(rt; (session, counter), (1, 2));
-    assert_eq!(rt; state.next_round(1, 2), Some(2));
-    assert_eq!(rt; state.next_round(1, 1), None);
-    assert_eq!(rt; state.next_round(2, 2), None);
-    state.open_again(1, 2);
-    assert_eq!(rt; state.next_round(1, 2), Some(3));
-    state.open_again(1, 0xffff_fffe);
-    assert_eq!(rt; state.next_round(1, 2), Some(0xffff_ffff));
-    state.open_again(1, 0xffff_ffff);
-    assert_eq!(rt; state.next_round(1, 2), None);
-    Ok(())
+    state
+}
+
+// The next rounds of sessions' counters.
+fn are_next<R: Abort>(rt: &R, state: &DeviceState, rounds: &[(u32, u32, Option<u32>)]) {
+    for &(session, counter, round) in rounds {
+        assert_eq!(rt; state.next_round(session, counter), round);
+    }
 }

@@ -2,7 +2,7 @@
 
 ghost use Rattle.std.specs.Prelude.{◌≡◌, ◌<◌, false, IfOk};
 
-use crate::calls::ROSTER;
+use crate::calls::roster;
 use ns_events::Output;
 use ns_replay::{ReplayFault, replay};
 use ns_roster::Roster;
@@ -58,35 +58,66 @@ fn fuse(
     Ok(Fuse::new(rt.alloc(), input, most, reads, writes))
 }
 
-// The roster of the device.
-fn roster<R: AllocGlobal>(rt: &R) -> Result<Arc<Roster>, Fail> {
-    Ok(Arc::new(rt.alloc(), Roster::read(rt.alloc(), ROSTER.as_bytes())?)?)
+// Whether a run with a read that fails after so many writes nothing, or else all lines.
+fn read_ends(rt: &HostRuntime, roster: Arc<Roster>, reads: u64) -> Result<bool, Fail> {
+    let mut reader = fuse(rt, STEPS.as_bytes(), 70, Some(reads), None)?;
+    let mut writer = fuse(rt, b"", 200, None, None)?;
+    let outcome = replay(
+        rt.alloc(),
+        roster,
+        Output::Lines,
+        false,
+        &mut reader,
+        &mut writer,
+    );
+    let written = writer.written();
+    Ok(if reader.failed() {
+        outcome == Err(ReplayFault::Io) && written.is_empty()
+    } else {
+        outcome == Ok(()) && reads > 8 && written == LINES.as_bytes()
+    })
 }
 
 // Each read fails in turn, with nothing written.
 #[test]
 fn a_failed_read_writes_nothing(rt: HostRuntime) -> Result<(), Fail> {
-    let roster = roster(&rt)?;
+    let roster = roster(rt.alloc())?;
     for reads in 0..20 {
-        let mut reader = fuse(&rt, STEPS.as_bytes(), 70, Some(reads), None)?;
-        let mut writer = fuse(&rt, b"", 200, None, None)?;
-        let outcome = replay(
-            rt.alloc(),
-            roster.clone()?,
-            Output::Lines,
-            false,
-            &mut reader,
-            &mut writer,
-        );
-        if reader.failed() {
-            assert_eq!(rt; outcome, Err(ReplayFault::Io));
-            assert_eq!(rt; writer.written().len(), 0);
-        } else {
-            assert_eq!(rt; outcome, Ok(()));
-            assert!(rt; reads > 8 && writer.written() == LINES.as_bytes());
-        }
+        assert!(rt; read_ends(&rt, roster.clone()?, reads)?, "{reads} reads");
     }
     Ok(())
+}
+
+// Whether a run of these steps with a write that fails after so many writes all these lines, or else a beginning of them. None where it
+// ends otherwise than by that failure.
+fn write_ends(
+    rt: &HostRuntime,
+    roster: Arc<Roster>,
+    steps: &str,
+    lines: &str,
+    most: usize,
+    writes: u64,
+) -> Result<Option<bool>, Fail>
+    requires { 0 < most }
+{
+    let mut reader = fuse(rt, steps.as_bytes(), 100_000, None, None)?;
+    let mut writer = fuse(rt, b"", most, None, Some(writes))?;
+    let outcome = replay(
+        rt.alloc(),
+        roster,
+        Output::Lines,
+        false,
+        &mut reader,
+        &mut writer,
+    );
+    let is_whole = !writer.failed();
+    let written = writer.written();
+    let is_right = if is_whole {
+        outcome == Ok(()) && written == lines.as_bytes()
+    } else {
+        outcome == Err(ReplayFault::Io) && lines.as_bytes().starts_with(written)
+    };
+    Ok(if is_right { Some(is_whole) } else { None })
 }
 
 // How often these steps write these lines, where one write after the other fails. None where it ends otherwise than by that failure and a
@@ -94,27 +125,12 @@ fn a_failed_read_writes_nothing(rt: HostRuntime) -> Result<(), Fail> {
 fn ends(rt: &HostRuntime, steps: &str, lines: &str, most: usize) -> Result<Option<u32>, Fail>
     requires { 0 < most }
 {
-    let roster = roster(rt)?;
+    let roster = roster(rt.alloc())?;
     let mut ended = 0u32;
     for writes in 0..40u64 {
-        let mut reader = fuse(rt, steps.as_bytes(), 100_000, None, None)?;
-        let mut writer = fuse(rt, b"", most, None, Some(writes))?;
-        let outcome = replay(
-            rt.alloc(),
-            roster.clone()?,
-            Output::Lines,
-            false,
-            &mut reader,
-            &mut writer,
-        );
-        let is_right = if writer.failed() {
-            outcome == Err(ReplayFault::Io) && lines.as_bytes().starts_with(writer.written())
-        } else {
-            ended = ended.wrapping_add(1);
-            outcome == Ok(()) && writer.written() == lines.as_bytes()
-        };
-        if !is_right {
-            return Ok(None);
+        match write_ends(rt, roster.clone()?, steps, lines, most, writes)? {
+            Some(is_whole) => ended = ended.wrapping_add(u32::from(is_whole)),
+            None => return Ok(None),
         }
     }
     Ok(Some(ended))
@@ -165,7 +181,7 @@ fn refusals(
 
 // Whether a run of these steps is refused memory for some time, and then made.
 fn is_made_at_last(rt: &HostRuntime, steps: &str) -> Result<bool, Fail> {
-    let roster = roster(rt)?;
+    let roster = roster(rt.alloc())?;
     let mut inputs = Vec::with_capacity(rt.alloc(), 4096)?;
     for _ in 0..4096u32 {
         inputs.push(Vec::from_slice(rt.alloc(), steps.as_bytes())?)?;

@@ -43,6 +43,24 @@ struct Until {
     number: AtomicU64,
 }
 
+impl Until {
+    fn new() -> Until {
+        Until {
+            flag: AtomicU64::new(0),
+            late: AtomicU64::new(0),
+            number: AtomicU64::new(77),
+        }
+    }
+
+    // Whether the flag came too late, and the number of the visit.
+    fn saw(&self) -> [u64; 2] {
+        [
+            self.late.load(Ordering::SeqCst),
+            self.number.load(Ordering::SeqCst),
+        ]
+    }
+}
+
 impl<R: Clock> Gate<R> for Until {
     fn visit(&self, rt: &R, _shard: u8, number: u64) {
         self.number.store(number, Ordering::SeqCst);
@@ -68,6 +86,26 @@ struct Turns {
 }
 
 impl Turns {
+    fn new() -> Turns {
+        Turns {
+            waiting: AtomicU64::new(0),
+            visits: AtomicU64::new(0),
+            early: AtomicU64::new(0),
+            first: AtomicU64::new(77),
+            second: AtomicU64::new(77),
+        }
+    }
+
+    // Whether a call came too early, how many visits there were, and the numbers of the first two.
+    fn saw(&self) -> [u64; 4] {
+        [
+            self.early.load(Ordering::SeqCst),
+            self.visits.load(Ordering::SeqCst),
+            self.first.load(Ordering::SeqCst),
+            self.second.load(Ordering::SeqCst),
+        ]
+    }
+
     // Waits for 100 turns, and sees whether a second visit came.
     fn wait<R: Clock>(&self, rt: &R) {
         for _ in 0..100u32 {
@@ -144,15 +182,10 @@ fn both_answered<B: Naming + Send + Sync, R: Threads + Wait + Abort + Clock + Sy
     let (server, mut passes) = Server::<B>::new(alloc, roster, 2, blanks)?;
     let one = passes.pop().unwrap();
     let two = passes.pop().unwrap();
-    let gate = Until {
-        flag: AtomicU64::new(0),
-        late: AtomicU64::new(0),
-        number: AtomicU64::new(77),
-    };
+    let gate = Until::new();
     let answered = held(rt, &server, one, two, &gate);
     assert_eq!(rt; answered, (0, 15));
-    assert_eq!(rt; gate.late.load(Ordering::SeqCst), 0);
-    assert_eq!(rt; gate.number.load(Ordering::SeqCst), 0);
+    assert_eq!(rt; gate.saw(), [0, 0]);
     Ok(())
 }
 
@@ -214,19 +247,10 @@ fn one_after_the_other<B: Naming + Send + Sync, R: Threads + Wait + Abort + Cloc
     let mut one = passes.pop().unwrap();
     let two = passes.pop().unwrap();
     assert_eq!(rt; one_call(rt, &server, &mut one, 0, &Open), 0);
-    let gate = Turns {
-        waiting: AtomicU64::new(0),
-        visits: AtomicU64::new(0),
-        early: AtomicU64::new(0),
-        first: AtomicU64::new(77),
-        second: AtomicU64::new(77),
-    };
+    let gate = Turns::new();
     let numbers = in_turn(rt, &server, one, two, &gate);
     assert_eq!(rt; numbers, (1, 2));
-    assert_eq!(rt; gate.early.load(Ordering::SeqCst), 0);
-    assert_eq!(rt; gate.visits.load(Ordering::SeqCst), 2);
-    assert_eq!(rt; gate.first.load(Ordering::SeqCst), 1);
-    assert_eq!(rt; gate.second.load(Ordering::SeqCst), 2);
+    assert_eq!(rt; gate.saw(), [0, 2, 1, 2]);
     Ok(())
 }
 

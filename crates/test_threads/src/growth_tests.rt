@@ -8,7 +8,7 @@ ghost use Rattle.std.specs.Arc.{arc_value};
 ghost use Rattle.ns_shard.specs.State.{no_entries};
 ghost use Rattle.ns_tally.specs.Tally.{AreNamed};
 
-use crate::served::shared_roster;
+use crate::served::{settled_by, shared_roster};
 use crate::traffic::{closing, join, join_reply, uplink};
 use ns_calls::{Call, Reply};
 use ns_roster::Roster;
@@ -123,13 +123,9 @@ fn calls_refused<B: Naming, R: Wait + Abort>(
     requires begun { B.begun ≡ no_entries B.roster }
 {
     let (server, mut passes) = Server::<B>::new(alloc, roster, 1, blanks)?;
-    let mut right = 0;
-    if let Some(pass) = passes.last_mut() {
-        right = run_refused(rt, alloc, &server, pass)?;
-    }
-    let Ok(settled) = server.settle(passes) else {
-        return Err(Fail::from("a pass is missing"));
-    };
+    let pass = passes.last_mut().ok_or("no pass")?;
+    let right = run_refused(rt, alloc, &server, pass)?;
+    let settled = settled_by(server, passes)?;
     assert_eq!(rt; (right, settled.total()), (6, 6));
     Ok(())
 }
@@ -245,25 +241,29 @@ fn closed_without<B: Naming, R: Wait + Abort>(
     requires roster { arc_value roster ≡ B.roster }
     requires begun { B.begun ≡ no_entries B.roster }
 {
-    let mut held: Vec<Vec<u8>> = Vec::with_capacity(alloc, BLOCKS)?;
     let (server, mut passes) = Server::<B>::new(alloc, roster, 1, blanks)?;
-    let mut counts = (0, 0, None);
-    if let Some(pass) = passes.last_mut() {
-        let opened = open_all(rt, &server, pass);
-        take_all(alloc, &mut held)?;
-        let ended = close_all(rt, &server, pass);
-        counts = (opened, ended, until_refused(rt, &server, pass));
-    }
-    held.clear();
-    let (opened, ended, Some(answered)) = counts else {
-        return Err(Fail::from("memory was not refused"));
-    };
+    let pass = passes.last_mut().ok_or("no pass")?;
+    let (opened, ended, answered) = all_closed(rt, alloc, &server, pass)?;
     assert_eq!(rt; (opened, ended), (12, 12));
-    let Ok(settled) = server.settle(passes) else {
-        return Err(Fail::from("a pass is missing"));
-    };
+    let answered = answered.ok_or("memory was not refused")?;
+    let settled = settled_by(server, passes)?;
     assert_eq!(rt; settled.total(), 26u128.wrapping_add(u128::from(answered)));
     Ok(())
+}
+
+// How many windows and tickets were opened, how many were closed and answered with all memory gone, and how often a closing was answered
+// until it was refused memory.
+fn all_closed<B: Naming, R: Wait>(
+    rt: &R,
+    alloc: Global,
+    server: &Server<B>,
+    pass: &mut Pass<B>,
+) -> Result<(u32, u32, Option<u32>), AllocError> {
+    let mut held: Vec<Vec<u8>> = Vec::with_capacity(alloc, BLOCKS)?;
+    let opened = open_all(rt, server, pass);
+    take_all(alloc, &mut held)?;
+    let ended = close_all(rt, server, pass);
+    Ok((opened, ended, until_refused(rt, server, pass)))
 }
 
 // Trims the device's shard, with one block of memory given back before each time but the first. How often it was refused memory, and how
@@ -286,6 +286,20 @@ fn trim_refusals<B: Naming, R: Wait>(
     None
 }
 
+// How many windows and tickets were opened, what came of trims with memory gone, and how many were closed and answered then.
+fn trimmed_at_last<B: Naming, R: Wait>(
+    rt: &R,
+    alloc: Global,
+    server: &Server<B>,
+    pass: &mut Pass<B>,
+) -> Result<(u32, Option<(u64, usize)>, u32), AllocError> {
+    let mut held: Vec<Vec<u8>> = Vec::with_capacity(alloc, BLOCKS)?;
+    let opened = open_all(rt, server, pass);
+    take_all(alloc, &mut held)?;
+    let trimmed = trim_refusals(rt, alloc, server, &mut held);
+    Ok((opened, trimmed, close_all(rt, server, pass)))
+}
+
 /// With eight windows and four tickets of one device open, a trim is refused memory (Z2, and never Z1); then it hands out the one entry
 /// that it would have handed out at first, and the windows and tickets are still open.
 #[test]
@@ -306,23 +320,13 @@ fn trim_refused<B: Naming, R: Wait + Abort>(
     requires roster { arc_value roster ≡ B.roster }
     requires begun { B.begun ≡ no_entries B.roster }
 {
-    let mut held: Vec<Vec<u8>> = Vec::with_capacity(alloc, BLOCKS)?;
     let (server, mut passes) = Server::<B>::new(alloc, roster, 1, blanks)?;
-    let mut counts = (0, None, 0);
-    if let Some(pass) = passes.last_mut() {
-        let opened = open_all(rt, &server, pass);
-        take_all(alloc, &mut held)?;
-        let trimmed = trim_refusals(rt, alloc, &server, &mut held);
-        counts = (opened, trimmed, close_all(rt, &server, pass));
-    }
-    held.clear();
-    let (opened, Some((refused, out)), ended) = counts else {
-        return Err(Fail::from("a trim was refused otherwise"));
-    };
-    assert_eq!(rt; (opened, refused > 0, out, ended), (12, true, 1, 12));
-    let Ok(settled) = server.settle(passes) else {
-        return Err(Fail::from("a pass is missing"));
-    };
+    let pass = passes.last_mut().ok_or("no pass")?;
+    let (opened, trimmed, ended) = trimmed_at_last(rt, alloc, &server, pass)?;
+    assert_eq!(rt; (opened, ended), (12, 12));
+    let (refused, out) = trimmed.ok_or("a trim was refused otherwise")?;
+    assert_eq!(rt; (refused > 0, out), (true, 1));
+    let settled = settled_by(server, passes)?;
     assert_eq!(rt;
         (settled.total(), settled.mark(13), settled.dropped(13)),
         (26, 14, 1)

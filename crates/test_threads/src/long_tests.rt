@@ -5,7 +5,7 @@ ghost use Rattle.std.specs.Arc.{arc_value};
 ghost use Rattle.ns_shard.specs.State.{no_entries};
 ghost use Rattle.ns_tally.specs.Tally.{AreNamed};
 
-use crate::served::shared_roster;
+use crate::served::{settled_by, shared_roster};
 use crate::traffic::{closing, join, join_reply, uplink};
 use ns_calls::{Answer, Call, Reply, shard_of_call};
 use ns_roster::Roster;
@@ -135,6 +135,24 @@ fn is_told(receipt: &Receipt, answer: &Answer) -> bool {
 }
 
 impl Both {
+    // Nothing was made yet.
+    fn new(alloc: Global, roster: &Arc<Roster>) -> Result<Both, AllocError> {
+        Ok(Both {
+            shards: shards(alloc, roster)?,
+            open: Vec::new(alloc),
+            dropped: [0; 16],
+            counts: Counts {
+                accepted: 0,
+                opened: 0,
+                copied: 0,
+                again: 0,
+                old: 0,
+                acknowledged: 0,
+                trims: 0,
+            },
+        })
+    }
+
     // Makes a call on both. Whether it is answered alike.
     fn call<B: Naming, R: Wait>(
         &mut self,
@@ -144,11 +162,16 @@ impl Both {
         call: Call,
     ) -> Result<bool, AllocError> {
         let receipt = server.call(rt, pass, call, &Open)?;
+        self.is_answered(&receipt, &call)
+    }
+
+    // Whether a call that the server answered by this receipt is answered alike by its shard.
+    fn is_answered(&mut self, receipt: &Receipt, call: &Call) -> Result<bool, AllocError> {
         self.counts.add(&receipt.entry.reply);
         if let Reply::Opened { window } | Reply::Again { window } = receipt.entry.reply {
             self.open.push(window)?;
         }
-        let place = shard_of_call(&call);
+        let place = shard_of_call(call);
         let Some(shard) = self.shards.get_mut(usize::from(place)) else {
             return Ok(false);
         };
@@ -156,8 +179,8 @@ impl Both {
             return Ok(false);
         }
         let number = shard.made();
-        let answer = shard.apply(call)?;
-        Ok(is_told(&receipt, &answer) && receipt.entry.number == number)
+        let answer = shard.apply(*call)?;
+        Ok(is_told(receipt, &answer) && receipt.entry.number == number)
     }
 
     // Trims a shard of the server. Whether the mark is how many entries were made, and 208 of each device are left at most.
@@ -244,31 +267,25 @@ fn long_run<B: Naming, R: Wait + Abort>(
     requires roster { arc_value roster ≡ B.roster }
     requires begun { B.begun ≡ no_entries B.roster }
 {
-    let mut both = Both {
-        shards: shards(alloc, &roster)?,
-        open: Vec::new(alloc),
-        dropped: [0; 16],
-        counts: Counts {
-            accepted: 0,
-            opened: 0,
-            copied: 0,
-            again: 0,
-            old: 0,
-            acknowledged: 0,
-            trims: 0,
-        },
-    };
-    let (server, mut passes) = Server::<B>::new(alloc, roster, 1, blanks)?;
-    let mut alike = false;
-    if let Some(pass) = passes.last_mut() {
-        alike = run_alike(rt, alloc, &server, pass, &mut both)?;
-    }
-    let Ok(settled) = server.settle(passes) else {
-        return Err(Fail::from("a pass is missing"));
-    };
-    assert!(rt; alike);
+    let mut both = Both::new(alloc, &roster)?;
+    let (server, passes) = Server::<B>::new(alloc, roster, 1, blanks)?;
+    let settled = settled_alike(rt, alloc, server, passes, &mut both)?;
     assert!(rt; both.are_left(&settled));
     assert!(rt; settled.total() == u128::from(CALLS));
     assert!(rt; both.counts.are_many());
     Ok(())
+}
+
+// Makes the calls, which are answered alike, and settles the server.
+fn settled_alike<B: Naming, R: Wait + Abort>(
+    rt: &R,
+    alloc: Global,
+    server: Server<B>,
+    mut passes: Vec<Pass<B>>,
+    both: &mut Both,
+) -> Result<Settled<B>, Fail> {
+    let pass = passes.last_mut().ok_or("no pass")?;
+    let alike = run_alike(rt, alloc, &server, pass, both)?;
+    assert!(rt; alike);
+    settled_by(server, passes)
 }

@@ -49,8 +49,13 @@ pub fn served<B: Naming + Send + Sync, R: Threads + Wait + Sync>(
 {
     let (server, passes) = Server::<B>::new(alloc, roster, workers, blanks)?;
     let (passes, receipts) = all_work(rt, alloc, &server, passes, work)?;
+    Ok((settled_by(server, passes)?, receipts))
+}
+
+/// The histories of a server to which all passes are given back.
+pub fn settled_by<B: Naming>(server: Server<B>, passes: Vec<Pass<B>>) -> Result<Settled<B>, Fail> {
     match server.settle(passes) {
-        Ok(settled) => Ok((settled, receipts)),
+        Ok(settled) => Ok(settled),
         Err(_) => Err(Fail::from("a pass is missing")),
     }
 }

@@ -5,11 +5,11 @@ ghost use Rattle.std.specs.Arc.{arc_value};
 ghost use Rattle.ns_shard.specs.State.{no_entries};
 ghost use Rattle.ns_tally.specs.Tally.{AreNamed};
 
-use crate::served::{Work, served, shared_roster};
+use crate::served::{Work, served, settled_by, shared_roster};
 use crate::traffic;
 use ns_calls::Reply;
 use ns_roster::Roster;
-use ns_server::{Naming, Open, Receipt, Server, Settled};
+use ns_server::{Naming, Open, Pass, Receipt, Server, SettleFault, Settled};
 use ns_tally::Blanks;
 use std::alloc::{AllocError, Global};
 use std::marker::Brand;
@@ -40,8 +40,9 @@ fn day<B: Naming + Send + Sync, R: Threads + Wait + Abort + Sync>(
     let (mut settled, mut receipts) = served::<B, R>(rt, alloc, roster, blanks, 4, Work::Hear)?;
     assert_eq!(rt; (settled.total(), receipts.len()), (600, 600));
     counted(rt, receipts.as_slice());
-    let checked = checked(rt, &mut settled, &mut receipts);
-    assert!(rt; checked.is_ok());
+    changed_is_found(rt, &settled, &mut receipts);
+    again_is_found(rt, &settled, &mut receipts)?;
+    drained_pass(rt, &mut settled, &mut receipts)?;
     Ok(())
 }
 
@@ -71,27 +72,56 @@ fn bare(receipt: &Receipt) -> Receipt {
     }
 }
 
-// All receipts pass; one whose reply is changed is found at its place, one put again at the end; then what is open is closed.
-fn checked<B: Naming, R: Abort>(
+// What a check of receipts finds.
+fn is_found<B: Naming, R: Abort>(
+    rt: &R,
+    settled: &Settled<B>,
+    receipts: &[Receipt],
+    want: Result<(), usize>,
+) {
+    assert_eq!(rt; settled.check(receipts), want);
+}
+
+// All receipts pass; one whose reply is changed is found at its place.
+fn changed_is_found<B: Naming, R: Abort>(
+    rt: &R,
+    settled: &Settled<B>,
+    receipts: &mut Vec<Receipt>,
+) {
+    assert_eq!(rt; receipts.len(), 600);
+    is_found(rt, settled, receipts.as_slice(), Ok(()));
+    let reply = receipts[250].entry.reply;
+    receipts[250].entry.reply = Reply::JoinBusy;
+    is_found(rt, settled, receipts.as_slice(), Err(250));
+    receipts[250].entry.reply = reply;
+}
+
+// A receipt put again is found at the end.
+fn again_is_found<B: Naming, R: Abort>(
+    rt: &R,
+    settled: &Settled<B>,
+    receipts: &mut Vec<Receipt>,
+) -> Result<(), AllocError> {
+    assert_eq!(rt; receipts.len(), 600);
+    let again = bare(&receipts[250]);
+    receipts.push(again)?;
+    is_found(rt, settled, receipts.as_slice(), Err(600));
+    let _ = receipts.pop();
+    Ok(())
+}
+
+// What is open is closed, and all receipts pass; one that has lost its downlink is found.
+fn drained_pass<B: Naming, R: Abort>(
     rt: &R,
     settled: &mut Settled<B>,
     receipts: &mut Vec<Receipt>,
 ) -> Result<(), AllocError> {
-    assert_eq!(rt; receipts.len(), 600);
-    assert_eq!(rt; settled.check(receipts.as_slice()), Ok(()));
-    let again = bare(&receipts[250]);
-    receipts[250].entry.reply = Reply::JoinBusy;
-    assert_eq!(rt; settled.check(receipts.as_slice()), Err(250));
-    receipts[250].entry.reply = again.entry.reply;
-    receipts.push(again)?;
-    assert_eq!(rt; settled.check(receipts.as_slice()), Err(600));
-    let _ = receipts.pop();
     drained(settled, receipts)?;
     assert_eq!(rt; receipts.len(), 700);
     assert_eq!(rt; settled.total(), 700);
-    assert_eq!(rt; settled.check(receipts.as_slice()), Ok(()));
+    is_found(rt, settled, receipts.as_slice(), Ok(()));
     receipts[699].downlink = None;
-    assert_eq!(rt; settled.check(receipts.as_slice()), Err(699));
+    is_found(rt, settled, receipts.as_slice(), Err(699));
     Ok(())
 }
 
@@ -130,17 +160,28 @@ fn held_back<B: Naming, R: Wait + Abort>(
 {
     let (server, mut passes) = Server::<B>::new(alloc, roster, 2, blanks)?;
     let mut one = passes.pop().unwrap();
-    let made = server
-        .call(rt, &mut one, traffic::join(0, 1), &Open)
-        .is_ok();
+    makes_one(rt, &server, &mut one);
+    match server.settle(passes) {
+        Ok(_) => Err(Fail::from("a pass was missing")),
+        Err(fault) => given_back(rt, fault, one),
+    }
+}
+
+// One call by a pass.
+fn makes_one<B: Naming, R: Wait + Abort>(rt: &R, server: &Server<B>, one: &mut Pass<B>) {
+    let made = server.call(rt, one, traffic::join(0, 1), &Open).is_ok();
     assert_eq!(rt; (made, one.made(0)), (true, 1));
-    let Err(mut fault) = server.settle(passes) else {
-        return Err(Fail::from("a pass was missing"));
-    };
-    let pushed = fault.passes.push(one).is_ok();
-    let Ok(settled) = fault.server.settle(fault.passes) else {
-        return Err(Fail::from("no pass is missing"));
-    };
+}
+
+// The pass that was missing is given back, and the server settled.
+fn given_back<B: Naming, R: Abort>(
+    rt: &R,
+    fault: SettleFault<B>,
+    one: Pass<B>,
+) -> Result<(), Fail> {
+    let SettleFault { server, mut passes } = fault;
+    let pushed = passes.push(one).is_ok();
+    let settled = settled_by(server, passes)?;
     assert_eq!(rt; (pushed, settled.total()), (true, 1));
     assert_eq!(rt;
         (settled.history(0).len(), settled.history(1).len()),
@@ -192,10 +233,9 @@ fn one_run<B: Naming + Send + Sync, R: Threads + Wait + Abort + Sync>(
         Work::Wander,
     )?;
     assert_eq!(rt; receipts.len(), workers * 40);
-    assert_eq!(rt; settled.check(receipts.as_slice()), Ok(()));
-    let drained = drained(&mut settled, &mut receipts);
-    assert!(rt; drained.is_ok());
+    is_found(rt, &settled, receipts.as_slice(), Ok(()));
+    drained(&mut settled, &mut receipts)?;
     assert_eq!(rt; settled.total(), receipts.len() as u128);
-    assert_eq!(rt; settled.check(receipts.as_slice()), Ok(()));
+    is_found(rt, &settled, receipts.as_slice(), Ok(()));
     Ok(())
 }

@@ -10,7 +10,8 @@ use ns_roster::Roster;
 use ns_server::{Gate, Naming, Open, Pass, Server};
 use ns_types::{BLOCKS, DevEui, Fuse, Ticket, WindowName, take_rest};
 use ns_workers::{
-    AskJob, CloseJob, ListedDatagrams, ListedJobs, Shared, run_closer, run_gateway, run_join,
+    AskJob, CloseJob, Ended, Job, Joined, ListedDatagrams, ListedJobs, Served, Shared, run_closer,
+    run_gateway, run_join,
 };
 use std::alloc::Global;
 use std::sync::Wait;
@@ -79,23 +80,32 @@ fn response(alloc: Global, text: &str, spaces: usize) -> Option<Vec<u8>> {
     Some(bytes)
 }
 
+// The datagram that gateway a1 makes of a frame, with another byte at this place.
+fn changed(alloc: Global, frame: &[u8], place: usize, byte: u8) -> Option<Vec<u8>> {
+    let mut datagram = heard(alloc, frame)?;
+    *datagram.get_mut(place)? = byte;
+    Some(datagram)
+}
+
+// Adds the datagrams of one line of a list.
+fn put_datagrams(alloc: Global, all: &mut Vec<Vec<u8>>, reads: Reads) -> Option<()> {
+    match reads {
+        Reads::Frame(frame, times) => {
+            for _ in 0..times {
+                all.push(heard(alloc, frame)?).ok()?;
+            }
+            Some(())
+        }
+        Reads::Changed(frame, place, byte) => all.push(changed(alloc, frame, place, byte)?).ok(),
+        Reads::Ones(length) => all.push(vec![in alloc; 1u8; length].ok()?).ok(),
+    }
+}
+
 // Datagrams.
 fn datagrams(alloc: Global, list: &[Reads]) -> Option<Vec<Vec<u8>>> {
     let mut all = Vec::new(alloc);
     for reads in list {
-        match *reads {
-            Reads::Frame(frame, times) => {
-                for _ in 0..times {
-                    all.push(heard(alloc, frame)?).ok()?;
-                }
-            }
-            Reads::Changed(frame, place, byte) => {
-                let mut datagram = heard(alloc, frame)?;
-                *datagram.get_mut(place)? = byte;
-                all.push(datagram).ok()?;
-            }
-            Reads::Ones(length) => all.push(vec![in alloc; 1u8; length].ok()?).ok()?,
-        }
+        put_datagrams(alloc, &mut all, *reads)?;
     }
     Some(all)
 }
@@ -143,24 +153,49 @@ fn serve<B: Naming, R: Wait>(
         room,
         jobs: Vec::new(alloc),
     };
+    serve_source(alloc, &shared, pass, log, &mut source, &mut jobs, faults)
+}
+
+// Runs a gateway worker over a source.
+fn serve_source<B: Naming, R: Wait>(
+    alloc: Global,
+    shared: &Shared<'_, B, R, Open, Around>,
+    pass: &mut Pass<B>,
+    log: &mut String,
+    source: &mut Scarce<ListedDatagrams>,
+    jobs: &mut Put,
+    faults: Faults,
+) -> Option<()> {
+    let around = shared.monitor;
     let mut down = Sent::new(alloc, !faults.downlinks)?;
     let mut sink = Fuse::new(alloc, Vec::new(alloc), 2000, None, faults.writes);
     let served = run_gateway(
-        &shared,
-        pass,
-        &mut source,
-        &around,
-        &mut jobs,
-        &mut down,
-        &mut sink,
-        3_000,
+        shared, pass, source, around, jobs, &mut down, &mut sink, 3_000,
     );
     source.give_back();
+    tell_served(log, served, jobs.jobs.as_slice())?;
+    tell_out(log, sink.written(), &down, around, 0)
+}
+
+// Tells how a gateway worker ended, and its jobs.
+fn tell_served(log: &mut String, served: Served, jobs: &[Job]) -> Option<()> {
     let fault = fault_number(served.fault);
     let numbers = [served.read, served.refused, served.dropped, fault];
     tell(log, "served", &numbers)?;
-    tell_jobs(log, jobs.jobs.as_slice())?;
-    tell_out(log, sink.written(), &down, &around, 0)
+    tell_jobs(log, jobs)
+}
+
+// Jobs to ask for tickets, and the join server's responses.
+fn asked(alloc: Global, asks: &[Asked]) -> Option<(Vec<AskJob>, Vec<Vec<u8>>)> {
+    let mut jobs = Vec::new(alloc);
+    let mut responses = Vec::new(alloc);
+    for &(frame, since, text, spaces) in asks {
+        let ticket = Ticket(*frame);
+        let due = since;
+        jobs.push(AskJob { ticket, since, due }).ok()?;
+        responses.push(response(alloc, text, spaces)?).ok()?;
+    }
+    Some((jobs, responses))
 }
 
 // Runs a join worker, at whose first turn all memory is taken but so many blocks where that is asked for. How many downlinks it sent.
@@ -176,14 +211,7 @@ fn answer<B: Naming, R: Wait>(
     faults: Faults,
     blocks: u32,
 ) -> Option<usize> {
-    let mut jobs = Vec::new(alloc);
-    let mut responses = Vec::new(alloc);
-    for &(frame, since, text, spaces) in asks {
-        let ticket = Ticket(*frame);
-        let due = since;
-        jobs.push(AskJob { ticket, since, due }).ok()?;
-        responses.push(response(alloc, text, spaces)?).ok()?;
-    }
+    let (jobs, responses) = asked(alloc, asks)?;
     let around = Around::new(alloc, time, 0, responses);
     let shared = Shared {
         output: Output::Lines,
@@ -194,19 +222,35 @@ fn answer<B: Naming, R: Wait>(
     };
     let jobs = ListedJobs::new(jobs, faults.source);
     let mut jobs = Scarce::new(alloc, jobs, faults.from, faults.to, blocks)?;
-    let mut down = Sent::new(alloc, !faults.downlinks)?;
+    join_source(alloc, &shared, pass, known, log, &mut jobs, faults)
+}
+
+// Runs a join worker over a source.
+fn join_source<B: Naming, R: Wait>(
+    alloc: Global,
+    shared: &Shared<'_, B, R, Open, Around>,
+    pass: &mut Pass<B>,
+    known: &Roster,
+    log: &mut String,
+    jobs: &mut Scarce<ListedJobs<AskJob>>,
+    faults: Faults,
+) -> Option<usize> {
+    let around = shared.monitor;
     let host = HostName::new("js.local")?;
+    let mut down = Sent::new(alloc, !faults.downlinks)?;
     let joined = run_join(
-        alloc, &shared, pass, &around, &around, &mut jobs, &mut down, known, host,
+        alloc, shared, pass, around, around, jobs, &mut down, known, host,
     );
     jobs.give_back();
-    tell(
-        log,
-        "joined",
-        &[joined.answered, fault_number(joined.fault)],
-    )?;
-    tell_out(log, &[], &down, &around, 0)?;
+    tell_joined(log, joined, &down, around)?;
     Some(down.sent.len())
+}
+
+// Tells how a join worker ended, and its downlinks.
+fn tell_joined(log: &mut String, joined: Joined, down: &Sent, around: &Around) -> Option<()> {
+    let fault = fault_number(joined.fault);
+    tell(log, "joined", &[joined.answered, fault])?;
+    tell_out(log, &[], down, around, 0)
 }
 
 /// Runs a closer. Its first three receipts are told by their calls. How many it has.
@@ -227,14 +271,19 @@ pub fn close<B: Naming, R: Wait, G: Gate<R>>(
         alloc, shared, pass, around, jobs, &mut down, &mut sink, limit,
     );
     jobs.give_back();
+    tell_ended(log, &ended)?;
+    tell_out(log, sink.written(), &down, around, 7)?;
+    Some(ended.receipts.len())
+}
+
+// Tells the first three receipts of a closer, and how it ended.
+fn tell_ended(log: &mut String, ended: &Ended) -> Option<()> {
     for receipt in ended.receipts.iter().take(3) {
         if let Call::Close { window } = &receipt.entry.call {
             tell_window(log, "close", window, 0)?;
         }
     }
-    tell(log, "ended", &[fault_number(ended.fault)])?;
-    tell_out(log, sink.written(), &down, around, 7)?;
-    Some(ended.receipts.len())
+    tell(log, "ended", &[fault_number(ended.fault)])
 }
 
 // Runs closers over one source.
@@ -282,27 +331,42 @@ fn until_accepted<B: Naming, R: Wait>(
     frame: &'static [u8; 23],
     text: &'static str,
 ) -> Option<()> {
-    let faults = Faults { from: 0, ..NONE };
     let mut held = Vec::with_capacity(alloc, BLOCKS).ok()?;
     take_most(alloc, &mut held)?;
-    let mut made = pass.made(13);
     for blocks in 0..200u32 {
-        log.clear();
-        let reads = [Reads::Frame(frame, 1)];
-        serve(rt, alloc, server, pass, log, 7, &reads, 1, NONE)?;
-        let asks = [(frame, 7, text, 0)];
-        let sent = answer(
-            rt, alloc, server, pass, known, log, 7, &asks, faults, blocks,
-        )?;
-        made = made.wrapping_add(2);
-        if pass.made(13) != made {
-            return None;
-        }
-        if sent == 1 {
+        if is_accepted(rt, alloc, server, pass, known, log, frame, text, blocks)? {
             return if blocks > 1 { Some(()) } else { None };
         }
     }
     None
+}
+
+// Has a ticket answered once, with so many blocks of memory. Whether it is accepted; None where the calls are not two.
+fn is_accepted<B: Naming, R: Wait>(
+    rt: &R,
+    alloc: Global,
+    server: &Server<B>,
+    pass: &mut Pass<B>,
+    known: &Roster,
+    log: &mut String,
+    frame: &'static [u8; 23],
+    text: &'static str,
+    blocks: u32,
+) -> Option<bool> {
+    let faults = Faults { from: 0, ..NONE };
+    let made = pass.made(13).wrapping_add(2);
+    log.clear();
+    let reads = [Reads::Frame(frame, 1)];
+    serve(rt, alloc, server, pass, log, 7, &reads, 1, NONE)?;
+    let asks = [(frame, 7, text, 0)];
+    let sent = answer(
+        rt, alloc, server, pass, known, log, 7, &asks, faults, blocks,
+    )?;
+    if pass.made(13) == made {
+        Some(sent == 1)
+    } else {
+        None
+    }
 }
 
 /// Runs workers in order.

@@ -8,7 +8,7 @@ ghost use Rattle.ns_tally.specs.Tally.{AreNamed};
 use crate::runs::{Run, run_all};
 use crate::told::tell_entries;
 use ns_roster::Roster;
-use ns_server::{Naming, Server};
+use ns_server::{Naming, Server, Settled};
 use ns_tally::Blanks;
 use std::alloc::Global;
 use std::marker::Brand;
@@ -46,12 +46,16 @@ fn told_on<B: Naming, R: Wait>(
     let Ok(settled) = server.settle(passes) else {
         return Err(Fail::from("a pass is missing"));
     };
-    let first = tell_entries(&mut log, settled.history(13));
-    let second = tell_entries(&mut log, settled.history(14));
-    if (ran, first, second) != (Some(()), Some(()), Some(())) {
+    if ran.is_none() || tell_replies(&mut log, &settled).is_none() {
         return Err(Fail::from("a run ended early"));
     }
     Ok(log)
+}
+
+// Tells the replies of both shards.
+fn tell_replies<B: Naming>(log: &mut String, settled: &Settled<B>) -> Option<()> {
+    tell_entries(log, settled.history(13))?;
+    tell_entries(log, settled.history(14))
 }
 
 /// What the runs tell on a new server.

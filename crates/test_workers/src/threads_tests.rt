@@ -61,24 +61,36 @@ fn both_close<B: Naming + Send + Sync, R: Threads + Wait + Abort + Clock + Sync>
     requires begun { B.begun ≡ no_entries B.roster }
 {
     let (server, mut passes) = Server::<B>::new(alloc, roster, 2, blanks)?;
-    let (Some(one), Some(two)) = (passes.pop(), passes.pop()) else {
-        return Err(Fail::from("two passes"));
-    };
+    let one = passes.pop().unwrap();
+    let two = passes.pop().unwrap();
     let gate = Until {
         flag: AtomicU64::new(0),
         late: AtomicU64::new(0),
     };
-    let (a, b) = thread::join(
+    let closed = close_both(rt, alloc, &server, one, two, &gate);
+    assert_eq!(rt; closed, (Some(1), Some(1)));
+    assert_eq!(rt; gate.late.load(Ordering::SeqCst), 0);
+    Ok(())
+}
+
+// A closer on shard 0 is held until the one on shard 13 has ended. How many receipts each has.
+fn close_both<B: Naming + Send + Sync, R: Threads + Wait + Clock + Sync>(
+    rt: &R,
+    alloc: Global,
+    server: &Server<B>,
+    one: Pass<B>,
+    two: Pass<B>,
+    gate: &Until,
+) -> (Option<usize>, Option<usize>) {
+    thread::join(
         rt,
-        || close_one(rt, alloc, &server, one, 16, &gate),
+        || close_one(rt, alloc, server, one, 16, gate),
         || {
-            let closed = close_one(rt, alloc, &server, two, 13, &Open);
+            let closed = close_one(rt, alloc, server, two, 13, &Open);
             gate.flag.store(1, Ordering::SeqCst);
             closed
         },
-    );
-    assert!(rt; a == Some(1) && b == Some(1) && gate.late.load(Ordering::SeqCst) == 0);
-    Ok(())
+    )
 }
 
 // Runs a closer over one job of this device. How many receipts it has.
