@@ -51,27 +51,15 @@ impl Receipt {
         }
     }
 
-    // Puts the receipt of a call that made the entry of this number, with this answer, in the place of this one.
+    // Makes this the receipt of a call that made the entry of this number, with this reply. What goes out with it is there.
     #[inline(always)]
-    fn put(&mut self, shard: u8, number: u64, call: &Call, answer: Answer)
-        ensures { self.new ≡ receipt_of shard number call.now answer }
+    fn put(&mut self, shard: u8, number: u64, call: &Call, reply: Reply)
+        ensures { self.new ≡ receipt_of shard number call.now (record { reply = reply; uplink = self.old.uplink; downlink = self.old.downlink }) }
     {
-        put_uplink(&mut self.uplink, answer.uplink);
-        self.downlink = answer.downlink;
-        self.entry.reply = answer.reply;
+        self.entry.reply = reply;
         self.entry.call = *call;
         self.entry.number = number;
         self.shard = shard;
-    }
-}
-
-// Puts an uplink in the place of another. The room for them is large: where neither is there, nothing is moved.
-#[inline(always)]
-fn put_uplink(place: &mut Option<Uplink>, uplink: Option<Uplink>)
-    ensures { place.new ≡ uplink }
-{
-    if place.is_some() || uplink.is_some() {
-        *place = uplink;
     }
 }
 
@@ -138,14 +126,15 @@ impl<B: Naming, const K: usize> Kept<B, K> {
         ensures answered { OnOk result (HasHistory B.roster K receipt.new) }
         ensures begun { OnOk result (AnswersFrom B.roster (B.begun K) K receipt.new) }
     {
-        let answer = match self.shard.apply(*call) {
-            Ok(answer) => answer,
+        let (uplink, downlink) = (&mut receipt.uplink, &mut receipt.downlink);
+        let reply = match self.shard.apply_into(call, uplink, downlink) {
+            Ok(reply) => reply,
             Err(refused) => return Err(refused),
         };
         let made = self.shard.made();
         self.book.add_one(&mut pass.shares);
         pass.counts[K] += 1;
-        receipt.put(self.shard.index(), made - 1, call, answer);
+        receipt.put(self.shard.index(), made - 1, call, reply);
         Ok(())
     }
 

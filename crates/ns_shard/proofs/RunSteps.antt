@@ -159,11 +159,15 @@ shard_small (call.JoinReply ticket outcome) = omega arith
 shard_small (call.Close window) = omega arith
 
 -- one step of a run
-pub step-after : (net : Network) (steps : List Step) (i : ℕ) (x : Step) (shards next : List State) → i < length steps → x ≡ get_or steps i x → AreAfter net (take i steps) shards
-    → next ≡ states_after shards (refused_as (call_of x.act)) → AreAfter net (take (i + 1) steps) next
-step-after net steps i x shards next within is after changed =
+pub next-after : (net : Network) (before : List Step) (x : Step) (shards next : List State) → AreAfter net before shards
+    → next ≡ states_after shards (refused_as (call_of x.act)) → AreAfter net (before ++ x ∷ []) next
+next-after net before x shards next after changed = rw changed (after-step net before x shards (call_of x.act) after shard_small refl)
+
+pub step-more : (net : Network) (steps : List Step) (i : ℕ) (x : Step) (next : List State) → i < length steps → x ≡ get_or steps i x
+    → AreAfter net (take i steps ++ x ∷ []) next → AreAfter net (take (i + 1) steps) next
+step-more net steps i x next within is after =
     let longer : take (i + 1) steps ≡ take i steps ++ x ∷ [] = take_more steps i x within ∙ ap (λ y. take i steps ++ y ∷ []) (sym is) in
-    rw (longer, changed) (after-step net (take i steps) x shards (call_of x.act) after shard_small refl)
+    subst (λ ss. AreAfter net ss next) (sym longer) after
 
 pub step-taken : (net : Network) (before : List Step) (x : Step) (shards : List State) (t : Taken) → AreAfter net before shards
     → taken_in shards (refused_as (call_of x.act)) ≡ Some t → t ≡ step_taken net before x

@@ -1,11 +1,11 @@
 //! What came of a call, and the answer that is made of it.
 
-ghost use Rattle.std.specs.Prelude.{◌≡◌};
+ghost use Rattle.std.specs.Prelude.{◌≡◌, None};
 ghost use Rattle.ns_shard.specs.declared.event.Event.TheVariants as event;
-ghost use Rattle.ns_shard.specs.Private.Sending.{ended_reply, reply_of, answer_of};
+ghost use Rattle.ns_shard.specs.Private.Sending.{ended_reply, reply_of, uplink_of, downlink_of, answer_of};
 
 use crate::sending::{ack_from, uplink_of};
-use ns_calls::{Answer, Downlink, Reply};
+use ns_calls::{Answer, Downlink, Reply, Uplink};
 use ns_roster::Roster;
 use ns_windows::BoxedWindow;
 
@@ -38,27 +38,45 @@ impl Ended {
         }
     }
 
-    /// The answer. It stays a function of its own, so that a call that ends nothing makes no room for a window.
+    // The reply, with what goes out put where something went out before. It stays a function of its own, so that a call that ends nothing
+    // makes no room for a window.
     #[inline(never)]
-    fn answer(self, roster: &Roster) -> Answer
-        ensures { result ≡ answer_of roster.now (event.Ended self) }
+    fn hand_out(
+        self,
+        roster: &Roster,
+        uplink: &mut Option<Uplink>,
+        downlink: &mut Option<Downlink>,
+    ) -> Reply
+        ensures reply { result ≡ ended_reply self }
+        ensures uplink { uplink.new ≡ uplink_of (event.Ended self) }
+        ensures downlink { downlink.new ≡ downlink_of roster.now (event.Ended self) }
     {
         match self {
-            Ended::Answered { reply, downlink } => Answer {
+            Ended::Answered {
                 reply,
-                uplink: None,
-                downlink,
-            },
+                downlink: accept,
+            } => {
+                clear(uplink);
+                *downlink = accept;
+                reply
+            }
             Ended::Closed { window, ack } => {
                 let name = window.as_ref().name;
-                let downlink = ack_from(roster, window.as_ref(), ack);
-                Answer {
-                    reply: Reply::Closed { window: name, ack },
-                    uplink: uplink_of(window),
-                    downlink,
-                }
+                *downlink = ack_from(roster, window.as_ref(), ack);
+                *uplink = uplink_of(window);
+                Reply::Closed { window: name, ack }
             }
         }
+    }
+}
+
+// Leaves no uplink where one may be. The room for one is large: where none is, nothing is moved.
+#[inline(always)]
+fn clear(uplink: &mut Option<Uplink>)
+    ensures { uplink.new ≡ None }
+{
+    if uplink.is_some() {
+        *uplink = None;
     }
 }
 
@@ -74,17 +92,37 @@ pub enum Event {
 }
 
 impl Event {
+    /// The reply, with what goes out put where something went out before, so that a call that hands nothing out moves no room for it.
+    pub fn hand_out(
+        self,
+        roster: &Roster,
+        uplink: &mut Option<Uplink>,
+        downlink: &mut Option<Downlink>,
+    ) -> Reply
+        ensures reply { result ≡ reply_of self }
+        ensures uplink { uplink.new ≡ uplink_of self }
+        ensures downlink { downlink.new ≡ downlink_of roster.now self }
+    {
+        match self {
+            Event::Quiet(reply) | Event::Opened(reply) => {
+                clear(uplink);
+                *downlink = None;
+                reply
+            }
+            Event::Ended(ended) => ended.hand_out(roster, uplink, downlink),
+        }
+    }
+
     /// The answer.
     pub fn answer(self, roster: &Roster) -> Answer
         ensures { result ≡ answer_of roster.now self }
     {
-        match self {
-            Event::Quiet(reply) | Event::Opened(reply) => Answer {
-                reply,
-                uplink: None,
-                downlink: None,
-            },
-            Event::Ended(ended) => ended.answer(roster),
+        let (mut uplink, mut downlink) = (None, None);
+        let reply = self.hand_out(roster, &mut uplink, &mut downlink);
+        Answer {
+            reply,
+            uplink,
+            downlink,
         }
     }
 }

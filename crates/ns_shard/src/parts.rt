@@ -3,7 +3,7 @@
 ghost use Rattle.std.specs.Prelude.{◌≡◌, ◌<◌, false, is_some, IfSome, IfNone, IfOk, OnOk, OnErr};
 ghost use Rattle.std.specs.Arc.{arc_value};
 ghost use Rattle.ns_types.specs.Identity.{shard_count};
-ghost use Rattle.ns_calls.specs.declared.call.Call.TheVariants.{Uplink, Join, JoinReply, Close};
+ghost use Rattle.ns_calls.specs.declared.call.Call.TheVariants as call;
 ghost use Rattle.ns_calls.specs.Shards.{shard_of_call};
 ghost use Rattle.ns_shard.specs.State.{no_entries, after_call, answer_in, finds_open};
 ghost use Rattle.ns_shard.specs.Private.Parts.{AreParts, AreTaken, state_of};
@@ -14,7 +14,7 @@ use crate::joining::{answer, join};
 use crate::packed::PackedAnswer;
 use crate::room::push;
 use crate::uplink::uplink;
-use ns_calls::{Answer, Call, DataFrame, Outcome, Reply};
+use ns_calls::{Answer, Call, DataFrame, Downlink, Outcome, Reply, Uplink};
 use ns_devices::Devices;
 use ns_journal::Journal;
 use ns_roster::Roster;
@@ -62,9 +62,9 @@ impl Parts {
     // Takes an uplink: the devices and windows change, and there is room for its entry, and for the one that ends what it opens. Where a
     // growth is refused, nothing has changed.
     fn uplink(&mut self, frame: &DataFrame, heard: &Heard) -> Result<Event, AllocError>
-        requires own { shard_of_call (Uplink frame.now heard.now) ≡ self.old.index }
+        requires own { shard_of_call (call.Uplink frame.now heard.now) ≡ self.old.index }
         requires agree { AreParts self.old }
-        ensures taken { IfOk result (AreTaken self.new (Uplink frame.now heard.now)) }
+        ensures taken { IfOk result (AreTaken self.new (call.Uplink frame.now heard.now)) }
         ensures state { state_of self.new ≡ state_of self.old }
         ensures err { OnErr result (AreParts self.new) }
     {
@@ -74,9 +74,9 @@ impl Parts {
 
     // The same of a Join-Request.
     fn join(&mut self, ticket: &Ticket, heard: &Heard) -> Result<Event, AllocError>
-        requires own { shard_of_call (Join ticket.now heard.now) ≡ self.old.index }
+        requires own { shard_of_call (call.Join ticket.now heard.now) ≡ self.old.index }
         requires agree { AreParts self.old }
-        ensures taken { IfOk result (AreTaken self.new (Join ticket.now heard.now)) }
+        ensures taken { IfOk result (AreTaken self.new (call.Join ticket.now heard.now)) }
         ensures state { state_of self.new ≡ state_of self.old }
         ensures err { OnErr result (AreParts self.new) }
     {
@@ -87,8 +87,8 @@ impl Parts {
     /// Takes a join server's answer, where its ticket is open: room for its entry is reserved. Else nothing has changed.
     pub fn answer(&mut self, ticket: &Ticket, outcome: &Outcome) -> Option<Event>
         requires agree { AreParts self.old }
-        ensures open { is_some result ≡ finds_open (state_of self.old) (JoinReply ticket.now outcome.now) }
-        ensures taken { IfSome result (AreTaken self.new (JoinReply ticket.now outcome.now)) }
+        ensures open { is_some result ≡ finds_open (state_of self.old) (call.JoinReply ticket.now outcome.now) }
+        ensures taken { IfSome result (AreTaken self.new (call.JoinReply ticket.now outcome.now)) }
         ensures state { state_of self.new ≡ state_of self.old }
         ensures none { IfNone result (AreParts self.new) }
     {
@@ -98,8 +98,8 @@ impl Parts {
     /// The same of a closing, where its window is open.
     pub fn close(&mut self, window: &WindowName) -> Option<Event>
         requires agree { AreParts self.old }
-        ensures open { is_some result ≡ finds_open (state_of self.old) (Close window.now) }
-        ensures taken { IfSome result (AreTaken self.new (Close window.now)) }
+        ensures open { is_some result ≡ finds_open (state_of self.old) (call.Close window.now) }
+        ensures taken { IfSome result (AreTaken self.new (call.Close window.now)) }
         ensures state { state_of self.new ≡ state_of self.old }
         ensures none { IfNone result (AreParts self.new) }
     {
@@ -155,19 +155,27 @@ impl Parts {
         event.answer(&self.roster)
     }
 
-    /// Answers a call. Where a growth is refused, nothing has changed.
-    pub fn apply(&mut self, call: &Call) -> Result<Answer, AllocError>
+    /// Answers a call: gives the reply, and puts what goes out where something went out before. Where a growth is refused, nothing has
+    /// changed.
+    pub fn apply(
+        &mut self,
+        call: &Call,
+        uplink: &mut Option<Uplink>,
+        downlink: &mut Option<Downlink>,
+    ) -> Result<Reply, AllocError>
         requires own { shard_of_call call.now ≡ self.old.index }
         requires agree { AreParts self.old }
-        ensures answer { IfOk result (λ a. a ≡ answer_in (state_of self.old) call.now) }
+        ensures reply { IfOk result (λ r. r ≡ (answer_in (state_of self.old) call.now).reply) }
+        ensures uplink { OnOk result (uplink.new ≡ (answer_in (state_of self.old) call.now).uplink) }
+        ensures downlink { OnOk result (downlink.new ≡ (answer_in (state_of self.old) call.now).downlink) }
         ensures state { OnOk result (state_of self.new ≡ after_call (state_of self.old) call.now) }
         ensures open { OnErr result (finds_open (state_of self.old) call.now ≡ false) }
-        ensures err { OnErr result (state_of self.new ≡ state_of self.old) }
+        ensures err { OnErr result ((state_of self.new ≡ state_of self.old) × (uplink.new ≡ uplink.old) × (downlink.new ≡ downlink.old)) }
         ensures agree { AreParts self.new }
     {
         let event = self.take(call)?;
         self.push(call, &event);
-        Ok(event.answer(&self.roster))
+        Ok(event.hand_out(&self.roster, uplink, downlink))
     }
 
     /// Answers a call, with an answer that is kept. Where a growth is refused, the call may have been taken.

@@ -1,15 +1,17 @@
 //! A run of steps over the sixteen shards.
 
 ghost use Rattle.ns_types.specs.declared.identity.DevEui.{DevEui};
-ghost use Rattle.std.specs.Prelude.{◌≡◌, ◌<◌, [], length, map, slice_get, Some, IsOk, IfOk, OnOk, OnErr, IfSome, option_map};
+ghost use Rattle.std.specs.Prelude.{◌≡◌, ◌<◌, List, [], ◌∷◌, ◌++◌, length, map, slice_get, Some, IsOk, IfOk, OnOk, OnErr, IfSome, option_map};
 ghost use Rattle.std.specs.Arc.{arc_value};
 ghost use Rattle.std.specs.List.{AllByRecursion};
 ghost use Rattle.ns_types.specs.Identity.{shard_count};
+ghost use Rattle.ns_roster.specs.Network.{Network};
 ghost use Rattle.ns_calls.specs.Legal.{IsHistory};
 ghost use Rattle.ns_calls.specs.Laws.{NoncesRise, CountersRise, WindowsOpenOnce};
 ghost use Rattle.ns_calls.specs.Headline.{AcksRise, NoncesAreWithin};
 ghost use Rattle.ns_calls.specs.Steps.{datagram_call};
-ghost use Rattle.ns_shard.specs.Steps.{all_taken, AreAfter};
+ghost use Rattle.ns_shard.specs.declared.step.Step.{Step};
+ghost use Rattle.ns_shard.specs.Steps.{step_taken, all_taken, AreAfter, AreReached};
 ghost use Rattle.ns_shard.specs.Taken.{call_of, calls_of, OfEach, HandsOut, HasCopies, AreHandedOutOnce};
 ghost use Rattle.ns_shard.specs.NextRun.{greatest_among, greatest_after};
 ghost use Rattle.ns_shard.specs.Private.Run.{taken_in, states_after, refused_as, AreInPlace};
@@ -70,20 +72,62 @@ impl Run {
     pub fn greatest(&self, eui: DevEui) -> Option<DevNonce>
         ensures { option_map (λ n. n.0) result ≡ greatest_among self.now.shards eui }
     {
-        match self.shards.as_slice().get(shard_of(eui) as usize) {
-            Some(shard) => shard.greatest(eui),
-            None => None,
-        }
+        self.shards.greatest(eui)
     }
 }
 
 impl Shards {
+    /// The sixteen shards before any step. `NoMemory` (`AllocError`) where a growth was refused.
+    pub fn new(alloc: Global, roster: Arc<Roster>) -> Result<Shards, AllocError>
+        ensures shards { IfOk result (AreAfter (arc_value roster) []) }
+        ensures reached { IfOk result AreReached }
+    {
+        Ok(Shards {
+            list: new_shards(alloc, roster)?,
+        })
+    }
+
+    /// Runs one step more. `NoMemory` (`AllocError`) where a growth was refused: the step may have been taken then, so the run is over.
+    pub fn step(&mut self, alloc: Global, step: &Step) -> Result<Taken, AllocError>
+        requires { AreReached self.old }
+        ensures taken { IfOk result (λ t. (net : Network) (before : List Step) → AreAfter net before self.old → t ≡ step_taken net before step.now) }
+        ensures shards { OnOk result ((net : Network) (before : List Step) → AreAfter net before self.old → AreAfter net (before ++ step.now ∷ []) self.new) }
+        ensures reached { OnOk result (AreReached self.new) }
+    {
+        run_step(alloc, &mut self.list, step)
+    }
+
     /// The shards, each at its number.
     pub fn as_slice(&self) -> &[Shard]
         ensures { result.now ≡ self.now }
     {
         self.list.as_slice()
     }
+
+    /// The greatest DevNonce of a device, as `Run::greatest` says.
+    pub fn greatest(&self, eui: DevEui) -> Option<DevNonce>
+        ensures { option_map (λ n. n.0) result ≡ greatest_among self.now eui }
+    {
+        match self.as_slice().get(shard_of(eui) as usize) {
+            Some(shard) => shard.greatest(eui),
+            None => None,
+        }
+    }
+
+    /// Ends a run: whatever its steps were, what `run` promises holds of these shards, and of what came of the steps. It is a law.
+    pub fn end(&self)
+        ensures histories { (net : Network) (steps : List Step) → AreAfter net steps self.now → OfEach self.now (λ shard h. IsHistory net shard h) }
+        ensures calls { (net : Network) (steps : List Step) → AreAfter net steps self.now → OfEach self.now (λ shard h. map (λ e. e.call) h ≡ calls_of shard steps) }
+        ensures nonces_rise { (net : Network) (steps : List Step) → AreAfter net steps self.now → OfEach self.now (λ shard h. NoncesRise h) }
+        ensures counters_rise { (net : Network) (steps : List Step) → AreAfter net steps self.now → OfEach self.now (λ shard h. CountersRise h) }
+        ensures acks_rise { (net : Network) (steps : List Step) → AreAfter net steps self.now → OfEach self.now (λ shard h. AcksRise h) }
+        ensures windows_open_once { (net : Network) (steps : List Step) → AreAfter net steps self.now → OfEach self.now (λ shard h. WindowsOpenOnce h) }
+        ensures nonces_within { (net : Network) (steps : List Step) → AreAfter net steps self.now → OfEach self.now (λ shard h. NoncesAreWithin net h) }
+        ensures greatest { (net : Network) (steps : List Step) → AreAfter net steps self.now → (eui : DevEui) → greatest_among self.now eui ≡ greatest_after net steps eui }
+        ensures uplinks { (net : Network) (steps : List Step) → AllByRecursion HandsOut (all_taken net [] steps) }
+        ensures copies { (net : Network) (steps : List Step) → AreAfter net steps self.now → AllByRecursion (HasCopies self.now) (all_taken net [] steps) }
+        ensures handed_out_once { (net : Network) (steps : List Step) → AreHandedOutOnce (all_taken net [] steps) }
+    {}
 
     /// Runs steps on one thread, in order. `NoMemory` (`AllocError`) where a growth was refused, and then there is no run.
     ///
@@ -117,16 +161,13 @@ impl Shards {
         ensures copies { IfOk result (λ run. AllByRecursion (HasCopies run.shards) run.taken.items) }
         ensures handed_out_once { IfOk result (λ run. AreHandedOutOnce run.taken.items) }
     {
-        let mut list = new_shards(alloc, roster)?;
+        let mut shards = Shards::new(alloc, roster)?;
         let mut taken = Vec::new(alloc);
         'steps: for step in steps {
-            let one = run_step(alloc, &mut list, step)?;
+            let one = shards.step(alloc, step)?;
             taken.push(one)?;
         }
-        Ok(Run {
-            shards: Shards { list },
-            taken,
-        })
+        Ok(Run { shards, taken })
     }
 }
 

@@ -15,7 +15,7 @@ use crate::open::open_tickets;
 use crate::packed::PackedAnswer;
 use crate::parts::Parts;
 use crate::trim::{Dropped, TrimFault};
-use ns_calls::{Answer, Call, Entry, Outcome};
+use ns_calls::{Answer, Call, Downlink, Entry, Outcome, Reply, Uplink};
 use ns_roster::Roster;
 use ns_types::{DevEui, DevNonce, Ticket, WindowName, shard_of};
 use std::alloc::{AllocError, Global};
@@ -61,7 +61,33 @@ impl Shard {
         ensures open { finds_open self.old call ≡ true → IsOk result }
         ensures state { IsState self.new }
     {
-        self.parts.apply(&call)
+        let (mut uplink, mut downlink) = (None, None);
+        let reply = self.apply_into(&call, &mut uplink, &mut downlink)?;
+        Ok(Answer {
+            reply,
+            uplink,
+            downlink,
+        })
+    }
+
+    /// The same: gives the reply, and puts what goes out where something went out before, so that a call that hands nothing out moves no
+    /// room for it.
+    pub fn apply_into(
+        &mut self,
+        call: &Call,
+        uplink: &mut Option<Uplink>,
+        downlink: &mut Option<Downlink>,
+    ) -> Result<Reply, AllocError>
+        requires { shard_of_call call.now ≡ self.old.index }
+        ensures entry { OnOk result (self.new ≡ after_call self.old call.now) }
+        ensures reply { IfOk result (λ r. r ≡ (answer_in self.old call.now).reply) }
+        ensures uplink { OnOk result (uplink.new ≡ (answer_in self.old call.now).uplink) }
+        ensures downlink { OnOk result (downlink.new ≡ (answer_in self.old call.now).downlink) }
+        ensures err { OnErr result ((self.new ≡ self.old) × (uplink.new ≡ uplink.old) × (downlink.new ≡ downlink.old)) }
+        ensures open { finds_open self.old call.now ≡ true → IsOk result }
+        ensures state { IsState self.new }
+    {
+        self.parts.apply(call, uplink, downlink)
     }
 
     /// Closes a window, where it is open: this is what `apply` does, and takes no memory. Where it is not open, nothing changes, and there

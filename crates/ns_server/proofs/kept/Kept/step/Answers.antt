@@ -11,5 +11,5 @@ returns-clause-begun g c = answers_from _ _ _ c.self.inside.shard c.args.call.no
 
 pub invariant_of-self-2 : goal.invariant_of-self-2
 invariant_of-self-2 g c =
-    kept_call _ _ _ c.self.inside.shard c.apply.new.self c.args.call.now c.self.inside.book c.add_one.new.self c.requires c.in-Ok.ensures.entry c.in-Ok.ensures.state
+    kept_call _ _ _ c.self.inside.shard c.apply_into.new.self c.args.call.now c.self.inside.book c.add_one.new.self c.requires c.in-Ok.ensures.entry c.in-Ok.ensures.state
     c.add_one.ensures.shard c.add_one.ensures.total c.self.invariant

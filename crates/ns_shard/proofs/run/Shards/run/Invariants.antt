@@ -8,6 +8,6 @@ abbrev pub invariant-steps : goal.invariant-steps
 invariant-steps l =
     let net = arc_value l.fn.roster in
     record {
-      after : AreAfter net (take l.step-index l.steps) l.list.items;
+      after : AreAfter net (take l.step-index l.steps) l.shards;
       told : l.taken.items ++ all_taken net (take l.step-index l.steps) (drop l.step-index l.steps) ≡ all_taken net [] l.steps;
     }

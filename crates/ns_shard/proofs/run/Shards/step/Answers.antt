@@ -1,0 +1,16 @@
+use Rattle.std.proofs.Common.{◌++◌, ◌∷◌, [], sym, subst}
+use Rattle.std.proofs.lemmas.Result.{IfOk-weaker, on_ok_weaker}
+use Rattle.ns_shard.specs.Steps.{AreAfter}
+use Rattle.ns_shard.proofs.RunSteps.{next-after, step-taken}
+use Rattle.ns_shard.proofs.run.Shards.step.Goals as goal
+
+pub returns-clause-taken : goal.returns-clause-taken
+returns-clause-taken c = IfOk-weaker c.run_step.result _ _ (λ t told net before after. step-taken net before c.args.step.now _ t (subst (AreAfter net before) (sym c.self.view_is) after) told) c.run_step.ensures.taken
+
+pub returns-clause-shards : goal.returns-clause-shards
+returns-clause-shards c = on_ok_weaker c.run_step.result (λ changed net before after. next-after net before c.args.step.now _ _ (subst (AreAfter net before) (sym c.self.view_is) after) changed) c.run_step.ensures.shards
+
+pub returns-clause-reached : goal.returns-clause-reached
+returns-clause-reached c =
+    let (net, before, after) = c.requires in
+    on_ok_weaker c.run_step.result (λ changed. (net, before ++ c.args.step.now ∷ [], next-after net before c.args.step.now _ _ (subst (AreAfter net before) (sym c.self.view_is) after) changed)) c.run_step.ensures.shards
