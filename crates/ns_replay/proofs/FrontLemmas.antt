@@ -1,5 +1,5 @@
--- What is written, as lines come.
-use Rattle.std.proofs.Common.{◌≡◌, ℕ, List, ◌++◌, Option, sym, ap, ◌∙◌, append_assoc}
+-- Fronts of what is written.
+use Rattle.std.proofs.Common.{◌≡◌, ℕ, List, ◌++◌, Option, None, Some, IfSome, sym, ap, ◌∙◌, subst, append_assoc}
 use Rattle.std.specs.Io.KnownBytes.{Appends}
 use Rattle.std.proofs.KnownBytes.{Appends-trans}
 use Rattle.ns_types.specs.Streams.{AppendsFront}
@@ -15,14 +15,8 @@ front_behind a b c written bytes text rest whole appended split is front =
       Appends-trans a b c written first appended some,
     )
 
--- a text of which a part is written, and to which the lines of the next step are put
-pub next_lines : (written part text left lines new rest more whole : List ℕ) → written ++ (text ++ rest) ≡ whole → text ≡ part ++ left → new ≡ left ++ lines → rest ≡ lines ++ more
-    → (written ++ part) ++ (new ++ more) ≡ whole
-next_lines written part text left lines new rest more whole split parted put next =
-    append_assoc written part (new ++ more)
-    ∙ ap (λ l. written ++ (part ++ (l ++ more))) put
-    ∙ ap (λ l. written ++ (part ++ l)) (append_assoc left lines more)
-    ∙ ap (λ l. written ++ l) (sym (append_assoc part left (lines ++ more)))
-    ∙ ap (λ l. written ++ (l ++ (lines ++ more))) (sym parted)
-    ∙ ap (λ l. written ++ (text ++ l)) (sym next)
-    ∙ split
+-- a front of a text that is the one to be written, where that is known
+pub front-of : (o : Option (List ℕ)) (P : List ℕ → List ℕ) (a b : Option (List ℕ)) (text : List ℕ) → IfSome o (λ input. text ≡ P input) → AppendsFront a b text
+    → IfSome o (λ input. AppendsFront a b (P input))
+front-of None P a b text same front = tt
+front-of (Some input) P a b text same front = subst (AppendsFront a b) same front

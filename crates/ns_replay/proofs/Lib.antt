@@ -6,6 +6,5 @@ pub mod SpelledLines
 pub mod FoundLemmas
 pub mod FrontLemmas
 pub mod Digits
-pub mod Woven
 pub mod FirstByte
 pub mod ClosingLemmas

@@ -2,4 +2,3 @@
 pub mod Lines
 pub mod HexDigits
 pub mod Found
-pub mod Written

@@ -1,12 +1,12 @@
 //! The closing roster of a run, from which the next run begins.
 
-ghost use Rattle.std.specs.Prelude.{◌≡◌, map, IfOk, string_bytes};
+ghost use Rattle.std.specs.Prelude.{◌≡◌, ◌++◌, [], map, IfOk, OnOk, if◌then◌else◌};
 ghost use Rattle.ns_roster.specs.Closing.{network_text, nonce_by, with_greatest};
-ghost use Rattle.ns_replay.specs.Output.{ended};
 ghost use Rattle.ns_shard.specs.NextRun.{greatest_among};
+ghost use Rattle.ns_replay.specs.Output.{ended};
 
 use ns_roster::{Device, Roster};
-use ns_shard::Run;
+use ns_shard::Shards;
 use ns_types::DevNonce;
 use std::alloc::{AllocError, Global};
 
@@ -14,23 +14,46 @@ use std::alloc::{AllocError, Global};
 fn nonces_of(
     alloc: Global,
     devices: &[Device],
-    run: &Run,
+    shards: &Shards,
 ) -> Result<Vec<Option<DevNonce>>, AllocError>
-    ensures { IfOk result (λ ns. ns.items ≡ map (nonce_by (greatest_among run.now.shards)) devices.now) }
+    ensures { IfOk result (λ ns. ns.items ≡ map (nonce_by (greatest_among shards.now)) devices.now) }
 {
     let mut nonces = Vec::with_capacity(alloc, devices.len())?;
     for device in devices {
-        nonces.push(run.greatest(device.eui))?;
+        nonces.push(shards.greatest(device.eui))?;
     }
     Ok(nonces)
 }
 
-/// The text of the roster with its devices' greatest nonces after a run, and a line feed.
-pub fn closing_line(alloc: Global, roster: &Roster, run: &Run) -> Result<String, AllocError>
-    ensures { IfOk result (λ s. string_bytes s ≡ ended (network_text (with_greatest roster.now (greatest_among run.now.shards)))) }
+// Puts the text of the roster with its devices' greatest nonces after a run, and a line feed, at the end of a text.
+fn put_roster(
+    alloc: Global,
+    text: &mut Vec<u8>,
+    roster: &Roster,
+    shards: &Shards,
+) -> Result<(), AllocError>
+    ensures { OnOk result (text.new.items ≡ text.old.items ++ ended (network_text (with_greatest roster.now (greatest_among shards.now)))) }
 {
-    let nonces = nonces_of(alloc, roster.devices(), run)?;
-    let mut line = roster.closing(alloc, nonces.as_slice())?;
-    line.push_str("\n")?;
-    Ok(line)
+    let nonces = nonces_of(alloc, roster.devices(), shards)?;
+    let line = roster.closing(alloc, nonces.as_slice())?;
+    text.extend_from_slice(line.as_str().as_bytes())?;
+    text.push(b'\n')?;
+    Ok(())
+}
+
+/// Puts that line, where it is asked for.
+pub fn put_closing(
+    alloc: Global,
+    text: &mut Vec<u8>,
+    closing: bool,
+    roster: &Roster,
+    shards: &Shards,
+) -> Result<(), AllocError>
+    ensures { OnOk result (text.new.items ≡ text.old.items ++ (if closing then ended (network_text (with_greatest roster.now (greatest_among shards.now))) else [])) }
+{
+    if closing {
+        put_roster(alloc, text, roster, shards)
+    } else {
+        Ok(())
+    }
 }

@@ -1,23 +1,22 @@
 //! A run of recorded steps, from a source of step lines to a sink of answer lines.
 
-ghost use Rattle.std.specs.Prelude.{◌≡◌, ◌⊎◌, [], false, true, string_bytes, OnOk, OnErr, IfErr, IfOk, IfSome, ◌↔◌};
+ghost use Rattle.std.specs.Prelude.{◌≡◌, ◌⊎◌, false, true, OnOk, OnErr, IfErr, IfOk, IfSome, ◌↔◌};
 ghost use Rattle.ns_types.specs.declared.transfer.ReadFault.TheVariants.{Io};
 ghost use Rattle.std.specs.Arc.{arc_value};
 ghost use Rattle.std.specs.Io.KnownBytes.{Appends};
 ghost use Rattle.ns_types.specs.Streams.{AppendsFront};
-ghost use Rattle.ns_shard.specs.Steps.{all_taken};
-ghost use Rattle.ns_replay.specs.Output.{output, closing_line};
-ghost use Rattle.ns_replay.specs.Private.Written.{text_in};
+ghost use Rattle.ns_replay.specs.Output.{output};
 
-use crate::closing::closing_line;
-use crate::step_lines::{StepLines, read_steps};
-use crate::taken::write_lines;
+use crate::closing::put_closing;
+use crate::reading::{Answers, read_answers};
 use ns_events::Output;
 use ns_roster::Roster;
-use ns_shard::{Run, Shards, Step, Taken};
 use ns_types::{Failed, ReadFault, Sink, Source, write_all};
-use std::alloc::{AllocError, Global};
+use std::alloc::Global;
 use std::sync::Arc;
+
+// How many bytes are written at once.
+const WRITE_ROOM: usize = 65_536;
 
 /// Why a run ended early.
 #[derive(Clone, Copy, Debug, PartialEq, Eq)]
@@ -28,86 +27,46 @@ pub enum ReplayFault {
     Io,
 }
 
-// What is written of a run: what came of its steps, and its closing line, which is empty where it is not asked for.
-#[derive(Drop)]
-struct Ran {
-    taken: Vec<Taken>,
-    closing: String,
-}
-
-// What is written of the run of steps. Neither they nor the shards are needed any more when it is written down.
-fn run_of(
-    alloc: Global,
-    roster: Arc<Roster>,
-    closing: bool,
-    steps: Vec<Step>,
-) -> Result<Ran, AllocError>
-    ensures taken { IfOk result (λ r. r.taken.items ≡ all_taken (arc_value roster) [] steps.items) }
-    ensures closing { IfOk result (λ r. string_bytes r.closing ≡ closing_line closing (arc_value roster) steps.items) }
-{
-    let run = Shards::run(alloc, roster.clone()?, steps.as_slice())?;
-    let closing = if closing {
-        closing_line(alloc, &roster, &run)?
-    } else {
-        String::new(alloc)
-    };
-    let Run { shards: _, taken } = run;
-    Ok(Ran { taken, closing })
-}
-
-// What is known of step lines when their steps are made.
-#[derive(Drop)]
-struct Answers {
-    // How uplinks are written.
-    uplinks: Output,
-    // For each line, whether it is a step line.
-    are_steps: Vec<bool>,
-    // What came of each step.
-    taken: Vec<Taken>,
-    // The closing roster with a line feed, or empty.
-    closing: String,
-}
-
-// What comes of the lines of a source.
-#[tactic(auto, using(crate::proofs::Woven::all_lines_woven))]
+// What is written of the lines of a source. The shards are not needed any more when it is made.
 fn answers_of<R: Source>(
     alloc: Global,
     roster: Arc<Roster>,
     uplinks: Output,
     closing: bool,
     reader: &mut R,
-) -> Result<Answers, ReadFault>
+) -> Result<Vec<u8>, ReadFault>
     requires { R.Stream.has_failed reader.old ≡ false }
-    ensures lines { IfOk result (λ a. IfSome (R.left reader.old)
-        (λ input. text_in a ≡ output uplinks closing (arc_value roster) input)) }
+    ensures lines { IfOk result (λ text. IfSome (R.left reader.old)
+        (λ input. text.items ≡ output uplinks closing (arc_value roster) input)) }
     ensures sound { OnOk result (R.Stream.has_failed reader.new ≡ false) }
     ensures io { IfErr result (λ e. (e ≡ Io) ↔ (R.Stream.has_failed reader.new ≡ true)) }
 {
-    let StepLines { steps, are_steps } = read_steps(alloc, reader)?;
-    let Ran { taken, closing } = run_of(alloc, roster, closing, steps)?;
-    Ok(Answers {
-        uplinks,
-        are_steps,
-        taken,
-        closing,
-    })
+    let Answers {
+        shards,
+        mut text,
+        uplinks: _,
+        line: _,
+    } = read_answers(alloc, roster.clone()?, uplinks, reader)?;
+    shards.end();
+    put_closing(alloc, &mut text, closing, &roster, &shards)?;
+    Ok(text)
 }
 
-// Writes the lines of the answers, and then the closing line.
-fn write_answers<W: Sink>(writer: &mut W, answers: &Answers) -> Result<(), Failed>
+// Writes a text piece by piece.
+fn write_text<W: Sink>(writer: &mut W, text: &[u8]) -> Result<(), Failed>
     requires { W.Stream.has_failed writer.old ≡ false }
-    ensures ok { OnOk result (Appends (W.taken writer.old) (W.taken writer.new) (text_in answers.now)) }
+    ensures ok { OnOk result (Appends (W.taken writer.old) (W.taken writer.new) text.now) }
     ensures sound { OnOk result (W.Stream.has_failed writer.new ≡ false) }
-    ensures front { AppendsFront (W.taken writer.old) (W.taken writer.new) (text_in answers.now) }
+    ensures front { AppendsFront (W.taken writer.old) (W.taken writer.new) text.now }
     ensures failed { OnErr result (W.Stream.has_failed writer.new ≡ true) }
 {
-    write_lines(
-        writer,
-        answers.uplinks,
-        answers.are_steps.as_slice(),
-        answers.taken.as_slice(),
-    )?;
-    write_all(writer, answers.closing.as_str().as_bytes())
+    let mut rest = text;
+    'pieces: while !rest.is_empty() {
+        let (piece, others) = rest.split_at(rest.len().min(WRITE_ROOM));
+        write_all(writer, piece)?;
+        rest = others;
+    }
+    Ok(())
 }
 
 /// Reads step lines to the end, and then writes the lines of their answers.
@@ -138,12 +97,12 @@ pub fn replay<R: Source, W: Sink>(
     ensures memory { result ≡ Err ReplayFault.NoMemory → writer.new ≡ writer.old }
     ensures unread { R.Stream.has_failed reader.new ≡ true → writer.new ≡ writer.old }
 {
-    let answers = match answers_of(alloc, roster, uplinks, closing, reader) {
-        Ok(answered) => answered,
+    let text = match answers_of(alloc, roster, uplinks, closing, reader) {
+        Ok(text) => text,
         Err(ReadFault::NoMemory) => return Err(ReplayFault::NoMemory),
         Err(ReadFault::Io) => return Err(ReplayFault::Io),
     };
-    match write_answers(writer, &answers) {
+    match write_text(writer, text.as_slice()) {
         Ok(()) => Ok(()),
         Err(_) => Err(ReplayFault::Io),
     }

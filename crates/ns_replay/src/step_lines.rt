@@ -1,24 +1,18 @@
-//! Step lines: the steps that the lines of a source ask for.
+//! Step lines: the step that a line asks for.
 
-ghost use Rattle.std.specs.Prelude.{◌≡◌, ◌<◌, ◌≤◌, ◌∷◌, ◌++◌, [], ℕ, List, false, true, slice_index_or, vec_len, length, option_map, IfOk, IfErr, OnOk, IfSome, position, ◌==◌, ◌↔◌};
-ghost use Rattle.ns_types.specs.declared.transfer.ReadFault.TheVariants.{Io};
-ghost use Rattle.ns_replay.specs.Private.Lines.{steps_in, are_steps};
+ghost use Rattle.std.specs.Prelude.{◌≡◌, ◌<◌, ◌==◌, length, option_map, IfOk, IfSome, position};
 ghost use Rattle.ns_replay.specs.StepLines.{without_return, split_by, split_words, number, eui, ticket, datagram_step, answer_step, lost_step, later_round, counter, window, close_step, act, step};
-ghost use Rattle.ns_replay.specs.Private.Found.{FoundIn, StepsOf, Longer};
 
 use crate::hex_text::datagram;
 use hex::FromHex;
 use memchr::memchr;
-use ns_shard::{Act, OwnedBytes, Step};
-use ns_types::{DevEui, ReadFault, Source, Ticket, WindowName};
+use ns_shard::{Act, OwnedBytes};
+use ns_types::{DevEui, Ticket, WindowName};
 use std::alloc::{AllocError, Global};
 
-// How many bytes are read at once, into memory that is taken before anything is read.
-const READ_ROOM: usize = 65_536;
-
-// Where a byte first stands.
+/// Where a byte first stands.
 #[inline(always)]
-fn place_of(byte: u8, text: &[u8]) -> Option<usize>
+pub fn place_of(byte: u8, text: &[u8]) -> Option<usize>
     ensures value { result ≡ position (λ b. b == byte) text.now }
     ensures within { IfSome result (λ i. i < length text.now) }
 {
@@ -205,123 +199,4 @@ pub fn step(alloc: Global, line: &[u8]) -> Result<Option<Act>, AllocError>
         Some((word, text)) => act(alloc, word, text),
         None => Ok(None),
     }
-}
-
-/// The steps of a text, and which of its lines are step lines.
-#[derive(Drop)]
-pub struct StepLines {
-    /// The steps of the step lines, in order.
-    pub steps: Vec<Step>,
-    /// For each line, whether it is a step line.
-    pub are_steps: Vec<bool>,
-}
-
-// Adds what a line asks for.
-#[inline(always)]
-fn add(found: &mut StepLines, act: Option<Act>) -> Result<(), AllocError>
-    ensures steps { OnOk result (found.new.steps.items ≡ found.old.steps.items ++ steps_in (act ∷ [])) }
-    ensures are_steps { OnOk result (found.new.are_steps.items ≡ found.old.are_steps.items ++ are_steps (act ∷ [])) }
-{
-    found.are_steps.push(act.is_some())?;
-    if let Some(act) = act {
-        found.steps.push(Step { worker: 0, act })?;
-    }
-    Ok(())
-}
-
-// Adds a line, of which `line` has what stands before its end, and empties that. A line that stands in `end` whole is not copied.
-fn add_line(
-    alloc: Global,
-    found: &mut StepLines,
-    line: &mut Vec<u8>,
-    end: &[u8],
-) -> Result<(), AllocError>
-    ensures steps { OnOk result (found.new.steps.items ≡ found.old.steps.items ++ steps_in (step (line.old.items ++ end.now) ∷ [])) }
-    ensures are_steps { OnOk result (found.new.are_steps.items ≡ found.old.are_steps.items ++ are_steps (step (line.old.items ++ end.now) ∷ [])) }
-    ensures line { OnOk result (line.new.items ≡ []) }
-{
-    if !line.is_empty() {
-        line.extend_from_slice(end)?;
-        add(found, step(alloc, line.as_slice())?)?;
-        line.clear();
-        return Ok(());
-    }
-    add(found, step(alloc, end)?)
-}
-
-// Adds the lines that end in a block of a text. `line` has what stands in the text behind its last line feed, so each line is
-// looked at once, however the blocks fall.
-fn add_block(
-    alloc: Global,
-    found: &mut StepLines,
-    line: &mut Vec<u8>,
-    block: &[u8],
-) -> Result<(), AllocError>
-    ensures found { OnOk result ((text : List ℕ) → FoundIn found.old line.old.items text → FoundIn found.new line.new.items (text ++ block.now)) }
-    ensures longer { OnOk result (Longer found.old line.old.items found.new line.new.items (length block.now)) }
-{
-    let mut rest = block;
-    'lines: while let Some(end) = place_of(b'\n', rest) {
-        add_line(alloc, found, line, &rest[..end])?;
-        rest = &rest[end + 1..];
-    }
-    line.extend_from_slice(rest)?;
-    Ok(())
-}
-
-// Adds what stands behind the last line feed, which is a line where it isn't empty.
-fn add_last(alloc: Global, found: &mut StepLines, line: &[u8]) -> Result<(), AllocError>
-    ensures { OnOk result ((text : List ℕ) → FoundIn found.old line.now text → StepsOf found.new text) }
-{
-    if line.is_empty() {
-        return Ok(());
-    }
-    add(found, step(alloc, line)?)?;
-    Ok(())
-}
-
-// Memory of n bytes.
-fn zeros(alloc: Global, n: usize) -> Result<Vec<u8>, AllocError>
-    ensures { IfOk result (λ bytes. vec_len bytes ≡ n) }
-{
-    vec![in alloc; 0u8; n]
-}
-
-// The steps of all the lines that a source gives, read to `block`.
-fn read_lines<S: Source>(
-    alloc: Global,
-    source: &mut S,
-    block: &mut [u8],
-) -> Result<StepLines, ReadFault>
-    requires sound { S.Stream.has_failed source.old ≡ false }
-    requires room { 0 < length block.old }
-    ensures steps { IfOk result (λ found. IfSome (S.left source.old) (StepsOf found)) }
-    ensures sound { OnOk result (S.Stream.has_failed source.new ≡ false) }
-    ensures io { IfErr result (λ e. (e ≡ Io) ↔ (S.Stream.has_failed source.new ≡ true)) }
-{
-    let mut found = StepLines {
-        steps: Vec::new(alloc),
-        are_steps: Vec::new(alloc),
-    };
-    let mut line = Vec::new(alloc);
-    'reading: loop {
-        let n = source.read(block)?;
-        if n == 0 {
-            add_last(alloc, &mut found, line.as_slice())?;
-            return Ok(found);
-        }
-        add_block(alloc, &mut found, &mut line, &block[..n])?;
-    }
-}
-
-/// The steps of all the lines that a source gives, in order, and which of them are step lines. Of the text itself one block and
-/// one line are in memory at a time. The block is the first memory that a run takes.
-pub fn read_steps<S: Source>(alloc: Global, source: &mut S) -> Result<StepLines, ReadFault>
-    requires { S.Stream.has_failed source.old ≡ false }
-    ensures steps { IfOk result (λ found. IfSome (S.left source.old) (StepsOf found)) }
-    ensures sound { OnOk result (S.Stream.has_failed source.new ≡ false) }
-    ensures io { IfErr result (λ e. (e ≡ Io) ↔ (S.Stream.has_failed source.new ≡ true)) }
-{
-    let mut block = zeros(alloc, READ_ROOM)?;
-    read_lines(alloc, source, block.as_mut_slice())
 }

@@ -1,23 +1,25 @@
--- What is found of a text so far, block by block.
-use Rattle.std.specs.Prelude.{◌≡◌, ℕ, ◌+◌, ◌<◌, false, List, ◌++◌, length, Option, ◌==◌, ◌⊎◌}
+-- What came of a text so far, block by block.
+use Rattle.std.specs.Prelude.{◌≡◌, ℕ, ◌+◌, ◌<◌, false, List, [], ◌++◌, length, flat_map, Option, ◌==◌, ◌⊎◌}
 use Rattle.std.specs.List.{All}
+use Rattle.ns_roster.specs.Network.{Network}
+use Rattle.ns_events.specs.declared.output.Output.{Output}
 use Rattle.ns_shard.specs.declared.step.Act.{Act}
-use Rattle.ns_replay.specs.declared.step_lines.StepLines.{StepLines}
+use Rattle.ns_shard.specs.Steps.{AreAfter}
+use Rattle.ns_replay.specs.declared.reading.Answers.{Answers}
+use Rattle.ns_replay.specs.Output.{all_lines, text_of}
 use Rattle.ns_replay.specs.StepLines.{steps}
-use Rattle.ns_replay.specs.Private.Lines.{steps_in, are_steps}
+use Rattle.ns_replay.specs.Private.Lines.{steps_in}
 
--- what is found is the steps of these lines, and which of them are step lines
-abbrev pub Has : StepLines → List (Option Act) → Type 0
-Has found lines = (found.steps.items ≡ steps_in lines) × (found.are_steps.items ≡ are_steps lines)
+-- the shards are those after the steps of these lines, and the text is what is written of the lines
+pub record Has (net : Network) (uplinks : Output) (answers : Answers) (lines : List (Option Act)) : Type 0 where
+  pub are_for : answers.uplinks ≡ uplinks
+  pub after : AreAfter net (steps_in lines) answers.shards
+  pub told : answers.text.items ≡ flat_map (text_of uplinks) (all_lines net [] lines)
 
--- what is found is that of a text
-abbrev pub StepsOf : StepLines → List ℕ → Type 0
-StepsOf found text = Has found (steps text)
+-- what came is that of a text but for what stands behind its last line feed, which is `line`; whatever follows
+abbrev pub FoundIn : Network → Output → Answers → List ℕ → List ℕ → Type 0
+FoundIn net uplinks answers line text = All (λ b. (b == 10) ≡ false) line × ((lines : List (Option Act)) × Has net uplinks answers lines × ((more : List ℕ) → steps (text ++ more) ≡ lines ++ steps (line ++ more)))
 
--- what is found is that of a text but for what stands behind its last line feed, which is `line`; whatever follows
-abbrev pub FoundIn : StepLines → List ℕ → List ℕ → Type 0
-FoundIn found line text = All (λ b. (b == 10) ≡ false) line × ((lines : List (Option Act)) × Has found lines × ((more : List ℕ) → steps (text ++ more) ≡ lines ++ steps (line ++ more)))
-
--- n bytes came: there is one line more, or the line that has not ended is longer by all of them
-abbrev pub Longer : StepLines → List ℕ → StepLines → List ℕ → ℕ → Type 0
-Longer old line new longer n = (length old.are_steps.items < length new.are_steps.items) ⊎ ((length new.are_steps.items ≡ length old.are_steps.items) × (length longer ≡ length line + n))
+-- n bytes came: the lines of what came are more, or the line that has not ended is longer by all of them
+abbrev pub Longer : Answers → List ℕ → Answers → List ℕ → ℕ → Type 0
+Longer old line new longer n = (length old.text.items < length new.text.items) ⊎ ((length new.text.items ≡ length old.text.items) × (length longer ≡ length line + n))
