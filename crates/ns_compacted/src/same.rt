@@ -97,7 +97,7 @@ fn is_same(a: &Entry, b: &Entry) -> bool
     is_same_call(&a.call, &b.call) && is_same_reply(&a.reply, &b.reply)
 }
 
-/// Whether these entries, which trims kept, are of the same calls with the same replies, in order. Numbers play no part.
+/// True only where these entries, which trims kept, are of the same calls with the same replies, in order. Numbers play no part.
 pub fn tell_the_same(xs: &[Entry], ys: &[Entry]) -> bool
     ensures { result ≡ true → told xs.now ≡ told ys.now }
 {

@@ -11,15 +11,15 @@ use ns_types::{Heard, Key, Ticket, WindowName};
 fn header_of(heard: &Heard, n: u8) -> [u8; 28]
     ensures { result ≡ up_header heard.now n }
 {
-    let [g0, g1, g2, g3, g4, g5, g6, g7] = heard.gateway.0.to_be_bytes();
-    let [m0, m1, m2, m3, m4, m5, m6, m7] = heard.moment.to_be_bytes();
-    let [f0, f1, f2, f3] = heard.freq.to_be_bytes();
-    let [r0, r1] = heard.rssi.cast_unsigned().to_be_bytes();
-    let [s0, s1] = heard.snr.cast_unsigned().to_be_bytes();
-    [
-        1, 1, g0, g1, g2, g3, g4, g5, g6, g7, m0, m1, m2, m3, m4, m5, m6, m7, f0, f1, f2, f3,
-        heard.dr, r0, r1, s0, s1, n,
-    ]
+    let mut header = [1; 28];
+    header[2..10].copy_from_slice(&heard.gateway.0.to_be_bytes());
+    header[10..18].copy_from_slice(&heard.moment.to_be_bytes());
+    header[18..22].copy_from_slice(&heard.freq.to_be_bytes());
+    header[22] = heard.dr;
+    header[23..25].copy_from_slice(&heard.rssi.cast_unsigned().to_be_bytes());
+    header[25..27].copy_from_slice(&heard.snr.cast_unsigned().to_be_bytes());
+    header[27] = n;
+    header
 }
 
 // `heard HEX`
