@@ -29,7 +29,7 @@ IsEnd (Ran (Ok done)) status = status ≡ 0
 IsEnd (Ran (Err fault)) status = status ≡ 1
 IsEnd (Refused bad) status = IsStatusOf bad status
 
--- a run is of what the words ask for, and a refusal is of words that are refused, and told
+-- where something was run, the words ask for something that can be done; a refusal is of words that are refused, and told
 abbrev pub IsRun : List Text → End → Type 0
 IsRun words (Ran outcome) = (asked : Asked) × IsAsked words asked × IsDoable asked
 IsRun words (Refused bad) = IsTold bad × IsRefusal words bad

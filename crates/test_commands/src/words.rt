@@ -16,6 +16,7 @@ fn are_usual(options: &ServeOptions<'_>) -> bool {
         && options.listen.is_none()
         && options.forwarders.is_none()
         && options.power == 14
+        && options.status.is_none()
         && options.workers == 4
         && options.join_workers == 1
         && options.window_ms == 200
@@ -185,6 +186,8 @@ fn each_option_is_its_field(rt: HostRuntime) -> Result<(), Fail> {
         "127.0.0.4:1712",
         "--power",
         "9",
+        "--status",
+        "127.0.0.5:1713",
         "--workers",
         "3",
         "--join-workers",
@@ -217,6 +220,10 @@ fn each_option_is_its_field(rt: HostRuntime) -> Result<(), Fail> {
         Some(SocketAddr::from(([127, 0, 0, 4], 1712)))
     );
     assert_eq!(rt; options.power, 9);
+    assert_eq!(rt;
+        options.status,
+        Some(SocketAddr::from(([127, 0, 0, 5], 1713)))
+    );
     assert_eq!(rt; (options.workers, options.join_workers), (3, 5));
     assert_eq!(rt; options.window_ms, 77);
     assert_eq!(rt; options.stop_after, Some(11));
