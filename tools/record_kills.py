@@ -221,7 +221,19 @@ class Trial:
             self.waiting[node] = uplink
         self.hear(uplink.frame.bytes, uplink)
 
+    def listen(self, seconds):
+        """Takes what comes down, and tells whether something did."""
+        ready = select.select(list(self.by_socket), [], [], seconds)[0]
+        for sock in ready:
+            try:
+                self.receive(Down(sock.recv(600)))
+            except OSError:
+                pass
+        return ready
+
     def step(self, is_sending):
+        while self.listen(0):
+            pass            # a device hears what left before a kill, and asks again only then
         now = time.monotonic()
         self.look()
         for node, at in list(self.joining.items()):
@@ -242,11 +254,7 @@ class Trial:
                 self.ask(node, now)
             else:
                 self.send(node, now)
-        for sock in select.select(list(self.by_socket), [], [], 0.004)[0]:
-            try:
-                self.receive(Down(sock.recv(600)))
-            except OSError:
-                pass
+        self.listen(0.004)
 
     def run(self, seconds, is_sending=True):
         end = time.monotonic() + seconds
