@@ -225,8 +225,7 @@ fn each_option_is_its_field(rt: HostRuntime) -> Result<(), Fail> {
         Some(SocketAddr::from(([127, 0, 0, 5], 1713)))
     );
     assert_eq!(rt; (options.workers, options.join_workers), (3, 5));
-    assert_eq!(rt; options.window_ms, 77);
-    assert_eq!(rt; options.stop_after, Some(11));
+    assert_eq!(rt; (options.window_ms, options.stop_after), (77, Some(11)));
     assert!(rt; options.stop_at_end);
     assert_eq!(rt; options.trim, Some(13));
     assert!(rt; options.output == Output::Json && options.events && options.closing);
