@@ -14,8 +14,10 @@ no device notices.
                         itself with status 1 and a line `record:` in its log. Root alone may mount it
     --machine           a life is ended with its machine: the record goes on from what its disk has at that moment, an ext4 file system in a
                         file. With --sync, and root alone may
-    --compact           between two lives the record is compacted, and half of the time the compaction is ended by SIGKILL, or with --machine
-                        with its machine. With --full one that finds the disk full has to leave all lines as they are
+    --compact           between two lives the record is compacted by the program's command, which half of the time is ended by SIGKILL, or
+                        with --machine with its machine; with --full, where it finds the disk full, it has to leave all lines as they are.
+                        Or, without --full, 4 MiB of lines are put behind the record, on which nothing rests, so that the next life
+                        compacts it while it serves; half of these lives are ended while they do
     --folder DIR        where the record is left (default: a folder that is removed)
     WORD..              further words of `serve`, as --sync
 
@@ -48,6 +50,7 @@ PROGRAM = os.path.join(os.path.dirname(HERE), 'crates', 'lorawan_ns', 'out', 'lo
 DELAY = 1_000_000       # microseconds from an uplink's end to RX1
 AGAIN = 2.4             # seconds after which a confirmed uplink is sent again: before, the server takes it for a late copy
 PATIENCE = 1.5          # seconds after which a device asks to join again
+GROWN = 4 << 20         # bytes of steps that a server compacts while it runs
 UNWRITTEN = 0.4         # seconds before a kill of which a datagram may not be in the record: lines wait 100 ms, a window 50
 QUIET = 30              # seconds that the last life has for what is not acknowledged yet
 WITHOUT_EFFECT = ('crowded', 'old', 'nosession', 'busy', 'joincrowded', 'nonceold', 'nodevice', 'joinbusy', 'noticket', 'nowindow',
@@ -71,24 +74,26 @@ class Trial:
         self.disk = (Small(self.record, options.full) if options.full else Crashing(self.record) if options.machine
                      else Folder(self.record))
         with open(self.roster, 'w', encoding='utf-8') as file:
-            json.dump(roster(options.devices, 0, 1), file)
+            json.dump(roster(options.devices + 1, 0, 1), file)
         with socket.socket(socket.AF_INET, socket.SOCK_DGRAM) as sock:
             sock.bind(('127.0.0.1', 0))
             self.where = sock.getsockname()
         self.joins = Joins(('127.0.0.1', 0), {eui.to_bytes(8, 'big'): app_key(options.seed, eui) for eui in range(options.devices)})
         self.nodes = [Node(options.seed, eui) for eui in range(options.devices)]
+        self.silent_node = Node(options.seed, options.devices)
         self.gateways = [Gateway(options.seed << 16 | number, self.where) for number in range(options.gateways)]
         self.by_socket = {sock: gateway for gateway in self.gateways for sock in gateway.sockets}
         self.numbers, self.joining, self.waiting = collections.defaultdict(set), {}, {}
         self.moments, self.sent, self.silent = {}, [], []
         self.next_at, self.life, self.child, self.told = time.monotonic(), 0, None, []
         self.is_heard, self.silent_from, self.wants_joins = False, 0, 0
-        self.compactions, self.seconds = collections.Counter(), 0.02
+        self.compactions, self.seconds, self.within, self.is_grown = collections.Counter(), 0.02, 0.2, False
 
     # ------------------------------------------------------------ lives
 
     def begin(self):
         self.life += 1
+        self.earlier = self.fewer()
         self.out = os.path.join(self.record, '..', 'out-%d' % self.life)
         words = [self.options.program, 'serve', self.roster, '--join', '%s:%d' % self.joins.where, '--listen', '%s:%d' % self.where,
                  '--window', '50', '--workers', '4', '--join-workers', '4', '--record', self.record, *self.options.words]
@@ -109,6 +114,8 @@ class Trial:
         if self.is_heard:
             self.is_heard, self.silent_from = False, now - UNWRITTEN
         self.child = None
+        if self.options.compact:
+            self.count_compactions()
         with open(self.out, encoding='utf-8') as file:
             self.told += [line for line in file.read().split('\n')[:-1] if line.startswith('up ')]
 
@@ -119,6 +126,8 @@ class Trial:
 
     def live(self):
         """A life that is ended at any moment, or by a full disk."""
+        if self.is_grown and self.pick.random() < 0.5:
+            return self.live_to_compaction()
         if not self.options.full:
             return self.run(self.pick.uniform(0.05, self.options.longest))
         end = time.monotonic() + QUIET
@@ -126,6 +135,56 @@ class Trial:
             self.step(True)
         if self.child.poll() is None:
             self.fault('a life that no full disk ended')
+
+    def live_to_compaction(self):
+        """A life that is ended at any moment of its compaction, or behind it."""
+        end = time.monotonic() + QUIET
+        while not self.is_compacting() and time.monotonic() < end:
+            self.step(True)
+        begun = time.monotonic()
+        if self.pick.random() < 0.6:
+            return self.run(self.pick.uniform(0, self.within))
+        while self.is_compacting() and time.monotonic() < end:
+            self.step(True)
+        self.within = time.monotonic() - begun
+        self.run(self.pick.uniform(0, 0.5))
+
+    def grow(self):
+        """Puts lines behind the steps on which nothing rests: joins of a device that takes no part, which failed."""
+        heard = 'heard %s\n' % Copy(self.gateways[0], 0, 0, -900).datagram(CHANNELS[0], 0, self.silent_node.join_request()).hex()
+        ticket = self.replay([heard.encode()])[0].split()[1]
+        pair = (heard + 'answer %s %s\n' % (ticket, 'x' * 100)).encode()
+        with open(self.path('steps'), 'r+b') as file:
+            length = file.seek(file.read().rfind(b'\n') + 1)
+            file.truncate()
+            if length < GROWN:
+                file.write(pair * (GROWN // len(pair) + 1))
+            file.flush()
+            os.fsync(file.fileno())
+        self.is_grown = True
+
+    def path(self, name):
+        return os.path.join(self.record, name)
+
+    def fewer(self):
+        """When the file of fewer steps was written, if there is one."""
+        try:
+            return os.stat(self.path('steps.new')).st_mtime_ns
+        except FileNotFoundError:
+            return None
+
+    def is_compacting(self):
+        """Whether the life compacts the record, or was ended while it did."""
+        return self.fewer() not in (None, self.earlier)
+
+    def count_compactions(self):
+        """What the life that was ended tells of its compactions."""
+        with open(self.out + '.log', encoding='utf-8') as file:
+            text = file.read()
+        if ': not compacted: ' in text:
+            self.fault('a life that could not compact its record')
+        self.compactions['serving'] += text.count(' record: compacted ')
+        self.compactions['ended'] += self.is_compacting()
 
     def crash(self):
         self.disk.again()
@@ -147,6 +206,14 @@ class Trial:
             found = re.match(rb'base ([0-9a-f]{16}) ([0-9a-f]{16})\n', file.readline())
         return (int(found[1], 16), int(found[2], 16), found.end()) if found else (0, 0, 0)
 
+    def shorten(self):
+        """Has the record compacted, by the command or by the next life."""
+        self.is_grown = False
+        if self.options.full or not os.path.exists(self.path('steps')) or self.pick.random() < 0.5:
+            self.compact()
+        else:
+            self.grow()
+
     def compact(self):
         """Compacts the record, or ends its compaction at any moment."""
         log, before = os.path.join(self.record, '..', 'compact.log'), self.files()[0]
@@ -166,7 +233,7 @@ class Trial:
             self.compactions['lines'] += int(text.split()[-2]) - int(text.split()[-1])
         elif self.options.full and child.returncode == 1 and 'record: ' in text:
             self.compactions['full'] += 1
-            if self.files()[0] != before[:before.rfind(b'\n') + 1]:
+            if self.files()[0] not in (before, before[:before.rfind(b'\n') + 1]):      # with the torn line or without
                 self.fault('a compaction that failed and changed the steps')
         else:
             self.fault('a compaction that ended with status %d: %s' % (child.returncode, text))
@@ -305,7 +372,7 @@ class Trial:
                     self.end()
                     self.crash()
                     if self.options.compact:
-                        self.compact()
+                        self.shorten()
             self.run(self.options.longest)
             end = time.monotonic() + QUIET
             while (self.waiting or self.joining) and time.monotonic() < end:
@@ -374,8 +441,8 @@ class Trial:
         sessions = sum(line.startswith('accepted ') for line in said)
         counts = self.compactions
         if self.options.compact:
-            print('compactions %d lines less %d compactions killed %d compactions on a full disk %d' % (
-                counts['whole'], counts['lines'], counts['killed'], counts['full']))
+            print('compactions %d lines less %d compactions killed %d compactions on a full disk %d while serving %d ended then %d' % (
+                counts['whole'], counts['lines'], counts['killed'], counts['full'], counts['serving'], counts['ended']))
         print('lives %d uplinks %d acknowledged %d sessions %d (wanted %d) steps %d up %d missing by kills %d lost %d used twice %d' % (
             self.life, len(self.sent), sum(uplink.is_acknowledged for uplink in self.sent), sessions, self.wants_joins,
             steps.count(b'\n'), len(ups), len(missing), lost, twice + self.faults['a number of an acknowledgement used twice']))

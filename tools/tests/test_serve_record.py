@@ -123,7 +123,7 @@ class Lives(Recorded):
             self.assertEqual((self.bytes_of(self.steps), self.bytes_of(self.ups)), (steps, ups))
 
     def test_grown(self):
-        """Steps that have grown to 4 MiB become few at a start, and no later answer changes; the start after it leaves them."""
+        """Steps that have grown to 4 MiB become few while the server runs, and no later answer changes; the next server leaves them."""
         joins, roster = self.joins([13]), self.roster([13, 14])
         server = self.life(roster, joins.where)
         gateway, device = self.joined(server, 13)
@@ -135,9 +135,12 @@ class Lives(Recorded):
         self.put(self.steps, (heard + 'answer %s %s\n' % (ticket, 'x' * 65536)).encode() * 64)
         ups = self.bytes_of(self.ups)
         server = self.life(roster, NOWHERE)
-        server.log.wait('record: compacted 132 ')
         gateway = self.gateway(0xa1, server)
         self.acknowledged(gateway, device, 1, 1)
+        server.log.wait('record: compacted 13')
+        self.acknowledged(gateway, device, 2, 2)
+        done = subprocess.run([PROGRAM, 'compact', roster, self.record], capture_output=True, text=True, timeout=LONGEST)
+        self.assertEqual((done.returncode, done.stderr.splitlines()[-1]), (1, 'record: in use'))
         server.out.wait('up ')
         self.kill(server)
         steps = self.bytes_of(self.steps)

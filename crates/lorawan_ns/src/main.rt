@@ -17,7 +17,7 @@ ghost use Rattle.ns_commands.specs.Status.{IsRun};
 use log::filter::FilteredLog;
 use log::{Log, error};
 use ns_commands::{
-    End, Fault, Logging, Timed, VARIABLE, compact, concluded, ended, of_record, of_serve,
+    End, Fault, Logging, Timed, VARIABLE, compact, concluded, ended, keeper, of_record, of_serve,
     open_record, read_filter, read_roster, run_replay, words,
 };
 use ns_roster::Roster;
@@ -52,7 +52,7 @@ fn begin<R: Files<File = File> + AllocGlobal, L: Log>(
             }
         };
     };
-    let files = open_record(rt, log, roster, folder, record.sync)?;
+    let files = open_record(rt, log, folder, record.sync)?;
     match Begun::resume(log, alloc, roster, files) {
         Ok(begun) => Ok(begun),
         Err(fault) => {
@@ -72,7 +72,7 @@ fn run_serve<'a, R, L, S>(
     stop: S,
 ) -> Result<(), Fault<'a>>
 where
-    R: Files<File = File> + AllocGlobal + Print + Sync,
+    R: Files<File = File> + Wait + AllocGlobal + Print + Sync,
     S: Stop + Send + Drop + 'static,
     L: Threads + Wait + Clock + Log + Sync,
     L: Net<Listener = TcpListener, Stream = TcpStream>,
@@ -80,14 +80,20 @@ where
 {
     let roster = read_roster(rt, log, path)?;
     let begun = begin(rt, log, &roster, record)?;
+    let Ok(known) = roster.clone() else {
+        error!(log; "no memory for the roster");
+        return Err(Fault::NoMemory);
+    };
+    let upkeep = keeper(rt, log, &known, record.folder.unwrap_or(""));
     let writer = OverStd::new(WaitingWriter::new(log, io::writer(rt)));
-    of_serve(serve(log, rt.alloc(), roster, options, begun, stop, writer))
+    let alloc = rt.alloc();
+    of_serve(serve(log, alloc, roster, options, begun, stop, upkeep, writer))
 }
 
 // Does what the words ask for.
 fn run<'a, R, L, S>(rt: &R, log: &L, words: &'a [String], stop: S) -> End<'a>
 where
-    R: Files<File = File> + AllocGlobal + Input + Print + Sync,
+    R: Files<File = File> + Wait + AllocGlobal + Input + Print + Sync,
     S: Stop + Send + Drop + 'static,
     L: Threads + Wait + Clock + Log + Sync,
     L: Net<Listener = TcpListener, Stream = TcpStream>,

@@ -1,14 +1,14 @@
-//! The record of a folder, opened for a start or made shorter.
+//! The record of a folder: opened for a start, and made shorter.
 
 use crate::fault::{Fault, of_files, of_record};
 use crate::roster::read_roster;
 use log::{Log, error};
-use ns_compact::Folder;
+use ns_compact::{Folder, Keeper};
 use ns_record_files::{FilesFault, RecordFiles};
 use ns_roster::Roster;
 use std::fs::File;
 use std::rt::Files;
-use std::sync::Arc;
+use std::sync::{Arc, Wait};
 
 // The files that were opened. Why they were not is logged.
 fn opened<L: Log>(
@@ -25,23 +25,34 @@ fn opened<L: Log>(
     }
 }
 
-/// The files of a record's folder for a start, whose steps are made fewer first where they have grown much (`Folder::open`). Why they are
-/// not opened is logged.
+/// The files of a record's folder for a start. Why they are not opened is logged.
 pub fn open_record<R: Files<File = File> + AllocGlobal, L: Log>(
     rt: &R,
     log: &L,
-    roster: &Arc<Roster>,
     path: &str,
     sync: bool,
 ) -> Result<RecordFiles, Fault<'static>> {
-    let folder = Folder {
+    opened(
+        log,
+        path,
+        RecordFiles::open(rt, log, rt.alloc(), path, sync),
+    )
+}
+
+/// What keeps the record of this folder short while a server goes on with it.
+pub fn keeper<'a, R: Files<File = File> + Wait + AllocGlobal, L: Log>(
+    rt: &'a R,
+    log: &'a L,
+    roster: &'a Arc<Roster>,
+    path: &'a str,
+) -> Keeper<'a, R, L> {
+    Keeper::new(Folder {
         rt,
         log,
         alloc: rt.alloc(),
         path,
         roster,
-    };
-    opened(log, path, folder.open(sync))
+    })
 }
 
 /// Makes a record shorter, and prints how many lines it had and has.

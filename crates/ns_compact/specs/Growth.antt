@@ -1,4 +1,4 @@
--- When a start compacts a record.
+-- When a server compacts its record.
 use Rattle.std.specs.Prelude.{ℕ, Bool, nat_le, ◌&&◌, ◌*◌}
 
 -- steps of so many bytes, of which the last compaction left so many: 4 MiB at least, and eight times what was left

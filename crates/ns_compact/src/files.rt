@@ -1,17 +1,17 @@
-//! The compaction of the files of a record.
+//! The compaction of the files of a record, also of one that a server goes on with.
 
-use crate::growth::{bytes_left, is_due};
+use crate::part::{Part, PartFile};
 use crate::same::serves_as_well;
 use crate::shortening::{Shortened, shorten};
-use log::{Log, error, info, warn};
-use ns_record_files::{FilesFault, RecordFiles, ShorterSteps, read_again};
+use log::{Log, error};
+use ns_record_files::{FilesFault, LaterLines, RecordFiles, Recorder, ShorterSteps, read_again};
 use ns_resume::{Base, RecordFault, base_line};
 use ns_roster::Roster;
 use std::alloc::Global;
 use std::fs::File;
 use std::io::{BufReader, BufWriter, Write};
 use std::rt::Files;
-use std::sync::Arc;
+use std::sync::{Arc, Wait};
 
 // How many bytes of a file are read or written at once.
 const BLOCK: usize = 262_144;
@@ -42,20 +42,36 @@ fn of_files(fault: FilesFault) -> RecordFault {
     }
 }
 
+// The value of a call of the files.
+fn had<T: Drop>(outcome: Result<T, FilesFault>) -> Result<T, RecordFault> {
+    match outcome {
+        Ok(value) => Ok(value),
+        Err(fault) => Err(of_files(fault)),
+    }
+}
+
 impl<'a, R: Files<File = File>, L: Log> Folder<'a, R, L> {
-    // A file of the folder, read from its beginning.
-    fn read(&self, name: &str) -> Result<BufReader<File>, RecordFault> {
-        match read_again(self.rt, self.log, self.alloc, self.path, name) {
-            Ok(file) => Ok(BufReader::with_capacity(self.alloc, BLOCK, file)?),
-            Err(fault) => Err(of_files(fault)),
-        }
+    // A file of the folder, to be read from its beginning.
+    fn open(&self, name: &str) -> Result<File, RecordFault> {
+        had(read_again(self.rt, self.log, self.alloc, self.path, name))
+    }
+
+    // So many bytes of a file of the folder, from its beginning.
+    pub(crate) fn read<'b>(
+        &self,
+        name: &str,
+        bytes: u64,
+        part: &Part<'b>,
+    ) -> Result<BufReader<PartFile<'b>>, RecordFault> {
+        let file = part.of(self.open(name)?, bytes);
+        Ok(BufReader::with_capacity(self.alloc, BLOCK, file)?)
     }
 
     // Writes the lines that are chosen, behind room for the line that tells the base.
-    fn choose(&self, to: &ShorterSteps) -> Result<Shortened, RecordFault> {
-        let mut steps = self.read("steps")?;
-        let mut ups = self.read("up")?;
-        let mut again = self.read("steps")?;
+    fn choose(&self, part: &Part<'_>, to: &ShorterSteps) -> Result<Shortened, RecordFault> {
+        let mut steps = self.read("steps", part.steps, part)?;
+        let mut ups = self.read("up", part.ups, part)?;
+        let mut again = self.read("steps", part.steps, part)?;
         let mut out = BufWriter::with_capacity(self.alloc, BLOCK, to.file())?;
         let none = Base { lines: 0, ups: 0 };
         out.write_all(base_line(&none).as_str().as_bytes())?;
@@ -73,9 +89,9 @@ impl<'a, R: Files<File = File>, L: Log> Folder<'a, R, L> {
     }
 
     // Whether a start from what was written leaves the same, beside the `up` lines that are there.
-    fn is_as_well(&self, left: &Shortened) -> Result<bool, RecordFault> {
-        let mut steps = self.read("steps.new")?;
-        let mut ups = self.read("up")?;
+    fn is_as_well(&self, part: &Part<'_>, left: &Shortened) -> Result<bool, RecordFault> {
+        let mut steps = self.read("steps.new", u64::MAX, part)?;
+        let mut ups = self.read("up", part.ups, part)?;
         serves_as_well(
             self.alloc,
             self.roster.clone()?,
@@ -85,13 +101,36 @@ impl<'a, R: Files<File = File>, L: Log> Folder<'a, R, L> {
         )
     }
 
+    // Tells the base in the first line of what was written, and tests that it serves as well.
+    fn tell(
+        &self,
+        part: &Part<'_>,
+        shorter: &ShorterSteps,
+        left: &Shortened,
+        ups: u64,
+    ) -> Result<Compacted, RecordFault> {
+        let base = Base {
+            lines: left.written,
+            ups,
+        };
+        had(shorter.begin_with(self.log, base_line(&base).as_str().as_bytes()))?;
+        if !self.is_as_well(part, left)? {
+            return Err(RecordFault::NotAsWell);
+        }
+        Ok(Compacted {
+            before: left.lines,
+            after: left.written,
+        })
+    }
+
     // Writes fewer lines into `steps.new`, and brings the record to the disk. First the record is mended, as a start does.
     fn prepare(
         &self,
         files: &mut RecordFiles,
         shorter: &ShorterSteps,
     ) -> Result<Compacted, RecordFault> {
-        let left = self.choose(shorter)?;
+        let part = Part::whole();
+        let left = self.choose(&part, shorter)?;
         if files
             .mend(left.torn, left.up_torn, left.missing.as_slice())
             .is_err()
@@ -101,33 +140,29 @@ impl<'a, R: Files<File = File>, L: Log> Folder<'a, R, L> {
             }
             return Err(RecordFault::Io);
         }
-        let base = Base {
-            lines: left.written,
-            ups: match files.sync_all(self.log) {
-                Ok(bytes) => bytes,
-                Err(fault) => return Err(of_files(fault)),
-            },
-        };
-        if let Err(fault) = shorter.begin_with(self.log, base_line(&base).as_str().as_bytes()) {
-            return Err(of_files(fault));
-        }
-        if !self.is_as_well(&left)? {
+        let ups = had(files.sync_all(self.log))?;
+        self.tell(&part, shorter, &left, ups)
+    }
+
+    // Writes fewer lines into `steps.new` than this part of the record has, which are whole, and brings its `up` lines to the disk.
+    fn prepare_part(
+        &self,
+        part: &Part<'_>,
+        shorter: &ShorterSteps,
+    ) -> Result<Compacted, RecordFault> {
+        let left = self.choose(part, shorter)?;
+        if left.torn > 0 || left.up_torn > 0 || !left.missing.is_empty() {
             return Err(RecordFault::NotAsWell);
         }
-        Ok(Compacted {
-            before: left.lines,
-            after: left.written,
-        })
+        self.open("up")?.sync_all()?;
+        self.tell(part, shorter, &left, part.ups)
     }
 
     /// Puts fewer lines in the place of the steps of its record, after which every later answer is the same, and brings them to the disk:
     /// after a crash at any moment the folder has the ones or the others. First the record is mended, as a start does. After a fault all
     /// whole lines are there as before.
     pub fn compact(&self, mut files: RecordFiles) -> Result<Compacted, RecordFault> {
-        let shorter = match ShorterSteps::create(self.rt, self.log, self.alloc, self.path) {
-            Ok(shorter) => shorter,
-            Err(fault) => return Err(of_files(fault)),
-        };
+        let shorter = had(ShorterSteps::create(self.rt, self.log, self.alloc, self.path))?;
         let compacted = match self.prepare(&mut files, &shorter) {
             Ok(compacted) => compacted,
             Err(fault) => {
@@ -135,30 +170,40 @@ impl<'a, R: Files<File = File>, L: Log> Folder<'a, R, L> {
                 return Err(fault);
             }
         };
-        match files.replace(self.rt, self.log, &shorter) {
-            Ok(()) => Ok(compacted),
-            Err(fault) => Err(of_files(fault)),
-        }
+        had(files.replace(self.rt, self.log, &shorter))?;
+        Ok(compacted)
+    }
+}
+
+impl<'a, R: Files<File = File> + Wait, L: Log> Folder<'a, R, L> {
+    // Puts fewer lines in the place of those of this part, while the server goes on.
+    fn replace_part(
+        &self,
+        record: &Recorder<RecordFiles>,
+        part: &Part<'_>,
+        shorter: &ShorterSteps,
+    ) -> Result<Compacted, RecordFault> {
+        let mut later = LaterLines::new(self.alloc, self.open("steps")?, part.steps)?;
+        let compacted = self.prepare_part(part, shorter)?;
+        // What came in the meantime is brought to the disk before anybody waits.
+        had(later.follow(self.log, shorter))?;
+        had(shorter.sync(self.log))?;
+        had(record.replace(self.rt, self.log, shorter, &mut later))?;
+        Ok(compacted)
     }
 
-    // Whether the steps have grown so much that fewer are to take their place.
-    fn has_grown(&self, files: &RecordFiles) -> Result<bool, RecordFault> {
-        let bytes = files.steps().metadata()?.len();
-        let mut steps = self.read("steps")?;
-        Ok(is_due(bytes_left(self.alloc, &mut steps)?, bytes))
-    }
-
-    /// Opens the record for a start. Where its steps have grown to 4 MiB and to eight times what the last compaction left, fewer take
-    /// their place first; where that fails all whole lines are there as before, and why is logged.
-    pub fn open(&self, sync: bool) -> Result<RecordFiles, FilesFault> {
-        let files = RecordFiles::open(self.rt, self.log, self.alloc, self.path, sync)?;
-        if !self.has_grown(&files).unwrap_or(false) {
-            return Ok(files);
+    /// Compacts the record of a server that goes on with it, of which this part is written. The server waits only while the last lines are
+    /// appended and the file gets its name. After a fault it goes on as before (but for `Recorder::replace`).
+    pub(crate) fn compact_part(
+        &self,
+        record: &Recorder<RecordFiles>,
+        part: &Part<'_>,
+    ) -> Result<Compacted, RecordFault> {
+        let shorter = had(ShorterSteps::create(self.rt, self.log, self.alloc, self.path))?;
+        let outcome = self.replace_part(record, part, &shorter);
+        if outcome.is_err() {
+            shorter.remove(self.rt);
         }
-        match self.compact(files) {
-            Ok(done) => info!(self.log; "record: compacted {} {}", done.before, done.after),
-            Err(fault) => warn!(self.log; "{}: not compacted: {fault}", self.path),
-        }
-        RecordFiles::open(self.rt, self.log, self.alloc, self.path, sync)
+        outcome
     }
 }

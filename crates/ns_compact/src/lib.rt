@@ -2,15 +2,17 @@
 //!
 //! `shorten` runs a record and writes the lines of it that it chooses. `serves_as_well` runs the lines that were written, and tells
 //! whether a trim leaves the same of both: then every later answer is the same, by `ns_compacted`. So the choice needs no proof: where it
-//! is wrong the lines are not taken. `Folder` does so with the files of a record, also before a start where these have grown much. Stands
-//! on `ns_resume` for runs of lines, and on `ns_record_files`.
+//! is wrong the lines are not taken. `Folder` does so with the files of a record, and `Keeper` while a server goes on with them, where
+//! they have grown much. Stands on `ns_resume` for runs of lines, and on `ns_record_files`.
 #![tactic(auto)]
 
 mod choice;
 mod device;
 mod files;
 mod growth;
+mod keeper;
 mod lines;
+mod part;
 mod rerun;
 mod same;
 mod session;
@@ -18,5 +20,6 @@ mod shortening;
 mod trims;
 
 pub use files::{Compacted, Folder};
+pub use keeper::Keeper;
 pub use same::serves_as_well;
 pub use shortening::{Shortened, shorten};

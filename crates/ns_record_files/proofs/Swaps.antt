@@ -1,12 +1,12 @@
 -- The moments of a swap.
 use Rattle.std.proofs.Common.{inl, inr, ◌≡◌, ℕ, List, [], ◌∷◌, ◌++◌, Option, None, Some, refl, sym, ap, subst, ◌∙◌, append_assoc, append-nil}
-use Rattle.std.specs.Prelude.{Bool, true, false, ◌⊎◌, All}
+use Rattle.std.specs.Prelude.{true, false, ◌⊎◌}
 use Rattle.std.specs.Option.{option_map}
-use Rattle.std.proofs.lemmas.Bool.{false≢true, true≢false}
+use Rattle.std.proofs.lemmas.Bool.{false≢true}
 use Rattle.std.proofs.lemmas.List.{append_cancel_left}
 use Rattle.std.proofs.lemmas.List.Elements.{All-cons, All-nil}
 use Rattle.ns_record_files.specs.Disk.{IsFront}
-use Rattle.ns_record_files.specs.Swap.{Folder, Turns, turns, all_turns, new_safe, named, lasting, MayBeNamed, IsOneOrTheOther, Swaps, SwapsKnown, IsSwapped}
+use Rattle.ns_record_files.specs.Swap.{Folder, Turns, turns, new_safe, named, lasting, MayBeNamed, IsOneOrTheOther, SwapsKnown, IsSwapped}
 
 ends_in_nil : (r s : List ℕ) → r ++ s ≡ [] → r ≡ []
 ends_in_nil [] s same = refl

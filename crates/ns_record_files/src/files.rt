@@ -27,6 +27,13 @@ pub enum FilesFault {
     InUse,
 }
 
+/// How many bytes the files of a record have.
+#[derive(Clone, Copy)]
+pub struct Lengths {
+    pub steps: u64,
+    pub ups: u64,
+}
+
 /// The files `steps` and `up` of a folder, of which no other program has the lock. They are for their owner alone: the steps have session
 /// keys.
 #[derive(Drop)]
@@ -41,7 +48,7 @@ pub struct RecordFiles {
 }
 
 // The value of a call of the system. Where there is none, why is logged.
-fn told<L: Log, T: Drop>(log: &L, outcome: io::Result<T>) -> Result<T, FilesFault> {
+pub(crate) fn told<L: Log, T: Drop>(log: &L, outcome: io::Result<T>) -> Result<T, FilesFault> {
     match outcome {
         Ok(value) => Ok(value),
         Err(error) => {
@@ -82,6 +89,19 @@ fn cut(file: &File, bytes: u64) -> io::Result<()> {
     }
     let len = file.metadata()?.len();
     file.set_len(len.saturating_sub(bytes))
+}
+
+// Cuts zeros off the end of a file, which no line has: a crash of the machine may keep the length of a file and not what was written last.
+fn cut_zeros(file: &File) -> io::Result<()> {
+    let len = file.metadata()?.len();
+    let mut byte = [0u8];
+    for zeros in 0..len {
+        file.read_exact_at(&mut byte, len - 1 - zeros)?;
+        if byte != [0u8] {
+            return cut(file, zeros);
+        }
+    }
+    cut(file, len)
 }
 
 /// Opens a file of a record's folder, to be read from its beginning.
@@ -132,6 +152,16 @@ impl ShorterSteps {
         told(log, self.file.write_all_at(bytes, 0))
     }
 
+    /// Brings it to the disk.
+    pub fn sync<L: Log>(&self, log: &L) -> Result<(), FilesFault> {
+        told(log, self.file.sync_all())
+    }
+
+    /// Whether it still has its name, as far as can be told.
+    pub(crate) fn has_own_name<R: Files<File = File>>(&self, rt: &R) -> bool {
+        fs::exists(rt, self.path.as_str()).unwrap_or(false)
+    }
+
     /// Takes the file away, where it still has its name, so that it takes no room.
     pub fn remove<R: Files<File = File>>(&self, rt: &R) {
         let _ = fs::remove_file(rt, self.path.as_str());
@@ -139,8 +169,8 @@ impl ShorterSteps {
 }
 
 impl RecordFiles {
-    /// Opens the files of a folder, which are made where they are not there, and takes their lock. With `sync` a step that was written
-    /// outlives the end of the machine, without it that of the program.
+    /// Opens the files of a folder, which are made where they are not there, takes their lock, and cuts zeros off their ends. With `sync` a
+    /// step that was written outlives the end of the machine, without it that of the program.
     pub fn open<R: Files<File = File>, L: Log>(
         rt: &R,
         log: &L,
@@ -156,6 +186,8 @@ impl RecordFiles {
         lock(log, &steps)?;
         let ups = told(log, open_file(rt, ups_path.as_str()))?;
         told(log, folder.sync_all())?;
+        told(log, cut_zeros(&steps))?;
+        told(log, cut_zeros(&ups))?;
         Ok(RecordFiles {
             folder,
             steps,
@@ -190,21 +222,50 @@ impl RecordFiles {
     /// Puts fewer steps, of this folder, in the place of these: after a crash at any moment the folder has the ones or the others. The lines
     /// of these are not appended to from then on.
     pub fn replace<R: Files<File = File>, L: Log>(
-        self,
+        &self,
         rt: &R,
         log: &L,
         shorter: &ShorterSteps,
     ) -> Result<(), FilesFault> {
+        let folder = &self.folder;
         let mut swap = InFolder {
             rt,
             log,
-            files: self,
+            folder,
             shorter,
         };
         match swap_in(&mut swap) {
             Ok(()) => Ok(()),
             Err(_) => Err(FilesFault::Io),
         }
+    }
+
+    /// The files of the same record with fewer steps, of which no other program has the lock.
+    pub(crate) fn over<R: Files<File = File>, L: Log>(
+        &self,
+        rt: &R,
+        log: &L,
+        shorter: &ShorterSteps,
+    ) -> Result<RecordFiles, FilesFault> {
+        let mut how = OpenOptions::new();
+        how.read(true).append(true);
+        let steps = told(log, how.open(rt, shorter.path.as_str()))?;
+        lock(log, &steps)?;
+        Ok(RecordFiles {
+            folder: told(log, self.folder.try_clone())?,
+            steps,
+            ups: told(log, self.ups.try_clone())?,
+            sync: self.sync,
+            failure: None,
+        })
+    }
+
+    /// How many bytes the files have.
+    pub(crate) fn lengths(&self) -> io::Result<Lengths> {
+        Ok(Lengths {
+            steps: self.steps.metadata()?.len(),
+            ups: self.ups.metadata()?.len(),
+        })
     }
 
     // Whether a call of the system was done. Where it was not, why is kept.
@@ -234,7 +295,7 @@ impl RecordFiles {
 struct InFolder<'a, R, L> {
     rt: &'a R,
     log: &'a L,
-    files: RecordFiles,
+    folder: &'a File,
     shorter: &'a ShorterSteps,
 }
 
@@ -259,7 +320,7 @@ impl<'a, R: Files<File = File>, L: Log> Swap for InFolder<'a, R, L> {
     }
 
     fn sync_names(&mut self) -> Result<(), Failed> {
-        done(self.log, self.files.folder.sync_all())
+        done(self.log, self.folder.sync_all())
     }
 }
 

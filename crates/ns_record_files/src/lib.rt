@@ -12,13 +12,15 @@ mod files;
 mod laws;
 mod lines;
 mod recorder;
+mod running;
 mod swap;
 mod writer;
 
 pub use disk::Disk;
-pub use files::{FilesFault, RecordFiles, ShorterSteps, read_again};
+pub use files::{FilesFault, Lengths, RecordFiles, ShorterSteps, read_again};
 pub use laws::{crashes_leave_a_record, crashes_leave_what_was_written};
 pub use lines::{LineText, RecordLines};
 pub use recorder::Recorder;
+pub use running::{LaterLines, Upkeep};
 pub use swap::{Swap, swap_in};
 pub use writer::RecordWriter;

@@ -29,8 +29,8 @@ struct Lines {
 
 // The writer, and the lines that it is given.
 #[derive(Drop)]
-struct Writing<D: Disk> {
-    writer: RecordWriter<D>,
+pub(crate) struct Writing<D: Disk> {
+    pub writer: RecordWriter<D>,
     steps: Vec<u8>,
     ups: Vec<u8>,
 }
@@ -41,13 +41,15 @@ struct Writing<D: Disk> {
 #[derive(Drop)]
 pub struct Recorder<D: Disk> {
     shards: Vec<Mutex<Lines>>,
-    writing: Mutex<Writing<D>>,
+    pub(crate) writing: Mutex<Writing<D>>,
     // A bit for each shard that has lines, so that one with none is passed over. It is changed under the lock of these.
     waiting: AtomicU64,
     // How many bytes are not written yet.
     pending: AtomicU64,
     // Whether a line could not be kept.
     lost: AtomicBool,
+    // Whether its files are to stay as they are but for lines that are written.
+    rests: AtomicBool,
 }
 
 // Hands bytes over, to the end of others. Where there are no others, the two change places.
@@ -140,6 +142,7 @@ impl<D: Disk + Drop> Recorder<D> {
             waiting: AtomicU64::new(0),
             pending: AtomicU64::new(0),
             lost: AtomicBool::new(false),
+            rests: AtomicBool::new(false),
         })
     }
 
@@ -170,6 +173,7 @@ impl<D: Disk + Drop> Recorder<D> {
             waiting: _,
             pending: _,
             lost: _,
+            rests: _,
         } = self;
         let Writing {
             writer,
@@ -182,6 +186,16 @@ impl<D: Disk + Drop> Recorder<D> {
     /// Whether so much is not written that somebody should write it.
     pub fn is_due(&self) -> bool {
         self.pending.load(Ordering::SeqCst) >= MANY
+    }
+
+    /// From now on no other steps take the place of those of its files: the server stops.
+    pub fn rest(&self) {
+        self.rests.store(true, Ordering::SeqCst);
+    }
+
+    /// Whether it rests.
+    pub fn rests(&self) -> bool {
+        self.rests.load(Ordering::SeqCst)
     }
 
     // Takes all lines that are not written yet, shard by shard.

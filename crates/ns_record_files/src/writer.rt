@@ -5,6 +5,7 @@ ghost use Rattle.ns_record_files.specs.Record.{Batch, HasAll, GoesOnKnown};
 use crate::disk::Disk;
 use ns_types::Failed;
 use std::marker::Model;
+use std::mem;
 
 /// Writes batches of lines: of each the steps, and once no crash takes these away, the `up` lines that they imply. After a failure nothing
 /// more is written. Contracts see the moments of its files, and whether a call of it has failed.
@@ -62,6 +63,22 @@ impl<D: Disk> RecordWriter<D> {
     {
         let RecordWriter { disk, failed: _ } = self;
         disk
+    }
+
+    /// Lends its files.
+    pub fn disk(&self) -> &D
+        ensures { D.moments result.now ≡ self.now.moments }
+    {
+        &self.disk
+    }
+
+    /// Goes on with other files, which have all lines of some batches. Gives those that it had.
+    pub fn go_on_with(&mut self, disk: D) -> D
+        requires { (batches : List Batch) × HasAll batches (D.moments disk) }
+        ensures now { self.new ≡ record { moments = D.moments disk; failed = self.old.failed } }
+        ensures before { D.moments result ≡ self.old.moments }
+    {
+        mem::replace(&mut self.disk, disk)
     }
 
     /// Writes nothing more.

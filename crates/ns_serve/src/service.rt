@@ -16,7 +16,7 @@ use crate::run::{Ends, run_all};
 use log::{Log, error, info};
 use ns_calls::{Uplink, up_line};
 use ns_events::{Output as Written, uplink_json};
-use ns_record_files::{RecordFiles, Recorder};
+use ns_record_files::{RecordFiles, Recorder, Upkeep};
 use ns_roster::Roster;
 use ns_serve_parts::{Output, ServeFault, ServeOptions, closing_text};
 use ns_serve_state::{
@@ -308,7 +308,7 @@ fn written<R: Log, W: Sink>(
     ensures failed { IsErr outcome → (output.new.lines.items ≡ []) × (Appends (W.taken output.old.writer) (W.taken output.new.writer) output.old.lines.items ⊎ (W.has_failed output.new.writer ≡ true)) }
 {
     if outcome.is_err() && output.flush().is_err() {
-        error!(rt; "standard output failed: lines are lost");
+        error!(rt; "the last lines did not reach standard output");
     }
     outcome
 }
@@ -318,6 +318,7 @@ fn run_server<
     B: Naming + Send + Sync,
     R: Threads + Wait + Clock + Net<Listener = TcpListener, Stream = TcpStream> + Log + Sync,
     W: Sink + Send + Drop,
+    U: Upkeep + Send + Drop,
 >(
     rt: &R,
     alloc: Global,
@@ -329,6 +330,7 @@ fn run_server<
     shards: Vec<Shard>,
     windows: Vec<WindowName>,
     tickets: Vec<Ticket>,
+    upkeep: U,
 ) -> Result<u128, ServeFault>
     requires workers { (0 < options.now.workers) × (options.now.workers ≤ 16) }
     requires join_workers { (0 < options.now.join_workers) × (options.now.join_workers ≤ 16) }
@@ -349,7 +351,7 @@ fn run_server<
     };
     let output = Mutex::new(output);
     let Ok(ends) = run_all(
-        rt, alloc, &server, passes, &known, state, &output, options, windows, tickets,
+        rt, alloc, &server, passes, &known, state, &output, options, windows, tickets, upkeep,
     ) else {
         return Err(no_memory(rt, "the workers"));
     };
@@ -365,13 +367,15 @@ fn run_server<
 /// Serves gateways over UDP, with a join server over TCP, until so many datagrams have come or `stop` says so, if the options ask
 /// for that. Writes `listening ADDR` and `forwarders ADDR` for the addresses at which gateways are heard, the uplinks as windows close,
 /// each on a line as the options say, those of the windows that are still open at the end, `settled T`, and the closing roster where the
-/// options ask for it, each with a line feed, and gives T, which is how many entries there are in all shards.
+/// options ask for it, each with a line feed, and gives T, which is how many entries there are in all shards. `upkeep` looks after the
+/// record, if there is one, about once a second.
 ///
 /// `NoMemory` where a growth was refused, or a thread could not be made; `Io` where the socket or the writer failed. Each is logged
 /// with where it was; the lines of what was closed before it are written all the same.
 pub fn serve<
     R: Threads + Wait + Clock + Net<Listener = TcpListener, Stream = TcpStream> + Log + Sync,
     S: Stop + Send + Drop + 'static,
+    U: Upkeep + Send + Drop,
     W: Sink + Send + Drop,
 >(
     rt: &R,
@@ -380,6 +384,7 @@ pub fn serve<
     options: &ServeOptions<'_>,
     begun: Begun,
     stop: S,
+    upkeep: U,
     writer: W,
 ) -> Result<u128, ServeFault>
     requires workers { (0 < options.now.workers) × (options.now.workers ≤ 16) }
@@ -405,8 +410,8 @@ pub fn serve<
     watch_stop(rt, &state, options, stop)?;
     let count = options.workers as u64 + options.join_workers as u64 + 1;
     let blanks = Blanks::new(count);
-    let outcome = run_server::<Brand, _, _>(
-        rt, alloc, roster, blanks, &state, output, options, shards, windows, tickets,
+    let outcome = run_server::<Brand, _, _, _>(
+        rt, alloc, roster, blanks, &state, output, options, shards, windows, tickets, upkeep,
     );
     if has_failed(rt, state.record.take()) {
         return Err(ServeFault::Io);

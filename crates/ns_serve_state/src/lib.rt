@@ -27,7 +27,9 @@ pub use clock::{SinceMoment, SinceStart, nap_ms, now_ms, times_of};
 pub use events::{Events, log_counts, log_unsent};
 pub use notices::{note_event, take_notices};
 pub use queue::FromQueue;
-pub use record::{Begun, Recording, has_failed, record_call, write_record};
+pub use record::{
+    Begun, Recording, has_failed, look_after_record, record_call, rest_record, write_record,
+};
 pub use sockets::{FromSocket, ToSocket};
 pub use state::State;
 pub use status::Status;

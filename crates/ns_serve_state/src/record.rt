@@ -12,7 +12,7 @@ use crate::state::State;
 use log::{Log, error, info, warn};
 use ns_calls::put_uplink;
 use ns_record::{matters, put_step};
-use ns_record_files::{LineText, RecordFiles, RecordLines, RecordWriter, Recorder};
+use ns_record_files::{LineText, RecordFiles, RecordLines, RecordWriter, Recorder, Upkeep};
 use ns_resume::{RecordFault, Resumed, run_record};
 use ns_roster::Roster;
 use ns_server::{Gate, Receipt, new_shards};
@@ -21,9 +21,16 @@ use ns_types::{Failed, Ticket, WindowName};
 use std::alloc::{AllocError, Global};
 use std::io::BufReader;
 use std::sync::{Arc, Wait};
+use std::thread;
+use std::time::{Clock, Duration};
 
 // How many bytes of each file are read at once.
 const BLOCK: usize = 262_144;
+
+// How long it is waited before it is looked whether the server stops, and how often before the record is looked after again.
+const NAP_MS: u64 = 50;
+
+const NAPS: u32 = 20;
 
 /// What a server begins with: its shards, what of them is open, and the record of its calls, if there is one.
 #[derive(Drop)]
@@ -153,6 +160,34 @@ pub fn write_record<R: Wait>(rt: &R, state: &State) -> Result<(), Failed> {
         state.break_off();
     }
     written
+}
+
+// Whether the record is looked after no more.
+fn is_left_alone(state: &State) -> bool {
+    state.is_over() || state.is_deaf()
+}
+
+/// Lets the record be looked after, about once a second, until the server stops.
+pub fn look_after_record<R: Clock + Wait, U: Upkeep + Drop>(rt: &R, state: &State, mut upkeep: U) {
+    let Some(record) = &state.record else {
+        return;
+    };
+    for _turn in rt.forever() {
+        upkeep.look_after(record);
+        for _nap in 0..NAPS {
+            if is_left_alone(state) {
+                return;
+            }
+            thread::sleep(rt, Duration::from_millis(NAP_MS));
+        }
+    }
+}
+
+/// From now on the record is only written.
+pub fn rest_record(state: &State) {
+    if let Some(record) = &state.record {
+        record.rest();
+    }
 }
 
 /// Logs why the record failed, if it has, and says whether it has.

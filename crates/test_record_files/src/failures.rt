@@ -120,13 +120,13 @@ fn each_call_fails_in_turn(rt: HostRuntime) {
 
 // A call of which a record has these lines.
 #[derive(Drop)]
-struct Told {
+pub(crate) struct Told {
     step: LineText,
     up: Option<LineText>,
 }
 
 impl Told {
-    fn new(step: &str, up: Option<&str>) -> Told {
+    pub fn new(step: &str, up: Option<&str>) -> Told {
         Told {
             step: line_of(step),
             up: up.map(line_of),

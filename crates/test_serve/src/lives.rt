@@ -5,7 +5,7 @@ use crate::parties::{
 };
 use crate::trial::{Trial, join_addr, roster_of, served_from};
 use log::Log;
-use ns_record_files::RecordFiles;
+use ns_record_files::{RecordFiles, Recorder, Upkeep};
 use ns_resume::RecordFault;
 use ns_serve::Begun;
 use ns_types::{DevEui, OverStd};
@@ -45,8 +45,24 @@ const TORN_UP: &str = "up 000000000000000d 1 2 1 pl";
 // A roster without the device.
 const WITHOUT: &str = r#"{"version":1,"net_id":"000024","rx1_offset":0,"rx_delay":1,"devices":[]}"#;
 
-// How many lives have ended.
-type Ended = AtomicU64;
+// How many lives have ended, and how often the record of one was looked after.
+#[derive(Drop)]
+struct Ended {
+    lives: AtomicU64,
+    looks: AtomicU64,
+}
+
+// Counts how often a record is looked after.
+#[derive(Drop)]
+struct Looks<'a> {
+    ended: &'a Ended,
+}
+
+impl<'a> Upkeep for Looks<'a> {
+    fn look_after(&mut self, _record: &Recorder<RecordFiles>) {
+        self.ended.looks.fetch_add(1, Ordering::SeqCst);
+    }
+}
 
 // A folder without files.
 fn emptied(rt: &HostRuntime, folder: &str) -> Result<(), Fail> {
@@ -96,11 +112,19 @@ fn live<
         + Files<File = File>
         + Log
         + Sync,
->(rt: &R, alloc: Global, trial: &Trial, folder: &str, output: &mut Vec<u8>) -> Result<u128, Fail> {
+>(
+    rt: &R,
+    alloc: Global,
+    trial: &Trial,
+    ended: &Ended,
+    folder: &str,
+    output: &mut Vec<u8>,
+) -> Result<u128, Fail> {
     let roster = roster_of(alloc, trial)?;
     let files = RecordFiles::open(rt, rt, alloc, folder, true)?;
     let begun = Begun::resume(rt, alloc, &roster, files)?;
-    Ok(served_from(rt, alloc, trial, roster, begun, OverStd::new(output))?)
+    let looks = Looks { ended };
+    Ok(served_from(rt, alloc, trial, roster, begun, looks, OverStd::new(output))?)
 }
 
 // A trial of one device that ends after so many datagrams.
@@ -128,8 +152,8 @@ fn counted<
         + Sync,
 >(rt: &R, alloc: Global, ended: &Ended, folder: &str, stop_after: u32) -> Result<Vec<u8>, Fail> {
     let mut output = Vec::new(alloc);
-    let outcome = live(rt, alloc, &trial_of(stop_after), folder, &mut output);
-    ended.fetch_add(1, Ordering::SeqCst);
+    let outcome = live(rt, alloc, &trial_of(stop_after), ended, folder, &mut output);
+    ended.lives.fetch_add(1, Ordering::SeqCst);
     outcome?;
     Ok(output)
 }
@@ -153,7 +177,7 @@ fn lives<
 // Waits until so many lives have ended, for ten seconds at most.
 fn wait_for<R: Clock>(rt: &R, ended: &Ended, lives: u64) -> Option<()> {
     for _ in 0..1_000 {
-        if ended.load(Ordering::SeqCst) >= lives {
+        if ended.lives.load(Ordering::SeqCst) >= lives {
             return Some(());
         }
         nap(rt);
@@ -223,7 +247,10 @@ fn lives_are_one_run(rt: HostRuntime) -> Result<(), Fail> {
     let Ok(listener) = TcpListener::bind(&rt, join_addr(&trial)) else {
         return Err(Fail::from("no listener"));
     };
-    let ended = AtomicU64::new(0);
+    let ended = Ended {
+        lives: AtomicU64::new(0),
+        looks: AtomicU64::new(0),
+    };
     let (outputs, (_, acks)) = thread::join(
         &rt,
         || lives(&rt, alloc, &ended),
@@ -237,6 +264,7 @@ fn lives_are_one_run(rt: HostRuntime) -> Result<(), Fail> {
     );
     let outputs = outputs?;
     assert_eq!(rt; acks, Some([0, 1, 1]));
+    assert!(rt; ended.looks.load(Ordering::SeqCst) >= 3);
     let mut of_both = ups(alloc, outputs[0].as_slice())?;
     assert_eq!(rt;
         of_both.as_str(),

@@ -7,6 +7,7 @@ use crate::parties::{join_server, local};
 use log::{Log, error};
 use ns_events::Output;
 use ns_joinclient::HostName;
+use ns_record_files::{RecordFiles, Recorder, Upkeep};
 use ns_roster::Roster;
 use ns_serve::{Begun, ServeFault, ServeOptions, Stop, serve};
 use ns_types::Sink;
@@ -18,12 +19,16 @@ use std::thread;
 use std::thread::Threads;
 use std::time::Clock;
 
-// What would stop a server from outside, where its options asked for that.
+// What would stop a server from outside, where its options asked for that, and look after its record, where it had one.
 #[derive(Clone, Copy)]
 struct Unused;
 
 impl Stop for Unused {
     fn wait(&self) {}
+}
+
+impl Upkeep for Unused {
+    fn look_after(&mut self, _record: &Recorder<RecordFiles>) {}
 }
 
 /// What a server and the join server do.
@@ -67,12 +72,13 @@ pub fn served<
         error!(rt; "no memory for the shards");
         return Err(ServeFault::NoMemory);
     };
-    served_from(rt, alloc, trial, roster, begun, writer)
+    served_from(rt, alloc, trial, roster, begun, Unused, writer)
 }
 
 /// The same, where the server begins so.
 pub fn served_from<
     R: Threads + Wait + Clock + Net<Listener = TcpListener, Stream = TcpStream> + Log + Sync,
+    U: Upkeep + Send + Drop,
     W: Sink + Send + Drop,
 >(
     rt: &R,
@@ -80,6 +86,7 @@ pub fn served_from<
     trial: &Trial,
     roster: Arc<Roster>,
     begun: Begun,
+    upkeep: U,
     writer: W,
 ) -> Result<u128, ServeFault>
     requires { IsBegun (arc_value roster) begun }
@@ -110,7 +117,7 @@ pub fn served_from<
         events: false,
         closing: trial.closing,
     };
-    serve(rt, alloc, roster, &options, begun, Unused, writer)
+    serve(rt, alloc, roster, &options, begun, Unused, upkeep, writer)
 }
 
 /// What gateways and devices do while a server runs, at this port. How many bytes came of it.

@@ -1,4 +1,4 @@
-use Rattle.ns_record_files.proofs.Swaps.{none_done, safe_done, name_failed, name_done, all_done, swapped}
+use Rattle.ns_record_files.proofs.Swaps.{none_done, name_failed, name_done, all_done, swapped}
 use Rattle.ns_record_files.proofs.swap.swap_in.Goals as goal
 
 pub returns-in_err-sync_new-clause-any : goal.returns-in_err-sync_new-clause-any
