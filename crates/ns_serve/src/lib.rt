@@ -11,6 +11,7 @@
 
 mod closer;
 mod ending;
+mod keeper;
 mod run;
 mod service;
 

@@ -10,11 +10,11 @@ ghost use Rattle.ns_serve_parts.specs.Ends.{serve_fault, IsWorse};
 ghost use Rattle.ns_serve.specs.Turns.{Anything, HasReceipts, IsServed, IsAnswered};
 
 use crate::closer::{AT_A_TIME, Closings, Turn, close_and_write, room_for, write_notices};
+use crate::keeper::Task;
 use crossbeam_channel::{Receiver, Sender, unbounded};
 use log::{Log, error};
 use ns_forwarder_socket::Pending;
 use ns_joinclient::HostName;
-use ns_record_files::Upkeep;
 use ns_responses::Responses;
 use ns_roster::Roster;
 use ns_serve_parts::{
@@ -22,7 +22,7 @@ use ns_serve_parts::{
 };
 use ns_serve_state::{
     Events, FromQueue, FromSocket, IntoQueues, Later, Recording, SinceStart, State, ToSocket,
-    hand_on, look_after_record, now_ms, rest_record, tell,
+    hand_on, now_ms, tell,
 };
 use ns_server::{Naming, Pass, Server};
 use ns_types::{Sink, Source, Stream, Ticket, WindowName};
@@ -100,8 +100,8 @@ struct Kits<B: Naming> {
     gateways: Vec<GatewayKit<B>>,
 }
 
-// What a thread does with what it takes along, and what it brings back.
-trait Work<K, O> {
+/// What a thread does with what it takes along, and what it brings back.
+pub(crate) trait Work<K, O> {
     fn work(&self, kit: K) -> O;
 }
 
@@ -131,8 +131,8 @@ impl<
     }
 }
 
-// Starts a thread, if one can be made.
-fn start_thread<'s, E, A: Work<K, O> + Sync, K: Send + Drop + 's, O: Send + Drop + 's>(
+/// Starts a thread, if one can be made.
+pub(crate) fn start_thread<'s, E, A: Work<K, O> + Sync, K: Send + Drop + 's, O: Send + Drop + 's>(
     scope: &Scope<'s, E>,
     around: &'s A,
     kit: K,
@@ -172,71 +172,54 @@ impl<'a, B: Naming, R: Wait + Clock, W> Work<TellerKit, ()> for Around<'a, B, R,
     }
 }
 
-// What who looks after the record takes along.
-#[derive(Drop)]
-struct KeeperKit<U> {
-    upkeep: U,
-}
-
-impl<'a, B: Naming, R: Wait + Clock, W, U: Upkeep + Drop> Work<KeeperKit<U>, ()>
-    for Around<'a, B, R, W> {
-    fn work(&self, kit: KeeperKit<U>) {
-        let KeeperKit { upkeep } = kit;
-        look_after_record(self.rt, self.state, upkeep);
-    }
-}
-
-// Starts a thread that brings nothing back, where there is a kit for it, and says whether it was made.
-fn start_helper<'s, E, A: Work<K, ()> + Sync, K: Send + Drop + 's>(
+// Starts the thread that tells the status, where it is told, and says whether it was made.
+fn start_teller<'s, E, A: Work<TellerKit, ()> + Sync>(
     scope: &Scope<'s, E>,
     around: &'s A,
-    kit: Option<K>,
-    helpers: &mut Vec<JoinHandle<()>>,
+    is_told: bool,
+    teller: &mut Vec<JoinHandle<()>>,
 ) -> bool {
-    let Some(kit) = kit else {
+    if !is_told {
         return true;
-    };
-    let Some(handle) = start_thread(scope, around, kit) else {
+    }
+    let Some(handle) = start_thread(scope, around, TellerKit) else {
         return false;
     };
-    helpers.push(handle).is_ok()
+    teller.push(handle).is_ok()
 }
 
-// Waits for the ends of these threads.
-fn join_helpers<R: Threads + Wait>(rt: &R, helpers: Vec<JoinHandle<()>>) {
-    for helper in helpers {
-        helper.join(rt);
+// Waits for the end of the thread that tells the status.
+fn join_teller<R: Threads + Wait>(rt: &R, teller: Vec<JoinHandle<()>>) {
+    for teller in teller {
+        teller.join(rt);
     }
 }
 
-// Starts all join workers, all gateway workers and, where there are kits for them, who tells the status and who looks after the record, and
-// says whether all were made. What those take along that were not made is dropped: a sender among it would keep the closer's channel open.
+// Starts all join workers, all gateway workers and, where the status is told, who tells it, and says whether all were made. What those
+// take along that were not made is dropped: a sender among it would keep the closer's channel open.
 fn start_threads<
     's,
     E,
-    A: Work<J, O> + Work<G, O> + Work<TellerKit, ()> + Work<K, ()> + Sync,
+    A: Work<J, O> + Work<G, O> + Work<TellerKit, ()> + Sync,
     J: Send + Drop + 's,
     G: Send + Drop + 's,
     O: Send + Drop + 's,
-    K: Send + Drop + 's,
 >(
     scope: &Scope<'s, E>,
     around: &'s A,
     join_kits: Vec<J>,
     gateway_kits: Vec<G>,
-    teller: Option<TellerKit>,
-    keeper: Option<K>,
+    is_told: bool,
     joiners: &mut Vec<JoinHandle<O>>,
     gateways: &mut Vec<JoinHandle<O>>,
-    helpers: &mut Vec<JoinHandle<()>>,
+    teller: &mut Vec<JoinHandle<()>>,
 ) -> bool
     ensures joiners { result ≡ true → vec_len joiners.new ≡ vec_len joiners.old + vec_len join_kits }
     ensures gateways { result ≡ true → vec_len gateways.new ≡ vec_len gateways.old + vec_len gateway_kits }
 {
     start_all(scope, around, join_kits, joiners)
         && start_all(scope, around, gateway_kits, gateways)
-        && start_helper(scope, around, teller, helpers)
-        && start_helper(scope, around, keeper, helpers)
+        && start_teller(scope, around, is_told, teller)
 }
 
 // The fault of a worker. Where there is one, it is logged, and all others are to stop.
@@ -517,39 +500,11 @@ fn kits_of<B: Naming>(
     })
 }
 
-// Starts all threads of a server beside the closer's: the join workers, the gateway workers and, where they are asked for, who tells the status
-// and who looks after the record. Says whether all were made.
-fn start_workers<
-    's,
-    'a,
-    E,
+// Runs all workers to their ends. The closer runs in the thread of the caller.
+fn run_all<
     B: Naming + Send + Sync,
     R: Threads + Wait + Clock + Net<Listener = TcpListener, Stream = TcpStream> + Log + Sync,
     W: Sink + Send,
-    U: Upkeep + Send + Drop + 's,
->(
-    scope: &Scope<'s, E>,
-    around: &'s Around<'a, B, R, W>,
-    joins: Vec<JoinKit<B>>,
-    hearers: Vec<GatewayKit<B>>,
-    upkeep: U,
-    joiners: &mut Vec<JoinHandle<Back<B>>>,
-    gateways: &mut Vec<JoinHandle<Back<B>>>,
-    helpers: &mut Vec<JoinHandle<()>>,
-) -> bool {
-    let teller = around.state.status.as_ref().map(|_| TellerKit);
-    let keeper = around.state.record.as_ref().map(|_| KeeperKit { upkeep });
-    start_threads(
-        scope, around, joins, hearers, teller, keeper, joiners, gateways, helpers,
-    )
-}
-
-/// Runs all workers to their ends. The closer runs in the thread of the caller.
-pub(crate) fn run_all<
-    B: Naming + Send + Sync,
-    R: Threads + Wait + Clock + Net<Listener = TcpListener, Stream = TcpStream> + Log + Sync,
-    W: Sink + Send,
-    U: Upkeep + Send + Drop,
 >(
     rt: &R,
     alloc: Global,
@@ -561,7 +516,6 @@ pub(crate) fn run_all<
     options: &ServeOptions<'_>,
     windows: Vec<WindowName>,
     tickets: Vec<Ticket>,
-    upkeep: U,
 ) -> Result<Ends<B>, AllocError>
     requires count { vec_len passes ≡ options.now.workers + options.now.join_workers + 1 }
     requires unused { All (λ p. p ≡ none_made) passes.items }
@@ -594,21 +548,22 @@ pub(crate) fn run_all<
     state.gateways.store(heard_by as u64, Ordering::SeqCst);
     let ends = thread::scope(thread::scope_env(), rt, |scope| {
         let (mut ends, mut gateways, mut joiners) = (ends, gateways, joiners);
-        let mut helpers = Vec::new(alloc);
+        let mut teller = Vec::new(alloc);
         let Kits {
             closer,
             joins,
             gateways: hearers,
         } = kits;
-        let is_whole = start_workers(
+        let is_told = state.status.is_some();
+        let is_whole = start_threads(
             scope,
             around,
             joins,
             hearers,
-            upkeep,
+            is_told,
             &mut joiners,
             &mut gateways,
-            &mut helpers,
+            &mut teller,
         );
         if !is_whole {
             error!(rt; "a thread could not be made");
@@ -616,12 +571,53 @@ pub(crate) fn run_all<
             state.break_off();
         }
         let back = closer_thread(around, closer, close_receiver);
-        rest_record(state);
         keep(&mut ends, back);
         join_all(rt, &mut ends, gateways);
         join_all(rt, &mut ends, joiners);
-        join_helpers(rt, helpers);
+        join_teller(rt, teller);
         ends
     });
     Ok(ends)
+}
+
+/// What the workers run over.
+#[derive(Drop)]
+pub(crate) struct Running<'a, B: Naming, R, W> {
+    pub rt: &'a R,
+    pub alloc: Global,
+    pub server: &'a Server<B>,
+    pub passes: Vec<Pass<B>>,
+    pub roster: &'a Roster,
+    pub state: &'a State,
+    pub output: &'a Mutex<Output<W>>,
+    pub options: &'a ServeOptions<'a>,
+    pub windows: Vec<WindowName>,
+    pub tickets: Vec<Ticket>,
+    ghost count: { vec_len passes ≡ options.now.workers + options.now.join_workers + 1 },
+    ghost unused: { All (λ p. p ≡ none_made) passes.items },
+}
+
+impl<
+    'a,
+    B: Naming + Send + Sync,
+    R: Threads + Wait + Clock + Net<Listener = TcpListener, Stream = TcpStream> + Log + Sync,
+    W: Sink + Send,
+> Task<Result<Ends<B>, AllocError>> for Running<'a, B, R, W> {
+    fn run(self) -> Result<Ends<B>, AllocError> {
+        let Running {
+            rt,
+            alloc,
+            server,
+            passes,
+            roster,
+            state,
+            output,
+            options,
+            windows,
+            tickets,
+        } = self;
+        run_all(
+            rt, alloc, server, passes, roster, state, output, options, windows, tickets,
+        )
+    }
 }
