@@ -10,11 +10,12 @@ ghost use Rattle.ns_serve_parts.specs.Ends.{serve_fault, IsWorse};
 ghost use Rattle.ns_serve.specs.Turns.{Anything, HasReceipts, IsServed, IsAnswered};
 
 use crate::closer::{AT_A_TIME, Closings, Turn, close_and_write, room_for, write_notices};
-use crate::keeper::Task;
+use crate::keeper::{KeeperKit, Keeping};
 use crossbeam_channel::{Receiver, Sender, unbounded};
 use log::{Log, error};
 use ns_forwarder_socket::Pending;
 use ns_joinclient::HostName;
+use ns_record_files::Upkeep;
 use ns_responses::Responses;
 use ns_roster::Roster;
 use ns_serve_parts::{
@@ -22,7 +23,7 @@ use ns_serve_parts::{
 };
 use ns_serve_state::{
     Events, FromQueue, FromSocket, IntoQueues, Later, Recording, SinceStart, State, ToSocket,
-    hand_on, now_ms, tell,
+    hand_on, now_ms, rest_record, tell,
 };
 use ns_server::{Naming, Pass, Server};
 use ns_types::{Sink, Source, Stream, Ticket, WindowName};
@@ -131,8 +132,8 @@ impl<
     }
 }
 
-/// Starts a thread, if one can be made.
-pub(crate) fn start_thread<'s, E, A: Work<K, O> + Sync, K: Send + Drop + 's, O: Send + Drop + 's>(
+// Starts a thread, if one can be made.
+fn start_thread<'s, E, A: Work<K, O> + Sync, K: Send + Drop + 's, O: Send + Drop + 's>(
     scope: &Scope<'s, E>,
     around: &'s A,
     kit: K,
@@ -172,26 +173,27 @@ impl<'a, B: Naming, R: Wait + Clock, W> Work<TellerKit, ()> for Around<'a, B, R,
     }
 }
 
-// Starts the thread that tells the status, where it is told, and says whether it was made.
-fn start_teller<'s, E, A: Work<TellerKit, ()> + Sync>(
+// Starts a thread that brings nothing back, where it is wanted, and says whether it was made.
+fn start_helper<'s, E, A: Work<K, ()> + Sync, K: Send + Drop + 's>(
     scope: &Scope<'s, E>,
     around: &'s A,
-    is_told: bool,
-    teller: &mut Vec<JoinHandle<()>>,
+    kit: K,
+    is_wanted: bool,
+    helpers: &mut Vec<JoinHandle<()>>,
 ) -> bool {
-    if !is_told {
+    if !is_wanted {
         return true;
     }
-    let Some(handle) = start_thread(scope, around, TellerKit) else {
+    let Some(handle) = start_thread(scope, around, kit) else {
         return false;
     };
-    teller.push(handle).is_ok()
+    helpers.push(handle).is_ok()
 }
 
-// Waits for the end of the thread that tells the status.
-fn join_teller<R: Threads + Wait>(rt: &R, teller: Vec<JoinHandle<()>>) {
-    for teller in teller {
-        teller.join(rt);
+// Waits for the ends of these threads.
+fn join_helpers<R: Threads + Wait>(rt: &R, helpers: Vec<JoinHandle<()>>) {
+    for helper in helpers {
+        helper.join(rt);
     }
 }
 
@@ -212,14 +214,14 @@ fn start_threads<
     is_told: bool,
     joiners: &mut Vec<JoinHandle<O>>,
     gateways: &mut Vec<JoinHandle<O>>,
-    teller: &mut Vec<JoinHandle<()>>,
+    helpers: &mut Vec<JoinHandle<()>>,
 ) -> bool
     ensures joiners { result ≡ true → vec_len joiners.new ≡ vec_len joiners.old + vec_len join_kits }
     ensures gateways { result ≡ true → vec_len gateways.new ≡ vec_len gateways.old + vec_len gateway_kits }
 {
     start_all(scope, around, join_kits, joiners)
         && start_all(scope, around, gateway_kits, gateways)
-        && start_teller(scope, around, is_told, teller)
+        && start_helper(scope, around, TellerKit, is_told, helpers)
 }
 
 // The fault of a worker. Where there is one, it is logged, and all others are to stop.
@@ -500,22 +502,25 @@ fn kits_of<B: Naming>(
     })
 }
 
-// Runs all workers to their ends. The closer runs in the thread of the caller.
-fn run_all<
+/// Runs all workers to their ends. The closer runs in the thread of the caller.
+pub(crate) fn run_all<
+    'a,
     B: Naming + Send + Sync,
     R: Threads + Wait + Clock + Net<Listener = TcpListener, Stream = TcpStream> + Log + Sync,
     W: Sink + Send,
+    U: Upkeep + Send + Drop,
 >(
-    rt: &R,
+    rt: &'a R,
     alloc: Global,
-    server: &Server<B>,
+    server: &'a Server<B>,
     passes: Vec<Pass<B>>,
-    roster: &Roster,
-    state: &State,
-    output: &Mutex<Output<W>>,
-    options: &ServeOptions<'_>,
+    roster: &'a Roster,
+    state: &'a State,
+    output: &'a Mutex<Output<W>>,
+    options: &ServeOptions<'a>,
     windows: Vec<WindowName>,
     tickets: Vec<Ticket>,
+    upkeep: U,
 ) -> Result<Ends<B>, AllocError>
     requires count { vec_len passes ≡ options.now.workers + options.now.join_workers + 1 }
     requires unused { All (λ p. p ≡ none_made) passes.items }
@@ -545,16 +550,22 @@ fn run_all<
         trim: options.trim,
     };
     let around = &around;
+    let keeping = Keeping {
+        rt,
+        state,
+        upkeep: Mutex::new(Some(upkeep)),
+    };
+    let keeping = &keeping;
     state.gateways.store(heard_by as u64, Ordering::SeqCst);
     let ends = thread::scope(thread::scope_env(), rt, |scope| {
         let (mut ends, mut gateways, mut joiners) = (ends, gateways, joiners);
-        let mut teller = Vec::new(alloc);
+        let mut helpers = Vec::new(alloc);
         let Kits {
             closer,
             joins,
             gateways: hearers,
         } = kits;
-        let is_told = state.status.is_some();
+        let (is_told, is_kept) = (state.status.is_some(), state.record.is_some());
         let is_whole = start_threads(
             scope,
             around,
@@ -563,61 +574,20 @@ fn run_all<
             is_told,
             &mut joiners,
             &mut gateways,
-            &mut teller,
-        );
+            &mut helpers,
+        ) && start_helper(scope, keeping, KeeperKit, is_kept, &mut helpers);
         if !is_whole {
             error!(rt; "a thread could not be made");
             ends.fault = Some(ServeFault::NoMemory);
             state.break_off();
         }
         let back = closer_thread(around, closer, close_receiver);
+        rest_record(state);
         keep(&mut ends, back);
         join_all(rt, &mut ends, gateways);
         join_all(rt, &mut ends, joiners);
-        join_teller(rt, teller);
+        join_helpers(rt, helpers);
         ends
     });
     Ok(ends)
-}
-
-/// What the workers run over.
-#[derive(Drop)]
-pub(crate) struct Running<'a, B: Naming, R, W> {
-    pub rt: &'a R,
-    pub alloc: Global,
-    pub server: &'a Server<B>,
-    pub passes: Vec<Pass<B>>,
-    pub roster: &'a Roster,
-    pub state: &'a State,
-    pub output: &'a Mutex<Output<W>>,
-    pub options: &'a ServeOptions<'a>,
-    pub windows: Vec<WindowName>,
-    pub tickets: Vec<Ticket>,
-    ghost count: { vec_len passes ≡ options.now.workers + options.now.join_workers + 1 },
-    ghost unused: { All (λ p. p ≡ none_made) passes.items },
-}
-
-impl<
-    'a,
-    B: Naming + Send + Sync,
-    R: Threads + Wait + Clock + Net<Listener = TcpListener, Stream = TcpStream> + Log + Sync,
-    W: Sink + Send,
-> Task<Result<Ends<B>, AllocError>> for Running<'a, B, R, W> {
-    fn run(self) -> Result<Ends<B>, AllocError> {
-        let Running {
-            rt,
-            alloc,
-            server,
-            passes,
-            roster,
-            state,
-            output,
-            options,
-            windows,
-            tickets,
-        } = self;
-        run_all(
-            rt, alloc, server, passes, roster, state, output, options, windows, tickets,
-        )
-    }
 }

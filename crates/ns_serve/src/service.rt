@@ -12,8 +12,7 @@ ghost use Rattle.ns_serve_parts.specs.Closing.{last_lines};
 ghost use Rattle.ns_serve_parts.specs.Output.{Grows, EndsIn, Sends};
 
 use crate::ending::{Stop, mark_stop};
-use crate::keeper::beside_keeper;
-use crate::run::{Ends, Running};
+use crate::run::{Ends, run_all};
 use log::{Log, error, info};
 use ns_calls::{Uplink, up_line};
 use ns_events::{Output as Written, uplink_json};
@@ -351,19 +350,9 @@ fn run_server<
         return Err(no_memory(rt, "the shards"));
     };
     let output = Mutex::new(output);
-    let running = Running {
-        rt,
-        alloc,
-        server: &server,
-        passes,
-        roster: &known,
-        state,
-        output: &output,
-        options,
-        windows,
-        tickets,
-    };
-    let Some(Ok(ends)) = beside_keeper(rt, state, upkeep, running) else {
+    let Ok(ends) = run_all(
+        rt, alloc, &server, passes, &known, state, &output, options, windows, tickets, upkeep,
+    ) else {
         return Err(no_memory(rt, "the workers"));
     };
     let mut output = output.into_inner();
