@@ -8,7 +8,7 @@ ghost use Rattle.ns_tally.specs.Tally.{AreNamed};
 use crate::runs::{Bench, Run, run_all};
 use crate::told::tell_entries;
 use ns_roster::Roster;
-use ns_server::{Naming, Pass, Server, Settled};
+use ns_server::{Naming, Pass, Server, SettleFault, Settled};
 use ns_tally::Blanks;
 use std::alloc::Global;
 use std::marker::Brand;
@@ -52,8 +52,9 @@ fn tell_on<B: Naming, R: Wait>(
             drop(settled);
             ran.and(told)
         }
-        Err(fault) => {
-            drop(fault);
+        Err(SettleFault { server, passes }) => {
+            drop(server);
+            drop(passes);
             None
         }
     }

@@ -475,22 +475,26 @@ accepted 13 1 1237220849
     "",
 );
 
-// The cases with memory enough.
-const CASES: &[Case] = &[
-    WINDOWS_ARE_CLOSED_IN_ORDER,
+const OF_GATEWAY_WORKERS: &[Case] = &[
     EACH_ROUND_IS_CLOSED,
     JOBS_THAT_CANNOT_BE_PUT,
-    TICKETS_ARE_ANSWERED,
     JOBS_ARE_PUT_ONCE,
     NO_DATAGRAM_IS_DROPPED,
-    EACH_WINDOW_IN_ITS_TIME,
+];
+
+const OF_JOIN_WORKERS: &[Case] = &[
+    TICKETS_ARE_ANSWERED,
     THREE_TICKETS_OF_TWO_DEVICES,
     STALE_TICKET_IS_NOT_ASKED,
+];
+
+const OF_CLOSERS: &[Case] = &[
+    WINDOWS_ARE_CLOSED_IN_ORDER,
+    EACH_WINDOW_IN_ITS_TIME,
     LINES_BEFORE_A_FAILED_SOURCE,
     LINES_BEFORE_A_FAILED_SINK,
 ];
 
-// The cases without memory.
 const WITHOUT_MEMORY: &[Case] = &[
     LINES_BEFORE_NO_MEMORY,
     DROPPED_UPLINK_IS_HEARD_AGAIN,
@@ -508,10 +512,24 @@ fn other_text<R: Wait>(rt: &R, alloc: Global, cases: &[Case]) -> Option<String> 
     None
 }
 
-/// What workers do, by the cases above.
+/// What gateway workers do, by the cases above.
 #[test]
-fn runs_of_workers(rt: HostRuntime) {
-    let other = other_text(&rt, rt.alloc(), CASES);
+fn runs_of_gateway_workers(rt: HostRuntime) {
+    let other = other_text(&rt, rt.alloc(), OF_GATEWAY_WORKERS);
+    assert!(rt; other.is_none(), "{other:?}");
+}
+
+/// What join workers do, by the cases above.
+#[test]
+fn runs_of_join_workers(rt: HostRuntime) {
+    let other = other_text(&rt, rt.alloc(), OF_JOIN_WORKERS);
+    assert!(rt; other.is_none(), "{other:?}");
+}
+
+/// What closers do, by the cases above.
+#[test]
+fn runs_of_closers(rt: HostRuntime) {
+    let other = other_text(&rt, rt.alloc(), OF_CLOSERS);
     assert!(rt; other.is_none(), "{other:?}");
 }
 
