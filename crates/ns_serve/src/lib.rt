@@ -11,7 +11,6 @@
 
 mod closer;
 mod ending;
-mod keeper;
 mod run;
 mod service;
 

@@ -10,7 +10,6 @@ ghost use Rattle.ns_serve_parts.specs.Ends.{serve_fault, IsWorse};
 ghost use Rattle.ns_serve.specs.Turns.{Anything, HasReceipts, IsServed, IsAnswered};
 
 use crate::closer::{AT_A_TIME, Closings, Turn, close_and_write, room_for, write_notices};
-use crate::keeper::{KeeperKit, Keeping};
 use crossbeam_channel::{Receiver, Sender, unbounded};
 use log::{Log, error};
 use ns_forwarder_socket::Pending;
@@ -23,7 +22,7 @@ use ns_serve_parts::{
 };
 use ns_serve_state::{
     Events, FromQueue, FromSocket, IntoQueues, Later, Recording, SinceStart, State, ToSocket,
-    hand_on, now_ms, rest_record, tell,
+    hand_on, look_after_record, now_ms, rest_record, tell,
 };
 use ns_server::{Naming, Pass, Server};
 use ns_types::{Sink, Source, Stream, Ticket, WindowName};
@@ -101,8 +100,8 @@ struct Kits<B: Naming> {
     gateways: Vec<GatewayKit<B>>,
 }
 
-/// What a thread does with what it takes along, and what it brings back.
-pub(crate) trait Work<K, O> {
+// What a thread does with what it takes along, and what it brings back.
+trait Work<K, O> {
     fn work(&self, kit: K) -> O;
 }
 
@@ -170,6 +169,20 @@ impl<'a, B: Naming, R: Wait + Clock, W> Work<TellerKit, ()> for Around<'a, B, R,
         if let Some(status) = &self.state.status {
             tell(self.rt, self.alloc, self.state, status);
         }
+    }
+}
+
+// What who looks after the record takes along.
+#[derive(Drop)]
+struct KeeperKit<U> {
+    upkeep: U,
+}
+
+impl<'a, B: Naming, R: Wait + Clock, W, U: Upkeep + Drop> Work<KeeperKit<U>, ()>
+    for Around<'a, B, R, W> {
+    fn work(&self, kit: KeeperKit<U>) {
+        let KeeperKit { upkeep } = kit;
+        look_after_record(self.rt, self.state, upkeep);
     }
 }
 
@@ -504,20 +517,19 @@ fn kits_of<B: Naming>(
 
 /// Runs all workers to their ends. The closer runs in the thread of the caller.
 pub(crate) fn run_all<
-    'a,
     B: Naming + Send + Sync,
     R: Threads + Wait + Clock + Net<Listener = TcpListener, Stream = TcpStream> + Log + Sync,
     W: Sink + Send,
     U: Upkeep + Send + Drop,
 >(
-    rt: &'a R,
+    rt: &R,
     alloc: Global,
-    server: &'a Server<B>,
+    server: &Server<B>,
     passes: Vec<Pass<B>>,
-    roster: &'a Roster,
-    state: &'a State,
-    output: &'a Mutex<Output<W>>,
-    options: &ServeOptions<'a>,
+    roster: &Roster,
+    state: &State,
+    output: &Mutex<Output<W>>,
+    options: &ServeOptions<'_>,
     windows: Vec<WindowName>,
     tickets: Vec<Ticket>,
     upkeep: U,
@@ -550,12 +562,6 @@ pub(crate) fn run_all<
         trim: options.trim,
     };
     let around = &around;
-    let keeping = Keeping {
-        rt,
-        state,
-        upkeep: Mutex::new(Some(upkeep)),
-    };
-    let keeping = &keeping;
     state.gateways.store(heard_by as u64, Ordering::SeqCst);
     let ends = thread::scope(thread::scope_env(), rt, |scope| {
         let (mut ends, mut gateways, mut joiners) = (ends, gateways, joiners);
@@ -565,7 +571,7 @@ pub(crate) fn run_all<
             joins,
             gateways: hearers,
         } = kits;
-        let (is_told, is_kept) = (state.status.is_some(), state.record.is_some());
+        let is_told = state.status.is_some();
         let is_whole = start_threads(
             scope,
             around,
@@ -575,8 +581,11 @@ pub(crate) fn run_all<
             &mut joiners,
             &mut gateways,
             &mut helpers,
-        ) && start_helper(scope, keeping, KeeperKit, is_kept, &mut helpers);
-        if !is_whole {
+        );
+        let is_kept = is_whole && state.record.is_some();
+        let keeper = KeeperKit { upkeep };
+        let has_keeper = start_helper(scope, around, keeper, is_kept, &mut helpers);
+        if !is_whole || !has_keeper {
             error!(rt; "a thread could not be made");
             ends.fault = Some(ServeFault::NoMemory);
             state.break_off();
