@@ -15,11 +15,13 @@ ghost use Rattle.ns_words.specs.Asked.{IsServed};
 ghost use Rattle.ns_commands.specs.Status.{IsRun};
 
 use log::filter::FilteredLog;
+use log::sink::Discard;
 use log::{Log, error};
 use ns_commands::{
     End, Fault, Logging, Timed, VARIABLE, compact, concluded, ended, keeper, of_record, of_serve,
     open_record, read_filter, read_roster, run_replay, words,
 };
+use ns_record_files::{RecordFiles, Recorder, Upkeep};
 use ns_roster::Roster;
 use ns_serve::{Begun, EndOfInput, ServeOptions, Stop, WaitingWriter, serve};
 use ns_types::OverStd;
@@ -63,38 +65,36 @@ fn begin<R: Files<File = File> + AllocGlobal, L: Log>(
 }
 
 // Reads the roster and then serves gateways.
-fn run_serve<'a, R, L, S>(
+fn run_serve<'a, R, L, S, U>(
     rt: &R,
     log: &L,
     path: &'a str,
     options: &ServeOptions<'_>,
     record: Recorded<'_>,
     stop: S,
+    upkeep: U,
 ) -> Result<(), Fault<'a>>
 where
-    R: Files<File = File> + Wait + AllocGlobal + Print + Sync,
+    R: Files<File = File> + AllocGlobal + Print + Sync,
     S: Stop + Send + Drop + 'static,
+    U: Upkeep + Send + Drop,
     L: Threads + Wait + Clock + Log + Sync,
     L: Net<Listener = TcpListener, Stream = TcpStream>,
     requires { IsServed options.now }
 {
     let roster = read_roster(rt, log, path)?;
     let begun = begin(rt, log, &roster, record)?;
-    let Ok(known) = roster.clone() else {
-        error!(log; "no memory for the roster");
-        return Err(Fault::NoMemory);
-    };
-    let upkeep = keeper(rt, log, &known, record.folder.unwrap_or(""));
     let writer = OverStd::new(WaitingWriter::new(log, io::writer(rt)));
     let alloc = rt.alloc();
     of_serve(serve(log, alloc, roster, options, begun, stop, upkeep, writer))
 }
 
 // Does what the words ask for.
-fn run<'a, R, L, S>(rt: &R, log: &L, words: &'a [String], stop: S) -> End<'a>
+fn run<'a, R, L, S, U>(rt: &R, log: &L, words: &'a [String], stop: S, upkeep: U) -> End<'a>
 where
-    R: Files<File = File> + Wait + AllocGlobal + Input + Print + Sync,
+    R: Files<File = File> + AllocGlobal + Input + Print + Sync,
     S: Stop + Send + Drop + 'static,
+    U: Upkeep + Send + Drop,
     L: Threads + Wait + Clock + Log + Sync,
     L: Net<Listener = TcpListener, Stream = TcpStream>,
     ensures { IsRun (map string_bytes words.now) result }
@@ -104,11 +104,34 @@ where
             End::Ran(run_replay(rt, log, path, uplinks, closing))
         }
         Ok(Asked::Serve(path, options, record)) => {
-            End::Ran(run_serve(rt, log, path, &options, record, stop))
+            End::Ran(run_serve(rt, log, path, &options, record, stop, upkeep))
         }
         Ok(Asked::Compact(path, folder)) => End::Ran(compact(rt, log, path, folder)),
         Err(bad) => End::Refused(bad),
     }
+}
+
+// The roster and the folder of the record that a server is to keep, where both are asked for and the roster can be read.
+fn kept<'a, R: Files<File = File> + AllocGlobal>(
+    rt: &R,
+    words: &'a [String],
+) -> Option<(Arc<Roster>, &'a str)> {
+    let Ok(Asked::Serve(path, _, record)) = read_words(rt.alloc(), words) else {
+        return None;
+    };
+    let folder = record.folder?;
+    match read_roster(rt, &Discard, path) {
+        Ok(roster) => Some((roster, folder)),
+        Err(_) => None,
+    }
+}
+
+// Where there is no record to look after.
+#[derive(Drop)]
+struct NoRecord;
+
+impl Upkeep for NoRecord {
+    fn look_after(&mut self, _record: &Recorder<RecordFiles>) {}
 }
 
 fn main(rt: HostRuntime) -> ExitCode {
@@ -119,8 +142,14 @@ fn main(rt: HostRuntime) -> ExitCode {
     let log = Logging::new(&rt, FilteredLog::new(Timed(&rt), filter));
     match words(&rt) {
         Ok(words) => {
-            let stop = EndOfInput::new(rt);
-            concluded(&rt, &log, &run(&rt, &log, words.as_slice(), stop))
+            let (words, stop) = (words.as_slice(), EndOfInput::new(rt));
+            let end = match kept(&rt, words) {
+                Some((roster, folder)) => {
+                    run(&rt, &log, words, stop, keeper(&rt, &log, &roster, folder))
+                }
+                None => run(&rt, &log, words, stop, NoRecord),
+            };
+            concluded(&rt, &log, &end)
         }
         Err(bad) => concluded(&rt, &log, &End::Refused(bad)),
     }
