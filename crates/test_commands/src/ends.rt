@@ -1,5 +1,6 @@
 //! The texts of faults and of times, how runs end, and the exit statuses.
 
+use crate::words::words_of;
 use log::sink::Discard;
 use log::{Level, Log, Logged};
 use ns_commands::{
@@ -105,32 +106,16 @@ fn end_of<'a, L: Log>(rt: &HostRuntime, log: &L, words: &'a [String]) -> End<'a>
 #[test]
 fn runs_that_fail(rt: HostRuntime) -> Result<(), Fail> {
     let log = Logged::new(&rt, Level::Error, Discard);
-    for (list, status) in [
+    for (text, status) in [
+        ("lorawan_ns replay no/such/roster.json --closing", 1u8),
         (
-            ["lorawan_ns", "replay", "no/such/roster.json", "--closing"].as_slice(),
+            "lorawan_ns serve no/such/roster.json --join 127.0.0.1:9",
             1u8,
         ),
-        (
-            [
-                "lorawan_ns",
-                "serve",
-                "no/such/roster.json",
-                "--join",
-                "127.0.0.1:9",
-            ]
-            .as_slice(),
-            1u8,
-        ),
-        (
-            ["lorawan_ns", "compact", "no/such/roster.json", "no/such"].as_slice(),
-            1u8,
-        ),
-        (["lorawan_ns", "replay"].as_slice(), 2u8),
+        ("lorawan_ns compact no/such/roster.json no/such", 1u8),
+        ("lorawan_ns replay", 2u8),
     ] {
-        let mut words = Vec::new(rt.alloc());
-        for word in list {
-            words.push(String::from_str(rt.alloc(), word)?)?;
-        }
+        let words = words_of(&rt, text)?;
         let end = end_of(&rt, &log, words.as_slice());
         assert_eq!(rt; concluded(&rt, &log, &end), ExitCode::from(status));
     }

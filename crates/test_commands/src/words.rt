@@ -28,28 +28,31 @@ fn are_usual(options: &ServeOptions<'_>) -> bool {
         && !options.closing
 }
 
-// What some words ask for: R to replay, J to replay with uplinks as JSON, C to replay with the closing roster, U to serve with the usual options, D to serve with the
-// closing roster, S to serve with others, T a text that was asked for; V is a value that an option cannot have, E another error. Beside
-// it the exit status where nothing is to be done.
-fn asked(rt: &HostRuntime, list: &[&str]) -> Result<(char, ExitCode), Fail> {
+/// The words of a text, with one space between them.
+pub(crate) fn words_of(rt: &HostRuntime, text: &str) -> Result<Vec<String>, Fail> {
     let mut words = Vec::new(rt.alloc());
-    for word in list {
+    for word in text.split(" ") {
         words.push(String::from_str(rt.alloc(), word)?)?;
     }
-    Ok(match read_words(rt.alloc(), words.as_slice()) {
-        Ok(Asked::Replay("roster.json", Output::Lines, false)) => ('R', ExitCode::SUCCESS),
-        Ok(Asked::Replay("roster.json", Output::Json, false)) => ('J', ExitCode::SUCCESS),
-        Ok(Asked::Replay("roster.json", Output::Lines, true)) => ('C', ExitCode::SUCCESS),
-        Ok(Asked::Compact("roster.json", "dir")) => ('K', ExitCode::SUCCESS),
-        Ok(Asked::Serve("roster.json", options, _)) if are_usual(&options) => (
-            'U',
-            ExitCode::SUCCESS,
-        ),
-        Ok(Asked::Serve("roster.json", options, _)) if options.closing => ('D', ExitCode::SUCCESS),
-        Ok(Asked::Serve("roster.json", _, _)) => ('S', ExitCode::SUCCESS),
-        Ok(_) => ('?', ExitCode::SUCCESS),
-        Err(bad) => (letter(&bad), refused(rt, &Discard, &bad)),
-    })
+    Ok(words)
+}
+
+// What some words ask for: R to replay, J to replay with uplinks as JSON, C to replay with the closing roster, K to compact, U to serve with
+// the usual options, D to serve with the closing roster, S to serve with others, T a text that was asked for; V is a value that an option
+// cannot have, E another error. Beside it the exit status where nothing is to be done.
+fn asked(rt: &HostRuntime, words: &[String]) -> (char, ExitCode) {
+    let letter = match read_words(rt.alloc(), words) {
+        Ok(Asked::Replay("roster.json", Output::Lines, false)) => 'R',
+        Ok(Asked::Replay("roster.json", Output::Json, false)) => 'J',
+        Ok(Asked::Replay("roster.json", Output::Lines, true)) => 'C',
+        Ok(Asked::Compact("roster.json", "dir")) => 'K',
+        Ok(Asked::Serve("roster.json", options, _)) if are_usual(&options) => 'U',
+        Ok(Asked::Serve("roster.json", options, _)) if options.closing => 'D',
+        Ok(Asked::Serve("roster.json", _, _)) => 'S',
+        Ok(_) => '?',
+        Err(bad) => return (letter(&bad), refused(rt, &Discard, &bad)),
+    };
+    (letter, ExitCode::SUCCESS)
 }
 
 fn letter(bad: &BadWords) -> char {
@@ -63,65 +66,37 @@ fn letter(bad: &BadWords) -> char {
 
 #[test]
 fn words_of_the_command_line(rt: HostRuntime) -> Result<(), Fail> {
-    let done = ExitCode::SUCCESS;
-    let bad = ExitCode::from(2);
-    assert_eq!(rt;
-        asked(&rt, &["lorawan_ns", "replay", "roster.json"])?,
-        ('R', done)
-    );
-    assert_eq!(rt;
-        asked(&rt, &["lorawan_ns", "replay", "roster.json", "--closing"])?,
-        ('C', done)
-    );
-    for (form, wanted) in [
-        ("lines", ('R', done)),
-        ("json", ('J', done)),
-        ("JSON", ('V', bad)),
-        ("", ('V', bad)),
+    let (done, bad) = (ExitCode::SUCCESS, ExitCode::from(2));
+    for (text, wanted) in [
+        ("lorawan_ns replay roster.json", ('R', done)),
+        ("lorawan_ns replay roster.json --closing", ('C', done)),
+        ("lorawan_ns replay roster.json --output lines", ('R', done)),
+        ("lorawan_ns replay roster.json --output json", ('J', done)),
+        ("lorawan_ns replay roster.json --output JSON", ('V', bad)),
+        ("lorawan_ns replay roster.json --output ", ('V', bad)),
+        ("lorawan_ns compact roster.json dir", ('K', done)),
+        ("lorawan_ns compact roster.json", ('E', bad)),
+        ("lorawan_ns --help", ('T', done)),
+        ("lorawan_ns replay --help", ('T', done)),
+        ("lorawan_ns --version", ('T', done)),
+        ("lorawan_ns", ('E', bad)),
+        ("lorawan_ns replay", ('E', bad)),
+        ("lorawan_ns replay roster.json more", ('E', bad)),
+        ("lorawan_ns serve roster.json", ('E', bad)),
+        (
+            "lorawan_ns serve roster.json --join 127.0.0.1:8080 --closing",
+            ('D', done),
+        ),
     ] {
-        let words = ["lorawan_ns", "replay", "roster.json", "--output", form];
-        assert_eq!(rt; asked(&rt, &words)?, wanted);
+        let words = words_of(&rt, text)?;
+        assert_eq!(rt; asked(&rt, words.as_slice()), wanted, "{text}");
     }
-    assert_eq!(rt;
-        asked(&rt, &["lorawan_ns", "compact", "roster.json", "dir"])?,
-        ('K', done)
-    );
-    assert_eq!(rt;
-        asked(&rt, &["lorawan_ns", "compact", "roster.json"])?,
-        ('E', bad)
-    );
-    assert_eq!(rt; asked(&rt, &["lorawan_ns", "--help"])?, ('T', done));
-    assert_eq!(rt;
-        asked(&rt, &["lorawan_ns", "replay", "--help"])?,
-        ('T', done)
-    );
-    assert_eq!(rt; asked(&rt, &["lorawan_ns", "--version"])?, ('T', done));
-    assert_eq!(rt; asked(&rt, &["lorawan_ns"])?, ('E', bad));
-    assert_eq!(rt; asked(&rt, &["lorawan_ns", "replay"])?, ('E', bad));
-    assert_eq!(rt;
-        asked(&rt, &["lorawan_ns", "replay", "roster.json", "more"])?,
-        ('E', bad)
-    );
     Ok(())
 }
 
 #[test]
 fn words_of_serving(rt: HostRuntime) -> Result<(), Fail> {
-    let done = ExitCode::SUCCESS;
-    let bad = ExitCode::from(2);
-    assert_eq!(rt;
-        asked(&rt, &["lorawan_ns", "serve", "roster.json"])?,
-        ('E', bad)
-    );
-    let words = [
-        "lorawan_ns",
-        "serve",
-        "roster.json",
-        "--join",
-        "127.0.0.1:8080",
-        "--closing",
-    ];
-    assert_eq!(rt; asked(&rt, &words)?, ('D', done));
+    let (done, bad) = (ExitCode::SUCCESS, ExitCode::from(2));
     for (name, value, wanted) in [
         ("--host", "localhost", ('U', done)),
         ("--host", "js.local", ('S', done)),
@@ -154,16 +129,10 @@ fn words_of_serving(rt: HostRuntime) -> Result<(), Fail> {
         ("--output", "json", ('S', done)),
         ("--output", "xml", ('V', bad)),
     ] {
-        let words = [
-            "lorawan_ns",
-            "serve",
-            "roster.json",
-            "--join",
-            "127.0.0.1:8080",
-            name,
-            value,
-        ];
-        assert_eq!(rt; asked(&rt, &words)?, wanted);
+        let mut words = words_of(&rt, "lorawan_ns serve roster.json --join 127.0.0.1:8080")?;
+        words.push(String::from_str(rt.alloc(), name)?)?;
+        words.push(String::from_str(rt.alloc(), value)?)?;
+        assert_eq!(rt; asked(&rt, words.as_slice()), wanted, "{name} {value}");
     }
     Ok(())
 }
@@ -171,41 +140,10 @@ fn words_of_serving(rt: HostRuntime) -> Result<(), Fail> {
 // Each option's value goes into the field of its name, and no other.
 #[test]
 fn each_option_is_its_field(rt: HostRuntime) -> Result<(), Fail> {
-    let mut words = Vec::new(rt.alloc());
-    for word in [
-        "lorawan_ns",
-        "serve",
-        "r.json",
-        "--join",
-        "127.0.0.3:8081",
-        "--host",
-        "js",
-        "--listen",
-        "127.0.0.2:1711",
-        "--forwarders",
-        "127.0.0.4:1712",
-        "--power",
-        "9",
-        "--status",
-        "127.0.0.5:1713",
-        "--workers",
-        "3",
-        "--join-workers",
-        "5",
-        "--window",
-        "77",
-        "--stop-after",
-        "11",
-        "--stop-at-end-of-input",
-        "--trim",
-        "13",
-        "--output",
-        "json",
-        "--events",
-        "--closing",
-    ] {
-        words.push(String::from_str(rt.alloc(), word)?)?;
-    }
+    let words = words_of(
+        &rt,
+        "lorawan_ns serve r.json --join 127.0.0.3:8081 --host js --listen 127.0.0.2:1711 --forwarders 127.0.0.4:1712 --power 9 --status 127.0.0.5:1713 --workers 3 --join-workers 5 --window 77 --stop-after 11 --stop-at-end-of-input --trim 13 --output json --events --closing",
+    )?;
     let Ok(Asked::Serve("r.json", options, _)) = read_words(rt.alloc(), words.as_slice()) else {
         return Err(Fail::new("not asked to serve"));
     };
@@ -262,8 +200,7 @@ fn help_names_streams_and_statuses(rt: HostRuntime) -> Result<(), Fail> {
         ("--help", "log lines"),
         ("--version", "lorawan_ns 0.1.0"),
     ] {
-        let mut words = Vec::new(rt.alloc());
-        words.push(String::from_str(rt.alloc(), "lorawan_ns")?)?;
+        let mut words = words_of(&rt, "lorawan_ns")?;
         words.push(String::from_str(rt.alloc(), word)?)?;
         let Err(BadWords::Shown(error)) = read_words(rt.alloc(), words.as_slice()) else {
             return Err(Fail::new("no text"));
