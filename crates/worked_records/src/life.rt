@@ -137,24 +137,24 @@ impl Life {
             Err(fault) => bail!("roster: {fault}"),
         };
         match self.resumed(roster) {
-            Ok(resumed) => self.go_on(resumed),
+            Ok(resumed) => {
+                self.go_on(&resumed)?;
+                self.shards = resumed.shards;
+                Ok(())
+            }
             Err(fault) => Ok(writeln!(self.said, "{fault}")?),
         }
     }
 
     // Goes on with what the files leave: their torn lines are cut off, and `up` lines that are missing are added.
-    fn go_on(&mut self, resumed: Resumed) -> anyhow::Result<()> {
+    fn go_on(&mut self, resumed: &Resumed) -> anyhow::Result<()> {
         let made = resumed
             .shards
             .iter()
             .fold(0u64, |sum, shard| sum.wrapping_add(shard.made()));
         writeln!(self.said, "made {made}")?;
         self.cut(resumed.torn, resumed.up_torn)?;
-        let missing = String::from_utf8(resumed.missing)?;
-        self.up.push_str(missing.as_str())?;
-        for line in missing.as_str().lines() {
-            writeln!(self.said, "added {line}")?;
-        }
+        self.add_missing(resumed.missing.as_slice())?;
         for window in &resumed.windows {
             let mut name = Line::new();
             put_window(&mut name, window);
@@ -164,7 +164,18 @@ impl Life {
             let digits = hex::encode(self.alloc, ticket.0)?;
             writeln!(self.said, "asked {digits}")?;
         }
-        self.shards = resumed.shards;
+        Ok(())
+    }
+
+    // Adds `up` lines that are missing.
+    fn add_missing(&mut self, bytes: &[u8]) -> anyhow::Result<()> {
+        let Ok(missing) = str::from_utf8(bytes) else {
+            bail!("`up` lines that are no text");
+        };
+        self.up.push_str(missing)?;
+        for line in missing.lines() {
+            writeln!(self.said, "added {line}")?;
+        }
         Ok(())
     }
 
