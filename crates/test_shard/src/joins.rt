@@ -1,163 +1,157 @@
 //! Join-Requests, answered by a shard and by the plain server, which searches the entries.
 
-use crate::calls::{H1, H2, J, call_of, first_line, roster};
-use ns_calls::{Answer, Call, Reply, lines, reply_to_join};
+use crate::calls::{ANSWERED, JOIN, JOIN_2, answers, begins_with, call_of, roster};
+use ns_calls::{Answer, Call, Entry, Reply, reply_to_join};
 use ns_roster::Roster;
-use ns_shard::Shard;
-use std::test::Fail;
+use ns_shard::{Shard, new_shards};
+use ns_types::{DevEui, WindowName};
+use std::alloc::Global;
 
-// Join-Requests of the device with other nonces, and one of an unknown device of its shard.
-const J_2: &str = "0004030201040302010d00000000000000020002000000";
+// No answer comes to the device's first Join-Request, and to its third.
+const LOST: &str = "lost 0004030201040302010d00000000000000010001000000";
 
-const J_3: &str = "0004030201040302010d00000000000000030003000000";
+const LOST_3: &str = "lost 0004030201040302010d00000000000000030003000000";
 
-const J_4: &str = "0004030201040302010d00000000000000040004000000";
-
-const J_5: &str = "0004030201040302010d00000000000000050005000000";
-
-const UNKNOWN: &str = "0004030201040302011d00000000000000010001000000";
-
-// Each call, and the first line of its answer. The seventeen copies of one Join-Request come behind them.
-const CALLS: &[(&str, &str, &str)] = &[
-    (H1, UNKNOWN, "nodevice"),
-    (H1, J, "ask 0004030201040302010d00000000000000010001000000"),
-    (H2, J, "joincopied 2"),
-    ("lost", J, "joinrefused"),
-    (H2, J, "ask 0004030201040302010d00000000000000010001000000"),
-    ("answered", J, "accepted 000000000000000d 1 49be7df1"),
-    ("answered", J, "noticket"),
-    (H1, J, "nonceold 1"),
+// Each step, and the first lines of the answers to it where it is made once and more. First comes a Join-Request of an unknown device of
+// the shard; those of the device with other nonces come from its second on.
+const STEPS: &[(&str, &[&str])] = &[
     (
-        H1,
-        J_2,
-        "ask 0004030201040302010d00000000000000020002000000",
+        "heard 010100000000000000a100000000000f424033be27a005fc4a004b170004030201040302011d00000000000000010001000000",
+        &["nodevice"],
     ),
     (
-        H1,
-        J_3,
-        "ask 0004030201040302010d00000000000000030003000000",
+        JOIN,
+        &["ask 0004030201040302010d00000000000000010001000000"],
+    ),
+    (JOIN_2, &["joincopied 2"]),
+    (LOST, &["joinrefused"]),
+    (
+        JOIN_2,
+        &["ask 0004030201040302010d00000000000000010001000000"],
     ),
     (
-        H1,
-        J_4,
-        "ask 0004030201040302010d00000000000000040004000000",
+        ANSWERED,
+        &["accepted 000000000000000d 1 49be7df1", "noticket"],
+    ),
+    (JOIN, &["nonceold 1"]),
+    (
+        "heard 010100000000000000a100000000000f424033be27a005fc4a004b170004030201040302010d00000000000000020002000000",
+        &["ask 0004030201040302010d00000000000000020002000000"],
     ),
     (
-        H1,
-        J_5,
-        "ask 0004030201040302010d00000000000000050005000000",
+        "heard 010100000000000000a100000000000f424033be27a005fc4a004b170004030201040302010d00000000000000030003000000",
+        &["ask 0004030201040302010d00000000000000030003000000"],
     ),
     (
-        H1,
-        "0004030201040302010d00000000000000060006000000",
-        "joinbusy",
+        "heard 010100000000000000a100000000000f424033be27a005fc4a004b170004030201040302010d00000000000000040004000000",
+        &["ask 0004030201040302010d00000000000000040004000000"],
     ),
-    ("lost", J_3, "joinrefused"),
+    (
+        "heard 010100000000000000a100000000000f424033be27a005fc4a004b170004030201040302010d00000000000000050005000000",
+        &["ask 0004030201040302010d00000000000000050005000000"],
+    ),
+    (
+        "heard 010100000000000000a100000000000f424033be27a005fc4a004b170004030201040302010d00000000000000060006000000",
+        &["joinbusy"],
+    ),
+    (LOST_3, &["joinrefused"]),
+    (
+        "heard 010100000000000000a200000000000f462833be27a005fc180050170004030201040302010d00000000000000020002000000",
+        &[
+            "joincopied 2",
+            "joincopied 3",
+            "joincopied 4",
+            "joincopied 5",
+            "joincopied 6",
+            "joincopied 7",
+            "joincopied 8",
+            "joincopied 9",
+            "joincopied 10",
+            "joincopied 11",
+            "joincopied 12",
+            "joincopied 13",
+            "joincopied 14",
+            "joincopied 15",
+            "joincopied 16",
+            "joincrowded",
+        ],
+    ),
 ];
 
-// The first line of the plain server's reply to a Join-Request.
-fn plain_line(
-    rt: &HostRuntime,
-    roster: &Roster,
-    shard: &Shard,
-    call: &Call,
-) -> Result<Option<String>, Fail> {
-    let Call::Join { ticket, .. } = call else {
-        return Ok(None);
-    };
+// Whether this is the first line of a reply with which nothing goes out.
+fn is_told(reply: Reply, line: &str) -> bool {
     let answer = Answer {
-        reply: reply_to_join(roster, shard.entries(), ticket),
+        reply,
         uplink: None,
         downlink: None,
     };
-    let lines = lines(&answer);
-    let line = lines.first().ok_or("no line")?;
-    Ok(Some(String::from_str(rt.alloc(), line.as_str())?))
+    begins_with(&answer, line)
 }
 
-// Whether a shard and the plain server answer this.
-fn is_answered(
-    rt: &HostRuntime,
-    roster: &Roster,
-    shard: &mut Shard,
-    call: Call,
-    want: &str,
-) -> Result<bool, Fail> {
-    let plain = plain_line(rt, roster, shard, &call)?;
-    let line = first_line(rt, shard, call)?;
-    Ok(line.as_str() == want && plain.is_none_or(|plain| plain.as_str() == want))
+// Whether the plain server answers a call with this line, where it is a Join-Request.
+fn is_plain(roster: &Roster, entries: &[Entry], call: &Call, want: &str) -> bool {
+    match call {
+        Call::Join { ticket, .. } => is_told(reply_to_join(roster, entries, ticket), want),
+        _ => true,
+    }
 }
 
-// The first of the calls that is answered otherwise, if any is.
-fn other_call(
-    rt: &HostRuntime,
+// Whether a step is answered with these lines, one after the other, by a shard and by the plain server.
+fn are_answered(
+    alloc: Global,
     roster: &Roster,
     shard: &mut Shard,
-) -> Result<Option<&'static str>, Fail> {
-    for &(head, frame, want) in CALLS {
-        let call = call_of(rt, head, frame)?;
-        if !is_answered(rt, roster, shard, call, want)? {
-            return Ok(Some(want));
+    line: &str,
+    wants: &[&str],
+) -> bool {
+    let Some(call) = call_of(alloc, line) else {
+        return false;
+    };
+    for want in wants {
+        if !is_plain(roster, shard.entries(), &call, want)
+            || answers(shard, &call, want) != Some(true)
+        {
+            return false;
         }
     }
-    Ok(None)
+    true
 }
 
-// The answer to a copy of a Join-Request that comes at this place.
-fn answer_to_copy(rt: &HostRuntime, place: u32) -> Result<String, Fail> {
-    if place < 17 {
-        Ok(format!(in rt.alloc(); "joincopied {place}")?)
-    } else {
-        Ok(String::from_str(rt.alloc(), "joincrowded")?)
-    }
-}
-
-// The place of the first copy that is answered otherwise, if any is.
-fn other_copy(rt: &HostRuntime, roster: &Roster, shard: &mut Shard) -> Result<Option<u32>, Fail> {
-    for place in 2..18u32 {
-        let call = call_of(rt, H2, J_2)?;
-        let want = answer_to_copy(rt, place)?;
-        if !is_answered(rt, roster, shard, call, want.as_str())? {
-            return Ok(Some(place));
+// The first of the steps that is answered otherwise.
+fn other_step(alloc: Global, roster: &Roster, shard: &mut Shard) -> Option<&'static str> {
+    for &(line, wants) in STEPS {
+        if !are_answered(alloc, roster, shard, line, wants) {
+            return Some(line);
         }
     }
-    Ok(None)
+    None
 }
 
-// The first call and the place of the first copy that are answered otherwise.
-fn others(
-    rt: &HostRuntime,
-    roster: &Roster,
-    shard: &mut Shard,
-) -> Result<(Option<&'static str>, Option<u32>), Fail> {
-    let call = other_call(rt, roster, shard)?;
-    Ok((call, other_copy(rt, roster, shard)?))
+// The same on a shard with no entries. None where there is none.
+fn other_steps(alloc: Global) -> Option<Option<&'static str>> {
+    let roster = roster(alloc)?;
+    let mut shards = new_shards(alloc, roster.clone().ok()?).ok()?;
+    Some(other_step(alloc, &roster, shards.get_mut(13)?))
 }
 
 #[test]
-fn the_plain_server_replies_alike(rt: HostRuntime) -> Result<(), Fail> {
-    let roster = roster(rt.alloc())?;
-    let mut shard = Shard::new(rt.alloc(), roster.clone()?, 13)?;
-    let others = others(&rt, &roster, &mut shard)?;
-    assert_eq!(rt; others, (None, None));
-    Ok(())
+fn the_plain_server_replies_alike(rt: HostRuntime) {
+    assert_eq!(rt; other_steps(rt.alloc()), Some(None));
 }
 
 // The line of the last round that there is.
 #[test]
 fn line_of_the_last_round(rt: HostRuntime) {
-    let window = ns_types::WindowName {
-        eui: ns_types::DevEui(0x0d),
+    let window = WindowName {
+        eui: DevEui(0x0d),
         session: 1,
         fcnt: 2,
         round: u32::MAX,
     };
-    let answer = Answer {
-        reply: Reply::Again { window },
-        uplink: None,
-        downlink: None,
-    };
-    let lines = lines(&answer);
-    let line = lines.first().map(|line| line.as_str());
-    assert_eq!(rt; line, Some("again 000000000000000d 1 2:4294967295"));
+    assert!(rt;
+        is_told(
+            Reply::Again { window },
+            "again 000000000000000d 1 2:4294967295"
+        )
+    );
 }

@@ -8,21 +8,21 @@ use ns_types::{BLOCKS, DevEui, WindowName, take_all};
 use std::alloc::{AllocError, Global};
 use std::test::Fail;
 
-// The window of this counter.
-fn window(fcnt: u32) -> WindowName {
-    WindowName {
+// The closing of the window of this counter.
+fn closing(fcnt: u32) -> Call {
+    let window = WindowName {
         eui: DevEui(0x0d),
         session: 1,
         fcnt,
         round: 1,
-    }
+    };
+    Call::Close { window }
 }
 
 // Adds the entry of the closing of a window, and gives its number.
 fn add(journal: &mut Journal, fcnt: u32) -> Result<u64, AllocError> {
     journal.room(1)?;
-    let window = window(fcnt);
-    Ok(journal.push(Call::Close { window }, Reply::NoWindow))
+    Ok(journal.push(closing(fcnt), Reply::NoWindow))
 }
 
 // Room for more entries than there can be is refused, and what stands in the journal stays.
@@ -39,48 +39,28 @@ fn refused_room_changes_nothing(rt: HostRuntime) -> Result<(), Fail> {
     Ok(())
 }
 
-// What is reserved by one entry is there for another, where no more room is to be had.
-#[test]
-fn reserved_room_outlasts_a_refusal(rt: HostRuntime) -> Result<(), Fail> {
-    let mut journal = Journal::new(rt.alloc());
-    let window = window(9);
-    journal.room(2)?;
-    assert_eq!(rt;
-        journal.push_reserving(Call::Close { window }, Reply::NoWindow),
-        0
-    );
-    assert_eq!(rt; journal.room(usize::MAX), Err(AllocError));
-    assert_eq!(rt;
-        journal.push_reserved(Call::Close { window }, Reply::NoWindow),
-        1
-    );
-    assert_eq!(rt; journal.made(), 2);
-    Ok(())
-}
-
-// Cuts all entries out, where fewer than 2^63 were made.
-fn cut_all(journal: &mut Journal, alloc: Global) -> Result<Vec<Entry>, AllocError>
+// Cuts all entries out where that is asked for and fewer than 2^63 were made. How many it cut.
+fn cut(journal: &mut Journal, alloc: Global, all: bool) -> Result<usize, AllocError>
     ensures { journal.new.reserved ≡ journal.old.reserved }
 {
-    if journal.made() > 1 << 63 {
-        return Err(AllocError);
+    if !all || journal.made() > 1 << 63 {
+        return Ok(0);
     }
-    journal.cut(alloc, &[])
+    Ok(journal.cut(alloc, &[])?.len())
 }
 
-// Reserved room outlasts a cut.
+// What is reserved by one entry is there for another, where no more room is to be had, and after a cut too.
 #[test]
-fn a_cut_leaves_the_reserved_room(rt: HostRuntime) -> Result<(), Fail> {
-    let mut journal = Journal::new(rt.alloc());
-    let window = window(9);
-    journal.room(2)?;
-    journal.push_reserving(Call::Close { window }, Reply::NoWindow);
-    assert_eq!(rt; cut_all(&mut journal, rt.alloc())?.len(), 1);
-    assert_eq!(rt; journal.room(usize::MAX), Err(AllocError));
-    assert_eq!(rt;
-        journal.push_reserved(Call::Close { window }, Reply::NoWindow),
-        1
-    );
+fn reserved_room_outlasts_a_refusal(rt: HostRuntime) -> Result<(), Fail> {
+    for all in [false, true] {
+        let mut journal = Journal::new(rt.alloc());
+        journal.room(2)?;
+        assert_eq!(rt; journal.push_reserving(closing(9), Reply::NoWindow), 0);
+        assert_eq!(rt; cut(&mut journal, rt.alloc(), all)?, usize::from(all));
+        assert_eq!(rt; journal.room(usize::MAX), Err(AllocError));
+        assert_eq!(rt; journal.push_reserved(closing(9), Reply::NoWindow), 1);
+        assert_eq!(rt; journal.made(), 2);
+    }
     Ok(())
 }
 
@@ -106,6 +86,6 @@ fn grown_and_cut(journal: &mut Journal, alloc: Global) -> Result<(bool, bool, bo
     drop(spare);
     let is_grown = journal.room(1).is_ok();
     take_all(alloc, &mut held)?;
-    let is_cut = cut_all(journal, alloc).is_ok();
+    let is_cut = cut(journal, alloc, true) == Ok(65_536);
     Ok((is_refused, is_grown, is_cut))
 }

@@ -1,14 +1,14 @@
 //! `replay` where reads or writes fail, or memory is refused.
 
-ghost use Rattle.std.specs.Prelude.{◌≡◌, ◌<◌, false, IfOk};
+ghost use Rattle.std.specs.Prelude.{◌<◌};
 
 use crate::calls::roster;
 use ns_events::Output;
 use ns_replay::{ReplayFault, replay};
 use ns_roster::Roster;
 use ns_types::{BLOCKS, Fuse, Stream, take_all};
+use std::alloc::Global;
 use std::sync::Arc;
-use std::test::Fail;
 
 // A join with its answer, two confirmed uplinks, their closings and a line that is refused; and what is written of them.
 const STEPS: &str =
@@ -43,135 +43,140 @@ heard 010100000000000000a100000000000f424033be27a005fc4a004b17000403020104030201
 hello
 ";
 
-// A stream that gives some bytes, moving at most `most` a call.
-fn fuse(
-    rt: &HostRuntime,
-    bytes: &[u8],
-    most: usize,
+// What came of a run: how it ended, whether its reader failed, and its writer.
+#[derive(Drop)]
+struct Ran {
+    outcome: Result<(), ReplayFault>,
+    is_unread: bool,
+    writer: Fuse,
+}
+
+// Runs step lines over streams that move so many bytes a call, and fail after so many reads or writes.
+fn run(
+    alloc: Global,
+    roster: Arc<Roster>,
+    input: Vec<u8>,
+    read_most: usize,
+    write_most: usize,
     reads: Option<u64>,
     writes: Option<u64>,
-) -> Result<Fuse, Fail>
-    requires { 0 < most }
-    ensures { IfOk result (λ f. ⟦<Fuse as Stream>⟧.has_failed f ≡ false) }
+) -> Ran
+    requires read { 0 < read_most }
+    requires write { 0 < write_most }
 {
-    let input = Vec::from_slice(rt.alloc(), bytes)?;
-    Ok(Fuse::new(rt.alloc(), input, most, reads, writes))
-}
-
-// Whether a run with a read that fails after so many writes nothing, or else all lines.
-fn read_ends(rt: &HostRuntime, roster: Arc<Roster>, reads: u64) -> Result<bool, Fail> {
-    let mut reader = fuse(rt, STEPS.as_bytes(), 70, Some(reads), None)?;
-    let mut writer = fuse(rt, b"", 200, None, None)?;
+    let mut reader = Fuse::new(alloc, input, read_most, reads, None);
+    let mut writer = Fuse::new(alloc, Vec::new(alloc), write_most, None, writes);
     let outcome = replay(
-        rt.alloc(),
+        alloc,
         roster,
         Output::Lines,
         false,
         &mut reader,
         &mut writer,
     );
-    let written = writer.written();
-    Ok(if reader.failed() {
-        outcome == Err(ReplayFault::Io) && written.is_empty()
-    } else {
-        outcome == Ok(()) && reads > 8 && written == LINES.as_bytes()
-    })
-}
-
-// Each read fails in turn, with nothing written.
-#[test]
-fn a_failed_read_writes_nothing(rt: HostRuntime) -> Result<(), Fail> {
-    let roster = roster(rt.alloc())?;
-    for reads in 0..20 {
-        assert!(rt; read_ends(&rt, roster.clone()?, reads)?, "{reads} reads");
+    Ran {
+        outcome,
+        is_unread: reader.failed(),
+        writer,
     }
-    Ok(())
 }
 
-// Whether a run of these steps with a write that fails after so many writes all these lines, or else a beginning of them. None where it
-// ends otherwise than by that failure.
-fn write_ends(
-    rt: &HostRuntime,
-    roster: Arc<Roster>,
-    steps: &str,
-    lines: &str,
-    most: usize,
-    writes: u64,
-) -> Result<Option<bool>, Fail>
-    requires { 0 < most }
-{
-    let mut reader = fuse(rt, steps.as_bytes(), 100_000, None, None)?;
-    let mut writer = fuse(rt, b"", most, None, Some(writes))?;
-    let outcome = replay(
-        rt.alloc(),
-        roster,
-        Output::Lines,
-        false,
-        &mut reader,
-        &mut writer,
-    );
-    let is_whole = !writer.failed();
-    let written = writer.written();
+// Whether a run wrote all these lines. None where it ended otherwise than so or by a failure of a stream, with nothing written where a
+// read failed, and a beginning of the lines where a write did.
+fn is_whole(ran: &Ran, lines: &str) -> Option<bool> {
+    let written = ran.writer.written();
+    let is_whole = !ran.is_unread && !ran.writer.failed();
     let is_right = if is_whole {
-        outcome == Ok(()) && written == lines.as_bytes()
+        ran.outcome == Ok(()) && written == lines.as_bytes()
     } else {
-        outcome == Err(ReplayFault::Io) && lines.as_bytes().starts_with(written)
+        ran.outcome == Err(ReplayFault::Io)
+            && lines.as_bytes().starts_with(written)
+            && (written.is_empty() || !ran.is_unread)
     };
-    Ok(if is_right { Some(is_whole) } else { None })
+    if is_right { Some(is_whole) } else { None }
 }
 
-// How often these steps write these lines, where one write after the other fails. None where it ends otherwise than by that failure and a
-// beginning of the lines.
-fn ends(rt: &HostRuntime, steps: &str, lines: &str, most: usize) -> Result<Option<u32>, Fail>
-    requires { 0 < most }
+// Whether a run of these steps writes all these lines, as `is_whole` says.
+fn ends(
+    alloc: Global,
+    roster: &Arc<Roster>,
+    text: (&str, &str),
+    read_most: usize,
+    write_most: usize,
+    reads: Option<u64>,
+    writes: Option<u64>,
+) -> Option<bool>
+    requires read { 0 < read_most }
+    requires write { 0 < write_most }
 {
-    let roster = roster(rt.alloc())?;
-    let mut ended = 0u32;
-    for writes in 0..40u64 {
-        match write_ends(rt, roster.clone()?, steps, lines, most, writes)? {
-            Some(is_whole) => ended = ended.wrapping_add(u32::from(is_whole)),
-            None => return Ok(None),
+    let (steps, lines) = text;
+    let input = Vec::from_slice(alloc, steps.as_bytes()).ok()?;
+    let roster = roster.clone().ok()?;
+    let ran = run(alloc, roster, input, read_most, write_most, reads, writes);
+    is_whole(&ran, lines)
+}
+
+// Whether each read fails in turn, with nothing written, of which there are more than eight. None where a run ends otherwise.
+fn reads_fail(alloc: Global) -> Option<bool> {
+    let roster = roster(alloc)?;
+    for reads in 0..20 {
+        let is_whole = ends(alloc, &roster, (STEPS, LINES), 70, 200, Some(reads), None)?;
+        if is_whole && reads <= 8 {
+            return Some(false);
         }
     }
-    Ok(Some(ended))
+    Some(true)
+}
+
+#[test]
+fn a_failed_read_writes_nothing(rt: HostRuntime) {
+    assert_eq!(rt; reads_fail(rt.alloc()), Some(true));
+}
+
+// How many runs of these steps write all these lines, where the write after so many fails. None where one of them ends otherwise than so
+// or by that failure.
+fn whole_runs(alloc: Global, text: (&str, &str), most: usize) -> Option<u32>
+    requires { 0 < most }
+{
+    let roster = roster(alloc)?;
+    let mut count = 0u32;
+    for writes in 0..40 {
+        let is_whole = ends(alloc, &roster, text, 100_000, most, None, Some(writes))?;
+        count = count.wrapping_add(u32::from(is_whole));
+    }
+    Some(count)
+}
+
+// The same of so many lines that are refused.
+fn whole_refusals(alloc: Global, count: usize) -> Option<u32> {
+    let steps = "hello\n".repeat(alloc, count).ok()?;
+    let lines = "refused line\n".repeat(alloc, count).ok()?;
+    whole_runs(alloc, (steps.as_str(), lines.as_str()), 100_000)
 }
 
 // Each write fails in turn: of a short text in pieces, and of one of more bytes than are written together.
 #[test]
-fn a_failed_write_leaves_a_beginning(rt: HostRuntime) -> Result<(), Fail> {
-    let short = ends(&rt, STEPS, LINES, 30)?;
-    assert!(rt; matches!(short, Some(count) if 0 < count && count < 30));
-    let steps = "hello\n".repeat(rt.alloc(), 12_000)?;
-    let lines = "refused line\n".repeat(rt.alloc(), 12_000)?;
-    let long = ends(&rt, steps.as_str(), lines.as_str(), 100_000)?;
-    assert!(rt; matches!(long, Some(count) if 0 < count && count < 38));
-    Ok(())
+fn a_failed_write_leaves_a_beginning(rt: HostRuntime) {
+    let short = whole_runs(rt.alloc(), (STEPS, LINES), 30);
+    assert!(rt; short > Some(0) && short < Some(30));
+    let long = whole_refusals(rt.alloc(), 12_000);
+    assert!(rt; long > Some(0) && long < Some(38));
 }
 
 // Makes a run again and again, with one block of memory more given back before each time. How often it was refused memory before it was
 // made; None where a refused run wrote something, or it ended otherwise.
 fn refusals(
-    rt: &HostRuntime,
-    held: &mut Vec<Vec<u8>>,
-    inputs: Vec<Vec<u8>>,
+    alloc: Global,
     roster: &Arc<Roster>,
-) -> Option<u64> {
-    let mut refused = 0u64;
-    for input in inputs {
-        let mut reader = Fuse::new(rt.alloc(), input, 8192, None, None);
-        let mut writer = Fuse::new(rt.alloc(), Vec::new(rt.alloc()), 8192, None, None);
-        match replay(
-            rt.alloc(),
-            roster.clone().ok()?,
-            Output::Lines,
-            false,
-            &mut reader,
-            &mut writer,
-        ) {
+    held: &mut Vec<Vec<u8>>,
+    inputs: &mut Vec<Vec<u8>>,
+) -> Option<u32> {
+    for refused in 0..4096u32 {
+        let roster = roster.clone().ok()?;
+        let ran = run(alloc, roster, inputs.pop()?, 8192, 8192, None, None);
+        match ran.outcome {
             Ok(()) => return Some(refused),
-            Err(ReplayFault::NoMemory) if writer.written().is_empty() => {
-                refused = refused.wrapping_add(1);
-            }
+            Err(ReplayFault::NoMemory) if ran.writer.written().is_empty() => {}
             Err(_) => return None,
         }
         held.pop()?;
@@ -179,23 +184,22 @@ fn refusals(
     None
 }
 
-// Whether a run of these steps is refused memory for some time, and then made.
-fn is_made_at_last(rt: &HostRuntime, steps: &str) -> Result<bool, Fail> {
-    let roster = roster(rt.alloc())?;
-    let mut inputs = Vec::with_capacity(rt.alloc(), 4096)?;
+// How often a run of these steps is refused memory until it is made.
+fn refusals_of(alloc: Global, steps: &str) -> Option<u32> {
+    let roster = roster(alloc)?;
+    let mut inputs = Vec::with_capacity(alloc, 4096).ok()?;
     for _ in 0..4096u32 {
-        inputs.push(Vec::from_slice(rt.alloc(), steps.as_bytes())?)?;
+        inputs
+            .push(Vec::from_slice(alloc, steps.as_bytes()).ok()?)
+            .ok()?;
     }
-    let mut held: Vec<Vec<u8>> = Vec::with_capacity(rt.alloc(), BLOCKS)?;
-    take_all(rt.alloc(), &mut held)?;
-    let refused = refusals(rt, &mut held, inputs, &roster);
-    drop(held);
-    Ok(refused > Some(0))
+    let mut held = Vec::with_capacity(alloc, BLOCKS).ok()?;
+    take_all(alloc, &mut held).ok()?;
+    refusals(alloc, &roster, &mut held, &mut inputs)
 }
 
 #[test]
-fn memory_refused_to_a_whole_run(rt: HostRuntime) -> Result<(), Fail> {
-    assert!(rt; is_made_at_last(&rt, REQUESTS)?);
-    assert!(rt; is_made_at_last(&rt, STEPS)?);
-    Ok(())
+fn memory_refused_to_a_whole_run(rt: HostRuntime) {
+    assert!(rt; refusals_of(rt.alloc(), REQUESTS) > Some(0));
+    assert!(rt; refusals_of(rt.alloc(), STEPS) > Some(0));
 }

@@ -1,21 +1,12 @@
 //! Gates: a call of one shard held while all other shards answer, and two calls of one shard in turn.
 
-ghost use Rattle.std.specs.Prelude.{◌≡◌};
-ghost use Rattle.std.specs.Arc.{arc_value};
-ghost use Rattle.ns_shard.specs.State.{no_entries};
-ghost use Rattle.ns_tally.specs.Tally.{AreNamed};
-
-use crate::served::shared_roster;
 use crate::traffic;
-use ns_roster::Roster;
+use crate::trial::{Trial, on_server};
 use ns_server::{Gate, Naming, Open, Pass, Receipt, Server};
-use ns_tally::Blanks;
-use std::alloc::Global;
-use std::marker::Brand;
 use std::process::Abort;
 use std::rt::Clock;
+use std::sync::Wait;
 use std::sync::atomic::{AtomicU64, Ordering};
-use std::sync::{Arc, Wait};
 use std::test::*;
 use std::thread;
 use std::thread::Threads;
@@ -23,16 +14,23 @@ use std::time::Duration;
 
 #[test]
 fn two_shards_at_once(rt: HostRuntime) -> Result<(), Fail> {
-    let alloc: Global = rt.alloc();
-    let roster = shared_roster(alloc, 16)?;
-    both_answered::<Brand, _>(&rt, alloc, roster, Blanks::new(2))
+    on_server(&rt, rt.alloc(), 16, 2, Trial::AtOnce)
 }
 
 #[test]
 fn one_shard_in_turn(rt: HostRuntime) -> Result<(), Fail> {
-    let alloc: Global = rt.alloc();
-    let roster = shared_roster(alloc, 16)?;
-    one_after_the_other::<Brand, _>(&rt, alloc, roster, Blanks::new(2))
+    on_server(&rt, rt.alloc(), 16, 2, Trial::InTurn)
+}
+
+// Waits until a number is another than this one, for ten seconds at most. Whether it is.
+fn is_past<R: Clock>(rt: &R, number: &AtomicU64, first: u64) -> bool {
+    for _ in 0..10_000u32 {
+        if number.load(Ordering::SeqCst) != first {
+            return true;
+        }
+        let _ = thread::sleep(rt, Duration::from_millis(1));
+    }
+    false
 }
 
 // Holds a call at its gate until the flag is up, for ten seconds at most, and keeps the number of its visit.
@@ -64,13 +62,9 @@ impl Until {
 impl<R: Clock> Gate<R> for Until {
     fn visit(&self, rt: &R, _shard: u8, number: u64) {
         self.number.store(number, Ordering::SeqCst);
-        for _ in 0..10_000u32 {
-            if self.flag.load(Ordering::SeqCst) == 1 {
-                return;
-            }
-            let _ = thread::sleep(rt, Duration::from_millis(1));
+        if !is_past(rt, &self.flag, 0) {
+            self.late.store(1, Ordering::SeqCst);
         }
-        self.late.store(1, Ordering::SeqCst);
     }
 }
 
@@ -168,20 +162,21 @@ fn last_call<B: Naming, R: Wait, G: Gate<R>>(
     one_call(rt, server, &mut pass, device, gate)
 }
 
-fn both_answered<B: Naming + Send + Sync, R: Threads + Wait + Abort + Clock + Sync>(
+// The passes of two workers.
+fn two_of<B: Naming>(mut passes: Vec<Pass<B>>) -> Result<(Pass<B>, Pass<B>), Fail> {
+    match (passes.pop(), passes.pop()) {
+        (Some(one), Some(two)) => Ok((one, two)),
+        _ => Err(Fail::from("a pass is missing")),
+    }
+}
+
+/// A call of one shard is held while all other shards answer.
+pub fn at_once<B: Naming + Send + Sync, R: Threads + Wait + Abort + Clock + Sync>(
     rt: &R,
-    alloc: Global,
-    roster: Arc<Roster>,
-    blanks: Blanks,
-) -> Result<(), Fail>
-    requires names { AreNamed B.ledger blanks.names }
-    requires parts { (blanks.parts ≡ 2) × (B.workers ≡ 2) }
-    requires roster { arc_value roster ≡ B.roster }
-    requires begun { B.begun ≡ no_entries B.roster }
-{
-    let (server, mut passes) = Server::<B>::new(alloc, roster, 2, blanks)?;
-    let one = passes.pop().unwrap();
-    let two = passes.pop().unwrap();
+    server: Server<B>,
+    passes: Vec<Pass<B>>,
+) -> Result<(), Fail> {
+    let (one, two) = two_of(passes)?;
     let gate = Until::new();
     let answered = held(rt, &server, one, two, &gate);
     assert_eq!(rt; answered, (0, 15));
@@ -202,22 +197,12 @@ fn held<B: Naming + Send + Sync, R: Threads + Wait + Clock + Sync>(
         rt,
         || last_call(rt, server, one, 0, gate),
         || {
-            wait_until_held(rt, gate);
+            let _ = is_past(rt, &gate.number, 77);
             let answered = fifteen_calls(rt, server, two);
             gate.flag.store(1, Ordering::SeqCst);
             answered
         },
     )
-}
-
-// Waits until a call is at the gate, for ten seconds at most.
-fn wait_until_held<R: Clock>(rt: &R, gate: &Until) {
-    for _ in 0..10_000u32 {
-        if gate.number.load(Ordering::SeqCst) != 77 {
-            return;
-        }
-        let _ = thread::sleep(rt, Duration::from_millis(1));
-    }
 }
 
 // A call on each shard but 0.
@@ -232,20 +217,13 @@ fn fifteen_calls<B: Naming, R: Wait>(rt: &R, server: &Server<B>, pass: Pass<B>) 
     answered
 }
 
-fn one_after_the_other<B: Naming + Send + Sync, R: Threads + Wait + Abort + Clock + Sync>(
+/// Two calls of one shard come one after the other.
+pub fn one_after_the_other<B: Naming + Send + Sync, R: Threads + Wait + Abort + Clock + Sync>(
     rt: &R,
-    alloc: Global,
-    roster: Arc<Roster>,
-    blanks: Blanks,
-) -> Result<(), Fail>
-    requires names { AreNamed B.ledger blanks.names }
-    requires parts { (blanks.parts ≡ 2) × (B.workers ≡ 2) }
-    requires roster { arc_value roster ≡ B.roster }
-    requires begun { B.begun ≡ no_entries B.roster }
-{
-    let (server, mut passes) = Server::<B>::new(alloc, roster, 2, blanks)?;
-    let mut one = passes.pop().unwrap();
-    let two = passes.pop().unwrap();
+    server: Server<B>,
+    passes: Vec<Pass<B>>,
+) -> Result<(), Fail> {
+    let (mut one, two) = two_of(passes)?;
     assert_eq!(rt; one_call(rt, &server, &mut one, 0, &Open), 0);
     let gate = Turns::new();
     let numbers = in_turn(rt, &server, one, two, &gate);
@@ -266,17 +244,8 @@ fn in_turn<B: Naming + Send + Sync, R: Threads + Wait + Clock + Sync>(
         rt,
         || last_call(rt, server, one, 0, gate),
         || {
-            wait_for_first(rt, gate);
+            let _ = is_past(rt, &gate.visits, 0);
             last_call(rt, server, two, 0, gate)
         },
     )
-}
-
-fn wait_for_first<R: Clock>(rt: &R, gate: &Turns) {
-    for _ in 0..10_000u32 {
-        if gate.visits.load(Ordering::SeqCst) > 0 {
-            return;
-        }
-        let _ = thread::sleep(rt, Duration::from_millis(1));
-    }
 }

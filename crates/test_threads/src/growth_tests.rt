@@ -3,23 +3,15 @@
 //! Several growths may pass with one block, so these tests show what a refusal leaves and that the work is done in the end, and not each
 //! growth refused alone.
 
-ghost use Rattle.std.specs.Prelude.{◌≡◌};
-ghost use Rattle.std.specs.Arc.{arc_value};
-ghost use Rattle.ns_shard.specs.State.{no_entries};
-ghost use Rattle.ns_tally.specs.Tally.{AreNamed};
-
-use crate::served::{settled_by, shared_roster};
 use crate::traffic::{closing, join, join_reply, uplink};
+use crate::trial::{Trial, is_made, on_server, settled_by, shared_roster};
 use ns_calls::{Call, Reply};
-use ns_roster::Roster;
 use ns_server::{Naming, Open, Pass, Server};
 use ns_shard::TrimFault;
-use ns_tally::Blanks;
 use ns_types::{BLOCKS, take_all};
 use std::alloc::{AllocError, Global};
-use std::marker::Brand;
 use std::process::Abort;
-use std::sync::{Arc, Wait};
+use std::sync::Wait;
 use std::test::*;
 
 // The device of these tests, which is its shard too.
@@ -106,38 +98,21 @@ fn run_refused<B: Naming, R: Wait>(
 /// A refused call leaves the pass as it was, and the sum counts only what succeeded.
 #[test]
 fn calls_refused_until_memory_is_back(rt: HostRuntime) -> Result<(), Fail> {
-    let alloc: Global = rt.alloc();
-    let roster = shared_roster(alloc, 16)?;
-    calls_refused::<Brand, _>(&rt, alloc, roster, Blanks::new(1))
+    on_server(&rt, rt.alloc(), 16, 1, Trial::Refused)
 }
 
-fn calls_refused<B: Naming, R: Wait + Abort>(
+/// The calls of a run are refused memory before they are made.
+pub fn calls_refused<B: Naming, R: Wait + Abort>(
     rt: &R,
     alloc: Global,
-    roster: Arc<Roster>,
-    blanks: Blanks,
-) -> Result<(), Fail>
-    requires names { AreNamed B.ledger blanks.names }
-    requires parts { (blanks.parts ≡ 1) × (B.workers ≡ 1) }
-    requires roster { arc_value roster ≡ B.roster }
-    requires begun { B.begun ≡ no_entries B.roster }
-{
-    let (server, mut passes) = Server::<B>::new(alloc, roster, 1, blanks)?;
+    server: Server<B>,
+    mut passes: Vec<Pass<B>>,
+) -> Result<(), Fail> {
     let pass = passes.last_mut().ok_or("no pass")?;
     let right = run_refused(rt, alloc, &server, pass)?;
     let settled = settled_by(server, passes)?;
     assert_eq!(rt; (right, settled.total()), (6, 6));
     Ok(())
-}
-
-// Whether a server could be made.
-fn is_made<B: Naming>(alloc: Global, roster: Arc<Roster>, blanks: Blanks) -> bool
-    requires names { AreNamed B.ledger blanks.names }
-    requires parts { (blanks.parts ≡ 4) × (B.workers ≡ 4) }
-    requires roster { arc_value roster ≡ B.roster }
-    requires begun { B.begun ≡ no_entries B.roster }
-{
-    Server::<B>::new(alloc, roster, 4, blanks).is_ok()
 }
 
 /// A new server is refused memory more than once, and then made.
@@ -149,7 +124,7 @@ fn server_refused_until_memory_is_back(rt: HostRuntime) -> Result<(), Fail> {
     take_all(alloc, &mut held)?;
     let mut refused = 0u32;
     for _ in 0..BLOCKS {
-        if is_made::<Brand>(alloc, roster.clone()?, Blanks::new(4)) {
+        if is_made(&rt, alloc, roster.clone()?, 4, Trial::Unused)? {
             break;
         }
         refused = refused.wrapping_add(1);
@@ -159,50 +134,47 @@ fn server_refused_until_memory_is_back(rt: HostRuntime) -> Result<(), Fail> {
     Ok(())
 }
 
-// Lets the device join, and opens eight windows and four tickets of it. How many were opened.
-fn open_all<B: Naming, R: Wait>(rt: &R, server: &Server<B>, pass: &mut Pass<B>) -> u32 {
-    let mut opened = 0u32;
-    let _ = reply_to(rt, server, pass, join(DEVICE, 1));
-    let _ = reply_to(rt, server, pass, join_reply(DEVICE, 1));
-    for counter in 0..8 {
-        if let Some(call) = uplink(DEVICE, counter, true, 1) {
-            if let Some(Reply::Opened { .. }) = reply_to(rt, server, pass, call) {
-                opened = opened.wrapping_add(1);
+// The calls of a device that joins, opens eight windows and four tickets, and then closes those windows and answers those tickets.
+fn opening_at(place: u16) -> Option<Call> {
+    match place {
+        0 => Some(join(DEVICE, 1)),
+        1 => Some(join_reply(DEVICE, 1)),
+        2..=9 => uplink(DEVICE, u32::from(place - 2), true, 1),
+        10..=13 => Some(join(DEVICE, place - 8)),
+        14..=21 => Some(closing(DEVICE, 1, u32::from(place - 14))),
+        22..=25 => Some(join_reply(DEVICE, place - 20)),
+        _ => None,
+    }
+}
+
+// Whether a reply says that the call did what it is for.
+fn is_done(call: &Call, reply: &Reply) -> bool {
+    match reply {
+        Reply::Ask { .. } => matches!(call, Call::Join { .. }),
+        Reply::Accepted { .. } => matches!(call, Call::JoinReply { .. }),
+        Reply::Opened { .. } => matches!(call, Call::Uplink { .. }),
+        Reply::Closed { .. } => matches!(call, Call::Close { .. }),
+        _ => false,
+    }
+}
+
+// Makes the calls from one place to before another. How many did what they are for.
+fn done_of<B: Naming, R: Wait>(
+    rt: &R,
+    server: &Server<B>,
+    pass: &mut Pass<B>,
+    first: u16,
+    end: u16,
+) -> u32 {
+    let mut done = 0u32;
+    for place in first..end {
+        if let Some(call) = opening_at(place) {
+            if let Some(reply) = reply_to(rt, server, pass, call) {
+                done = done.wrapping_add(u32::from(is_done(&call, &reply)));
             }
         }
     }
-    for nonce in 2..6 {
-        if let Some(Reply::Ask { .. }) = reply_to(rt, server, pass, join(DEVICE, nonce)) {
-            opened = opened.wrapping_add(1);
-        }
-    }
-    opened
-}
-
-// Closes the windows and answers the tickets. How many were open.
-fn close_all<B: Naming, R: Wait>(rt: &R, server: &Server<B>, pass: &mut Pass<B>) -> u32 {
-    let mut ended = 0u32;
-    for counter in 0..8 {
-        if let Some(Reply::Closed { .. }) = reply_to(
-            rt,
-            server,
-            pass,
-            closing(DEVICE, 1, counter),
-        ) {
-            ended = ended.wrapping_add(1);
-        }
-    }
-    for nonce in 2..6 {
-        if let Some(Reply::Accepted { .. }) = reply_to(
-            rt,
-            server,
-            pass,
-            join_reply(DEVICE, nonce),
-        ) {
-            ended = ended.wrapping_add(1);
-        }
-    }
-    ended
+    done
 }
 
 // Closes a window that is not open until memory is refused. How often it was answered.
@@ -225,26 +197,19 @@ fn until_refused<B: Naming, R: Wait>(
 /// window needs memory.
 #[test]
 fn closings_take_no_memory(rt: HostRuntime) -> Result<(), Fail> {
-    let alloc: Global = rt.alloc();
-    let roster = shared_roster(alloc, 16)?;
-    closed_without::<Brand, _>(&rt, alloc, roster, Blanks::new(1))
+    on_server(&rt, rt.alloc(), 16, 1, Trial::Closings)
 }
 
-fn closed_without<B: Naming, R: Wait + Abort>(
+/// Closings with all memory gone.
+pub fn closed_without<B: Naming, R: Wait + Abort>(
     rt: &R,
     alloc: Global,
-    roster: Arc<Roster>,
-    blanks: Blanks,
-) -> Result<(), Fail>
-    requires names { AreNamed B.ledger blanks.names }
-    requires parts { (blanks.parts ≡ 1) × (B.workers ≡ 1) }
-    requires roster { arc_value roster ≡ B.roster }
-    requires begun { B.begun ≡ no_entries B.roster }
-{
-    let (server, mut passes) = Server::<B>::new(alloc, roster, 1, blanks)?;
+    server: Server<B>,
+    mut passes: Vec<Pass<B>>,
+) -> Result<(), Fail> {
     let pass = passes.last_mut().ok_or("no pass")?;
     let (opened, ended, answered) = all_closed(rt, alloc, &server, pass)?;
-    assert_eq!(rt; (opened, ended), (12, 12));
+    assert_eq!(rt; (opened, ended), (14, 12));
     let answered = answered.ok_or("memory was not refused")?;
     let settled = settled_by(server, passes)?;
     assert_eq!(rt; settled.total(), 26u128.wrapping_add(u128::from(answered)));
@@ -260,9 +225,9 @@ fn all_closed<B: Naming, R: Wait>(
     pass: &mut Pass<B>,
 ) -> Result<(u32, u32, Option<u32>), AllocError> {
     let mut held: Vec<Vec<u8>> = Vec::with_capacity(alloc, BLOCKS)?;
-    let opened = open_all(rt, server, pass);
+    let opened = done_of(rt, server, pass, 0, 14);
     take_all(alloc, &mut held)?;
-    let ended = close_all(rt, server, pass);
+    let ended = done_of(rt, server, pass, 14, 26);
     Ok((opened, ended, until_refused(rt, server, pass)))
 }
 
@@ -294,36 +259,29 @@ fn trimmed_at_last<B: Naming, R: Wait>(
     pass: &mut Pass<B>,
 ) -> Result<(u32, Option<(u64, usize)>, u32), AllocError> {
     let mut held: Vec<Vec<u8>> = Vec::with_capacity(alloc, BLOCKS)?;
-    let opened = open_all(rt, server, pass);
+    let opened = done_of(rt, server, pass, 0, 14);
     take_all(alloc, &mut held)?;
     let trimmed = trim_refusals(rt, alloc, server, &mut held);
-    Ok((opened, trimmed, close_all(rt, server, pass)))
+    Ok((opened, trimmed, done_of(rt, server, pass, 14, 26)))
 }
 
 /// With eight windows and four tickets of one device open, a trim is refused memory (Z2, and never Z1); then it hands out the one entry
 /// that it would have handed out at first, and the windows and tickets are still open.
 #[test]
 fn trim_refused_until_memory_is_back(rt: HostRuntime) -> Result<(), Fail> {
-    let alloc: Global = rt.alloc();
-    let roster = shared_roster(alloc, 16)?;
-    trim_refused::<Brand, _>(&rt, alloc, roster, Blanks::new(1))
+    on_server(&rt, rt.alloc(), 16, 1, Trial::TrimRefused)
 }
 
-fn trim_refused<B: Naming, R: Wait + Abort>(
+/// A trim with all memory gone.
+pub fn trim_refused<B: Naming, R: Wait + Abort>(
     rt: &R,
     alloc: Global,
-    roster: Arc<Roster>,
-    blanks: Blanks,
-) -> Result<(), Fail>
-    requires names { AreNamed B.ledger blanks.names }
-    requires parts { (blanks.parts ≡ 1) × (B.workers ≡ 1) }
-    requires roster { arc_value roster ≡ B.roster }
-    requires begun { B.begun ≡ no_entries B.roster }
-{
-    let (server, mut passes) = Server::<B>::new(alloc, roster, 1, blanks)?;
+    server: Server<B>,
+    mut passes: Vec<Pass<B>>,
+) -> Result<(), Fail> {
     let pass = passes.last_mut().ok_or("no pass")?;
     let (opened, trimmed, ended) = trimmed_at_last(rt, alloc, &server, pass)?;
-    assert_eq!(rt; (opened, ended), (12, 12));
+    assert_eq!(rt; (opened, ended), (14, 12));
     let (refused, out) = trimmed.ok_or("a trim was refused otherwise")?;
     assert_eq!(rt; (refused > 0, out), (true, 1));
     let settled = settled_by(server, passes)?;

@@ -21,4 +21,6 @@ mod served;
 #[cfg(test)]
 mod tests;
 #[cfg(test)]
+mod trial;
+#[cfg(test)]
 mod trim_tests;

@@ -1,20 +1,13 @@
 //! A long run with trims at random places, beside the same run without.
 
-ghost use Rattle.std.specs.Prelude.{◌≡◌};
-ghost use Rattle.std.specs.Arc.{arc_value};
-ghost use Rattle.ns_shard.specs.State.{no_entries};
-ghost use Rattle.ns_tally.specs.Tally.{AreNamed};
-
-use crate::served::{settled_by, shared_roster};
 use crate::traffic::{closing, join, join_reply, uplink};
+use crate::trial::{Trial, on_server, settled_by, shared_roster};
 use ns_calls::{Answer, Call, Reply, shard_of_call};
 use ns_roster::Roster;
 use ns_server::{Naming, Open, Pass, Receipt, Server, Settled};
 use ns_shard::Shard;
-use ns_tally::Blanks;
 use ns_types::WindowName;
 use std::alloc::{AllocError, Global};
-use std::marker::Brand;
 use std::process::Abort;
 use std::sync::{Arc, Wait};
 use std::test::*;
@@ -251,24 +244,18 @@ fn run_alike<B: Naming, R: Wait>(
 
 #[test]
 fn a_long_run_with_trims(rt: HostRuntime) -> Result<(), Fail> {
-    let alloc: Global = rt.alloc();
-    let roster = shared_roster(alloc, DEVICES)?;
-    long_run::<Brand, _>(&rt, alloc, roster, Blanks::new(1))
+    on_server(&rt, rt.alloc(), DEVICES, 1, Trial::LongRun)
 }
 
-fn long_run<B: Naming, R: Wait + Abort>(
+/// The calls, with trims, beside the same calls without.
+pub fn long_run<B: Naming, R: Wait + Abort>(
     rt: &R,
     alloc: Global,
-    roster: Arc<Roster>,
-    blanks: Blanks,
-) -> Result<(), Fail>
-    requires names { AreNamed B.ledger blanks.names }
-    requires parts { (blanks.parts ≡ 1) × (B.workers ≡ 1) }
-    requires roster { arc_value roster ≡ B.roster }
-    requires begun { B.begun ≡ no_entries B.roster }
-{
+    server: Server<B>,
+    passes: Vec<Pass<B>>,
+) -> Result<(), Fail> {
+    let roster = shared_roster(alloc, DEVICES)?;
     let mut both = Both::new(alloc, &roster)?;
-    let (server, passes) = Server::<B>::new(alloc, roster, 1, blanks)?;
     let settled = settled_alike(rt, alloc, server, passes, &mut both)?;
     assert!(rt; both.are_left(&settled));
     assert!(rt; settled.total() == u128::from(CALLS));

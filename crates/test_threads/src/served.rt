@@ -1,63 +1,70 @@
-//! A server whose workers have ended.
-
-ghost use Rattle.std.specs.Prelude.{◌≡◌, ◌<◌, ◌≤◌};
-ghost use Rattle.std.specs.Arc.{arc_value};
-ghost use Rattle.ns_shard.specs.State.{no_entries};
-ghost use Rattle.ns_tally.specs.Tally.{AreNamed};
+//! What the workers of a server do, each in a thread of its own.
 
 use crate::traffic;
+use crate::trial::settled_by;
 use crate::work::{make, parted};
 use ns_calls::Call;
-use ns_roster::Roster;
 use ns_server::{Naming, Pass, Receipt, Server, Settled};
-use ns_tally::Blanks;
 use std::alloc::{AllocError, Global};
-use std::sync::{Arc, Wait};
+use std::sync::Wait;
 use std::test::Fail;
 use std::thread;
 use std::thread::Threads;
 
-/// A roster of this many devices.
-pub fn shared_roster(alloc: Global, devices: u32) -> Result<Arc<Roster>, Fail> {
-    let roster = traffic::roster(alloc, devices)?;
-    Ok(Arc::new(alloc, roster)?)
-}
-
-/// What each worker does.
+/// What a worker does.
 #[derive(Clone, Copy)]
 pub enum Work {
+    /// Lets 100 devices join.
+    Join,
     /// Hears the first frame of each of 100 devices, which have joined before.
     Hear,
     /// Makes 40 calls of 48 devices at random.
     Wander,
 }
 
+impl Work {
+    // How many calls it makes at most.
+    fn calls(self) -> u32 {
+        match self {
+            Work::Join => 200,
+            Work::Hear => 100,
+            Work::Wander => 40,
+        }
+    }
+
+    // The call at a place, with a number at random.
+    fn call_at(self, place: u32, random: u32) -> Option<Call> {
+        match self {
+            Work::Join if place % 2 == 0 => Some(traffic::join(place / 2, 1)),
+            Work::Join => Some(traffic::join_reply(place / 2, 1)),
+            Work::Hear => traffic::uplink(place, 0, true, 1),
+            Work::Wander => at_random(random),
+        }
+    }
+}
+
+// The call of a number at random.
+fn at_random(random: u32) -> Option<Call> {
+    let device = random / 65_536 % 48;
+    let counter = random / 1024 % 4;
+    match random / 16_777_216 % 8 {
+        0 => Some(traffic::join(device, 1)),
+        1 => Some(traffic::join_reply(device, 1)),
+        2 => Some(traffic::closing(device, 1, counter)),
+        _ => traffic::uplink(device, counter, counter == 1, 2),
+    }
+}
+
 /// The histories of a server whose workers have ended, and the receipts of all calls.
 pub fn served<B: Naming + Send + Sync, R: Threads + Wait + Sync>(
     rt: &R,
     alloc: Global,
-    roster: Arc<Roster>,
-    blanks: Blanks,
-    workers: usize,
+    server: Server<B>,
+    passes: Vec<Pass<B>>,
     work: Work,
-) -> Result<(Settled<B>, Vec<Receipt>), Fail>
-    requires workers { (0 < workers) × (workers ≤ 64) }
-    requires names { AreNamed B.ledger blanks.names }
-    requires parts { (blanks.parts ≡ workers) × (B.workers ≡ workers) }
-    requires roster { arc_value roster ≡ B.roster }
-    requires begun { B.begun ≡ no_entries B.roster }
-{
-    let (server, passes) = Server::<B>::new(alloc, roster, workers, blanks)?;
+) -> Result<(Settled<B>, Vec<Receipt>), Fail> {
     let (passes, receipts) = all_work(rt, alloc, &server, passes, work)?;
     Ok((settled_by(server, passes)?, receipts))
-}
-
-/// The histories of a server to which all passes are given back.
-pub fn settled_by<B: Naming>(server: Server<B>, passes: Vec<Pass<B>>) -> Result<Settled<B>, Fail> {
-    match server.settle(passes) {
-        Ok(settled) => Ok(settled),
-        Err(_) => Err(Fail::from("a pass is missing")),
-    }
 }
 
 // Lends the server to a thread for each pass. Where devices are to have joined, they do so before.
@@ -71,7 +78,7 @@ fn all_work<B: Naming + Send + Sync, R: Threads + Wait + Sync>(
     let mut receipts = Vec::new(alloc);
     if let Work::Hear = work {
         if let Some(first) = passes.last_mut() {
-            join_all(rt, server, first, &mut receipts)?;
+            make_all(rt, server, first, Work::Join, &mut receipts)?;
         }
     }
     let done = thread::map_vec(rt, passes, &|pass| work_one(rt, alloc, server, pass, work))?;
@@ -89,53 +96,22 @@ fn work_one<B: Naming, R: Wait>(
 ) -> (Pass<B>, Vec<Receipt>) {
     let mut pass = pass;
     let mut receipts = Vec::new(alloc);
-    let _ = match work {
-        Work::Hear => hear(rt, server, &mut pass, &mut receipts),
-        Work::Wander => wander(rt, server, &mut pass, &mut receipts),
-    };
+    let _ = make_all(rt, server, &mut pass, work, &mut receipts);
     (pass, receipts)
 }
 
-// The joins of 100 devices.
-fn join_all<B: Naming, R: Wait>(
+// Makes a worker's calls. The numbers at random begin with that of the first entry that the worker makes.
+fn make_all<B: Naming, R: Wait>(
     rt: &R,
     server: &Server<B>,
     pass: &mut Pass<B>,
-    receipts: &mut Vec<Receipt>,
-) -> Result<(), AllocError> {
-    for device in 0..100 {
-        make(rt, server, pass, traffic::join(device, 1), receipts)?;
-        make(rt, server, pass, traffic::join_reply(device, 1), receipts)?;
-    }
-    Ok(())
-}
-
-// The first uplink of each device.
-fn hear<B: Naming, R: Wait>(
-    rt: &R,
-    server: &Server<B>,
-    pass: &mut Pass<B>,
-    receipts: &mut Vec<Receipt>,
-) -> Result<(), AllocError> {
-    for device in 0..100 {
-        if let Some(call) = traffic::uplink(device, 0, true, 1) {
-            make(rt, server, pass, call, receipts)?;
-        }
-    }
-    Ok(())
-}
-
-// 40 calls at random of 48 devices. The numbers begin with that of the first entry that the worker makes.
-fn wander<B: Naming, R: Wait>(
-    rt: &R,
-    server: &Server<B>,
-    pass: &mut Pass<B>,
+    work: Work,
     receipts: &mut Vec<Receipt>,
 ) -> Result<(), AllocError> {
     let mut random = 0x2545_f491u32;
-    for _ in 0..40u32 {
+    for place in 0..work.calls() {
         random = random.wrapping_mul(1_664_525).wrapping_add(1_013_904_223);
-        if let Some(call) = at_random(random) {
+        if let Some(call) = work.call_at(place, random) {
             make(rt, server, pass, call, receipts)?;
         }
         if let Some(last) = receipts.last() {
@@ -143,16 +119,4 @@ fn wander<B: Naming, R: Wait>(
         }
     }
     Ok(())
-}
-
-// The call of a random number.
-fn at_random(random: u32) -> Option<Call> {
-    let device = random / 65_536 % 48;
-    let counter = random / 1024 % 4;
-    match random / 16_777_216 % 8 {
-        0 => Some(traffic::join(device, 1)),
-        1 => Some(traffic::join_reply(device, 1)),
-        2 => Some(traffic::closing(device, 1, counter)),
-        _ => traffic::uplink(device, counter, counter == 1, 2),
-    }
 }

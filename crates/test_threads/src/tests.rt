@@ -1,43 +1,29 @@
 //! Workers in threads of their own: their receipts, the sum, the drain, and a pass that is missing.
 
-ghost use Rattle.std.specs.Prelude.{◌≡◌, ◌<◌, ◌≤◌};
-ghost use Rattle.std.specs.Arc.{arc_value};
-ghost use Rattle.ns_shard.specs.State.{no_entries};
-ghost use Rattle.ns_tally.specs.Tally.{AreNamed};
-
-use crate::served::{Work, served, settled_by, shared_roster};
+use crate::served::{Work, served};
 use crate::traffic;
+use crate::trial::{Trial, on_server, settled_by};
 use ns_calls::Reply;
-use ns_roster::Roster;
 use ns_server::{Naming, Open, Pass, Receipt, Server, SettleFault, Settled};
-use ns_tally::Blanks;
 use std::alloc::{AllocError, Global};
-use std::marker::Brand;
 use std::process::Abort;
-use std::sync::{Arc, Wait};
+use std::sync::Wait;
 use std::test::*;
 use std::thread::Threads;
 
 #[test]
 fn four_workers(rt: HostRuntime) -> Result<(), Fail> {
-    let alloc: Global = rt.alloc();
-    let roster = shared_roster(alloc, 100)?;
-    day::<Brand, _>(&rt, alloc, roster, Blanks::new(4))
+    on_server(&rt, rt.alloc(), 100, 4, Trial::Day)
 }
 
-// 100 devices join, and each of four workers hears one frame of each.
-fn day<B: Naming + Send + Sync, R: Threads + Wait + Abort + Sync>(
+/// 100 devices join, and each of four workers hears one frame of each.
+pub fn day<B: Naming + Send + Sync, R: Threads + Wait + Abort + Sync>(
     rt: &R,
     alloc: Global,
-    roster: Arc<Roster>,
-    blanks: Blanks,
-) -> Result<(), Fail>
-    requires names { AreNamed B.ledger blanks.names }
-    requires parts { (blanks.parts ≡ 4) × (B.workers ≡ 4) }
-    requires roster { arc_value roster ≡ B.roster }
-    requires begun { B.begun ≡ no_entries B.roster }
-{
-    let (mut settled, mut receipts) = served::<B, R>(rt, alloc, roster, blanks, 4, Work::Hear)?;
+    server: Server<B>,
+    passes: Vec<Pass<B>>,
+) -> Result<(), Fail> {
+    let (mut settled, mut receipts) = served(rt, alloc, server, passes, Work::Hear)?;
     assert_eq!(rt; (settled.total(), receipts.len()), (600, 600));
     counted(rt, receipts.as_slice());
     changed_is_found(rt, &settled, &mut receipts);
@@ -141,25 +127,18 @@ fn drained<B: Naming>(
 
 #[test]
 fn a_pass_is_missing(rt: HostRuntime) -> Result<(), Fail> {
-    let alloc: Global = rt.alloc();
-    let roster = shared_roster(alloc, 1)?;
-    held_back::<Brand, _>(&rt, alloc, roster, Blanks::new(2))
+    on_server(&rt, rt.alloc(), 1, 2, Trial::HeldBack)
 }
 
-// One of two passes is not given back at first.
-fn held_back<B: Naming, R: Wait + Abort>(
+/// One of two passes is not given back at first.
+pub fn held_back<B: Naming, R: Wait + Abort>(
     rt: &R,
-    alloc: Global,
-    roster: Arc<Roster>,
-    blanks: Blanks,
-) -> Result<(), Fail>
-    requires names { AreNamed B.ledger blanks.names }
-    requires parts { (blanks.parts ≡ 2) × (B.workers ≡ 2) }
-    requires roster { arc_value roster ≡ B.roster }
-    requires begun { B.begun ≡ no_entries B.roster }
-{
-    let (server, mut passes) = Server::<B>::new(alloc, roster, 2, blanks)?;
-    let mut one = passes.pop().unwrap();
+    server: Server<B>,
+    mut passes: Vec<Pass<B>>,
+) -> Result<(), Fail> {
+    let Some(mut one) = passes.pop() else {
+        return Err(Fail::from("no pass"));
+    };
     makes_one(rt, &server, &mut one);
     match server.settle(passes) {
         Ok(_) => Err(Fail::from("a pass was missing")),
@@ -192,47 +171,22 @@ fn given_back<B: Naming, R: Abort>(
 
 #[test]
 fn random_calls(rt: HostRuntime) -> Result<(), Fail> {
-    let alloc: Global = rt.alloc();
-    at_random(&rt, alloc, 1)?;
-    at_random(&rt, alloc, 2)?;
-    at_random(&rt, alloc, 16)?;
-    at_random(&rt, alloc, 64)
+    on_server(&rt, rt.alloc(), 48, 1, Trial::Random(40))?;
+    on_server(&rt, rt.alloc(), 48, 2, Trial::Random(80))?;
+    on_server(&rt, rt.alloc(), 48, 16, Trial::Random(640))?;
+    on_server(&rt, rt.alloc(), 48, 64, Trial::Random(2560))
 }
 
-fn at_random<R: Threads + Wait + Abort + Sync>(
+/// Each worker makes 40 calls at random, so many together, and all receipts pass.
+pub fn random_run<B: Naming + Send + Sync, R: Threads + Wait + Abort + Sync>(
     rt: &R,
     alloc: Global,
-    workers: usize,
-) -> Result<(), Fail>
-    requires { (0 < workers) × (workers ≤ 64) }
-{
-    let roster = shared_roster(alloc, 48)?;
-    one_run::<Brand, _>(rt, alloc, roster, Blanks::new(workers as u64), workers)
-}
-
-// Each worker makes calls at random, and all receipts pass.
-fn one_run<B: Naming + Send + Sync, R: Threads + Wait + Abort + Sync>(
-    rt: &R,
-    alloc: Global,
-    roster: Arc<Roster>,
-    blanks: Blanks,
-    workers: usize,
-) -> Result<(), Fail>
-    requires workers { (0 < workers) × (workers ≤ 64) }
-    requires names { AreNamed B.ledger blanks.names }
-    requires parts { (blanks.parts ≡ workers) × (B.workers ≡ workers) }
-    requires roster { arc_value roster ≡ B.roster }
-    requires begun { B.begun ≡ no_entries B.roster }
-{
-    let (mut settled, mut receipts) = served::<B, R>(
-        rt,
-        alloc,
-        roster,
-        blanks,
-        workers,
-        Work::Wander,
-    )?;
-    assert_eq!(rt; receipts.len(), workers * 40);
+    server: Server<B>,
+    passes: Vec<Pass<B>>,
+    calls: usize,
+) -> Result<(), Fail> {
+    let (mut settled, mut receipts) = served(rt, alloc, server, passes, Work::Wander)?;
+    assert_eq!(rt; receipts.len(), calls);
     is_found(rt, &settled, receipts.as_slice(), Ok(()));
     drained(&mut settled, &mut receipts)?;
     assert_eq!(rt; settled.total(), receipts.len() as u128);

@@ -12,6 +12,32 @@ use ns_workers::{
 use std::alloc::Global;
 use std::sync::atomic::{AtomicU64, Ordering};
 
+/// A ticket that waits since a time, and the join server's response, with so many spaces in front of its last byte. An empty response is
+/// no connection.
+pub type Asked = (&'static [u8; 23], u64, &'static str, usize);
+
+/// What fails: the source at its end, each downlink, the write after so many, and memory but for so many blocks from one turn of the
+/// source to another.
+#[derive(Clone, Copy)]
+pub struct Faults {
+    pub source: bool,
+    pub downlinks: bool,
+    pub writes: Option<u64>,
+    pub from: u32,
+    pub to: u32,
+    pub blocks: u32,
+}
+
+/// Nothing fails.
+pub const NONE: Faults = Faults {
+    source: false,
+    downlinks: false,
+    writes: None,
+    from: u32::MAX,
+    to: u32::MAX,
+    blocks: 0,
+};
+
 /// A clock that goes on by a step with each look, and to the time that is waited for. It is a monitor too, and a join server that gives
 /// one response after the other, where an empty one is no connection.
 ///
@@ -22,18 +48,18 @@ pub struct Around {
     alloc: Global,
     time: AtomicU64,
     step: u64,
-    responses: Vec<Vec<u8>>,
+    asks: &'static [Asked],
     numbers: [AtomicU64; 10],
 }
 
 impl Around {
-    /// A clock at this time, which goes on by a step each time it is read, and a join server with these responses, one a connection.
-    pub fn new(alloc: Global, time: u64, step: u64, responses: Vec<Vec<u8>>) -> Around {
+    /// A clock at this time, which goes on by a step each time it is read, and a join server that gives these responses.
+    pub fn new(alloc: Global, time: u64, step: u64, asks: &'static [Asked]) -> Around {
         Around {
             alloc,
             time: AtomicU64::new(time),
             step,
-            responses,
+            asks,
             numbers: Default::default(),
         }
     }
@@ -102,19 +128,27 @@ impl<R> Connections<R> for Around {
 
     fn open(&self, _rt: &R) -> Option<Fuse> {
         let at = self.more(6);
-        let response = self.responses.get(at as usize)?;
-        if response.is_empty() {
-            return None;
-        }
-        let bytes = Vec::from_slice(self.alloc, response.as_slice()).ok()?;
+        let (_, _, text, spaces) = self.asks.get(at as usize)?;
+        let bytes = response(self.alloc, text, *spaces)?;
         Some(Fuse::new(self.alloc, bytes, 100, None, None))
     }
+}
+
+// A response with so many spaces in front of its last byte. None where it is empty.
+fn response(alloc: Global, text: &str, spaces: usize) -> Option<Vec<u8>> {
+    let mut bytes = Vec::from_slice(alloc, text.as_bytes()).ok()?;
+    let last = bytes.pop()?;
+    for _ in 0..spaces {
+        bytes.push(b' ').ok()?;
+    }
+    bytes.push(last).ok()?;
+    Some(bytes)
 }
 
 /// Records downlinks, and sends them or not. It has room for the first four of them.
 #[derive(Drop)]
 pub struct Sent {
-    pub sends: bool,
+    sends: bool,
     pub sent: Vec<Downlink>,
 }
 
@@ -135,8 +169,16 @@ impl<R> Downlinks<R> for Sent {
 /// Records jobs while it has room for them.
 #[derive(Drop)]
 pub struct Put {
-    pub room: usize,
+    room: usize,
     pub jobs: Vec<Job>,
+}
+
+impl Put {
+    /// Room for so many jobs.
+    pub fn new(alloc: Global, room: usize) -> Put {
+        let jobs = Vec::new(alloc);
+        Put { room, jobs }
+    }
 }
 
 impl<R> Jobs<R, Job> for Put {
@@ -148,42 +190,38 @@ impl<R> Jobs<R, Job> for Put {
     }
 }
 
-/// A source behind which memory goes and comes: before the turn of the first number all of it is taken but this many blocks, and before
-/// that of the second it is given back. The stack is used before (`use_stack`).
+/// A source behind which memory goes and comes, as faults say: before the turn of the first number all of it is taken but for its
+/// blocks, and before that of the second it is given back. The stack is used before (`use_stack`).
 #[derive(Drop)]
 pub struct Scarce<S> {
     alloc: Global,
     source: S,
     held: Vec<Vec<u8>>,
     turn: u32,
-    from: u32,
-    to: u32,
-    blocks: u32,
+    faults: Faults,
 }
 
 impl<S: Drop> Scarce<S> {
-    /// A source from one of whose turns to another there is no memory but so many blocks.
-    pub fn new(alloc: Global, source: S, from: u32, to: u32, blocks: u32) -> Option<Scarce<S>> {
+    /// A source behind which memory goes and comes.
+    pub fn new(alloc: Global, source: S, faults: Faults) -> Option<Scarce<S>> {
         Some(Scarce {
             alloc,
             source,
             held: Vec::with_capacity(alloc, BLOCKS).ok()?,
             turn: 0,
-            from,
-            to,
-            blocks,
+            faults,
         })
     }
 
     // The next turn.
     fn turn(&mut self) {
-        if self.turn == self.from {
+        if self.turn == self.faults.from {
             let _ = take_rest(self.alloc, &mut self.held);
-            for _ in 0..self.blocks {
+            for _ in 0..self.faults.blocks {
                 let _ = self.held.pop();
             }
         }
-        if self.turn == self.to {
+        if self.turn == self.faults.to {
             self.held.clear();
         }
         self.turn = self.turn.wrapping_add(1);

@@ -1,6 +1,6 @@
 //! Runs of workers, and the text that tells all that came of them.
 
-use crate::around::{Around, Put, Scarce, Sent};
+use crate::around::{Around, Asked, Faults, NONE, Put, Scarce, Sent};
 use crate::frames::heard;
 use crate::told::{fault_number, tell, tell_jobs, tell_out, tell_window};
 use ns_calls::Call;
@@ -10,7 +10,7 @@ use ns_roster::Roster;
 use ns_server::{Gate, Naming, Open, Pass, Server};
 use ns_types::{BLOCKS, DevEui, Fuse, Ticket, WindowName, take_rest};
 use ns_workers::{
-    AskJob, CloseJob, Ended, Job, Joined, ListedDatagrams, ListedJobs, Served, Shared, run_closer,
+    AskJob, CloseJob, Ended, Joined, ListedDatagrams, ListedJobs, Served, Shared, run_closer,
     run_gateway, run_join,
 };
 use std::alloc::Global;
@@ -27,57 +27,49 @@ pub enum Reads {
     Ones(usize),
 }
 
-/// A ticket that waits since a time, and the join server's response, with so many spaces in front of its last byte. An empty response is
-/// no connection.
-pub type Asked = (&'static [u8; 23], u64, &'static str, usize);
-
 /// A window of a device and a counter, which is due at a time, so many times.
 pub type Due = (u64, u32, u64, u32);
 
-/// What fails: the source at its end, each downlink, the write after so many, and memory from one turn of the source to another.
+/// What a worker does.
 #[derive(Clone, Copy)]
-pub struct Faults {
-    pub source: bool,
-    pub downlinks: bool,
-    pub writes: Option<u64>,
-    pub from: u32,
-    pub to: u32,
+pub enum Work {
+    /// A gateway worker reads these, with room for so many jobs.
+    Serve(&'static [Reads], usize),
+    /// A join worker answers tickets.
+    Answer(&'static [Asked]),
+    /// A closer closes windows, in runs of these limits.
+    Close(&'static [Due], &'static [u32]),
 }
 
-pub const NONE: Faults = Faults {
-    source: false,
-    downlinks: false,
-    writes: None,
-    from: u32::MAX,
-    to: u32::MAX,
-};
+impl Work {
+    // By how much the clock goes on with each look, and what the join server is asked.
+    fn around(self) -> (u64, &'static [Asked]) {
+        match self {
+            Work::Serve(..) => (10, &[]),
+            Work::Answer(asks) => (0, asks),
+            Work::Close(..) => (0, &[]),
+        }
+    }
+}
 
-/// The run of a worker, which begins at a time.
+/// What happens on a server.
 #[derive(Clone, Copy)]
 pub enum Run {
-    /// A gateway worker reads these, with room for so many jobs.
-    Serve(u64, &'static [Reads], usize, Faults),
-    /// A join worker answers tickets.
-    Answer(u64, &'static [Asked], Faults),
-    /// A closer closes windows, in runs of these limits.
-    Close(u64, &'static [Due], &'static [u32], Faults),
+    /// A worker does this from a time on.
+    At(u64, Work, Faults),
     /// What was told before is left out.
     LeaveOut,
-    /// A Join-Request is heard and its ticket answered with this response, with one block of memory more each time, until it is
-    /// accepted.
-    UntilAccepted(&'static [u8; 23], &'static str),
+    /// These are heard and answered, with one block of memory more each time, until a Join-Accept goes down.
+    UntilAccepted(&'static [Reads], &'static [Asked]),
 }
 
-// A response with so many spaces in front of its last byte.
-fn response(alloc: Global, text: &str, spaces: usize) -> Option<Vec<u8>> {
-    let mut bytes = Vec::from_slice(alloc, text.as_bytes()).ok()?;
-    if let Some(last) = bytes.pop() {
-        for _ in 0..spaces {
-            bytes.push(b' ').ok()?;
-        }
-        bytes.push(last).ok()?;
-    }
-    Some(bytes)
+/// What the runs of workers share.
+#[derive(Drop)]
+pub struct Bench<'a, B: Naming, R> {
+    pub rt: &'a R,
+    pub alloc: Global,
+    pub server: &'a Server<B>,
+    pub known: &'a Roster,
 }
 
 // The datagram that gateway a1 makes of a frame, with another byte at this place.
@@ -129,121 +121,81 @@ pub fn closings(alloc: Global, windows: &[Due]) -> Option<Vec<CloseJob>> {
 
 // Runs a gateway worker.
 fn serve<B: Naming, R: Wait>(
-    rt: &R,
     alloc: Global,
-    server: &Server<B>,
+    shared: &Shared<'_, B, R, Open, Around>,
     pass: &mut Pass<B>,
     log: &mut String,
-    time: u64,
+    down: &mut Sent,
     list: &[Reads],
     room: usize,
     faults: Faults,
 ) -> Option<()> {
-    let around = Around::new(alloc, time, 10, Vec::new(alloc));
-    let shared = Shared {
-        output: Output::Lines,
-        rt,
-        server,
-        gate: &Open,
-        monitor: &around,
-    };
-    let source = ListedDatagrams::new(datagrams(alloc, list)?, faults.source);
-    let mut source = Scarce::new(alloc, source, faults.from, faults.to, 0)?;
-    let mut jobs = Put {
-        room,
-        jobs: Vec::new(alloc),
-    };
-    serve_source(alloc, &shared, pass, log, &mut source, &mut jobs, faults)
-}
-
-// Runs a gateway worker over a source.
-fn serve_source<B: Naming, R: Wait>(
-    alloc: Global,
-    shared: &Shared<'_, B, R, Open, Around>,
-    pass: &mut Pass<B>,
-    log: &mut String,
-    source: &mut Scarce<ListedDatagrams>,
-    jobs: &mut Put,
-    faults: Faults,
-) -> Option<()> {
     let around = shared.monitor;
-    let mut down = Sent::new(alloc, !faults.downlinks)?;
+    let source = ListedDatagrams::new(datagrams(alloc, list)?, faults.source);
+    let mut source = Scarce::new(alloc, source, faults)?;
+    let mut jobs = Put::new(alloc, room);
     let mut sink = Fuse::new(alloc, Vec::new(alloc), 2000, None, faults.writes);
     let served = run_gateway(
-        shared, pass, source, around, jobs, &mut down, &mut sink, 3_000,
+        shared,
+        pass,
+        &mut source,
+        around,
+        &mut jobs,
+        down,
+        &mut sink,
+        3_000,
     );
     source.give_back();
-    tell_served(log, served, jobs.jobs.as_slice())?;
-    tell_out(log, sink.written(), &down, around, 0)
+    tell_served(log, served, &jobs, &sink, down, around)
 }
 
-// Tells how a gateway worker ended, and its jobs.
-fn tell_served(log: &mut String, served: Served, jobs: &[Job]) -> Option<()> {
+// Tells how a gateway worker ended, its jobs, and what went out.
+fn tell_served(
+    log: &mut String,
+    served: Served,
+    jobs: &Put,
+    sink: &Fuse,
+    down: &Sent,
+    around: &Around,
+) -> Option<()> {
     let fault = fault_number(served.fault);
     let numbers = [served.read, served.refused, served.dropped, fault];
     tell(log, "served", &numbers)?;
-    tell_jobs(log, jobs)
+    tell_jobs(log, jobs.jobs.as_slice())?;
+    tell_out(log, sink.written(), down, around, 0)
 }
 
-// Jobs to ask for tickets, and the join server's responses.
-fn asked(alloc: Global, asks: &[Asked]) -> Option<(Vec<AskJob>, Vec<Vec<u8>>)> {
+// Jobs to ask for tickets.
+fn askings(alloc: Global, asks: &[Asked]) -> Option<Vec<AskJob>> {
     let mut jobs = Vec::new(alloc);
-    let mut responses = Vec::new(alloc);
-    for &(frame, since, text, spaces) in asks {
+    for &(frame, since, _, _) in asks {
         let ticket = Ticket(*frame);
         let due = since;
         jobs.push(AskJob { ticket, since, due }).ok()?;
-        responses.push(response(alloc, text, spaces)?).ok()?;
     }
-    Some((jobs, responses))
+    Some(jobs)
 }
 
-// Runs a join worker, at whose first turn all memory is taken but so many blocks where that is asked for. How many downlinks it sent.
+// Runs a join worker.
 fn answer<B: Naming, R: Wait>(
-    rt: &R,
-    alloc: Global,
-    server: &Server<B>,
-    pass: &mut Pass<B>,
-    known: &Roster,
-    log: &mut String,
-    time: u64,
-    asks: &[Asked],
-    faults: Faults,
-    blocks: u32,
-) -> Option<usize> {
-    let (jobs, responses) = asked(alloc, asks)?;
-    let around = Around::new(alloc, time, 0, responses);
-    let shared = Shared {
-        output: Output::Lines,
-        rt,
-        server,
-        gate: &Open,
-        monitor: &around,
-    };
-    let jobs = ListedJobs::new(jobs, faults.source);
-    let mut jobs = Scarce::new(alloc, jobs, faults.from, faults.to, blocks)?;
-    join_source(alloc, &shared, pass, known, log, &mut jobs, faults)
-}
-
-// Runs a join worker over a source.
-fn join_source<B: Naming, R: Wait>(
     alloc: Global,
     shared: &Shared<'_, B, R, Open, Around>,
     pass: &mut Pass<B>,
     known: &Roster,
     log: &mut String,
-    jobs: &mut Scarce<ListedJobs<AskJob>>,
+    down: &mut Sent,
+    asks: &[Asked],
     faults: Faults,
-) -> Option<usize> {
+) -> Option<()> {
     let around = shared.monitor;
     let host = HostName::new("js.local")?;
-    let mut down = Sent::new(alloc, !faults.downlinks)?;
+    let jobs = ListedJobs::new(askings(alloc, asks)?, faults.source);
+    let mut jobs = Scarce::new(alloc, jobs, faults)?;
     let joined = run_join(
-        alloc, shared, pass, around, around, jobs, &mut down, known, host,
+        alloc, shared, pass, around, around, &mut jobs, down, known, host,
     );
     jobs.give_back();
-    tell_joined(log, joined, &down, around)?;
-    Some(down.sent.len())
+    tell_joined(log, joined, down, around)
 }
 
 // Tells how a join worker ended, and its downlinks.
@@ -271,47 +223,73 @@ pub fn close<B: Naming, R: Wait, G: Gate<R>>(
         alloc, shared, pass, around, jobs, &mut down, &mut sink, limit,
     );
     jobs.give_back();
-    tell_ended(log, &ended)?;
-    tell_out(log, sink.written(), &down, around, 7)?;
-    Some(ended.receipts.len())
+    tell_closed(log, &ended, &sink, &down, around)
 }
 
-// Tells the first three receipts of a closer, and how it ended.
-fn tell_ended(log: &mut String, ended: &Ended) -> Option<()> {
+// Tells the first three receipts of a closer, how it ended, and what went out. How many receipts it has.
+fn tell_closed(
+    log: &mut String,
+    ended: &Ended,
+    sink: &Fuse,
+    down: &Sent,
+    around: &Around,
+) -> Option<usize> {
     for receipt in ended.receipts.iter().take(3) {
         if let Call::Close { window } = &receipt.entry.call {
             tell_window(log, "close", window, 0)?;
         }
     }
-    tell(log, "ended", &[fault_number(ended.fault)])
+    tell(log, "ended", &[fault_number(ended.fault)])?;
+    tell_out(log, sink.written(), down, around, 7)?;
+    Some(ended.receipts.len())
 }
 
 // Runs closers over one source.
 fn close_all<B: Naming, R: Wait>(
-    rt: &R,
     alloc: Global,
-    server: &Server<B>,
+    shared: &Shared<'_, B, R, Open, Around>,
     pass: &mut Pass<B>,
     log: &mut String,
-    time: u64,
     windows: &[Due],
     limits: &[u32],
     faults: Faults,
 ) -> Option<()> {
-    let around = Around::new(alloc, time, 0, Vec::new(alloc));
+    let jobs = ListedJobs::new(closings(alloc, windows)?, faults.source);
+    let mut jobs = Scarce::new(alloc, jobs, faults)?;
+    for limit in limits {
+        close(alloc, shared, pass, log, &mut jobs, *limit, faults.writes)?;
+    }
+    Some(())
+}
+
+// Runs a worker from a time on. How many downlinks a gateway worker or a join worker sent.
+fn run_one<B: Naming, R: Wait>(
+    bench: &Bench<'_, B, R>,
+    pass: &mut Pass<B>,
+    log: &mut String,
+    time: u64,
+    work: Work,
+    faults: Faults,
+) -> Option<usize> {
+    let alloc = bench.alloc;
+    let (step, asks) = work.around();
+    let around = Around::new(alloc, time, step, asks);
+    let mut down = Sent::new(alloc, !faults.downlinks)?;
+    let sent = &mut down;
     let shared = Shared {
         output: Output::Lines,
-        rt,
-        server,
+        rt: bench.rt,
+        server: bench.server,
         gate: &Open,
         monitor: &around,
     };
-    let jobs = ListedJobs::new(closings(alloc, windows)?, faults.source);
-    let mut jobs = Scarce::new(alloc, jobs, faults.from, faults.to, 0)?;
-    for limit in limits {
-        close(alloc, &shared, pass, log, &mut jobs, *limit, faults.writes)?;
-    }
-    Some(())
+    let ran = match work {
+        Work::Serve(list, room) => serve(alloc, &shared, pass, log, sent, list, room, faults),
+        Work::Answer(asks) => answer(alloc, &shared, pass, bench.known, log, sent, asks, faults),
+        Work::Close(due, limits) => close_all(alloc, &shared, pass, log, due, limits, faults),
+    };
+    ran?;
+    Some(down.sent.len())
 }
 
 // Takes all memory but 64 MB, so that it takes less time to take the rest again and again.
@@ -322,19 +300,16 @@ fn take_most(alloc: Global, held: &mut Vec<Vec<u8>>) -> Option<()> {
 
 // Has a ticket answered until it is accepted, which takes more than one block of memory.
 fn until_accepted<B: Naming, R: Wait>(
-    rt: &R,
-    alloc: Global,
-    server: &Server<B>,
+    bench: &Bench<'_, B, R>,
     pass: &mut Pass<B>,
-    known: &Roster,
     log: &mut String,
-    frame: &'static [u8; 23],
-    text: &'static str,
+    reads: &'static [Reads],
+    asks: &'static [Asked],
 ) -> Option<()> {
-    let mut held = Vec::with_capacity(alloc, BLOCKS).ok()?;
-    take_most(alloc, &mut held)?;
+    let mut held = Vec::with_capacity(bench.alloc, BLOCKS).ok()?;
+    take_most(bench.alloc, &mut held)?;
     for blocks in 0..200u32 {
-        if is_accepted(rt, alloc, server, pass, known, log, frame, text, blocks)? {
+        if is_accepted(bench, pass, log, reads, asks, blocks)? {
             return if blocks > 1 { Some(()) } else { None };
         }
     }
@@ -343,25 +318,22 @@ fn until_accepted<B: Naming, R: Wait>(
 
 // Has a ticket answered once, with so many blocks of memory. Whether it is accepted; None where the calls are not two.
 fn is_accepted<B: Naming, R: Wait>(
-    rt: &R,
-    alloc: Global,
-    server: &Server<B>,
+    bench: &Bench<'_, B, R>,
     pass: &mut Pass<B>,
-    known: &Roster,
     log: &mut String,
-    frame: &'static [u8; 23],
-    text: &'static str,
+    reads: &'static [Reads],
+    asks: &'static [Asked],
     blocks: u32,
 ) -> Option<bool> {
-    let faults = Faults { from: 0, ..NONE };
+    let faults = Faults {
+        from: 0,
+        blocks,
+        ..NONE
+    };
     let made = pass.made(13).wrapping_add(2);
     log.clear();
-    let reads = [Reads::Frame(frame, 1)];
-    serve(rt, alloc, server, pass, log, 7, &reads, 1, NONE)?;
-    let asks = [(frame, 7, text, 0)];
-    let sent = answer(
-        rt, alloc, server, pass, known, log, 7, &asks, faults, blocks,
-    )?;
+    run_one(bench, pass, log, 7, Work::Serve(reads, 1), NONE)?;
+    let sent = run_one(bench, pass, log, 7, Work::Answer(asks), faults)?;
     if pass.made(13) == made {
         Some(sent == 1)
     } else {
@@ -371,29 +343,18 @@ fn is_accepted<B: Naming, R: Wait>(
 
 /// Runs workers in order.
 pub fn run_all<B: Naming, R: Wait>(
-    rt: &R,
-    alloc: Global,
-    server: &Server<B>,
+    bench: &Bench<'_, B, R>,
     pass: &mut Pass<B>,
-    known: &Roster,
     log: &mut String,
     runs: &[Run],
 ) -> Option<()> {
     for run in runs {
         match *run {
-            Run::Serve(time, list, room, faults) => {
-                serve(rt, alloc, server, pass, log, time, list, room, faults)?;
-            }
-            Run::Answer(time, asks, faults) => {
-                answer(rt, alloc, server, pass, known, log, time, asks, faults, 0)?;
-            }
-            Run::Close(time, windows, limits, faults) => {
-                close_all(rt, alloc, server, pass, log, time, windows, limits, faults)?;
+            Run::At(time, work, faults) => {
+                run_one(bench, pass, log, time, work, faults)?;
             }
             Run::LeaveOut => log.clear(),
-            Run::UntilAccepted(frame, text) => {
-                until_accepted(rt, alloc, server, pass, known, log, frame, text)?;
-            }
+            Run::UntilAccepted(reads, asks) => until_accepted(bench, pass, log, reads, asks)?,
         }
     }
     Some(())

@@ -5,7 +5,7 @@ ghost use Rattle.std.specs.Arc.{arc_value};
 ghost use Rattle.ns_shard.specs.State.{no_entries};
 ghost use Rattle.ns_tally.specs.Tally.{AreNamed};
 
-use crate::around::{Around, Scarce};
+use crate::around::{Around, NONE, Scarce};
 use crate::runs::{close, closings};
 use crate::served::roster;
 use ns_events::Output;
@@ -15,13 +15,15 @@ use ns_tally::Blanks;
 use ns_workers::{ListedJobs, Shared};
 use std::alloc::Global;
 use std::marker::Brand;
-use std::process::Abort;
 use std::sync::atomic::{AtomicU64, Ordering};
 use std::sync::{Arc, Wait};
 use std::test::*;
 use std::thread;
 use std::thread::Threads;
 use std::time::{Clock, Duration};
+
+// How many receipts each of two closers has, where it ran.
+type Closed = (Option<usize>, Option<usize>);
 
 // Holds a call at its gate until the flag is up, for ten seconds at most.
 #[derive(Drop)]
@@ -44,33 +46,41 @@ impl<R: Clock> Gate<R> for Until {
 
 /// A closer that is held at its gate on shard 0 holds up none on shard 13.
 #[test]
-fn closers_on_two_shards(rt: HostRuntime) -> Result<(), Fail> {
-    let alloc: Global = rt.alloc();
-    both_close::<Brand, _>(&rt, alloc, roster(alloc)?, Blanks::new(2))
+fn closers_on_two_shards(rt: HostRuntime) {
+    assert_eq!(rt; closed_by_two(&rt, rt.alloc()), Some((Some(1), Some(1))));
 }
 
-fn both_close<B: Naming + Send + Sync, R: Threads + Wait + Abort + Clock + Sync>(
+// How many receipts each of two closers has on a new server. None where the first one is held too long.
+fn closed_by_two<R: Threads + Wait + Clock + Sync>(rt: &R, alloc: Global) -> Option<Closed> {
+    both_close::<Brand, _>(rt, alloc, roster(alloc)?, Blanks::new(2))
+}
+
+fn both_close<B: Naming + Send + Sync, R: Threads + Wait + Clock + Sync>(
     rt: &R,
     alloc: Global,
     roster: Arc<Roster>,
     blanks: Blanks,
-) -> Result<(), Fail>
+) -> Option<Closed>
     requires names { AreNamed B.ledger blanks.names }
     requires parts { (blanks.parts ≡ 2) × (B.workers ≡ 2) }
     requires roster { arc_value roster ≡ B.roster }
     requires begun { B.begun ≡ no_entries B.roster }
 {
-    let (server, mut passes) = Server::<B>::new(alloc, roster, 2, blanks)?;
-    let one = passes.pop().unwrap();
-    let two = passes.pop().unwrap();
+    let (server, mut passes) = Server::<B>::new(alloc, roster, 2, blanks).ok()?;
     let gate = Until {
         flag: AtomicU64::new(0),
         late: AtomicU64::new(0),
     };
-    let closed = close_both(rt, alloc, &server, one, two, &gate);
-    assert_eq!(rt; closed, (Some(1), Some(1)));
-    assert_eq!(rt; gate.late.load(Ordering::SeqCst), 0);
-    Ok(())
+    let closed = match (passes.pop(), passes.pop()) {
+        (Some(one), Some(two)) => close_both(rt, alloc, &server, one, two, &gate),
+        _ => (None, None),
+    };
+    drop(server);
+    if gate.late.load(Ordering::SeqCst) == 0 {
+        Some(closed)
+    } else {
+        None
+    }
 }
 
 // A closer on shard 0 is held until the one on shard 13 has ended. How many receipts each has.
@@ -81,7 +91,7 @@ fn close_both<B: Naming + Send + Sync, R: Threads + Wait + Clock + Sync>(
     one: Pass<B>,
     two: Pass<B>,
     gate: &Until,
-) -> (Option<usize>, Option<usize>) {
+) -> Closed {
     thread::join(
         rt,
         || close_one(rt, alloc, server, one, 16, gate),
@@ -103,7 +113,7 @@ fn close_one<B: Naming, R: Wait, G: Gate<R>>(
     gate: &G,
 ) -> Option<usize> {
     let mut pass = pass;
-    let around = Around::new(alloc, 0, 0, Vec::new(alloc));
+    let around = Around::new(alloc, 0, 0, &[]);
     let shared = Shared {
         output: Output::Lines,
         rt,
@@ -112,7 +122,7 @@ fn close_one<B: Naming, R: Wait, G: Gate<R>>(
         monitor: &around,
     };
     let jobs = ListedJobs::new(closings(alloc, &[(eui, 0, 0, 1)])?, false);
-    let mut jobs = Scarce::new(alloc, jobs, u32::MAX, u32::MAX, 0)?;
+    let mut jobs = Scarce::new(alloc, jobs, NONE)?;
     let mut log = String::new(alloc);
     close(alloc, &shared, &mut pass, &mut log, &mut jobs, 4, None)
 }
