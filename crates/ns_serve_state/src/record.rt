@@ -145,7 +145,7 @@ impl<'a> RecordLines for Answered<'a> {
 pub fn record_call<R: Wait>(rt: &R, state: &State, receipt: &Receipt) {
     if let Some(record) = &state.record {
         if matters(&receipt.entry.reply) {
-            record.put(rt, receipt.shard, &Answered { receipt });
+            record.put(rt, &Answered { receipt });
         }
     }
 }

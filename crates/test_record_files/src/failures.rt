@@ -126,6 +126,7 @@ pub(crate) struct Told {
 }
 
 impl Told {
+    /// A call with this step line and, if there is one, this `up` line.
     pub fn new(step: &str, up: Option<&str>) -> Told {
         Told {
             step: line_of(step),
@@ -160,20 +161,20 @@ impl RecordLines for Told {
 }
 
 #[test]
-fn lines_of_shards_are_written_once(rt: HostRuntime) -> Result<(), AllocError> {
+fn lines_are_written_once(rt: HostRuntime) -> Result<(), AllocError> {
     let writer = RecordWriter::new(Memory::new(rt.alloc(), 9));
     let recorder = Recorder::new(rt.alloc(), writer)?;
-    recorder.put(&rt, 15, &Told::new("b", None));
-    recorder.put(&rt, 0, &Told::new("a", Some("up a")));
-    recorder.put(&rt, 15, &Told::new("c", Some("up c")));
+    recorder.put(&rt, &Told::new("b", None));
+    recorder.put(&rt, &Told::new("a", Some("up a")));
+    recorder.put(&rt, &Told::new("c", Some("up c")));
     assert!(rt; !recorder.is_due());
     assert!(rt; recorder.write(&rt).is_ok());
     assert!(rt; recorder.write(&rt).is_ok());
-    recorder.put(&rt, 1, &Told::new("d", None));
+    recorder.put(&rt, &Told::new("d", None));
     assert!(rt; recorder.write(&rt).is_ok());
     let disk = recorder.into_disk();
     assert_eq!(rt; disk.calls, 6);
-    assert_eq!(rt; disk.steps.as_slice(), b"a\nb\nc\nd\n".as_slice());
+    assert_eq!(rt; disk.steps.as_slice(), b"b\na\nc\nd\n".as_slice());
     assert_eq!(rt; disk.ups.as_slice(), b"up a\nup c\n".as_slice());
     Ok(())
 }

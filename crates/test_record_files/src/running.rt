@@ -84,14 +84,14 @@ impl<'a, R: Wait + Files<File = File> + AllocGlobal> Folder<'a, R> {
     }
 }
 
-// Puts a line of shard 3 with its `up` line, and writes it.
+// Puts a line with its `up` line, and writes it.
 fn put<R: Wait + AllocGlobal>(
     rt: &R,
     recorder: &Recorder<RecordFiles>,
     text: &str,
 ) -> Result<(), Fail> {
     let up = format!(in rt.alloc(); "up {text}")?;
-    recorder.put(rt, 3, &Told::new(text, Some(up.as_str())));
+    recorder.put(rt, &Told::new(text, Some(up.as_str())));
     match recorder.write(rt) {
         Ok(()) => Ok(()),
         Err(_) => Err(Fail::new("not written")),
