@@ -15,7 +15,6 @@ ghost use Rattle.ns_words.specs.Asked.{IsServed};
 ghost use Rattle.ns_commands.specs.Status.{IsRun};
 
 use log::filter::FilteredLog;
-use log::sink::Discard;
 use log::{Log, error};
 use ns_commands::{
     End, Fault, Logging, Timed, VARIABLE, compact, concluded, ended, keeper, of_record, of_serve,
@@ -64,11 +63,12 @@ fn begin<R: Files<File = File> + AllocGlobal, L: Log>(
     }
 }
 
-// Reads the roster and then serves gateways.
+// Serves gateways, once the roster is read.
 fn run_serve<'a, R, L, S, U>(
     rt: &R,
     log: &L,
     path: &'a str,
+    known: Option<Arc<Roster>>,
     options: &ServeOptions<'_>,
     record: Recorded<'_>,
     stop: S,
@@ -82,15 +82,25 @@ where
     L: Net<Listener = TcpListener, Stream = TcpStream>,
     requires { IsServed options.now }
 {
-    let roster = read_roster(rt, log, path)?;
+    let roster = match known {
+        Some(roster) => roster,
+        None => read_roster(rt, log, path)?,
+    };
     let begun = begin(rt, log, &roster, record)?;
     let writer = OverStd::new(WaitingWriter::new(log, io::writer(rt)));
     let alloc = rt.alloc();
     of_serve(serve(log, alloc, roster, options, begun, stop, upkeep, writer))
 }
 
-// Does what the words ask for.
-fn run<'a, R, L, S, U>(rt: &R, log: &L, words: &'a [String], stop: S, upkeep: U) -> End<'a>
+// Does what the words ask for. The roster may be read already.
+fn run<'a, R, L, S, U>(
+    rt: &R,
+    log: &L,
+    words: &'a [String],
+    known: Option<Arc<Roster>>,
+    stop: S,
+    upkeep: U,
+) -> End<'a>
 where
     R: Files<File = File> + AllocGlobal + Input + Print + Sync,
     S: Stop + Send + Drop + 'static,
@@ -103,27 +113,43 @@ where
         Ok(Asked::Replay(path, uplinks, closing)) => {
             End::Ran(run_replay(rt, log, path, uplinks, closing))
         }
-        Ok(Asked::Serve(path, options, record)) => {
-            End::Ran(run_serve(rt, log, path, &options, record, stop, upkeep))
-        }
+        Ok(Asked::Serve(path, options, record)) => End::Ran(run_serve(
+            rt, log, path, known, &options, record, stop, upkeep,
+        )),
         Ok(Asked::Compact(path, folder)) => End::Ran(compact(rt, log, path, folder)),
         Err(bad) => End::Refused(bad),
     }
 }
 
-// The roster and the folder of the record that a server is to keep, where both are asked for and the roster can be read.
-fn kept<'a, R: Files<File = File> + AllocGlobal>(
+// What keeps the record of a server short works with: its roster, and its folder.
+#[derive(Drop)]
+struct Kept<'a> {
+    roster: Arc<Roster>,
+    again: Arc<Roster>,
+    folder: &'a str,
+}
+
+// The roster, twice, and the folder of the record that a server is to keep, where that is asked for.
+fn what_is_kept<'a, R: Files<File = File> + AllocGlobal, L: Log>(
     rt: &R,
+    log: &L,
     words: &'a [String],
-) -> Option<(Arc<Roster>, &'a str)> {
+) -> Result<Option<Kept<'a>>, Fault<'a>> {
     let Ok(Asked::Serve(path, _, record)) = read_words(rt.alloc(), words) else {
-        return None;
+        return Ok(None);
     };
-    let folder = record.folder?;
-    match read_roster(rt, &Discard, path) {
-        Ok(roster) => Some((roster, folder)),
-        Err(_) => None,
-    }
+    let Some(folder) = record.folder else {
+        return Ok(None);
+    };
+    let roster = read_roster(rt, log, path)?;
+    let Ok(again) = roster.clone() else {
+        return Err(Fault::NoMemory);
+    };
+    Ok(Some(Kept {
+        roster,
+        again,
+        folder,
+    }))
 }
 
 // Where there is no record to look after.
@@ -143,11 +169,21 @@ fn main(rt: HostRuntime) -> ExitCode {
     match words(&rt) {
         Ok(words) => {
             let (words, stop) = (words.as_slice(), EndOfInput::new(rt));
-            let end = match kept(&rt, words) {
-                Some((roster, folder)) => {
-                    run(&rt, &log, words, stop, keeper(&rt, &log, &roster, folder))
+            let end = match what_is_kept(&rt, &log, words) {
+                Ok(
+                    Some(
+                        Kept {
+                            roster,
+                            again,
+                            folder,
+                        },
+                    ),
+                ) => {
+                    let upkeep = keeper(&rt, &log, &roster, folder);
+                    run(&rt, &log, words, Some(again), stop, upkeep)
                 }
-                None => run(&rt, &log, words, stop, NoRecord),
+                Ok(None) => run(&rt, &log, words, None, stop, NoRecord),
+                Err(fault) => End::Ran(Err(fault)),
             };
             concluded(&rt, &log, &end)
         }
