@@ -1,6 +1,6 @@
 //! The compaction of the files of a record, also of one that a server goes on with.
 
-use crate::part::{Part, PartFile};
+use crate::part::{NewSteps, Part, PartFile, logged};
 use crate::same::serves_as_well;
 use crate::shortening::{Shortened, shorten};
 use log::{Log, error};
@@ -72,7 +72,11 @@ impl<'a, R: Files<File = File>, L: Log> Folder<'a, R, L> {
         let mut steps = self.read("steps", part.steps, part)?;
         let mut ups = self.read("up", part.ups, part)?;
         let mut again = self.read("steps", part.steps, part)?;
-        let mut out = BufWriter::with_capacity(self.alloc, BLOCK, to.file())?;
+        let new = NewSteps {
+            log: self.log,
+            file: to.file(),
+        };
+        let mut out = BufWriter::with_capacity(self.alloc, BLOCK, new)?;
         let none = Base { lines: 0, ups: 0 };
         out.write_all(base_line(&none).as_str().as_bytes())?;
         out.write_all(b"\n")?;
@@ -154,7 +158,7 @@ impl<'a, R: Files<File = File>, L: Log> Folder<'a, R, L> {
         if left.torn > 0 || left.up_torn > 0 || !left.missing.is_empty() {
             return Err(RecordFault::NotAsWell);
         }
-        self.open("up")?.sync_all()?;
+        logged(self.log, self.open("up")?.sync_all())?;
         self.tell(part, shorter, &left, part.ups)
     }
 

@@ -1,9 +1,11 @@
-//! What of the files of a record is read.
+//! What of the files of a record is read, and what fewer steps are written to.
+ghost use Rattle.std.specs.Prelude.{◌≡◌};
 
+use log::{Log, error};
 use ns_record_files::{Lengths, RecordFiles, Recorder};
 use std::fs::File;
 use std::io;
-use std::io::{ErrorKind, Read, Take};
+use std::io::{ErrorKind, Read, Take, Write};
 
 /// How many bytes of each file of a record are read, and what goes on with the record, if a server does.
 #[derive(Drop)]
@@ -54,5 +56,32 @@ impl<'a> Read for PartFile<'a> {
             Some(record) if record.rests() => Err(io::Error::from(ErrorKind::TimedOut)),
             _ => self.bytes.read(buf),
         }
+    }
+}
+
+/// What a call of the system gave. Where it failed, why is logged.
+pub(crate) fn logged<L: Log, T: Drop>(log: &L, outcome: io::Result<T>) -> io::Result<T>
+    ensures { result ≡ outcome }
+{
+    if let Err(error) = &outcome {
+        error!(log; "record: {error}");
+    }
+    outcome
+}
+
+/// The file of fewer steps. Why a write of it fails is logged.
+#[derive(Drop)]
+pub(crate) struct NewSteps<'a, L> {
+    pub log: &'a L,
+    pub file: &'a File,
+}
+
+impl<'a, L: Log> Write for NewSteps<'a, L> {
+    fn write(&mut self, buf: &[u8]) -> io::Result<usize> {
+        logged(self.log, self.file.write(buf))
+    }
+
+    fn flush(&mut self) -> io::Result<()> {
+        self.file.flush()
     }
 }
