@@ -54,7 +54,7 @@ datagram_texts t =
 -- what came of joins and downlinks
 unfoldable pub join_texts : Totals → List ℕ
 join_texts t =
-    single_text (codes "unanswered_total") (codes "Join-Requests that the join server did not answer.") Counter t.unanswered
+    single_text (codes "unanswered_total") (codes "Joins without an answer that can be used.") Counter t.unanswered
     ++ single_text (codes "stale_tickets_total") (codes "Join-Requests that were too old to ask the join server for.") Counter t.stale
     ++ single_text (codes "unsent_total") (codes "Downlinks that were not sent.") Counter t.unsent
 
@@ -69,7 +69,7 @@ open_texts t =
 unfoldable pub known_texts : Totals → List ℕ
 known_texts t =
     single_text (codes "devices") (codes "Devices of the roster.") Gauge t.devices
-    ++ single_text (codes "sessions") (codes "Devices that have joined.") Gauge t.sessions
+    ++ single_text (codes "sessions") (codes "Devices whose session was heard since the start.") Gauge t.sessions
     ++ single_text (codes "gateways") (codes "Gateways that are known.") Gauge t.gateways
 
 -- refusals and replies by their names, and entries by shard

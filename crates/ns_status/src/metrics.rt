@@ -20,7 +20,7 @@ pub struct Totals {
     pub late: u64,
     /// Receives that failed.
     pub unreceived: u64,
-    /// Join-Requests that the join server did not answer.
+    /// Joins without an answer that can be used.
     pub unanswered: u64,
     /// Join-Requests whose tickets were too old to ask the join server for.
     pub stale: u64,
@@ -32,7 +32,7 @@ pub struct Totals {
     pub tickets: u64,
     /// Devices of the roster.
     pub devices: u64,
-    /// Devices that have joined.
+    /// Devices whose session was heard since the start.
     pub sessions: u64,
     /// Gateways that are known.
     pub gateways: u64,
@@ -204,7 +204,7 @@ fn put_joins(text: &mut String, totals: &Totals) -> Result<(), AllocError>
     put_single(
         text,
         "unanswered_total",
-        "Join-Requests that the join server did not answer.",
+        "Joins without an answer that can be used.",
         Kind::Counter,
         totals.unanswered,
     )?;
@@ -267,7 +267,7 @@ fn put_known(text: &mut String, totals: &Totals) -> Result<(), AllocError>
     put_single(
         text,
         "sessions",
-        "Devices that have joined.",
+        "Devices whose session was heard since the start.",
         Kind::Gauge,
         totals.sessions,
     )?;
