@@ -64,14 +64,19 @@ impl<'a> Upkeep for Looks<'a> {
     }
 }
 
-// A folder without files.
-fn emptied(rt: &HostRuntime, folder: &str) -> Result<(), Fail> {
+/// Makes a folder without files.
+pub fn emptied(rt: &HostRuntime, folder: &str) -> Result<(), Fail> {
     let _ = fs::remove_dir_all(rt, folder);
     Ok(fs::create_dir(rt, folder)?)
 }
 
-// The bytes of a file of a folder.
-fn bytes_of(rt: &HostRuntime, alloc: Global, folder: &str, name: &str) -> Result<Vec<u8>, Fail> {
+/// The bytes of a file of a folder.
+pub fn bytes_of(
+    rt: &HostRuntime,
+    alloc: Global,
+    folder: &str,
+    name: &str,
+) -> Result<Vec<u8>, Fail> {
     let path = format!(in alloc; "{folder}/{name}")?;
     let mut bytes = Vec::new(alloc);
     File::open(rt, path.as_str())?.read_to_end(&mut bytes)?;
@@ -127,8 +132,8 @@ fn live<
     Ok(served_from(rt, alloc, trial, roster, begun, looks, OverStd::new(output))?)
 }
 
-// A trial of one device that ends after so many datagrams.
-fn trial_of(stop_after: u32) -> Trial {
+/// A trial of one device that ends after so many datagrams.
+pub fn trial_of(stop_after: u32) -> Trial {
     Trial {
         roster: ROSTER_A,
         port: 17041,

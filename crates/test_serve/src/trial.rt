@@ -1,5 +1,6 @@
 //! A server of one gateway worker, with those around it.
 
+ghost use Rattle.std.specs.Prelude.{◌≡◌, ◌<◌, ◌≤◌};
 ghost use Rattle.std.specs.Arc.{arc_value};
 ghost use Rattle.ns_serve_state.specs.Begun.{IsBegun};
 
@@ -94,13 +95,22 @@ pub fn served_from<
     let Some(host) = HostName::new("js.local") else {
         return Err(ServeFault::Io);
     };
+    let options = options_of(trial, host);
+    serve(rt, alloc, roster, &options, begun, Unused, upkeep, writer)
+}
+
+/// What a trial asks for, with one gateway worker.
+pub fn options_of<'a>(trial: &Trial, host: HostName<'a>) -> ServeOptions<'a>
+    ensures workers { result.workers ≡ 1 }
+    ensures join_workers { (0 < result.join_workers) × (result.join_workers ≤ 16) }
+{
     let heard = Some(local(trial.port));
     let (listen, forwarders) = if trial.forwarders {
         (None, heard)
     } else {
         (heard, None)
     };
-    let options = ServeOptions {
+    ServeOptions {
         join: join_addr(trial),
         host,
         listen,
@@ -116,8 +126,7 @@ pub fn served_from<
         output: Output::Lines,
         events: false,
         closing: trial.closing,
-    };
-    serve(rt, alloc, roster, &options, begun, Unused, upkeep, writer)
+    }
 }
 
 /// What gateways and devices do while a server runs, at this port. How many bytes came of it.
