@@ -24,7 +24,7 @@ use ns_record_files::{RecordFiles, Recorder, Upkeep};
 use ns_roster::Roster;
 use ns_serve::{Begun, EndOfInput, ServeOptions, Stop, WaitingWriter, serve};
 use ns_types::OverStd;
-use ns_words::{Asked, Recorded, read_words};
+use ns_words::{Asked, BadWords, Recorded, read_words};
 use std::fs::File;
 use std::io;
 use std::net::{Net, TcpListener, TcpStream};
@@ -135,8 +135,10 @@ fn what_is_kept<'a, R: Files<File = File> + AllocGlobal, L: Log>(
     log: &L,
     words: &'a [String],
 ) -> Result<Option<Kept<'a>>, Fault<'a>> {
-    let Ok(Asked::Serve(path, _, record)) = read_words(rt.alloc(), words) else {
-        return Ok(None);
+    let (path, record) = match read_words(rt.alloc(), words) {
+        Ok(Asked::Serve(path, _, record)) => (path, record),
+        Err(BadWords::NoMemory) => return Err(Fault::NoMemory),
+        _ => return Ok(None),
     };
     let Some(folder) = record.folder else {
         return Ok(None);
