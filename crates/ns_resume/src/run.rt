@@ -3,6 +3,7 @@
 ghost use Rattle.std.specs.Prelude.{◌≡◌, ℕ, nat_le, List, length, IfOk, IfErr, OnOk};
 ghost use Rattle.std.specs.Arc.{arc_value};
 ghost use Rattle.ns_types.specs.Identity.{shard_count};
+ghost use Rattle.ns_calls.specs.declared.answer.Answer.{Answer};
 ghost use Rattle.ns_roster.specs.Network.{Network};
 ghost use Rattle.ns_shard.specs.declared.step.Step.{Step};
 ghost use Rattle.ns_record.specs.StepText.{ReadsBack};
@@ -16,7 +17,7 @@ use crate::fault::RecordFault;
 use crate::line::read_line;
 use crate::open::{Open, open_in};
 use crate::ups::Ups;
-use ns_calls::{Answer, Call, shard_of_call, up_line};
+use ns_calls::{Call, Downlink, Uplink, shard_of_call, up_line};
 use ns_record::matters;
 use ns_replay::step;
 use ns_roster::Roster;
@@ -27,8 +28,8 @@ use std::io::BufRead;
 use std::sync::Arc;
 
 /// A shard is trimmed once it holds twice what its last trim left, and so many entries: so trims take a part of the time that does not
-/// grow with the devices.
-pub const TRIM_FROM: usize = 8_192;
+/// grow with the devices, and sixteen small shards stay in a processor's cache.
+pub const TRIM_FROM: usize = 512;
 
 /// What a record leaves.
 #[derive(Drop)]
@@ -55,6 +56,9 @@ struct Running {
     // How many entries each shard holds when it is trimmed.
     most: [usize; 16],
     ups: Ups,
+    // What went out with the last answer. It stays where it is, since it takes some hundred bytes.
+    uplink: Option<Uplink>,
+    downlink: Option<Downlink>,
 }
 
 // The call of the line of this number.
@@ -83,22 +87,22 @@ pub fn trim_if_due(alloc: Global, shard: &mut Shard, most: &mut usize)
 }
 
 impl Running {
-    // Makes a call at its shard, and tells the answer, on which later answers rest.
-    fn answer(&mut self, alloc: Global, number: u64, call: Call) -> Result<Answer, RecordFault>
+    // Makes a call at its shard, where later answers rest on the answer.
+    fn answer(&mut self, alloc: Global, number: u64, call: &Call) -> Result<(), RecordFault>
         requires sixteen { length self.old.shards.items ≡ shard_count }
         requires in_place { AreInPlace self.old.shards.items }
-        ensures answered { IfOk result (HasAnswered self.old.shards.items self.new.shards.items call) }
-        ensures fault { IfErr result (DoesNotMatter self.old.shards.items call number) }
+        ensures answered { OnOk result ((a : Answer) × HasAnswered self.old.shards.items self.new.shards.items call.now a × (self.new.uplink ≡ a.uplink)) }
+        ensures fault { IfErr result (DoesNotMatter self.old.shards.items call.now number) }
         ensures ups { self.new.ups ≡ self.old.ups }
     {
-        let place = usize::from(shard_of_call(&call));
+        let place = usize::from(shard_of_call(call));
         let shard = &mut self.shards[place];
-        let answer = shard.apply(call)?;
-        if !matters(&answer.reply) {
+        let reply = shard.apply_into(call, &mut self.uplink, &mut self.downlink)?;
+        if !matters(&reply) {
             return Err(RecordFault::NoFit(number));
         }
         trim_if_due(alloc, shard, &mut self.most[place]);
-        Ok(answer)
+        Ok(())
     }
 
     // Runs the line of this number. Its `up` line is implied where it is new.
@@ -118,11 +122,11 @@ impl Running {
             → RefusesLine net steps line.now number e) }
     {
         let call = call_in(alloc, number, line)?;
-        let answer = self.answer(alloc, number, call)?;
+        self.answer(alloc, number, &call)?;
         if !is_new {
             return Ok(());
         }
-        match &answer.uplink {
+        match &self.uplink {
             Some(uplink) => self.ups.implied(ups, up_line(uplink).as_str().as_bytes()),
             None => Ok(()),
         }
@@ -137,11 +141,7 @@ impl Running {
         ensures windows { IfOk result (λ r. r.windows.items ≡ windows_in self.shards.items) }
         ensures tickets { IfOk result (λ r. r.tickets.items ≡ tickets_in self.shards.items) }
     {
-        let Running {
-            shards,
-            most: _,
-            ups,
-        } = self;
+        let Running { shards, ups, .. } = self;
         let Open { windows, tickets } = open_in(alloc, shards.as_slice())?;
         Ok(Resumed {
             shards,
@@ -176,6 +176,8 @@ fn run_lines<S: BufRead, U: BufRead>(
         shards: new_shards(alloc, roster)?,
         most: [TRIM_FROM; 16],
         ups: Ups::new(alloc),
+        uplink: None,
+        downlink: None,
     };
     let mut line = Vec::new(alloc);
     'lines: for number in first..u64::MAX {

@@ -1,3 +1,4 @@
 mod ReceiptLemmas
 mod TurnLemmas
 mod DrainLemmas
+mod TakenLemmas

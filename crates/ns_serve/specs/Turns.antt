@@ -11,7 +11,7 @@ use Rattle.ns_workers.specs.declared.gateway.Served.{Served}
 use Rattle.ns_workers.specs.declared.job.CloseJob.{CloseJob}
 use Rattle.ns_workers.specs.declared.join.Joined.{Joined}
 use Rattle.ns_workers.specs.Answering.{Answers, IsOutcome}
-use Rattle.ns_workers.specs.Closing.{AreAnswered}
+use Rattle.ns_workers.specs.Closing.{AreAnswered, calls_made, closings}
 use Rattle.ns_workers.specs.Counts.{RisesByReceipts}
 use Rattle.ns_workers.specs.Effects.{effects}
 use Rattle.ns_workers.specs.Serving.{ServesAll}
@@ -27,6 +27,13 @@ Anything x = Unit {0}
 -- there are receipts, each right for its call, by which the counts of a pass rose
 pub record HasReceipts (net : Network) (old new : List ℕ) : Type 0 where
   pub receipts : List Receipt
+  pub answered : AreAnswered net receipts
+  pub counted : RisesByReceipts old new receipts
+
+-- the same of receipts that are of the closings of these jobs, in order
+pub record HasClosed (net : Network) (jobs : List CloseJob) (old new : List ℕ) : Type 0 where
+  pub receipts : List Receipt
+  pub closed : calls_made receipts ≡ closings jobs
   pub answered : AreAnswered net receipts
   pub counted : RisesByReceipts old new receipts
 

@@ -1,11 +1,11 @@
 //! The closer: windows are closed as they become due, their lines written, and the shards trimmed.
-ghost use Rattle.std.specs.Prelude.{◌≡◌, ◌≢◌, ◌+◌, ◌<◌, ◌≤◌, ◌⊎◌, ◌↔◌, ◌++◌, List, Some, None, true, false, IsNone, IsTrue, IfOk, slice_get, vec_len};
+ghost use Rattle.std.specs.Prelude.{◌≡◌, ◌≢◌, ◌+◌, ◌^◌, ◌<◌, ◌≤◌, ◌⊎◌, ◌↔◌, ◌++◌, List, Some, None, true, false, IsNone, IsTrue, IfOk, slice_get, vec_len};
 ghost use Rattle.ns_server.specs.declared.kept.Receipt.{Receipt as receipt};
 ghost use Rattle.ns_workers.specs.declared.job.CloseJob.{CloseJob as close_job};
-ghost use Rattle.ns_workers.specs.Closing.{AreAnswered, AreClosed};
+ghost use Rattle.ns_workers.specs.Closing.{AreAnswered, AreClosed, calls_made, closings};
 ghost use Rattle.ns_workers.specs.Counts.{RisesByReceipts};
 ghost use Rattle.ns_workers.specs.Lines.{AppendsLines, AppendsLinesFront};
-ghost use Rattle.ns_serve.specs.Turns.{HasReceipts, IsTurn, IsTurnWith};
+ghost use Rattle.ns_serve.specs.Turns.{HasClosed, HasReceipts, IsTurn, IsTurnWith};
 
 use crossbeam_channel::{Receiver, RecvTimeoutError};
 use log::{Log, error};
@@ -155,7 +155,7 @@ impl<'a> Closings<'a> {
     }
 }
 
-/// Closes the windows of these jobs, and puts their lines to those that are held.
+/// Closes the windows of these jobs, in order, and puts their lines to those that are held. Without a fault it closes them all.
 pub(crate) fn close_all<B: Naming, R: Wait + Clock + Log>(
     alloc: Global,
     shared: &Shared<'_, B, R, Recording<'_>, Events<'_>>,
@@ -169,7 +169,8 @@ pub(crate) fn close_all<B: Naming, R: Wait + Clock + Log>(
     ensures lines { result.fault ≢ Some WorkerFault.SinkFailed
         → AppendsLines shared.now.output (Some held.old.lines.items) (Some held.new.lines.items) result.receipts.items }
     ensures front { AppendsLinesFront shared.now.output (Some held.old.lines.items) (Some held.new.lines.items) result.receipts.items }
-    ensures closed { (taken : List close_job) × AreClosed result.fault result.receipts.items taken }
+    ensures closed { (taken rest : List close_job) × (jobs.items ≡ taken ++ rest) × AreClosed result.fault result.receipts.items taken }
+    ensures all { result.fault ≡ None → vec_len jobs < 2 ^ 32 → calls_made result.receipts.items ≡ closings jobs.items }
     ensures answered { AreAnswered B.roster result.receipts.items }
     ensures counted { RisesByReceipts pass.old pass.new result.receipts.items }
 {
@@ -203,6 +204,7 @@ pub(crate) fn close_and_write<B: Naming, R: Wait + Clock + Log, W: Sink>(
     requires { held.old.failed ≡ false }
     ensures sound { held.new.failed ≡ false }
     ensures receipts { HasReceipts B.roster pass.old pass.new }
+    ensures closed { result ≡ None → vec_len jobs < 2 ^ 32 → HasClosed B.roster jobs.items pass.old pass.new }
 {
     let timer = SinceMoment::now(shared.rt, state);
     let ended = close_all(alloc, shared, pass, &timer, later, jobs, held);

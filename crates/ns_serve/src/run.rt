@@ -352,7 +352,7 @@ fn close_to_end<B: Naming, R: Wait + Clock + Log, W: Sink>(
 {
     let (rt, state, alloc) = (around.rt, around.state, around.alloc);
     let mut closings = Closings::new(state, closes);
-    let mut trims = trims_of(around.trim);
+    let mut trims = trims_of(around.trim, around.roster.devices().len());
     let (gate, events) = (Recording { state }, Events { state });
     let shared = around.shared(&gate, &events);
     let (Ok(mut held), Ok(mut later)) = (
@@ -445,6 +445,25 @@ fn join_all<B: Naming, R: Threads + Wait>(
     for worker in workers {
         keep(ends, worker.join(rt));
     }
+}
+
+// Keeps what the closer brought back, and, as they end, what all other threads bring back.
+fn join_threads<B: Naming, R: Threads + Wait>(
+    rt: &R,
+    ends: &mut Ends<B>,
+    closer: Back<B>,
+    gateways: Vec<JoinHandle<Back<B>>>,
+    joiners: Vec<JoinHandle<Back<B>>>,
+    helpers: Vec<JoinHandle<()>>,
+)
+    ensures none { IsNone ends.new.fault → IsNone ends.old.fault × IsNone closer.fault }
+    ensures memory { ends.old.fault ≡ Some ServeFault.NoMemory → ends.new.fault ≡ Some ServeFault.NoMemory }
+    ensures kept { IsNone ends.new.fault → vec_len ends.new.passes ≡ vec_len ends.old.passes + 1 + vec_len gateways + vec_len joiners }
+{
+    keep(ends, closer);
+    join_all(rt, ends, gateways);
+    join_all(rt, ends, joiners);
+    join_helpers(rt, helpers);
 }
 
 // Takes so many passes for join workers.
@@ -592,10 +611,7 @@ pub(crate) fn run_all<
         }
         let back = closer_thread(around, closer, close_receiver);
         rest_record(state);
-        keep(&mut ends, back);
-        join_all(rt, &mut ends, gateways);
-        join_all(rt, &mut ends, joiners);
-        join_helpers(rt, helpers);
+        join_threads(rt, &mut ends, back, gateways, joiners, helpers);
         ends
     });
     Ok(ends)

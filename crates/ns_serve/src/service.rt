@@ -18,7 +18,7 @@ use ns_calls::{Uplink, up_line};
 use ns_events::{Output as Written, uplink_json};
 use ns_record_files::{RecordFiles, Recorder, Upkeep};
 use ns_roster::Roster;
-use ns_serve_parts::{Output, ServeFault, ServeOptions, closing_text};
+use ns_serve_parts::{Output, ServeFault, ServeOptions, closing_text, trims_of};
 use ns_serve_state::{
     AfterRecord, Begun, State, Status, ToSocket, has_failed, log_counts, log_unsent, note_event,
     now_ms, record_call, take_notices, times_of, write_record,
@@ -141,8 +141,8 @@ fn log_start<R: Log>(rt: &R, roster: &Roster, options: &ServeOptions<'_>) {
     if let Some(count) = options.stop_after {
         info!(rt; "stops after {count} datagrams");
     }
-    if let Some(count) = options.trim {
-        info!(rt; "trims a shard after {count} entries");
+    if let Some(trims) = trims_of(options.trim, roster.devices().len()) {
+        info!(rt; "trims a shard after {} entries", trims.every);
     }
 }
 

@@ -1,6 +1,6 @@
 //! When the shards of a running server are trimmed.
 
-ghost use Rattle.std.specs.Prelude.{◌≡◌, ◌<◌, ℕ, get_or, slice_index, IfSome};
+ghost use Rattle.std.specs.Prelude.{◌≡◌, ◌<◌, ◌*◌, ◌/◌, ℕ, max, get_or, slice_index, IfSome};
 ghost use Rattle.std.specs.Option.{option_map};
 ghost use Rattle.ns_types.specs.Identity.{shard_count};
 ghost use Rattle.ns_serve_parts.specs.Trims.{is_due, IsTold, IsToldBy, mark_after};
@@ -15,18 +15,22 @@ use std::sync::Wait;
 /// How many places a list of one thing for each shard has.
 pub const PLACES: usize = SHARDS as usize;
 
-/// After how many further entries a shard is trimmed, and the marks of the shards' last trims, 0 where there was none.
+// Of how many devices there is to be one further entry in a shard before it is trimmed.
+const DEVICES_AN_ENTRY: u64 = 4;
+
+/// After how many further entries a shard is trimmed, and the marks of the shards' last trims; where there was none, from which number of
+/// entries on they are counted.
 #[derive(Clone, Copy)]
 pub struct Trims {
     /// After so many entries of a shard it is due.
-    pub every: u32,
-    /// The mark of each shard's last trim, 0 where there was none.
+    pub every: u64,
+    /// The mark of each shard's last trim.
     pub marks: [u64; PLACES],
 }
 
 impl Trims {
     /// No shard was trimmed yet.
-    pub fn new(every: u32) -> Trims
+    pub fn new(every: u64) -> Trims
         ensures every { result.every ≡ every }
         ensures marks { (k : ℕ) → slice_index result.marks k ≡ 0 }
     {
@@ -37,13 +41,31 @@ impl Trims {
     }
 }
 
-/// The trims that are asked for, if any are.
-pub fn trims_of(trim: Option<u32>) -> Option<Trims>
-    ensures every { option_map (λ t. t.every) result ≡ trim }
-    ensures marks { IfSome result (λ t. (k : ℕ) → slice_index t.marks k ≡ 0) }
+// Marks that lie a sixteenth of so many entries apart.
+fn marks_apart(every: u64) -> [u64; PLACES]
+    ensures { (k : ℕ) → k < shard_count → slice_index result k ≡ k * (every / 16) }
 {
-    let every = trim?;
-    Some(Trims::new(every))
+    let step = every / SHARDS as u64;
+    let mut marks = [0; PLACES];
+    for place in 0..PLACES {
+        marks[place] = place as u64 * step;
+    }
+    marks
+}
+
+/// The trims that are asked for, if any are, of the shards of so many devices. A trim walks through all entries of its shard, and what it
+/// leaves grows with the devices: a shard is due no sooner than after a quarter as many further entries. The shards begin a sixteenth
+/// apart, so that where all grow alike they are not due at once: windows are closed between their trims.
+pub fn trims_of(trim: Option<u32>, devices: usize) -> Option<Trims>
+    ensures every { option_map (λ t. t.every) result ≡ option_map (λ n. max n (devices / 4)) trim }
+    ensures marks { IfSome result (λ t. (k : ℕ) → k < shard_count → slice_index t.marks k ≡ k * (t.every / 16)) }
+{
+    let entries = u64::from(trim?);
+    let every = entries.max(devices as u64 / DEVICES_AN_ENTRY);
+    Some(Trims {
+        every,
+        marks: marks_apart(every),
+    })
 }
 
 /// What became of a shard that was looked at.
@@ -63,7 +85,7 @@ fn is_due(trims: &Trims, made: &[u64; PLACES], shard: u8) -> bool
     ensures { result ≡ is_due trims.now made.now shard }
 {
     let place = usize::from(shard);
-    made[place] >= trims.marks[place] && made[place] - trims.marks[place] >= u64::from(trims.every)
+    made[place] >= trims.marks[place] && made[place] - trims.marks[place] >= trims.every
 }
 
 // Trims a shard.

@@ -21,9 +21,9 @@ use thiserror::Error;
 // What `--version` prints behind the program's name.
 const VERSION: &str = "0.1.0";
 
-// After how many entries a shard is trimmed where no word says so: sixteen shards then keep some 110 MB of entries, and up to 220 MB
+// After how many entries a shard is trimmed where no word says so: sixteen shards then keep some 54 MB of entries, and up to 108 MB
 // while their lists grow.
-const TRIM: &str = "20000";
+const TRIM: &str = "10000";
 
 // What asks for no trims.
 const NEVER: &str = "never";

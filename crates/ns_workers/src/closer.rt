@@ -93,6 +93,7 @@ pub fn run_closer<
 ) -> Ended
     requires { W.has_failed sink.old ≡ false }
     ensures jobs { Closes (T.has_come timer.now) limit (J.given jobs.old) (J.given jobs.new) result.receipts.items result.fault }
+    ensures same { J.all jobs.new ≡ J.all jobs.old }
     ensures answered { AreAnswered B.roster result.receipts.items }
     ensures told { All (λ r. M.has_heard shared.now.monitor.now (call_replied r)) result.receipts.items }
     ensures counted { RisesByReceipts pass.old pass.new result.receipts.items }

@@ -219,6 +219,7 @@ pub fn run_join<
         let before = effects pass.old None (D.taken down.old) None in
         let after = effects pass.new None (D.taken down.new) None in
         Answers B.roster has_heard (IsOutcome has_heard (T.has_told timer.now) has_outcome) (J.given jobs.old) (J.given jobs.new) before after result }
+    ensures same { J.all jobs.new ≡ J.all jobs.old }
     ensures fault { result.fault ≢ Some WorkerFault.SinkFailed }
 {
     let mut joined = Joined {

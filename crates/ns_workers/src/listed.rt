@@ -69,14 +69,17 @@ impl<J: Copy> ListedJobs<J> {
 }
 
 impl<R, J: Copy> JobSource<R, J> for ListedJobs<J> {
+    ghost use Rattle.std.specs.Prelude.{Some};
     ghost use Rattle.ns_workers.specs.Given.{Takes};
     ghost use Rattle.ns_workers.specs.Listed.{jobs_given};
 
     ghost given = { λ s. jobs_given s };
 
+    ghost all = { λ s. Some s.jobs.items };
+
     fn take(&mut self, _rt: &R) -> Next<J>
         ensures given { Takes (jobs_given self.old) (jobs_given self.new) result }
-        ensures all { (self.new.jobs ≡ self.old.jobs) × (self.new.place.fails ≡ self.old.place.fails) }
+        ensures kept { (self.new.jobs ≡ self.old.jobs) × (self.new.place.fails ≡ self.old.place.fails) }
     {
         if self.place.at < self.jobs.len() {
             let job = self.jobs[self.place.at];

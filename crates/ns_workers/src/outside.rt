@@ -55,9 +55,13 @@ pub trait JobSource<R, J> {
     // The jobs that it has given and how it has ended, where it tells them.
     ghost given: { Self → Option (Given J) };
 
+    // All the jobs that it has, those that it has given first, where it tells them.
+    ghost all: { Self → Option (List J) } = { λ _. None };
+
     /// Waits for the next job.
     fn take(&mut self, rt: &R) -> Next<J>
-        ensures { Takes (given self.old) (given self.new) result };
+        ensures given { Takes (given self.old) (given self.new) result }
+        ensures same { all self.new ≡ all self.old };
 }
 
 /// Takes jobs from one worker.

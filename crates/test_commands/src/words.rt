@@ -22,7 +22,7 @@ fn are_usual(options: &ServeOptions<'_>) -> bool {
         && options.window_ms == 200
         && options.stop_after.is_none()
         && !options.stop_at_end
-        && options.trim == Some(20_000)
+        && options.trim == Some(10_000)
         && options.output == Output::Lines
         && !options.events
         && !options.closing
@@ -120,7 +120,7 @@ fn words_of_serving(rt: HostRuntime) -> Result<(), Fail> {
         ("--stop-after", "4294967296", ('E', bad)),
         ("--trim", "1", ('S', done)),
         ("--trim", "4294967295", ('S', done)),
-        ("--trim", "20000", ('U', done)),
+        ("--trim", "10000", ('U', done)),
         ("--trim", "never", ('S', done)),
         ("--trim", "0", ('V', bad)),
         ("--trim", "4294967296", ('V', bad)),

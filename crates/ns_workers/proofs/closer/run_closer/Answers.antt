@@ -30,12 +30,13 @@ loop-jobs-init g c =
       subst (λ l. AreAnswered g.B.Naming.roster l) none (answered_none g.B.Naming.roster),
       subst (λ l. All (λ r. h (call_replied r)) l) none (All-nil (λ (r : Receipt). h (call_replied r))),
       subst (λ l. Grows down down (downlinks_of l)) none (grows_none down),
+      search rules,
     )
 
 pub returns-in_default-close_due-clause-jobs : goal.returns-in_default-close_due-clause-jobs
 returns-in_default-close_due-clause-jobs g c =
     closes_refused (g.T.Timer.has_come c.args.timer.now) c.args.limit (g.J.JobSource.given c.args.jobs.now) (g.J.JobSource.given c.loop-jobs.jobs) (g.J.JobSource.given c.take.new.self)
-    c.loop-jobs.receipts.items c.in-Job.job c.loop-jobs.invariant.3 c.in-Job.ensures c.in_default-close_due.ensures.waited
+    c.loop-jobs.receipts.items c.in-Job.job c.loop-jobs.invariant.3 c.in-Job.ensures.given c.in_default-close_due.ensures.waited
 
 pub returns-then-is_err-clause-jobs : goal.returns-then-is_err-clause-jobs
 returns-then-is_err-clause-jobs g c =
@@ -46,7 +47,7 @@ returns-then-is_err-clause-jobs g c =
     let r = c.close_due.new.receipt in
     subst (λ l. Closes come c.args.limit old now l (Some SinkFailed)) (sym c.push_reserved.ensures.items)
     (closes_unsent come c.args.limit old now (rs ++ r ∷ [])
-    (closed_more come old (g.J.JobSource.given c.loop-jobs.jobs) now rs r c.in-Job.job c.loop-jobs.invariant.3 c.in-Job.ensures c.in-Ok-close_due.ensures.waited c.in-Ok-close_due.ensures.call))
+    (closed_more come old (g.J.JobSource.given c.loop-jobs.jobs) now rs r c.in-Job.job c.loop-jobs.invariant.3 c.in-Job.ensures.given c.in-Ok-close_due.ensures.waited c.in-Ok-close_due.ensures.call))
 
 pub returns-then-is_err-clause-answered : goal.returns-then-is_err-clause-answered
 returns-then-is_err-clause-answered g c =
@@ -88,10 +89,11 @@ loop-jobs-preserved g c =
       search rules,
       search rules,
       subst (λ l. Closed come old now l) more
-          (closed_more come old (g.J.JobSource.given c.loop-jobs.jobs) now rs r c.in-Job.job c.loop-jobs.invariant.3 c.in-Job.ensures c.in-Ok-close_due.ensures.waited c.in-Ok-close_due.ensures.call),
+          (closed_more come old (g.J.JobSource.given c.loop-jobs.jobs) now rs r c.in-Job.job c.loop-jobs.invariant.3 c.in-Job.ensures.given c.in-Ok-close_due.ensures.waited c.in-Ok-close_due.ensures.call),
       subst (λ l. RisesByReceipts c.args.pass.now c.close_due.new.pass l) more (rises_more _ _ _ rs r c.loop-jobs.invariant.4 c.in-Ok-close_due.ensures.counted),
       subst (λ l. AppendsLines c.args.shared.now.output text text' l) more (lines_more c.args.shared.now.output text (g.W.Sink.taken c.loop-jobs.sink) text' rs r c.loop-jobs.invariant.5 line),
       subst (λ l. AreAnswered g.B.Naming.roster l) more (answered_more g.B.Naming.roster rs r c.loop-jobs.invariant.6 c.in-Ok-close_due.ensures.answered),
       subst (λ l. All (λ q. h (call_replied q)) l) more (told_more h rs r c.loop-jobs.invariant.7 c.in-Ok-close_due.ensures.told),
       subst (λ l. Grows down down' (downlinks_of l)) more (downlinks_more down (g.D.Downlinks.taken c.loop-jobs.down) down' rs r c.loop-jobs.invariant.8 c.hand_out-handed.ensures.down),
+      search rules,
     )

@@ -17,6 +17,7 @@ invariant-loop-jobs g l =
     × AreAnswered g.B.Naming.roster l.receipts.items
     × All (λ r. g.M.Monitor.has_heard l.shared.monitor.now (call_replied r)) l.receipts.items
     × Grows (g.D.Downlinks.taken l.fn.down) (g.D.Downlinks.taken l.down) (downlinks_of l.receipts.items)
+    × (g.J.JobSource.all l.jobs ≡ g.J.JobSource.all l.fn.jobs)
 
 abbrev pub decreases-loop-jobs : goal.decreases-loop-jobs
 decreases-loop-jobs g l = l.limit - vec_len l.receipts

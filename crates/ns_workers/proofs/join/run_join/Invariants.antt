@@ -15,6 +15,7 @@ invariant-loop-joined g l =
     × Answered g.B.Naming.roster has_heard (IsOutcome has_heard (g.T.Timer.has_told l.timer) has_outcome)
     (g.J.JobSource.given l.fn.jobs) (g.J.JobSource.given l.jobs)
     (effects l.fn.pass None (g.D.Downlinks.taken l.fn.down) None) (effects l.pass None (g.D.Downlinks.taken l.down) None) l.joined.answered
+    × (g.J.JobSource.all l.jobs ≡ g.J.JobSource.all l.fn.jobs)
 
 abbrev pub decreases-loop-joined : goal.decreases-loop-joined
 decreases-loop-joined g l = 9223372036854775808 - l.joined.answered
