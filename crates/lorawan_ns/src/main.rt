@@ -129,23 +129,26 @@ struct Kept<'a> {
     folder: &'a str,
 }
 
-// The roster, twice, and the folder of the record that a server is to keep, where that is asked for.
+// The roster, twice, and the folder of the record that a server is to keep, where that is asked for; or how the program ends.
 fn what_is_kept<'a, R: Files<File = File> + AllocGlobal, L: Log>(
     rt: &R,
     log: &L,
     words: &'a [String],
-) -> Result<Option<Kept<'a>>, Fault<'a>> {
+) -> Result<Option<Kept<'a>>, End<'a>> {
     let (path, record) = match read_words(rt.alloc(), words) {
         Ok(Asked::Serve(path, _, record)) => (path, record),
-        Err(BadWords::NoMemory) => return Err(Fault::NoMemory),
+        Err(BadWords::NoMemory) => return Err(End::Refused(BadWords::NoMemory)),
         _ => return Ok(None),
     };
     let Some(folder) = record.folder else {
         return Ok(None);
     };
-    let roster = read_roster(rt, log, path)?;
+    let roster = match read_roster(rt, log, path) {
+        Ok(roster) => roster,
+        Err(fault) => return Err(End::Ran(Err(fault))),
+    };
     let Ok(again) = roster.clone() else {
-        return Err(Fault::NoMemory);
+        return Err(End::Ran(Err(Fault::NoMemory)));
     };
     Ok(Some(Kept {
         roster,
@@ -185,7 +188,7 @@ fn main(rt: HostRuntime) -> ExitCode {
                     run(&rt, &log, words, Some(again), stop, upkeep)
                 }
                 Ok(None) => run(&rt, &log, words, None, stop, NoRecord),
-                Err(fault) => End::Ran(Err(fault)),
+                Err(end) => end,
             };
             concluded(&rt, &log, &end)
         }
