@@ -12,10 +12,6 @@ pub last-push : {X : Type 0} (xs : List X) (x : X) → last (xs ++ x ∷ []) ≡
 last-push [] x = refl
 last-push (y ∷ ys) x = ap (λ o. option_or o (Some y)) (last-push ys x)
 
-greater-None : (a : Option ℕ) → greater a None ≡ a
-greater-None None = refl
-greater-None (Some a) = refl
-
 pub greater-assoc : (a b c : Option ℕ) → greater a (greater b c) ≡ greater (greater a b) c
 greater-assoc None b c = refl
 greater-assoc (Some a) None c = refl

@@ -40,11 +40,6 @@ use Rattle.ns_kept.proofs.Again.{kept-within, keep-within, keep-alike}
 
 -- ---- numbers
 
-place-below : (xs : List Entry) (n : ℕ) (e : Entry) → slice_get xs n ≡ Some e → n < length xs
-place-below [] n e at = absurd (cc at)
-place-below (x ∷ xs) zero e at = omega arith
-place-below (x ∷ xs) (suc n) e at = (let less : n < length xs = place-below xs n e at in omega (arith, less))
-
 take-at : (m : ℕ) (xs : List Entry) (n : ℕ) (e : Entry) → slice_get (take m xs) n ≡ Some e → (slice_get xs n ≡ Some e) × (n < m)
 take-at zero xs n e at = absurd (cc at)
 take-at (suc m) [] n e at = absurd (cc at)

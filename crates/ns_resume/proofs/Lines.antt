@@ -3,6 +3,7 @@ use Rattle.std.proofs.Common.{◌≡◌, ℕ, zero, suc, ◌<◌, ◌≤◌, ◌
 use Rattle.std.specs.Io.KnownBytes.{Consumes}
 use Rattle.std.specs.Prelude.{slice_index}
 use Rattle.std.specs.Cmp.Lexicographic.{same_text}
+use Rattle.std.proofs.lemmas.Bool.{false_from_ne_true}
 use Rattle.std.proofs.lemmas.Bool.Decides.{eqb_tells}
 use Rattle.std.proofs.lemmas.List.{length-take-le, get_or-take}
 use Rattle.std.proofs.lemmas.List.Folds.{list_any_none}
@@ -25,10 +26,6 @@ same_default [] k d e within = absurd (omega (arith, within))
 same_default (x ∷ xs) zero d e within = refl
 same_default (x ∷ xs) (suc k) d e within = same_default xs k d e (omega (arith, within))
 
-not_true : (t : Bool) → ¬ (t ≡ true) → t ≡ false
-not_true true h = absurd (h refl)
-not_true false h = refl
-
 -- the bytes before the first line feed
 pub no_feed_before : (xs : List ℕ) (n : ℕ) → n ≤ length xs → Nowhere (Passes (is_byte 10) xs) 0 n → has_line_feed (take n xs) ≡ false
 no_feed_before xs n within none =
@@ -36,7 +33,7 @@ no_feed_before xs n within none =
     let long : length (take n xs) ≡ n = length-take-le n xs within in
     let below : k < n = omega (arith, less, long) in
     ap (λ x. x == 10) (get_or-take n xs k d below ∙ same_default xs k d 0 (omega (arith, below, within)))
-    ∙ not_true (slice_index xs k == 10) (none k (omega arith) below))
+    ∙ false_from_ne_true (slice_index xs k == 10) (none k (omega arith) below))
 
 -- ---- a line, as far as it was read
 

@@ -17,7 +17,7 @@ use crate::fault::RecordFault;
 use crate::line::read_line;
 use crate::open::{Open, open_in};
 use crate::ups::Ups;
-use ns_calls::{Call, Downlink, Uplink, shard_of_call, up_line};
+use ns_calls::{Call, Downlink, Line, Uplink, put_uplink, shard_of_call};
 use ns_record::matters;
 use ns_replay::step;
 use ns_roster::Roster;
@@ -59,6 +59,8 @@ struct Running {
     // What went out with the last answer. It stays where it is, since it takes some hundred bytes.
     uplink: Option<Uplink>,
     downlink: Option<Downlink>,
+    // Its `up` line. A new one would be 1 KB of zeros each time.
+    up: Line,
 }
 
 // The call of the line of this number.
@@ -75,7 +77,8 @@ fn call_in(alloc: Global, number: u64, line: &[u8]) -> Result<Call, RecordFault>
     }
 }
 
-/// Trims a shard that holds `most` entries. Where that is refused it stays as it is.
+/// Trims a shard that holds `most` entries, and makes room for as many as come before its next trim, and for what may be open then. Where
+/// either is refused it stays as it is.
 pub fn trim_if_due(alloc: Global, shard: &mut Shard, most: &mut usize)
     ensures { MayBeTrimmed shard.old shard.new }
 {
@@ -84,6 +87,7 @@ pub fn trim_if_due(alloc: Global, shard: &mut Shard, most: &mut usize)
     }
     let _ = shard.trim(alloc);
     *most = shard.entries().len().saturating_mul(2).max(TRIM_FROM);
+    let _ = shard.reserve(*most);
 }
 
 impl Running {
@@ -127,7 +131,11 @@ impl Running {
             return Ok(());
         }
         match &self.uplink {
-            Some(uplink) => self.ups.implied(ups, up_line(uplink).as_str().as_bytes()),
+            Some(uplink) => {
+                self.up.clear();
+                put_uplink(&mut self.up, uplink);
+                self.ups.implied(ups, self.up.as_str().as_bytes())
+            }
             None => Ok(()),
         }
     }
@@ -178,6 +186,7 @@ fn run_lines<S: BufRead, U: BufRead>(
         ups: Ups::new(alloc),
         uplink: None,
         downlink: None,
+        up: Line::new(),
     };
     let mut line = Vec::new(alloc);
     'lines: for number in first..u64::MAX {

@@ -57,9 +57,6 @@ absent_before (y ∷ acc) x xs apart = elim (cases_Bool (eqb y.eui.0 x.eui.0)) [
 
 -- ---- last nonces
 
-nonce_at : ℕ → DevNonce
-nonce_at n = record { 0 = n }
-
 -- a number that is a nonce
 nonce-spelled : (w : Option ℕ) (o : Option DevNonce) → (ok_or w Field >>= nonce_from) ≡ Ok o → (n : DevNonce) × (o ≡ Some n) × (w ≡ Some n.0) × (n.0 ≤ max_nonce)
 nonce-spelled None o h = cc

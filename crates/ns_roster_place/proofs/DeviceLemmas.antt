@@ -1,5 +1,5 @@
 -- Lemmas on the field of a device that a fault is about.
-use Rattle.std.proofs.Common.{◌≡◌, ◌≢◌, ℕ, List, Bool, true, false, not, ◌==◌, ◌&&◌, Option, Some, None, Ok, Err, refl, sym, ◌∙◌, eqb-true, subst}
+use Rattle.std.proofs.Common.{◌≡◌, ℕ, List, Bool, true, false, not, ◌==◌, ◌&&◌, Option, Some, None, Ok, Err, refl, sym, ◌∙◌, eqb-true, subst}
 use Rattle.std.specs.Prelude.{Result, if◌then◌else◌, nat_le, codes}
 use Rattle.std.specs.Option.{ok_or}
 use Rattle.std.proofs.lemmas.Bool.{le-leb}
@@ -14,13 +14,6 @@ use Rattle.ns_roster.specs.Text.{eui_at, nonce_from, last_nonce_of, device_of, d
 use Rattle.ns_roster.specs.Valid.{max_slot, max_nonce}
 use Rattle.ns_roster_place.specs.Device.{wrong_field}
 use Rattle.ns_roster_place.specs.Wrong.{HasNoneUpTo, IsWrongField}
-
--- two results of a reader
-err_same : {A : Type 0} (r : Result A RosterFault) (f g : RosterFault) → r ≡ Err f → r ≡ Err g → f ≡ g
-err_same r f g here there = let same : Err f ≡ Err g = sym here ∙ there in cc
-
-ok_no_err : {A : Type 0} (x : A) (f : RosterFault) → Ok x ≢ Err f
-ok_no_err x f same = cc
 
 -- no number up to the greatest stands where there is none, and where there is one above it
 none_of_none : (most : ℕ) (key : List ℕ) (d : Data) → whole_at key d ≡ None → HasNoneUpTo most key d

@@ -51,9 +51,6 @@ unfolding round_keys_by
 round_keys_len [] k e = tt
 round_keys_len (rcon ∷ rcons) k e = (next_len rcon k e, round_keys_len rcons (next_round_key rcon k) (next_len rcon k e))
 
-shifted_len : (s : List ℕ) → length (shift_rows s) ≡ 16
-shifted_len s = refl
-
 mixed_len : (s : List ℕ) → length (mix_columns (shift_rows s)) ≡ 16
 unfolding mix_columns_by
 mixed_len s = refl

@@ -152,4 +152,11 @@ impl<B: Naming, const K: usize> Kept<B, K> {
     {
         self.shard.trim(alloc)
     }
+
+    /// Makes room for so many more entries. Where that is refused, there is as much room as before.
+    pub fn reserve(&mut self, entries: usize)
+        ensures same { self.new ≡ self.old }
+    {
+        let _ = self.shard.reserve(entries);
+    }
 }

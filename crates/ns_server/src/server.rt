@@ -109,7 +109,8 @@ fn run<B: Naming, const K: usize, R: Wait, G: Gate<R>>(
     Ok(())
 }
 
-// Takes the lock and trims.
+// Takes the lock and trims. As many entries as were dropped are likely to come before the next trim: there is room for them, and an eighth
+// more, so that entries are not moved each time that there are twice as many.
 fn trim_kept<B: Naming, const K: usize, R: Wait>(
     rt: &R,
     lock: &Mutex<Kept<B, K>>,
@@ -118,7 +119,10 @@ fn trim_kept<B: Naming, const K: usize, R: Wait>(
     ensures { IfOk result (IsTrimOf B.roster K) }
 {
     let mut kept = lock.lock(rt);
-    kept.trim(alloc)
+    let dropped = kept.trim(alloc)?;
+    let count = dropped.entries.len();
+    kept.reserve(count.saturating_add(count / 8));
+    Ok(dropped)
 }
 
 /// The sixteen shards, with no entries.

@@ -2,7 +2,7 @@
 use Rattle.std.proofs.Common.{◌≡◌, ℕ, ◌+◌, ◌^◌, ◌≤◌, ◌==◌, Bool, true, false, ◌&&◌, ◌||◌, cond, List, [], ◌∷◌, ◌++◌, filter_map, find, nat_lt, Option, None, Some, IfSome, option_map, refl, sym, ap, subst, ◌∙◌, arith, inl, inr}
 use Rattle.std.specs.Prelude.{IsSome, is_some}
 use Rattle.std.specs.List.{AllByRecursion, cons_option, list_any}
-use Rattle.std.specs.Option.{option_and_then, option_or}
+use Rattle.std.specs.Option.{option_and_then}
 use Rattle.std.proofs.lemmas.List.{append-nil}
 use Rattle.std.proofs.lemmas.Option.{same_Some}
 use Rattle.std.proofs.lemmas.Bool.{false≢true}
@@ -69,10 +69,6 @@ unfolding device_record
 others_stay = record { none = λ net eui. ap no_joins (greater-none (last_nonce net eui)); others = record_stays }
 
 -- ---- what fits
-
-first-cons : {X : Type 0} (o : Option X) (xs : List X) → first (cons_option o xs) ≡ option_or o (first xs)
-first-cons None xs = refl
-first-cons (Some x) xs = refl
 
 -- the first that is found, one element at a time
 fit_next : (eui : DevEui) (o : Option (ℕ × ℕ)) (p : Option Fit) (rest : List (ℕ × ℕ)) (fits : List Fit) →

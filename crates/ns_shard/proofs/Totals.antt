@@ -79,10 +79,6 @@ is_some-when : {X : Type 0} (b : Bool) (x : X) → is_some (when b x) ≡ b
 is_some-when true x = refl
 is_some-when false x = refl
 
-or-false : (b : Bool) → (b || false) ≡ b
-or-false true = refl
-or-false false = refl
-
 -- ---- closings
 
 closing-is : (h : List Entry) (w : WindowName) → closing_in (call.Close w) (reply_to_close h w) ≡ option_map (λ o. let c : Closing = record { window = w; ack = ack_number h o } in c) (open_window h w)

@@ -1,10 +1,10 @@
 //! What came of a call, and the answer that is made of it.
 
-ghost use Rattle.std.specs.Prelude.{◌≡◌, None};
+ghost use Rattle.std.specs.Prelude.{◌≡◌};
 ghost use Rattle.ns_shard.specs.declared.event.Event.TheVariants as event;
 ghost use Rattle.ns_shard.specs.Private.Sending.{ended_reply, reply_of, uplink_of, downlink_of, answer_of};
 
-use crate::sending::{ack_from, uplink_of};
+use crate::sending::{ack_from, clear, give_uplink};
 use ns_calls::{Answer, Downlink, Reply, Uplink};
 use ns_roster::Roster;
 use ns_windows::BoxedWindow;
@@ -63,20 +63,10 @@ impl Ended {
             Ended::Closed { window, ack } => {
                 let name = window.as_ref().name;
                 *downlink = ack_from(roster, window.as_ref(), ack);
-                *uplink = uplink_of(window);
+                give_uplink(window, uplink);
                 Reply::Closed { window: name, ack }
             }
         }
-    }
-}
-
-// Leaves no uplink where one may be. The room for one is large: where none is, nothing is moved.
-#[inline(always)]
-fn clear(uplink: &mut Option<Uplink>)
-    ensures { uplink.new ≡ None }
-{
-    if uplink.is_some() {
-        *uplink = None;
     }
 }
 

@@ -6,9 +6,9 @@ ghost use Rattle.ns_shard.specs.State.{quiet};
 ghost use Rattle.ns_shard.specs.Private.Sending.{first_uplink_from, answer_of};
 
 use crate::event::{Ended, Event};
-use crate::sending::{ack_from, uplink_from};
+use crate::sending::ack_from;
 use arrayvec::ArrayVec;
-use ns_calls::{Answer, Bytes, Downlink, Reply, Uplink};
+use ns_calls::{Answer, Bytes, Downlink, Reply, Uplink, payload_key};
 use ns_roster::Roster;
 use ns_types::{DevAddr, Heard, WindowName};
 use ns_windows::BoxedWindow;
@@ -42,23 +42,6 @@ impl Model for PackedUplink {
 }
 
 impl PackedUplink {
-    #[inline(always)]
-    fn new(alloc: Global, uplink: &Uplink) -> Result<PackedUplink, AllocError>
-        ensures { IfOk result (λ u. u ≡ uplink.now) }
-    {
-        Ok(PackedUplink {
-            window: uplink.window,
-            addr: uplink.addr,
-            confirmed: uplink.confirmed,
-            fctrl: uplink.fctrl,
-            port: uplink.port,
-            fopts: uplink.fopts,
-            sealed: uplink.sealed,
-            payload: Vec::from_slice(alloc, uplink.payload.as_slice())?,
-            copies: Vec::from_slice(alloc, uplink.copies.as_slice())?,
-        })
-    }
-
     // The uplink itself.
     #[inline(always)]
     fn to_uplink(&self) -> Uplink
@@ -105,18 +88,31 @@ impl Model for PackedAnswer {
     ghost view = { λ a. record { reply = a.reply; uplink = option_and_then (λ s. s.value.uplink) a.sent; downlink = option_and_then (λ s. s.value.downlink) a.sent } };
 }
 
-// The uplink of a window that was closed, where it is the first of its rounds, as it is kept.
-#[inline(always)]
-fn packed_uplink(alloc: Global, closed: BoxedWindow) -> Result<Option<PackedUplink>, AllocError>
+// The uplink of a window that was closed, where it is the first of its rounds, as it is kept. It is deciphered in the window itself.
+fn packed_uplink(alloc: Global, mut closed: BoxedWindow) -> Result<Option<PackedUplink>, AllocError>
     ensures { IfOk result (λ u. u ≡ first_uplink_from closed) }
 {
-    let mut window = closed.into_inner();
-    if window.name.is_first() {
-        let uplink = uplink_from(&mut window);
-        Ok(Some(PackedUplink::new(alloc, &uplink)?))
-    } else {
-        Ok(None)
+    let window = closed.as_ref();
+    if !window.name.is_first() {
+        return Ok(None);
     }
+    let view = window.frame.view();
+    let confirmed = view.confirmed();
+    let key = payload_key(view.fport(), window.nwk, window.app);
+    closed.decipher(&key);
+    let window = closed.as_ref();
+    let view = window.frame.view();
+    Ok(Some(PackedUplink {
+        window: window.name,
+        addr: view.dev_addr(),
+        confirmed,
+        fctrl: view.fctrl(),
+        port: view.fport(),
+        fopts: Bytes::of(view.fopts()),
+        sealed: key.is_none(),
+        payload: Vec::from_slice(alloc, view.payload())?,
+        copies: Vec::from_slice(alloc, window.copies.as_slice())?,
+    }))
 }
 
 impl PackedAnswer {

@@ -59,6 +59,15 @@ impl Parts {
         })
     }
 
+    /// Makes room for so many more entries. Where a growth is refused, nothing has changed.
+    pub fn reserve(&mut self, entries: usize) -> Result<(), AllocError>
+        requires { AreParts self.old }
+        ensures state { state_of self.new ≡ state_of self.old }
+        ensures agree { AreParts self.new }
+    {
+        self.journal.room(entries)
+    }
+
     // Takes an uplink: the devices and windows change, and there is room for its entry, and for the one that ends what it opens. Where a
     // growth is refused, nothing has changed.
     fn uplink(&mut self, frame: &DataFrame, heard: &Heard) -> Result<Event, AllocError>

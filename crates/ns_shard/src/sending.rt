@@ -1,36 +1,41 @@
 //! What goes out where a window is closed.
 
-ghost use Rattle.std.specs.Prelude.{◌≡◌, option_and_then};
-ghost use Rattle.ns_shard.specs.Private.Sending.{uplink_from, first_uplink_from, ack_from};
+ghost use Rattle.std.specs.Prelude.{◌≡◌, None, option_and_then};
+ghost use Rattle.ns_shard.specs.Private.Sending.{first_uplink_from, ack_from};
 
-use arrayvec::ArrayVec;
 use ns_calls::{Downlink, Uplink, payload_key};
 use ns_roster::Roster;
 use ns_sent::acknowledgement;
 use ns_windows::{BoxedWindow, Window};
-use std::mem;
 
-/// The uplink of a window, whose own frame is deciphered, and which loses its copies.
+/// Leaves no uplink where one may be. The room for one is large: where none is, nothing is moved.
 #[inline(always)]
-pub fn uplink_from(window: &mut Window) -> Uplink
-    ensures { result ≡ uplink_from window.old }
+pub fn clear(uplink: &mut Option<Uplink>)
+    ensures { uplink.new ≡ None }
 {
-    let key = payload_key(window.frame.view().fport(), window.nwk, window.app);
-    let copies = mem::replace(&mut window.copies, ArrayVec::new());
-    Uplink::under(window.name, &mut window.frame, copies, key)
+    if uplink.is_some() {
+        *uplink = None;
+    }
 }
 
-/// The uplink of a window that was closed, where it is the first of its rounds.
+/// Leaves the uplink of a window that was closed where one may be, if it is the first of its rounds, and else none.
 #[inline(always)]
-pub fn uplink_of(closed: BoxedWindow) -> Option<Uplink>
-    ensures { result ≡ first_uplink_from closed }
+pub fn give_uplink(closed: BoxedWindow, uplink: &mut Option<Uplink>)
+    ensures { uplink.new ≡ first_uplink_from closed }
 {
-    let mut window = closed.into_inner();
-    if window.name.is_first() {
-        Some(uplink_from(&mut window))
-    } else {
-        None
+    let Window {
+        name,
+        mut frame,
+        copies,
+        nwk,
+        app,
+    } = closed.into_inner();
+    if !name.is_first() {
+        clear(uplink);
+        return;
     }
+    let key = payload_key(frame.view().fport(), nwk, app);
+    *uplink = Some(Uplink::under(name, &mut frame, copies, key));
 }
 
 /// The acknowledgement of a window with this number, if any, at RX1 of its best copy.

@@ -132,7 +132,15 @@ impl Shard {
         self.parts.trim(alloc)
     }
 
-    /// The same, with an answer that is kept. Where a growth was refused, the call may have been taken.
+    /// Makes room for so many more entries, which then are not moved by a growth each time that there are twice as many. `NoMemory`
+    /// (`AllocError`) where it was refused. Contracts see no change.
+    pub fn reserve(&mut self, entries: usize) -> Result<(), AllocError>
+        ensures same { self.new ≡ self.old }
+    {
+        self.parts.reserve(entries)
+    }
+
+    /// What `apply` does, with an answer that is kept. Where a growth was refused, the call may have been taken.
     pub(crate) fn apply_packed(
         &mut self,
         alloc: Global,

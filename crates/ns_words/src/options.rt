@@ -368,7 +368,7 @@ fn with_record<'a>(alloc: Global, command: Command<'a>) -> Result<Command<'a>, A
         alloc,
         "record",
         "DIR",
-        "The folder of the record, with which the next run goes on; not with --closing",
+        "A folder that is there, for the record with which the next run goes on; not with --closing",
     );
     let sync = switch(
         alloc,

@@ -49,13 +49,13 @@ returns-then-not-is_new-clause-run g c = λ net before steps read run is.
 
 pub returns-in-Some-clause-run : goal.returns-in-Some-clause-run
 returns-in-Some-clause-run g c =
-    let text : c.as_bytes.result.now ≡ up_text c.in-Some.uplink = c.as_bytes.ensures.value ∙ (c.as_str.ensures.value ∙ c.up_line.ensures) in
+    let text : c.as_bytes.result.now ≡ up_text c.in-Some.uplink = c.as_bytes.ensures.value ∙ (c.as_str.ensures.value ∙ (c.put_uplink.ensures ∙ ap (λ (b : List ℕ). b ++ up_text c.in-Some.uplink) c.clear.ensures)) in
     let out : option_map_or (λ (u : Uplink). ended (up_text u)) c.in_ok-answer.ensures.answered.0.uplink [] ≡ ended c.as_bytes.result.now =
     ap (λ o. option_map_or (λ (u : Uplink). ended (up_text u)) o []) (sym c.in_ok-answer.ensures.answered.2 ∙ c.in-Some.is) ∙ ap ended (sym text) in
     on_ok c.implied.result
     (λ goes net before steps read run is.
     runs-on net before steps c.args.line.now read c.args.self.now
-    (record (c.answer.new.self) { ups = c.implied.new.self }) c.in_ok-call.call c.in_ok-answer.ensures.answered.0 run c.in_ok-call.ensures.call c.in_ok-answer.ensures.answered.1
+    (record (c.answer.new.self) { ups = c.implied.new.self; up = c.put_uplink.new.line }) c.in_ok-call.call c.in_ok-answer.ensures.answered.0 run c.in_ok-call.ensures.call c.in_ok-answer.ensures.answered.1
     (g.U.Read.remaining c.args.ups.now) (g.U.Read.remaining c.implied.new.source) (within before (length steps) c.args.is_new is c.if-not-is_new.false)
     (λ there ups are.
     subst (λ l. GoOn (g.U.Read.remaining c.args.ups.now) (g.U.Read.remaining c.implied.new.source) there (ups ++ l) c.implied.new.self) (sym out)
