@@ -21,6 +21,7 @@ use Rattle.ns_calls.specs.Out.{uplink_out, answer, plain_payload}
 use Rattle.ns_calls.specs.declared.answer.Uplink.{Uplink}
 use Rattle.std.specs.Option.{option_map_or}
 use Rattle.ns_types.specs.declared.identity.Key.{Key}
+use Rattle.ns_types.specs.declared.heard.Heard.{Heard}
 use Rattle.ns_views.specs.Parts.{with_payload}
 use Rattle.ns_secure.specs.Integrity.{mic_fits}
 use Rattle.ns_calls.specs.Queries.{first}
@@ -48,6 +49,22 @@ deciphered key fcnt frame = with_payload frame (plain_payload key fcnt frame)
 -- the same, or the frame as received where the key is not known
 abbrev pub frame_under : Option Key → ℕ → List ℕ → List ℕ
 frame_under key fcnt frame = option_map_or (λ k. deciphered k fcnt frame) key frame
+
+-- the uplink of a window by its frame as it stands, with its copies
+abbrev pub uplink_read : WindowName → Bool → List ℕ → Bool → List Heard → Uplink
+uplink_read window confirmed frame sealed copies =
+    let fields = data_fields frame in
+    record {
+      window = window;
+      addr = record { 0 = fields.addr };
+      confirmed = confirmed;
+      fctrl = fields.fctrl;
+      port = fields.port;
+      fopts = fields.fopts;
+      sealed = sealed;
+      payload = fields.payload;
+      copies = record { items = copies };
+    }
 
 -- the same as legality, entry by entry: before are the entries before these
 abbrev pub IsLegalAfter : Network → List Entry → List Entry → Type 0

@@ -8,6 +8,7 @@ use crate::answer::{Answer, Downlink, Uplink};
 use crate::call::Reply;
 pub use crate::put::Line;
 use crate::put::{put_address, put_decimal, put_hex, put_identity};
+use crate::uplink::LentUplink;
 use arrayvec::ArrayVec;
 use ns_types::{DevAddr, DevEui, Heard, Ticket, WindowName};
 
@@ -204,12 +205,12 @@ fn put_gateways(line: &mut Line, copies: &[Heard])
 }
 
 // Whether a payload is as received.
-fn put_kind(line: &mut Line, uplink: &Uplink)
+fn put_kind(line: &mut Line, uplink: &LentUplink)
     requires { array_string_len line.old + 7 ≤ 1024 }
     ensures bytes { line.new.bytes ≡ line.old.bytes ++ kind_text uplink.now }
     ensures len { array_string_len line.new ≤ array_string_len line.old + 7 }
 {
-    if uplink.sealed && !uplink.payload.as_slice().is_empty() {
+    if uplink.sealed && !uplink.payload.is_empty() {
         line.push_str(" sealed");
     } else {
         line.push_str(" plain");
@@ -219,18 +220,26 @@ fn put_kind(line: &mut Line, uplink: &Uplink)
 /// Puts the `up` line of an uplink, at most 854 bytes, at the end of a line: `up E S N PORT KIND OPTS BYTES COUNT GATEWAYS`. `KIND`
 /// is `sealed` where there is a payload and it is as received, else `plain`; a port, options or payload that is missing is `-`.
 #[tactic(auto, unfolding(crate::specs::Text::up_text))]
-pub fn put_uplink(line: &mut Line, uplink: &Uplink)
+pub fn put_lent_uplink(line: &mut Line, uplink: &LentUplink)
     requires { array_string_len line.old + 922 ≤ 1024 }
     ensures { line.new.bytes ≡ line.old.bytes ++ up_text uplink.now }
 {
     put_named(line, "up", &uplink.window);
     put_optional(line, uplink.port.map(u32::from));
     put_kind(line, uplink);
-    put_bytes(line, uplink.fopts.as_slice());
-    put_bytes(line, uplink.payload.as_slice());
+    put_bytes(line, uplink.fopts);
+    put_bytes(line, uplink.payload);
     put_number(line, uplink.copies.len() as u64);
     line.push_str(" ");
-    put_gateways(line, uplink.copies.as_slice());
+    put_gateways(line, uplink.copies);
+}
+
+/// The same.
+pub fn put_uplink(line: &mut Line, uplink: &Uplink)
+    requires { array_string_len line.old + 922 ≤ 1024 }
+    ensures { line.new.bytes ≡ line.old.bytes ++ up_text uplink.now }
+{
+    put_lent_uplink(line, &uplink.lend());
 }
 
 /// Puts the line of a downlink, at most 148 bytes, at the end of a line.

@@ -78,6 +78,13 @@ same_rest xs ys i e in_xs in_ys same is =
     let y = drop_more ys i e in_ys in
     (cc, cc)
 
+-- two elements that stand at one place are the same
+pub same_place : (xs : List Entry) (i : ℕ) (e f : Entry) → i < length xs → e ≡ get_or xs i e → f ≡ get_or xs i f → e ≡ f
+same_place xs i e f within is is2 =
+    let x = drop_more xs i e within in
+    let y = drop_more xs i f within in
+    cc
+
 -- no numbers are those of no entries
 pub no_numbers : (entries : List Entry) → AreNumbersOf entries []
 no_numbers [] = refl

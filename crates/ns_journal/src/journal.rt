@@ -141,6 +141,20 @@ impl Journal {
         mem::swap(&mut self.entries, &mut kept);
         Ok(kept)
     }
+
+    /// Cuts entries out in their place, and hands none out: those of these numbers stay, and the room of the others is free for later
+    /// ones. It takes no memory, and gives none back.
+    pub fn keep(&mut self, stay: &[u64])
+        requires numbers { AreNumbersOf self.old.entries stay.now }
+        requires fits { self.old.made ≤ 2 ^ 63 + length stay.now }
+        ensures made { self.new.made ≡ self.old.made }
+        ensures reserved { self.new.reserved ≡ self.old.reserved }
+        ensures entries { self.new.entries ≡ with_numbers stay.now self.old.entries }
+    {
+        let before = self.entries.len();
+        gather(&mut self.entries, stay);
+        self.cut += (before - self.entries.len()) as u64;
+    }
 }
 
 // Adds an entry where there is room for it.
@@ -189,4 +203,22 @@ fn part(entries: &mut Vec<Entry>, kept: &mut Vec<Entry>, stay: &[u64])
         }
     }
     entries.truncate(out);
+}
+
+// Moves the entries of these numbers to the front, and drops the others.
+fn gather(entries: &mut Vec<Entry>, stay: &[u64])
+    requires { AreNumbersOf entries.old.items stay.now }
+    ensures items { entries.new.items ≡ with_numbers stay.now entries.old.items }
+    ensures count { vec_len entries.new ≡ length stay.now }
+    ensures fewer { vec_len entries.new ≤ vec_len entries.old }
+    ensures capacity { vec_capacity entries.old ≤ vec_capacity entries.new }
+{
+    let mut next = 0;
+    'entries: for place in 0..entries.len() {
+        if is_next(&entries[place], stay, next) {
+            entries[next] = entries[place];
+            next += 1;
+        }
+    }
+    entries.truncate(next);
 }

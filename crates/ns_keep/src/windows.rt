@@ -28,11 +28,11 @@ impl OpenWindows {
         Ok(OpenWindows { names, sessions })
     }
 
-    /// Whether a window is open.
+    /// Whether a window is open. Where none is, nothing is hashed.
     pub(crate) fn has(&self, window: &WindowName) -> bool
         ensures { result ≡ is_named self.now window.now }
     {
-        self.names.contains(window)
+        !self.names.is_empty() && self.names.contains(window)
     }
 
     /// Whether a session has an open window.

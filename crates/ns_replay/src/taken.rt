@@ -7,9 +7,9 @@ ghost use Rattle.ns_events.specs.Uplink.{uplink_json};
 ghost use Rattle.ns_replay.specs.Output.{refusal_text, ended, answer_lines, text_of};
 
 use itoa::Buffer;
-use ns_calls::{Line, Uplink, put_downlink, put_reply, put_uplink};
+use ns_calls::{Line, Uplink, put_downlink, put_lent_uplink, put_reply};
 use ns_events::{Output, uplink_json};
-use ns_shard::{PackedAnswer, Taken};
+use ns_shard::{BoxedAnswer, Taken};
 use std::alloc::AllocError;
 
 // Puts a text and a line feed at the end of a text.
@@ -55,20 +55,20 @@ fn put_sent(
     text: &mut Vec<u8>,
     line: &mut Line,
     uplinks: Output,
-    answer: &PackedAnswer,
+    answer: &BoxedAnswer,
 ) -> Result<(), AllocError>
     ensures { OnOk result (text.new.items ≡ text.old.items ++ flat_map ended (option_to_list (option_map (line_of uplinks None) answer.now.uplink))) }
 {
-    let Some(uplink) = answer.uplink() else {
+    let Some(uplink) = answer.lend_uplink() else {
         return Ok(());
     };
     match uplinks {
         Output::Lines => {
             line.clear();
-            put_uplink(line, &uplink);
+            put_lent_uplink(line, &uplink);
             put_ended(text, line.as_str())
         }
-        Output::Json => put_object(text, &uplink),
+        Output::Json => put_object(text, &uplink.to_uplink()),
     }
 }
 
@@ -77,7 +77,7 @@ fn put_answer(
     text: &mut Vec<u8>,
     line: &mut Line,
     uplinks: Output,
-    answer: &PackedAnswer,
+    answer: &BoxedAnswer,
 ) -> Result<(), AllocError>
     ensures { OnOk result (text.new.items ≡ text.old.items ++ flat_map ended (answer_lines uplinks answer.now)) }
 {

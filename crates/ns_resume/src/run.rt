@@ -17,11 +17,11 @@ use crate::fault::RecordFault;
 use crate::line::read_line;
 use crate::open::{Open, open_in};
 use crate::ups::Ups;
-use ns_calls::{Call, Downlink, Line, Uplink, put_uplink, shard_of_call};
+use ns_calls::{Call, Downlink, Line, put_lent_uplink, shard_of_call};
 use ns_record::matters;
 use ns_replay::step;
 use ns_roster::Roster;
-use ns_shard::{Shard, call_of, new_shards};
+use ns_shard::{BoxedUplink, Shard, call_into, new_shards};
 use ns_types::{Ticket, WindowName};
 use std::alloc::{AllocError, Global};
 use std::io::BufRead;
@@ -56,22 +56,28 @@ struct Running {
     // How many entries each shard holds when it is trimmed.
     most: [usize; 16],
     ups: Ups,
-    // What went out with the last answer. It stays where it is, since it takes some hundred bytes.
-    uplink: Option<Uplink>,
+    // What went out with the last answer.
+    uplink: Option<BoxedUplink>,
     downlink: Option<Downlink>,
     // Its `up` line. A new one would be 1 KB of zeros each time.
     up: Line,
 }
 
-// The call of the line of this number.
-fn call_in(alloc: Global, number: u64, line: &[u8]) -> Result<Call, RecordFault>
-    ensures call { IfOk result (ReadsBack line.now) }
+// The call of the line of this number, in the place of another.
+fn call_in<'a>(
+    alloc: Global,
+    number: u64,
+    line: &[u8],
+    call: &'a mut Option<Call>,
+) -> Result<&'a Call, RecordFault>
+    ensures call { IfOk result (λ c. ReadsBack line.now c.now) }
     ensures fault { IfErr result (MakesNoCall line.now number) }
 {
     let Some(act) = step(alloc, line)? else {
         return Err(RecordFault::NoStep(number));
     };
-    match call_of(alloc, &act)? {
+    call_into(alloc, &act, call)?;
+    match call {
         Some(call) => Ok(call),
         None => Err(RecordFault::NoFit(number)),
     }
@@ -85,7 +91,7 @@ pub fn trim_if_due(alloc: Global, shard: &mut Shard, most: &mut usize)
     if shard.entries().len() < *most {
         return;
     }
-    let _ = shard.trim(alloc);
+    let _ = shard.trim_in_place(alloc);
     *most = shard.entries().len().saturating_mul(2).max(TRIM_FROM);
     let _ = shard.reserve(*most);
 }
@@ -101,7 +107,7 @@ impl Running {
     {
         let place = usize::from(shard_of_call(call));
         let shard = &mut self.shards[place];
-        let reply = shard.apply_into(call, &mut self.uplink, &mut self.downlink)?;
+        let reply = shard.apply_lent(call, &mut self.uplink, &mut self.downlink)?;
         if !matters(&reply) {
             return Err(RecordFault::NoFit(number));
         }
@@ -109,7 +115,7 @@ impl Running {
         Ok(())
     }
 
-    // Runs the line of this number. Its `up` line is implied where it is new.
+    // Runs the line of this number, with room for its call. Its `up` line is implied where it is new.
     fn run_line<U: BufRead>(
         &mut self,
         alloc: Global,
@@ -117,6 +123,7 @@ impl Running {
         line: &[u8],
         is_new: bool,
         ups: &mut U,
+        room: &mut Option<Call>,
     ) -> Result<(), RecordFault>
         requires sixteen { length self.old.shards.items ≡ shard_count }
         requires in_place { AreInPlace self.old.shards.items }
@@ -125,15 +132,15 @@ impl Running {
         ensures fault { IfErr result (λ e. (net : Network) (before : ℕ) (steps : List Step) (read : List ℕ) → HasRun net before steps read self.old
             → RefusesLine net steps line.now number e) }
     {
-        let call = call_in(alloc, number, line)?;
-        self.answer(alloc, number, &call)?;
+        let call = call_in(alloc, number, line, room)?;
+        self.answer(alloc, number, call)?;
         if !is_new {
             return Ok(());
         }
         match &self.uplink {
             Some(uplink) => {
                 self.up.clear();
-                put_uplink(&mut self.up, uplink);
+                put_lent_uplink(&mut self.up, &uplink.lend());
                 self.ups.implied(ups, self.up.as_str().as_bytes())
             }
             None => Ok(()),
@@ -189,6 +196,7 @@ fn run_lines<S: BufRead, U: BufRead>(
         up: Line::new(),
     };
     let mut line = Vec::new(alloc);
+    let mut room = None;
     'lines: for number in first..u64::MAX {
         let is_new = number - first >= before;
         if !read_line(steps, &mut line)? {
@@ -198,7 +206,7 @@ fn run_lines<S: BufRead, U: BufRead>(
             running.ups.finish(ups)?;
             return Ok(running.end(alloc, line.len())?);
         }
-        running.run_line(alloc, number, line.as_slice(), is_new, ups)?;
+        running.run_line(alloc, number, line.as_slice(), is_new, ups, &mut room)?;
     }
     Err(RecordFault::TooMany)
 }

@@ -26,7 +26,7 @@ fn uplink_from(entries: &[Entry], opened: &Opened) -> Uplink
     let mut frame = opened.frame;
     let copies = window_copies(entries, &opened.window);
     let key = key_of(entries, opened);
-    Uplink::under(opened.window, &mut frame, copies, key)
+    Uplink::under(opened.window, &mut frame, &copies, key)
 }
 
 // The same, where this is the first window of its uplink.

@@ -148,14 +148,16 @@ module _ (p : Parts) (are : AreParts p) where
   pub count-kept : (stay : List ℕ) → stay ≡ numbers_kept (seen (state_of p)) p.journal.entries → length stay ≡ length (after_trim (state_of p)).entries
   count-kept stay is = ap length is ∙ length-map (after_trim (state_of p)).entries (λ (e : Entry). e.number)
 
+  -- the names are those that a trim keeps
+  pub names-kept : (names : List WindowName) → names ≡ map (λ (w : Window). w.name) p.windows → names ≡ (after_trim (state_of p)).windows
+  names-kept names named = named ∙ names-told net p.index are.history k p.devices p.windows are.agrees are.keeps.left
+
   -- the state of parts that were trimmed
-  pub state-trimmed : (j : JournalState) (mark : ℕ) (names : List WindowName) (stay : List ℕ) → stay ≡ numbers_kept (seen (state_of p)) p.journal.entries → j.made ≡ p.journal.made → j.entries ≡ with_numbers stay p.journal.entries
-      → mark ≡ p.journal.made → names ≡ map (λ (w : Window). w.name) p.windows →
+  pub state-trimmed : (j : JournalState) (mark : ℕ) (names : List WindowName) → j.made ≡ p.journal.made → j.entries ≡ (after_trim (state_of p)).entries
+      → mark ≡ p.journal.made → names ≡ (after_trim (state_of p)).windows →
       let s : State = record { roster = arc_value p.roster; index = p.index; made = j.made; mark = mark; windows = names; entries = j.entries } in s ≡ after_trim (state_of p)
-  state-trimmed j mark names stay is made entries marked named =
-      let cut : j.entries ≡ (after_trim (state_of p)).entries = entries ∙ entries-kept stay is in
-      let windows : names ≡ (after_trim (state_of p)).windows = named ∙ names-told net p.index are.history k p.devices p.windows are.agrees are.keeps.left in
-      (λ i. let s : State = record { roster = arc_value p.roster; index = p.index; made = made i; mark = marked i; windows = windows i; entries = cut i } in s)
+  state-trimmed j mark names made entries marked windows =
+      (λ i. let s : State = record { roster = arc_value p.roster; index = p.index; made = made i; mark = marked i; windows = windows i; entries = entries i } in s)
 
   -- the history leaves what the trim kept
   keeps-trim : Keeps are.history (after_trim (state_of p))

@@ -40,35 +40,54 @@ pub fn answer_call(alloc: Global, ticket: &Ticket, body: &[u8]) -> Result<Call, 
     })
 }
 
-// The call of a datagram, where it makes one.
-fn datagram_call(bytes: &[u8]) -> Option<Call>
-    ensures { result ≡ result_ok (datagram_call bytes.now) }
+// Puts the call of a datagram, where it makes one, in the place of another.
+#[inline(always)]
+fn datagram_call_into(bytes: &[u8], call: &mut Option<Call>)
+    ensures { call.new ≡ result_ok (datagram_call bytes.now) }
 {
-    let datagram = read_datagram(bytes).ok()?;
+    let Ok(datagram) = read_datagram(bytes) else {
+        *call = None;
+        return;
+    };
     let heard = datagram.heard();
-    match view(datagram.frame()).ok()? {
-        PhyView::Join(frame) => Some(Call::Join {
-            ticket: frame.ticket(),
-            heard,
-        }),
-        PhyView::Frame(frame) => Some(Call::Uplink {
-            frame: DataFrame::of(&frame),
-            heard,
-        }),
+    match view(datagram.frame()) {
+        Ok(PhyView::Join(frame)) => {
+            let ticket = frame.ticket();
+            *call = Some(Call::Join { ticket, heard });
+        }
+        Ok(PhyView::Frame(frame)) => {
+            let frame = DataFrame::of(&frame);
+            *call = Some(Call::Uplink { frame, heard });
+        }
+        Err(_) => *call = None,
     }
+}
+
+/// Puts the call of a step, where it makes one, in the place of another: a call is large, and so is not moved.
+pub fn call_into(alloc: Global, act: &Act, call: &mut Option<Call>) -> Result<(), AllocError>
+    ensures { OnOk result (call.new ≡ result_ok (call_of act.now)) }
+{
+    match act {
+        Act::Datagram(bytes) => datagram_call_into(bytes.as_slice(), call),
+        Act::Answer { ticket, body } => {
+            *call = Some(answer_call(alloc, ticket, body.as_slice())?);
+        }
+        Act::Lost { ticket } => {
+            *call = Some(Call::JoinReply {
+                ticket: *ticket,
+                outcome: Outcome::Failed,
+            });
+        }
+        Act::Close(window) => *call = Some(Call::Close { window: *window }),
+    }
+    Ok(())
 }
 
 /// The call of a step, where it makes one.
 pub fn call_of(alloc: Global, act: &Act) -> Result<Option<Call>, AllocError>
     ensures { IfOk result (λ c. c ≡ result_ok (call_of act.now)) }
 {
-    match act {
-        Act::Datagram(bytes) => Ok(datagram_call(bytes.as_slice())),
-        Act::Answer { ticket, body } => Ok(Some(answer_call(alloc, ticket, body.as_slice())?)),
-        Act::Lost { ticket } => Ok(Some(Call::JoinReply {
-            ticket: *ticket,
-            outcome: Outcome::Failed,
-        })),
-        Act::Close(window) => Ok(Some(Call::Close { window: *window })),
-    }
+    let mut call = None;
+    call_into(alloc, act, &mut call)?;
+    Ok(call)
 }

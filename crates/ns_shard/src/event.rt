@@ -4,8 +4,9 @@ ghost use Rattle.std.specs.Prelude.{◌≡◌};
 ghost use Rattle.ns_shard.specs.declared.event.Event.TheVariants as event;
 ghost use Rattle.ns_shard.specs.Private.Sending.{ended_reply, reply_of, uplink_of, downlink_of, answer_of};
 
-use crate::sending::{ack_from, clear, give_uplink};
-use ns_calls::{Answer, Downlink, Reply, Uplink};
+use crate::boxed::BoxedUplink;
+use crate::sending::ack_from;
+use ns_calls::{Answer, Downlink, Reply};
 use ns_roster::Roster;
 use ns_windows::BoxedWindow;
 
@@ -39,12 +40,12 @@ impl Ended {
     }
 
     // The reply, with what goes out put where something went out before. It stays a function of its own, so that a call that ends nothing
-    // makes no room for a window.
+    // makes no room for a downlink.
     #[inline(never)]
     fn hand_out(
         self,
         roster: &Roster,
-        uplink: &mut Option<Uplink>,
+        uplink: &mut Option<BoxedUplink>,
         downlink: &mut Option<Downlink>,
     ) -> Reply
         ensures reply { result ≡ ended_reply self }
@@ -56,14 +57,14 @@ impl Ended {
                 reply,
                 downlink: accept,
             } => {
-                clear(uplink);
+                *uplink = None;
                 *downlink = accept;
                 reply
             }
             Ended::Closed { window, ack } => {
                 let name = window.as_ref().name;
                 *downlink = ack_from(roster, window.as_ref(), ack);
-                give_uplink(window, uplink);
+                *uplink = BoxedUplink::of(window);
                 Reply::Closed { window: name, ack }
             }
         }
@@ -82,11 +83,11 @@ pub enum Event {
 }
 
 impl Event {
-    /// The reply, with what goes out put where something went out before, so that a call that hands nothing out moves no room for it.
+    /// The reply, with what goes out put where something went out before.
     pub fn hand_out(
         self,
         roster: &Roster,
-        uplink: &mut Option<Uplink>,
+        uplink: &mut Option<BoxedUplink>,
         downlink: &mut Option<Downlink>,
     ) -> Reply
         ensures reply { result ≡ reply_of self }
@@ -95,7 +96,7 @@ impl Event {
     {
         match self {
             Event::Quiet(reply) | Event::Opened(reply) => {
-                clear(uplink);
+                *uplink = None;
                 *downlink = None;
                 reply
             }
@@ -111,7 +112,7 @@ impl Event {
         let reply = self.hand_out(roster, &mut uplink, &mut downlink);
         Answer {
             reply,
-            uplink,
+            uplink: uplink.map(|sent| sent.lend().to_uplink()),
             downlink,
         }
     }

@@ -7,6 +7,7 @@
 //! for what goes out, on `ns_keep` for trims, and on the definitions of `ns_calls`.
 #![tactic(auto)]
 
+mod boxed;
 mod calls;
 mod closing;
 mod event;
@@ -23,8 +24,9 @@ mod step;
 mod trim;
 mod uplink;
 
-pub use calls::call_of;
-pub use packed::PackedAnswer;
+pub use boxed::BoxedUplink;
+pub use calls::{call_into, call_of};
+pub use packed::BoxedAnswer;
 pub use run::{Run, Shards, Taken, new_shards};
 pub use shard::Shard;
 pub use step::{Act, DatagramBytes, OwnedBytes, SHORT_DATAGRAM, Step};

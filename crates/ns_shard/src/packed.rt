@@ -1,17 +1,16 @@
-//! An answer that is kept in no more memory than it needs.
+//! An answer of which what goes out lies in memory of its own.
 
-ghost use Rattle.std.specs.Prelude.{◌≡◌, IfOk, Some, is_some};
+ghost use Rattle.std.specs.Prelude.{◌≡◌, IfOk, is_some, option_map};
 ghost use Rattle.ns_shard.specs.declared.event.Event.TheVariants as event;
 ghost use Rattle.ns_shard.specs.State.{quiet};
-ghost use Rattle.ns_shard.specs.Private.Sending.{first_uplink_from, answer_of};
+ghost use Rattle.ns_shard.specs.Private.Sending.{answer_of, lain_uplink};
 
+use crate::boxed::BoxedUplink;
 use crate::event::{Ended, Event};
 use crate::sending::ack_from;
-use arrayvec::ArrayVec;
-use ns_calls::{Answer, Bytes, Downlink, Reply, Uplink, payload_key};
+use ns_calls::{Answer, Bytes, Downlink, LentUplink, Reply, Uplink};
 use ns_roster::Roster;
 use ns_types::{DevAddr, Heard, WindowName};
-use ns_windows::BoxedWindow;
 use std::alloc::{AllocError, Global};
 use std::marker::Model;
 
@@ -42,85 +41,89 @@ impl Model for PackedUplink {
 }
 
 impl PackedUplink {
-    // The uplink itself.
-    #[inline(always)]
-    fn to_uplink(&self) -> Uplink
+    // This uplink.
+    fn of(alloc: Global, uplink: &LentUplink) -> Result<PackedUplink, AllocError>
+        ensures { IfOk result (λ u. u ≡ uplink.now) }
+    {
+        Ok(PackedUplink {
+            window: uplink.window,
+            addr: uplink.addr,
+            confirmed: uplink.confirmed,
+            fctrl: uplink.fctrl,
+            port: uplink.port,
+            fopts: Bytes::of(uplink.fopts),
+            sealed: uplink.sealed,
+            payload: Vec::from_slice(alloc, uplink.payload)?,
+            copies: Vec::from_slice(alloc, uplink.copies)?,
+        })
+    }
+
+    // Lends the uplink.
+    fn lend(&self) -> LentUplink<'_>
         ensures { result ≡ self.now }
     {
-        let Ok(copies) = ArrayVec::try_from(self.copies.as_slice()) else {
-            unreachable!()
-        };
-        Uplink {
+        LentUplink {
             window: self.window,
             addr: self.addr,
             confirmed: self.confirmed,
             fctrl: self.fctrl,
             port: self.port,
-            fopts: self.fopts,
+            fopts: self.fopts.as_slice(),
             sealed: self.sealed,
-            payload: Bytes::of(self.payload.as_slice()),
-            copies,
+            payload: self.payload.as_slice(),
+            copies: self.copies.as_slice(),
         }
+    }
+}
+
+// Where an uplink lies that goes out.
+#[derive(Drop)]
+enum Lain {
+    Window(BoxedUplink),
+    Packed(PackedUplink),
+}
+
+// Lends an uplink from where it lies.
+fn lend(lain: &Lain) -> LentUplink<'_>
+    ensures { result ≡ lain_uplink lain.now }
+{
+    match lain {
+        Lain::Window(uplink) => uplink.lend(),
+        Lain::Packed(uplink) => uplink.lend(),
     }
 }
 
 // What goes out with a reply.
 #[derive(Drop)]
 struct Sent {
-    uplink: Option<PackedUplink>,
+    uplink: Option<Lain>,
     downlink: Option<Downlink>,
 }
 
-/// An answer that is kept: what goes out with it lies in memory of its own, and takes as much as there is of it. Contracts see
+/// An answer of which what goes out lies in memory of its own: an uplink in that of its window, or in no more than it needs. Contracts see
 /// the answer.
 #[derive(Drop)]
-pub struct PackedAnswer {
+pub struct BoxedAnswer {
     reply: Reply,
     sent: Option<Box<Sent>>,
 }
 
-impl Model for PackedAnswer {
-    ghost use Rattle.std.specs.Prelude.{option_and_then};
+impl Model for BoxedAnswer {
+    ghost use Rattle.std.specs.Prelude.{option_and_then, option_map};
+    ghost use Rattle.ns_shard.specs.Private.Sending.{lain_uplink};
     ghost use Rattle.ns_calls.specs.declared.answer.Answer.{Answer};
 
     ghost Value = { Answer };
 
-    ghost view = { λ a. record { reply = a.reply; uplink = option_and_then (λ s. s.value.uplink) a.sent; downlink = option_and_then (λ s. s.value.downlink) a.sent } };
+    ghost view = { λ a. record { reply = a.reply; uplink = option_and_then (λ s. option_map lain_uplink s.value.uplink) a.sent; downlink = option_and_then (λ s. s.value.downlink) a.sent } };
 }
 
-// The uplink of a window that was closed, where it is the first of its rounds, as it is kept. It is deciphered in the window itself.
-fn packed_uplink(alloc: Global, mut closed: BoxedWindow) -> Result<Option<PackedUplink>, AllocError>
-    ensures { IfOk result (λ u. u ≡ first_uplink_from closed) }
-{
-    let window = closed.as_ref();
-    if !window.name.is_first() {
-        return Ok(None);
-    }
-    let view = window.frame.view();
-    let confirmed = view.confirmed();
-    let key = payload_key(view.fport(), window.nwk, window.app);
-    closed.decipher(&key);
-    let window = closed.as_ref();
-    let view = window.frame.view();
-    Ok(Some(PackedUplink {
-        window: window.name,
-        addr: view.dev_addr(),
-        confirmed,
-        fctrl: view.fctrl(),
-        port: view.fport(),
-        fopts: Bytes::of(view.fopts()),
-        sealed: key.is_none(),
-        payload: Vec::from_slice(alloc, view.payload())?,
-        copies: Vec::from_slice(alloc, window.copies.as_slice())?,
-    }))
-}
-
-impl PackedAnswer {
+impl BoxedAnswer {
     /// A reply with which nothing goes out.
-    pub fn quiet(reply: Reply) -> PackedAnswer
+    pub fn quiet(reply: Reply) -> BoxedAnswer
         ensures { result ≡ quiet reply }
     {
-        PackedAnswer { reply, sent: None }
+        BoxedAnswer { reply, sent: None }
     }
 
     // A reply with what goes out with it, if anything does.
@@ -128,16 +131,16 @@ impl PackedAnswer {
     fn sending(
         alloc: Global,
         reply: Reply,
-        uplink: Option<PackedUplink>,
+        uplink: Option<Lain>,
         downlink: Option<Downlink>,
-    ) -> Result<PackedAnswer, AllocError>
-        ensures { IfOk result (λ a. a ≡ record { reply = reply; uplink = uplink; downlink = downlink }) }
+    ) -> Result<BoxedAnswer, AllocError>
+        ensures { IfOk result (λ a. a ≡ record { reply = reply; uplink = option_map lain_uplink uplink; downlink = downlink }) }
     {
         if uplink.is_none() && downlink.is_none() {
-            return Ok(PackedAnswer::quiet(reply));
+            return Ok(BoxedAnswer::quiet(reply));
         }
         let sent = Sent { uplink, downlink };
-        Ok(PackedAnswer {
+        Ok(BoxedAnswer {
             reply,
             sent: Some(Box::new(alloc, sent)?),
         })
@@ -145,18 +148,18 @@ impl PackedAnswer {
 
     // The answer where something was ended. It stays a function of its own, so that a call that ends nothing makes no room for a window.
     #[inline(never)]
-    fn ending(alloc: Global, roster: &Roster, ended: Ended) -> Result<PackedAnswer, AllocError>
+    fn ending(alloc: Global, roster: &Roster, ended: Ended) -> Result<BoxedAnswer, AllocError>
         ensures { IfOk result (λ a. a ≡ answer_of roster.now (event.Ended ended)) }
     {
         match ended {
             Ended::Answered { reply, downlink } => {
-                PackedAnswer::sending(alloc, reply, None, downlink)
+                BoxedAnswer::sending(alloc, reply, None, downlink)
             }
             Ended::Closed { window, ack } => {
                 let name = window.as_ref().name;
                 let downlink = ack_from(roster, window.as_ref(), ack);
-                let uplink = packed_uplink(alloc, window)?;
-                PackedAnswer::sending(alloc, Reply::Closed { window: name, ack }, uplink, downlink)
+                let uplink = BoxedUplink::of(window).map(Lain::Window);
+                BoxedAnswer::sending(alloc, Reply::Closed { window: name, ack }, uplink, downlink)
             }
         }
     }
@@ -166,13 +169,24 @@ impl PackedAnswer {
         alloc: Global,
         roster: &Roster,
         event: Event,
-    ) -> Result<PackedAnswer, AllocError>
+    ) -> Result<BoxedAnswer, AllocError>
         ensures { IfOk result (λ a. a ≡ answer_of roster.now event) }
     {
         match event {
-            Event::Quiet(reply) | Event::Opened(reply) => Ok(PackedAnswer::quiet(reply)),
-            Event::Ended(ended) => PackedAnswer::ending(alloc, roster, ended),
+            Event::Quiet(reply) | Event::Opened(reply) => Ok(BoxedAnswer::quiet(reply)),
+            Event::Ended(ended) => BoxedAnswer::ending(alloc, roster, ended),
         }
+    }
+
+    /// The same answer, in no more memory than it needs. `NoMemory` (`AllocError`) where a growth was refused.
+    pub(crate) fn packed(self, alloc: Global) -> Result<BoxedAnswer, AllocError>
+        ensures { IfOk result (λ a. a ≡ self) }
+    {
+        let Some(uplink) = self.lend_uplink() else {
+            return Ok(self);
+        };
+        let uplink = Lain::Packed(PackedUplink::of(alloc, &uplink)?);
+        BoxedAnswer::sending(alloc, self.reply, Some(uplink), self.downlink())
     }
 
     /// The reply.
@@ -192,12 +206,18 @@ impl PackedAnswer {
         }
     }
 
+    /// Lends the uplink that goes out.
+    pub fn lend_uplink(&self) -> Option<LentUplink<'_>>
+        ensures { result ≡ self.now.uplink }
+    {
+        Some(lend(self.sent.as_ref()?.uplink.as_ref()?))
+    }
+
     /// The uplink that goes out.
     pub fn uplink(&self) -> Option<Uplink>
         ensures { result ≡ self.now.uplink }
     {
-        let uplink = self.sent.as_ref()?.uplink.as_ref()?;
-        Some(uplink.to_uplink())
+        Some(self.lend_uplink()?.to_uplink())
     }
 
     /// The downlink that goes out.

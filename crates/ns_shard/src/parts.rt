@@ -8,13 +8,14 @@ ghost use Rattle.ns_calls.specs.Shards.{shard_of_call};
 ghost use Rattle.ns_shard.specs.State.{no_entries, after_call, answer_in, finds_open};
 ghost use Rattle.ns_shard.specs.Private.Parts.{AreParts, AreTaken, state_of};
 
+use crate::boxed::BoxedUplink;
 use crate::closing::close;
 use crate::event::Event;
 use crate::joining::{answer, join};
-use crate::packed::PackedAnswer;
+use crate::packed::BoxedAnswer;
 use crate::room::push;
 use crate::uplink::uplink;
-use ns_calls::{Answer, Call, DataFrame, Downlink, Outcome, Reply, Uplink};
+use ns_calls::{Answer, Call, DataFrame, Downlink, Outcome, Reply};
 use ns_devices::Devices;
 use ns_journal::Journal;
 use ns_roster::Roster;
@@ -169,7 +170,7 @@ impl Parts {
     pub fn apply(
         &mut self,
         call: &Call,
-        uplink: &mut Option<Uplink>,
+        uplink: &mut Option<BoxedUplink>,
         downlink: &mut Option<Downlink>,
     ) -> Result<Reply, AllocError>
         requires own { shard_of_call call.now ≡ self.old.index }
@@ -187,8 +188,8 @@ impl Parts {
         Ok(event.hand_out(&self.roster, uplink, downlink))
     }
 
-    /// Answers a call, with an answer that is kept. Where a growth is refused, the call may have been taken.
-    pub fn apply_packed(&mut self, alloc: Global, call: &Call) -> Result<PackedAnswer, AllocError>
+    /// Answers a call, with a boxed answer. Where a growth is refused, the call may have been taken.
+    pub fn apply_boxed(&mut self, alloc: Global, call: &Call) -> Result<BoxedAnswer, AllocError>
         requires own { shard_of_call call.now ≡ self.old.index }
         requires agree { AreParts self.old }
         ensures answer { IfOk result (λ a. a ≡ answer_in (state_of self.old) call.now) }
@@ -197,6 +198,6 @@ impl Parts {
     {
         let event = self.take(call)?;
         self.push(call, &event);
-        PackedAnswer::of(alloc, &self.roster, event)
+        BoxedAnswer::of(alloc, &self.roster, event)
     }
 }

@@ -17,7 +17,7 @@ ghost use Rattle.ns_shard.specs.NextRun.{greatest_among, greatest_after};
 ghost use Rattle.ns_shard.specs.Private.Run.{taken_in, states_after, refused_as, AreInPlace};
 
 use crate::calls::answer_call;
-use crate::packed::PackedAnswer;
+use crate::packed::BoxedAnswer;
 use crate::shard::Shard;
 use crate::step::{Act, Step};
 use ns_calls::{Call, DataFrame, Outcome, shard_of_call};
@@ -40,8 +40,28 @@ pub enum Taken {
     Made {
         shard: u8,
         number: u64,
-        answer: PackedAnswer,
+        answer: BoxedAnswer,
     },
+}
+
+impl Taken {
+    // The same, in no more memory than it needs.
+    fn packed(self, alloc: Global) -> Result<Taken, AllocError>
+        ensures { IfOk result (λ t. t ≡ self) }
+    {
+        match self {
+            Taken::Made {
+                shard,
+                number,
+                answer,
+            } => Ok(Taken::Made {
+                shard,
+                number,
+                answer: answer.packed(alloc)?,
+            }),
+            refused => Ok(refused),
+        }
+    }
 }
 
 /// The sixteen shards. Contracts see the list of their states.
@@ -133,7 +153,8 @@ impl Shards {
     ///
     /// What comes of a step that makes a call is the plain server's answer to it, after the entries of its shard that the steps
     /// before it made. The closing of an uplink's first window hands out the uplink, with just its copies. No other step hands out
-    /// an uplink: the closing of a later round, in which the uplink was sent again, acknowledges it and hands out nothing.
+    /// an uplink: the closing of a later round, in which the uplink was sent again, acknowledges it where its session lives, and hands out
+    /// nothing.
     pub fn run(alloc: Global, roster: Arc<Roster>, steps: &[Step]) -> Result<Run, AllocError>
         ensures taken { IfOk result (λ run. run.taken.items ≡ all_taken (arc_value roster) [] steps.now) }
         ensures shards { IfOk result (λ run. AreAfter (arc_value roster) steps.now run.shards) }
@@ -164,7 +185,7 @@ impl Shards {
         let mut shards = Shards::new(alloc, roster)?;
         let mut taken = Vec::new(alloc);
         'steps: for step in steps {
-            let one = shards.step(alloc, step)?;
+            let one = shards.step(alloc, step)?.packed(alloc)?;
             taken.push(one)?;
         }
         Ok(Run { shards, taken })
@@ -193,7 +214,7 @@ fn apply(alloc: Global, shards: &mut Vec<Shard>, call: &Call) -> Result<Taken, A
     let index = shard_of_call(call);
     let shard = &mut shards[index as usize];
     let number = shard.made();
-    let answer = shard.apply_packed(alloc, call)?;
+    let answer = shard.apply_boxed(alloc, call)?;
     Ok(Taken::Made {
         shard: index,
         number,

@@ -11,9 +11,11 @@ ghost use Rattle.ns_kept.specs.Bound.{most_kept};
 ghost use Rattle.ns_shard.specs.declared.trim.TrimFault.TheVariants.{Full};
 ghost use Rattle.ns_shard.specs.Private.Parts.{AreParts, state_of};
 
+use crate::boxed::BoxedUplink;
 use crate::open::open_tickets;
-use crate::packed::PackedAnswer;
+use crate::packed::BoxedAnswer;
 use crate::parts::Parts;
+use crate::sending::put_uplink;
 use crate::trim::{Dropped, TrimFault};
 use ns_calls::{Answer, Call, Downlink, Entry, Outcome, Reply, Uplink};
 use ns_roster::Roster;
@@ -87,6 +89,28 @@ impl Shard {
         ensures open { finds_open self.old call.now ≡ true → IsOk result }
         ensures state { IsState self.new }
     {
+        let mut sent = None;
+        let reply = self.apply_lent(call, &mut sent, downlink)?;
+        put_uplink(&sent, uplink);
+        Ok(reply)
+    }
+
+    /// The same, where the uplink that goes out stays in the memory of its window.
+    pub fn apply_lent(
+        &mut self,
+        call: &Call,
+        uplink: &mut Option<BoxedUplink>,
+        downlink: &mut Option<Downlink>,
+    ) -> Result<Reply, AllocError>
+        requires { shard_of_call call.now ≡ self.old.index }
+        ensures entry { OnOk result (self.new ≡ after_call self.old call.now) }
+        ensures reply { IfOk result (λ r. r ≡ (answer_in self.old call.now).reply) }
+        ensures uplink { OnOk result (uplink.new ≡ (answer_in self.old call.now).uplink) }
+        ensures downlink { OnOk result (downlink.new ≡ (answer_in self.old call.now).downlink) }
+        ensures err { OnErr result ((self.new ≡ self.old) × (uplink.new ≡ uplink.old) × (downlink.new ≡ downlink.old)) }
+        ensures open { finds_open self.old call.now ≡ true → IsOk result }
+        ensures state { IsState self.new }
+    {
         self.parts.apply(call, uplink, downlink)
     }
 
@@ -132,6 +156,17 @@ impl Shard {
         self.parts.trim(alloc)
     }
 
+    /// Trims the shard as `trim` does, in the memory of its entries: those that are dropped are handed out to nobody, and their room stays
+    /// for later ones.
+    pub fn trim_in_place(&mut self, alloc: Global) -> Result<(), TrimFault>
+        ensures kept { OnOk result (self.new ≡ after_trim self.old) }
+        ensures full { result ≡ Err Full → 2 ^ 63 + length (after_trim self.old).entries < self.old.made }
+        ensures err { OnErr result (self.new ≡ self.old) }
+        ensures state { IsState self.new }
+    {
+        self.parts.trim_in_place(alloc)
+    }
+
     /// Makes room for so many more entries, which then are not moved by a growth each time that there are twice as many. `NoMemory`
     /// (`AllocError`) where it was refused. Contracts see no change.
     pub fn reserve(&mut self, entries: usize) -> Result<(), AllocError>
@@ -140,17 +175,17 @@ impl Shard {
         self.parts.reserve(entries)
     }
 
-    /// What `apply` does, with an answer that is kept. Where a growth was refused, the call may have been taken.
-    pub(crate) fn apply_packed(
+    /// What `apply` does, with a boxed answer. Where a growth was refused, the call may have been taken.
+    pub(crate) fn apply_boxed(
         &mut self,
         alloc: Global,
         call: &Call,
-    ) -> Result<PackedAnswer, AllocError>
+    ) -> Result<BoxedAnswer, AllocError>
         requires { shard_of_call call.now ≡ self.old.index }
         ensures entry { OnOk result (self.new ≡ after_call self.old call.now) }
         ensures answer { IfOk result (λ a. a ≡ answer_in self.old call.now) }
     {
-        self.parts.apply_packed(alloc, call)
+        self.parts.apply_boxed(alloc, call)
     }
 
     /// The shard's number, 0 to 15. Its calls are those of which `shard_of_call` is this number.

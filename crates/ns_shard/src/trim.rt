@@ -6,6 +6,7 @@ ghost use Rattle.ns_types.specs.Identity.{shard_of};
 ghost use Rattle.ns_kept.specs.Bound.{most_kept};
 ghost use Rattle.ns_shard.specs.declared.trim.TrimFault.TheVariants.{Full, NoMemory};
 ghost use Rattle.ns_devices.specs.Devices.{lives_in, has_ticket_in};
+ghost use Rattle.ns_journal.specs.State.{AreNumbersOf, with_numbers, without_numbers};
 ghost use Rattle.ns_shard.specs.Private.Parts.{AreParts, state_of};
 ghost use Rattle.ns_shard.specs.State.{after_trim, dropped};
 
@@ -13,7 +14,7 @@ use crate::parts::Parts;
 use ns_calls::Entry;
 use ns_devices::Devices;
 use ns_keep::{DeviceTable, numbers_kept};
-use ns_types::{DevEui, Ticket};
+use ns_types::{DevEui, Ticket, WindowName};
 use std::alloc::{AllocError, Global};
 use thiserror::Error;
 
@@ -67,6 +68,27 @@ impl DeviceTable for Table<'_> {
 }
 
 impl Parts {
+    // The names of the open windows, and the numbers of the entries that a trim keeps.
+    fn staying(&self, alloc: Global) -> Result<(Vec<WindowName>, Vec<u64>), TrimFault>
+        requires { AreParts self.now }
+        ensures named { IfOk result (λ r. r.0.items ≡ (after_trim (state_of self.now)).windows) }
+        ensures numbers { IfOk result (λ r. AreNumbersOf self.now.journal.entries r.1.items) }
+        ensures stay { IfOk result (λ r. with_numbers r.1.items self.now.journal.entries ≡ (after_trim (state_of self.now)).entries) }
+        ensures go { IfOk result (λ r. without_numbers r.1.items self.now.journal.entries ≡ dropped (state_of self.now)) }
+        ensures fits { IfOk result (λ r. self.now.journal.made ≤ 2 ^ 63 + length r.1.items) }
+        ensures full { result ≡ Err Full → 2 ^ 63 + length (after_trim (state_of self.now)).entries < (state_of self.now).made }
+    {
+        let named = self.windows.names(alloc)?;
+        let table = Table {
+            devices: &self.devices,
+        };
+        let stay = numbers_kept(alloc, self.journal.entries(), named.as_slice(), &table)?;
+        if self.journal.made() > MOST_DROPPED + stay.as_slice().len() as u64 {
+            return Err(TrimFault::Full);
+        }
+        Ok((named, stay))
+    }
+
     /// Drops the entries on which no answer rests. Where it is refused, nothing has changed.
     pub fn trim(&mut self, alloc: Global) -> Result<Dropped, TrimFault>
         requires { AreParts self.old }
@@ -78,21 +100,26 @@ impl Parts {
         ensures err { OnErr result (state_of self.new ≡ state_of self.old) }
         ensures agree { AreParts self.new }
     {
-        let named = self.windows.names(alloc)?;
-        let table = Table {
-            devices: &self.devices,
-        };
-        let stay = numbers_kept(alloc, self.journal.entries(), named.as_slice(), &table)?;
-        let made = self.journal.made();
-        if made > MOST_DROPPED + stay.as_slice().len() as u64 {
-            return Err(TrimFault::Full);
-        }
+        let (named, stay) = self.staying(alloc)?;
         let entries = self.journal.cut(alloc, stay.as_slice())?;
-        self.mark = made;
+        let mark = self.journal.made();
+        self.mark = mark;
         self.named = named;
-        Ok(Dropped {
-            mark: made,
-            entries,
-        })
+        Ok(Dropped { mark, entries })
+    }
+
+    /// The same, in the memory of the entries: those that are dropped are handed out to nobody.
+    pub fn trim_in_place(&mut self, alloc: Global) -> Result<(), TrimFault>
+        requires { AreParts self.old }
+        ensures state { OnOk result (state_of self.new ≡ after_trim (state_of self.old)) }
+        ensures full { result ≡ Err Full → 2 ^ 63 + length (after_trim (state_of self.old)).entries < (state_of self.old).made }
+        ensures err { OnErr result (state_of self.new ≡ state_of self.old) }
+        ensures agree { AreParts self.new }
+    {
+        let (named, stay) = self.staying(alloc)?;
+        self.journal.keep(stay.as_slice());
+        self.mark = self.journal.made();
+        self.named = named;
+        Ok(())
     }
 }

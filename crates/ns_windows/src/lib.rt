@@ -7,6 +7,7 @@
 
 mod by_name;
 mod counts;
+mod frame_key;
 mod window;
 mod windows;
 

@@ -6,11 +6,11 @@ ghost use Rattle.ns_windows.specs.Windows.{window_named, window_of_frame, count,
 
 use crate::by_name::ByName;
 use crate::counts::{Counts, count_of, lower, raise};
+use crate::frame_key::{FrameKey, LentFrame};
 use crate::window::{Addition, BoxedWindow, Window};
 use indexmap::IndexMap;
 use ns_types::{DevEui, Heard, WindowName};
 use std::alloc::{AllocError, Global};
-use std::boxed::BoxedSlice;
 use std::marker::Model;
 
 /// Open windows, in the order of their opening.
@@ -20,14 +20,13 @@ pub struct Windows {
     /// The windows by name.
     names: ByName,
     /// The name of the window of each frame.
-    frames: IndexMap<BoxedSlice<u8>, WindowName>,
+    frames: IndexMap<FrameKey, WindowName>,
     /// How many windows each device has.
     counts: Counts,
 }
 
 impl Model for Windows {
     ghost use Rattle.std.specs.Prelude.{List};
-    ghost use Rattle.std.specs.Box.{boxed_slice_items};
     ghost use Rattle.ns_windows.specs.declared.window.Window.{Window};
     ghost use Rattle.ns_windows.specs.Windows.{Agree, AreCounted};
 
@@ -35,7 +34,7 @@ impl Model for Windows {
 
     ghost view = { λ w. w.names };
 
-    ghost invariant = { λ w. Agree boxed_slice_items w.names w.frames.entries × AreCounted w.counts.entries w.names };
+    ghost invariant = { λ w. Agree (λ k. k) w.names w.frames.entries × AreCounted w.counts.entries w.names };
 }
 
 impl Windows {
@@ -84,7 +83,7 @@ impl Windows {
         ensures result { result ≡ option_map addition (window_of_frame frame.now self.old) }
         ensures windows { self.new ≡ with_copy_of frame.now heard.now self.old }
     {
-        let name = self.frames.get(frame).copied()?;
+        let name = self.frames.get(LentFrame { bytes: frame }).copied()?;
         self.names.add_copy(&name, heard)
     }
 
@@ -97,7 +96,7 @@ impl Windows {
         ensures err { OnErr result (self.new ≡ self.old) }
     {
         let name = window.name;
-        let frame = BoxedSlice::from_slice(self.alloc, window.frame.bytes())?;
+        let frame = FrameKey::of(self.alloc, window.frame.bytes())?;
         self.frames.reserve(1)?;
         self.counts.reserve(1)?;
         self.names.push(window)?;
@@ -122,7 +121,9 @@ impl Windows {
     {
         let window = self.names.remove(name)?;
         let lent = window.as_ref();
-        self.frames.swap_remove(lent.frame.bytes());
+        self.frames.swap_remove(LentFrame {
+            bytes: lent.frame.bytes(),
+        });
         lower(&mut self.counts, lent.name.eui);
         Some(window)
     }

@@ -14,6 +14,8 @@ use Rattle.ns_calls.specs.Out.{payload_key, uplink_under, ack_at}
 use Rattle.ns_windows.specs.declared.window.Window.{Window}
 use Rattle.ns_shard.specs.declared.event.Ended.{Ended}
 use Rattle.ns_shard.specs.declared.event.Ended.TheVariants.{Answered, Closed}
+use Rattle.ns_shard.specs.declared.packed.Lain.{Lain}
+use Rattle.ns_shard.specs.declared.packed.Lain.TheVariants as lain
 use Rattle.ns_shard.specs.declared.event.Event.{Event}
 use Rattle.ns_shard.specs.declared.event.Event.TheVariants as event
 
@@ -52,3 +54,9 @@ downlink_of net _ = None
 
 abbrev pub answer_of : Network → Event → Answer
 answer_of net e = record { reply = reply_of e; uplink = uplink_of e; downlink = downlink_of net e }
+
+-- ---- of an answer that is kept
+
+abbrev pub lain_uplink : Lain → Uplink
+lain_uplink (lain.Window u) = u
+lain_uplink (lain.Packed u) = u

@@ -13,9 +13,9 @@ steps-preserved c =
     let net = arc_value c.args.roster in
     let i = c.steps.step-index in
     let x = c.step-item.result in
-    let new = c.in_ok-one.ensures.taken net (take i c.args.steps.now) c.steps.invariant.after in
+    let new = c.in_ok-one.ensures ∙ c.in_ok-step.ensures.taken net (take i c.args.steps.now) c.steps.invariant.after in
     record {
-      after = step-more net c.args.steps.now i x c.step.new.self c.steps-test.true c.step-item.is (c.in_ok-one.ensures.shards net (take i c.args.steps.now) c.steps.invariant.after);
+      after = step-more net c.args.steps.now i x c.step.new.self c.steps-test.true c.step-item.is (c.in_ok-step.ensures.shards net (take i c.args.steps.now) c.steps.invariant.after);
       told =
           ap (λ ts. ts ++ all_taken net (take (i + 1) c.args.steps.now) (drop (i + 1) c.args.steps.now)) c.in_ok-push.ensures.items
           ∙ told-more net c.args.steps.now i x c.steps.taken.items _ c.in_ok-one.one c.steps-test.true c.step-item.is c.steps.invariant.told new;

@@ -1,6 +1,5 @@
 use Rattle.std.proofs.Common.{◌≡◌, ℕ, ◌+◌, ◌≤◌, ◌==◌, length, arith, List, [], ◌∷◌, ◌++◌, None, bytes_eq, option_map, ap, ◌∙◌}
 use Rattle.std.proofs.lemmas.List.Sums.{count_by-le-length}
-use Rattle.std.specs.Box.{boxed_slice_items}
 use Rattle.std.specs.Map.{lookup}
 use Rattle.indexmap.proofs.CallerLemmas.{insert_entry-new}
 use Rattle.ns_types.specs.declared.identity.DevEui.{DevEui}
@@ -13,8 +12,8 @@ use Rattle.ns_windows.proofs.Places.{none_found}
 use Rattle.ns_windows.proofs.windows.Windows.put.Goals as goal
 use Rattle.ns_windows.proofs.windows.Windows.put.Goals.{After-raise}
 
-key : (c : After-raise) → boxed_slice_items c.in_ok-frame.frame ≡ c.args.window.frame
-key c = c.in_ok-frame.ensures.ok ∙ c.bytes.ensures.bytes
+key : (c : After-raise) → c.in_ok-frame.frame ≡ c.args.window.frame
+key c = c.in_ok-frame.ensures ∙ c.bytes.ensures.bytes
 
 new_frames : (c : After-raise) → c.insert.new.self.entries ≡ c.self.inside.frames.entries ++ (c.in_ok-frame.frame, c.args.window.name) ∷ []
 new_frames c =
@@ -22,8 +21,8 @@ new_frames c =
     let frames = c.self.inside.frames.entries in
     let stays : c.reserve.new.self.entries ≡ frames = c.reserve.ensures.entries in
     let new : window_of_frame w.frame c.self.inside.names ≡ None = rw c.self.view_is c.requires.frame in
-    let absent = ap (λ xs. lookup (λ k. bytes_eq (boxed_slice_items c.in_ok-frame.frame) (boxed_slice_items k)) xs) stays
-    ∙ ap (λ f. lookup (λ k. bytes_eq f (boxed_slice_items k)) frames) (key c) ∙ c.self.invariant.0.2 w.frame ∙ ap (λ r. option_map (λ v. v.name) r) new in
+    let absent = ap (λ xs. lookup (λ k. bytes_eq c.in_ok-frame.frame k) xs) stays
+    ∙ ap (λ f. lookup (λ k. bytes_eq f k) frames) (key c) ∙ c.self.invariant.0.2 w.frame ∙ ap (λ r. option_map (λ v. v.name) r) new in
     let inserted = rw c.unwrap.ensures at c.insert.ensures.entries in
     inserted ∙ insert_entry-new _ c.reserve.new.self c.in_ok-frame.frame w.name absent ∙ ap (λ xs. xs ++ (c.in_ok-frame.frame, w.name) ∷ []) stays
 
@@ -51,4 +50,4 @@ invariant_of-self-2 c =
     let i = c.self.invariant.0 in
     let name : window_named w.name ws ≡ None = rw c.self.view_is c.requires.name in
     let frame : window_of_frame w.frame ws ≡ None = rw c.self.view_is c.requires.frame in
-    rw (c.in_ok-push.ensures.ok, new_frames c) ((apart-push ws w i.0 (none_found (is_named w.name) ws name), of_frames-push ws w i.1 (none_found (is_of w.frame) ws frame), (λ f. frames-push boxed_slice_items c.self.inside.frames.entries ws c.in_ok-frame.frame w f (key c) (i.2 f))), counted c)
+    rw (c.in_ok-push.ensures.ok, new_frames c) ((apart-push ws w i.0 (none_found (is_named w.name) ws name), of_frames-push ws w i.1 (none_found (is_of w.frame) ws frame), (λ f. frames-push (λ (k : List ℕ). k) c.self.inside.frames.entries ws c.in_ok-frame.frame w f (key c) (i.2 f))), counted c)

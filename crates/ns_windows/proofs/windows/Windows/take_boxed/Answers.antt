@@ -1,5 +1,4 @@
-use Rattle.std.proofs.Common.{◌≡◌, ◌+◌, ◌-◌, arith, None, Some, bytes_eq, not, sym, ap, ◌∙◌}
-use Rattle.std.specs.Box.{boxed_slice_items}
+use Rattle.std.proofs.Common.{◌≡◌, ℕ, List, ◌+◌, ◌-◌, arith, None, Some, bytes_eq, not, sym, ap, ◌∙◌}
 use Rattle.std.specs.Map.{lookup, KeepsOthers}
 use Rattle.ns_windows.specs.declared.window.Window.{Window}
 use Rattle.ns_windows.specs.Windows.{is_named, window_named, without, count, count_in, AreCounted}
@@ -25,10 +24,10 @@ there c = c.in_ok-window.ensures.result
 frame_of : (c : After-lower) → c.bytes.result.now ≡ c.in_ok-window.window.frame
 frame_of c = c.bytes.ensures.bytes ∙ ap (λ (w : Window). w.frame) c.as_ref-lent.ensures
 
-keeps : (c : After-lower) → KeepsOthers (λ x y. bytes_eq (boxed_slice_items x) (boxed_slice_items y)) (λ k. bytes_eq c.in_ok-window.window.frame (boxed_slice_items k)) c.self.inside.frames.entries c.swap_remove.new.self.entries
+keeps : (c : After-lower) → KeepsOthers (λ x y. bytes_eq x y) (λ k. bytes_eq c.in_ok-window.window.frame k) c.self.inside.frames.entries c.swap_remove.new.self.entries
 keeps c = rw (← frame_of c) c.swap_remove.ensures.updates.3
 
-gone : (c : After-lower) → lookup (λ k. bytes_eq c.in_ok-window.window.frame (boxed_slice_items k)) c.swap_remove.new.self.entries ≡ None
+gone : (c : After-lower) → lookup (λ k. bytes_eq c.in_ok-window.window.frame k) c.swap_remove.new.self.entries ≡ None
 gone c = rw (← frame_of c) c.swap_remove.ensures.updates.1
 
 counted : (c : After-lower) → AreCounted c.lower.new.counts.entries (without c.args.name.now c.self.inside.names)
@@ -49,7 +48,7 @@ invariant_of-self-2 c =
       (
         apart-filter (λ w. not (is_named name w)) ws i.0,
         of_frames-filter (λ w. not (is_named name w)) ws i.1,
-        (λ f. frames-taken boxed_slice_items c.self.inside.frames.entries c.swap_remove.new.self.entries name ws c.in_ok-window.window i.0 i.1 (sym (there c)) (keeps c) (gone c) f (i.2 f)),
+        (λ f. frames-taken (λ (k : List ℕ). k) c.self.inside.frames.entries c.swap_remove.new.self.entries name ws c.in_ok-window.window i.0 i.1 (sym (there c)) (keeps c) (gone c) f (i.2 f)),
       ),
       counted c,
     )
