@@ -72,8 +72,8 @@ fn all_look_the_same(alloc: Global, old: &[Shard], new: &[Shard]) -> Result<bool
     Ok(right.is_empty())
 }
 
-/// Runs fewer lines, as a start would, beside `up` lines that are whole, and tells whether a trim leaves the same of them as of the lines
-/// of which trims left `old`. Then every later answer is the same.
+/// Runs fewer lines, as a start would, beside `up` lines that are whole, and tells, true only where a trim leaves the same of them as of
+/// the lines of which trims left `old`. Then every later answer is the same.
 pub fn serves_as_well<S: BufRead, U: BufRead>(
     alloc: Global,
     roster: Arc<Roster>,

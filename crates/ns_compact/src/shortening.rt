@@ -56,8 +56,8 @@ fn choose<S: BufRead, W: Write>(
     Err(RecordFault::TooMany)
 }
 
-/// Runs a record, as a start does, and writes the lines of it that are chosen. `again` are its steps once more. What was written serves as
-/// well only where `serves_as_well` says so.
+/// Runs a record, as a start does, and writes the lines of it that are chosen. `again` are its steps once more. Whether what was
+/// written serves as well no clause says: `serves_as_well` is to be asked.
 pub fn shorten<S: BufRead, U: BufRead, T: BufRead, W: Write>(
     alloc: Global,
     roster: Arc<Roster>,

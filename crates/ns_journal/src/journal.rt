@@ -59,7 +59,7 @@ impl Journal {
     }
 
     /// Makes room for `n` more entries beside the reserved ones. Where it has to grow, there is then room for as many entries as there
-    /// are, so that entries are moved seldom. Where the growth is refused, nothing has changed.
+    /// are, so that entries are moved seldom. Where the growth is refused, no entry and no reserved room has changed.
     #[inline(always)]
     pub fn room(&mut self, n: usize) -> Result<(), AllocError>
         ensures made { self.new.made ≡ self.old.made }
@@ -150,6 +150,7 @@ impl Journal {
         ensures made { self.new.made ≡ self.old.made }
         ensures reserved { self.new.reserved ≡ self.old.reserved }
         ensures entries { self.new.entries ≡ with_numbers stay.now self.old.entries }
+        ensures room { self.old.room ≤ self.new.room }
     {
         let before = self.entries.len();
         gather(&mut self.entries, stay);

@@ -95,7 +95,7 @@ pub record IsName (window : WindowName) : Type 0 where
   pub first : 1 ≤ window.round
   pub round : window.round < 2 ^ 32
 
--- what a program's types say of a step: a datagram has bytes, and a ticket and a window are whole
+-- what a program's types say of a step, and that rounds begin at 1: a datagram has bytes, and a ticket and a window are whole
 abbrev pub IsWhole : Act → Type 0
 IsWhole (Datagram bytes) = AreBytes bytes
 IsWhole (Answer ticket body) = IsTicket ticket

@@ -26,7 +26,8 @@ pub trait Swap {
         ensures same { OnErr result (moments self.new ≡ moments self.old) };
 }
 
-/// Gives new steps the name of the old: at each moment a crash leaves all of the old, or all of the new, and at `Ok` all of the new.
+/// Gives new steps the name of the old, where the old still have it: at each moment a crash leaves all of the old, or all of the new, and
+/// at `Ok` all of the new.
 pub fn swap_in<S: Swap>(folder: &mut S) -> Result<(), Failed>
     ensures any { SwapsKnown (S.moments folder.old) (S.moments folder.new) }
     ensures ok { OnOk result (IsSwapped (S.moments folder.old) (S.moments folder.new)) }

@@ -1,4 +1,4 @@
--- For private clauses alone: no promise rests on these.
+-- For private clauses; `NamesNoLine` of Faults is named by a public one too.
 pub mod Lines
 pub mod Ups
 pub mod Running

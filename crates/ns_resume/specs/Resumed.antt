@@ -154,6 +154,6 @@ NamesLineFrom net first known (NoStep n) = StopsAt net first known n IsNoStep
 NamesLineFrom net first known (NoFit n) = StopsAt net first known n (DoesNotFit net)
 NamesLineFrom net first known _ = Unit {0}
 
--- the fault names the first step line that is refused, behind the line that tells the base
+-- the fault names the first step line that is refused, behind the line that tells the base, or, as if there were no base, that line itself
 abbrev pub NamesLine : Network → Option (List ℕ) → RecordFault → Type 0
 NamesLine net known e = (base : Option Base) × (rest : Option (List ℕ)) × Consumes known rest (head_text base) × NamesLineFrom net (first_number base) rest e

@@ -45,7 +45,7 @@ pub struct Resumed {
     /// The windows that are open, shard by shard, in the order of their opening.
     pub windows: Vec<WindowName>,
     /// The tickets that are open, shard by shard, in the order in which they were asked for. One that was answered and asked for again
-    /// may stand there twice.
+    /// may stand there more than once.
     pub tickets: Vec<Ticket>,
 }
 

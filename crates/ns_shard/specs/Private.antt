@@ -1,4 +1,4 @@
--- For private clauses alone: no promise rests on these.
+-- For private clauses, and for models of public types.
 pub mod Datagram
 pub mod Held
 pub mod Devices

@@ -45,7 +45,7 @@ calls_of shard steps = filter (λ c. shard_of_call c == shard) (filter_map (λ s
 abbrev pub OfEach : List State → (ℕ → List Entry → Type 0) → Type 0
 OfEach shards P = (shard : ℕ) (s : State) → slice_get shards shard ≡ Some s → P shard s.entries
 
--- an uplink goes out with a closing, and with no other answer
+-- an uplink goes out exactly with the closing of a first window
 abbrev pub HandsOut : Taken → Type 0
 HandsOut (Made shard number a) = is_some a.uplink ≡ hands_out_uplink a.reply
 HandsOut _ = Unit {0}

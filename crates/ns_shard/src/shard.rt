@@ -245,8 +245,8 @@ impl Shard {
         self.parts.windows.names(alloc)
     }
 
-    /// The open tickets, in the order in which they were asked for: one that was answered, and asked for again since the last trim, stands
-    /// there twice. `NoMemory` (`AllocError`) where a growth was refused.
+    /// The open tickets, in the order in which they were asked for: one stands there once for each asking for it among the entries that are
+    /// kept. `NoMemory` (`AllocError`) where a growth was refused.
     pub fn open_tickets(&self, alloc: Global) -> Result<Vec<Ticket>, AllocError>
         ensures { IfOk result (λ v. v.items ≡ open_tickets_in self.now) }
     {

@@ -69,7 +69,7 @@ pub(crate) fn hand_out<B: Naming, R, G, D: Downlinks<R>, M: Monitor<R>, T: Timer
 /// shard.
 ///
 /// With no fault and fewer receipts than `limit` the source has ended. K1 where a growth was refused: then nothing was done with the
-/// job taken last, whose window was not open. K2 where the source failed. K3 where the sink failed: then it has a beginning of the
+/// job taken last, whose window was not open (no clause). K2 where the source failed. K3 where the sink failed: then it has a beginning of the
 /// lines.
 #[tactic(auto, using(crate::proofs::Counting::rises_none, crate::proofs::Counting::rises_more, crate::proofs::Closings::closed_none, crate::proofs::Closings::closed_more, crate::proofs::Closings::closes_end, crate::proofs::Closings::closes_full, crate::proofs::Closings::closes_broken, crate::proofs::Closings::closes_before, crate::proofs::Closings::closes_refused, crate::proofs::Closings::closes_unsent, crate::proofs::Doings::answered_none, crate::proofs::Doings::grows_none, crate::proofs::Doings::downlinks_more, crate::proofs::Doings::lines_none, crate::proofs::Doings::lines_more, crate::proofs::Doings::lines_front, crate::proofs::Doings::lines_whole,))]
 pub fn run_closer<

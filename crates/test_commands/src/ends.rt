@@ -31,7 +31,7 @@ fn faults_are_printed(rt: HostRuntime) -> Result<(), Fail> {
         ),
         (of_reading(ErrorKind::OutOfMemory, "a/b.json"), "no memory"),
     ] {
-        assert_eq!(rt; format!(in rt.alloc(); "{fault}")?.as_str(), text);
+        assert!(rt; format!(in rt.alloc(); "{fault}")?.as_str() == text);
     }
     for (outcome, text) in [
         (of_replay(Err(ReplayFault::NoMemory)), "no memory"),
@@ -42,7 +42,7 @@ fn faults_are_printed(rt: HostRuntime) -> Result<(), Fail> {
         let Err(fault) = outcome else {
             return Err(Fail::new("no fault"));
         };
-        assert_eq!(rt; format!(in rt.alloc(); "{fault}")?.as_str(), text);
+        assert!(rt; format!(in rt.alloc(); "{fault}")?.as_str() == text);
     }
     assert!(rt; of_replay(Ok(())).is_ok() && of_serve(Ok(0)).is_ok());
     Ok(())
@@ -60,7 +60,7 @@ fn times(rt: HostRuntime) {
         let Some(text) = text else {
             continue;
         };
-        assert_eq!(rt; text.as_str(), wanted);
+        assert!(rt; text.as_str() == wanted);
     }
     assert!(rt; time_text(Duration::new(1_795_512_600, 0)).is_some());
     assert!(rt; time_text(Duration::new(253_402_300_800, 0)).is_none());
@@ -68,23 +68,17 @@ fn times(rt: HostRuntime) {
 
 #[test]
 fn statuses(rt: HostRuntime) {
-    assert_eq!(rt; ended(&rt, &Ok(())), ExitCode::SUCCESS);
+    assert!(rt; ended(&rt, &Ok(())) == ExitCode::SUCCESS);
     for fault in [
         Fault::Roster(RosterFault::Field),
         Fault::NoMemory,
         Fault::CannotRead("a"),
         Fault::Io,
     ] {
-        assert_eq!(rt; ended(&rt, &Err(fault)), ExitCode::FAILURE);
+        assert!(rt; ended(&rt, &Err(fault)) == ExitCode::FAILURE);
     }
-    assert_eq!(rt;
-        refused(&rt, &Discard, &BadWords::NoMemory),
-        ExitCode::from(1)
-    );
-    assert_eq!(rt;
-        refused(&rt, &Discard, &BadWords::NotText),
-        ExitCode::from(2)
-    );
+    assert!(rt; refused(&rt, &Discard, &BadWords::NoMemory) == ExitCode::from(1));
+    assert!(rt; refused(&rt, &Discard, &BadWords::NotText) == ExitCode::from(2));
 }
 
 // How the program ends with these words, whose roster is not there. A server is not begun.
@@ -117,7 +111,7 @@ fn runs_that_fail(rt: HostRuntime) -> Result<(), Fail> {
     ] {
         let words = words_of(&rt, text)?;
         let end = end_of(&rt, &log, words.as_slice());
-        assert_eq!(rt; concluded(&rt, &log, &end), ExitCode::from(status));
+        assert!(rt; concluded(&rt, &log, &end) == ExitCode::from(status));
     }
     Ok(())
 }
@@ -142,7 +136,7 @@ fn closing_rosters(rt: HostRuntime) -> Result<(), Fail> {
         );
         assert!(rt; outcome.is_ok());
         let written = writer.into_inner();
-        assert_eq!(rt; written.len(), lines * (text.len() + 1));
+        assert!(rt; written.len() == lines * (text.len() + 1));
         assert!(rt;
             written
                 .as_slice()

@@ -147,25 +147,16 @@ fn each_option_is_its_field(rt: HostRuntime) -> Result<(), Fail> {
     let Ok(Asked::Serve("r.json", options, _)) = read_words(rt.alloc(), words.as_slice()) else {
         return Err(Fail::new("not asked to serve"));
     };
-    assert_eq!(rt; options.join, SocketAddr::from(([127, 0, 0, 3], 8081)));
-    assert_eq!(rt; options.host.as_str(), "js");
-    assert_eq!(rt;
-        options.listen,
-        Some(SocketAddr::from(([127, 0, 0, 2], 1711)))
-    );
-    assert_eq!(rt;
-        options.forwarders,
-        Some(SocketAddr::from(([127, 0, 0, 4], 1712)))
-    );
-    assert_eq!(rt; options.power, 9);
-    assert_eq!(rt;
-        options.status,
-        Some(SocketAddr::from(([127, 0, 0, 5], 1713)))
-    );
-    assert_eq!(rt; (options.workers, options.join_workers), (3, 5));
-    assert_eq!(rt; (options.window_ms, options.stop_after), (77, Some(11)));
+    assert!(rt; options.join == SocketAddr::from(([127, 0, 0, 3], 8081)));
+    assert!(rt; options.host.as_str() == "js");
+    assert!(rt; options.listen == Some(SocketAddr::from(([127, 0, 0, 2], 1711))));
+    assert!(rt; options.forwarders == Some(SocketAddr::from(([127, 0, 0, 4], 1712))));
+    assert!(rt; options.power == 9);
+    assert!(rt; options.status == Some(SocketAddr::from(([127, 0, 0, 5], 1713))));
+    assert!(rt; options.workers == 3 && options.join_workers == 5);
+    assert!(rt; options.window_ms == 77 && options.stop_after == Some(11));
     assert!(rt; options.stop_at_end);
-    assert_eq!(rt; options.trim, Some(13));
+    assert!(rt; options.trim == Some(13));
     assert!(rt; options.output == Output::Json && options.events && options.closing);
     Ok(())
 }

@@ -6,7 +6,7 @@ use ns_types::{GatewayId, Target};
 use std::alloc::Global;
 use std::collections::hash_map::RandomState;
 use std::io;
-use std::net::{SocketAddr, UdpSocket};
+use std::net::{IpAddr, Ipv4Addr, SocketAddr, UdpSocket};
 use std::num::NonZeroUsize;
 use std::process::Abort;
 use std::random::RandomSource;
@@ -24,18 +24,22 @@ impl RandomSource for Noughts {
     }
 }
 
-const BODY: &[u8] =
-    br#"{"rxpk":[{"tmst":1000000,"freq":868.1,"stat":1,"modu":"LORA","datr":"SF7BW125","rssi":-95,"lsnr":7.5,"data":"AQ=="},{"stat":0},{"tmst":2000000,"freq":868.3,"stat":1,"modu":"LORA","datr":"SF9BW125","rssi":-100,"lsnr":-3,"data":"AgM="}]}"#;
+// A push of gateway 9 with two frames, and an item without a CRC between them.
+const PUSH: &[u8] =
+    b"\x02\x07\x08\0\0\0\0\0\0\0\0\x09{\"rxpk\":[{\"tmst\":1000000,\"freq\":868.1,\"stat\":1,\"modu\":\"LORA\",\"datr\":\"SF7BW125\",\"rssi\":-95,\"lsnr\":7.5,\"data\":\"AQ==\"},{\"stat\":0},{\"tmst\":2000000,\"freq\":868.3,\"stat\":1,\"modu\":\"LORA\",\"datr\":\"SF9BW125\",\"rssi\":-100,\"lsnr\":-3,\"data\":\"AgM=\"}]}";
 
-// A message of a gateway.
-fn message(alloc: Global, identifier: u8, gateway: u8, body: &[u8]) -> Result<Vec<u8>, Fail> {
-    let mut bytes = Vec::new(alloc);
-    bytes.extend_from_slice(&[2, 7, 8, identifier, 0, 0, 0, 0, 0, 0, 0, gateway])?;
-    bytes.extend_from_slice(body)?;
-    Ok(bytes)
+// A push of gateway 9 with another body.
+const OTHER: &[u8] = b"\x02\x07\x08\0\0\0\0\0\0\0\0\x09{";
+
+const TOO_LATE: &[u8] =
+    b"\x02\x07\x08\x05\0\0\0\0\0\0\0\x01{\"txpk_ack\":{\"error\":\"TOO_LATE\"}}";
+
+// A gateway asks for downlinks.
+fn pull(gateway: u8) -> [u8; 12] {
+    [2, 7, 8, 2, 0, 0, 0, 0, 0, 0, 0, gateway]
 }
 
-// Takes a message of a gateway that came from this address, and keeps what it tells of the gateway.
+// Takes a message that came from this address, and keeps what it tells of its gateway.
 fn hear(
     alloc: Global,
     gateways: &mut Gateways,
@@ -48,37 +52,50 @@ fn hear(
     Ok(())
 }
 
+// The address of this port.
+fn at(port: u16) -> SocketAddr {
+    SocketAddr::new(IpAddr::V4(Ipv4Addr::new(10, 0, 0, 1)), port)
+}
+
 // What is known of gateways, of which two are kept, once each of three has asked for downlinks.
-fn asked_by_three(alloc: Global, peer: SocketAddr) -> Result<Gateways, Fail> {
-    let most = NonZeroUsize::new(2).ok_or("no number")?;
-    let mut gateways = Gateways::of(alloc, RandomState::new(&Noughts)?, most)?;
-    for gateway in [1, 2, 3] {
-        let bytes = message(alloc, 2, gateway, &[])?;
-        hear(alloc, &mut gateways, bytes.as_slice(), peer)?;
+fn asked_by_three(alloc: Global) -> Result<Gateways, Fail> {
+    let keys = RandomState::new(&Noughts)?;
+    let mut gateways = Gateways::of(alloc, keys, NonZeroUsize::new(2).unwrap())?;
+    for gateway in [1, 2, 9] {
+        hear(alloc, &mut gateways, &pull(gateway), at(1700))?;
     }
     Ok(gateways)
 }
 
+// The last two gateways that asked have a route.
+fn are_routed<R: Abort>(rt: &R, gateways: &Gateways) {
+    let route = Some(Route {
+        addr: at(1700),
+        version: 2,
+    });
+    for (gateway, want) in [(1, None), (2, route), (9, route)] {
+        assert!(rt; gateways.gateway(GatewayId(gateway)).route == want);
+    }
+}
+
+// The moment of the last reading of gateway 9.
+fn latest(gateways: &Gateways) -> Option<u64> {
+    Some(gateways.gateway(GatewayId(9)).clock.latest?.moment)
+}
+
 #[test]
 fn what_is_known_of_gateways_is_kept(rt: HostRuntime) -> Result<(), Fail> {
-    let addr: SocketAddr = "10.0.0.1:1700".parse()?;
-    let other: SocketAddr = "10.0.0.1:9".parse()?;
-    let route = Route { addr, version: 2 };
-    let bytes = message(rt.alloc(), 0, 3, BODY)?;
-    let mut gateways = asked_by_three(rt.alloc(), addr)?;
-    assert!(rt; gateways.gateway(GatewayId(1)).route.is_none());
-    assert!(rt; gateways.gateway(GatewayId(2)).route == Some(route));
-    hear(rt.alloc(), &mut gateways, bytes.as_slice(), other)?;
-    let known = gateways.gateway(GatewayId(3));
-    assert!(rt; known.route == Some(route));
-    assert_eq!(rt; known.clock.latest.ok_or("no reading")?.moment, 2_000_000);
+    let mut gateways = asked_by_three(rt.alloc())?;
+    are_routed(&rt, &gateways);
+    hear(rt.alloc(), &mut gateways, PUSH, at(9))?;
+    are_routed(&rt, &gateways);
+    assert!(rt; latest(&gateways) == Some(2_000_000));
     Ok(())
 }
 
 #[test]
 fn a_tx_ack_is_told(rt: HostRuntime) -> Result<(), Fail> {
-    let bytes = message(rt.alloc(), 5, 1, br#"{"txpk_ack":{"error":"TOO_LATE"}}"#)?;
-    let read = read_message(bytes.as_slice())?;
+    let read = read_message(TOO_LATE)?;
     let taken = take(rt.alloc(), &read, Clock::default(), 5)?;
     assert!(rt; matches!(&taken, Taken::Told(Outcome::TooLate)));
     Ok(())
@@ -86,112 +103,27 @@ fn a_tx_ack_is_told(rt: HostRuntime) -> Result<(), Fail> {
 
 // A socket of this machine, whose receives wait 5 s.
 fn local(rt: &HostRuntime) -> Result<UdpSocket, Fail> {
-    let addr: SocketAddr = "127.0.0.1:0".parse()?;
+    let addr = SocketAddr::new(IpAddr::V4(Ipv4Addr::new(127, 0, 0, 1)), 0);
     let socket = UdpSocket::bind(rt, addr)?;
     socket.set_read_timeout(Some(Duration::from_secs(5)))?;
     Ok(socket)
 }
 
-// The server, and the forwarder of gateway 9.
-#[derive(Drop)]
-struct Exchange {
-    alloc: Global,
-    forwarders: Forwarders,
-    server: SocketAddr,
-    gateway: UdpSocket,
-}
-
-// Both on sockets of this machine.
-fn on_this_machine(rt: &HostRuntime) -> Result<Exchange, Fail> {
+// The forwarders of a socket of this machine, and its address.
+fn server(rt: &HostRuntime) -> Result<(Forwarders, SocketAddr), Fail> {
+    let (keys, start) = (RandomState::new(&Noughts)?, Instant::now(rt)?);
     let socket = local(rt)?;
-    let server = socket.local_addr()?;
-    let keys = RandomState::new(&Noughts)?;
-    let forwarders = Forwarders::new(rt.alloc(), keys, socket, Instant::now(rt)?, 14)?;
-    Ok(Exchange {
-        alloc: rt.alloc(),
-        forwarders,
-        server,
-        gateway: local(rt)?,
-    })
+    let addr = socket.local_addr()?;
+    Ok((Forwarders::new(rt.alloc(), keys, socket, start, 14)?, addr))
 }
 
-impl Exchange {
-    // The gateway sends a message.
-    fn send(&self, identifier: u8, body: &[u8]) -> Result<(), Fail> {
-        let bytes = message(self.alloc, identifier, 9, body)?;
-        self.gateway.send_to(bytes.as_slice(), self.server)?;
-        Ok(())
-    }
+// How the datagram of the first frame begins, and the whole datagram of the second.
+const FIRST: [u8; 10] = [1, 1, 0, 0, 0, 0, 0, 0, 0, 9];
 
-    // What comes next to the server.
-    fn next<R: Wait + time::Clock>(
-        &self,
-        rt: &R,
-        pending: &mut Pending,
-        buf: &mut [u8; 512],
-    ) -> Result<Event, Fail> {
-        Ok(self.forwarders.next(rt, self.alloc, pending, buf)?)
-    }
-
-    // The gateway is answered by this.
-    fn is_answered<R: Abort>(&self, rt: &R, answer: &[u8]) -> Result<(), Fail> {
-        let mut buf = [0; 512];
-        let (n, _) = self.gateway.recv_from(&mut buf)?;
-        assert_eq!(rt; &buf[..n], answer);
-        Ok(())
-    }
-}
-
-// The frames of a push become datagrams one after the other, and it is acknowledged.
-fn push_is_taken<R: Abort + Wait + time::Clock>(
-    rt: &R,
-    exchange: &Exchange,
-    pending: &mut Pending,
-) -> Result<(), Fail> {
-    let mut buf = [0; 512];
-    exchange.send(0, BODY)?;
-    let first = exchange.next(rt, pending, &mut buf)?;
-    assert!(rt; first == Event::Datagram(29));
-    assert_eq!(rt; &buf[..10], [1, 1, 0, 0, 0, 0, 0, 0, 0, 9].as_slice());
-    exchange.is_answered(rt, &[2, 7, 8, 1])?;
-    let second = exchange.next(rt, pending, &mut buf)?;
-    assert!(rt; second == Event::Datagram(30));
-    assert_eq!(rt; &buf[28..30], [2, 3].as_slice());
-    Ok(())
-}
-
-// A push of another body is refused and acknowledged.
-fn other_push_is_refused<R: Abort + Wait + time::Clock>(
-    rt: &R,
-    exchange: &Exchange,
-    pending: &mut Pending,
-) -> Result<(), Fail> {
-    let mut buf = [0; 512];
-    exchange.send(0, b"{")?;
-    let refused = exchange.next(rt, pending, &mut buf)?;
-    assert!(rt; refused == Event::Refused(ForwarderFault::Body));
-    exchange.is_answered(rt, &[2, 7, 8, 1])
-}
-
-// A pull is acknowledged, and downlinks have a route from then on.
-fn pull_makes_a_route<R: Abort + Wait + time::Clock>(
-    rt: &R,
-    exchange: &Exchange,
-    pending: &mut Pending,
-) -> Result<Route, Fail> {
-    let mut buf = [0; 512];
-    assert!(rt; exchange.forwarders.route(rt, GatewayId(9)).is_none());
-    exchange.send(2, &[])?;
-    let asked = exchange.next(rt, pending, &mut buf)?;
-    assert!(rt; asked == Event::Message);
-    exchange.is_answered(rt, &[2, 7, 8, 4])?;
-    Ok(
-        exchange
-            .forwarders
-            .route(rt, GatewayId(9))
-            .ok_or("no route")?,
-    )
-}
+const SECOND: [u8; 30] = [
+    1, 1, 0, 0, 0, 0, 0, 0, 0, 9, 0, 0, 0, 0, 0, 0x1e, 0x84, 0x80, 0x33, 0xc1, 0x34, 0xe0, 3, 0xfc,
+    0x18, 0xff, 0xe2, 2, 2, 3,
+];
 
 const TARGET: Target = Target {
     gateway: GatewayId(9),
@@ -200,38 +132,100 @@ const TARGET: Target = Target {
     dr: 5,
 };
 
-// A downlink reaches the gateway.
-fn downlink_is_sent<R: Abort>(rt: &R, exchange: &Exchange, route: Route) -> Result<(), Fail> {
-    let mut answer = [0; 512];
-    assert!(rt;
-        exchange
-            .forwarders
-            .send(exchange.alloc, route, &TARGET, &[1])
-    );
-    let (n, _) = exchange.gateway.recv_from(&mut answer)?;
-    assert_eq!(rt; &answer[..4], [2, 0, 0, 3].as_slice());
-    assert!(rt; answer[..n].ends_with(br#""tmst":2000000}}"#.as_slice()));
-    Ok(())
+// How a byte 1 is sent there.
+const DOWNLINK: &[u8] =
+    b"\x02\0\0\x03{\"txpk\":{\"codr\":\"4/5\",\"data\":\"AQ==\",\"datr\":\"SF7BW125\",\"freq\":868.1,\"imme\":false,\"ipol\":true,\"modu\":\"LORA\",\"ncrc\":true,\"powe\":14,\"rfch\":0,\"size\":1,\"tmst\":2000000}}";
+
+// The server, and the socket of gateway 9.
+#[derive(Drop)]
+struct Exchange<'a, R> {
+    rt: &'a R,
+    alloc: Global,
+    forwarders: &'a Forwarders,
+    server: SocketAddr,
+    gateway: &'a UdpSocket,
 }
 
-// The counts of the whole exchange begin so.
-fn are_counted<R: Abort>(rt: &R, exchange: &Exchange) -> Result<(), Fail> {
-    let counts = format!(in exchange.alloc; "{}", exchange.forwarders.counts())?;
-    assert!(rt;
-        counts
-            .as_str()
-            .starts_with(" push 2 pull 1 tx_ack 0 acknowledged 3 frames 2 ")
-    );
-    Ok(())
+impl<R: Abort + Wait + time::Clock> Exchange<'_, R> {
+    // What comes next to the server is this, with these bytes at the front of the buffer.
+    fn is_next(&self, pending: &mut Pending, want: Event, datagram: &[u8]) -> Result<(), Fail> {
+        let mut buf = [0; 512];
+        let event = self
+            .forwarders
+            .next(self.rt, self.alloc, pending, &mut buf)?;
+        assert!(self.rt; event == want);
+        assert!(self.rt; buf.starts_with(datagram));
+        Ok(())
+    }
+
+    // The gateway is answered by this.
+    fn is_answered(&self, answer: &[u8]) -> Result<(), Fail> {
+        let mut buf = [0; 512];
+        let n = self.gateway.recv(&mut buf)?;
+        assert!(self.rt; n == answer.len() && buf.starts_with(answer));
+        Ok(())
+    }
+
+    // The frames of a push become datagrams one after the other, and each push is acknowledged, also one of another body.
+    fn pushes_are_heard(&self, pending: &mut Pending) -> Result<(), Fail> {
+        self.gateway.send_to(PUSH, self.server)?;
+        self.is_next(pending, Event::Datagram(29), &FIRST)?;
+        self.is_answered(&[2, 7, 8, 1])?;
+        self.is_next(pending, Event::Datagram(30), &SECOND)?;
+        self.gateway.send_to(OTHER, self.server)?;
+        self.is_next(pending, Event::Refused(ForwarderFault::Body), &[])?;
+        self.is_answered(&[2, 7, 8, 1])
+    }
+
+    // A pull is acknowledged, and downlinks have a route from then on.
+    fn pull_is_heard(&self, pending: &mut Pending) -> Result<(), Fail> {
+        assert!(self.rt; self.forwarders.route(self.rt, GatewayId(9)).is_none());
+        self.gateway.send_to(&pull(9), self.server)?;
+        self.is_next(pending, Event::Message, &[])?;
+        self.is_answered(&[2, 7, 8, 4])
+    }
+
+    // A downlink reaches the gateway.
+    fn downlink_is_sent(&self) -> Result<(), Fail> {
+        let route = self
+            .forwarders
+            .route(self.rt, GatewayId(9))
+            .ok_or("no route")?;
+        assert!(self.rt; self.forwarders.send(self.alloc, route, &TARGET, &[1]));
+        self.is_answered(DOWNLINK)
+    }
+
+    // The counts of the whole exchange begin so.
+    fn is_counted(&self) -> Result<(), Fail> {
+        let counts = format!(in self.alloc; "{}", self.forwarders.counts())?;
+        assert!(self.rt;
+            counts
+                .as_str()
+                .starts_with(" push 2 pull 1 tx_ack 0 acknowledged 3 frames 2 ")
+        );
+        Ok(())
+    }
+
+    // All of it, one after the other.
+    fn is_held(&self) -> Result<(), Fail> {
+        let mut pending = Pending::new(self.alloc)?;
+        self.pushes_are_heard(&mut pending)?;
+        self.pull_is_heard(&mut pending)?;
+        self.downlink_is_sent()?;
+        self.is_counted()
+    }
 }
 
 #[test]
 fn a_forwarder_is_heard_and_answered(rt: HostRuntime) -> Result<(), Fail> {
-    let exchange = on_this_machine(&rt)?;
-    let mut pending = Pending::new(rt.alloc())?;
-    push_is_taken(&rt, &exchange, &mut pending)?;
-    other_push_is_refused(&rt, &exchange, &mut pending)?;
-    let route = pull_makes_a_route(&rt, &exchange, &mut pending)?;
-    downlink_is_sent(&rt, &exchange, route)?;
-    are_counted(&rt, &exchange)
+    let gateway = local(&rt)?;
+    let (forwarders, server) = server(&rt)?;
+    let exchange = Exchange {
+        rt: &rt,
+        alloc: rt.alloc(),
+        forwarders: &forwarders,
+        server,
+        gateway: &gateway,
+    };
+    exchange.is_held()
 }

@@ -173,8 +173,8 @@ fn lines_are_written_once(rt: HostRuntime) -> Result<(), AllocError> {
     recorder.put(&rt, &Told::new("d", None));
     assert!(rt; recorder.write(&rt).is_ok());
     let disk = recorder.into_disk();
-    assert_eq!(rt; disk.calls, 6);
-    assert_eq!(rt; disk.steps.as_slice(), b"b\na\nc\nd\n".as_slice());
-    assert_eq!(rt; disk.ups.as_slice(), b"up a\nup c\n".as_slice());
+    assert!(rt; disk.calls == 6);
+    assert!(rt; disk.steps.as_slice() == b"b\na\nc\nd\n".as_slice());
+    assert!(rt; disk.ups.as_slice() == b"up a\nup c\n".as_slice());
     Ok(())
 }

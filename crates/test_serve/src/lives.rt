@@ -268,24 +268,20 @@ fn lives_are_one_run(rt: HostRuntime) -> Result<(), Fail> {
         },
     );
     let outputs = outputs?;
-    assert_eq!(rt; acks, Some([0, 1, 1]));
+    assert!(rt; acks == Some([0, 1, 1]));
     assert!(rt; ended.looks.load(Ordering::SeqCst) >= 3);
     let mut of_both = ups(alloc, outputs[0].as_slice())?;
-    assert_eq!(rt;
-        of_both.as_str(),
-        "up 000000000000000d 1 0 1 plain - 74657374 1 00000000000000a1\nup 000000000000000d 1 1 1 plain - 74657374 1 00000000000000a1\n"
+    assert!(rt;
+        of_both.as_str()
+            == "up 000000000000000d 1 0 1 plain - 74657374 1 00000000000000a1\nup 000000000000000d 1 1 1 plain - 74657374 1 00000000000000a1\n"
     );
     let second = ups(alloc, outputs[1].as_slice())?;
-    assert_eq!(rt;
-        second.as_str(),
-        "up 000000000000000d 1 2 1 plain - 74657374 1 00000000000000a1\n"
+    assert!(rt;
+        second.as_str() == "up 000000000000000d 1 2 1 plain - 74657374 1 00000000000000a1\n"
     );
     of_both.push_str(second.as_str())?;
-    assert_eq!(rt;
-        bytes_of(&rt, alloc, FOLDER, "up")?.as_slice(),
-        of_both.as_bytes()
-    );
-    assert_eq!(rt; ups(alloc, outputs[2].as_slice())?.as_str(), "");
+    assert!(rt; bytes_of(&rt, alloc, FOLDER, "up")?.as_slice() == of_both.as_bytes());
+    assert!(rt; ups(alloc, outputs[2].as_slice())?.as_str() == "");
     fs::remove_dir_all(&rt, FOLDER)?;
     fs::remove_dir_all(&rt, KILLED)?;
     Ok(())

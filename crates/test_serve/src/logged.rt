@@ -118,12 +118,12 @@ where
 fn counts_are_logged_each_minute(rt: HostRuntime) -> Result<(), Fail> {
     let alloc: Global = rt.alloc();
     let around = logging(&rt, alloc, "ns_serve_parts::counts=info", BEGIN_MS)?;
-    assert_eq!(rt; both_minutes(&around, alloc)?, Ok(4));
+    assert!(rt; both_minutes(&around, alloc)? == Ok(4));
     let mut want = counts(alloc, 3, 0, 2, 1)?;
     want.push_str(counts(alloc, 4, 0, 3, 1)?.as_str())?;
     want.push_str(counts(alloc, 5, 1, 3, 1)?.as_str())?;
     let lines = around.into_log().into_inner().into_inner();
-    assert_eq!(rt; lines.as_slice(), want.as_bytes());
+    assert!(rt; lines.as_slice() == want.as_bytes());
     Ok(())
 }
 
@@ -162,11 +162,11 @@ where
 fn refusals_are_counted(rt: HostRuntime) -> Result<(), Fail> {
     let alloc: Global = rt.alloc();
     let around = logging(&rt, alloc, "ns_serve_parts::counts=info", 0)?;
-    assert_eq!(rt; refusals(&around, alloc)?, Ok(0));
+    assert!(rt; refusals(&around, alloc)? == Ok(0));
     let lines = around.into_log().into_inner().into_inner();
     let want =
         b"[INFO  ns_serve_parts::counts] datagrams: read 4 dropped 0 late 0 failed receives 0 G1 2 G2 0 G3 0 G4 0 G5 0 G6 1 V1 0 V2 0 V3 0 V4 1 V5 0 V6 0\n";
-    assert_eq!(rt; lines.as_slice().starts_with(want), true);
+    assert!(rt; lines.as_slice().starts_with(want));
     Ok(())
 }
 
@@ -217,10 +217,10 @@ fn want_of_memory_is_logged(rt: HostRuntime) -> Result<(), Fail> {
         let lines = around.into_log().into_inner().into_inner();
         let is_logged = has_error(lines.as_slice());
         if ended == Ok(0) {
-            assert_eq!(rt; (is_logged, blocks > 0), (false, true));
+            assert!(rt; !is_logged && blocks > 0);
             return Ok(());
         }
-        assert_eq!(rt; (ended, is_logged), (Err(ServeFault::NoMemory), true));
+        assert!(rt; ended == Err(ServeFault::NoMemory) && is_logged);
         blocks = if blocks == 0 {
             1
         } else {

@@ -78,19 +78,16 @@ fn steps_are_written_before(rt: HostRuntime) -> Result<(), Fail> {
         None,
     )?;
     record_call(&rt, &state, &closed(0));
-    assert_eq!(rt;
-        bytes_of(&rt, alloc, FOLDER, "steps")?.as_slice(),
-        b"".as_slice()
-    );
+    assert!(rt; bytes_of(&rt, alloc, FOLDER, "steps")?.as_slice() == b"".as_slice());
     assert!(rt; !ToSocket { state: &state }.send(&rt, &downlink()));
     let first = b"close 000000000000000d 1 0\n".as_slice();
-    assert_eq!(rt; bytes_of(&rt, alloc, FOLDER, "steps")?.as_slice(), first);
+    assert!(rt; bytes_of(&rt, alloc, FOLDER, "steps")?.as_slice() == first);
     record_call(&rt, &state, &closed(1));
     let mut output: Vec<u8> = Vec::new(alloc);
     let mut writer = AfterRecord::new(&rt, &state, OverStd::new(&mut output));
     assert!(rt; writer.write(b"up\n").is_ok());
     let both = b"close 000000000000000d 1 0\nclose 000000000000000d 1 1\n".as_slice();
-    assert_eq!(rt; bytes_of(&rt, alloc, FOLDER, "steps")?.as_slice(), both);
+    assert!(rt; bytes_of(&rt, alloc, FOLDER, "steps")?.as_slice() == both);
     fs::remove_dir_all(&rt, FOLDER)?;
     Ok(())
 }

@@ -105,6 +105,6 @@ fn is_refused(alloc: Global, index: usize, steps: Steps) -> Option<bool> {
 // run.
 #[test]
 fn memory_refused_to_a_run(rt: HostRuntime) {
-    assert_eq!(rt; is_refused(rt.alloc(), 13, WORKED), Some(true));
-    assert_eq!(rt; is_refused(rt.alloc(), 14, UNKNOWN), Some(true));
+    assert!(rt; is_refused(rt.alloc(), 13, WORKED) == Some(true));
+    assert!(rt; is_refused(rt.alloc(), 14, UNKNOWN) == Some(true));
 }

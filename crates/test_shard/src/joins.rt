@@ -136,7 +136,7 @@ fn other_steps(alloc: Global) -> Option<Option<&'static str>> {
 
 #[test]
 fn the_plain_server_replies_alike(rt: HostRuntime) {
-    assert_eq!(rt; other_steps(rt.alloc()), Some(None));
+    assert!(rt; other_steps(rt.alloc()) == Some(None));
 }
 
 // The line of the last round that there is.

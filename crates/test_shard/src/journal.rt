@@ -29,13 +29,13 @@ fn add(journal: &mut Journal, fcnt: u32) -> Result<u64, AllocError> {
 #[test]
 fn refused_room_changes_nothing(rt: HostRuntime) -> Result<(), Fail> {
     let mut journal = Journal::new(rt.alloc());
-    assert_eq!(rt; add(&mut journal, 7)?, 0);
+    assert!(rt; add(&mut journal, 7)? == 0);
     for n in [usize::MAX, usize::MAX / 2, 1 << 46] {
-        assert_eq!(rt; journal.room(n), Err(AllocError));
+        assert!(rt; journal.room(n) == Err(AllocError));
     }
-    assert_eq!(rt; journal.made(), 1);
-    assert_eq!(rt; journal.entries().len(), 1);
-    assert_eq!(rt; add(&mut journal, 8)?, 1);
+    assert!(rt; journal.made() == 1);
+    assert!(rt; journal.entries().len() == 1);
+    assert!(rt; add(&mut journal, 8)? == 1);
     Ok(())
 }
 
@@ -55,11 +55,11 @@ fn reserved_room_outlasts_a_refusal(rt: HostRuntime) -> Result<(), Fail> {
     for all in [false, true] {
         let mut journal = Journal::new(rt.alloc());
         journal.room(2)?;
-        assert_eq!(rt; journal.push_reserving(closing(9), Reply::NoWindow), 0);
-        assert_eq!(rt; cut(&mut journal, rt.alloc(), all)?, usize::from(all));
-        assert_eq!(rt; journal.room(usize::MAX), Err(AllocError));
-        assert_eq!(rt; journal.push_reserved(closing(9), Reply::NoWindow), 1);
-        assert_eq!(rt; journal.made(), 2);
+        assert!(rt; journal.push_reserving(closing(9), Reply::NoWindow) == 0);
+        assert!(rt; cut(&mut journal, rt.alloc(), all)? == usize::from(all));
+        assert!(rt; journal.room(usize::MAX) == Err(AllocError));
+        assert!(rt; journal.push_reserved(closing(9), Reply::NoWindow) == 1);
+        assert!(rt; journal.made() == 2);
     }
     Ok(())
 }
@@ -73,7 +73,7 @@ fn growth_and_cut_take_no_more_than_they_need(rt: HostRuntime) -> Result<(), Fai
         add(&mut journal, fcnt)?;
     }
     let grown = grown_and_cut(&mut journal, rt.alloc())?;
-    assert_eq!(rt; grown, (true, true, true));
+    assert!(rt; grown == (true, true, true));
     Ok(())
 }
 

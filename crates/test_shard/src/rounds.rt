@@ -27,7 +27,7 @@ fn rounds_of_the_greatest_counter(rt: HostRuntime) -> Result<(), Fail> {
     are_next(&rt, &state, &[(1, 2, None)]);
     let (session, counter) = state.fit(Recovery::Above, &frame).ok_or("no session")?;
     state.open(session, counter);
-    assert_eq!(rt; (session, counter), (1, 2));
+    assert!(rt; session == 1 && counter == 2);
     are_next(&rt, &state, &[(1, 2, Some(2)), (1, 1, None), (2, 2, None)]);
     for (round, next) in [
         (2, Some(3)),
@@ -59,6 +59,6 @@ fn joined() -> DeviceState {
 // The next rounds of sessions' counters.
 fn are_next<R: Abort>(rt: &R, state: &DeviceState, rounds: &[(u32, u32, Option<u32>)]) {
     for &(session, counter, round) in rounds {
-        assert_eq!(rt; state.next_round(session, counter), round);
+        assert!(rt; state.next_round(session, counter) == round);
     }
 }

@@ -54,7 +54,7 @@ fn asked(alloc: Global, bytes: &[u8], most: usize) -> Result<Result<Request, Req
 fn requests_in_pieces(rt: HostRuntime) -> Result<(), Fail> {
     for (text, wanted) in REQUESTS {
         for most in 1..40 {
-            assert_eq!(rt; asked(rt.alloc(), text.as_bytes(), most)?, wanted);
+            assert!(rt; asked(rt.alloc(), text.as_bytes(), most)? == wanted);
         }
     }
     Ok(())
@@ -73,7 +73,7 @@ fn longest_heads(rt: HostRuntime) -> Result<(), Fail> {
             text.push_str("a")?;
         }
         text.push_str("\r\n\r\n")?;
-        assert_eq!(rt; asked(alloc, text.as_str().as_bytes(), 1000)?, wanted);
+        assert!(rt; asked(alloc, text.as_str().as_bytes(), 1000)? == wanted);
     }
     Ok(())
 }

@@ -33,9 +33,9 @@ fn lists(rt: HostRuntime) -> Result<(), Fail> {
     put_devices(alloc, &mut text, true, &[(DevEui(13), silent)])?;
     put_devices(alloc, &mut text, false, &[(DevEui(14), heard)])?;
     put_end(&mut text)?;
-    assert_eq!(rt;
-        text.as_str(),
-        "{\"nowMs\":61000,\"startMs\":1764017000123,\"devices\":[\n{\"devAddr\":\"49be7df1\",\"devEui\":\"000000000000000d\",\"fCnt\":null,\"gatewayId\":null,\"heardMs\":null,\"missed\":0,\"session\":1,\"sinceMs\":1500},\n{\"devAddr\":\"49be7df1\",\"devEui\":\"000000000000000e\",\"fCnt\":9,\"gatewayId\":\"00000000000000a1\",\"heardMs\":60000,\"missed\":7,\"session\":2,\"sinceMs\":1500}\n]}\n"
+    assert!(rt;
+        text.as_str()
+            == "{\"nowMs\":61000,\"startMs\":1764017000123,\"devices\":[\n{\"devAddr\":\"49be7df1\",\"devEui\":\"000000000000000d\",\"fCnt\":null,\"gatewayId\":null,\"heardMs\":null,\"missed\":0,\"session\":1,\"sinceMs\":1500},\n{\"devAddr\":\"49be7df1\",\"devEui\":\"000000000000000e\",\"fCnt\":9,\"gatewayId\":\"00000000000000a1\",\"heardMs\":60000,\"missed\":7,\"session\":2,\"sinceMs\":1500}\n]}\n"
     );
     let gateway = Gateway {
         frames: 5,
@@ -43,9 +43,8 @@ fn lists(rt: HostRuntime) -> Result<(), Fail> {
     };
     text.clear();
     put_gateways(alloc, &mut text, true, &[(GatewayId(0xa1), gateway)])?;
-    assert_eq!(rt;
-        text.as_str(),
-        "\n{\"frames\":5,\"gatewayId\":\"00000000000000a1\",\"heardMs\":60000}"
+    assert!(rt;
+        text.as_str() == "\n{\"frames\":5,\"gatewayId\":\"00000000000000a1\",\"heardMs\":60000}"
     );
     Ok(())
 }

@@ -7,30 +7,52 @@ use ns_roster::field::{eui_text, hex_bytes, list_at, net_id_text, text_at, value
 use ns_roster::{Device, Roster};
 use ns_types::{DevEui, DevNonce, JoinEui};
 use std::alloc::{AllocError, Global};
+use std::fmt::Write;
 
-// A device of a roster: DevEUI, JoinEUI, slot, last nonce and address.
-fn device_text(alloc: Global, roster: &Roster, device: &Device) -> Result<String, AllocError>
+// Adds a word, behind what stands between it and the one before.
+fn add(
+    line: &mut String,
+    between: &str,
+    word: Result<String, AllocError>,
+) -> Result<(), AllocError> {
+    line.push_str(between)?;
+    line.push_str(word?.as_str())
+}
+
+// Adds a device of a roster: DevEUI, JoinEUI, slot, last nonce and address.
+fn add_device(
+    alloc: Global,
+    line: &mut String,
+    roster: &Roster,
+    device: &Device,
+) -> Result<(), AllocError>
     requires { Contains roster.now.devices device.now }
 {
-    let dev_eui = eui_text(alloc, device.eui.0)?;
-    let join_eui = eui_text(alloc, device.join_eui.0)?;
-    let addr = hex::encode(alloc, roster.device_addr(device).0.to_be_bytes())?;
-    let nonce = match device.last_nonce {
-        Some(nonce) => format!(in alloc; "{}", nonce.0)?,
-        None => String::from_str(alloc, "-")?,
-    };
-    format!(in alloc; "{dev_eui} {join_eui} {} {nonce} {addr}", device.slot)
+    let addr = roster.device_addr(device).0.to_be_bytes();
+    add(line, "", eui_text(alloc, device.eui.0))?;
+    add(line, " ", eui_text(alloc, device.join_eui.0))?;
+    match device.last_nonce {
+        Some(nonce) => write!(line, " {} {}", device.slot, nonce.0)?,
+        None => write!(line, " {} -", device.slot)?,
+    }
+    add(line, " ", hex::encode(alloc, addr))
+}
+
+// Adds a network, and a line for each device.
+fn add_roster(alloc: Global, lines: &mut String, roster: &Roster) -> Result<(), AllocError> {
+    add(lines, "", net_id_text(alloc, roster.net_id()))?;
+    write!(lines, " {} {}", roster.rx1_offset(), roster.rx_delay())?;
+    for device in roster.devices() {
+        lines.push_str("\n")?;
+        add_device(alloc, lines, roster, device)?;
+    }
+    Ok(())
 }
 
 /// What a roster holds, a line for the network and for each device.
 pub fn lines_of(alloc: Global, roster: &Roster) -> Result<String, AllocError> {
-    let net_id = net_id_text(alloc, roster.net_id())?;
-    let mut lines = format!(in alloc; "{net_id} {} {}", roster.rx1_offset(), roster.rx_delay())?;
-    for device in roster.devices() {
-        let device = device_text(alloc, roster, device)?;
-        lines.push_str("\n")?;
-        lines.push_str(device.as_str())?;
-    }
+    let mut lines = String::new(alloc);
+    add_roster(alloc, &mut lines, roster)?;
     Ok(lines)
 }
 
@@ -58,10 +80,12 @@ pub fn found(alloc: Global, text: &[u8], digits: &str) -> Result<String, AllocEr
     let Ok(roster) = Roster::read(alloc, text) else {
         return String::from_str(alloc, "no roster");
     };
+    let mut line = String::new(alloc);
     match roster.find(DevEui(eui(digits))) {
-        Some(device) => device_text(alloc, &roster, device),
-        None => String::from_str(alloc, "no device"),
+        Some(device) => add_device(alloc, &mut line, &roster, device)?,
+        None => line.push_str("no device")?,
     }
+    Ok(line)
 }
 
 /// Whether a text's roster has a device of this DevEUI and JoinEUI.

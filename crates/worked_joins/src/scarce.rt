@@ -130,6 +130,22 @@ fn try_once(alloc: Global, server: &mut TestJoinServer, tried: Try<'_>) -> Optio
     }
 }
 
+// Gives blocks back one by one, and tries behind each, until that is not refused memory. None where it is to the end.
+fn behind_blocks(
+    alloc: Global,
+    server: &mut TestJoinServer,
+    tried: Try<'_>,
+    held: &mut Vec<Vec<u8>>,
+) -> Option<Done> {
+    for _ in 0..100_000u32 {
+        held.pop()?;
+        if let Some(done) = try_once(alloc, server, tried) {
+            return Some(done);
+        }
+    }
+    None
+}
+
 // Tries until it is not refused memory. None where it was not refused before, or is to the end.
 fn until_done(
     alloc: Global,
@@ -138,17 +154,22 @@ fn until_done(
 ) -> Result<Option<Done>, AllocError> {
     let mut held: Vec<Vec<u8>> = Vec::with_capacity(alloc, BLOCKS)?;
     take_all(alloc, &mut held)?;
-    let mut refused = false;
-    for _ in 0..100_000u32 {
-        if let Some(done) = try_once(alloc, server, tried) {
-            return Ok(if refused { Some(done) } else { None });
-        }
-        refused = true;
-        if held.pop().is_none() {
-            break;
+    if try_once(alloc, server, tried).is_some() {
+        return Ok(None);
+    }
+    Ok(behind_blocks(alloc, server, tried, &mut held))
+}
+
+impl Done {
+    // What came, as text.
+    fn text(self, alloc: Global) -> Result<String, AllocError> {
+        match self {
+            Done::Roster(roster) => lines_of(alloc, &roster),
+            Done::Answer(answer) => parts(alloc, &answer),
+            Done::Text(text) => Ok(text),
+            Done::Fault => String::from_str(alloc, "a fault"),
         }
     }
-    Ok(None)
 }
 
 /// What comes of a try in the end, where it was refused memory before.
@@ -157,12 +178,11 @@ pub fn outcome(
     server: &mut TestJoinServer,
     tried: Try<'_>,
 ) -> Result<String, AllocError> {
-    let done = match until_done(alloc, server, tried)? {
-        Some(Done::Roster(roster)) => lines_of(alloc, &roster)?,
-        Some(Done::Answer(answer)) => parts(alloc, &answer)?,
-        Some(Done::Text(text)) => text,
-        Some(Done::Fault) => String::from_str(alloc, "a fault")?,
-        None => return String::from_str(alloc, "not refused"),
-    };
-    format!(in alloc; "refused, then {done}")
+    match until_done(alloc, server, tried)? {
+        Some(done) => {
+            let text = done.text(alloc)?;
+            format!(in alloc; "refused, then {text}")
+        }
+        None => String::from_str(alloc, "not refused"),
+    }
 }

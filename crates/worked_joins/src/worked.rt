@@ -48,11 +48,11 @@ impl Worked {
         let Some(step) = line.strip_prefix("> ") else {
             return Ok(String::from_str(alloc, line)?);
         };
-        let (word, text) = step.split_once(" ").unwrap_or((step, ""));
+        let (word, text) = halves(step);
         if self.set(alloc, word, text)? {
             return Ok(String::from_str(alloc, line)?);
         }
-        let answer = self.answer(alloc, word, text)?;
+        let answer = self.answer(alloc, step)?;
         Ok(format!(in alloc; "{line}\n{answer}")?)
     }
 
@@ -73,85 +73,80 @@ impl Worked {
     // The bytes of a text. `OLD => NEW` is the text that questions are about with the first OLD replaced.
     fn bytes(&self, alloc: Global, text: &str) -> anyhow::Result<Vec<u8>> {
         let Some((old, new)) = text.split_once(" => ") else {
-            return Ok(bytes_of(alloc, text)?);
+            return Ok(bytes_of(alloc, &[text])?);
         };
         let (before, behind) = self
             .text
             .split_once(old)
             .context("the old text is not there")?;
         let text = format!(in alloc; "{before}{new}{behind}")?;
-        Ok(bytes_of(alloc, text.as_str())?)
+        Ok(bytes_of(alloc, &[text.as_str()])?)
     }
 
-    // The bytes of a front, and behind it the text that questions are about.
-    fn response(&self, alloc: Global, front: &str) -> Result<Vec<u8>, AllocError> {
-        let text = format!(in alloc; "{front}{}", self.text)?;
-        bytes_of(alloc, text.as_str())
+    // The texts of a question.
+    fn texts(&self, alloc: Global, text: &str) -> anyhow::Result<Texts> {
+        Ok(Texts {
+            bytes: self.bytes(alloc, text)?,
+            base: bytes_of(alloc, &[self.text.as_str()])?,
+            response: bytes_of(alloc, &[text, self.text.as_str()])?,
+        })
     }
 
     // What a question comes to.
-    fn answer(&mut self, alloc: Global, word: &str, text: &str) -> anyhow::Result<String> {
-        let bytes = self.bytes(alloc, text)?;
-        let base = bytes_of(alloc, self.text.as_str())?;
-        let response = self.response(alloc, text)?;
-        let texts = Texts {
-            bytes: bytes.as_slice(),
-            base: base.as_slice(),
-            response: response.as_slice(),
+    fn answer(&mut self, alloc: Global, step: &str) -> anyhow::Result<String> {
+        let scarce = step.strip_prefix("scarce ");
+        let (word, text) = halves(scarce.unwrap_or(step));
+        let texts = self.texts(alloc, text)?;
+        let answer = if scarce.is_some() {
+            self.scarce(alloc, word, text, &texts)
+        } else {
+            self.answered(alloc, word, text, &texts)
         };
-        if word == "scarce" {
-            return Ok(self.scarce(alloc, text)?);
-        }
-        Ok(self.answered(alloc, word, text, texts)?)
+        Ok(answer?)
     }
 
-    // What a question about these texts comes to.
+    // What is asked of join servers.
+    fn asked(&self) -> Asked<'_> {
+        Asked {
+            message: self.message.as_str(),
+            transaction: self.transaction,
+        }
+    }
+
+    // What a question about a roster or a message comes to.
     fn answered(
         &mut self,
         alloc: Global,
         word: &str,
         text: &str,
-        texts: Texts<'_>,
+        texts: &Texts,
     ) -> Result<String, AllocError> {
-        let asked = Asked {
-            message: self.message.as_str(),
-            transaction: self.transaction,
-        };
+        let (bytes, base) = (texts.bytes.as_slice(), texts.base.as_slice());
         match word {
-            "holds" => rosters::roster(alloc, texts.bytes),
-            "find" => rosters::found(alloc, texts.base, text),
-            "knows" => rosters::known(alloc, texts.base, text),
-            "field" => rosters::field(alloc, texts.base, text),
-            "question" => messages::question(alloc, texts.base, &ticket(text)),
-            "answer" => messages::answer(alloc, texts.bytes, asked.transaction),
-            "fronts" => messages::fronts(alloc, texts.base, asked.transaction),
-            "host" => exchanges::host(alloc, texts.bytes),
-            "exchange" => exchanges::response(alloc, asked, texts.response),
-            "written" => exchanges::written(alloc, asked, texts.response),
-            "ends" => exchanges::ends(alloc, asked, texts.response),
-            "failed_reads" => exchanges::failed_reads(alloc, asked, texts.response),
-            "failed_writes" => exchanges::failed_writes(alloc, asked, texts.response),
-            "decided" => exchanges::decided(alloc, asked, texts.bytes, texts.base),
-            "reply" => devices::reply(alloc, &mut self.server, texts.bytes),
+            "holds" => rosters::roster(alloc, bytes),
+            "find" => rosters::found(alloc, base, text),
+            "knows" => rosters::known(alloc, base, text),
+            "field" => rosters::field(alloc, base, text),
+            "question" => messages::question(alloc, base, &ticket(text)),
+            "answer" => messages::answer(alloc, bytes, self.transaction),
+            "fronts" => messages::fronts(alloc, base, self.transaction),
+            "words" => words(alloc),
+            "reply" => devices::reply(alloc, &mut self.server, bytes),
             "join_request" => devices::join_request(alloc, &self.device, text),
             "accept" => devices::accept(alloc, &mut self.device, text),
-            "words" => words(alloc),
-            _ => String::from_str(alloc, "no question"),
+            _ => exchanged(alloc, word, self.asked(), texts),
         }
     }
 
     // What a question comes to without memory.
-    fn scarce(&mut self, alloc: Global, question: &str) -> Result<String, AllocError> {
-        let (word, text) = question.split_once(" ").unwrap_or((question, ""));
-        let bytes = bytes_of(alloc, text)?;
-        let base = bytes_of(alloc, self.text.as_str())?;
-        let response = self.response(alloc, text)?;
-        let roster = Roster::read(alloc, base.as_slice()).ok();
-        let texts = Texts {
-            bytes: bytes.as_slice(),
-            base: base.as_slice(),
-            response: response.as_slice(),
-        };
+    fn scarce(
+        &mut self,
+        alloc: Global,
+        word: &str,
+        text: &str,
+        texts: &Texts,
+    ) -> Result<String, AllocError> {
+        let roster = Roster::read(alloc, texts.base.as_slice()).ok();
         let asked = Asked {
             message: self.message.as_str(),
             transaction: self.transaction,
@@ -164,11 +159,41 @@ impl Worked {
 }
 
 // The bytes of a question's text, those of the last `text`, and those of a response: the last `text` behind the question's.
-#[derive(Clone, Copy)]
-struct Texts<'a> {
-    bytes: &'a [u8],
-    base: &'a [u8],
-    response: &'a [u8],
+#[derive(Drop)]
+struct Texts {
+    bytes: Vec<u8>,
+    base: Vec<u8>,
+    response: Vec<u8>,
+}
+
+// What a question about an exchange comes to.
+fn exchanged(
+    alloc: Global,
+    word: &str,
+    asked: Asked<'_>,
+    texts: &Texts,
+) -> Result<String, AllocError> {
+    let response = texts.response.as_slice();
+    match word {
+        "host" => exchanges::host(alloc, texts.bytes.as_slice()),
+        "exchange" => exchanges::response(alloc, asked, response),
+        "written" => exchanges::written(alloc, asked, response),
+        "ends" => exchanges::ends(alloc, asked, response),
+        "failed_reads" => exchanges::failed_reads(alloc, asked, response),
+        "failed_writes" => exchanges::failed_writes(alloc, asked, response),
+        "decided" => exchanges::decided(
+            alloc,
+            asked,
+            texts.bytes.as_slice(),
+            texts.base.as_slice(),
+        ),
+        _ => String::from_str(alloc, "no question"),
+    }
+}
+
+// A word, and the text behind it.
+fn halves(text: &str) -> (&str, &str) {
+    text.split_once(" ").unwrap_or((text, ""))
 }
 
 // The Join-Request of a text in hex.
@@ -181,16 +206,20 @@ fn tried<'a>(
     word: &str,
     asked: Asked<'a>,
     ticket: Ticket,
-    texts: Texts<'a>,
+    texts: &'a Texts,
     roster: Option<&'a Roster>,
 ) -> Option<Try<'a>> {
     match word {
-        "holds" => Some(Try::Read(texts.bytes)),
+        "holds" => Some(Try::Read(texts.bytes.as_slice())),
         "closing" => Some(Try::Close(roster?)),
         "question" => Some(Try::Question(roster?, ticket)),
-        "answer" => Some(Try::Answer(texts.bytes, asked.transaction)),
-        "exchange" => Some(Try::Exchange(asked.message, asked.transaction, texts.response)),
-        "reply" => Some(Try::Reply(texts.bytes)),
+        "answer" => Some(Try::Answer(texts.bytes.as_slice(), asked.transaction)),
+        "exchange" => Some(Try::Exchange(
+            asked.message,
+            asked.transaction,
+            texts.response.as_slice(),
+        )),
+        "reply" => Some(Try::Reply(texts.bytes.as_slice())),
         _ => None,
     }
 }
