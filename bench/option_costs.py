@@ -9,7 +9,8 @@ where it receives and does no more.
 Devices join (64, unless told otherwise), and each sends frames of 16 bytes, each heard by so many gateways (3); of the frames a part is
 confirmed (0.1). Of each way there are two runs, with few frames of each device and with many (10,60), which end by --stop-after; what
 is told is the difference of their instructions, for each datagram more. The system's own work is not counted. In all ways glibc maps blocks
-from 128 KiB on (its tunable `mmap_threshold`): else a start over a record lets it copy journals that grow. FILE gets what callgrind wrote of
+from 128 KiB on (its tunable `mmap_threshold`): else a start over a record lets it copy journals that grow; and it clears and copies without
+`rep stosb` and `rep movsb`, of which each byte would count as an instruction. FILE gets what callgrind wrote of
 the last run with many frames. Ends with status 1 where a run does not end well.
 """
 import argparse
@@ -108,7 +109,8 @@ def main():
         parser.add_argument('--' + name, type=kind, default=default, help=argparse.SUPPRESS)
     options = parser.parse_args()
     few, many = map(int, options.frames.split(','))
-    os.environ['GLIBC_TUNABLES'] = 'glibc.malloc.mmap_threshold=131072'
+    os.environ['GLIBC_TUNABLES'] = ('glibc.malloc.mmap_threshold=131072:glibc.cpu.x86_rep_stosb_threshold=1000000000:'
+                                    'glibc.cpu.x86_rep_movsb_threshold=1000000000')
     first, failed = None, False
     ways = WAYS + tuple((way, []) for way in PLAIN_WAYS if options.plain)
     for name, words in ways:

@@ -3,6 +3,7 @@ import json
 import os
 import resource
 import signal
+import socket
 import stat
 import subprocess
 import unittest
@@ -178,6 +179,19 @@ class Lives(Recorded):
         wait_for(lambda: len(self.lines(self.ups)) == 3, 'the lines')
         self.kill(server)
         self.said_again(roster)
+
+    def test_streams_that_are_closed(self):
+        """What is printed and logged where standard streams are closed does not get into the record, whose files are opened later."""
+        roster = self.roster([13])
+        with socket.socket(socket.AF_INET, socket.SOCK_DGRAM) as gateway:
+            gateway.bind(('127.0.0.1', 0))
+            port = gateway.getsockname()[1]
+        for closed in ('<&- >&-', '<&- 2>&-', '<&- >&- 2>&-'):
+            with self.subTest(closed), socket.socket(socket.AF_INET, socket.SOCK_DGRAM) as gateway:
+                words = [PROGRAM, 'serve', roster, '--join', '%s:%d' % NOWHERE, '--listen', '127.0.0.1:%d' % port, '--record', self.record]
+                child = subprocess.Popen(['sh', '-c', 'exec "$@" ' + closed, '', *words, '--stop-after', '1'], stdout=subprocess.DEVNULL)
+                wait_for(lambda: gateway.sendto(b'?', ('127.0.0.1', port)) and child.poll() is not None, 'the end')
+                self.assertEqual((self.bytes_of(self.steps), self.bytes_of(self.ups)), (b'', b''))
 
     def test_a_full_disk(self):
         """Where a write fails the server ends with status 1, and after that nothing was told that is not in the record."""

@@ -2,7 +2,7 @@
 //! ones, and then it is settled, checked and drained.
 //!
 //! It is the second example of docs/EMBEDDING.md. Its comments say what an embedder may rely on at each call, as the contract of that
-//! call states it.
+//! call states it, or of `Kept`, which lies under the lock.
 #![tactic(auto)]
 
 ghost use Rattle.std.specs.Prelude.{◌≡◌, IfOk};
@@ -48,13 +48,13 @@ pub fn served<B: Naming + Send + Sync, R: Threads + Wait + Print + Sync>(
     let (server, passes) = Server::<B>::new(alloc, roster, 2, blanks)?;
 
     // Each thread has a pass and shares the server. A call takes the lock of its shard alone; its receipt has the entry that it made,
-    // whose reply is the plain server's after the entries of the shard before it, and what goes out with it.
+    // whose reply is the plain server's after a history of the shard as long as its number, and what goes out with it.
     let done = all_work(rt, alloc, &server, passes, 0)?;
     let mut receipts = Vec::new(alloc);
     let passes = parted(alloc, done, &mut receipts)?;
 
-    // A trim takes the lock of one shard and hands out the entries on which no later answer rests. At most 208 entries of each device
-    // stay, with their numbers. Where it is refused memory nothing has changed.
+    // A trim takes the lock of one shard and hands out the entries on which no later answer rests. By `Kept::trim` at most 208 entries of
+    // each device stay, with their numbers, and where memory is refused nothing has changed.
     let dropped = trim_all(rt, alloc, &server)?;
     println!(rt; "{dropped} entries dropped")?;
 

@@ -25,9 +25,10 @@ use ns_roster::Roster;
 use ns_serve::{Begun, EndOfInput, ServeOptions, Stop, WaitingWriter, serve};
 use ns_types::OverStd;
 use ns_words::{Asked, BadWords, Recorded, read_words};
-use std::fs::File;
+use std::fs::{File, OpenOptions};
 use std::io;
 use std::net::{Net, TcpListener, TcpStream};
+use std::os::fd::{AsRawFd, IntoRawFd};
 use std::process::ExitCode;
 use std::rt::Files;
 use std::sync::{Arc, Wait};
@@ -165,7 +166,28 @@ impl Upkeep for NoRecord {
     fn look_after(&mut self, _record: &Recorder<RecordFiles>) {}
 }
 
+// Opens `/dev/null`, and leaves it open where its number is at most this one.
+fn hold_null<R: Files<File = File>>(rt: &R, how: &OpenOptions, most: i32) {
+    if let Ok(null) = how.open(rt, "/dev/null") {
+        if null.as_raw_fd() <= most {
+            let _ = null.into_raw_fd();
+        }
+    }
+}
+
+// Puts `/dev/null` in the place of standard input, output and error where they are closed: else a file that is opened later, as one of a
+// record, would get that number, and what is printed. To read or write there fails, as where it is closed.
+fn fill_closed<R: Files<File = File>>(rt: &R) {
+    let mut how = OpenOptions::new();
+    how.write(true);
+    hold_null(rt, &how, 0);
+    how.write(false).read(true);
+    hold_null(rt, &how, 2);
+    hold_null(rt, &how, 2);
+}
+
 fn main(rt: HostRuntime) -> ExitCode {
+    fill_closed(&rt);
     let Ok(filter) = read_filter(&rt) else {
         error!(Timed(&rt); "no memory for the value of {VARIABLE}");
         return ended(&rt, &Err(Fault::NoMemory));

@@ -1,16 +1,15 @@
 -- The inverse cipher, by the same look-ups and shuffles.
-use Rattle.std.proofs.Common.{◌≡◌, ℕ, eqb, true, List, [], ◌∷◌, map, length, bit_xor, refl, sym, ap, ◌∙◌, eqb-true}
+use Rattle.std.proofs.Common.{◌≡◌, ℕ, eqb, true, List, [], ◌∷◌, map, length, bit_xor, refl, sym, ap, ◌∙◌}
 use Rattle.std.proofs.lemmas.Nat.{xor_comm}
-use Rattle.std.proofs.lemmas.Simd.{zip2_of_maps, map-map}
+use Rattle.std.proofs.lemmas.Simd.{map-map}
 use lib.Lanes.{zip2}
-use lib.ListN.{get_or}
 use Rattle.ns_aes_cmac.specs.Aes.{product_of_bits, multiply, multiplicative_inverse, inverse_s_box, xor_bytes, mix_columns_by, sum_of_products, inverse_mix_columns, inverse_shift_rows, inverse_sub_bytes, round_keys_by, round_keys, inverse_rounds, unaes}
 use Rattle.ns_aes_cmac.proofs.Bytes.{all_below, agree_at}
-use Rattle.ns_aes_cmac.proofs.Rounds.{ten}
+use Rattle.ns_aes_cmac.proofs.Rounds.{ten, key_at}
 use Rattle.ns_aes_cmac.specs.declared.substitution.TheConstants.{BACK_INTO_LO, BACK_INTO_HI, BACK_I, BACK_J}
 use Rattle.ns_aes_cmac.specs.declared.round.TheConstants.{TIMES_9_LO, TIMES_9_HI, TIMES_11_LO, TIMES_11_HI, TIMES_13_LO, TIMES_13_HI, TIMES_14_LO, TIMES_14_HI}
 use Rattle.ns_aes_cmac.specs.Lookups.{look_at, half_i, half_j, by_halves}
-use Rattle.ns_aes_cmac.proofs.Lanes.{IsBlock, map_agree}
+use Rattle.ns_aes_cmac.proofs.Lanes.{IsBlock, looked_both, map_agree}
 use Rattle.ns_aes_cmac.proofs.Mix.{sixteen, picked, joined, turned, zip2_xor}
 
 abbrev into : ℕ → ℕ
@@ -26,9 +25,9 @@ all_back = refl
 pub inverse_substituted : (v : List ℕ) {w i j r : List ℕ} → IsBlock v → w ≡ map into v → i ≡ map half_i w → j ≡ map half_j w
     → r ≡ zip2 bit_xor (map (look_at BACK_I) i) (map (look_at BACK_J) j) → r ≡ inverse_sub_bytes v
 inverse_substituted v {w} {i} {j} {r} block ew ei ej er =
-    let ti = ap (map (look_at BACK_I)) (ei ∙ ap (map half_i) ew ∙ map-map half_i into v) ∙ map-map (look_at BACK_I) (λ b. half_i (into b)) v in
-    let tj = ap (map (look_at BACK_J)) (ej ∙ ap (map half_j) ew ∙ map-map half_j into v) ∙ map-map (look_at BACK_J) (λ b. half_j (into b)) v in
-    er ∙ zip2_of_maps bit_xor (λ b. look_at BACK_I (half_i (into b))) (λ b. look_at BACK_J (half_j (into b))) v ti tj
+    let ei' = ei ∙ ap (map half_i) ew ∙ map-map half_i into v in
+    let ej' = ej ∙ ap (map half_j) ew ∙ map-map half_j into v in
+    er ∙ looked_both BACK_I BACK_J (λ b. half_i (into b)) (λ b. half_j (into b)) v ei' refl ej' refl
     ∙ map_agree back inverse_s_box v block.1 (agree_at back inverse_s_box all_back)
 
 -- the products by a number, by the two look-ups of its tables
@@ -107,11 +106,7 @@ mixed_of v long =
 pub mixed_is : (v a b c d : List ℕ) → IsBlock v → a ≡ map (by_halves TIMES_14_LO TIMES_14_HI) v → b ≡ map (by_halves TIMES_11_LO TIMES_11_HI) v → c ≡ map (by_halves TIMES_13_LO TIMES_13_HI) v → d ≡ map (by_halves TIMES_9_LO TIMES_9_HI) v
     → mix_by_code a b c d ≡ inverse_mix_columns v
 mixed_is v a b c d block ea eb ec ed =
-    ap (λ l. mix_by_code l b c d) (ea ∙ times_14 v block)
-    ∙ ap (λ l. mix_by_code (map (multiply 14) v) l c d) (eb ∙ times_11 v block)
-    ∙ ap (λ l. mix_by_code (map (multiply 14) v) (map (multiply 11) v) l d) (ec ∙ times_13 v block)
-    ∙ ap (λ l. mix_by_code (map (multiply 14) v) (map (multiply 11) v) (map (multiply 13) v) l) (ed ∙ times_9 v block)
-    ∙ mixed_of v block.0
+    rw (ea ∙ times_14 v block, eb ∙ times_11 v block, ec ∙ times_13 v block, ed ∙ times_9 v block) (mixed_of v block.0)
 
 abbrev back_rows : List ℕ
 back_rows = 0 ∷ 13 ∷ 10 ∷ 7 ∷ 4 ∷ 1 ∷ 14 ∷ 11 ∷ 8 ∷ 5 ∷ 2 ∷ 15 ∷ 12 ∷ 9 ∷ 6 ∷ 3 ∷ []
@@ -125,34 +120,31 @@ last_is key v r long e = zip2_xor key r ∙ ap (xor_bytes key) (e ∙ ap inverse
 abbrev final : List ℕ → List ℕ → List ℕ
 final k s = xor_bytes k (inverse_sub_bytes (inverse_shift_rows s))
 
-abbrev full : List ℕ → List ℕ → List ℕ
-full k s = inverse_mix_columns (final k s)
+abbrev pub inverse_full : List ℕ → List ℕ → List ℕ
+inverse_full k s = inverse_mix_columns (final k s)
 
-step : (k l : List ℕ) (ks : List (List ℕ)) (s : List ℕ) → inverse_rounds (k ∷ l ∷ ks) s ≡ inverse_rounds (l ∷ ks) (full k s)
+pub inverse_rounds-next : (k l : List ℕ) (ks : List (List ℕ)) (s : List ℕ) → inverse_rounds (k ∷ l ∷ ks) s ≡ inverse_rounds (l ∷ ks) (inverse_full k s)
 unfolding inverse_rounds
-step k l ks s = refl
+inverse_rounds-next k l ks s = refl
 
-end : (k s : List ℕ) → inverse_rounds (k ∷ []) s ≡ final k s
+pub inverse_rounds-end : (k s : List ℕ) → inverse_rounds (k ∷ []) s ≡ final k s
 unfolding inverse_rounds
-end k s = refl
-
-abbrev key_at : List (List ℕ) → ℕ → List ℕ
-key_at ks i = get_or ks i []
+inverse_rounds-end k s = refl
 
 pub unaes_is : (ks : List (List ℕ)) (key block : List ℕ) (v1 v2 v3 v4 v5 v6 v7 v8 v9 r : List ℕ) → ks ≡ key ∷ round_keys key
-    → v1 ≡ full (key_at ks 9) (zip2 bit_xor (key_at ks 10) block)
-    → v2 ≡ full (key_at ks 8) v1
-    → v3 ≡ full (key_at ks 7) v2
-    → v4 ≡ full (key_at ks 6) v3
-    → v5 ≡ full (key_at ks 5) v4
-    → v6 ≡ full (key_at ks 4) v5
-    → v7 ≡ full (key_at ks 3) v6
-    → v8 ≡ full (key_at ks 2) v7
-    → v9 ≡ full (key_at ks 1) v8
+    → v1 ≡ inverse_full (key_at ks 9) (zip2 bit_xor (key_at ks 10) block)
+    → v2 ≡ inverse_full (key_at ks 8) v1
+    → v3 ≡ inverse_full (key_at ks 7) v2
+    → v4 ≡ inverse_full (key_at ks 6) v3
+    → v5 ≡ inverse_full (key_at ks 5) v4
+    → v6 ≡ inverse_full (key_at ks 4) v5
+    → v7 ≡ inverse_full (key_at ks 3) v6
+    → v8 ≡ inverse_full (key_at ks 2) v7
+    → v9 ≡ inverse_full (key_at ks 1) v8
     → r ≡ final (key_at ks 0) v9
     → r ≡ unaes key block
 unfolding unaes round_keys_by
 unaes_is ks key block v1 v2 v3 v4 v5 v6 v7 v8 v9 r e e1 e2 e3 e4 e5 e6 e7 e8 e9 e10 =
-    sym (ten inverse_rounds full final step end (key_at ks 9) (key_at ks 8) (key_at ks 7) (key_at ks 6) (key_at ks 5) (key_at ks 4) (key_at ks 3) (key_at ks 2) (key_at ks 1) (key_at ks 0) (zip2 bit_xor (key_at ks 10) block) v1 v2 v3 v4 v5 v6 v7 v8 v9 r e1 e2 e3 e4 e5 e6 e7 e8 e9 e10)
+    sym (ten inverse_rounds inverse_full final inverse_rounds-next inverse_rounds-end (key_at ks 9) (key_at ks 8) (key_at ks 7) (key_at ks 6) (key_at ks 5) (key_at ks 4) (key_at ks 3) (key_at ks 2) (key_at ks 1) (key_at ks 0) (zip2 bit_xor (key_at ks 10) block) v1 v2 v3 v4 v5 v6 v7 v8 v9 r e1 e2 e3 e4 e5 e6 e7 e8 e9 e10)
     ∙ ap (λ l. inverse_rounds (key_at l 9 ∷ key_at l 8 ∷ key_at l 7 ∷ key_at l 6 ∷ key_at l 5 ∷ key_at l 4 ∷ key_at l 3 ∷ key_at l 2 ∷ key_at l 1 ∷ key_at l 0 ∷ []) (zip2 bit_xor (key_at ks 10) block)) e
     ∙ ap (inverse_rounds (key_at (key ∷ round_keys key) 9 ∷ key_at (key ∷ round_keys key) 8 ∷ key_at (key ∷ round_keys key) 7 ∷ key_at (key ∷ round_keys key) 6 ∷ key_at (key ∷ round_keys key) 5 ∷ key_at (key ∷ round_keys key) 4 ∷ key_at (key ∷ round_keys key) 3 ∷ key_at (key ∷ round_keys key) 2 ∷ key_at (key ∷ round_keys key) 1 ∷ key_at (key ∷ round_keys key) 0 ∷ [])) (zip2_xor (key_at ks 10) block ∙ ap (λ l. xor_bytes (key_at l 10) block) e)

@@ -1,36 +1,26 @@
 -- A block doubled by lanes is the block doubled.
-use Rattle.std.proofs.Common.{◌≡◌, ◌≢◌, ℕ, ◌+◌, ◌*◌, ◌/◌, ◌%◌, ◌^◌, ◌<◌, eqb, true, List, [], ◌∷◌, ◌++◌, replicate, bit_xor, w8, Fits, refl, ap, ◌∙◌, arith, eqb-true, if◌then◌else◌, ◌==◌, inl, inr, ◌⊎◌}
+use Rattle.std.proofs.Common.{◌≡◌, ◌≢◌, ℕ, ◌+◌, ◌*◌, ◌/◌, ◌%◌, ◌^◌, ◌<◌, List, [], ◌∷◌, ◌++◌, replicate, bit_xor, w8, Fits, refl, ap, ◌∙◌, arith, if◌then◌else◌, ◌==◌, inl, inr, ◌⊎◌}
 use lib.ListN.{get_or}
 use Rattle.std.proofs.lemmas.Bool.Decides.{eqb_tells}
 use lib.Lanes.{Each1, zip2, pick_l}
 use Rattle.ns_aes_cmac.specs.Aes.{xor_bytes}
 use Rattle.ns_aes_cmac.specs.Cmac.{doubled, shifted_left}
-use Rattle.ns_aes_cmac.proofs.Bytes.{all_below, all_below-at}
+use Rattle.ns_aes_cmac.proofs.Bytes.{agree_at}
 use Rattle.ns_aes_cmac.proofs.Lanes.{IsBlock}
 use Rattle.ns_aes_cmac.proofs.Mix.{sixteen, joined}
 
-abbrev shifted_by : ℕ → ℕ → ℕ
-shifted_by t a = bit_xor (a * 2 % 256) t
+with_no_bit : (a : ℕ) → a < 256 → bit_xor (a * 2 % 256) 0 ≡ a * 2 % 256 + 0
+with_no_bit = agree_at (λ a. bit_xor (a * 2 % 256) 0) (λ a. a * 2 % 256 + 0) refl
 
-with_no_bit : all_below (λ a. eqb (shifted_by 0 a) (a * 2 % 256 + 0)) 256 ≡ true
-with_no_bit = refl
-
-with_a_bit : all_below (λ a. eqb (shifted_by 1 a) (a * 2 % 256 + 1)) 256 ≡ true
-with_a_bit = refl
+with_a_bit : (a : ℕ) → a < 256 → bit_xor (a * 2 % 256) 1 ≡ a * 2 % 256 + 1
+with_a_bit = agree_at (λ a. bit_xor (a * 2 % 256) 1) (λ a. a * 2 % 256 + 1) refl
 
 top_cases : (b : ℕ) → b < 256 → (b / 128 ≡ 0) ⊎ (b / 128 ≡ 1)
 top_cases b small = elim (eqb_tells (b / 128) 0) [ inl same ↦ inl same.1 | inr other ↦ (let differs : b / 128 ≢ 0 = other.1 in inr (omega arith)) ]
 
 -- a byte shifted left, and the top bit of the next one
 no_carry : (a b : ℕ) → a < 256 → b < 256 → bit_xor (a * 2 % 256) (b / 128) ≡ a * 2 % 256 + b / 128
-no_carry a b small_a small_b =
-    elim (top_cases b small_b) [
-      | inl e ↦ rw e (eqb-true _ _ (all_below-at (λ a. eqb (shifted_by 0 a) (a * 2 % 256 + 0)) 256 with_no_bit a small_a))
-      | inr e ↦ rw e (eqb-true _ _ (all_below-at (λ a. eqb (shifted_by 1 a) (a * 2 % 256 + 1)) 256 with_a_bit a small_a))
-    ]
-
-last_shifted : (a : ℕ) → a < 256 → bit_xor (a * 2 % 256) 0 ≡ a * 2 % 256 + 0
-last_shifted a small = eqb-true _ _ (all_below-at (λ a. eqb (shifted_by 0 a) (a * 2 % 256 + 0)) 256 with_no_bit a small)
+no_carry a b small_a small_b = elim (top_cases b small_b) [ inl e ↦ rw e (with_no_bit a small_a) | inr e ↦ rw e (with_a_bit a small_a) ]
 
 reduced : (b : ℕ) → b < 256 → 0x87 * (b / 128) ≡ (if b / 128 == 1 then 0x87 else 0)
 reduced b small = elim (top_cases b small) [ inl e ↦ rw e refl | inr e ↦ rw e refl ]
@@ -63,6 +53,6 @@ doubled_is v r block first =
     joined (ap (λ n. bit_xor n 0) (no_carry a12 a13 fits.1.1.1.1.1.1.1.1.1.1.1.1.0.fits fits.1.1.1.1.1.1.1.1.1.1.1.1.1.0.fits)) (
     joined (ap (λ n. bit_xor n 0) (no_carry a13 a14 fits.1.1.1.1.1.1.1.1.1.1.1.1.1.0.fits fits.1.1.1.1.1.1.1.1.1.1.1.1.1.1.0.fits)) (
     joined (ap (λ n. bit_xor n 0) (no_carry a14 a15 fits.1.1.1.1.1.1.1.1.1.1.1.1.1.1.0.fits fits.1.1.1.1.1.1.1.1.1.1.1.1.1.1.1.0.fits)) (
-    joined (ap (λ n. bit_xor n (0x87 * (r / 128))) (last_shifted a15 fits.1.1.1.1.1.1.1.1.1.1.1.1.1.1.1.0.fits) ∙ ap (bit_xor (a15 * 2 % 256 + 0)) (ap (λ b. 0x87 * (b / 128)) first ∙ reduced a0 fits.0.fits)) (
+    joined (ap (λ n. bit_xor n (0x87 * (r / 128))) (with_no_bit a15 fits.1.1.1.1.1.1.1.1.1.1.1.1.1.1.1.0.fits) ∙ ap (bit_xor (a15 * 2 % 256 + 0)) (ap (λ b. 0x87 * (b / 128)) first ∙ reduced a0 fits.0.fits)) (
     refl)))))))))))))))))
     v block.0 block.1 first

@@ -1,7 +1,7 @@
 -- The rounds in the basis are the rounds.
-use Rattle.std.proofs.Common.{◌≡◌, ℕ, ◌%◌, ◌<◌, eqb, true, List, [], ◌∷◌, map, length, replicate, bit_xor, w8, Fits, refl, sym, ap, subst, ◌∙◌, arith, eqb-true}
+use Rattle.std.proofs.Common.{◌≡◌, ℕ, ◌%◌, ◌<◌, eqb, true, List, [], ◌∷◌, map, length, replicate, bit_xor, w8, Fits, refl, sym, ap, subst, ◌∙◌, arith}
 use Rattle.std.proofs.lemmas.Nat.{xor_comm, xor_lt}
-use Rattle.std.proofs.lemmas.List.{length-map}
+use Rattle.std.proofs.lemmas.List.{length-map, map-id}
 use Rattle.std.proofs.lemmas.Simd.{zip2_splat, zip2_of_maps, map-map, splat_is_map}
 use lib.Bits.{xor_assoc, xor_zero_r}
 use lib.Lanes.{Each1, zip2}
@@ -9,17 +9,15 @@ use Rattle.ns_aes_cmac.specs.Aes.{product_of_bits, multiplicative_inverse, s_box
 use Rattle.ns_aes_cmac.specs.Basis.{from_basis, key_from_basis}
 use Rattle.ns_aes_cmac.specs.Lookups.{look_at, half_i, half_j, by_halves, by_inverse}
 use Rattle.ns_aes_cmac.specs.declared.substitution.TheConstants.{INTO_LO, INTO_HI, OUT_LO, OUT_HI, LAST_I, LAST_J, ONCE_I, ONCE_J, TWICE_I, TWICE_J}
-use Rattle.ns_aes_cmac.proofs.Bytes.{all_below, all_below-at}
-use Rattle.ns_aes_cmac.proofs.Lanes.{IsBlock, map_agree}
+use Rattle.ns_aes_cmac.proofs.Bytes.{all_below, all_below-at, agree_at}
+use Rattle.ns_aes_cmac.proofs.Lanes.{IsBlock, looked_both, map_agree}
 use Rattle.ns_aes_cmac.proofs.Mix.{sixteen, joined, picked, zip2_xor, mix_by_code, mixed_is, places_0, places_1, places_2, places_3}
 
 -- ---- tests of each byte
 
-pub same_by : (f g : ℕ → ℕ) → all_below (λ b. eqb (f b) (g b)) 256 ≡ true → (b : ℕ) → b < 256 → f b ≡ g b
-same_by f g test b fb = eqb-true _ _ (all_below-at (λ b. eqb (f b) (g b)) 256 test b fb)
-
+-- a function of a byte that gives a byte, by a test of each
 pub byte_by : (f : ℕ → ℕ) → all_below (λ b. eqb (f b % 256) (f b)) 256 ≡ true → (b : ℕ) → b < 256 → f b < 256
-byte_by f test b fb = subst (λ n. n < 256) (same_by (λ b. f b % 256) f test b fb) (omega arith)
+byte_by f test b fb = subst (λ n. n < 256) (agree_at (λ b. f b % 256) f test b fb) (omega arith)
 
 abbrev pub once : ℕ → ℕ
 once b = by_inverse ONCE_I ONCE_J b
@@ -56,13 +54,14 @@ unfolding from_basis
 all_linear = refl
 
 pub linear : (x y : ℕ) → x < 256 → y < 256 → from_basis (bit_xor x y) ≡ bit_xor (from_basis x) (from_basis y)
-linear x y fx fy = same_by (λ y. from_basis (bit_xor x y)) (λ y. bit_xor (from_basis x) (from_basis y)) (all_below-at (λ x. all_below (λ y. eqb (from_basis (bit_xor x y)) (bit_xor (from_basis x) (from_basis y))) 256) 256 all_linear x fx) y fy
+linear x y fx fy = agree_at (λ y. from_basis (bit_xor x y)) (λ y. bit_xor (from_basis x) (from_basis y)) (all_below-at (λ x. all_below (λ y. eqb (from_basis (bit_xor x y)) (bit_xor (from_basis x) (from_basis y))) 256) 256 all_linear x fx) y fy
 
 -- ---- one lane of a round
 
 pub xor_byte : (a b : ℕ) → a < 256 → b < 256 → bit_xor a b < 256
 xor_byte a b = xor_lt 8 a b
 
+-- (a b) (c d) with the middle ones changed round
 pub swap : (a b c d : ℕ) → bit_xor (bit_xor a b) (bit_xor c d) ≡ bit_xor (bit_xor a c) (bit_xor b d)
 swap a b c d =
     xor_assoc a b (bit_xor c d) ∙ ap (bit_xor a) (sym (xor_assoc b c d) ∙ ap (λ n. bit_xor n d) (xor_comm b c) ∙ xor_assoc c b d) ∙ sym (xor_assoc a c (bit_xor b d))
@@ -98,18 +97,11 @@ lane : (k a b c d : ℕ) → k < 256 → a < 256 → b < 256 → c < 256 → d <
     ≡ bit_xor (key_from_basis k) (bit_xor (bit_xor (xtime (s_box (from_basis a))) (bit_xor (xtime (s_box (from_basis b))) (s_box (from_basis b)))) (bit_xor (s_box (from_basis c)) (s_box (from_basis d))))
 unfolding key_from_basis
 lane k a b c d fk fa fb fc fd =
-    let t = λ (x : ℕ). bit_xor (from_basis (twice x)) 198 in
-    let o = λ (x : ℕ). bit_xor (from_basis (once x)) 99 in
-    let two : (x : ℕ) → x < 256 → bit_xor (from_basis (twice x)) 198 ≡ xtime (s_box (from_basis x)) = λ x fx. same_by (λ b. bit_xor (from_basis (twice b)) 198) (λ b. xtime (s_box (from_basis b))) all_twice x fx in
-    let one : (x : ℕ) → x < 256 → bit_xor (from_basis (once x)) 99 ≡ s_box (from_basis x) = λ x fx. same_by (λ b. bit_xor (from_basis (once b)) 99) (λ b. s_box (from_basis b)) all_once x fx in
-    let K = bit_xor (from_basis k) 99 in
-    spread k (twice a) (twice b) (once b) (once c) (once d) fk (byte_by twice all_twice_bytes a fa) (byte_by twice all_twice_bytes b fb) (byte_by once all_once_bytes b fb) (byte_by once all_once_bytes c fc) (byte_by once all_once_bytes d fd)
-    ∙ sym (cancelled (from_basis k) (from_basis (twice a)) (from_basis (twice b)) (from_basis (once b)) (from_basis (once c)) (from_basis (once d)))
-    ∙ ap (λ n. bit_xor K (bit_xor (bit_xor n (bit_xor (t b) (o b))) (bit_xor (o c) (o d)))) (two a fa)
-    ∙ ap (λ n. bit_xor K (bit_xor (bit_xor (xtime (s_box (from_basis a))) (bit_xor n (o b))) (bit_xor (o c) (o d)))) (two b fb)
-    ∙ ap (λ n. bit_xor K (bit_xor (bit_xor (xtime (s_box (from_basis a))) (bit_xor (xtime (s_box (from_basis b))) n)) (bit_xor (o c) (o d)))) (one b fb)
-    ∙ ap (λ n. bit_xor K (bit_xor (bit_xor (xtime (s_box (from_basis a))) (bit_xor (xtime (s_box (from_basis b))) (s_box (from_basis b)))) (bit_xor n (o d)))) (one c fc)
-    ∙ ap (λ n. bit_xor K (bit_xor (bit_xor (xtime (s_box (from_basis a))) (bit_xor (xtime (s_box (from_basis b))) (s_box (from_basis b)))) (bit_xor (s_box (from_basis c)) n))) (one d fd)
+    let two : (x : ℕ) → x < 256 → bit_xor (from_basis (twice x)) 198 ≡ xtime (s_box (from_basis x)) = λ x fx. agree_at (λ b. bit_xor (from_basis (twice b)) 198) (λ b. xtime (s_box (from_basis b))) all_twice x fx in
+    let one : (x : ℕ) → x < 256 → bit_xor (from_basis (once x)) 99 ≡ s_box (from_basis x) = λ x fx. agree_at (λ b. bit_xor (from_basis (once b)) 99) (λ b. s_box (from_basis b)) all_once x fx in
+    rw (← two a fa, ← two b fb, ← one b fb, ← one c fc, ← one d fd)
+    (spread k (twice a) (twice b) (once b) (once c) (once d) fk (byte_by twice all_twice_bytes a fa) (byte_by twice all_twice_bytes b fb) (byte_by once all_once_bytes b fb) (byte_by once all_once_bytes c fc) (byte_by once all_once_bytes d fd)
+    ∙ sym (cancelled (from_basis k) (from_basis (twice a)) (from_basis (twice b)) (from_basis (once b)) (from_basis (once c)) (from_basis (once d))))
 
 -- ---- sixteen lanes
 
@@ -169,11 +161,7 @@ round_is v key one two is_v is_key e f =
 pub to_basis_is : (v r : List ℕ) → IsBlock v → r ≡ map (by_halves INTO_LO INTO_HI) v → map from_basis r ≡ v
 to_basis_is v r is e =
     ap (map from_basis) e ∙ map-map from_basis (by_halves INTO_LO INTO_HI) v
-    ∙ map_agree (λ b. from_basis (by_halves INTO_LO INTO_HI b)) (λ b. b) v is.1 (same_by (λ b. from_basis (by_halves INTO_LO INTO_HI b)) (λ b. b) all_back) ∙ same v
-  where
-    same : (l : List ℕ) → map (λ b. b) l ≡ l
-    same [] = refl
-    same (x ∷ xs) = ap (λ l. x ∷ l) (same xs)
+    ∙ map_agree (λ b. from_basis (by_halves INTO_LO INTO_HI b)) (λ b. b) v is.1 (agree_at (λ b. from_basis (by_halves INTO_LO INTO_HI b)) (λ b. b) all_back) ∙ map-id v
 
 all_round_keys : all_below (λ b. eqb (key_from_basis (bit_xor b 91)) (from_basis b)) 256 ≡ true
 unfolding from_basis key_from_basis
@@ -182,7 +170,7 @@ all_round_keys = refl
 pub round_key_is : (v : List ℕ) → IsBlock v → map key_from_basis (zip2 bit_xor v (replicate 16 91)) ≡ map from_basis v
 round_key_is v is =
     ap (map key_from_basis) (zip2_splat bit_xor v 16 91 is.0) ∙ map-map key_from_basis (λ b. bit_xor b 91) v
-    ∙ map_agree (λ b. key_from_basis (bit_xor b 91)) from_basis v is.1 (same_by (λ b. key_from_basis (bit_xor b 91)) from_basis all_round_keys)
+    ∙ map_agree (λ b. key_from_basis (bit_xor b 91)) from_basis v is.1 (agree_at (λ b. key_from_basis (bit_xor b 91)) from_basis all_round_keys)
 
 pub from_basis_map : (v r : List ℕ) → r ≡ map (by_halves OUT_LO OUT_HI) v → r ≡ map from_basis v
 unfolding from_basis
@@ -194,13 +182,12 @@ key_from_basis_is v r is e = zip2_of_maps bit_xor (by_halves OUT_LO OUT_HI) (λ 
 
 pub in_basis_is : (u t v : List ℕ) {i j r : List ℕ} → i ≡ map half_i v → j ≡ map half_j v → r ≡ zip2 bit_xor (map (look_at u) i) (map (look_at t) j) → r ≡ map (by_inverse u t) v
 unfolding by_inverse
-in_basis_is u t v {i} {j} {r} ei ej er =
-    er ∙ zip2_of_maps bit_xor (λ b. look_at u (half_i b)) (λ b. look_at t (half_j b)) v (ap (map (look_at u)) ei ∙ map-map (look_at u) half_i v) (ap (map (look_at t)) ej ∙ map-map (look_at t) half_j v)
+in_basis_is u t v {i} {j} {r} ei ej er = er ∙ looked_both u t half_i half_j v ei refl ej refl
 
 pub from_basis_is : (v : List ℕ) {i j r : List ℕ} → IsBlock v → i ≡ map half_i v → j ≡ map half_j v → r ≡ zip2 bit_xor (map (look_at LAST_I) i) (map (look_at LAST_J) j) → zip2 bit_xor r (replicate 16 99) ≡ sub_bytes (map from_basis v)
 from_basis_is v {i} {j} {r} is ei ej er =
     zip2_of_maps bit_xor (λ b. bit_xor (look_at LAST_I (half_i b)) (look_at LAST_J (half_j b))) (λ b. 99) v
-    (er ∙ zip2_of_maps bit_xor (λ b. look_at LAST_I (half_i b)) (λ b. look_at LAST_J (half_j b)) v (ap (map (look_at LAST_I)) ei ∙ map-map (look_at LAST_I) half_i v) (ap (map (look_at LAST_J)) ej ∙ map-map (look_at LAST_J) half_j v))
+    (er ∙ looked_both LAST_I LAST_J half_i half_j v ei refl ej refl)
     (splat_is_map v 16 99 is.0)
-    ∙ map_agree (λ b. bit_xor (bit_xor (look_at LAST_I (half_i b)) (look_at LAST_J (half_j b))) 99) (λ b. s_box (from_basis b)) v is.1 (same_by (λ b. bit_xor (bit_xor (look_at LAST_I (half_i b)) (look_at LAST_J (half_j b))) 99) (λ b. s_box (from_basis b)) all_out)
+    ∙ map_agree (λ b. bit_xor (bit_xor (look_at LAST_I (half_i b)) (look_at LAST_J (half_j b))) 99) (λ b. s_box (from_basis b)) v is.1 (agree_at (λ b. bit_xor (bit_xor (look_at LAST_I (half_i b)) (look_at LAST_J (half_j b))) 99) (λ b. s_box (from_basis b)) all_out)
     ∙ sym (map-map s_box from_basis v)

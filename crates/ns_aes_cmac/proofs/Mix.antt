@@ -1,11 +1,11 @@
 -- The shuffles are the rows and columns of the definition.
-use Rattle.std.proofs.Common.{◌≡◌, ℕ, ◌<◌, eqb, Bool, true, List, [], ◌∷◌, map, length, ◌++◌, bit_xor, w8, Fits, refl, sym, ap, ◌∙◌, arith, eqb-true}
+use Rattle.std.proofs.Common.{◌≡◌, ℕ, ◌<◌, List, [], ◌∷◌, map, length, ◌++◌, bit_xor, w8, Fits, refl, sym, ap, ◌∙◌, arith}
 use Rattle.std.proofs.lemmas.List.{length-map}
 use Rattle.std.proofs.lemmas.Nat.{xor_comm}
 use lib.Bits.{xor_assoc}
 use lib.Lanes.{Each1, zip2, pick_l}
 use Rattle.ns_aes_cmac.specs.Aes.{product_of_bits, multiply, xtime, xor_bytes, mix_columns_by, mix_columns, shift_rows, sub_bytes, s_box, sum_of_products}
-use Rattle.ns_aes_cmac.proofs.Bytes.{all_below, all_below-at}
+use Rattle.ns_aes_cmac.proofs.Bytes.{agree_at}
 use Rattle.ns_aes_cmac.proofs.Lanes.{IsBlock}
 
 pub zip2_xor : (xs ys : List ℕ) → zip2 bit_xor xs ys ≡ xor_bytes xs ys
@@ -14,57 +14,23 @@ zip2_xor [] ys = refl
 zip2_xor (x ∷ xs) [] = refl
 zip2_xor (x ∷ xs) (y ∷ ys) = ap (λ l. bit_xor x y ∷ l) (zip2_xor xs ys)
 
-abbrev is_one : ℕ → Bool
-is_one b = eqb (multiply 1 b) b
-
-abbrev is_two : ℕ → Bool
-is_two b = eqb (multiply 2 b) (xtime b)
-
-abbrev is_three : ℕ → Bool
-is_three b = eqb (multiply 3 b) (bit_xor (xtime b) b)
-
-all_one : all_below is_one 256 ≡ true
-unfolding product_of_bits
-all_one = refl
-
-all_two : all_below is_two 256 ≡ true
-unfolding product_of_bits
-all_two = refl
-
-all_three : all_below is_three 256 ≡ true
-unfolding product_of_bits
-all_three = refl
-
 pub once : (b : ℕ) → b < 256 → multiply 1 b ≡ b
-once b h = eqb-true _ _ (all_below-at is_one 256 all_one b h)
+unfolding product_of_bits
+once = agree_at (multiply 1) (λ b. b) refl
 
 pub two_times : (b : ℕ) → b < 256 → multiply 2 b ≡ xtime b
-two_times b h = eqb-true _ _ (all_below-at is_two 256 all_two b h)
+unfolding product_of_bits
+two_times = agree_at (multiply 2) xtime refl
 
 pub three_times : (b : ℕ) → b < 256 → multiply 3 b ≡ bit_xor (xtime b) b
-three_times b h = eqb-true _ _ (all_below-at is_three 256 all_three b h)
+unfolding product_of_bits
+three_times = agree_at (multiply 3) (λ b. bit_xor (xtime b) b) refl
 
 -- ---- a block is 16 bytes
 
 pub sixteen : (P : List ℕ → Type 0) → ((a0 a1 a2 a3 a4 a5 a6 a7 a8 a9 a10 a11 a12 a13 a14 a15 : ℕ) → P (a0 ∷ a1 ∷ a2 ∷ a3 ∷ a4 ∷ a5 ∷ a6 ∷ a7 ∷ a8 ∷ a9 ∷ a10 ∷ a11 ∷ a12 ∷ a13 ∷ a14 ∷ a15 ∷ [])) → (v : List ℕ) → length v ≡ 16 → P v
-sixteen P f [] long = absurd (omega (arith, long))
-sixteen P f (a0 ∷ []) long = absurd (omega (arith, long))
-sixteen P f (a0 ∷ a1 ∷ []) long = absurd (omega (arith, long))
-sixteen P f (a0 ∷ a1 ∷ a2 ∷ []) long = absurd (omega (arith, long))
-sixteen P f (a0 ∷ a1 ∷ a2 ∷ a3 ∷ []) long = absurd (omega (arith, long))
-sixteen P f (a0 ∷ a1 ∷ a2 ∷ a3 ∷ a4 ∷ []) long = absurd (omega (arith, long))
-sixteen P f (a0 ∷ a1 ∷ a2 ∷ a3 ∷ a4 ∷ a5 ∷ []) long = absurd (omega (arith, long))
-sixteen P f (a0 ∷ a1 ∷ a2 ∷ a3 ∷ a4 ∷ a5 ∷ a6 ∷ []) long = absurd (omega (arith, long))
-sixteen P f (a0 ∷ a1 ∷ a2 ∷ a3 ∷ a4 ∷ a5 ∷ a6 ∷ a7 ∷ []) long = absurd (omega (arith, long))
-sixteen P f (a0 ∷ a1 ∷ a2 ∷ a3 ∷ a4 ∷ a5 ∷ a6 ∷ a7 ∷ a8 ∷ []) long = absurd (omega (arith, long))
-sixteen P f (a0 ∷ a1 ∷ a2 ∷ a3 ∷ a4 ∷ a5 ∷ a6 ∷ a7 ∷ a8 ∷ a9 ∷ []) long = absurd (omega (arith, long))
-sixteen P f (a0 ∷ a1 ∷ a2 ∷ a3 ∷ a4 ∷ a5 ∷ a6 ∷ a7 ∷ a8 ∷ a9 ∷ a10 ∷ []) long = absurd (omega (arith, long))
-sixteen P f (a0 ∷ a1 ∷ a2 ∷ a3 ∷ a4 ∷ a5 ∷ a6 ∷ a7 ∷ a8 ∷ a9 ∷ a10 ∷ a11 ∷ []) long = absurd (omega (arith, long))
-sixteen P f (a0 ∷ a1 ∷ a2 ∷ a3 ∷ a4 ∷ a5 ∷ a6 ∷ a7 ∷ a8 ∷ a9 ∷ a10 ∷ a11 ∷ a12 ∷ []) long = absurd (omega (arith, long))
-sixteen P f (a0 ∷ a1 ∷ a2 ∷ a3 ∷ a4 ∷ a5 ∷ a6 ∷ a7 ∷ a8 ∷ a9 ∷ a10 ∷ a11 ∷ a12 ∷ a13 ∷ []) long = absurd (omega (arith, long))
-sixteen P f (a0 ∷ a1 ∷ a2 ∷ a3 ∷ a4 ∷ a5 ∷ a6 ∷ a7 ∷ a8 ∷ a9 ∷ a10 ∷ a11 ∷ a12 ∷ a13 ∷ a14 ∷ []) long = absurd (omega (arith, long))
 sixteen P f (a0 ∷ a1 ∷ a2 ∷ a3 ∷ a4 ∷ a5 ∷ a6 ∷ a7 ∷ a8 ∷ a9 ∷ a10 ∷ a11 ∷ a12 ∷ a13 ∷ a14 ∷ a15 ∷ []) long = f a0 a1 a2 a3 a4 a5 a6 a7 a8 a9 a10 a11 a12 a13 a14 a15
-sixteen P f (a0 ∷ a1 ∷ a2 ∷ a3 ∷ a4 ∷ a5 ∷ a6 ∷ a7 ∷ a8 ∷ a9 ∷ a10 ∷ a11 ∷ a12 ∷ a13 ∷ a14 ∷ a15 ∷ q ∷ rest) long = absurd (omega (arith, long))
+sixteen P f v long = absurd (omega (arith, long))
 
 abbrev pub places_0 : List ℕ
 places_0 = 0 ∷ 5 ∷ 10 ∷ 15 ∷ 4 ∷ 9 ∷ 14 ∷ 3 ∷ 8 ∷ 13 ∷ 2 ∷ 7 ∷ 12 ∷ 1 ∷ 6 ∷ 11 ∷ []

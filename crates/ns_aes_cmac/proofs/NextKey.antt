@@ -6,10 +6,11 @@ use lib.Bits.{xor_assoc, xor_zero_r}
 use lib.Lanes.{Each1, zip2}
 use Rattle.ns_aes_cmac.specs.Aes.{s_box, sub_bytes, next_round_key}
 use Rattle.ns_aes_cmac.specs.Basis.{from_basis, key_from_basis}
+use Rattle.ns_aes_cmac.proofs.Bytes.{agree_at}
 use Rattle.ns_aes_cmac.proofs.Lanes.{IsBlock}
 use Rattle.ns_aes_cmac.proofs.Mix.{sixteen, joined, picked}
 use Rattle.ns_aes_cmac.proofs.Keys.{two_words, turned, shuffled, pairs, next_by_code, next_of}
-use Rattle.ns_aes_cmac.proofs.InBasis.{same_by, byte_by, linear, swap, xor_byte, once, all_once, all_once_bytes}
+use Rattle.ns_aes_cmac.proofs.InBasis.{byte_by, linear, swap, xor_byte, once, all_once, all_once_bytes}
 
 no_constant : key_from_basis 91 ≡ 0
 unfolding from_basis key_from_basis
@@ -29,7 +30,7 @@ unfolding key_from_basis
 word_lane m c x n fm fc fx e =
     let t = from_basis (once x) in
     let u = from_basis c in
-    let one : bit_xor t 99 ≡ s_box (from_basis x) = same_by (λ b. bit_xor (from_basis (once b)) 99) (λ b. s_box (from_basis b)) all_once x fx in
+    let one : bit_xor t 99 ≡ s_box (from_basis x) = agree_at (λ b. bit_xor (from_basis (once b)) 99) (λ b. s_box (from_basis b)) all_once x fx in
     let gone : bit_xor (bit_xor t 99) (bit_xor u 99) ≡ bit_xor t u = swap t 99 u 99 ∙ xor_zero_r (bit_xor t u) in
     linear (bit_xor m c) (once x) (xor_byte m c fm fc) (byte_by once all_once_bytes x fx)
     ∙ ap (λ k. bit_xor k t) (linear m c fm fc ∙ ap (λ k. bit_xor k u) e)

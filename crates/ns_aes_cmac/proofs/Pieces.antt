@@ -48,8 +48,7 @@ pub record IsCut (m taken pending : List ℕ) (n : ℕ) : Type 0 where
   pub parts : m ≡ taken ++ pending
 
 count_of : (taken pending : List ℕ) (n : ℕ) → length taken ≡ 16 * n → length pending ≤ 16 → (n ≡ 0) ⊎ (0 < length pending) → block_count (taken ++ pending) - 1 ≡ n
-count_of taken pending n whole fits (inl e) = rw length-append (omega arith)
-count_of taken pending n whole fits (inr h) = rw length-append (omega arith)
+count_of taken pending n whole fits ends = rw length-append (omega arith)
 
 abbrev state_at : List ℕ → List ℕ → ℕ → CmacState
 state_at key m n = record { key = key; chain = chained key m n; pending = block m n }
@@ -129,7 +128,7 @@ long key m front blocks last bytes s s1 s2 s3 r e parts f1 full f2 f3 f4 exact s
       whole = length-append (taken ++ (pending ++ front)) blocks ∙ omega (arith, whole1, exact);
       fits = fits;
       ends = inr some;
-      parts = ap (λ l. l ++ bytes) cut.parts ∙ ap (λ l. taken ++ pending ++ l) parts ∙ regrouped taken pending front blocks last;
+      parts = ap (λ l. l ++ bytes) cut.parts ∙ ap (λ l. taken ++ pending ++ l) parts ∙ simp append_assoc;
     } in
     let now : CmacState = record { key = key; chain = chained_from key (aes key (xor_bytes (chained key taken n) (pending ++ front))) blocks k; pending = [] ++ last } in
     let chain : chained_from key (aes key (xor_bytes (chained key taken n) (pending ++ front))) blocks k ≡ chained key ((taken ++ (pending ++ front)) ++ blocks) (n + 1 + k) =
@@ -137,9 +136,6 @@ long key m front blocks last bytes s s1 s2 s3 r e parts f1 full f2 f3 f4 exact s
     let reached : r ≡ now =
     f4 ∙ ap (λ (x : CmacState). kept x last) (f3 ∙ ap (λ (x : CmacState). after_blocks x blocks) (f2 ∙ ap after_pending (f1 ∙ ap (λ (x : CmacState). kept x front) is))) in
     reached ∙ ap (λ c. record { key = key; chain = c; pending = last }) chain ∙ sym (state_is key (m ++ bytes) ((taken ++ (pending ++ front)) ++ blocks) last (n + 1 + k) all)
-  where
-    regrouped : (taken pending front blocks last : List ℕ) → taken ++ pending ++ (front ++ (blocks ++ last)) ≡ ((taken ++ (pending ++ front)) ++ blocks) ++ last
-    regrouped taken pending front blocks last = simp append_assoc refl
 
 -- ---- the fields
 

@@ -5,19 +5,19 @@ use lib.ListN.{get_or}
 use Rattle.ns_aes_cmac.specs.Aes.{xor_bytes, sub_bytes, shift_rows, mix_columns, rounds, round_keys_by, round_keys, aes}
 use Rattle.ns_aes_cmac.proofs.Mix.{zip2_xor}
 
-abbrev full : List ℕ → List ℕ → List ℕ
+abbrev pub full : List ℕ → List ℕ → List ℕ
 full k s = xor_bytes k (mix_columns (shift_rows (sub_bytes s)))
 
 abbrev final : List ℕ → List ℕ → List ℕ
 final k s = xor_bytes k (shift_rows (sub_bytes s))
 
-step : (k l : List ℕ) (ks : List (List ℕ)) (s : List ℕ) → rounds (k ∷ l ∷ ks) s ≡ rounds (l ∷ ks) (full k s)
+pub rounds-next : (k l : List ℕ) (ks : List (List ℕ)) (s : List ℕ) → rounds (k ∷ l ∷ ks) s ≡ rounds (l ∷ ks) (full k s)
 unfolding rounds
-step k l ks s = refl
+rounds-next k l ks s = refl
 
-end : (k s : List ℕ) → rounds (k ∷ []) s ≡ final k s
+pub rounds-end : (k s : List ℕ) → rounds (k ∷ []) s ≡ final k s
 unfolding rounds
-end k s = refl
+rounds-end k s = refl
 
 -- rounds of a cipher, one after the other, by its full round and its last one
 module _ (run : List (List ℕ) → List ℕ → List ℕ) (full final : List ℕ → List ℕ → List ℕ)
@@ -67,6 +67,6 @@ pub aes_is : (ks : List (List ℕ)) (key block : List ℕ) (v1 v2 v3 v4 v5 v6 v7
     → r ≡ aes key block
 unfolding aes round_keys_by
 aes_is ks key block v1 v2 v3 v4 v5 v6 v7 v8 v9 r e e1 e2 e3 e4 e5 e6 e7 e8 e9 e10 =
-    sym (ten rounds full final step end (key_at ks 1) (key_at ks 2) (key_at ks 3) (key_at ks 4) (key_at ks 5) (key_at ks 6) (key_at ks 7) (key_at ks 8) (key_at ks 9) (key_at ks 10) (zip2 bit_xor (key_at ks 0) block) v1 v2 v3 v4 v5 v6 v7 v8 v9 r e1 e2 e3 e4 e5 e6 e7 e8 e9 e10)
+    sym (ten rounds full final rounds-next rounds-end (key_at ks 1) (key_at ks 2) (key_at ks 3) (key_at ks 4) (key_at ks 5) (key_at ks 6) (key_at ks 7) (key_at ks 8) (key_at ks 9) (key_at ks 10) (zip2 bit_xor (key_at ks 0) block) v1 v2 v3 v4 v5 v6 v7 v8 v9 r e1 e2 e3 e4 e5 e6 e7 e8 e9 e10)
     ∙ ap (λ l. rounds (key_at l 1 ∷ key_at l 2 ∷ key_at l 3 ∷ key_at l 4 ∷ key_at l 5 ∷ key_at l 6 ∷ key_at l 7 ∷ key_at l 8 ∷ key_at l 9 ∷ key_at l 10 ∷ []) (zip2 bit_xor (key_at ks 0) block)) e
     ∙ ap (rounds (round_keys key)) (zip2_xor (key_at ks 0) block ∙ ap (λ l. xor_bytes (key_at l 0) block) e)

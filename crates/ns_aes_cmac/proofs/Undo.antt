@@ -1,6 +1,6 @@
 -- Deciphering undoes enciphering, and the other way round.
-use Rattle.std.proofs.Common.{◌≡◌, ℕ, zero, suc, ◌*◌, ◌/◌, ◌%◌, ◌<◌, eqb, Bool, true, false, List, [], ◌∷◌, map, length, drop, bit_xor, refl, sym, ap, subst, ◌∙◌, arith, eqb-true, if◌then◌else◌, ◌==◌}
-use Rattle.std.proofs.lemmas.Nat.{xor_comm, xor_lt}
+use Rattle.std.proofs.Common.{◌≡◌, ℕ, zero, suc, ◌*◌, ◌/◌, ◌%◌, ◌<◌, eqb, Bool, true, false, List, [], ◌∷◌, map, length, drop, bit_xor, refl, sym, ap, ◌∙◌, arith, if◌then◌else◌, ◌==◌}
+use Rattle.std.proofs.lemmas.Nat.{xor_comm}
 use Rattle.std.proofs.lemmas.List.{length-map}
 use Rattle.std.proofs.lemmas.Simd.{Each1-from_get_or}
 use lib.Bits.{xor_assoc, xor_self, xor_zero_r}
@@ -8,19 +8,14 @@ use lib.Lanes.{Each1}
 use mathlib.Core.List.{reverse, reverse_aux}
 use Rattle.ns_aes_cmac.specs.Aes.{xtime, product_of_bits, multiply, multiplicative_inverse, s_box, inverse_s_box, sub_bytes, inverse_sub_bytes, shift_rows, inverse_shift_rows, sum_of_products, mix_columns_by, mix_columns, inverse_mix_columns, xor_bytes, next_round_key, round_keys_by, round_keys, round_constants, first_key, rounds, inverse_rounds, aes, unaes, IsBlock}
 use Rattle.ns_aes_cmac.proofs.Bytes.{all_below, all_below-at, agree_at}
-use Rattle.ns_aes_cmac.proofs.Mix.{sixteen, joined, zip2_xor}
+use Rattle.ns_aes_cmac.proofs.InBasis.{byte_by, xor_byte, swap}
+use Rattle.ns_aes_cmac.proofs.Rounds.{full, rounds-next, rounds-end}
+use Rattle.ns_aes_cmac.proofs.Back.{inverse_full, inverse_rounds-next, inverse_rounds-end}
+use Rattle.ns_aes_cmac.proofs.Mix.{sixteen, joined}
 
 -- n bytes
 abbrev Bytes : ℕ → List ℕ → Type 0
 Bytes n l = (length l ≡ n) × Each1 (λ b. b < 256) l
-
-xor_byte : (a b : ℕ) → a < 256 → b < 256 → bit_xor a b < 256
-xor_byte a b = xor_lt 8 a b
-
--- (a b) (c d) with the middle ones changed round
-swap : (a b c d : ℕ) → bit_xor (bit_xor a b) (bit_xor c d) ≡ bit_xor (bit_xor a c) (bit_xor b d)
-swap a b c d =
-    xor_assoc a b (bit_xor c d) ∙ ap (bit_xor a) (sym (xor_assoc b c d) ∙ ap (λ n. bit_xor n d) (xor_comm b c) ∙ xor_assoc c b d) ∙ sym (xor_assoc a c (bit_xor b d))
 
 -- ---- the product is linear
 
@@ -29,10 +24,6 @@ xtime_pairs = refl
 
 xtime_xor : (x y : ℕ) → x < 256 → y < 256 → xtime (bit_xor x y) ≡ bit_xor (xtime x) (xtime y)
 xtime_xor x y fx fy = agree_at (λ y. xtime (bit_xor x y)) (λ y. bit_xor (xtime x) (xtime y)) (all_below-at (λ x. all_below (λ y. eqb (xtime (bit_xor x y)) (bit_xor (xtime x) (xtime y))) 256) 256 xtime_pairs x fx) y fy
-
--- a function of a byte that gives a byte, by a test of each
-byte_by : (f : ℕ → ℕ) → all_below (λ b. eqb (f b % 256) (f b)) 256 ≡ true → (b : ℕ) → b < 256 → f b < 256
-byte_by f test b fb = subst (λ n. n < 256) (eqb-true _ _ (all_below-at (λ b. eqb (f b % 256) (f b)) 256 test b fb)) (omega arith)
 
 all_xtime : all_below (λ b. eqb (xtime b % 256) (xtime b)) 256 ≡ true
 all_xtime = refl
@@ -106,14 +97,11 @@ module _ (a b c d p q r s w x y z : ℕ) (fw : w < 256) (fx : x < 256) (fy : y <
   row_of_both : sum_of_products a b c d (sum_of_products p q r s w x y z) (sum_of_products s p q r w x y z) (sum_of_products r s p q w x y z) (sum_of_products q r s p w x y z)
       ≡ four (entry a b c d p s r q w) (entry a b c d q p s r x) (entry a b c d r q p s y) (entry a b c d s r q p z)
   row_of_both =
-      ap (λ n. bit_xor (bit_xor n (multiply b (sum_of_products s p q r w x y z))) (bit_xor (multiply c (sum_of_products r s p q w x y z)) (multiply d (sum_of_products q r s p w x y z)))) (out a p q r s)
-      ∙ ap (λ n. bit_xor (bit_xor (parts a p q r s) n) (bit_xor (multiply c (sum_of_products r s p q w x y z)) (multiply d (sum_of_products q r s p w x y z)))) (out b s p q r)
-      ∙ ap (λ n. bit_xor (bit_xor (parts a p q r s) (parts b s p q r)) (bit_xor n (multiply d (sum_of_products q r s p w x y z)))) (out c r s p q)
-      ∙ ap (λ n. bit_xor (bit_xor (parts a p q r s) (parts b s p q r)) (bit_xor (parts c r s p q) n)) (out d q r s p)
-      ∙ by_columns (multiply a (multiply p w)) (multiply a (multiply q x)) (multiply a (multiply r y)) (multiply a (multiply s z))
+      rw (out a p q r s, out b s p q r, out c r s p q, out d q r s p)
+      (by_columns (multiply a (multiply p w)) (multiply a (multiply q x)) (multiply a (multiply r y)) (multiply a (multiply s z))
       (multiply b (multiply s w)) (multiply b (multiply p x)) (multiply b (multiply q y)) (multiply b (multiply r z))
       (multiply c (multiply r w)) (multiply c (multiply s x)) (multiply c (multiply p y)) (multiply c (multiply q z))
-      (multiply d (multiply q w)) (multiply d (multiply r x)) (multiply d (multiply s y)) (multiply d (multiply p z))
+      (multiply d (multiply q w)) (multiply d (multiply r x)) (multiply d (multiply s y)) (multiply d (multiply p z)))
     where
       parts : ℕ → ℕ → ℕ → ℕ → ℕ → ℕ
       parts m e f g h = four (multiply m (multiply e w)) (multiply m (multiply f x)) (multiply m (multiply g y)) (multiply m (multiply h z))
@@ -122,8 +110,7 @@ module _ (a b c d p q r s w x y z : ℕ) (fw : w < 256) (fx : x < 256) (fy : y <
       out m e f g h = spread m (multiply e w) (multiply f x) (multiply g y) (multiply h z) (product_byte 8 e w fw) (product_byte 8 f x fx) (product_byte 8 g y fy) (product_byte 8 h z fz)
 
 four_is : {a b c d p q r s : ℕ} → a ≡ p → b ≡ q → c ≡ r → d ≡ s → four a b c d ≡ four p q r s
-four_is {a} {b} {c} {d} {p} {q} {r} {s} e f g h =
-    ap (λ n. bit_xor (bit_xor n b) (bit_xor c d)) e ∙ ap (λ n. bit_xor (bit_xor p n) (bit_xor c d)) f ∙ ap (λ n. bit_xor (bit_xor p q) (bit_xor n d)) g ∙ ap (λ n. bit_xor (bit_xor p q) (bit_xor r n)) h
+four_is e f g h = cc
 
 turned_four : (a b c d : ℕ) → four a b c d ≡ four d a b c
 turned_four a b c d = ap (bit_xor (bit_xor a b)) (xor_comm c d) ∙ swap a b d c ∙ ap (λ n. bit_xor n (bit_xor b c)) (xor_comm a d)
@@ -172,16 +159,13 @@ module _ (a b c d p q r s : ℕ) (row : IsUndoneBy p q r s a b c d) where
   unmixed : (n : ℕ) (v : List ℕ) → length v ≡ n * 4 → Each1 (λ b. b < 256) v → mix_columns_by a b c d (mix_columns_by p q r s v) ≡ v
   unfolding mix_columns_by
   unmixed n [] long fits = refl
-  unmixed n (w ∷ []) long fits = absurd (omega (arith, long))
-  unmixed n (w ∷ x ∷ []) long fits = absurd (omega (arith, long))
-  unmixed n (w ∷ x ∷ y ∷ []) long fits = absurd (omega (arith, long))
-  unmixed zero (w ∷ x ∷ y ∷ z ∷ v) long fits = absurd (omega (arith, long))
   unmixed (suc n) (w ∷ x ∷ y ∷ z ∷ v) long (fw, (fx, (fy, (fz, fits)))) =
       joined (row_of w x y z fw fx fy fz a b c d p q r s same none none none row ∙ ap (λ n. bit_xor n 0) (xor_zero_r w) ∙ xor_zero_r w) (
       joined (row_of w x y z fw fx fy fz d a b c p q r s none same none none second ∙ xor_zero_r x) (
       joined (row_of w x y z fw fx fy fz c d a b p q r s none none same none third ∙ xor_zero_r y) (
       joined (row_of w x y z fw fx fy fz b c d a p q r s none none none same fourth) (
       unmixed n v (omega (arith, long)) fits))))
+  unmixed n v long fits = absurd (omega (arith, long))
 
 -- MixColumns and its inverse undo each other: four entries of each product, on every byte
 entries : (f g h i : ℕ → ℕ) → all_below (λ x. eqb (f x) x) 256 ≡ true → all_below (λ x. eqb (g x) 0) 256 ≡ true → all_below (λ x. eqb (h x) 0) 256 ≡ true → all_below (λ x. eqb (i x) 0) 256 ≡ true
@@ -250,29 +234,16 @@ inverse_shift_rows-bytes v bytes = sixteen (λ v. Each1 (λ b. b < 256) v → By
 mixed-bytes : (a b c d n : ℕ) (v : List ℕ) → Bytes (n * 4) v → Bytes (n * 4) (mix_columns_by a b c d v)
 unfolding mix_columns_by
 mixed-bytes a b c d n [] bytes = bytes
-mixed-bytes a b c d n (w ∷ []) bytes = let long : 1 ≡ n * 4 = bytes.0 in absurd (omega (arith, long))
-mixed-bytes a b c d n (w ∷ x ∷ []) bytes = let long : 2 ≡ n * 4 = bytes.0 in absurd (omega (arith, long))
-mixed-bytes a b c d n (w ∷ x ∷ y ∷ []) bytes = let long : 3 ≡ n * 4 = bytes.0 in absurd (omega (arith, long))
-mixed-bytes a b c d zero (w ∷ x ∷ y ∷ z ∷ v) bytes = let long : length (w ∷ x ∷ y ∷ z ∷ v) ≡ 0 = bytes.0 in absurd (omega (arith, long))
 mixed-bytes a b c d (suc n) (w ∷ x ∷ y ∷ z ∷ v) (size, (fw, (fx, (fy, (fz, fits))))) =
     let long : length (w ∷ x ∷ y ∷ z ∷ v) ≡ suc n * 4 = size in
     let rest = mixed-bytes a b c d n v (omega (arith, long), fits) in
-    let short : length (mix_columns_by a b c d v) ≡ n * 4 = rest.0 in (
-      omega (arith, short),
-      (
-        sum_byte a b c d w x y z fw fx fy fz,
-        (
-          sum_byte d a b c w x y z fw fx fy fz,
-          (
-            sum_byte c d a b w x y z fw fx fy fz,
-            (
-              sum_byte b c d a w x y z fw fx fy fz,
-              rest.1,
-            ),
-          ),
-        ),
-      ),
-    )
+    let short : length (mix_columns_by a b c d v) ≡ n * 4 = rest.0 in
+    let f0 = sum_byte a b c d w x y z fw fx fy fz in
+    let f1 = sum_byte d a b c w x y z fw fx fy fz in
+    let f2 = sum_byte c d a b w x y z fw fx fy fz in
+    let f3 = sum_byte b c d a w x y z fw fx fy fz in
+    (omega (arith, short), (f0, (f1, (f2, (f3, rest.1)))))
+mixed-bytes a b c d n v bytes = let long : length v ≡ n * 4 = bytes.0 in absurd (omega (arith, long))
 
 mix_columns-bytes : (v : List ℕ) → Bytes 16 v → Bytes 16 (mix_columns v)
 mix_columns-bytes v bytes = mixed-bytes 2 3 1 1 4 v bytes
@@ -308,12 +279,6 @@ keys-bytes : (key : List ℕ) → Bytes 16 key → Each1 (Bytes 16) (key ∷ rou
 keys-bytes key bytes = (bytes, round_keys_by-bytes round_constants key (omega arith, (omega arith, (omega arith, (omega arith, (omega arith, (omega arith, (omega arith, (omega arith, (omega arith, (omega arith, tt)))))))))) bytes)
 
 -- ---- a round there and back
-
-abbrev full : List ℕ → List ℕ → List ℕ
-full k s = xor_bytes k (mix_columns (shift_rows (sub_bytes s)))
-
-abbrev inverse_full : List ℕ → List ℕ → List ℕ
-inverse_full k s = inverse_mix_columns (xor_bytes k (inverse_sub_bytes (inverse_shift_rows s)))
 
 abbrev mid : List ℕ → List ℕ
 mid s = shift_rows (sub_bytes s)
@@ -374,22 +339,6 @@ module _ (run back : List (List ℕ) → List ℕ → List ℕ) (full undo : Lis
       ap (λ r. back (drop 1 (reverse_aux (l ∷ ks) (k ∷ a ∷ after))) (xor_bytes (first_key (reverse_aux (l ∷ ks) (k ∷ a ∷ after))) r)) (run-next k l ks s)
       ∙ rounds_undone l ks k (a ∷ after) (full k s) bks.0 bks.1 (full-bytes k s bk bs)
       ∙ back-next k a after (mid (full k s)) ∙ ap (back (a ∷ after)) (sym (undo-full k s bk bs))
-
-rounds-end : (k s : List ℕ) → rounds (k ∷ []) s ≡ xor_bytes k (mid s)
-unfolding rounds
-rounds-end k s = refl
-
-rounds-next : (k l : List ℕ) (ks : List (List ℕ)) (s : List ℕ) → rounds (k ∷ l ∷ ks) s ≡ rounds (l ∷ ks) (full k s)
-unfolding rounds
-rounds-next k l ks s = refl
-
-inverse_rounds-end : (k s : List ℕ) → inverse_rounds (k ∷ []) s ≡ xor_bytes k (inverse_mid s)
-unfolding inverse_rounds
-inverse_rounds-end k s = refl
-
-inverse_rounds-next : (k l : List ℕ) (ks : List (List ℕ)) (s : List ℕ) → inverse_rounds (k ∷ l ∷ ks) s ≡ inverse_rounds (l ∷ ks) (inverse_full k s)
-unfolding inverse_rounds
-inverse_rounds-next k l ks s = refl
 
 pub deciphered : (key b : List ℕ) → IsBlock key → IsBlock b → unaes key (aes key b) ≡ b
 unfolding aes unaes round_keys_by

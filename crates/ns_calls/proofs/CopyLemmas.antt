@@ -1,11 +1,11 @@
 -- The copies of an open window are the first 16 hearings of its frame since it was opened.
-use Rattle.std.proofs.Common.{◌≡◌, ◌⊎◌, ℕ, zero, suc, ◌+◌, ◌<◌, ◌≤◌, Bool, true, false, not, cond, nat_lt, List, [], ◌∷◌, ◌++◌, filter, filter_map, find, map, length, take, min, length-append, Option, None, Some, IfSome, option_map, option_to_list, bytes_eq, refl, sym, ap, subst, ◌∙◌, arith, inl, inr}
+use Rattle.std.proofs.Common.{◌≡◌, ◌⊎◌, ℕ, ◌+◌, ◌<◌, ◌≤◌, Bool, true, false, not, cond, nat_lt, List, [], ◌∷◌, ◌++◌, filter, find, map, length, take, min, length-append, Option, None, Some, IfSome, option_map, option_to_list, bytes_eq, refl, sym, ap, subst, ◌∙◌, arith, inl, inr}
+use Rattle.ns_calls.proofs.RoundLemmas.{filter-none}
 use Rattle.std.specs.List.{AllByRecursion}
 use Rattle.std.specs.Option.{option_or, option_and_then}
-use Rattle.std.proofs.lemmas.List.{append_assoc, append-nil, take-append-le, length-take}
-use Rattle.std.proofs.lemmas.List.Elements.{filter_map-append}
+use Rattle.std.proofs.lemmas.List.{append_assoc, append-nil, take-append-le, take_all, length-take}
 use Rattle.std.proofs.lemmas.List.Folds.{find-append}
-use Rattle.std.proofs.lemmas.Bool.{false≢true}
+use Rattle.std.proofs.lemmas.Bool.{false≢true, cond_both, false_from_ne_true}
 use Rattle.std.proofs.lemmas.Bool.Decides.{nat_tests}
 use Rattle.std.proofs.lemmas.Option.{same_Some}
 use Rattle.std.proofs.lemmas.Slice.Eq.{bytes_eq-Decides}
@@ -29,31 +29,22 @@ use Rattle.ns_calls.specs.Out.{uplink_of, first_uplink_of, uplink_out, answer}
 use Rattle.ns_calls.specs.Legal.{IsLegal}
 use Rattle.ns_calls.specs.Open.{IsOpenWindow, hearing_in, hearings, HasJustItsCopies}
 use Rattle.ns_calls.proofs.LocalLemmas.{bool_tells}
-use Rattle.ns_calls.proofs.Lists.{one_more, All-append, All-filter, All-weaker, find-has, find-none, at_some}
+use Rattle.ns_calls.proofs.Lists.{one_more, says-push, All-option, All-append, All-filter, All-weaker, find-has, find-none, at_some}
 use Rattle.ns_calls.proofs.PushLemmas.{open_windows-push, window_copies-push}
 use Rattle.ns_calls.proofs.Induction.{legal-front, legal-next}
 use Rattle.ns_calls.proofs.UplinkLemmas.{facts_by, uplink-has}
 use Rattle.ns_calls.proofs.NameLemmas.{same_window-refl, same_window-eq}
-use Rattle.ns_calls.proofs.FreshLemmas.{windows-apart}
+use Rattle.ns_calls.proofs.FreshLemmas.{windows-apart, added, added-other, added-none}
 use Rattle.ns_calls.proofs.OpenLemmas.{find-contained, open_window-is}
 
 -- ---- the first so many
-
-take-all : {X : Type 0} (n : ℕ) (xs : List X) → length xs ≤ n → take n xs ≡ xs
-take-all zero [] few = refl
-take-all zero (y ∷ ys) few = absurd (omega (arith, few))
-take-all (suc n) [] few = refl
-take-all (suc n) (y ∷ ys) few = ap (λ l. y ∷ l) (take-all n ys (omega (arith, few)))
 
 -- there is room for one more
 take-room : (most : ℕ) (hs cs : List Heard) (x : Heard) → cs ≡ take most hs → length cs + 1 ≤ most → cs ++ x ∷ [] ≡ take most (hs ++ x ∷ [])
 take-room most hs cs x is room =
     let long : length cs ≡ min most (length hs) = ap length is ∙ length-take most hs in
-    let fewer : length hs + 1 ≤ most = omega (arith, long, room) in
-    let here : length (hs ++ x ∷ []) ≡ length hs + 1 = length-append hs (x ∷ []) in
-    let whole : length (hs ++ x ∷ []) ≤ most = omega (arith, here, fewer) in
-    let all : length hs ≤ most = omega (arith, fewer) in
-    ap (λ l. l ++ x ∷ []) (is ∙ take-all most hs all) ∙ sym (take-all most (hs ++ x ∷ []) whole)
+    let whole : length (hs ++ x ∷ []) ≤ most = simp length-append (omega (arith, long, room)) in
+    ap (λ l. l ++ x ∷ []) (is ∙ take_all most hs (omega (arith, long, room))) ∙ sym (take_all most (hs ++ x ∷ []) whole)
 
 -- there is none
 take-full : (most : ℕ) (hs cs : List Heard) (x : Heard) → cs ≡ take most hs → most < length cs + 1 → cs ≡ take most (hs ++ x ∷ [])
@@ -67,13 +58,14 @@ take-full most hs cs x is full =
 -- what is found is still found where it is kept
 find-kept : {X : Type 0} (test keep : X → Bool) (xs : List X) (x : X) → find test xs ≡ Some x → keep x ≡ true → find test (filter keep xs) ≡ Some x
 find-kept test keep [] x is kept = absurd (cc is)
-find-kept {X} test keep (y ∷ ys) x is kept = step (λ at. find-kept test keep ys x at kept) (test y) (keep y) refl refl is
-  where
-    step : (find test ys ≡ Some x → find test (filter keep ys) ≡ Some x) → (found stays : Bool) → test y ≡ found → keep y ≡ stays → cond {A = Option X} found (Some y) (find test ys) ≡ Some x → find test (cond {A = List X} stays (y ∷ filter keep ys) (filter keep ys)) ≡ Some x
-    step later true true here in_list at = ap (λ b. cond {A = Option X} b (Some y) (find test (filter keep ys))) here ∙ at
-    step later true false here in_list at = (let same : y ≡ x = same_Some y x at in absurd (false≢true (sym in_list ∙ (ap keep same ∙ kept))))
-    step later false true here in_list at = ap (λ b. cond {A = Option X} b (Some y) (find test (filter keep ys))) here ∙ later at
-    step later false false here in_list at = later at
+find-kept {X} test keep (y ∷ ys) x is kept =
+    let later = λ (at : find test ys ≡ Some x). find-kept test keep ys x at kept in
+    cond_both (keep y) (y ∷ filter keep ys) (filter keep ys) (λ zs. find test zs ≡ Some x)
+    (λ _. (elim (test y) as (λ b. cond {A = Option X} b (Some y) (find test ys) ≡ Some x → cond b (Some y) (find test (filter keep ys)) ≡ Some x) [ true ↦ λ at. at | false ↦ later ]) is)
+    (λ gone. (elim (test y) as (λ b. cond {A = Option X} b (Some y) (find test ys) ≡ Some x → find test (filter keep ys) ≡ Some x) [
+      | true ↦ λ at. absurd (false≢true (sym gone ∙ (ap keep (same_Some y x at) ∙ kept)))
+      | false ↦ later
+    ]) is)
 
 find-first : {X : Type 0} (test : X → Bool) (xs ys : List X) (x : X) → find test xs ≡ Some x → find test (xs ++ ys) ≡ Some x
 find-first {X} test xs ys x is = find-append test xs ys ∙ ap (λ (o : Option X). option_or o (find test ys)) is
@@ -81,21 +73,17 @@ find-first {X} test xs ys x is = find-append test xs ys ∙ ap (λ (o : Option X
 -- nothing is found: no element passes
 none-passes : {X : Type 0} (test : X → Bool) (xs : List X) → find test xs ≡ None → AllByRecursion (λ x. test x ≡ false) xs
 none-passes test [] is = tt
-none-passes {X} test (x ∷ xs) is = step (none-passes test xs) (test x) refl is
-  where
-    step : (find test xs ≡ None → AllByRecursion (λ y. test y ≡ false) xs) → (b : Bool) → test x ≡ b → cond {A = Option X} b (Some x) (find test xs) ≡ None → AllByRecursion (λ y. test y ≡ false) (x ∷ xs)
-    step later true here none = absurd (cc none)
-    step later false here none = (here, later none)
+none-passes {X} test (x ∷ xs) is =
+    (elim (test x) as (λ b. test x ≡ b → cond {A = Option X} b (Some x) (find test xs) ≡ None → AllByRecursion (λ y. test y ≡ false) (x ∷ xs)) [
+      | true ↦ λ _ none. absurd (cc none)
+      | false ↦ λ here none. (here, none-passes test xs none)
+    ]) refl is
 
 -- an element that passes another test is found by that test, or one before it
 found-otherwise : {X : Type 0} (test other : X → Bool) (xs : List X) (x : X) → find test xs ≡ Some x → other x ≡ true → find other xs ≡ None → ⊥
-found-otherwise test other [] x is passes none = cc is
-found-otherwise {X} test other (y ∷ ys) x is passes none = step (λ found nothing. found-otherwise test other ys x found passes nothing) (test y) (other y) refl is none
-  where
-    step : (find test ys ≡ Some x → find other ys ≡ None → ⊥) → (b c : Bool) → other y ≡ c → cond {A = Option X} b (Some y) (find test ys) ≡ Some x → cond {A = Option X} c (Some y) (find other ys) ≡ None → ⊥
-    step later b true tells found nothing = cc nothing
-    step later true false tells found nothing = (let same : y ≡ x = same_Some y x found in false≢true (sym tells ∙ (ap other same ∙ passes)))
-    step later false false tells found nothing = later found nothing
+found-otherwise test other xs x is passes none =
+    let fails = find-has (λ y. other y ≡ false) test xs (none-passes other xs none) in
+    false≢true (sym (at_some (λ y. (other y ≡ false) × (test y ≡ true)) (find test xs) x is fails).0 ∙ passes)
 
 -- ---- an opening
 
@@ -110,17 +98,8 @@ same_bytes bytes = (bytes_eq-Decides bytes bytes).1 refl
 
 -- ---- what one call adds
 
--- the copies that a call adds to a window
-abbrev added : WindowName → Call → Reply → List Heard
-added w c r = map (λ (x : WindowName × Heard). x.1) (filter (λ (x : WindowName × Heard). same_window x.0 w) (option_to_list (window_copy_in c r)))
-
-none_added : (w : WindowName) (c : Call) (r : Reply) → window_copy_in c r ≡ None → added w c r ≡ []
-none_added w c r is = ap (λ p. map (λ (x : WindowName × Heard). x.1) (filter (λ (x : WindowName × Heard). same_window x.0 w) (option_to_list p))) is
-
 hearings-push : (frame : List ℕ) (es : List Entry) (e : Entry) → hearings frame (es ++ e ∷ []) ≡ hearings frame es ++ option_to_list (hearing_in frame e.call)
-hearings-push frame es e =
-    let says : Entry → Option Heard = λ x. hearing_in frame x.call in
-    filter_map-append says es (e ∷ []) ∙ ap (λ l. filter_map says es ++ l) (one_more says e)
+hearings-push frame es e = says-push (λ (x : Entry). hearing_in frame x.call) es e
 
 -- the reply opens a window, or adds no copy to w
 abbrev Elsewhere : WindowName → List ℕ → Heard → Reply → Type 0
@@ -143,10 +122,7 @@ other_frame net h frame heard w apart = uplink-has (Elsewhere w frame heard) net
     Apart o = same_window o.window w ≡ true → bytes_eq o.frame frame ≡ false
 
     differs : (o : Opening) → Apart o × (bytes_eq o.frame frame ≡ true) → same_window o.window w ≡ false
-    differs o both = elim (bool_tells (same_window o.window w)) [
-      | inl same ↦ absurd (false≢true (sym (both.0 same) ∙ both.1))
-      | inr other ↦ other
-    ]
+    differs o both = false_from_ne_true (same_window o.window w) (λ same. false≢true (sym (both.0 same) ∙ both.1))
 
 -- ---- an open window, and what was heard since it was opened
 
@@ -171,13 +147,9 @@ record Inv (o : Opening) (g since : List Entry) : Type 0 where
 name_taken : (net : Network) (g : List Entry) → IsLegal net g → (o : Opening) → window_with g o.frame ≡ Some o → (frame : List ℕ) (heard : Heard) (v : WindowName) → window_in (call.Uplink frame heard) (reply_to net g (call.Uplink frame heard)) ≡ Some (opening_of v frame heard) → same_window v o.window ≡ false
 name_taken net g legal o found frame heard v is =
     let none : open_window g v ≡ None = (windows-apart net g legal frame heard v is).name in
-    elim (bool_tells (same_window v o.window)) [
-      | inl same ↦
-          (let same_name : v ≡ o.window = same_window-eq v o.window same in
-          let missing : open_window g o.window ≡ None = subst (λ (x : WindowName). open_window g x ≡ None) same_name none in
-          absurd (found-otherwise (λ (x : Opening). bytes_eq x.frame o.frame) (λ (x : Opening). same_window x.window o.window) (open_windows g) o found (same_window-refl o.window) missing))
-      | inr other ↦ other
-    ]
+    false_from_ne_true (same_window v o.window) (λ same.
+    let missing : open_window g o.window ≡ None = subst (λ (x : WindowName). open_window g x ≡ None) (same_window-eq v o.window same) none in
+    found-otherwise (λ (x : Opening). bytes_eq x.frame o.frame) (λ (x : Opening). same_window x.window o.window) (open_windows g) o found (same_window-refl o.window) missing)
 
 unchanged : (o : Opening) (g since : List Entry) → Inv o g since → (more : List Heard) (heard : Option Heard) → more ≡ [] → heard ≡ None →
     window_copies g o.window ++ more ≡ take most_copies (hearings o.frame since ++ option_to_list heard)
@@ -218,22 +190,17 @@ another_frame net o g since legal inv frame heard differs =
     elim (other_frame net g frame heard o.window
     (All-weaker (λ (x : Opening). same_window x.window o.window ≡ true → x ≡ o) (λ (x : Opening). same_window x.window o.window ≡ true → bytes_eq x.frame frame ≡ false)
     (λ x only same. ap (λ (y : Opening). bytes_eq y.frame frame) (only same) ∙ differs) (open_windows g) inv.only)) [
-      | inl opens ↦
-          (let apart : same_window opens.0 o.window ≡ false = name_taken net g legal o inv.found frame heard opens.0 opens.1 in
-          ap (λ p. map (λ (x : WindowName × Heard). x.1) (filter (λ (x : WindowName × Heard). same_window x.0 o.window) (option_to_list p))) opens.2
-          ∙ ap (λ b. map (λ (x : WindowName × Heard). x.1) (cond {A = List (WindowName × Heard)} b ((opens.0, heard) ∷ []) [])) apart)
-      | inr elsewhere ↦ none_here (window_copy_in (call.Uplink frame heard) (reply_to net g (call.Uplink frame heard))) elsewhere
+      | inl opens ↦ added-other o.window (call.Uplink frame heard) (reply_to net g (call.Uplink frame heard)) opens.0 heard opens.2 (name_taken net g legal o inv.found frame heard opens.0 opens.1)
+      | inr elsewhere ↦
+          (let copy : Option (WindowName × Heard) = window_copy_in (call.Uplink frame heard) (reply_to net g (call.Uplink frame heard)) in
+          ap (map (λ (x : WindowName × Heard). x.1)) (filter-none (λ (x : WindowName × Heard). same_window x.0 o.window) (option_to_list copy) (All-option (λ (x : WindowName × Heard). same_window x.0 o.window ≡ false) copy elsewhere)))
     ]
-  where
-    none_here : (p : Option (WindowName × Heard)) → IfSome p (λ x. same_window x.0 o.window ≡ false) → map (λ (x : WindowName × Heard). x.1) (filter (λ (x : WindowName × Heard). same_window x.0 o.window) (option_to_list p)) ≡ []
-    none_here None apart = refl
-    none_here (Some x) apart = ap (λ b. map (λ (y : WindowName × Heard). y.1) (cond {A = List (WindowName × Heard)} b (x ∷ []) [])) apart
 
 copies_now : (net : Network) (o : Opening) (g since : List Entry) → IsLegal net g → Inv o g since → (c : Call) →
     window_copies g o.window ++ added o.window c (reply_to net g c) ≡ take most_copies (hearings o.frame since ++ option_to_list (hearing_in o.frame c))
-copies_now net o g since legal inv (call.Join t heard) = let c = call.Join t heard in unchanged o g since inv (added o.window c (reply_to net g c)) None (none_added o.window c (reply_to net g c) (join-says (λ s. copied s ≡ None) t heard refl refl refl (reply_to net g c))) refl
-copies_now net o g since legal inv (call.JoinReply t x) = let c = call.JoinReply t x in unchanged o g since inv (added o.window c (reply_to net g c)) None (none_added o.window c (reply_to net g c) (answer-says (λ s. copied s ≡ None) t x (λ n. refl) refl refl (reply_to net g c))) refl
-copies_now net o g since legal inv (call.Close w) = let c = call.Close w in unchanged o g since inv (added o.window c (reply_to net g c)) None (none_added o.window c (reply_to net g c) (close-says (λ s. copied s ≡ None) w (λ ack. refl) refl (reply_to net g c))) refl
+copies_now net o g since legal inv (call.Join t heard) = let c = call.Join t heard in unchanged o g since inv (added o.window c (reply_to net g c)) None (added-none o.window c (reply_to net g c) (join-says (λ s. copied s ≡ None) t heard refl refl refl (reply_to net g c))) refl
+copies_now net o g since legal inv (call.JoinReply t x) = let c = call.JoinReply t x in unchanged o g since inv (added o.window c (reply_to net g c)) None (added-none o.window c (reply_to net g c) (answer-says (λ s. copied s ≡ None) t x (λ n. refl) refl refl (reply_to net g c))) refl
+copies_now net o g since legal inv (call.Close w) = let c = call.Close w in unchanged o g since inv (added o.window c (reply_to net g c)) None (added-none o.window c (reply_to net g c) (close-says (λ s. copied s ≡ None) w (λ ack. refl) refl (reply_to net g c))) refl
 copies_now net o g since legal inv (call.Uplink frame heard) =
     elim (bool_tells (bytes_eq o.frame frame)) [
       | inl same ↦ same_frame net o g since inv frame heard same

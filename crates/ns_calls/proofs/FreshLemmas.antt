@@ -1,10 +1,9 @@
 -- A window that is opened is new.
-use Rattle.std.proofs.Common.{◌≡◌, ◌⊎◌, ℕ, ◌+◌, ◌≤◌, ◌==◌, Bool, true, false, ◌||◌, cond, List, [], ◌∷◌, ◌++◌, filter, map, find, count_by, Option, None, Some, IfSome, option_map, option_to_list, refl, sym, ap, subst, ◌∙◌, arith, inl, inr}
+use Rattle.std.proofs.Common.{◌≡◌, ◌⊎◌, ℕ, ◌+◌, ◌≤◌, ◌==◌, Bool, true, false, cond, List, [], ◌∷◌, ◌++◌, filter, map, find, count_by, Option, None, Some, IfSome, option_to_list, refl, sym, ap, subst, ◌∙◌, arith, inl, inr}
+use Rattle.std.proofs.lemmas.Bool.{or_left, or_right, eq-eqb, false_from_ne_true}
 use Rattle.std.specs.Prelude.{is_some}
 use Rattle.std.specs.List.{AllByRecursion, list_any}
-use Rattle.std.specs.Option.{option_and_then}
 use Rattle.std.proofs.lemmas.Option.{same_Some}
-use Rattle.std.proofs.lemmas.Bool.Decides.{nat_tests}
 use Rattle.ns_types.specs.declared.identity.DevEui.{DevEui}
 use Rattle.ns_types.specs.declared.identity.WindowName.{WindowName}
 use Rattle.ns_types.specs.declared.heard.Heard.{Heard}
@@ -12,24 +11,22 @@ use Rattle.ns_types.specs.Identity.{same_window}
 use Rattle.ns_views.specs.Frame.{data_fields}
 use Rattle.ns_roster.specs.declared.Device.{Device}
 use Rattle.ns_roster.specs.Network.{Network}
-use Rattle.ns_calls.specs.declared.call.JoinAns.{JoinAns}
 use Rattle.ns_calls.specs.declared.call.Call.{Call}
 use Rattle.ns_calls.specs.declared.call.Call.TheVariants as call
 use Rattle.ns_calls.specs.declared.call.Reply.{Reply}
 use Rattle.ns_calls.specs.declared.call.Reply.TheVariants as reply
 use Rattle.ns_calls.specs.declared.call.Entry.{Entry}
 use Rattle.ns_calls.specs.Entries.{Opening, open_windows}
-use Rattle.ns_calls.specs.History.{last_round, live, is_live, session_join, greatest_counter, open_window, window_copies, copied}
+use Rattle.ns_calls.specs.History.{last_round, live, is_live, open_window, window_copies, copied}
 use Rattle.ns_calls.proofs.Says.{opening_in, window_in, window_copy_in, opening_of, join-says, answer-says, close-says}
-use Rattle.ns_calls.specs.Reply.{Fit, fit_of, window_of, fitting_counter, session_fit, device_fit, devices_at, first_fit, window_with, in_round, reply_to, reply_to_uplink}
+use Rattle.ns_calls.specs.Reply.{Fit, window_of, session_fit, device_fit, devices_at, first_fit, window_with, in_round, reply_to, reply_to_uplink}
 use Rattle.ns_calls.specs.Legal.{IsLegal, entry_for, with_call}
 use Rattle.ns_calls.specs.Laws.{opening_count, open_count, WindowsOpenOnce}
 use Rattle.ns_calls.specs.Headline.{IsNewWindow, IsNextRound}
-use Rattle.ns_calls.proofs.LocalLemmas.{bool_tells}
 use Rattle.ns_calls.proofs.Lists.{All-weaker, first-gives, first-gives_of, count-cons, count-found, IfSome-weaker, at_some}
 use Rattle.ns_calls.proofs.PushLemmas.{window_copies-push}
 use Rattle.ns_calls.proofs.Induction.{legal_induction}
-use Rattle.ns_calls.proofs.UplinkLemmas.{IsNewOpening, IsNextOpening, IsOpened, uplink-has, opening-new, window-new, FitsAt, window-fits}
+use Rattle.ns_calls.proofs.UplinkLemmas.{session_fit-has, IsNewOpening, IsNextOpening, IsOpened, uplink-has, opening-new, window-new, FitsAt, window-fits}
 use Rattle.ns_calls.proofs.RoundLemmas.{windows-fresh, session-has_round}
 use Rattle.ns_calls.proofs.ShardLemmas.{device_fit-names}
 use Rattle.ns_calls.proofs.WindowLemmas.{openings-added, windows_open_once}
@@ -38,18 +35,11 @@ use Rattle.ns_calls.proofs.WindowLemmas.{openings-added, windows_open_once}
 
 count-member : {X : Type 0} (counts test : X → Bool) (xs : List X) (x : X) → find test xs ≡ Some x → counts x ≡ true → 1 ≤ count_by counts xs
 count-member counts test [] x is here = absurd (cc is)
-count-member {X} counts test (y ∷ ys) x is here =
-    elim (bool_tells (test y)) [
-      | inl found ↦
-          (let same : y ≡ x = same_Some y x (sym (ap (λ b. cond {A = Option X} b (Some y) (find test ys)) found) ∙ is) in
-          let one : count_by counts (y ∷ ys) ≡ 1 + count_by counts ys = count-cons counts y ys ∙ ap (λ b. cond {A = ℕ} b 1 0 + count_by counts ys) (ap counts same ∙ here) in
-          omega (arith, one))
-      | inr later ↦
-          (let still : find test ys ≡ Some x = sym (ap (λ b. cond {A = Option X} b (Some y) (find test ys)) later) ∙ is in
-          let more = count-member counts test ys x still here in
-          let sum : count_by counts (y ∷ ys) ≡ cond (counts y) 1 0 + count_by counts ys = count-cons counts y ys in
-          omega (arith, more, sum))
-    ]
+count-member {X} counts test (y ∷ ys) x is here = rw count-cons (
+    (elim (test y) as (λ b. cond {A = Option X} b (Some y) (find test ys) ≡ Some x → 1 ≤ cond (counts y) 1 0 + count_by counts ys) [
+      | true ↦ λ found. rw (ap counts (same_Some y x found) ∙ here) (omega arith)
+      | false ↦ λ later. (let more = count-member counts test ys x later here in omega (arith, more))
+    ]) is)
 
 -- what an uplink adds a copy to: nothing, the open window of an equal frame, or the window that it opens
 abbrev AddsTo : List ℕ → Heard → Option Opening → Reply → Type 0
@@ -69,114 +59,85 @@ copied-cases net h frame heard = uplink-has (AddsTo frame heard (window_with h f
   none = inl refl;
 })
 
-NoCopiesBefore : List Entry → Type 0
+abbrev NoCopiesBefore : List Entry → Type 0
 NoCopiesBefore h = (w : WindowName) → opening_count h w ≡ 0 → window_copies h w ≡ []
 
 -- the copies that one call adds to a window
-abbrev copies_added : Call → Reply → WindowName → List Heard
-copies_added c r w = map (λ c. c.1) (filter (λ c. same_window c.0 w) (option_to_list (window_copy_in c r)))
+abbrev pub added : WindowName → Call → Reply → List Heard
+added w c r = map (λ (x : WindowName × Heard). x.1) (filter (λ (x : WindowName × Heard). same_window x.0 w) (option_to_list (window_copy_in c r)))
 
-added-other : (c : Call) (r : Reply) (v w : WindowName) (heard : Heard) → window_copy_in c r ≡ Some (v, heard) → same_window v w ≡ false → copies_added c r w ≡ []
-added-other c r v w heard is other =
-    ap (λ o. map (λ (x : WindowName × Heard). x.1) (filter (λ (x : WindowName × Heard). same_window x.0 w) (option_to_list o))) is
-    ∙ ap (λ b. map (λ (x : WindowName × Heard). x.1) (cond {A = List (WindowName × Heard)} b ((v, heard) ∷ []) [])) other
+pub added-other : (w : WindowName) (c : Call) (r : Reply) (v : WindowName) (heard : Heard) → window_copy_in c r ≡ Some (v, heard) → same_window v w ≡ false → added w c r ≡ []
+added-other w c r v heard is other = rw (is, other)
 
-added-none : (c : Call) (r : Reply) (w : WindowName) → window_copy_in c r ≡ None → copies_added c r w ≡ []
-added-none c r w is = ap (λ o. map (λ (x : WindowName × Heard). x.1) (filter (λ (x : WindowName × Heard). same_window x.0 w) (option_to_list o))) is
+pub added-none : (w : WindowName) (c : Call) (r : Reply) → window_copy_in c r ≡ None → added w c r ≡ []
+added-none w c r is = ap (λ o. map (λ (x : WindowName × Heard). x.1) (filter (λ (x : WindowName × Heard). same_window x.0 w) (option_to_list o))) is
 
 -- no copy is added to a window that was never opened and isn't opened by the call
-nothing_added : (net : Network) (h : List Entry) → WindowsOpenOnce h → (c : Call) (w : WindowName) → opening_count h w ≡ 0 → count_by (λ o. same_window o.window w) (option_to_list (window_in c (reply_to net h c))) ≡ 0 → copies_added c (reply_to net h c) w ≡ []
-nothing_added net h once (call.Join t heard) w none new = added-none (call.Join t heard) (reply_to net h (call.Join t heard)) w (join-says (λ s. copied s ≡ None) t heard refl refl refl (reply_to net h (call.Join t heard)))
-nothing_added net h once (call.JoinReply t o) w none new = added-none (call.JoinReply t o) (reply_to net h (call.JoinReply t o)) w (answer-says (λ s. copied s ≡ None) t o (λ n. refl) refl refl (reply_to net h (call.JoinReply t o)))
-nothing_added net h once (call.Close v) w none new = added-none (call.Close v) (reply_to net h (call.Close v)) w (close-says (λ s. copied s ≡ None) v (λ ack. refl) refl (reply_to net h (call.Close v)))
+nothing_added : (net : Network) (h : List Entry) → WindowsOpenOnce h → (c : Call) (w : WindowName) → opening_count h w ≡ 0 → count_by (λ o. same_window o.window w) (option_to_list (window_in c (reply_to net h c))) ≡ 0 → added w c (reply_to net h c) ≡ []
+nothing_added net h once (call.Join t heard) w none new = added-none w (call.Join t heard) (reply_to net h (call.Join t heard)) (join-says (λ s. copied s ≡ None) t heard refl refl refl (reply_to net h (call.Join t heard)))
+nothing_added net h once (call.JoinReply t o) w none new = added-none w (call.JoinReply t o) (reply_to net h (call.JoinReply t o)) (answer-says (λ s. copied s ≡ None) t o (λ n. refl) refl refl (reply_to net h (call.JoinReply t o)))
+nothing_added net h once (call.Close v) w none new = added-none w (call.Close v) (reply_to net h (call.Close v)) (close-says (λ s. copied s ≡ None) v (λ ack. refl) refl (reply_to net h (call.Close v)))
 nothing_added net h once (call.Uplink frame heard) w none new =
     let c : Call = call.Uplink frame heard in
     let r : Reply = reply_to net h c in
     elim (copied-cases net h frame heard) [
-      | inl nothing ↦ added-none c r w nothing
+      | inl nothing ↦ added-none w c r nothing
       | inr added ↦
           elim added [
             | inl copied ↦
-                elim (bool_tells (same_window copied.0.window w)) [
-                  | inl same ↦
-                      (let least : 1 ≤ open_count h w = count-member (λ (o : Opening). same_window o.window w) _ (open_windows h) copied.0 copied.1 same in
-                      let sum = once.closes w in
-                      absurd (omega (arith, least, sum, none)))
-                  | inr other ↦ added-other c r copied.0.window w heard copied.2 other
-                ]
+                added-other w c r copied.0.window heard copied.2 (false_from_ne_true (same_window copied.0.window w) (λ same.
+                let least : 1 ≤ open_count h w = count-member (λ (o : Opening). same_window o.window w) _ (open_windows h) copied.0 copied.1 same in
+                let sum = once.closes w in
+                omega (arith, least, sum, none)))
             | inr opened ↦
-                elim (bool_tells (same_window opened.0 w)) [
-                  | inl same ↦
-                      (let o : Opening = opening_of opened.0 frame heard in
-                      let one : count_by (λ (x : Opening). same_window x.window w) (o ∷ []) ≡ 1 + 0 = count-cons (λ (x : Opening). same_window x.window w) o [] ∙ ap (λ b. cond {A = ℕ} b 1 0 + 0) same in
-                      let zero_is : count_by (λ (x : Opening). same_window x.window w) (o ∷ []) ≡ 0 = sym (ap (λ x. count_by (λ (y : Opening). same_window y.window w) (option_to_list x)) opened.1) ∙ new in
-                      absurd (omega (arith, one, zero_is)))
-                  | inr other ↦ added-other c r opened.0 w heard opened.2 other
-                ]
+                added-other w c r opened.0 heard opened.2 (false_from_ne_true (same_window opened.0 w) (λ same.
+                let o : Opening = opening_of opened.0 frame heard in
+                let one : count_by (λ (x : Opening). same_window x.window w) (o ∷ []) ≡ 1 + 0 = count-cons (λ (x : Opening). same_window x.window w) o [] ∙ ap (λ b. cond {A = ℕ} b 1 0 + 0) same in
+                let zero_is : count_by (λ (x : Opening). same_window x.window w) (o ∷ []) ≡ 0 = sym (ap (λ x. count_by (λ (y : Opening). same_window y.window w) (option_to_list x)) opened.1) ∙ new in
+                omega (arith, one, zero_is)))
           ]
     ]
 
-parts_zero : (a b n : ℕ) → n ≡ a + b → n ≡ 0 → (a ≡ 0) × (b ≡ 0)
-parts_zero a b n sum none = (omega (arith, sum, none), omega (arith, sum, none))
-
 no_copies_step : (net : Network) (h : List Entry) (number : ℕ) (c : Call) → IsLegal net h → NoCopiesBefore h → NoCopiesBefore (with_call net h number c)
-unfolding NoCopiesBefore
 no_copies_step net h number c legal before w none =
     let e : Entry = entry_for net h number c in
-    let parts = parts_zero (opening_count h w) (count_by (λ (o : Opening). same_window o.window w) (option_to_list (window_in c (reply_to net h c)))) (opening_count (h ++ e ∷ []) w) (openings-added h e w) none in
+    let sum = openings-added h e w in
+    let before_none : opening_count h w ≡ 0 = omega (arith, sum, none) in
+    let new_none : count_by (λ (o : Opening). same_window o.window w) (option_to_list (window_in c (reply_to net h c))) ≡ 0 = omega (arith, sum, none) in
     window_copies-push h e w
-    ∙ (ap (λ hs. hs ++ copies_added c (reply_to net h c) w) (before w parts.0)
-    ∙ nothing_added net h (windows_open_once net h legal) c w parts.0 parts.1)
+    ∙ (ap (λ hs. hs ++ added w c (reply_to net h c)) (before w before_none)
+    ∙ nothing_added net h (windows_open_once net h legal) c w before_none new_none)
 
 no_copies : (net : Network) (h : List Entry) → IsLegal net h → NoCopiesBefore h
-unfolding NoCopiesBefore
 no_copies net h legal = legal_induction net NoCopiesBefore (λ w none. refl) (λ g number c ok before. no_copies_step net g number c ok before) h legal
 
 -- ---- what fits has a live session
 
-some-equal : (sessions : List ℕ) → AllByRecursion (λ s. list_any (λ t. t == s) sessions ≡ true) sessions
-some-equal [] = tt
-some-equal (s ∷ ss) =
-    let here : (s == s) ≡ true = grind (arith, nat_tests) in
-    (ap (λ b. b || list_any (λ t. t == s) ss) here, All-weaker (λ u. list_any (λ t. t == u) ss ≡ true) (λ u. list_any (λ t. t == u) (s ∷ ss) ≡ true) (λ u later. or_later (s == u) (list_any (λ t. t == u) ss) later) ss (some-equal ss))
-  where
-    or_later : (a b : Bool) → b ≡ true → (a || b) ≡ true
-    or_later true b later = refl
-    or_later false b later = later
+-- each element of a list passes with one of the list
+each-passes : {X : Type 0} (same : X → X → Bool) → ((x : X) → same x x ≡ true) → (xs : List X) → AllByRecursion (λ x. list_any (λ y. same y x) xs ≡ true) xs
+each-passes same refls [] = tt
+each-passes {X} same refls (x ∷ xs) = (
+  or_left (same x x) _ (refls x),
+  All-weaker (λ u. list_any (λ y. same y u) xs ≡ true) (λ u. list_any (λ y. same y u) (x ∷ xs) ≡ true) (λ u later. or_right (same x u) _ later) xs (each-passes same refls xs),
+)
 
 -- the fit's session lives
 abbrev pub Lives : List Entry → Fit → Type 0
 Lives h f = is_live h f.eui f.session ≡ true
 
 session_fit-live : (recover : Option ℕ → ℕ → Option ℕ) (h : List Entry) (frame : List ℕ) (eui : DevEui) (session : ℕ) → is_live h eui session ≡ true → IfSome (session_fit recover h frame eui session) (Lives h)
-session_fit-live recover h frame eui session lives = step (option_and_then (λ (join : JoinAns). fitting_counter recover frame join.nwk (greatest_counter h eui session)) (session_join h eui session))
-  where
-    step : (o : Option ℕ) → IfSome (option_map (fit_of eui session) o) (Lives h)
-    step None = tt
-    step (Some n) = lives
+session_fit-live recover h frame eui session lives = session_fit-has (Lives h) recover h frame eui session (λ n is mic. lives)
 
 pub device_fit-live : (recover : Option ℕ → ℕ → Option ℕ) (h : List Entry) (frame : List ℕ) (eui : DevEui) → IfSome (device_fit recover h frame eui) (Lives h)
 device_fit-live recover h frame eui =
     first-gives_of (Lives h) (session_fit recover h frame eui) (live h eui)
-    (All-weaker (λ s. is_live h eui s ≡ true) (λ s. IfSome (session_fit recover h frame eui s) (Lives h)) (λ s lives. session_fit-live recover h frame eui s lives) (live h eui) (some-equal (live h eui)))
+    (All-weaker (λ s. is_live h eui s ≡ true) (λ s. IfSome (session_fit recover h frame eui s) (Lives h)) (λ s lives. session_fit-live recover h frame eui s lives) (live h eui) (each-passes (λ s t. s == t) (λ s. eq-eqb s s refl) (live h eui)))
 
 pub first_fit-live : (recover : Option ℕ → ℕ → Option ℕ) (net : Network) (h : List Entry) (frame : List ℕ) → IfSome (first_fit recover net h frame) (Lives h)
 first_fit-live recover net h frame =
     first-gives (Lives h) (λ (d : Device). device_fit recover h frame d.eui) (λ d. device_fit-live recover h frame d.eui) (devices_at net (data_fields frame).addr)
 
 -- ---- what fits is of a device with the frame's address
-
-member : (ds : List Device) → AllByRecursion (λ d. list_any (λ x. x.eui.0 == d.eui.0) ds ≡ true) ds
-member [] = tt
-member (d ∷ ds) =
-    let here : (d.eui.0 == d.eui.0) ≡ true = grind (arith, nat_tests) in (
-      ap (λ b. b || list_any (λ x. x.eui.0 == d.eui.0) ds) here,
-      All-weaker (λ (u : Device). list_any (λ x. x.eui.0 == u.eui.0) ds ≡ true) (λ (u : Device). list_any (λ x. x.eui.0 == u.eui.0) (d ∷ ds) ≡ true) (λ u later. or_later (d.eui.0 == u.eui.0) (list_any (λ x. x.eui.0 == u.eui.0) ds) later) ds (member ds),
-    )
-  where
-    or_later : (a b : Bool) → b ≡ true → (a || b) ≡ true
-    or_later true b later = refl
-    or_later false b later = later
 
 first_fit-device : (recover : Option ℕ → ℕ → Option ℕ) (net : Network) (h : List Entry) (frame : List ℕ) → IfSome (first_fit recover net h frame) (λ f. list_any (λ d. d.eui.0 == f.eui.0) (devices_at net (data_fields frame).addr) ≡ true)
 first_fit-device recover net h frame =
@@ -185,19 +146,19 @@ first_fit-device recover net h frame =
     first-gives_of Known (λ (d : Device). device_fit recover h frame d.eui) devices
     (All-weaker (λ (d : Device). list_any (λ (x : Device). x.eui.0 == d.eui.0) devices ≡ true) (λ (d : Device). IfSome (device_fit recover h frame d.eui) Known)
     (λ d is. IfSome-weaker (λ (f : Fit). f.eui ≡ d.eui) Known (device_fit recover h frame d.eui) (λ f names. subst (λ (e : DevEui). list_any (λ (x : Device). x.eui.0 == e.0) devices ≡ true) (sym names) is) (device_fit-names recover h frame d.eui))
-    devices (member devices))
+    devices (each-passes (λ (x : Device) (d : Device). x.eui.0 == d.eui.0) (λ d. eq-eqb d.eui.0 d.eui.0 refl) devices))
 
 -- ---- the window of an opening
 
 none_found : (h : List Entry) (w : WindowName) → WindowsOpenOnce h → opening_count h w ≡ 0 → open_window h w ≡ None
-none_found h w once none = step (open_window h w) refl
-  where
-    step : (o : Option Opening) → open_window h w ≡ o → o ≡ None
-    step None is = refl
-    step (Some o) is =
-        let least : 1 ≤ open_count h w = count-found (λ (x : Opening). same_window x.window w) (open_windows h) (ap is_some is) in
-        let sum = once.closes w in
-        absurd (omega (arith, least, sum, none))
+none_found h w once none =
+    (elim (open_window h w) as (λ o. open_window h w ≡ o → o ≡ None) [
+      | None ↦ λ _. refl
+      | Some o ↦ λ is.
+          (let least : 1 ≤ open_count h w = count-found (λ (x : Opening). same_window x.window w) (open_windows h) (ap is_some is) in
+          let sum = once.closes w in
+          absurd (omega (arith, least, sum, none)))
+    ]) refl
 
 -- the device and the session of a window that is opened where a frame fits
 known_at : (net : Network) (h : List Entry) (frame : List ℕ) (w : WindowName) → FitsAt net h frame w → list_any (λ d. d.eui.0 == w.eui.0) (devices_at net (data_fields frame).addr) ≡ true
@@ -226,7 +187,6 @@ frame-apart h c r o (inl first) = first.1.apart
 frame-apart h c r o (inr next) = next.1.apart
 
 pub windows-apart : (net : Network) (h : List Entry) → IsLegal net h → (frame : List ℕ) (heard : Heard) (w : WindowName) → window_in (call.Uplink frame heard) (reply_to net h (call.Uplink frame heard)) ≡ Some (opening_of w frame heard) → IsApart h frame w
-unfolding NoCopiesBefore
 windows-apart net h legal frame heard w says =
     let c : Call = call.Uplink frame heard in
     let none = never net h legal frame heard w says in

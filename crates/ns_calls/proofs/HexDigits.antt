@@ -1,5 +1,5 @@
 -- Hex digits of eight bytes, side by side.
-use Rattle.std.proofs.Common.{◌≡◌, IsAscii, ◌&&◌, ltb, zero, suc, ℕ, ◌/◌, ◌%◌, ◌^◌, ◌<◌, Bool, true, eqb, List, [], ◌∷◌, ◌++◌, map, length, take, replicate, get_or, bit_and, w8, Fits, refl, sym, ap, ◌∙◌, arith, eqb-true}
+use Rattle.std.proofs.Common.{◌≡◌, IsAscii, ◌&&◌, ltb, zero, suc, ℕ, ◌/◌, ◌%◌, ◌^◌, ◌<◌, Bool, true, List, [], ◌∷◌, ◌++◌, map, length, replicate, get_or, bit_and, w8, Fits, refl, sym, ap, subst, ◌∙◌, arith}
 use Rattle.std.proofs.lemmas.Bool.{and_parts, ltb-true}
 use Rattle.std.specs.Simd.Lanes.{Each1, zip2, pick_l}
 use Rattle.hex.specs.Hex.{encode_with, encode_lower, lower_digits}
@@ -39,104 +39,33 @@ halves v =
     pick_l 0 (zip2 (λ a b. a / 2 ^ b) v (replicate 8 4) ++ zip2 bit_and v (replicate 8 15))
     (0 ∷ 8 ∷ 1 ∷ 9 ∷ 2 ∷ 10 ∷ 3 ∷ 11 ∷ 4 ∷ 12 ∷ 5 ∷ 13 ∷ 6 ∷ 14 ∷ 7 ∷ 15 ∷ [])
 
-eight : (P : List ℕ → Type 0) → ((a0 a1 a2 a3 a4 a5 a6 a7 : ℕ) → P (a0 ∷ a1 ∷ a2 ∷ a3 ∷ a4 ∷ a5 ∷ a6 ∷ a7 ∷ [])) → (v : List ℕ) → length v ≡ 8 → P v
-eight P f ([]) long = absurd (omega (arith, long))
-eight P f (a0 ∷ []) long = absurd (omega (arith, long))
-eight P f (a0 ∷ a1 ∷ []) long = absurd (omega (arith, long))
-eight P f (a0 ∷ a1 ∷ a2 ∷ []) long = absurd (omega (arith, long))
-eight P f (a0 ∷ a1 ∷ a2 ∷ a3 ∷ []) long = absurd (omega (arith, long))
-eight P f (a0 ∷ a1 ∷ a2 ∷ a3 ∷ a4 ∷ []) long = absurd (omega (arith, long))
-eight P f (a0 ∷ a1 ∷ a2 ∷ a3 ∷ a4 ∷ a5 ∷ []) long = absurd (omega (arith, long))
-eight P f (a0 ∷ a1 ∷ a2 ∷ a3 ∷ a4 ∷ a5 ∷ a6 ∷ []) long = absurd (omega (arith, long))
-eight P f (a0 ∷ a1 ∷ a2 ∷ a3 ∷ a4 ∷ a5 ∷ a6 ∷ a7 ∷ []) long = f a0 a1 a2 a3 a4 a5 a6 a7
-eight P f (a0 ∷ a1 ∷ a2 ∷ a3 ∷ a4 ∷ a5 ∷ a6 ∷ a7 ∷ a8 ∷ rest) long = absurd (omega (arith, long))
+-- the halves of each byte in turn
+halves_of : List ℕ → List ℕ
+halves_of [] = []
+halves_of (b ∷ bs) = b / 2 ^ 4 ∷ bit_and b 15 ∷ halves_of bs
+
+halves-of : (v : List ℕ) → length v ≡ 8 → halves v ≡ halves_of v
+unfolding halves_of
+halves-of (a0 ∷ a1 ∷ a2 ∷ a3 ∷ a4 ∷ a5 ∷ a6 ∷ a7 ∷ []) long = refl
+halves-of _ long = absurd (omega (arith, long))
+
+places_of : (v : List ℕ) → Each1 (Fits w8) v → ArePlaces (halves_of v)
+unfolding halves_of
+places_of [] fits = tt
+places_of (b ∷ bs) fits = (high_place b fits.0.fits, (low_place b fits.0.fits, places_of bs fits.1))
+
+text_of : (v : List ℕ) → Each1 (Fits w8) v → map (look_at lower_digits) (halves_of v) ≡ encode_lower v
+unfolding halves_of encode_with
+text_of [] fits = refl
+text_of (b ∷ bs) fits = joined (high_digit b fits.0.fits) (joined (low_digit b fits.0.fits) (text_of bs fits.1))
 
 pub are_places : (v : List ℕ) → length v ≡ 8 → Each1 (Fits w8) v → ArePlaces (halves v)
-are_places v long fits =
-    eight (λ v. Each1 (Fits w8) v → ArePlaces (halves v)) (λ a0 a1 a2 a3 a4 a5 a6 a7 fits. (
-      high_place a0 fits.0.fits,
-      (
-        low_place a0 fits.0.fits,
-        (
-          high_place a1 fits.1.0.fits,
-          (
-            low_place a1 fits.1.0.fits,
-            (
-              high_place a2 fits.1.1.0.fits,
-              (
-                low_place a2 fits.1.1.0.fits,
-                (
-                  high_place a3 fits.1.1.1.0.fits,
-                  (
-                    low_place a3 fits.1.1.1.0.fits,
-                    (
-                      high_place a4 fits.1.1.1.1.0.fits,
-                      (
-                        low_place a4 fits.1.1.1.1.0.fits,
-                        (
-                          high_place a5 fits.1.1.1.1.1.0.fits,
-                          (
-                            low_place a5 fits.1.1.1.1.1.0.fits,
-                            (
-                              high_place a6 fits.1.1.1.1.1.1.0.fits,
-                              (
-                                low_place a6 fits.1.1.1.1.1.1.0.fits,
-                                (
-                                  high_place a7 fits.1.1.1.1.1.1.1.0.fits,
-                                  (
-                                    low_place a7 fits.1.1.1.1.1.1.1.0.fits,
-                                    (
-                                        tt),
-                                  ),
-                                ),
-                              ),
-                            ),
-                          ),
-                        ),
-                      ),
-                    ),
-                  ),
-                ),
-              ),
-            ),
-          ),
-        ),
-      ),
-    ))
-    v long fits
+are_places v long fits = subst ArePlaces (sym (halves-of v long)) (places_of v fits)
 
 pub text_of_halves : (v : List ℕ) → length v ≡ 8 → Each1 (Fits w8) v → map (look_at lower_digits) (halves v) ≡ encode_lower v
-unfolding encode_with
-text_of_halves v long fits =
-    eight (λ v. Each1 (Fits w8) v → map (look_at lower_digits) (halves v) ≡ encode_lower v) (λ a0 a1 a2 a3 a4 a5 a6 a7 fits.
-    joined (high_digit a0 fits.0.fits) (
-    joined (low_digit a0 fits.0.fits) (
-    joined (high_digit a1 fits.1.0.fits) (
-    joined (low_digit a1 fits.1.0.fits) (
-    joined (high_digit a2 fits.1.1.0.fits) (
-    joined (low_digit a2 fits.1.1.0.fits) (
-    joined (high_digit a3 fits.1.1.1.0.fits) (
-    joined (low_digit a3 fits.1.1.1.0.fits) (
-    joined (high_digit a4 fits.1.1.1.1.0.fits) (
-    joined (low_digit a4 fits.1.1.1.1.0.fits) (
-    joined (high_digit a5 fits.1.1.1.1.1.0.fits) (
-    joined (low_digit a5 fits.1.1.1.1.1.0.fits) (
-    joined (high_digit a6 fits.1.1.1.1.1.1.0.fits) (
-    joined (low_digit a6 fits.1.1.1.1.1.1.0.fits) (
-    joined (high_digit a7 fits.1.1.1.1.1.1.1.0.fits) (
-    joined (low_digit a7 fits.1.1.1.1.1.1.1.0.fits) (
-    refl)))))))))))))))))
-    v long fits
+text_of_halves v long fits = ap (map (look_at lower_digits)) (halves-of v long) ∙ text_of v fits
 
 -- ---- four bytes, as the first half of eight
-
-four : (P : List ℕ → Type 0) → ((a0 a1 a2 a3 : ℕ) → P (a0 ∷ a1 ∷ a2 ∷ a3 ∷ [])) → (v : List ℕ) → length v ≡ 4 → P v
-four P f ([]) long = absurd (omega (arith, long))
-four P f (a0 ∷ []) long = absurd (omega (arith, long))
-four P f (a0 ∷ a1 ∷ []) long = absurd (omega (arith, long))
-four P f (a0 ∷ a1 ∷ a2 ∷ []) long = absurd (omega (arith, long))
-four P f (a0 ∷ a1 ∷ a2 ∷ a3 ∷ []) long = f a0 a1 a2 a3
-four P f (a0 ∷ a1 ∷ a2 ∷ a3 ∷ a4 ∷ rest) long = absurd (omega (arith, long))
 
 -- four bytes and as many of no meaning
 abbrev pub padded : List ℕ → List ℕ
@@ -150,4 +79,5 @@ first_half r =
 
 pub text_of_padded : (v : List ℕ) → length v ≡ 4 → first_half (encode_lower (padded v)) ≡ encode_lower v
 unfolding encode_with
-text_of_padded v long = four (λ v. first_half (encode_lower (padded v)) ≡ encode_lower v) (λ a0 a1 a2 a3. refl) v long
+text_of_padded (a0 ∷ a1 ∷ a2 ∷ a3 ∷ []) long = refl
+text_of_padded _ long = absurd (omega (arith, long))

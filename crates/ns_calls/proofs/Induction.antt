@@ -26,7 +26,7 @@ legal-front net f ys legal n e at =
     let there = get_front f ys n e at in
     legal n e there.0 ∙ ap (λ l. reply_to net l e.call) there.1
 
-get_seam : (xs ys : List Entry) (e : Entry) → (slice_get (xs ++ e ∷ ys) (length xs) ≡ Some e) × (take (length xs) (xs ++ e ∷ ys) ≡ xs)
+pub get_seam : (xs ys : List Entry) (e : Entry) → (slice_get (xs ++ e ∷ ys) (length xs) ≡ Some e) × (take (length xs) (xs ++ e ∷ ys) ≡ xs)
 get_seam [] ys e = (refl, refl)
 get_seam (x ∷ xs) ys e = (let rest = get_seam xs ys e in (rest.0, ap (λ (l : List Entry). x ∷ l) rest.1))
 

@@ -1,5 +1,6 @@
 -- The joins that a legal history accepts.
-use Rattle.std.proofs.Common.{◌≡◌, ◌⊎◌, ℕ, ◌+◌, ◌<◌, ◌≤◌, Bool, true, false, not, cond, length, nat_lt, List, [], ◌∷◌, ◌++◌, map, nat_le, unwrap_or, Option, None, Some, option_map, refl, sym, ap, subst, ◌∙◌, arith, inl, inr}
+use Rattle.std.proofs.Common.{◌≡◌, ◌⊎◌, ℕ, ◌+◌, ◌<◌, ◌≤◌, Bool, true, false, not, length, nat_lt, List, [], ◌∷◌, ◌++◌, map, nat_le, unwrap_or, Option, None, Some, option_map, refl, sym, ap, subst, ◌∙◌, arith, inl, inr}
+use Rattle.std.proofs.lemmas.Bool.{cond_both, ltb-true, leb-false, eqb-true}
 use Rattle.std.specs.List.{AllByRecursion}
 use Rattle.std.proofs.lemmas.List.{map-append}
 use Rattle.std.proofs.lemmas.Option.{none-some, same_Some}
@@ -45,15 +46,15 @@ pub record JoinCases (P : Reply → Type 0) (net : Network) (h : List Entry) (t 
 pub join-has : (P : Reply → Type 0) (net : Network) (h : List Entry) (t : Ticket) → JoinCases P net h t → P (reply_to_join net h t)
 join-has P net h t cases = step (is_known net (dev_eui t) (join_eui t)) (nonce_at_or_above net h t) (is_ticket_open h t) (nat_le most_tickets (ticket_count h (dev_eui t))) refl refl refl
   where
-    copy : is_known net (dev_eui t) (join_eui t) ≡ true → (b : Bool) → nat_lt (length (ticket_copies h t)) most_copies ≡ b → P (cond b (reply.JoinCopied (length (ticket_copies h t) + 1)) reply.JoinCrowded)
-    copy known true room = cases.copied known (grind (arith, nat_tests, room))
-    copy known false full = cases.crowded
+    copies : ℕ
+    copies = length (ticket_copies h t)
 
     step : (known : Bool) (stale : Option ℕ) (is_open busy : Bool) → is_known net (dev_eui t) (join_eui t) ≡ known → is_ticket_open h t ≡ is_open → nat_le most_tickets (ticket_count h (dev_eui t)) ≡ busy →
         P (first_case (when (not known) reply.NoDevice ∷ option_map (λ g. reply.NonceOld (record { 0 = g })) stale ∷ option_map join_copy_reply (when is_open (length (ticket_copies h t))) ∷ when busy reply.JoinBusy ∷ []) (reply.Ask t))
     step false stale is_open busy known opens full = cases.unknown known
     step true (Some g) is_open busy known opens full = cases.old known g
-    step true None true busy known opens full = copy known (nat_lt (length (ticket_copies h t)) most_copies) refl
+    step true None true busy known opens full =
+        cond_both (nat_lt copies most_copies) (reply.JoinCopied (copies + 1)) reply.JoinCrowded P (λ room. cases.copied known (ltb-true copies most_copies room)) (λ _. cases.crowded)
     step true None false true known opens full = cases.busy
     step true None false false known opens full = cases.ask known opens (grind (arith, nat_tests, full))
 
@@ -83,11 +84,7 @@ accepted-cases t (outcome.Success join) false stale eui session addr = inl refl
 -- a number that the greatest is not at or above is above the greatest
 pub exceeds_all : (greatest : Option ℕ) (n : ℕ) → at_or_above greatest n ≡ None → Exceeds greatest n
 exceeds_all None n is = tt
-exceeds_all (Some g) n is = step (nat_le n g) refl is
-  where
-    step : (b : Bool) → nat_le n g ≡ b → when b g ≡ None → g < n
-    step true tells none = absurd (cc none)
-    step false tells none = grind (arith, nat_tests)
+exceeds_all (Some g) n is = (cond_both (nat_le n g) (Some g) None (λ o. o ≡ None → g < n) (λ _ none. absurd (cc none)) (λ tells _. leb-false n g tells)) is
 
 -- what a call adds to the joins accepted of a device: nothing, or the join of its next session with a greater nonce
 pub record NewAcceptance (net : Network) (h : List Entry) (eui : DevEui) (now : List Acceptance) : Type 0 where
@@ -98,18 +95,13 @@ pub record NewAcceptance (net : Network) (h : List Entry) (eui : DevEui) (now : 
   pub nonce_above : Exceeds (greatest_nonce net h eui) (nonce a.ticket).0
 
 pub same_device-eq : (d e : DevEui) → same_device d e ≡ true → d ≡ e
-same_device-eq d e is =
-    let same : d.0 ≡ e.0 = grind (arith, nat_tests) in
-    ap (λ (n : ℕ). let x : DevEui = record { 0 = n } in x) same
+same_device-eq d e is = ap (λ (n : ℕ). let x : DevEui = record { 0 = n } in x) (eqb-true d.0 e.0 is)
 
 pub acceptances-cases : (net : Network) (h : List Entry) (number : ℕ) (c : Call) (eui : DevEui) →
     let now : List Acceptance = acceptances (with_call net h number c) eui in
     (now ≡ acceptances h eui) ⊎ NewAcceptance net h eui now
 acceptances-cases net h number c eui =
-    let e : Entry = entry_for net h number c in
-    let asked : Acceptance → Bool = λ a. same_device a.eui eui in
-    let says : Entry → Option Acceptance = λ x. acceptance_in x.call x.reply in
-    elim (said-adds says asked h e) [
+    elim (said-adds (λ (x : Entry). acceptance_in x.call x.reply) (λ (a : Acceptance). same_device a.eui eui) h (entry_for net h number c)) [
       | inl same ↦ inl same
       | inr one ↦ inr (new c one)
     ]
@@ -127,32 +119,34 @@ acceptances-cases net h number c eui =
           | inl none ↦ absurd (none-some one.thing (sym none ∙ one.says))
           | inr found ↦
               (let here : acceptance_of t (next_session h (dev_eui t)) found.0 ≡ one.thing = same_Some _ one.thing (sym found.4 ∙ one.says) in
-              let mine : dev_eui t ≡ one.thing.eui = ap (λ (a : Acceptance). a.eui) here in
-              let is : one.thing.eui ≡ eui = same_device-eq one.thing.eui eui one.asked in
-              let session_is : next_session h (dev_eui t) ≡ one.thing.session = ap (λ (a : Acceptance). a.session) here in
               let ticket_is : t ≡ one.thing.ticket = ap (λ (a : Acceptance). a.ticket) here in
-              let device_is : dev_eui t ≡ eui = mine ∙ is in
+              let device_is : dev_eui t ≡ eui = ap (λ (a : Acceptance). a.eui) here ∙ same_device-eq one.thing.eui eui one.asked in
               let above : Exceeds (greatest_nonce net h (dev_eui t)) (nonce t).0 = exceeds_all (greatest_nonce net h (dev_eui t)) (nonce t).0 found.3 in
               record {
                 a = one.thing;
                 joined = one.joined;
                 device = one.asked;
-                session = sym session_is ∙ ap (next_session h) device_is;
+                session = sym (ap (λ (a : Acceptance). a.session) here) ∙ ap (next_session h) device_is;
                 nonce_above = subst (λ (d : DevEui). Exceeds (greatest_nonce net h d) (nonce one.thing.ticket).0) device_is (subst (λ (u : Ticket). Exceeds (greatest_nonce net h (dev_eui t)) (nonce u).0) ticket_is above);
               })
         ]
+
+-- what holds of a device's joins and stays with the join of its next session holds after each call
+acceptances-hold : (net : Network) (h : List Entry) (number : ℕ) (c : Call) (eui : DevEui) (Holds : List Acceptance → Type 0) → Holds (acceptances h eui)
+    → ((a : Acceptance) → a.session ≡ next_session h eui → Exceeds (greatest_nonce net h eui) (nonce a.ticket).0 → Holds (acceptances h eui ++ a ∷ [])) → Holds (acceptances (with_call net h number c) eui)
+acceptances-hold net h number c eui Holds holds more =
+    elim (acceptances-cases net h number c eui) [
+      | inl same ↦ subst Holds (sym same) holds
+      | inr new ↦ subst Holds (sym new.joined) (more new.a new.session new.nonce_above)
+    ]
 
 -- ---- nonces rise
 
 nonces_step : (net : Network) (h : List Entry) (number : ℕ) (c : Call) → NoncesRise h → NoncesRise (with_call net h number c)
 nonces_step net h number c rises eui =
-    elim (acceptances-cases net h number c eui) [
-      | inl same ↦ subst (λ joins. Rises (map (λ a. (nonce a.ticket).0) joins)) (sym same) (rises eui)
-      | inr new ↦
-          (let nonces : List ℕ = map (λ a. (nonce a.ticket).0) (acceptances h eui) in
-          let more : Rises (nonces ++ (nonce new.a.ticket).0 ∷ []) = Rises-push nonces _ (rises eui) (Exceeds-each nonces _ (Exceeds-greater (last_nonce net eui) (maximum nonces) _ new.nonce_above).1) in
-          subst (λ joins. Rises (map (λ a. (nonce a.ticket).0) joins)) (sym new.joined) (rw map-append more))
-    ]
+    let nonces : List ℕ = nonces_of h eui in
+    acceptances-hold net h number c eui (λ joins. Rises (map (λ a. (nonce a.ticket).0) joins)) (rises eui)
+    (λ a session above. rw map-append (Rises-push nonces _ (rises eui) (Exceeds-each nonces _ (Exceeds-greater (last_nonce net eui) (maximum nonces) _ above).1)))
 
 pub nonces_rise : (net : Network) (h : List Entry) → IsLegal net h → NoncesRise h
 nonces_rise net h legal = legal_induction net NoncesRise (λ eui. tt) (λ g number c ok rises. nonces_step net g number c rises) h legal
@@ -176,23 +170,21 @@ sessions_step net h number c bounded = record {
     each_device : (eui : DevEui) → (next_session (with_call net h number c) eui ≤ nonces_up_to (greatest_nonce net (with_call net h number c) eui) + 1)
         × AllByRecursion (λ a. a.session ≤ (nonce a.ticket).0 + 1) (acceptances (with_call net h number c) eui)
     each_device eui =
-        let Holds = λ (joins : List Acceptance). (unwrap_or (maximum (map (λ (a : Acceptance). a.session) joins)) 0 + 1 ≤ nonces_up_to (greater (last_nonce net eui) (maximum (map (λ (a : Acceptance). (nonce a.ticket).0) joins))) + 1)
-        × AllByRecursion (λ (a : Acceptance). a.session ≤ (nonce a.ticket).0 + 1) joins in
-        elim (acceptances-cases net h number c eui) [
-          | inl same ↦ subst Holds (sym same) (bounded.next eui, bounded.each eui)
-          | inr new ↦
-              (let joins : List Acceptance = acceptances h eui in
-              let sessions : List ℕ = map (λ (a : Acceptance). a.session) joins in
-              let nonces : List ℕ = map (λ (a : Acceptance). (nonce a.ticket).0) joins in
-              let more = bounded_more (maximum sessions) (greater (last_nonce net eui) (maximum nonces)) (nonce new.a.ticket).0 (bounded.next eui) new.nonce_above in
-              let top_session : maximum (map (λ (a : Acceptance). a.session) (joins ++ new.a ∷ [])) ≡ greater (maximum sessions) (Some (next_session h eui)) =
-              ap maximum (map-append (λ (a : Acceptance). a.session) joins (new.a ∷ [])) ∙ (maximum-push sessions new.a.session ∙ ap (λ s. greater (maximum sessions) (Some s)) new.session) in
-              let top_nonce : greater (last_nonce net eui) (maximum (map (λ (a : Acceptance). (nonce a.ticket).0) (joins ++ new.a ∷ []))) ≡ greater (greater (last_nonce net eui) (maximum nonces)) (Some (nonce new.a.ticket).0) =
-              ap (greater (last_nonce net eui)) (ap maximum (map-append (λ (a : Acceptance). (nonce a.ticket).0) joins (new.a ∷ [])) ∙ maximum-push nonces (nonce new.a.ticket).0)
-              ∙ greater-assoc (last_nonce net eui) (maximum nonces) (Some (nonce new.a.ticket).0) in
-              let here : new.a.session ≤ (nonce new.a.ticket).0 + 1 = subst (λ s. s ≤ (nonce new.a.ticket).0 + 1) (sym new.session) more.1 in
-              subst Holds (sym new.joined) (rw (top_session, top_nonce) more.0, All-push (λ (a : Acceptance). a.session ≤ (nonce a.ticket).0 + 1) joins new.a (bounded.each eui) here))
-        ]
+        let joins : List Acceptance = acceptances h eui in
+        let sessions : List ℕ = map (λ (a : Acceptance). a.session) joins in
+        let nonces : List ℕ = map (λ (a : Acceptance). (nonce a.ticket).0) joins in
+        let last : Option ℕ = last_nonce net eui in
+        acceptances-hold net h number c eui (λ (js : List Acceptance). (unwrap_or (maximum (map (λ (a : Acceptance). a.session) js)) 0 + 1 ≤ nonces_up_to (greater last (maximum (map (λ (a : Acceptance). (nonce a.ticket).0) js))) + 1)
+        × AllByRecursion (λ (a : Acceptance). a.session ≤ (nonce a.ticket).0 + 1) js)
+        (bounded.next eui, bounded.each eui)
+        (λ a session above.
+        let more = bounded_more (maximum sessions) (greater last (maximum nonces)) (nonce a.ticket).0 (bounded.next eui) above in
+        let top_session : maximum (map (λ (b : Acceptance). b.session) (joins ++ a ∷ [])) ≡ greater (maximum sessions) (Some (next_session h eui)) =
+        ap maximum (map-append (λ (b : Acceptance). b.session) joins (a ∷ [])) ∙ (maximum-push sessions a.session ∙ ap (λ s. greater (maximum sessions) (Some s)) session) in
+        let top_nonce : greater last (maximum (map (λ (b : Acceptance). (nonce b.ticket).0) (joins ++ a ∷ []))) ≡ greater (greater last (maximum nonces)) (Some (nonce a.ticket).0) =
+        ap (greater last) (ap maximum (map-append (λ (b : Acceptance). (nonce b.ticket).0) joins (a ∷ [])) ∙ maximum-push nonces (nonce a.ticket).0) ∙ greater-assoc last (maximum nonces) (Some (nonce a.ticket).0) in
+        let here : a.session ≤ (nonce a.ticket).0 + 1 = rw session more.1 in
+        (rw (top_session, top_nonce) more.0, All-push (λ (b : Acceptance). b.session ≤ (nonce b.ticket).0 + 1) joins a (bounded.each eui) here))
 
 pub sessions_bounded : (net : Network) (h : List Entry) → IsLegal net h → SessionsAreBounded net h
 sessions_bounded net h legal =
@@ -203,14 +195,10 @@ sessions_bounded net h legal =
 above_step : (net : Network) (h : List Entry) (number : ℕ) (c : Call) → ((eui : DevEui) → AllByRecursion (λ n. Exceeds (last_nonce net eui) n) (nonces_of h eui))
     → (eui : DevEui) → AllByRecursion (λ n. Exceeds (last_nonce net eui) n) (nonces_of (with_call net h number c) eui)
 above_step net h number c above eui =
-    let Holds = λ (joins : List Acceptance). AllByRecursion (λ (n : ℕ). Exceeds (last_nonce net eui) n) (map (λ (a : Acceptance). (nonce a.ticket).0) joins) in
-    elim (acceptances-cases net h number c eui) [
-      | inl same ↦ subst Holds (sym same) (above eui)
-      | inr new ↦
-          (let nonces : List ℕ = nonces_of h eui in
-          let more = All-push (λ (n : ℕ). Exceeds (last_nonce net eui) n) nonces _ (above eui) (Exceeds-greater (last_nonce net eui) (maximum nonces) _ new.nonce_above).0 in
-          subst Holds (sym new.joined) (rw map-append more))
-    ]
+    let nonces : List ℕ = nonces_of h eui in
+    let Above : ℕ → Type 0 = λ n. Exceeds (last_nonce net eui) n in
+    acceptances-hold net h number c eui (λ joins. AllByRecursion Above (map (λ a. (nonce a.ticket).0) joins)) (above eui)
+    (λ a session exceeds. rw map-append (All-push Above nonces _ (above eui) (Exceeds-greater (last_nonce net eui) (maximum nonces) _ exceeds).0))
 
 reaches_first : (a c : Option ℕ) (m : ℕ) → Reaches (greater (greater a (Some m)) c) m
 reaches_first None None m = omega arith
@@ -234,7 +222,7 @@ nonces_within net h legal = record {
 }
 
 -- a number that the greatest reaches is below one that exceeds it
-below : (greatest : Option ℕ) (m n : ℕ) → Reaches greatest m → Exceeds greatest n → m < n
+pub below : (greatest : Option ℕ) (m n : ℕ) → Reaches greatest m → Exceeds greatest n → m < n
 below None m n reaches above = absurd reaches
 below (Some g) m n reaches above = omega (arith, reaches, above)
 

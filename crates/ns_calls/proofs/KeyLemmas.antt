@@ -1,5 +1,6 @@
 -- The join server's answer that made a session.
 use Rattle.std.proofs.Common.{◌≡◌, ℕ, ◌+◌, ◌<◌, ◌==◌, Bool, true, false, not, cond, List, [], ◌∷◌, ◌++◌, map, find, unwrap_or, Option, None, Some, IfSome, option_map, refl, sym, ap, subst, ◌∙◌, arith, inl, inr}
+use Rattle.std.proofs.lemmas.Bool.{cond_both, eq-eqb}
 use Rattle.std.specs.Prelude.{IsSome, is_some}
 use Rattle.std.specs.List.{AllByRecursion}
 use Rattle.std.specs.Option.{option_or, option_map_or}
@@ -23,7 +24,6 @@ use Rattle.ns_calls.specs.Headline.{SessionsHaveJoins, fits}
 use Rattle.ns_calls.proofs.QueryLemmas.{still_open-push}
 use Rattle.ns_calls.proofs.Lists.{said, said-push, All-push, All-after, All-weaker, All-map, IfSome-weaker, last-has, find-none, Exceeds-each}
 use Rattle.ns_calls.proofs.Induction.{legal_induction}
-use Rattle.ns_calls.proofs.JoinLemmas.{NewAcceptance}
 use Rattle.ns_calls.proofs.UplinkLemmas.{IsNewOpening, IsOpened, opening-new, window-new, openings-cases}
 
 -- the answer of a session stays once it is there
@@ -42,11 +42,11 @@ session_join-stays h e eui session join is =
     ∙ kept (find test (acceptances h eui)) (find test new) join is)
 
 pub has_join-stays : (h : List Entry) (e : Entry) (eui : DevEui) (session : ℕ) → IsSome (session_join h eui session) → IsSome (session_join (h ++ e ∷ []) eui session)
-has_join-stays h e eui session has = step (session_join h eui session) refl has
-  where
-    step : (o : Option JoinAns) → session_join h eui session ≡ o → IsSome o → IsSome (session_join (h ++ e ∷ []) eui session)
-    step None is some = absurd (cc some)
-    step (Some join) is some = ap is_some (session_join-stays h e eui session join is)
+has_join-stays h e eui session has =
+    (elim (session_join h eui session) as (λ o. session_join h eui session ≡ o → IsSome o → IsSome (session_join (h ++ e ∷ []) eui session)) [
+      | None ↦ λ _ none. absurd (cc none)
+      | Some join ↦ λ is _. ap is_some (session_join-stays h e eui session join is)
+    ]) refl has
 
 -- a join that is accepted makes a session of its own
 pub below_next : (sessions : Option ℕ) → Exceeds sessions (unwrap_or sessions 0 + 1)
@@ -60,37 +60,20 @@ next_session-new h eui =
     find-none (λ (a : Acceptance). a.session == next_session h eui) (acceptances h eui)
     (All-weaker (λ (a : Acceptance). a.session < next_session h eui) (λ (a : Acceptance). (a.session == next_session h eui) ≡ false) (λ a less. grind (arith, nat_tests)) (acceptances h eui) below)
 
-pub session_join-new : (net : Network) (h : List Entry) (eui : DevEui) (now : List Acceptance) (new : NewAcceptance net h eui now) →
-    option_map (λ a. a.join_ans) (find (λ a. a.session == new.a.session) now) ≡ Some new.a.join_ans
-session_join-new net h eui now new =
-    let test : Acceptance → Bool = λ a. a.session == new.a.session in
-    let answer_of : Option Acceptance → Option JoinAns = option_map (λ (a : Acceptance). a.join_ans) in
-    let old : find test (acceptances h eui) ≡ None = ap (λ s. find (λ (a : Acceptance). a.session == s) (acceptances h eui)) new.session ∙ next_session-new h eui in
-    let passes : test new.a ≡ true = grind (arith, nat_tests) in
-    ap (λ joins. answer_of (find test joins)) new.joined
-    ∙ (ap answer_of (find-append test (acceptances h eui) (new.a ∷ []))
-    ∙ (ap (λ o. answer_of (option_or o (cond (test new.a) (Some new.a) None))) old
-    ∙ ap (λ b. answer_of (cond b (Some new.a) None)) passes))
-
 -- ---- live sessions and open windows
 
 -- each acceptance is found by its session
 found-member : (joins : List Acceptance) → AllByRecursion (λ a. is_some (find (λ (b : Acceptance). b.session == a.session) joins) ≡ true) joins
 found-member [] = tt
-found-member (x ∷ xs) =
-    let here : (x.session == x.session) ≡ true = grind (arith, nat_tests) in (
-      ap (λ b. is_some (cond {A = Option Acceptance} b (Some x) (find (λ (c : Acceptance). c.session == x.session) xs))) here,
-      All-weaker (λ (a : Acceptance). is_some (find (λ (b : Acceptance). b.session == a.session) xs) ≡ true) (λ (a : Acceptance). is_some (find (λ (b : Acceptance). b.session == a.session) (x ∷ xs)) ≡ true)
-          (λ a later. longer (x.session == a.session) (find (λ (b : Acceptance). b.session == a.session) xs) later) xs (found-member xs),
-    )
-  where
-    longer : (b : Bool) (o : Option Acceptance) → is_some o ≡ true → is_some (cond b (Some x) o) ≡ true
-    longer true o later = refl
-    longer false o later = later
+found-member (x ∷ xs) = (
+  ap (λ b. is_some (cond {A = Option Acceptance} b (Some x) (find (λ (c : Acceptance). c.session == x.session) xs))) (eq-eqb x.session x.session refl),
+  All-weaker (λ (a : Acceptance). is_some (find (λ (b : Acceptance). b.session == a.session) xs) ≡ true) (λ (a : Acceptance). is_some (find (λ (b : Acceptance). b.session == a.session) (x ∷ xs)) ≡ true)
+      (λ a later. cond_both (x.session == a.session) (Some x) (find (λ (b : Acceptance). b.session == a.session) xs) (λ o. is_some o ≡ true) (λ _. refl) (λ _. later)) xs (found-member xs),
+)
 
-some-map : (o : Option Acceptance) → is_some o ≡ true → is_some (option_map (λ (a : Acceptance). a.join_ans) o) ≡ true
-some-map None some = absurd (cc some)
-some-map (Some a) some = refl
+pub is_some-map : {X Y : Type 0} (f : X → Y) (o : Option X) → is_some (option_map f o) ≡ is_some o
+is_some-map f None = refl
+is_some-map f (Some x) = refl
 
 -- what holds of a device's openings, and of the open windows
 record AreKeyed (h : List Entry) : Type 0 where
@@ -99,11 +82,11 @@ record AreKeyed (h : List Entry) : Type 0 where
 
 -- a window whose MIC fits has the key of its session
 fits-keyed : (h : List Entry) (frame : List ℕ) (w : WindowName) → fits h frame w ≡ true → IsSome (session_join h w.eui w.session)
-fits-keyed h frame w fit = step (session_join h w.eui w.session) fit
-  where
-    step : (o : Option JoinAns) → option_map_or (λ (join : JoinAns). mic_fits frame join.nwk.0 w.fcnt) o false ≡ true → IsSome o
-    step None is = absurd (cc is)
-    step (Some join) is = refl
+fits-keyed h frame w fit =
+    (elim (session_join h w.eui w.session) as (λ o. option_map_or (λ (join : JoinAns). mic_fits frame join.nwk.0 w.fcnt) o false ≡ true → IsSome o) [
+      | None ↦ λ is. absurd (cc is)
+      | Some join ↦ λ _. refl
+    ]) fit
 
 keyed_step : (net : Network) (h : List Entry) (number : ℕ) (c : Call) → AreKeyed h → AreKeyed (with_call net h number c)
 keyed_step net h number c keyed = record {
@@ -141,11 +124,7 @@ live-All : (P : ℕ → Type 0) (a b : Option ℕ) → IfSome a P → IfSome b P
 live-All P None None one other = tt
 live-All P None (Some y) one other = (other, tt)
 live-All P (Some x) None one other = (one, tt)
-live-All P (Some x) (Some y) one other = step (x == y)
-  where
-    step : (b : Bool) → AllByRecursion P (cond b (x ∷ []) (x ∷ y ∷ []))
-    step true = (one, tt)
-    step false = (one, (other, tt))
+live-All P (Some x) (Some y) one other = cond_both (x == y) (x ∷ []) (x ∷ y ∷ []) (AllByRecursion P) (λ _. (one, tt)) (λ _. (one, (other, tt)))
 
 pub IfSome-map : {X Y : Type 0} (P : Y → Type 0) (f : X → Y) (o : Option X) → IfSome o (λ x. P (f x)) → IfSome (option_map f o) P
 IfSome-map P f None holds = tt
@@ -159,7 +138,7 @@ sessions_have_joins net h legal =
           (let Keyed : ℕ → Type 0 = λ s. IsSome (session_join h eui s) in
           let active = IfSome-map Keyed (λ (o : Opening). o.window.session) (last (openings h eui)) (last-has (λ (o : Opening). Keyed o.window.session) (openings h eui) (keyed.of_openings eui)) in
           let each = All-weaker (λ (a : Acceptance). is_some (find (λ (b : Acceptance). b.session == a.session) (acceptances h eui)) ≡ true) (λ (a : Acceptance). Keyed a.session)
-          (λ a is. some-map (find (λ (b : Acceptance). b.session == a.session) (acceptances h eui)) is) (acceptances h eui) (found-member (acceptances h eui)) in
+          (λ a is. is_some-map (λ (b : Acceptance). b.join_ans) (find (λ (b : Acceptance). b.session == a.session) (acceptances h eui)) ∙ is) (acceptances h eui) (found-member (acceptances h eui)) in
           let newest = IfSome-map Keyed (λ (a : Acceptance). a.session) (last (acceptances h eui)) (last-has (λ (a : Acceptance). Keyed a.session) (acceptances h eui) each) in
           live-All Keyed (active_session h eui) (newest_session h eui) active newest);
       of_windows = keyed.of_windows;

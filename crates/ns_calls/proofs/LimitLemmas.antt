@@ -1,5 +1,8 @@
 -- The limits of a device, and of copies.
-use Rattle.std.proofs.Common.{◌≡◌, ℕ, ◌+◌, ◌<◌, ◌≤◌, Bool, true, false, not, cond, List, [], ◌∷◌, ◌++◌, filter, map, count_by, length, length-append, Option, None, Some, IfSome, option_to_list, refl, sym, ap, subst, ◌∙◌, arith, inl, inr}
+use Rattle.std.proofs.Common.{◌≡◌, ℕ, ◌+◌, ◌<◌, ◌≤◌, Bool, true, false, not, cond, List, [], ◌∷◌, ◌++◌, filter, map, count_by, length, length-append, Option, None, Some, IfSome, option_to_list, refl, sym, ap, subst, ◌∙◌, arith}
+use Rattle.std.proofs.lemmas.List.{length-map}
+use Rattle.std.proofs.lemmas.List.Sums.{length-filter}
+use Rattle.std.proofs.lemmas.Bool.{cond_both}
 use Rattle.std.specs.List.{list_any}
 use Rattle.std.proofs.lemmas.Bool.{false≢true}
 use Rattle.ns_types.specs.declared.identity.DevEui.{DevEui}
@@ -15,18 +18,18 @@ use Rattle.ns_calls.specs.declared.call.Reply.{Reply}
 use Rattle.ns_calls.specs.declared.call.Reply.TheVariants as reply
 use Rattle.ns_calls.specs.declared.call.Entry.{Entry}
 use Rattle.ns_calls.specs.Entries.{Opening, same_device, closes, open_windows, most_copies, opened}
-use Rattle.ns_calls.specs.History.{same_ticket, ends_ticket, asks_for, open_tickets, window_count, window_copies, ticket_count, copies_of_ticket, ticket_copies, asked, copied, join_copied}
+use Rattle.ns_calls.specs.History.{same_ticket, ends_ticket, asks_for, open_tickets, window_count, window_copies, ticket_count, copies_of_ticket, ticket_copies, copied, join_copied}
 use Rattle.ns_calls.proofs.Says.{window_in, asking_in, window_copy_in, ticket_copy_in, is_ticket, uplink-says, join-says, answer-says, close-says}
 use Rattle.ns_calls.specs.Reply.{most_windows, most_tickets, reply_to}
 use Rattle.ns_calls.specs.Legal.{IsLegal, entry_for, with_call}
 use Rattle.ns_calls.specs.Headline.{LimitsHold}
-use Rattle.ns_calls.proofs.LocalLemmas.{bool_tells}
-use Rattle.ns_calls.proofs.Lists.{count-append, count-cons, IfSome-weaker}
+use Rattle.ns_calls.proofs.Lists.{one_more, count-append, count-cons, IfSome-weaker}
 use Rattle.ns_calls.proofs.PushLemmas.{open_windows-push, window_copies-push, open_tickets-push, ticket_copies-push}
 use Rattle.ns_calls.proofs.Induction.{legal_induction}
 use Rattle.ns_calls.proofs.JoinLemmas.{same_device-eq, join-has}
 use Rattle.ns_calls.proofs.TicketLemmas.{same_ticket-eq}
 use Rattle.ns_calls.proofs.NameLemmas.{same_window-eq}
+use Rattle.ns_calls.proofs.KnownLemmas.{IsAsked, asking-new}
 use Rattle.ns_calls.proofs.UplinkLemmas.{uplink-has}
 use Rattle.ns_calls.proofs.FreshLemmas.{opened-new, again-next}
 
@@ -35,7 +38,6 @@ abbrev HasRoom : Network → List Entry → Reply → Type 0
 HasRoom net h (reply.Opened w) = window_count h w.eui < most_windows
 HasRoom net h (reply.Again w) = window_count h w.eui < most_windows
 HasRoom net h (reply.Copied w place) = length (window_copies h w) < most_copies
-HasRoom net h (reply.Ask t) = ticket_count h (dev_eui t) < most_tickets
 HasRoom net h _ = Unit {0}
 
 uplink-room : (net : Network) (h : List Entry) (frame : List ℕ) (heard : Heard) → HasRoom net h (reply_to net h (call.Uplink frame heard))
@@ -53,27 +55,25 @@ uplink-room net h frame heard = uplink-has (HasRoom net h) net h frame (record {
 
 count-filter : {X : Type 0} (test keep : X → Bool) (xs : List X) → count_by test (filter keep xs) ≤ count_by test xs
 count-filter test keep [] = omega arith
-count-filter {X} test keep (x ∷ xs) =
+count-filter test keep (x ∷ xs) =
     let ih = count-filter test keep xs in
-    let sum : count_by test (x ∷ xs) ≡ cond (test x) 1 0 + count_by test xs = count-cons test x xs in
-    elim (bool_tells (keep x)) [
-      | inl stays ↦
-          (let is : count_by test (filter keep (x ∷ xs)) ≡ cond (test x) 1 0 + count_by test (filter keep xs) = ap (λ b. count_by test (cond {A = List X} b (x ∷ filter keep xs) (filter keep xs))) stays ∙ count-cons test x (filter keep xs) in
-          omega (arith, ih, sum, is))
-      | inr goes ↦
-          (let is : count_by test (filter keep (x ∷ xs)) ≡ count_by test (filter keep xs) = ap (λ b. count_by test (cond {A = List X} b (x ∷ filter keep xs) (filter keep xs))) goes in
-          omega (arith, ih, sum, is))
-    ]
+    let sum = count-cons test x xs in
+    cond_both (keep x) (x ∷ filter keep xs) (filter keep xs) (λ ys. count_by test ys ≤ count_by test (x ∷ xs))
+    (λ _. (let kept = count-cons test x (filter keep xs) in omega (arith, ih, sum, kept))) (λ _. omega (arith, ih, sum))
 
 -- one more that may count, where there is room if it does
 one_more_fits : {X : Type 0} (test : X → Bool) (before most : ℕ) (o : Option X) → before ≤ most → IfSome o (λ x. test x ≡ true → before < most) → (kept : ℕ) → kept ≤ before → kept + count_by test (option_to_list o) ≤ most
 one_more_fits test before most None within room kept fewer = (let none : count_by test [] ≡ 0 = refl in omega (arith, within, fewer, none))
-one_more_fits {X} test before most (Some x) within room kept fewer =
-    let one : count_by test (x ∷ []) ≡ cond (test x) 1 0 + 0 = count-cons test x [] in
-    elim (bool_tells (test x)) [
-      | inl counts ↦ (let less : before < most = room counts in let is : count_by test (x ∷ []) ≡ 1 + 0 = one ∙ ap (λ b. cond {A = ℕ} b 1 0 + 0) counts in omega (arith, less, fewer, is))
-      | inr other ↦ (let is : count_by test (x ∷ []) ≡ 0 + 0 = one ∙ ap (λ b. cond {A = ℕ} b 1 0 + 0) other in omega (arith, within, fewer, is))
-    ]
+one_more_fits test before most (Some x) within room kept fewer = rw (count-cons test x []) (
+    (elim (test x) as (λ b. (b ≡ true → before < most) → kept + (cond b 1 0 + 0) ≤ most) [
+      | true ↦ λ fits. (let less = fits refl in omega (arith, less, fewer))
+      | false ↦ λ _. omega (arith, within, fewer)
+    ]) room)
+
+-- of what is still open no more pass than fit
+still_fits : {X : Type 0} (test keep : X → Bool) (most : ℕ) (xs : List X) (o : Option X) → count_by test xs ≤ most → IfSome o (λ x. test x ≡ true → count_by test xs < most) → count_by test (filter keep xs ++ option_to_list o) ≤ most
+still_fits test keep most xs o within room =
+    rw (count-append test (filter keep xs) (option_to_list o)) (one_more_fits test (count_by test xs) most o within room (count_by test (filter keep xs)) (count-filter test keep xs))
 
 opening-room : (net : Network) (h : List Entry) (frame : List ℕ) (heard : Heard) (r : Reply) → HasRoom net h r → IfSome (window_in (call.Uplink frame heard) r) (λ o. window_count h o.window.eui < most_windows)
 opening-room net h frame heard (reply.Opened w) room = room
@@ -94,28 +94,9 @@ windows_step net h number c eui within =
     let room : IfSome (window_in c (reply_to net h c)) (λ o. test o ≡ true → window_count h eui < most_windows) =
     IfSome-weaker (λ (o : Opening). window_count h o.window.eui < most_windows) (λ (o : Opening). test o ≡ true → window_count h eui < most_windows) (window_in c (reply_to net h c))
     (λ o fits same. subst (λ (d : DevEui). window_count h d < most_windows) (same_device-eq o.window.eui eui same) fits) (reply-room net h c) in
-    let sum : window_count (h ++ e ∷ []) eui ≡ count_by test (filter keep (open_windows h)) + count_by test (option_to_list (window_in c (reply_to net h c))) =
-    ap (count_by test) (open_windows-push h e) ∙ count-append test (filter keep (open_windows h)) (option_to_list (window_in c (reply_to net h c))) in
-    let most = one_more_fits test (window_count h eui) most_windows (window_in c (reply_to net h c)) within room (count_by test (filter keep (open_windows h))) (count-filter test keep (open_windows h)) in
-    subst (λ n. n ≤ most_windows) (sym sum) most
+    rw (open_windows-push h e) (still_fits test keep most_windows (open_windows h) (window_in c (reply_to net h c)) within room)
 
 -- ---- tickets
-
-join-room : (net : Network) (h : List Entry) (t : Ticket) (heard : Heard) → IfSome (asking_in (call.Join t heard) (reply_to net h (call.Join t heard))) (λ u. ticket_count h (dev_eui u) < most_tickets)
-join-room net h t heard = join-has (λ r. IfSome (asking_in (call.Join t heard) r) (λ u. ticket_count h (dev_eui u) < most_tickets)) net h t (record {
-  unknown = λ unknown. tt;
-  old = λ known greatest. tt;
-  copied = λ known room. tt;
-  crowded = tt;
-  busy = tt;
-  ask = λ known closed room. room;
-})
-
-ticket-room : (net : Network) (h : List Entry) (c : Call) → IfSome (asking_in c (reply_to net h c)) (λ u. ticket_count h (dev_eui u) < most_tickets)
-ticket-room net h (call.Join t heard) = join-room net h t heard
-ticket-room net h (call.Uplink frame heard) = uplink-says (λ s. IfSome (asked s) (λ u. ticket_count h (dev_eui u) < most_tickets)) frame heard (λ w. tt) (λ w. tt) (λ w. tt) tt (reply_to net h (call.Uplink frame heard))
-ticket-room net h (call.JoinReply t o) = answer-says (λ s. IfSome (asked s) (λ u. ticket_count h (dev_eui u) < most_tickets)) t o (λ n. tt) tt tt (reply_to net h (call.JoinReply t o))
-ticket-room net h (call.Close w) = close-says (λ s. IfSome (asked s) (λ u. ticket_count h (dev_eui u) < most_tickets)) w (λ ack. tt) tt (reply_to net h (call.Close w))
 
 tickets_step : (net : Network) (h : List Entry) (number : ℕ) (c : Call) (eui : DevEui) → ticket_count h eui ≤ most_tickets → ticket_count (with_call net h number c) eui ≤ most_tickets
 tickets_step net h number c eui within =
@@ -123,34 +104,22 @@ tickets_step net h number c eui within =
     let test : Ticket → Bool = λ u. same_device (dev_eui u) eui in
     let keep : Ticket → Bool = λ u. not (ends_ticket u e) in
     let room : IfSome (asking_in c (reply_to net h c)) (λ u. test u ≡ true → ticket_count h eui < most_tickets) =
-    IfSome-weaker (λ (u : Ticket). ticket_count h (dev_eui u) < most_tickets) (λ (u : Ticket). test u ≡ true → ticket_count h eui < most_tickets) (asking_in c (reply_to net h c))
-    (λ u fits same. subst (λ (d : DevEui). ticket_count h d < most_tickets) (same_device-eq (dev_eui u) eui same) fits) (ticket-room net h c) in
-    let sum : ticket_count (h ++ e ∷ []) eui ≡ count_by test (filter keep (open_tickets h)) + count_by test (option_to_list (asking_in c (reply_to net h c))) =
-    ap (count_by test) (open_tickets-push h e) ∙ count-append test (filter keep (open_tickets h)) (option_to_list (asking_in c (reply_to net h c))) in
-    let most = one_more_fits test (ticket_count h eui) most_tickets (asking_in c (reply_to net h c)) within room (count_by test (filter keep (open_tickets h))) (count-filter test keep (open_tickets h)) in
-    subst (λ n. n ≤ most_tickets) (sym sum) most
+    IfSome-weaker (IsAsked net h) (λ (u : Ticket). test u ≡ true → ticket_count h eui < most_tickets) (asking_in c (reply_to net h c))
+    (λ u is same. subst (λ (d : DevEui). ticket_count h d < most_tickets) (same_device-eq (dev_eui u) eui same) is.1) (asking-new net h c) in
+    rw (open_tickets-push h e) (still_fits test keep most_tickets (open_tickets h) (asking_in c (reply_to net h c)) within room)
 
 -- ---- copies of a window
 
 -- the copies that are added are one at most
 told : {X : Type 0} (test : X × Heard → Bool) (o : Option (X × Heard)) (most before : ℕ) → before ≤ most → IfSome o (λ c. test c ≡ true → before < most) → before + length (map (λ (c : X × Heard). c.1) (filter test (option_to_list o))) ≤ most
-told test None most before within room = omega (arith, within)
-told {X} test (Some c) most before within room =
-    let here : Bool → List Heard = λ b. map (λ (x : X × Heard). x.1) (cond {A = List (X × Heard)} b (c ∷ []) []) in
-    elim (bool_tells (test c)) [
-      | inl counts ↦ (let less : before < most = room counts in let is : length (here (test c)) ≡ 1 = ap (λ b. length (here b)) counts in omega (arith, less, is))
-      | inr other ↦ (let is : length (here (test c)) ≡ 0 = ap (λ b. length (here b)) other in omega (arith, within, is))
-    ]
+told test o most before within room =
+    let sum = one_more_fits test before most o within room before (omega arith) in
+    let long : length (map (λ c. c.1) (filter test (option_to_list o))) ≡ count_by test (option_to_list o) = length-map (filter test (option_to_list o)) (λ c. c.1) ∙ length-filter test (option_to_list o) in
+    omega (arith, sum, long)
 
 copy-fits : (net : Network) (h : List Entry) → IsLegal net h → (frame : List ℕ) (heard : Heard) (r : Reply) → reply_to net h (call.Uplink frame heard) ≡ r → HasRoom net h r → IfSome (window_copy_in (call.Uplink frame heard) r) (λ c. length (window_copies h c.0) < most_copies)
-copy-fits net h legal frame heard (reply.Opened w) is room =
-    let none : window_copies h w ≡ [] = (opened-new net h legal frame heard w is).copies in
-    let zero_is : length (window_copies h w) ≡ 0 = ap length none in
-    omega (arith, zero_is)
-copy-fits net h legal frame heard (reply.Again w) is room =
-    let none : window_copies h w ≡ [] = (again-next net h legal frame heard w is).copies in
-    let zero_is : length (window_copies h w) ≡ 0 = ap length none in
-    omega (arith, zero_is)
+copy-fits net h legal frame heard (reply.Opened w) is room = rw (opened-new net h legal frame heard w is).copies (omega arith)
+copy-fits net h legal frame heard (reply.Again w) is room = rw (again-next net h legal frame heard w is).copies (omega arith)
 copy-fits net h legal frame heard (reply.Copied w place) is room = room
 copy-fits net h legal frame heard _ is room = tt
 
@@ -187,15 +156,7 @@ join_copy-room net h u heard t = join-has (λ r. is_ticket t (asking_in (call.Jo
 
 -- the copies that one entry adds to a ticket
 one_entry : (e : Entry) (t : Ticket) (most before : ℕ) → before ≤ most → IfSome (ticket_copy_in e.call e.reply) (λ c. same_ticket t c.0 ≡ true → before < most) → before + length (copies_of_ticket (e ∷ []) t) ≤ most
-one_entry e t most before within room = step (ticket_copy_in e.call e.reply) (told (λ (c : Ticket × Heard). same_ticket t c.0) (ticket_copy_in e.call e.reply) most before within room) refl
-  where
-    step : (o : Option (Ticket × Heard)) → before + length (map (λ (c : Ticket × Heard). c.1) (filter (λ (c : Ticket × Heard). same_ticket t c.0) (option_to_list (ticket_copy_in e.call e.reply)))) ≤ most → ticket_copy_in e.call e.reply ≡ o → before + length (copies_of_ticket (e ∷ []) t) ≤ most
-    step None fits is =
-        let listed : length (copies_of_ticket (e ∷ []) t) ≡ length (map (λ (c : Ticket × Heard). c.1) (filter (λ (c : Ticket × Heard). same_ticket t c.0) (option_to_list (ticket_copy_in e.call e.reply)))) = rw is refl in
-        omega (arith, fits, listed)
-    step (Some c) fits is =
-        let listed : length (copies_of_ticket (e ∷ []) t) ≡ length (map (λ (x : Ticket × Heard). x.1) (filter (λ (x : Ticket × Heard). same_ticket t x.0) (option_to_list (ticket_copy_in e.call e.reply)))) = rw is refl in
-        omega (arith, fits, listed)
+one_entry e t most before within room = rw (one_more (λ (x : Entry). ticket_copy_in x.call x.reply) e) (told (λ (c : Ticket × Heard). same_ticket t c.0) (ticket_copy_in e.call e.reply) most before within room)
 
 some-any : {X : Type 0} (P : X → Type 0) (o : Option X) → ((x : X) → P x) → IfSome o P
 some-any P None each = tt
@@ -214,18 +175,15 @@ own-room net h number (call.Join u heard) t other = join_copy-room net h u heard
 ticket_copies_step : (net : Network) (h : List Entry) (number : ℕ) (c : Call) (t : Ticket) → length (ticket_copies h t) ≤ most_copies → length (ticket_copies (with_call net h number c) t) ≤ most_copies
 ticket_copies_step net h number c t within =
     let e : Entry = entry_for net h number c in
-    subst (λ hs. length hs ≤ most_copies) (sym (ticket_copies-push h e t)) (step (asks_for t e) (list_any (asks_for t) h) refl)
-  where
-    step : (now before : Bool) → asks_for t (entry_for net h number c) ≡ now →
-        length (cond now (copies_of_ticket (entry_for net h number c ∷ []) t) (cond before (ticket_copies h t ++ copies_of_ticket (entry_for net h number c ∷ []) t) [])) ≤ most_copies
-    step true before is =
-        let fits = one_entry (entry_for net h number c) t 16 0 (omega arith) (some-any (λ x. same_ticket t x.0 ≡ true → 0 < 16) (ticket_copy_in c (reply_to net h c)) (λ x _. omega arith)) in
-        omega (arith, fits)
-    step false true is =
-        let fits = one_entry (entry_for net h number c) t most_copies (length (ticket_copies h t)) within (own-room net h number c t is) in
-        let sum = length-append (ticket_copies h t) (copies_of_ticket (entry_for net h number c ∷ []) t) in
-        omega (arith, fits, sum)
-    step false false is = omega arith
+    let old : List Heard = ticket_copies h t in
+    let new : List Heard = copies_of_ticket (e ∷ []) t in
+    let Fits : List Heard → Type 0 = λ hs. length hs ≤ most_copies in
+    rw (ticket_copies-push h e t) (cond_both (asks_for t e) new (cond (list_any (asks_for t) h) (old ++ new) []) Fits
+    (λ _.
+    let fits = one_entry e t most_copies 0 (omega arith) (some-any (λ x. same_ticket t x.0 ≡ true → 0 < most_copies) (ticket_copy_in c (reply_to net h c)) (λ x _. omega arith)) in
+    omega (arith, fits))
+    (λ other. cond_both (list_any (asks_for t) h) (old ++ new) [] Fits
+    (λ _. rw (length-append old new) (one_entry e t most_copies (length old) within (own-room net h number c t other))) (λ _. omega arith)))
 
 limits_step : (net : Network) (h : List Entry) (number : ℕ) (c : Call) → IsLegal net h → LimitsHold h → LimitsHold (with_call net h number c)
 limits_step net h number c legal hold = record {

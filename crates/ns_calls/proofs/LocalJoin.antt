@@ -1,7 +1,6 @@
 -- The reply to a join, and to its answer, rests on the entries of the device's shard alone.
-use Rattle.std.proofs.Common.{◌≡◌, ℕ, ◌+◌, ◌%◌, Bool, true, false, cond, eqb, List, [], ◌∷◌, filter, map, length, option_to_list, count_by, unwrap_or, refl, sym, ap, ◌∙◌, inl, inr}
-use Rattle.std.proofs.lemmas.Bool.{eq-eqb, false≢true}
-use Rattle.std.proofs.lemmas.Bool.Decides.{eqb_tells}
+use Rattle.std.proofs.Common.{◌≡◌, ℕ, ◌+◌, ◌%◌, Bool, true, false, cond, eqb, List, [], ◌∷◌, filter, map, length, option_to_list, count_by, unwrap_or, refl, sym, ap, ◌∙◌}
+use Rattle.std.proofs.lemmas.Bool.{eq-eqb, ne_eqb, false≢true, false_from_ne_true}
 use Rattle.std.specs.List.{list_any}
 use Rattle.ns_types.specs.declared.identity.DevEui.{DevEui}
 use Rattle.ns_types.specs.declared.ticket.Ticket.{Ticket}
@@ -21,7 +20,7 @@ use Rattle.ns_calls.proofs.Says.{acceptance_in, asking_in, ending_in, ticket_cop
 use Rattle.ns_calls.specs.Reply.{join_rule, answer_rule, reply_to_join, reply_to_join_reply, address, is_failed}
 use Rattle.ns_calls.specs.Shards.{shard_of_call, of_shard}
 use Rattle.ns_calls.proofs.TicketLemmas.{same_ticket-eq}
-use Rattle.ns_calls.proofs.LocalLemmas.{bool_tells, filter_map-own, list_any-own, count_by-own, still_open-own, from_last-own}
+use Rattle.ns_calls.proofs.LocalLemmas.{filter_map-own, list_any-own, count_by-own, still_open-own, from_last-own}
 
 -- whether an entry, and whether a ticket, is of shard k
 abbrev pub here : ℕ → Entry → Bool
@@ -31,18 +30,11 @@ abbrev own : ℕ → Ticket → Bool
 own k t = eqb (shard_of (dev_eui t)) k
 
 pub other_device : (k d e : ℕ) → e % 16 ≡ k → eqb (d % 16) k ≡ false → eqb d e ≡ false
-other_device k d e h n =
-    elim (eqb_tells d e) [
-      | inl same ↦ absurd (false≢true (sym n ∙ eq-eqb (d % 16) k (ap (λ m. m % 16) same.1 ∙ h)))
-      | inr differs ↦ differs.0
-    ]
+other_device k d e h n = ne_eqb d e (λ same. false≢true (sym n ∙ eq-eqb (d % 16) k (ap (λ m. m % 16) same ∙ h)))
 
 other_ticket : (k : ℕ) (t u : Ticket) → own k t ≡ true → own k u ≡ false → same_ticket t u ≡ false
 other_ticket k t u mine other =
-    elim (bool_tells (same_ticket t u)) [
-      | inl same ↦ absurd (false≢true (sym other ∙ (ap (own k) (sym (same_ticket-eq t u same)) ∙ mine)))
-      | inr differs ↦ differs
-    ]
+    false_from_ne_true (same_ticket t u) (λ same. false≢true (sym other ∙ (ap (own k) (sym (same_ticket-eq t u same)) ∙ mine)))
 
 pub none_single : {X : Type 0} (q : X → Bool) (x : X) → q x ≡ false → filter q (x ∷ []) ≡ []
 none_single {X} q x h = ap (λ b. cond {A = List X} b (x ∷ []) []) h

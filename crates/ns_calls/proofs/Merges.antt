@@ -1,8 +1,8 @@
 -- Every merge of the shards' histories is a history of the plain server.
-use Rattle.std.proofs.Common.{◌≡◌, ℕ, zero, suc, ◌==◌, Bool, true, false, cond, List, [], ◌∷◌, ◌++◌, length, take, drop, option_map, Some, IfSome, slice_get, slice_set, refl, ap, sym, ◌∙◌, subst, arith}
+use Rattle.std.proofs.Common.{◌≡◌, ℕ, zero, suc, ◌==◌, cond, List, [], ◌∷◌, ◌++◌, length, take, drop, option_map, Some, IfSome, slice_get, slice_set, refl, ap, sym, ◌∙◌, subst, arith, inl, inr}
 use Rattle.std.specs.List.{AllByRecursion, Contains}
 use Rattle.std.proofs.lemmas.List.Elements.{filter-append}
-use Rattle.std.proofs.lemmas.Bool.Decides.{nat_tests}
+use Rattle.std.proofs.lemmas.Bool.{eq-eqb, cases_eq}
 use Rattle.ns_types.specs.Identity.{shard_of}
 use Rattle.ns_roster.specs.Network.{Network}
 use Rattle.ns_roster.specs.Valid.{IsRoster}
@@ -19,6 +19,7 @@ use Rattle.ns_calls.specs.Queries.{first}
 use Rattle.ns_calls.specs.Entries.{Opening, open_windows}
 use Rattle.ns_calls.specs.Headline.{oldest}
 use Rattle.ns_calls.specs.Merges.{AreHistories, MergesAreLegal, Sent, out}
+use Rattle.ns_calls.proofs.Induction.{get_seam}
 use Rattle.ns_calls.proofs.MergeLemmas.{filter-merge, own_rest, slice_get-set_other}
 use Rattle.ns_calls.proofs.ShardLemmas.{Housed, AllHoused, InShard, IsOwn, open_windows-mine}
 use Rattle.ns_calls.proofs.PartLemmas.{legal-housed, reply-own, out-own}
@@ -27,14 +28,6 @@ split_at : (xs : List Entry) (n : ℕ) (e : Entry) → slice_get xs n ≡ Some e
 split_at [] n e at = absurd (cc at)
 split_at (x ∷ xs) zero e at = cc
 split_at (x ∷ xs) (suc n) e at = ap (λ l. x ∷ l) (split_at xs n e at)
-
-get_seam : (xs ys : List Entry) (e : Entry) → slice_get (xs ++ e ∷ ys) (length xs) ≡ Some e
-get_seam [] ys e = refl
-get_seam (x ∷ xs) ys e = get_seam xs ys e
-
-take_seam : (xs ys : List Entry) → take (length xs) (xs ++ ys) ≡ xs
-take_seam [] ys = refl
-take_seam (x ∷ xs) ys = ap (λ l. x ∷ l) (take_seam xs ys)
 
 -- of a list by its places
 pub by_place : (P : Entry → Type 0) (xs : List Entry) → ((n : ℕ) (e : Entry) → slice_get xs n ≡ Some e → P e) → AllByRecursion P xs
@@ -66,16 +59,12 @@ home_of (x ∷ xs) lists own merge zero e at =
     let same : x ≡ e = cc in
     let of : shard_of_call x.call ≡ merge.0 = (own merge.0 (x ∷ merge.1) merge.2).0 in
     (x ∷ merge.1, subst (λ (y : Entry). slice_get lists (shard_of_call y.call) ≡ Some (x ∷ merge.1)) same (subst (λ i. slice_get lists i ≡ Some (x ∷ merge.1)) (sym of) merge.2))
-home_of (x ∷ xs) lists own merge (suc n) e at = step (home_of xs (slice_set lists merge.0 merge.1) (own_rest (λ (y : Entry). shard_of_call y.call) lists merge.0 x merge.1 merge.2 own) merge.3 n e at) (shard_of_call e.call == merge.0) refl
-  where
-    step : ((h : List Entry) × (slice_get (slice_set lists merge.0 merge.1) (shard_of_call e.call) ≡ Some h)) → (b : Bool) → (shard_of_call e.call == merge.0) ≡ b → (h : List Entry) × (slice_get lists (shard_of_call e.call) ≡ Some h)
-    step found true is =
-        let same : shard_of_call e.call ≡ merge.0 = grind (arith, nat_tests) in
-        (x ∷ merge.1, subst (λ i. slice_get lists i ≡ Some (x ∷ merge.1)) (sym same) merge.2)
-    step found false is = (found.0, sym (slice_get-set_other lists merge.0 (shard_of_call e.call) merge.1 (λ same. absurd (differs same))) ∙ found.1)
-      where
-        differs : shard_of_call e.call ≡ merge.0 → ⊥
-        differs same = grind (arith, nat_tests)
+home_of (x ∷ xs) lists own merge (suc n) e at =
+    let found = home_of xs (slice_set lists merge.0 merge.1) (own_rest (λ (y : Entry). shard_of_call y.call) lists merge.0 x merge.1 merge.2 own) merge.3 n e at in
+    elim (cases_eq (shard_of_call e.call) merge.0) [
+      | inl same ↦ (x ∷ merge.1, subst (λ i. slice_get lists i ≡ Some (x ∷ merge.1)) (sym same) merge.2)
+      | inr differs ↦ (found.0, sym (slice_get-set_other lists merge.0 (shard_of_call e.call) merge.1 differs) ∙ found.1)
+    ]
 
 -- an entry of a merge stands in its own shard's history at its number, and before it stands there what the merge has of the shard before it
 record StandsAt (lists : List (List Entry)) (merged : List Entry) (n : ℕ) (e : Entry) (h : List Entry) : Type 0 where
@@ -92,17 +81,16 @@ stands net lists merged all merge n e at =
     let whole : of_shard k merged ≡ h = filter-merge (λ (x : Entry). shard_of_call x.call) merged lists merge own k h home.1 in
     let front : List Entry = of_shard k (take n merged) in
     let back : List Entry = of_shard k (drop (suc n) merged) in
-    let mine : (k == k) ≡ true = grind (arith, nat_tests) in
-    let seam : of_shard k (e ∷ drop (suc n) merged) ≡ e ∷ back = ap (λ b. cond {A = List Entry} b (e ∷ back) back) mine in
+    let seam : of_shard k (e ∷ drop (suc n) merged) ≡ e ∷ back = ap (λ b. cond {A = List Entry} b (e ∷ back) back) (eq-eqb k k refl) in
     let cut : of_shard k merged ≡ front ++ e ∷ back = ap (of_shard k) (split_at merged n e at) ∙ (filter-append (λ (x : Entry). shard_of_call x.call == k) (take n merged) (e ∷ drop (suc n) merged) ∙ ap (λ l. front ++ l) seam) in
     let is : h ≡ front ++ e ∷ back = sym whole ∙ cut in
-    let there : slice_get h (length front) ≡ Some e = ap (λ l. slice_get l (length front)) is ∙ get_seam front back e in
+    let there : slice_get h (length front) ≡ Some e = ap (λ l. slice_get l (length front)) is ∙ (get_seam front back e).0 in
     let number : e.number ≡ length front = (all k h home.1).numbered (length front) e there in (
       h,
       record {
         home = home.1;
         here = ap (slice_get h) number ∙ there;
-        before = ap (λ i. take i h) number ∙ (ap (take (length front)) is ∙ take_seam front (e ∷ back));
+        before = ap (λ i. take i h) number ∙ (ap (take (length front)) is ∙ (get_seam front back e).1);
       },
     )
 

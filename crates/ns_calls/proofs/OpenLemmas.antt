@@ -1,5 +1,6 @@
 -- What is still open was opened by one element, and ended by none after it.
 use Rattle.std.proofs.Common.{◌≡◌, zero, suc, Bool, true, false, not, ◌||◌, cond, List, [], ◌∷◌, ◌++◌, filter, find, Option, None, Some, option_to_list, refl, sym, ap, subst, ◌∙◌, arith, inl, inr}
+use Rattle.std.proofs.lemmas.Bool.{cond_both, not-true, or_parts}
 use Rattle.std.specs.List.{AllByRecursion, list_any, Contains}
 use Rattle.std.proofs.lemmas.List.Elements.{Contains-append_left, Contains-append_right, Contains-append_cases}
 use Rattle.std.proofs.lemmas.Option.{same_Some}
@@ -20,13 +21,9 @@ record Stands {E X : Type 0} (opens : E → Option X) (ends : X → E → Bool) 
   opened : opens entry ≡ Some x
   stays : AllByRecursion (λ e. ends x e ≡ false) after
 
-or_none : (a b : Bool) → (a || b) ≡ false → (a ≡ false) × (b ≡ false)
-or_none true b is = absurd (cc is)
-or_none false b is = (refl, is)
-
-none-each : {E : Type 0} (test : E → Bool) (es : List E) → list_any test es ≡ false → AllByRecursion (λ e. test e ≡ false) es
+pub none-each : {E : Type 0} (test : E → Bool) (es : List E) → list_any test es ≡ false → AllByRecursion (λ e. test e ≡ false) es
 none-each test [] is = tt
-none-each test (e ∷ es) is = (let both = or_none (test e) (list_any test es) is in (both.0, none-each test es both.1))
+none-each test (e ∷ es) is = (let both = or_parts (test e) (list_any test es) is in (both.0, none-each test es both.1))
 
 each-none : {E : Type 0} (test : E → Bool) (es : List E) → AllByRecursion (λ e. test e ≡ false) es → list_any test es ≡ false
 each-none test [] all = refl
@@ -42,15 +39,12 @@ the_element y x (suc k, lt, is) = absurd (omega (arith, lt))
 -- what a filter leaves of one that may be there
 kept_one : {X : Type 0} (keep : X → Bool) (o : Option X) (x : X) → Contains (filter keep (option_to_list o)) x → (o ≡ Some x) × (keep x ≡ true)
 kept_one keep None x has = absurd (no_element x has)
-kept_one {X} keep (Some y) x has = step (keep y) refl has
-  where
-    step : (b : Bool) → keep y ≡ b → Contains (cond {A = List X} b (y ∷ []) []) x → (Some y ≡ Some x) × (keep x ≡ true)
-    step true kept there = (let same : y ≡ x = the_element y x there in (ap Some same, subst (λ z. keep z ≡ true) same kept))
-    step false gone there = absurd (no_element x there)
+kept_one keep (Some y) x has =
+    (cond_both (keep y) (y ∷ []) [] (λ ys. Contains ys x → (Some y ≡ Some x) × (keep x ≡ true))
+    (λ kept there. (let same : y ≡ x = the_element y x there in (ap Some same, subst (λ z. keep z ≡ true) same kept))) (λ _ there. absurd (no_element x there))) has
 
 pub not_false : (b : Bool) → not b ≡ true → b ≡ false
-not_false true is = absurd (cc is)
-not_false false is = refl
+not_false = not-true
 
 opened-stands : {E X : Type 0} (opens : E → Option X) (ends : X → E → Bool) (es : List E) (x : X) → Contains (still_open opens ends es) x → Stands opens ends es x
 opened-stands opens ends [] x has = absurd (no_element x has)
@@ -100,8 +94,8 @@ is-open_ticket h t s =
 -- what is found is an element
 pub find-contained : {X : Type 0} (test : X → Bool) (xs : List X) (x : X) → find test xs ≡ Some x → Contains xs x
 find-contained test [] x is = absurd (cc is)
-find-contained {X} test (y ∷ ys) x is = step (find-contained test ys x) (test y) is
-  where
-    step : (find test ys ≡ Some x → Contains ys x) → (b : Bool) → cond {A = Option X} b (Some y) (find test ys) ≡ Some x → Contains (y ∷ ys) x
-    step later true found = (let same : y ≡ x = same_Some y x found in (0, omega arith, same))
-    step later false found = Contains-append_right (y ∷ []) ys x (later found)
+find-contained {X} test (y ∷ ys) x is =
+    (elim (test y) as (λ b. cond {A = Option X} b (Some y) (find test ys) ≡ Some x → Contains (y ∷ ys) x) [
+      | true ↦ λ found. (0, omega arith, same_Some y x found)
+      | false ↦ λ found. Contains-append_right (y ∷ []) ys x (find-contained test ys x found)
+    ]) is

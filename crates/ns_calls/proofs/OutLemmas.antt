@@ -1,7 +1,10 @@
 -- What goes out, and with which replies.
-use Rattle.std.proofs.Common.{◌≡◌, ◌⊎◌, ℕ, ◌+◌, ◌<◌, Bool, true, false, not, ◌&&◌, ◌||◌, cond, List, [], ◌∷◌, ◌++◌, filter, filter_map, map, length, Option, None, Some, IfSome, option_map, option_to_list, length-append, refl, sym, ap, subst, ◌∙◌, arith, inl, inr}
+use Rattle.std.proofs.Common.{◌≡◌, ◌⊎◌, ℕ, ◌+◌, ◌<◌, Bool, true, false, not, ◌&&◌, ◌||◌, cond, List, [], ◌∷◌, ◌++◌, map, length, Option, None, Some, IfSome, option_map, length-append, refl, sym, ap, subst, ◌∙◌, arith, inl, inr}
+use Rattle.ns_calls.specs.declared.answer.Downlink.{Downlink}
+use Rattle.std.proofs.lemmas.Bool.{and_parts, or_cases, or_left, or_right, cond-true}
+use Rattle.std.proofs.Math.Bool.{or-false}
 use Rattle.std.specs.Prelude.{IsSome, is_some}
-use Rattle.std.specs.List.{AllByRecursion, list_any, cons_option}
+use Rattle.std.specs.List.{AllByRecursion, list_any}
 use Rattle.std.specs.Option.{option_and_then}
 use Rattle.ns_types.specs.declared.identity.DevAddr.{DevAddr}
 use Rattle.ns_types.specs.declared.identity.DevEui.{DevEui}
@@ -25,14 +28,13 @@ use Rattle.ns_calls.specs.declared.call.Entry.{Entry}
 use Rattle.ns_calls.specs.Accept.{accept_bytes}
 use Rattle.ns_calls.specs.Queries.{from_last}
 use Rattle.ns_calls.specs.Entries.{Opening, closes, open_windows}
-use Rattle.ns_calls.specs.History.{asks_for, ends_ticket, same_ticket, open_window, window_copies, is_ticket_open, ticket_copies, copies_of_ticket, session_join, next_session}
-use Rattle.ns_calls.proofs.Says.{window_in, window_copy_in, ticket_copy_in, opening-copy, asking-copy}
+use Rattle.ns_calls.specs.History.{asks_for, ends_ticket, open_window, window_copies, is_ticket_open, ticket_copies, copies_of_ticket, session_join, next_session}
+use Rattle.ns_calls.proofs.Says.{window_in, window_copy_in, opening-copy, asking-copy}
 use Rattle.ns_calls.specs.Reply.{reply_to, reply_to_uplink, is_failed, address, ack_number}
 use Rattle.ns_calls.specs.Out.{uplink_of, first_uplink_of, uplink_out, downlink_out, downlink_to, ack_frame, ack_downlink, join_accept_delay}
 use Rattle.ns_calls.specs.Legal.{IsLegal, entry_for, with_call}
 use Rattle.ns_calls.specs.Headline.{WindowsHaveCopies, hands_out_downlink, GoesOut, nonce_at_or_above}
 use Rattle.ns_calls.specs.Laws.{hands_out_uplink}
-use Rattle.ns_calls.proofs.LocalLemmas.{bool_tells}
 use Rattle.ns_calls.proofs.Lists.{All-after, All-weaker, IfSome-weaker, find-has}
 use Rattle.ns_calls.proofs.PushLemmas.{open_windows-push, window_copies-push}
 use Rattle.ns_calls.proofs.TicketLemmas.{is_ticket_open-cons}
@@ -40,25 +42,15 @@ use Rattle.ns_calls.proofs.Induction.{legal_induction}
 use Rattle.ns_calls.proofs.JoinLemmas.{join_reply_by, join-has}
 use Rattle.ns_calls.proofs.UplinkLemmas.{uplink-has}
 use Rattle.ns_calls.proofs.NameLemmas.{same_window-refl, same_window-eq}
-use Rattle.ns_calls.proofs.KeyLemmas.{sessions_have_joins}
+use Rattle.ns_calls.proofs.KeyLemmas.{is_some-map, sessions_have_joins}
 
 -- ---- an open window has a copy
 
 copies-stay : (h : List Entry) (e : Entry) (w : WindowName) → 0 < length (window_copies h w) → 0 < length (window_copies (h ++ e ∷ []) w)
-copies-stay h e w some =
-    let more : List Heard = map (λ (c : WindowName × Heard). c.1) (filter (λ (c : WindowName × Heard). same_window c.0 w) (option_to_list (window_copy_in e.call e.reply))) in
-    let is : length (window_copies (h ++ e ∷ []) w) ≡ length (window_copies h w) + length more = ap length (window_copies-push h e w) ∙ length-append (window_copies h w) more in
-    omega (arith, is, some)
+copies-stay h e w some = rw (window_copies-push h e w, length-append) (omega (arith, some))
 
 copies-new : (h : List Entry) (e : Entry) (o : Opening) → window_copy_in e.call e.reply ≡ Some (o.window, o.heard) → 0 < length (window_copies (h ++ e ∷ []) o.window)
-copies-new h e o copied =
-    let asked : WindowName × Heard → Bool = λ c. same_window c.0 o.window in
-    let told : List (WindowName × Heard) → List Heard = λ cs. map (λ (c : WindowName × Heard). c.1) cs in
-    let here : told (filter asked (option_to_list (window_copy_in e.call e.reply))) ≡ o.heard ∷ [] =
-    ap (λ c. told (filter asked (option_to_list c))) copied ∙ ap (λ b. told (cond {A = List (WindowName × Heard)} b ((o.window, o.heard) ∷ []) [])) (same_window-refl o.window) in
-    let is : length (window_copies (h ++ e ∷ []) o.window) ≡ length (window_copies h o.window) + 1 =
-    ap length (window_copies-push h e o.window ∙ ap (λ hs. window_copies h o.window ++ hs) here) ∙ length-append (window_copies h o.window) (o.heard ∷ []) in
-    omega (arith, is)
+copies-new h e o copied = rw (window_copies-push h e o.window, copied, same_window-refl o.window, length-append) (omega arith)
 
 copies_step : (net : Network) (h : List Entry) (number : ℕ) (c : Call) → WindowsHaveCopies h → WindowsHaveCopies (with_call net h number c)
 copies_step net h number c copied =
@@ -83,54 +75,31 @@ best-some (c ∷ cs) some = refl
 -- ---- an open ticket has a copy
 
 pub or_true : (a b : Bool) → (a || b) ≡ true → (a ≡ true) ⊎ (b ≡ true)
-or_true true b is = inl refl
-or_true false b is = inr is
-
-and_left : (a b : Bool) → (a && b) ≡ true → a ≡ true
-and_left true b is = refl
-and_left false b is = is
-
-or_right : (a : Bool) → (a || true) ≡ true
-or_right true = refl
-or_right false = refl
+or_true = or_cases
 
 -- an open ticket was asked for
 pub open-asked : (h : List Entry) (t : Ticket) → is_ticket_open h t ≡ true → list_any (asks_for t) h ≡ true
 open-asked [] t is = absurd (cc is)
 open-asked (e ∷ es) t is =
     elim (or_true (asks_for t e && not (list_any (ends_ticket t) es)) (is_ticket_open es t) (sym (is_ticket_open-cons e es t) ∙ is)) [
-      | inl here ↦ ap (λ b. b || list_any (asks_for t) es) (and_left (asks_for t e) _ here)
-      | inr later ↦ ap (λ b. asks_for t e || b) (open-asked es t later) ∙ or_right (asks_for t e)
+      | inl here ↦ or_left (asks_for t e) _ (and_parts (asks_for t e) _ here).0
+      | inr later ↦ or_right (asks_for t e) _ (open-asked es t later)
     ]
 
 -- the last element that passes, and those after it
 from_last-first : {E : Type 0} (test : E → Bool) (es : List E) → list_any test es ≡ true → (x : E) × (rest : List E) × (from_last test es ≡ x ∷ rest) × (test x ≡ true)
 from_last-first test [] is = absurd (cc is)
 from_last-first {E} test (e ∷ es) is =
-    let whole : Bool → Bool → List E = λ any this. cond any (from_last test es) (cond this (e ∷ es) []) in
-    elim (bool_tells (list_any test es)) [
-      | inl later ↦
-          (let found = from_last-first test es later in
-          (found.0, found.1, ap (λ b. whole b (test e)) later ∙ found.2, found.3))
-      | inr last_one ↦
-          (let here : test e ≡ true = sym (or_none (test e)) ∙ (ap (λ b. test e || b) (sym last_one) ∙ is) in
-          (e, es, ap (λ b. whole b (test e)) last_one ∙ ap (λ b. whole false b) here, here))
-    ]
-  where
-    or_none : (a : Bool) → (a || false) ≡ a
-    or_none true = refl
-    or_none false = refl
+    let Found : Bool → Type 0 = λ any. (x : E) × (rest : List E) × (cond any (from_last test es) (cond (test e) (e ∷ es) []) ≡ x ∷ rest) × (test x ≡ true) in
+    (elim (list_any test es) as (λ any. list_any test es ≡ any → (test e || any) ≡ true → Found any) [
+      | true ↦ λ later _. from_last-first test es later
+      | false ↦ λ _ last_one.
+          (let here : test e ≡ true = sym (or-false (test e)) ∙ last_one in
+          (e, es, cond-true (test e) (e ∷ es) [] here, here))
+    ]) refl is
 
 asked-copies : (t : Ticket) (x : Entry) (rest : List Entry) → asks_for t x ≡ true → 0 < length (copies_of_ticket (x ∷ rest) t)
-asked-copies t x rest is =
-    let copy = asking-copy t x.call x.reply is in
-    let says : Entry → Option (Ticket × Heard) = λ e. ticket_copy_in e.call e.reply in
-    let asked : Ticket × Heard → Bool = λ c. same_ticket t c.0 in
-    let told : List (Ticket × Heard) → List Heard = λ cs. map (λ (c : Ticket × Heard). c.1) cs in
-    let first : copies_of_ticket (x ∷ rest) t ≡ copy.1 ∷ told (filter asked (filter_map says rest)) =
-    ap (λ o. told (filter asked (cons_option o (filter_map says rest)))) copy.2
-    ∙ ap (λ b. told (cond {A = List (Ticket × Heard)} b ((copy.0, copy.1) ∷ filter asked (filter_map says rest)) (filter asked (filter_map says rest)))) copy.3 in
-    subst (λ hs. 0 < length hs) (sym first) (omega arith)
+asked-copies t x rest is = (let copy = asking-copy t x.call x.reply is in rw (copy.2, copy.3) (omega arith))
 
 pub open-heard : (h : List Entry) (t : Ticket) → is_ticket_open h t ≡ true → is_some (best (ticket_copies h t)) ≡ true
 open-heard h t is =
@@ -139,11 +108,10 @@ open-heard h t is =
 
 -- ---- the replies with which nothing goes out
 
-IsQuiet : Reply → Type 0
+abbrev IsQuiet : Reply → Type 0
 IsQuiet r = (hands_out_uplink r ≡ false) × (hands_out_downlink r ≡ false)
 
 uplink-quiet : (net : Network) (h : List Entry) (frame : List ℕ) → IsQuiet (reply_to_uplink net h frame)
-unfolding IsQuiet
 uplink-quiet net h frame = uplink-has IsQuiet net h frame (record {
   copied = λ o is room. (refl, refl);
   crowded = λ o is full. (refl, refl);
@@ -155,7 +123,6 @@ uplink-quiet net h frame = uplink-has IsQuiet net h frame (record {
 })
 
 join-quiet : (net : Network) (h : List Entry) (t : Ticket) (heard : Heard) → IsQuiet (reply_to net h (call.Join t heard))
-unfolding IsQuiet
 join-quiet net h t heard = join-has IsQuiet net h t (record {
   unknown = λ unknown. (refl, refl);
   old = λ known greatest. (refl, refl);
@@ -172,22 +139,19 @@ out_of_join_reply : (net : Network) (h : List Entry) (t : Ticket) (o : Outcome) 
     (false ≡ hands_out_uplink r) × (is_some (downlink_out net h (call.JoinReply t o) r) ≡ hands_out_downlink r)
 out_of_join_reply net h t outcome.Failed true heard stale eui session addr = (refl, refl)
 out_of_join_reply net h t outcome.Failed false heard stale eui session addr = (refl, refl)
-out_of_join_reply net h t (outcome.Success join) true heard None eui session addr = (refl, step (best (ticket_copies h t)) (heard refl))
-  where
-    step : (o : Option Heard) → is_some o ≡ true → is_some (option_map (λ copy. downlink_to (accept_bytes join.accept) (rx1 copy 0 join_accept_delay)) o) ≡ true
-    step None some = some
-    step (Some copy) some = refl
+out_of_join_reply net h t (outcome.Success join) true heard None eui session addr =
+    (refl, is_some-map (λ copy. downlink_to (accept_bytes join.accept) (rx1 copy 0 join_accept_delay)) (best (ticket_copies h t)) ∙ heard refl)
 out_of_join_reply net h t (outcome.Success join) true heard (Some g) eui session addr = (refl, refl)
 out_of_join_reply net h t (outcome.Success join) false heard stale eui session addr = (refl, refl)
 
 ack-goes_out : (net : Network) (h : List Entry) (o : Opening) (n : ℕ) → IsSome (session_join h o.window.eui o.window.session) → is_some (best (window_copies h o.window)) ≡ true → is_some (ack_downlink net h o n) ≡ true
-ack-goes_out net h o n keyed heard = step (session_join h o.window.eui o.window.session) (best (window_copies h o.window)) keyed heard
-  where
-    step : (j : Option JoinAns) (c : Option Heard) → IsSome j → is_some c ≡ true →
-        is_some (option_and_then (λ (join : JoinAns). option_map (λ copy. downlink_to (ack_frame join.nwk.0 (data_fields o.frame).addr n) (rx1 copy net.rx1_offset (ack_delay net))) c) j) ≡ true
-    step None c some heard = some
-    step (Some join) None some heard = heard
-    step (Some join) (Some copy) some heard = refl
+ack-goes_out net h o n keyed heard =
+    let sent : JoinAns → Heard → Downlink = λ join copy. downlink_to (ack_frame join.nwk.0 (data_fields o.frame).addr n) (rx1 copy net.rx1_offset (ack_delay net)) in
+    let copy : Option Heard = best (window_copies h o.window) in
+    (elim (session_join h o.window.eui o.window.session) as (λ j. IsSome j → is_some (option_and_then (λ (join : JoinAns). option_map (sent join) copy) j) ≡ true) [
+      | None ↦ λ none. none
+      | Some join ↦ λ _. is_some-map (sent join) copy ∙ heard
+    ]) keyed
 
 out_of_close : (net : Network) (h : List Entry) (w : WindowName) (found : Option Opening) → open_window h w ≡ found
     → IfSome found (λ o. (IsSome (session_join h o.window.eui o.window.session) × (0 < length (window_copies h o.window))) × (same_window o.window w ≡ true)) →
@@ -195,11 +159,10 @@ out_of_close : (net : Network) (h : List Entry) (w : WindowName) (found : Option
     (is_some (uplink_out h (call.Close w) r) ≡ hands_out_uplink r) × (is_some (downlink_out net h (call.Close w) r) ≡ hands_out_downlink r)
 out_of_close net h w None is whole = (refl, refl)
 out_of_close net h w (Some o) is whole =
-    (ap (λ found. is_some (option_and_then (first_uplink_of h) found)) is ∙ (first (is_first o.window) ∙ ap is_first (same_window-eq o.window w whole.1)), step (ack_number h o))
+    (ap (λ found. is_some (option_and_then (first_uplink_of h) found)) is ∙ (first ∙ ap is_first (same_window-eq o.window w whole.1)), step (ack_number h o))
   where
-    first : (b : Bool) → is_some (when b (uplink_of h o)) ≡ b
-    first true = refl
-    first false = refl
+    first : is_some (when (is_first o.window) (uplink_of h o)) ≡ is_first o.window
+    first = elim (is_first o.window) as (λ b. is_some (when b (uplink_of h o)) ≡ b) [ true ↦ refl | false ↦ refl ]
 
     step : (ack : Option ℕ) → is_some (downlink_out net h (call.Close w) (reply.Closed w ack)) ≡ is_some ack
     step None = refl
@@ -210,7 +173,6 @@ All-both P Q [] all other = tt
 All-both P Q (x ∷ xs) all other = ((all.0, other.0), All-both P Q xs all.1 other.1)
 
 pub goes_out : (net : Network) (h : List Entry) (c : Call) → IsLegal net h → GoesOut net h c
-unfolding IsQuiet
 goes_out net h (call.Uplink frame heard) legal =
     let quiet = uplink-quiet net h frame in
     record { uplink = sym quiet.0; downlink = sym quiet.1 }

@@ -34,7 +34,7 @@ use Rattle.ns_calls.specs.Out.{payload_key, uplink_under, uplink_of, first_uplin
 use Rattle.ns_calls.specs.Merges.{out}
 use Rattle.ns_calls.specs.Legal.{IsLegal, entry_for}
 use Rattle.ns_calls.specs.Shards.{shard_of_call, of_shard, NamesOwnDevice}
-use Rattle.ns_calls.proofs.Lists.{All-push, find-has, IfSome-weaker, at_some}
+use Rattle.ns_calls.proofs.Lists.{All-push, find-has, find-passes, option_map-same, IfSome-weaker, at_some}
 use Rattle.ns_calls.proofs.Induction.{legal_induction}
 use Rattle.ns_calls.proofs.LocalJoin.{acceptances-own, ticket_copies-own, reply_to_join-own, reply_to_join_reply-own}
 use Rattle.ns_calls.proofs.UplinkLemmas.{uplink-has, SaysSame, uplink-same}
@@ -47,14 +47,8 @@ use Rattle.ns_calls.proofs.ShardLemmas.{Housed, AllHoused, IsOfItsFrame, InShard
 -- the open window of an equal frame is of the shard of its address
 window_with-names : (h : List Entry) → AllHoused h → (frame : List ℕ) → IfSome (window_with h frame) (λ o. shard_of o.window.eui ≡ shard_of_frame frame)
 window_with-names h housed frame =
-    weaker (window_with h frame) (find-has IsOfItsFrame test (open_windows h) (open_windows-framed h housed))
-  where
-    test : Opening → Bool
-    test o = bytes_eq o.frame frame
-
-    weaker : (o : Option Opening) → IfSome o (λ x. IsOfItsFrame x × (test x ≡ true)) → IfSome o (λ x. shard_of x.window.eui ≡ shard_of_frame frame)
-    weaker None holds = tt
-    weaker (Some x) holds = holds.0 ∙ ap (λ (bytes : List ℕ). shard_of_frame bytes) ((bytes_eq-Decides x.frame frame).0 holds.1)
+    IfSome-weaker (λ (o : Opening). IsOfItsFrame o × (bytes_eq o.frame frame ≡ true)) (λ (o : Opening). shard_of o.window.eui ≡ shard_of_frame frame) (window_with h frame)
+    (λ o is. is.0 ∙ ap shard_of_frame ((bytes_eq-Decides o.frame frame).0 is.1)) (find-has IsOfItsFrame (λ (o : Opening). bytes_eq o.frame frame) (open_windows h) (open_windows-framed h housed))
 
 names-uplink : (net : Network) → AllByRecursion (InShard net) net.devices → (h : List Entry) → AllHoused h → (frame : List ℕ) (heard : Heard) → NamesOwnDevice (call.Uplink frame heard) (reply_to net h (call.Uplink frame heard))
 names-uplink net own h housed frame heard =
@@ -92,11 +86,8 @@ names-join_reply net h t o = step (is_ticket_open h t) (is_failed o) (nonce_at_o
     step true false None = refl
 
 names-close : (net : Network) (h : List Entry) (w : WindowName) → NamesOwnDevice (call.Close w) (reply_to net h (call.Close w))
-names-close net h w = step (open_window h w)
-  where
-    step : (found : Option Opening) → NamesOwnDevice (call.Close w) (first_case (option_map (λ (o : Opening). reply.Closed w (ack_number h o)) found ∷ []) reply.NoWindow)
-    step None = tt
-    step (Some o) = refl
+names-close net h w =
+    elim (open_window h w) as (λ found. NamesOwnDevice (call.Close w) (first_case (option_map (λ (o : Opening). reply.Closed w (ack_number h o)) found ∷ []) reply.NoWindow)) [ None ↦ tt | Some o ↦ refl ]
 
 pub names-own : (net : Network) → AllByRecursion (InShard net) net.devices → (h : List Entry) → AllHoused h → (c : Call) → NamesOwnDevice c (reply_to net h c)
 names-own net own h housed (call.Uplink frame heard) = names-uplink net own h housed frame heard
@@ -156,19 +147,12 @@ ack-own k h housed o mine =
 
 -- what is found under a name has that name
 named : (h : List Entry) (w : WindowName) → IfSome (open_window h w) (λ o. shard_of o.window.eui ≡ shard_of w.eui)
-named h w = weaker (open_window h w) (find-has (λ _. Unit {0}) (λ (o : Opening). same_window o.window w) (open_windows h) (each (open_windows h)))
-  where
-    each : (os : List Opening) → AllByRecursion (λ _. Unit {0}) os
-    each [] = tt
-    each (o ∷ os) = (tt, each os)
-
-    weaker : (o : Option Opening) → IfSome o (λ x. Unit {0} × (same_window x.window w ≡ true)) → IfSome o (λ x. shard_of x.window.eui ≡ shard_of w.eui)
-    weaker None holds = tt
-    weaker (Some x) holds = ap (λ (v : WindowName). shard_of v.eui) (same_window-eq x.window w holds.1)
+named h w =
+    IfSome-weaker (λ (o : Opening). same_window o.window w ≡ true) (λ (o : Opening). shard_of o.window.eui ≡ shard_of w.eui) (open_window h w)
+    (λ o is. ap (λ (v : WindowName). shard_of v.eui) (same_window-eq o.window w is)) (find-passes (λ (o : Opening). same_window o.window w) (open_windows h))
 
 pub map-same : {X Y : Type 0} (f g : X → Y) (o : Option X) → IfSome o (λ x. f x ≡ g x) → option_map f o ≡ option_map g o
-map-same f g None same = refl
-map-same f g (Some x) same = ap Some same
+map-same f g o same = option_map-same f g o o refl same
 
 close-own : (h : List Entry) → AllHoused h → (net : Network) (w : WindowName) → reply_to net (of_shard (shard_of w.eui) h) (call.Close w) ≡ reply_to net h (call.Close w)
 close-own h housed net w =
@@ -216,12 +200,9 @@ uplink_out-own k h housed (call.Close w) (reply.Closed closed ack) mine =
     (λ o named_so. ap (when (is_first o.window)) (uplink_of-same (of_shard k h) h o (session_join-own k o.window.eui (named_so ∙ mine) h o.window.session) (window_copies-own k o.window (named_so ∙ mine) h housed))) (named h w))
 uplink_out-own k h housed _ _ mine = refl
 
-own-ticket : (k : ℕ) (t : Ticket) → shard_of (dev_eui t) ≡ k → eqb (shard_of (dev_eui t)) k ≡ true
-own-ticket k t mine = eq-eqb (shard_of (dev_eui t)) k mine
-
 downlink_out-own : (net : Network) (k : ℕ) (h : List Entry) → AllHoused h → (c : Call) (r : Reply) → shard_of_call c ≡ k → downlink_out net (of_shard k h) c r ≡ downlink_out net h c r
 downlink_out-own net k h housed (call.JoinReply t (outcome.Success join)) (reply.Accepted eui session addr) mine =
-    ap (λ hs. option_map (accept_at join) (best hs)) (ticket_copies-own k t (own-ticket k t mine) h)
+    ap (λ hs. option_map (accept_at join) (best hs)) (ticket_copies-own k t (eq-eqb (shard_of (dev_eui t)) k mine) h)
 downlink_out-own net k h housed (call.Close w) (reply.Closed closed (Some n)) mine =
     ap (option_and_then (λ (o : Opening). ack_downlink net (of_shard k h) o n)) (open_window-own k w mine h housed)
     ∙ and_then-same (λ (o : Opening). ack_downlink net (of_shard k h) o n) (λ (o : Opening). ack_downlink net h o n) (open_window h w)

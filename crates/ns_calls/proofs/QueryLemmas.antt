@@ -1,5 +1,5 @@
 -- What one more element does to the answers of a list.
-use Rattle.std.proofs.Common.{◌≡◌, ℕ, Bool, true, false, not, ◌||◌, cond, List, [], ◌∷◌, ◌++◌, Option, None, Some, option_to_list, refl, sym, ap, ◌∙◌, filter, arith}
+use Rattle.std.proofs.Common.{◌≡◌, ℕ, Bool, true, false, not, ◌||◌, cond, List, [], ◌∷◌, ◌++◌, Option, None, Some, option_to_list, refl, ap, ◌∙◌, filter, arith}
 use Rattle.std.specs.List.{list_any}
 use Rattle.std.specs.Option.{option_or}
 use Rattle.std.proofs.lemmas.List.{append_assoc, append-nil}
@@ -7,6 +7,7 @@ use Rattle.std.proofs.lemmas.List.Elements.{filter-append}
 use Rattle.std.proofs.lemmas.List.Folds.{list_any-append}
 use Rattle.ns_calls.specs.Queries.{last, greater, maximum, from_last}
 use Rattle.ns_calls.specs.Entries.{still_open}
+use Rattle.ns_calls.proofs.Lists.{filter-all}
 
 pub last-push : {X : Type 0} (xs : List X) (x : X) → last (xs ++ x ∷ []) ≡ Some x
 last-push [] x = refl
@@ -36,20 +37,8 @@ opened-push {E} {X} ends (Some x) es e =
 -- what was open stays open but for what the new entry ends, and what it opens comes last
 pub still_open-push : {E X : Type 0} (opens : E → Option X) (ends : X → E → Bool) (es : List E) (e : E) →
     still_open opens ends (es ++ e ∷ []) ≡ filter (λ x. not (ends x e)) (still_open opens ends es) ++ option_to_list (opens e)
-still_open-push opens ends [] e = append-nil _ ∙ all_kept (opens e)
-  where
-    all_kept : {X : Type 0} (o : Option X) → filter (λ _. true) (option_to_list o) ≡ option_to_list o
-    all_kept None = refl
-    all_kept (Some x) = refl
-still_open-push {E} {X} opens ends (x ∷ es) e =
-    let stays : X → Bool = λ y. not (ends y e) in
-    let here : List X = filter (λ y. not (list_any (ends y) es)) (option_to_list (opens x)) in
-    let still : List X = still_open opens ends es in
-    let new : List X = option_to_list (opens e) in
-    ap (λ ys. ys ++ still_open opens ends (es ++ e ∷ [])) (opened-push ends (opens x) es e)
-    ∙ (ap (λ ys. filter stays here ++ ys) (still_open-push opens ends es e)
-    ∙ (sym (append_assoc (filter stays here) (filter stays still) new)
-    ∙ ap (λ ys. ys ++ new) (sym (filter-append stays here still))))
+still_open-push opens ends [] e = append-nil _ ∙ filter-all (option_to_list (opens e))
+still_open-push opens ends (x ∷ es) e = rw (opened-push ends (opens x) es e, still_open-push opens ends es e, filter-append, append_assoc)
 
 from_last-cases : {E : Type 0} (now before first : Bool) (x e : E) (es tail : List E) →
     cond (before || (now || false)) (cond now (e ∷ []) (cond before (tail ++ e ∷ []) [])) (cond first ((x ∷ es) ++ e ∷ []) [])

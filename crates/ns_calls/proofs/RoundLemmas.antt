@@ -1,10 +1,9 @@
 -- The windows that a legal history opens, in any round, are new.
-use Rattle.std.proofs.Common.{◌≡◌, ℕ, ◌+◌, ◌<◌, ◌≤◌, ◌==◌, Bool, true, false, not, ◌&&◌, ◌||◌, cond, nat_le, max, List, [], ◌∷◌, ◌++◌, filter, filter_map, map, count_by, unwrap_or, zero-add, Option, None, Some, IfSome, option_to_list, refl, sym, ap, subst, ◌∙◌, arith, inl, inr}
+use Rattle.std.proofs.Common.{◌≡◌, ℕ, ◌+◌, ◌<◌, ◌≤◌, ◌==◌, Bool, true, false, not, ◌&&◌, cond, max, List, [], ◌∷◌, ◌++◌, filter, filter_map, map, count_by, unwrap_or, Option, None, Some, IfSome, option_to_list, refl, sym, ap, subst, ◌∙◌, arith, inl, inr}
 use Rattle.std.specs.List.{AllByRecursion, list_any, cons_option}
 use Rattle.std.proofs.lemmas.List.{append-nil, map-append}
-use Rattle.std.proofs.lemmas.List.Elements.{filter-append, filter_map-append}
-use Rattle.std.proofs.lemmas.Bool.{false≢true}
-use Rattle.std.proofs.lemmas.Bool.Decides.{nat_tests}
+use Rattle.std.proofs.lemmas.List.Elements.{filter-append, filter_agree}
+use Rattle.std.proofs.lemmas.Bool.{eq-eqb, cases_lt, false_from_ne_true}
 use Rattle.ns_types.specs.declared.identity.DevEui.{DevEui}
 use Rattle.ns_types.specs.declared.identity.WindowName.{WindowName}
 use Rattle.ns_types.specs.Identity.{same_uplink, same_window}
@@ -21,11 +20,14 @@ use Rattle.ns_calls.specs.Reply.{reply_to}
 use Rattle.ns_calls.specs.Legal.{IsLegal, entry_for, with_call}
 use Rattle.ns_calls.specs.Headline.{Reaches, RoundsAreCounted}
 use Rattle.ns_calls.specs.Laws.{opening_count}
-use Rattle.ns_calls.proofs.LocalLemmas.{bool_tells, All-each}
+use Rattle.ns_calls.proofs.LocalLemmas.{All-each}
 use Rattle.ns_calls.proofs.QueryLemmas.{maximum-push}
-use Rattle.ns_calls.proofs.Lists.{one_more, said, said-push, All-append, All-filter, All-passed, All-weaker, All-map, at_some, Exceeds-each, count-cons, count-kept}
+use Rattle.ns_calls.proofs.Lists.{says-push, All-option, IfSome-weaker, said, said-push, All-append, All-filter, All-passed, All-weaker, All-map, at_some, Exceeds-each, count-cons, count-kept}
 use Rattle.ns_calls.proofs.PushLemmas.{openings-push, open_windows-push}
 use Rattle.ns_calls.proofs.Induction.{legal_induction}
+use Rattle.ns_calls.proofs.JoinLemmas.{below}
+use Rattle.ns_calls.proofs.KeyLemmas.{below_next}
+use Rattle.ns_calls.proofs.OpenLemmas.{none-each}
 use Rattle.ns_calls.proofs.NameLemmas.{both_hold, same_uplink-apart, same_uplink-refl, same_uplink-eq, same_uplink-other, same_window-eq, same_window-uplink}
 use Rattle.ns_calls.proofs.UplinkLemmas.{IsNewOpening, IsOpened, opening-new, window-new, counters-cases}
 
@@ -34,9 +36,7 @@ abbrev pub opened : List Entry → List Opening
 opened h = filter_map (λ e. window_in e.call e.reply) h
 
 pub opened-push : (h : List Entry) (e : Entry) → opened (h ++ e ∷ []) ≡ opened h ++ option_to_list (window_in e.call e.reply)
-opened-push h e =
-    let says = λ (x : Entry). window_in x.call x.reply in
-    filter_map-append says h (e ∷ []) ∙ ap (λ ys. filter_map says h ++ ys) (one_more says e)
+opened-push h e = says-push (λ (x : Entry). window_in x.call x.reply) h e
 
 -- ---- each window's counter is at most the greatest of its session
 
@@ -69,24 +69,13 @@ reach-grows net h number c o reaches =
 pub session_counters-new : (h : List Entry) (e : Entry) (o : Opening) → opening_in e.call e.reply ≡ Some o →
     session_counters (h ++ e ∷ []) o.window.eui o.window.session ≡ session_counters h o.window.eui o.window.session ++ o.window.fcnt ∷ []
 session_counters-new h e o is =
-    let eui : DevEui = o.window.eui in
-    let of_device : Opening → Bool = λ x. same_device x.window.eui eui in
-    let in_session : Opening → Bool = λ x. x.window.session == o.window.session in
-    let fcnt : Opening → ℕ = λ x. x.window.fcnt in
-    let device : of_device o ≡ true = grind (arith, nat_tests) in
-    let session : in_session o ≡ true = grind (arith, nat_tests) in
-    let now : openings (h ++ e ∷ []) eui ≡ openings h eui ++ o ∷ [] =
-    openings-push h e eui
-    ∙ (ap (λ (x : Option Opening). openings h eui ++ filter of_device (option_to_list x)) is
-    ∙ ap (λ b. openings h eui ++ cond {A = List Opening} b (o ∷ []) []) device) in
-    ap (λ os. map fcnt (filter in_session os)) now
-    ∙ (ap (map fcnt) (filter-append in_session (openings h eui) (o ∷ []) ∙ ap (λ b. filter in_session (openings h eui) ++ cond {A = List Opening} b (o ∷ []) []) session)
-    ∙ map-append fcnt (filter in_session (openings h eui)) (o ∷ []))
+    rw (openings-push h e o.window.eui, is, eq-eqb o.window.eui.0 o.window.eui.0 refl, filter-append, eq-eqb o.window.session o.window.session refl, map-append)
 
 counters_reach_step : (net : Network) (h : List Entry) (number : ℕ) (c : Call) → CountersReach h → CountersReach (with_call net h number c)
 counters_reach_step net h number c reach =
     subst (AllByRecursion (HasReached now)) (sym (opened-push h (entry_for net h number c)))
-    (All-append (HasReached now) (opened h) (option_to_list (window_in c r)) (All-weaker (HasReached h) (HasReached now) (reach-grows net h number c) (opened h) reach) (each (window_in c r) (window-new net h c)))
+    (All-append (HasReached now) (opened h) (option_to_list (window_in c r)) (All-weaker (HasReached h) (HasReached now) (reach-grows net h number c) (opened h) reach)
+    (All-option (HasReached now) (window_in c r) (IfSome-weaker (IsOpened h c r) (HasReached now) (window_in c r) reached (window-new net h c))))
   where
     r : Reply
     r = reply_to net h c
@@ -102,10 +91,6 @@ counters_reach_step net h number c reach =
         let least : o.window.fcnt ≤ o.window.fcnt = omega arith in
         reach-grows net h number c o (subst (λ g. Reaches g o.window.fcnt) (sym next.1.counter) least)
 
-    each : (p : Option Opening) → IfSome p (IsOpened h c r) → AllByRecursion (HasReached now) (option_to_list p)
-    each None is = tt
-    each (Some o) is = (reached o is, tt)
-
 pub counters_reach : (net : Network) (h : List Entry) → IsLegal net h → CountersReach h
 counters_reach net h legal = legal_induction net CountersReach tt (λ g number c ok reach. counters_reach_step net g number c reach) h legal
 
@@ -113,11 +98,7 @@ counters_reach net h legal = legal_induction net CountersReach tt (λ g number c
 
 pub count-none : {X : Type 0} (test : X → Bool) (xs : List X) → AllByRecursion (λ x. test x ≡ false) xs → count_by test xs ≡ 0
 count-none test [] none = refl
-count-none test (x ∷ xs) none = count-cons test x xs ∙ (ap (λ b. cond {A = ℕ} b 1 0 + count_by test xs) none.0 ∙ (zero-add (count_by test xs) ∙ count-none test xs none.1))
-
-exceeded : (a : Option ℕ) (n : ℕ) → Exceeds a n → Reaches a n → ⊥
-exceeded None n exceeds reaches = reaches
-exceeded (Some a) n exceeds reaches = absurd (omega (arith, exceeds, reaches))
+count-none test (x ∷ xs) none = (let ih = count-none test xs none.1 in rw (count-cons, none.0) (omega (arith, ih)))
 
 -- no window was opened of an uplink with a new counter
 pub new-apart : (net : Network) (h : List Entry) → IsLegal net h → (w : WindowName) → Exceeds (greatest_counter h w.eui w.session) w.fcnt → AllByRecursion (λ x. same_uplink x.window w ≡ false) (opened h)
@@ -125,27 +106,21 @@ new-apart net h legal w exceeds =
     All-weaker (HasReached h) (λ (x : Opening). same_uplink x.window w ≡ false) apart (opened h) (counters_reach net h legal)
   where
     apart : (x : Opening) → HasReached h x → same_uplink x.window w ≡ false
-    apart x reached = elim (bool_tells (same_uplink x.window w)) [
-      | inl same ↦
-          (let is = same_uplink-eq x.window w same in
-          let there : Reaches (greatest_counter h w.eui x.window.session) x.window.fcnt = subst (λ (d : DevEui). Reaches (greatest_counter h d x.window.session) x.window.fcnt) is.eui reached in
-          let here : Reaches (greatest_counter h w.eui w.session) x.window.fcnt = subst (λ s. Reaches (greatest_counter h w.eui s) x.window.fcnt) is.session there in
-          absurd (exceeded (greatest_counter h w.eui w.session) w.fcnt exceeds (subst (Reaches (greatest_counter h w.eui w.session)) is.fcnt here)))
-      | inr other ↦ other
-    ]
+    apart x reached = false_from_ne_true (same_uplink x.window w) (λ same.
+        let is = same_uplink-eq x.window w same in
+        let there : Reaches (greatest_counter h w.eui x.window.session) x.window.fcnt = subst (λ (d : DevEui). Reaches (greatest_counter h d x.window.session) x.window.fcnt) is.eui reached in
+        let here : Reaches (greatest_counter h w.eui w.session) x.window.fcnt = subst (λ s. Reaches (greatest_counter h w.eui s) x.window.fcnt) is.session there in
+        let less : x.window.fcnt < w.fcnt = below (greatest_counter h w.eui w.session) x.window.fcnt w.fcnt here exceeds in
+        let equal : x.window.fcnt ≡ w.fcnt = is.fcnt in
+        omega (arith, less, equal))
 
 pub first-apart : (net : Network) (h : List Entry) → IsLegal net h → (o : Opening) → IsNewOpening h o → AllByRecursion (λ x. same_uplink x.window o.window ≡ false) (opened h)
 first-apart net h legal o new = new-apart net h legal o.window new.fresh.counter
 
--- a round above the last one is above each
-above_last : (ns : Option ℕ) → Exceeds ns (unwrap_or ns 0 + 1)
-above_last None = tt
-above_last (Some n) = omega arith
-
 rounds-below : (h : List Entry) (w : WindowName) (round : ℕ) → round ≡ last_round h w + 1 → AllByRecursion (λ (o : Opening). o.window.round < round) (filter (λ (o : Opening). same_uplink o.window w) (opened h))
 rounds-below h w round is =
     All-map (λ n. n < round) (λ (o : Opening). o.window.round) (filter (λ (o : Opening). same_uplink o.window w) (opened h))
-    (Exceeds-each (rounds h w) round (subst (Exceeds (maximum (rounds h w))) (sym is) (above_last (maximum (rounds h w)))))
+    (Exceeds-each (rounds h w) round (subst (Exceeds (maximum (rounds h w))) (sym is) (below_next (maximum (rounds h w)))))
 
 -- no window of the name was opened
 pub never_opened : (net : Network) (h : List Entry) → IsLegal net h → (c : Call) (r : Reply) (o : Opening) → IsOpened h c r o → opening_count h o.window ≡ 0
@@ -161,18 +136,14 @@ never_opened net h legal c r o (inr next) =
     (All-weaker (λ (x : Opening). x.window.round < o.window.round) (λ x. named x ≡ false) lower (filter of_uplink (opened h)) (rounds-below h o.window o.window.round next.1.next))
   where
     lower : (x : Opening) → x.window.round < o.window.round → same_window x.window o.window ≡ false
-    lower x less = elim (bool_tells (same_window x.window o.window)) [
-      | inl same ↦ (let equal : x.window.round ≡ o.window.round = ap (λ (v : WindowName). v.round) (same_window-eq x.window o.window same) in absurd (omega (arith, less, equal)))
-      | inr other ↦ other
-    ]
+    lower x less = false_from_ne_true (same_window x.window o.window) (λ same.
+        let equal : x.window.round ≡ o.window.round = ap (λ (v : WindowName). v.round) (same_window-eq x.window o.window same) in
+        omega (arith, less, equal))
 
 -- the window that a call opens has a name under which none was opened
 pub windows-fresh : (net : Network) (h : List Entry) → IsLegal net h → (c : Call) → IfSome (window_in c (reply_to net h c)) (λ o. opening_count h o.window ≡ 0)
-windows-fresh net h legal c = step (window_in c (reply_to net h c)) (window-new net h c)
-  where
-    step : (p : Option Opening) → IfSome p (IsOpened h c (reply_to net h c)) → IfSome p (λ o. opening_count h o.window ≡ 0)
-    step None is = tt
-    step (Some o) is = never_opened net h legal c (reply_to net h c) o is
+windows-fresh net h legal c =
+    IfSome-weaker (IsOpened h c (reply_to net h c)) (λ o. opening_count h o.window ≡ 0) (window_in c (reply_to net h c)) (never_opened net h legal c (reply_to net h c)) (window-new net h c)
 
 -- ---- rounds
 
@@ -185,50 +156,35 @@ rounds-push h e w =
 
 -- the rounds of an uplink are the same for each window of it
 pub rounds-same : (h : List Entry) (v w : WindowName) → same_uplink v w ≡ true → rounds h v ≡ rounds h w
-rounds-same h v w same = ap (map (λ (o : Opening). o.window.round)) (filters (opened h))
-  where
-    filters : (os : List Opening) → filter (λ (o : Opening). same_uplink o.window v) os ≡ filter (λ (o : Opening). same_uplink o.window w) os
-    filters [] = refl
-    filters (o ∷ os) =
-        ap (λ b. cond {A = List Opening} b (o ∷ filter (λ (x : Opening). same_uplink x.window v) os) (filter (λ (x : Opening). same_uplink x.window v) os)) (same_uplink-other o.window v w same)
-        ∙ ap (λ (rest : List Opening). cond {A = List Opening} (same_uplink o.window w) (o ∷ rest) rest) (filters os)
+rounds-same h v w same =
+    ap (map (λ (o : Opening). o.window.round)) (filter_agree (λ (o : Opening). same_uplink o.window v) (λ (o : Opening). same_uplink o.window w) (λ o. same_uplink-other o.window v w same) (opened h))
 
 -- one round more is the last
 last-push : (ns : List ℕ) (n : ℕ) → unwrap_or (maximum ns) 0 ≤ n → unwrap_or (maximum (ns ++ n ∷ [])) 0 ≡ n
-last-push ns n most = ap (λ g. unwrap_or g 0) (maximum-push ns n) ∙ step (maximum ns) most
-  where
-    step : (g : Option ℕ) → unwrap_or g 0 ≤ n → unwrap_or (greater g (Some n)) 0 ≡ n
-    step None most = refl
-    step (Some m) most = omega (arith, most)
+last-push ns n most =
+    ap (λ g. unwrap_or g 0) (maximum-push ns n)
+    ∙ (elim (maximum ns) as (λ g. unwrap_or g 0 ≤ n → unwrap_or (greater g (Some n)) 0 ≡ n) [ None ↦ λ _. refl | Some m ↦ λ least. omega (arith, least) ]) most
 
 -- the round of a window that is opened is then the last of its uplink
 pub last_round-new : (h : List Entry) (e : Entry) (o : Opening) → window_in e.call e.reply ≡ Some o → last_round h o.window ≤ o.window.round → last_round (h ++ e ∷ []) o.window ≡ o.window.round
-last_round-new h e o is most =
-    let asked = λ (x : Opening). same_uplink x.window o.window in
-    let round = λ (x : Opening). x.window.round in
-    let added : rounds (h ++ e ∷ []) o.window ≡ rounds h o.window ++ o.window.round ∷ [] =
-    rounds-push h e o.window
-    ∙ (ap (λ (x : Option Opening). rounds h o.window ++ map round (filter asked (option_to_list x))) is
-    ∙ ap (λ b. rounds h o.window ++ map round (cond {A = List Opening} b (o ∷ []) [])) (same_uplink-refl o.window)) in
-    ap (λ ns. unwrap_or (maximum ns) 0) added ∙ last-push (rounds h o.window) o.window.round most
+last_round-new h e o is most = rw (rounds-push h e o.window, is, same_uplink-refl o.window) (last-push (rounds h o.window) o.window.round most)
+
+-- no element passes
+pub filter-none : {X : Type 0} (test : X → Bool) (xs : List X) → AllByRecursion (λ x. test x ≡ false) xs → filter test xs ≡ []
+filter-none test [] none = refl
+filter-none {X} test (x ∷ xs) none = ap (λ b. cond {A = List X} b (x ∷ filter test xs) (filter test xs)) none.0 ∙ filter-none test xs none.1
 
 -- no other uplink's rounds change
 pub last_round-other : (h : List Entry) (e : Entry) (w : WindowName) → IfSome (window_in e.call e.reply) (λ o. same_uplink o.window w ≡ false) → last_round (h ++ e ∷ []) w ≡ last_round h w
-last_round-other h e w apart = ap (λ ns. unwrap_or (maximum ns) 0) (rounds-push h e w ∙ step (window_in e.call e.reply) apart)
-  where
-    round : Opening → ℕ
-    round o = o.window.round
-
-    asked : Opening → Bool
-    asked o = same_uplink o.window w
-
-    step : (p : Option Opening) → IfSome p (λ o. same_uplink o.window w ≡ false) → rounds h w ++ map round (filter asked (option_to_list p)) ≡ rounds h w
-    step None is = append-nil (rounds h w)
-    step (Some o) is = ap (λ b. rounds h w ++ map round (cond {A = List Opening} b (o ∷ []) [])) is ∙ append-nil (rounds h w)
+last_round-other h e w apart =
+    let asked : Opening → Bool = λ o. same_uplink o.window w in
+    let new : List Opening = option_to_list (window_in e.call e.reply) in
+    let none : filter asked new ≡ [] = filter-none asked new (All-option (λ (o : Opening). asked o ≡ false) (window_in e.call e.reply) apart) in
+    ap (λ ns. unwrap_or (maximum ns) 0) (rounds-push h e w ∙ (ap (λ os. rounds h w ++ map (λ (o : Opening). o.window.round) os) none ∙ append-nil (rounds h w)))
 
 -- ---- a session with a counter has a round of it
 
-FirstsHaveRounds : List Entry → Type 0
+abbrev FirstsHaveRounds : List Entry → Type 0
 FirstsHaveRounds h = AllByRecursion (λ (o : Opening). 1 ≤ last_round h o.window) (filter_map (λ (e : Entry). opening_in e.call e.reply) h)
 
 last-grows : (ns ms : List ℕ) → unwrap_or (maximum ns) 0 ≤ unwrap_or (maximum (ns ++ ms)) 0
@@ -244,11 +200,6 @@ last-grows (n ∷ ns) ms = step (maximum ns) (maximum (ns ++ ms)) (last-grows ns
 last_round-grows : (h : List Entry) (e : Entry) (w : WindowName) → last_round h w ≤ last_round (h ++ e ∷ []) w
 last_round-grows h e w = subst (λ ns. last_round h w ≤ unwrap_or (maximum ns) 0) (sym (rounds-push h e w)) (last-grows (rounds h w) (map (λ (o : Opening). o.window.round) (filter (λ (o : Opening). same_uplink o.window w) (option_to_list (window_in e.call e.reply)))))
 
--- no element passes
-pub filter-none : {X : Type 0} (test : X → Bool) (xs : List X) → AllByRecursion (λ x. test x ≡ false) xs → filter test xs ≡ []
-filter-none test [] none = refl
-filter-none {X} test (x ∷ xs) none = ap (λ b. cond {A = List X} b (x ∷ filter test xs) (filter test xs)) none.0 ∙ filter-none test xs none.1
-
 -- an uplink with a new counter has no round yet
 no-rounds : (net : Network) (h : List Entry) → IsLegal net h → (w : WindowName) → Exceeds (greatest_counter h w.eui w.session) w.fcnt → last_round h w ≡ 0
 no-rounds net h legal w exceeds =
@@ -261,10 +212,9 @@ first-last net h legal e o is new =
     last_round-new h e o is (omega (arith, none))
 
 firsts_step : (net : Network) (h : List Entry) (number : ℕ) (c : Call) → IsLegal net h → FirstsHaveRounds h → FirstsHaveRounds (with_call net h number c)
-unfolding FirstsHaveRounds
 firsts_step net h number c legal have =
     let says = λ (x : Entry). opening_in x.call x.reply in
-    subst (AllByRecursion HasRound) (sym (filter_map-append says h (e ∷ []) ∙ ap (λ ys. filter_map says h ++ ys) (one_more says e)))
+    subst (AllByRecursion HasRound) (sym (says-push says h e))
     (All-append HasRound (filter_map says h) (option_to_list (opening_in c r))
     (All-weaker (λ (o : Opening). 1 ≤ last_round h o.window) HasRound (λ o least. (let more = last_round-grows h e o.window in omega (arith, least, more))) (filter_map says h) have)
     (each (opening_in c r) (opening-new net h c) (opening-window c r)))
@@ -283,7 +233,6 @@ firsts_step net h number c legal have =
     each (Some o) new is = (let last = first-last net h legal e o is new in let first = new.first in (omega (arith, last, first), tt))
 
 firsts : (net : Network) (h : List Entry) → IsLegal net h → FirstsHaveRounds h
-unfolding FirstsHaveRounds
 firsts net h legal = legal_induction net FirstsHaveRounds tt (λ g number c ok have. firsts_step net g number c ok have) h legal
 
 All-unmap : {X Y : Type 0} (P : Y → Type 0) (f : X → Y) (xs : List X) → AllByRecursion (λ x. P (f x)) xs → AllByRecursion P (map f xs)
@@ -292,18 +241,16 @@ All-unmap P f (x ∷ xs) all = (all.0, All-unmap P f xs all.1)
 
 maximum-has : (P : ℕ → Type 0) (ns : List ℕ) → AllByRecursion P ns → IfSome (maximum ns) P
 maximum-has P [] all = tt
-maximum-has P (n ∷ ns) all = step (maximum ns) (maximum-has P ns all.1)
-  where
-    either : (m : ℕ) → P m → (b : Bool) → nat_le n m ≡ b → P (max n m)
-    either m holds true is = (let most : n ≤ m = grind (arith, nat_tests, is) in let same : max n m ≡ m = omega (arith, most) in subst P (sym same) holds)
-    either m holds false is = (let most : m < n = grind (arith, nat_tests, is) in let same : max n m ≡ n = omega (arith, most) in subst P (sym same) all.0)
-
-    step : (o : Option ℕ) → IfSome o P → IfSome (greater (Some n) o) P
-    step None holds = all.0
-    step (Some m) holds = either m holds (nat_le n m) refl
+maximum-has P (n ∷ ns) all =
+    (elim (maximum ns) as (λ o. IfSome o P → IfSome (greater (Some n) o) P) [
+      | None ↦ λ _. all.0
+      | Some m ↦ λ holds. elim (cases_lt n m) [
+        | inl less ↦ (let same : m ≡ max n m = omega (arith, less) in subst P same holds)
+        | inr most ↦ (let same : n ≡ max n m = omega (arith, most) in subst P same all.0)
+      ]
+    ]) (maximum-has P ns all.1)
 
 pub session-has_round : (net : Network) (h : List Entry) → IsLegal net h → (w : WindowName) → greatest_counter h w.eui w.session ≡ Some w.fcnt → 1 ≤ last_round h w
-unfolding FirstsHaveRounds
 session-has_round net h legal w is =
     let of_device : Opening → Bool = λ o. same_device o.window.eui w.eui in
     let in_session : Opening → Bool = λ o. o.window.session == w.session in
@@ -322,8 +269,7 @@ session-has_round net h legal w is =
 
     same : (o : Opening) → 1 ≤ last_round h o.window → same_device o.window.eui w.eui ≡ true → (o.window.session == w.session) ≡ true → Round o.window.fcnt
     same o least device session =
-        let fcnt : (o.window.fcnt == o.window.fcnt) ≡ true = grind (arith, nat_tests) in
-        let of_one : same_uplink o.window (at o.window.fcnt) ≡ true = both_hold ((o.window.eui.0 == w.eui.0) && (o.window.session == w.session)) (o.window.fcnt == o.window.fcnt) (both_hold (o.window.eui.0 == w.eui.0) (o.window.session == w.session) device session) fcnt in
+        let of_one : same_uplink o.window (at o.window.fcnt) ≡ true = both_hold _ _ (both_hold _ _ device session) (eq-eqb o.window.fcnt o.window.fcnt refl) in
         subst (λ ns. 1 ≤ unwrap_or (maximum ns) 0) (rounds-same h o.window (at o.window.fcnt) of_one) least
 
 -- ---- an open window is of the last round of its uplink
@@ -331,22 +277,12 @@ session-has_round net h legal w is =
 -- what holds of each window that was opened holds of each open one
 open-opened : (P : Opening → Type 0) (h : List Entry) → AllByRecursion P (opened h) → AllByRecursion P (open_windows h)
 open-opened P [] all = tt
-open-opened P (e ∷ es) all = step (λ each. open-opened P es each) (window_in e.call e.reply) all
-  where
-    keep : Opening → Bool
-    keep o = not (list_any (λ x. closes o.window x) es)
-
-    step : (AllByRecursion P (opened es) → AllByRecursion P (open_windows es)) → (p : Option Opening) → AllByRecursion P (cons_option p (opened es)) → AllByRecursion P (filter keep (option_to_list p) ++ open_windows es)
-    step later None each = later each
-    step later (Some o) each = All-append P (filter keep (o ∷ [])) (open_windows es) (All-filter P keep (o ∷ []) (each.0, tt)) (later each.1)
-
-none-any : {X : Type 0} (test : X → Bool) (xs : List X) → list_any test xs ≡ false → AllByRecursion (λ x. test x ≡ false) xs
-none-any test [] none = tt
-none-any {X} test (x ∷ xs) none = step (λ rest. none-any test xs rest) (test x) refl none
-  where
-    step : (list_any test xs ≡ false → AllByRecursion (λ y. test y ≡ false) xs) → (b : Bool) → test x ≡ b → (b || list_any test xs) ≡ false → AllByRecursion (λ y. test y ≡ false) (x ∷ xs)
-    step later true is all = absurd (false≢true (sym all))
-    step later false is all = (is, later all)
+open-opened P (e ∷ es) all =
+    let keep : Opening → Bool = λ o. not (list_any (λ x. closes o.window x) es) in
+    (elim (window_in e.call e.reply) as (λ p. AllByRecursion P (cons_option p (opened es)) → AllByRecursion P (filter keep (option_to_list p) ++ open_windows es)) [
+      | None ↦ open-opened P es
+      | Some o ↦ λ each. All-append P (filter keep (o ∷ [])) (open_windows es) (All-filter P keep (o ∷ []) (each.0, tt)) (open-opened P es each.1)
+    ]) all
 
 -- no open window is of the uplink for which a window is opened
 abbrev Apart : Option Opening → Opening → Type 0
@@ -358,7 +294,7 @@ open-apart net h legal c r (Some n) (inl first) =
     open-opened (Apart (Some n)) h (All-weaker (λ (o : Opening). same_uplink o.window n.window ≡ false) (Apart (Some n)) (λ o apart. same_uplink-apart o.window n.window apart) (opened h) (first-apart net h legal n first.1))
 open-apart net h legal c r (Some n) (inr next) =
     All-weaker (λ (o : Opening). same_uplink o.window n.window ≡ false) (Apart (Some n)) (λ o apart. same_uplink-apart o.window n.window apart) (open_windows h)
-    (none-any (λ (o : Opening). same_uplink o.window n.window) (open_windows h) next.1.closed)
+    (none-each (λ (o : Opening). same_uplink o.window n.window) (open_windows h) next.1.closed)
 
 abbrev AreLast : List Entry → Type 0
 AreLast h = AllByRecursion (λ o. o.window.round ≡ last_round h o.window) (open_windows h)

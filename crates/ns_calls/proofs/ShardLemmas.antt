@@ -1,8 +1,8 @@
 -- What the entries of one shard say of it is what all entries say of it, where each reply names a device of its call's shard.
-use Rattle.std.proofs.Common.{◌≡◌, ℕ, ◌==◌, Bool, true, false, not, ◌&&◌, eqb, List, [], ◌∷◌, filter, filter_map, map, find, count_by, bytes_eq, unwrap_or, Option, None, Some, IfSome, option_map, option_to_list, refl, sym, ap, ◌∙◌, arith}
+use Rattle.std.proofs.Common.{◌≡◌, ℕ, ◌==◌, Bool, true, false, not, ◌&&◌, eqb, List, [], ◌∷◌, filter, filter_map, map, find, count_by, bytes_eq, unwrap_or, Option, IfSome, option_map, option_to_list, refl, sym, ap, ◌∙◌, arith}
 use Rattle.std.specs.List.{AllByRecursion, list_any}
 use Rattle.std.specs.Option.{option_and_then, option_map_or}
-use Rattle.std.proofs.lemmas.Bool.{eq-eqb}
+use Rattle.std.proofs.lemmas.Bool.{eq-eqb, eqb-true}
 use Rattle.std.proofs.lemmas.Bool.Decides.{nat_tests}
 use Rattle.std.proofs.lemmas.Slice.Eq.{bytes_eq-Decides}
 use Rattle.ns_types.specs.declared.identity.DevEui.{DevEui}
@@ -12,7 +12,6 @@ use Rattle.ns_types.specs.Identity.{shard_of, shard_of_addr, same_uplink, same_w
 use Rattle.ns_views.specs.Frame.{data_fields}
 use Rattle.ns_roster.specs.declared.Device.{Device}
 use Rattle.ns_roster.specs.Network.{Network, device_addr}
-use Rattle.ns_calls.specs.declared.call.JoinAns.{JoinAns}
 use Rattle.ns_calls.specs.declared.call.Call.{Call}
 use Rattle.ns_calls.specs.declared.call.Call.TheVariants as call
 use Rattle.ns_calls.specs.declared.call.Reply.{Reply}
@@ -21,14 +20,15 @@ use Rattle.ns_calls.specs.declared.call.Entry.{Entry}
 use Rattle.ns_calls.specs.Queries.{first, last, maximum}
 use Rattle.ns_calls.specs.Entries as entries
 use Rattle.ns_calls.specs.Entries.{Acceptance, Opening, Closing, Said, said, first_opened, opened, closes, same_device, acceptances, openings, open_windows}
-use Rattle.ns_calls.specs.History.{copied, closings, first_and_other, live, session_join, greatest_counter, last_round, open_window, is_uplink_open, window_count, window_copies}
-use Rattle.ns_calls.proofs.Says.{opening_in, window_in, closing_in, window_copy_in, join-says, answer-says, close-says, closed-by, opened-is}
+use Rattle.ns_calls.specs.History.{copied, closings, first_and_other, live, last_round, open_window, is_uplink_open, window_count, window_copies}
+use Rattle.ns_calls.proofs.Says.{window_in, closing_in, join-says, answer-says, close-says, closed-by, opened-is}
 use Rattle.ns_calls.specs.Reply.{Fit, fit_of, fitting_counter, session_fit, device_fit, devices_at, first_fit, window_with}
 use Rattle.ns_calls.specs.Shards.{shard_of_call, of_shard, NamesOwnDevice}
 use Rattle.ns_calls.proofs.LocalLemmas.{list_any-own, All-each, filter_map-own, filter_map-own_of, still_open-own_of, count_by-own}
 use Rattle.ns_calls.proofs.LocalJoin.{here, other_device, none_single, acceptances-own}
 use Rattle.ns_calls.proofs.Lists.{All-append, All-filter, All-weaker, All-passed, filter_map-same, first-gives, first-gives_of, find-own, IfSome-weaker}
 use Rattle.ns_calls.proofs.NameLemmas.{same_window-eq}
+use Rattle.ns_calls.proofs.UplinkLemmas.{session_fit-has}
 
 -- the reply of an entry names a device of its call's shard
 abbrev pub Housed : Entry → Type 0
@@ -103,27 +103,26 @@ closes-other k w mine =
 
 -- ---- what a shard's entries say of its devices and windows
 
-housed_each : (Q : Entry → Type 0) (k : ℕ) → ((e : Entry) → Housed e → here k e ≡ false → Q e) → (h : List Entry) → AllHoused h → AllByRecursion (λ e. here k e ≡ false → Q e) h
-housed_each Q k tells h housed = All-weaker Housed (λ e. here k e ≡ false → Q e) tells h housed
+-- of one part of what entries say, where those of other shards say nothing that passes
+said-own : {Y : Type 0} (part : Said → Option Y) (q : Y → Bool) (k : ℕ) → ((c : Call) (s : Said) → IsOfCall c s → eqb (shard_of_call c) k ≡ false → filter q (option_to_list (part s)) ≡ []) → (h : List Entry) → AllHoused h →
+    filter q (filter_map (λ e. part (says_of e)) (of_shard k h)) ≡ filter q (filter_map (λ e. part (says_of e)) h)
+said-own part q k none h housed =
+    filter_map-own_of (here k) (λ e. part (says_of e)) q h
+    (All-weaker Housed (λ e. here k e ≡ false → filter q (option_to_list (part (says_of e))) ≡ []) (λ e is n. none e.call (says_of e) (own_entry e is) n) h housed)
 
 pub openings-own : (k : ℕ) (eui : DevEui) → shard_of eui ≡ k → (h : List Entry) → AllHoused h → openings (of_shard k h) eui ≡ openings h eui
-openings-own k eui mine h housed =
-    filter_map-own_of (here k) (λ e. opening_in e.call e.reply) (λ o. same_device o.window.eui eui) h
-    (housed_each (λ e. filter (λ (o : Opening). same_device o.window.eui eui) (option_to_list (opening_in e.call e.reply)) ≡ []) k (λ e is n. opening-other k eui mine e.call (says_of e) (own_entry e is) n) h housed)
+openings-own k eui mine h housed = said-own first_opened (λ o. same_device o.window.eui eui) k (opening-other k eui mine) h housed
 
 pub closings-own : (k : ℕ) (eui : DevEui) → shard_of eui ≡ k → (h : List Entry) → closings (of_shard k h) eui ≡ closings h eui
 closings-own k eui mine h = filter_map-own (here k) (λ e. closing_in e.call e.reply) (λ c. same_device c.window.eui eui) (λ e n. closing-other k eui mine e.call e.reply n) h
 
 pub window_copies-own : (k : ℕ) (w : WindowName) → shard_of w.eui ≡ k → (h : List Entry) → AllHoused h → window_copies (of_shard k h) w ≡ window_copies h w
-window_copies-own k w mine h housed =
-    ap (map (λ (c : WindowName × Heard). c.1))
-    (filter_map-own_of (here k) (λ e. window_copy_in e.call e.reply) (λ c. same_window c.0 w) h
-    (housed_each (λ e. filter (λ (c : WindowName × Heard). same_window c.0 w) (option_to_list (window_copy_in e.call e.reply)) ≡ []) k (λ e is n. copy-other k w mine e.call (says_of e) (own_entry e is) n) h housed))
+window_copies-own k w mine h housed = ap (map (λ (c : WindowName × Heard). c.1)) (said-own copied (λ c. same_window c.0 w) k (copy-other k w mine) h housed)
 
 pub open_windows-own : (k : ℕ) (h : List Entry) → AllHoused h → filter (λ o. own_window k o.window) (open_windows (of_shard k h)) ≡ filter (λ o. own_window k o.window) (open_windows h)
 open_windows-own k h housed =
     still_open-own_of (λ e. window_in e.call e.reply) (λ o e. closes o.window e) (here k) (λ o. own_window k o.window) (λ o e mine n. closes-other k o.window mine e.call e.reply n) h
-    (housed_each (λ e. filter (λ (o : Opening). own_window k o.window) (option_to_list (window_in e.call e.reply)) ≡ []) k (λ e is n. opens-other k (λ (o : Opening). own_window k o.window) (λ o apart. apart) e.call (says_of e) (own_entry e is) n) h housed)
+    (All-weaker Housed (λ e. here k e ≡ false → filter (λ (o : Opening). own_window k o.window) (option_to_list (window_in e.call e.reply)) ≡ []) (λ e is n. opens-other k (λ (o : Opening). own_window k o.window) (λ o apart. apart) e.call (says_of e) (own_entry e is) n) h housed)
 
 pub window_count-own : (k : ℕ) (eui : DevEui) → shard_of eui ≡ k → (h : List Entry) → AllHoused h → window_count (of_shard k h) eui ≡ window_count h eui
 window_count-own k eui mine h housed =
@@ -153,8 +152,7 @@ open_window-own k w mine h housed =
 pub last_round-own : (k : ℕ) (w : WindowName) → shard_of w.eui ≡ k → (h : List Entry) → AllHoused h → last_round (of_shard k h) w ≡ last_round h w
 last_round-own k w mine h housed =
     ap (λ os. unwrap_or (maximum (map (λ (o : Opening). o.window.round) os)) 0)
-    (filter_map-own_of (here k) (λ e. window_in e.call e.reply) (λ o. same_uplink o.window w) h
-    (housed_each (λ e. filter (λ (o : Opening). same_uplink o.window w) (option_to_list (window_in e.call e.reply)) ≡ []) k (λ e is n. opens-other k (λ (o : Opening). same_uplink o.window w) (λ o apart. other_uplink k o.window w mine apart) e.call (says_of e) (own_entry e is) n) h housed))
+    (said-own opened (λ o. same_uplink o.window w) k (opens-other k (λ o. same_uplink o.window w) (λ o apart. other_uplink k o.window w mine apart)) h housed)
 
 pub is_uplink_open-own : (k : ℕ) (w : WindowName) → shard_of w.eui ≡ k → (h : List Entry) → AllHoused h → is_uplink_open (of_shard k h) w ≡ is_uplink_open h w
 is_uplink_open-own k w mine h housed =
@@ -243,32 +241,21 @@ InShard net d = shard_of_addr (device_addr net d) ≡ shard_of d.eui
 devices-own : (net : Network) (addr : ℕ) → AllByRecursion (InShard net) net.devices → AllByRecursion (λ d. shard_of d.eui ≡ shard_of_addr (record { 0 = addr })) (devices_at net addr)
 devices-own net addr own =
     let test = λ (d : Device). (device_addr net d).0 == addr in
-    All-weaker (λ d. InShard net d × (test d ≡ true)) (λ d. shard_of d.eui ≡ shard_of_addr (record { 0 = addr })) (λ d both. same d both.0 both.1) (devices_at net addr) (All-passed (InShard net) test net.devices own)
-  where
-    same : (d : Device) → InShard net d → ((device_addr net d).0 == addr) ≡ true → shard_of d.eui ≡ shard_of_addr (record { 0 = addr })
-    same d in_shard is =
-        let equal : (device_addr net d).0 ≡ addr = grind (arith, nat_tests, is) in
-        sym in_shard ∙ ap (λ (n : ℕ). shard_of_addr (record { 0 = n })) equal
+    All-weaker (λ d. InShard net d × (test d ≡ true)) (λ d. shard_of d.eui ≡ shard_of_addr (record { 0 = addr }))
+    (λ d both. sym both.0 ∙ ap (λ (n : ℕ). shard_of_addr (record { 0 = n })) (eqb-true (device_addr net d).0 addr both.1)) (devices_at net addr) (All-passed (InShard net) test net.devices own)
 
 pub first_fit-own : (recover : Option ℕ → ℕ → Option ℕ) (net : Network) → AllByRecursion (InShard net) net.devices → (h : List Entry) → AllHoused h → (frame : List ℕ) →
     first_fit recover net (of_shard (shard_of_frame frame) h) frame ≡ first_fit recover net h frame
 first_fit-own recover net own h housed frame =
     let k : ℕ = shard_of_frame frame in
     let devices : List Device = devices_at net (data_fields frame).addr in
-    ap first (filter_map-same (λ (d : Device). device_fit recover (of_shard k h) frame d.eui) (λ (d : Device). device_fit recover h frame d.eui) devices (each devices (devices-own net (data_fields frame).addr own)))
-  where
-    each : (ds : List Device) → AllByRecursion (λ d. shard_of d.eui ≡ shard_of_addr (record { 0 = (data_fields frame).addr })) ds →
-        AllByRecursion (λ d. device_fit recover (of_shard (shard_of_frame frame) h) frame d.eui ≡ device_fit recover h frame d.eui) ds
-    each ds mine = All-weaker (λ (d : Device). shard_of d.eui ≡ shard_of_addr (record { 0 = (data_fields frame).addr })) (λ (d : Device). device_fit recover (of_shard (shard_of_frame frame) h) frame d.eui ≡ device_fit recover h frame d.eui)
-        (λ d is. device_fit-own recover (shard_of_frame frame) d.eui is h housed frame) ds mine
+    let fit : List Entry → Device → Option Fit = λ g d. device_fit recover g frame d.eui in
+    ap first (filter_map-same (fit (of_shard k h)) (fit h) devices
+    (All-weaker (λ (d : Device). shard_of d.eui ≡ k) (λ d. fit (of_shard k h) d ≡ fit h d) (λ d is. device_fit-own recover k d.eui is h housed frame) devices (devices-own net (data_fields frame).addr own)))
 
 -- what fits names a device of the frame's shard
 session_fit-names : (recover : Option ℕ → ℕ → Option ℕ) (h : List Entry) (frame : List ℕ) (eui : DevEui) (session : ℕ) → IfSome (session_fit recover h frame eui session) (λ f. f.eui ≡ eui)
-session_fit-names recover h frame eui session = step (option_and_then (λ (join : JoinAns). fitting_counter recover frame join.nwk (greatest_counter h eui session)) (session_join h eui session))
-  where
-    step : (o : Option ℕ) → IfSome (option_map (fit_of eui session) o) (λ f. f.eui ≡ eui)
-    step None = tt
-    step (Some n) = refl
+session_fit-names recover h frame eui session = session_fit-has (λ f. f.eui ≡ eui) recover h frame eui session (λ n is mic. refl)
 
 pub device_fit-names : (recover : Option ℕ → ℕ → Option ℕ) (h : List Entry) (frame : List ℕ) (eui : DevEui) → IfSome (device_fit recover h frame eui) (λ f. f.eui ≡ eui)
 device_fit-names recover h frame eui = first-gives (λ (f : Fit). f.eui ≡ eui) (session_fit recover h frame eui) (session_fit-names recover h frame eui) (live h eui)
@@ -281,5 +268,5 @@ first_fit-names recover net own h frame =
     first-gives_of Mine (λ (d : Device). device_fit recover h frame d.eui) devices
     (All-weaker (λ (d : Device). shard_of d.eui ≡ shard_of_addr (record { 0 = (data_fields frame).addr })) (λ (d : Device). IfSome (device_fit recover h frame d.eui) Mine)
     (λ d is. IfSome-weaker (λ (f : Fit). f.eui ≡ d.eui) Mine (device_fit recover h frame d.eui) (λ f names. ap shard_of names ∙ is)
-    (first-gives (λ (f : Fit). f.eui ≡ d.eui) (session_fit recover h frame d.eui) (session_fit-names recover h frame d.eui) (live h d.eui)))
+    (device_fit-names recover h frame d.eui))
     devices (devices-own net (data_fields frame).addr own))

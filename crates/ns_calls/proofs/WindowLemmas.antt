@@ -1,8 +1,7 @@
 -- A window opens once and closes at most once.
-use Rattle.std.proofs.Common.{◌≡◌, ◌⊎◌, ℕ, ◌+◌, ◌≤◌, Bool, true, false, not, cond, List, [], ◌∷◌, ◌++◌, filter, filter_map, count_by, Option, None, Some, IfSome, option_map, option_to_list, refl, ap, subst, ◌∙◌, arith, inl, inr}
+use Rattle.std.proofs.Common.{◌≡◌, ℕ, ◌+◌, ◌≤◌, Bool, true, false, not, cond, List, [], ◌∷◌, ◌++◌, filter, filter_map, count_by, Option, None, Some, IfSome, option_map, option_to_list, refl, ap, subst, ◌∙◌, arith, inl, inr}
 use Rattle.std.specs.Prelude.{is_some}
 use Rattle.std.specs.Option.{option_map_or}
-use Rattle.std.proofs.lemmas.List.Elements.{filter_map-append}
 use Rattle.ns_types.specs.declared.identity.WindowName.{WindowName}
 use Rattle.ns_types.specs.Cases.{first_case}
 use Rattle.ns_types.specs.Identity.{same_window}
@@ -20,24 +19,21 @@ use Rattle.ns_calls.specs.Legal.{IsLegal, entry_for, with_call}
 use Rattle.ns_calls.specs.Laws.{opening_count, closing_count, open_count, WindowsOpenOnce}
 use Rattle.ns_calls.proofs.LocalLemmas.{bool_tells}
 use Rattle.ns_calls.proofs.PushLemmas.{open_windows-push}
-use Rattle.ns_calls.proofs.Lists.{one_more, count-append, count-cons, count-kept, count-dropped, count-found, filter-all}
+use Rattle.ns_calls.proofs.Lists.{says-push, count-append, count-cons, count-kept, count-dropped, count-found, filter-all}
 use Rattle.ns_calls.proofs.Induction.{legal_induction}
 use Rattle.ns_calls.proofs.NameLemmas.{same_window-eq}
 use Rattle.ns_calls.proofs.RoundLemmas.{windows-fresh}
 
 -- ---- what one call adds to the counts
 
+count-push : {X Y : Type 0} (says : X → Option Y) (test : Y → Bool) (xs : List X) (x : X) → count_by test (filter_map says (xs ++ x ∷ [])) ≡ count_by test (filter_map says xs) + count_by test (option_to_list (says x))
+count-push says test xs x = ap (count_by test) (says-push says xs x) ∙ count-append test (filter_map says xs) (option_to_list (says x))
+
 pub openings-added : (h : List Entry) (e : Entry) (w : WindowName) → opening_count (h ++ e ∷ []) w ≡ opening_count h w + count_by (λ o. same_window o.window w) (option_to_list (window_in e.call e.reply))
-openings-added h e w =
-    let says = λ (x : Entry). window_in x.call x.reply in
-    let test = λ (o : Opening). same_window o.window w in
-    ap (count_by test) (filter_map-append says h (e ∷ []) ∙ ap (λ ys. filter_map says h ++ ys) (one_more says e)) ∙ count-append test (filter_map says h) (option_to_list (says e))
+openings-added h e w = count-push (λ (x : Entry). window_in x.call x.reply) (λ o. same_window o.window w) h e
 
 pub closings-added : (h : List Entry) (e : Entry) (w : WindowName) → closing_count (h ++ e ∷ []) w ≡ closing_count h w + count_by (λ c. same_window c.window w) (option_to_list (closing_in e.call e.reply))
-closings-added h e w =
-    let says = λ (x : Entry). closing_in x.call x.reply in
-    let test = λ (c : Closing). same_window c.window w in
-    ap (count_by test) (filter_map-append says h (e ∷ []) ∙ ap (λ ys. filter_map says h ++ ys) (one_more says e)) ∙ count-append test (filter_map says h) (option_to_list (says e))
+closings-added h e w = count-push (λ (x : Entry). closing_in x.call x.reply) (λ c. same_window c.window w) h e
 
 open-added : (h : List Entry) (e : Entry) (w : WindowName) →
     open_count (h ++ e ∷ []) w ≡ count_by (λ o. same_window o.window w) (filter (λ o. not (closes o.window e)) (open_windows h)) + count_by (λ o. same_window o.window w) (option_to_list (window_in e.call e.reply))
@@ -62,63 +58,53 @@ not_closing h e once closes_none new = record {
     once_more : (o : Option Opening) → IfSome o (λ (x : Opening). opening_count h x.window ≡ 0) → (w : WindowName) → opening_count (h ++ e ∷ []) w ≡ opening_count h w + count_by (λ (x : Opening). same_window x.window w) (option_to_list o) → opening_count (h ++ e ∷ []) w ≤ 1
     once_more None is_new w is = (let was : opening_count h w ≤ 1 = once.opens w in let none : opening_count (h ++ e ∷ []) w ≡ opening_count h w + 0 = is in omega (arith, none, was))
     once_more (Some o) is_new w is =
-        let one : count_by (λ (x : Opening). same_window x.window w) (o ∷ []) ≡ cond (same_window o.window w) 1 0 + 0 = count-cons (λ (x : Opening). same_window x.window w) o [] in
+        let now : opening_count (h ++ e ∷ []) w ≡ opening_count h w + (cond (same_window o.window w) 1 0 + 0) = is ∙ ap (λ n. opening_count h w + n) (count-cons (λ (x : Opening). same_window x.window w) o []) in
         elim (bool_tells (same_window o.window w)) [
           | inl same ↦
               (let before : opening_count h w ≡ 0 = subst (λ (v : WindowName). opening_count h v ≡ 0) (same_window-eq o.window w same) is_new in
-              let adds : count_by (λ (x : Opening). same_window x.window w) (o ∷ []) ≡ 1 + 0 = one ∙ ap (λ b. cond {A = ℕ} b 1 0 + 0) same in
-              omega (arith, is, before, adds))
-          | inr differs ↦
-              (let adds : count_by (λ (x : Opening). same_window x.window w) (o ∷ []) ≡ 0 + 0 = one ∙ ap (λ b. cond {A = ℕ} b 1 0 + 0) differs in
-              let was : opening_count h w ≤ 1 = once.opens w in
-              omega (arith, is, adds, was))
+              let one = rw same at now in
+              omega (arith, before, one))
+          | inr differs ↦ (let was : opening_count h w ≤ 1 = once.opens w in let none = rw differs at now in omega (arith, none, was))
         ]
 
 -- a call that closes a window that is open
 closing : (h : List Entry) (e : Entry) (c : Closing) → WindowsOpenOnce h → closing_in e.call e.reply ≡ Some c → window_in e.call e.reply ≡ None → is_some (open_window h c.window) ≡ true → WindowsOpenOnce (h ++ e ∷ [])
 closing h e c once is opens_none found = record {
-  opens = λ w.
-      (let was : opening_count h w ≤ 1 = once.opens w in
-      let same : opening_count (h ++ e ∷ []) w ≡ opening_count h w + 0 = openings-added h e w ∙ ap (λ o. opening_count h w + count_by (λ (x : Opening). same_window x.window w) (option_to_list o)) opens_none in
-      omega (arith, was, same));
-  closes = λ w. step w (bool_tells (same_window c.window w));
+  opens = λ w. (let was : opening_count h w ≤ 1 = once.opens w in let same = opened w in omega (arith, was, same));
+  closes = step;
 }
   where
     keep : Opening → Bool
     keep o = not (same_window c.window o.window)
 
-    step : (w : WindowName) → ((same_window c.window w ≡ true) ⊎ (same_window c.window w ≡ false)) → closing_count (h ++ e ∷ []) w + open_count (h ++ e ∷ []) w ≡ opening_count (h ++ e ∷ []) w
-    step w test =
+    opened : (w : WindowName) → opening_count (h ++ e ∷ []) w ≡ opening_count h w + 0
+    opened w = openings-added h e w ∙ ap (λ o. opening_count h w + count_by (λ (x : Opening). same_window x.window w) (option_to_list o)) opens_none
+
+    step : (w : WindowName) → closing_count (h ++ e ∷ []) w + open_count (h ++ e ∷ []) w ≡ opening_count (h ++ e ∷ []) w
+    step w =
         let named : Opening → Bool = λ o. same_window o.window w in
-        let opened : opening_count (h ++ e ∷ []) w ≡ opening_count h w + 0 = openings-added h e w ∙ ap (λ o. opening_count h w + count_by named (option_to_list o)) opens_none in
+        let now = opened w in
         let one : closing_count (h ++ e ∷ []) w ≡ closing_count h w + (cond (same_window c.window w) 1 0 + 0) =
         closings-added h e w
         ∙ (ap (λ o. closing_count h w + count_by (λ (x : Closing). same_window x.window w) (option_to_list o)) is
         ∙ ap (λ n. closing_count h w + n) (count-cons (λ (x : Closing). same_window x.window w) c [])) in
-        let stays : filter (λ (o : Opening). not (closes o.window e)) (open_windows h) ≡ filter (λ (o : Opening). not (same_window c.window o.window)) (open_windows h) =
-        ap (λ x. filter (λ (o : Opening). not (option_map_or (λ (y : Closing). same_window y.window o.window) x false)) (open_windows h)) is in
-        let still : open_count (h ++ e ∷ []) w ≡ count_by named (filter (λ (o : Opening). not (same_window c.window o.window)) (open_windows h)) + 0 =
+        let still : open_count (h ++ e ∷ []) w ≡ count_by named (filter keep (open_windows h)) + 0 =
         open-added h e w
-        ∙ (ap (λ os. count_by named os + count_by named (option_to_list (window_in e.call e.reply))) stays
-        ∙ ap (λ x. count_by named (filter (λ (o : Opening). not (same_window c.window o.window)) (open_windows h)) + count_by named (option_to_list x)) opens_none) in
+        ∙ (λ i. count_by named (filter (λ (o : Opening). not (option_map_or (λ (y : Closing). same_window y.window o.window) (is i) false)) (open_windows h)) + count_by named (option_to_list (opens_none i))) in
         let was : closing_count h w + open_count h w ≡ opening_count h w = once.closes w in
         let most : opening_count h w ≤ 1 = once.opens w in
-        elim test [
+        let kept_as = λ (o : Opening) (counts : named o ≡ true). ap (λ (v : WindowName). not (same_window c.window v)) (same_window-eq o.window w counts) in
+        elim (bool_tells (same_window c.window w)) [
           | inl same ↦
-              (let is_w : c.window ≡ w = same_window-eq c.window w same in
-              let here : is_some (open_window h w) ≡ true = subst (λ (v : WindowName). is_some (open_window h v) ≡ true) is_w found in
+              (let here : is_some (open_window h w) ≡ true = subst (λ (v : WindowName). is_some (open_window h v) ≡ true) (same_window-eq c.window w same) found in
               let least : 1 ≤ open_count h w = count-found named (open_windows h) here in
-              let gone : count_by named (filter (λ (o : Opening). not (same_window c.window o.window)) (open_windows h)) ≡ 0 =
-              count-dropped named (λ (o : Opening). not (same_window c.window o.window))
-              (λ o counts. ap (λ (v : WindowName). not (same_window c.window v)) (same_window-eq o.window w counts) ∙ ap not same) (open_windows h) in
-              let closed : closing_count (h ++ e ∷ []) w ≡ closing_count h w + (1 + 0) = one ∙ ap (λ b. closing_count h w + (cond {A = ℕ} b 1 0 + 0)) same in
-              omega (arith, opened, closed, still, gone, was, most, least))
+              let gone = count-dropped named keep (λ o counts. kept_as o counts ∙ ap not same) (open_windows h) in
+              let closed = rw same at one in
+              omega (arith, now, closed, still, gone, was, most, least))
           | inr differs ↦
-              (let kept : count_by named (filter (λ (o : Opening). not (same_window c.window o.window)) (open_windows h)) ≡ open_count h w =
-              count-kept named (λ (o : Opening). not (same_window c.window o.window))
-              (λ o counts. ap (λ (v : WindowName). not (same_window c.window v)) (same_window-eq o.window w counts) ∙ ap not differs) (open_windows h) in
-              let none : closing_count (h ++ e ∷ []) w ≡ closing_count h w + (0 + 0) = one ∙ ap (λ b. closing_count h w + (cond {A = ℕ} b 1 0 + 0)) differs in
-              omega (arith, opened, none, still, kept, was))
+              (let kept = count-kept named keep (λ o counts. kept_as o counts ∙ ap not differs) (open_windows h) in
+              let none = rw differs at one in
+              omega (arith, now, none, still, kept, was))
         ]
 
 windows_step : (net : Network) (h : List Entry) (number : ℕ) (c : Call) → IsLegal net h → WindowsOpenOnce h → WindowsOpenOnce (with_call net h number c)

@@ -13,19 +13,6 @@ use Rattle.ns_resume.specs.declared.run.Resumed.{Resumed}
 use Rattle.ns_resume.specs.Resumed.{IsResumedAt, IsResumed}
 use Rattle.ns_compact.specs.Compact.{TellsSteps, AreLeftBy, AllLookTheSame, GoOnTheSame}
 
--- the steps that a record tells
-pub told-steps : (net : Network) (text there : List ℕ) (r : Resumed) → (is : IsResumed net text there r) → TellsSteps net text is.run.steps
-told-steps net text there r is = record {
-  base = is.base;
-  rest = is.lines;
-  is_text = is.is_text;
-  lines = is.run.lines;
-  torn = is.run.torn;
-  cut = is.run.cut;
-  are_steps = is.run.are_steps;
-  fit = is.run.fit;
-}
-
 -- the shard at a place
 shard-at : {X : Type 0} (xs : List X) (k : ℕ) → k < length xs → (x : X) × (slice_get xs k ≡ Some x)
 shard-at [] k within = absurd (omega (arith, within))

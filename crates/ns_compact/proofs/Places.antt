@@ -15,12 +15,6 @@ pub record AreTrimmedBelow (place : ℕ) (old new : List State) : Type 0 where
 below_zero : (n : ℕ) → nat_lt n 0 ≡ false
 below_zero n = grind (arith, nat_tests)
 
-pub trimmed-none : (shards : List State) → AreTrimmedBelow 0 shards shards
-trimmed-none shards = record {
-  many = refl;
-  each = λ shard s at. at ∙ ap (λ b. Some (cond {A = State} b (after_trim s) s)) (sym (below_zero shard));
-}
-
 set_same : {X : Type 0} (xs : List X) (k : ℕ) (x y : X) → slice_get xs k ≡ Some x → slice_get (slice_set xs k y) k ≡ Some y
 set_same [] k x y h = absurd (cc h)
 set_same (z ∷ zs) zero x y h = refl

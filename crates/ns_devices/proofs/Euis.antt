@@ -1,5 +1,5 @@
 -- Devices by EUI.
-use Rattle.std.proofs.Common.{◌≡◌, ◌==◌, nat_lt, ℕ, ◌+◌, zero, suc, Bool, true, false, not, cond, List, [], ◌∷◌, ◌++◌, length, map, drop, get_or, find, position, slice_get, set, Option, None, Some, refl, sym, ap, ap₂, subst, ◌∙◌, arith}
+use Rattle.std.proofs.Common.{◌≡◌, ◌==◌, nat_lt, ℕ, ◌+◌, zero, suc, Bool, false, not, cond, List, [], ◌∷◌, ◌++◌, length, map, drop, find, position, slice_get, set, Option, None, Some, refl, sym, ap, ap₂, subst, ◌∙◌, arith}
 use Rattle.std.specs.List.{AllByRecursion, IsDistinct, position_or_len}
 use Rattle.std.specs.Map.{lookup, keys_of, values_of}
 use Rattle.std.proofs.lemmas.Grind.{common_steps}
@@ -10,9 +10,12 @@ use Rattle.indexmap.specs.IndexMap.{set_value_at}
 use Rattle.smallvec.specs.SmallVec.{SmallVec}
 use Rattle.ns_types.specs.declared.identity.DevAddr.{DevAddr}
 use Rattle.ns_types.specs.declared.identity.DevEui.{DevEui}
+use Rattle.ns_views.specs.Frame.{data_fields}
 use Rattle.ns_calls.specs.Entries.{same_device}
+use Rattle.ns_sessions.proofs.OpenTickets.{same_device-refl}
+use Rattle.ns_sessions.specs.Record.{DeviceRecord}
 use Rattle.ns_devices.specs.declared.own.Own.{Own}
-use Rattle.ns_devices.specs.Devices.{is_own, change_first}
+use Rattle.ns_devices.specs.Devices.{is_own, is_addressed, change_first, with_state}
 use Rattle.ns_devices.specs.Places.{Agree, places_from, places_in}
 use Rattle.ns_devices.proofs.Addressed.{places-push, places-set}
 use Rattle.ns_devices.proofs.Positions.{set-placed}
@@ -25,9 +28,6 @@ eui o = o.device.eui
 same_device-sym : (d e : DevEui) → same_device d e ≡ same_device e d
 same_device-sym d e = grind (arith, nat_tests)
 
-same_device-refl : (d : DevEui) → same_device d d ≡ true
-same_device-refl d = grind arith
-
 -- what holds of all, mapped, holds of the one at a place
 all-at : {X Y : Type 0} (P : Y → Type 0) (f : X → Y) (xs : List X) (i : ℕ) (x : X) → AllByRecursion P (map f xs) → slice_get xs i ≡ Some x → P (f x)
 all-at P f [] i x all at = absurd (cc at)
@@ -37,21 +37,12 @@ all-at P f (y ∷ ys) (suc i) x all at = all-at P f ys i x all.1 at
 stands : (os : List Own) (i : ℕ) (o : Own) → IsDistinct same_device (map eui os) → slice_get os i ≡ Some o → position_or_len (is_own (eui o)) os ≡ i
 unfolding IsDistinct
 stands [] i o apart at = absurd (cc at)
-stands (x ∷ xs) zero o apart at =
-    let same : x ≡ o = cc in
-    let own : is_own (eui o) x ≡ true = ap (λ y. same_device (eui y) (eui o)) same ∙ same_device-refl (eui o) in
-    ap (λ b. cond (not b) (1 + position_or_len (is_own (eui o)) xs) 0) own
-stands (x ∷ xs) (suc i) o apart at =
-    let other : is_own (eui o) x ≡ false = all-at (λ e. same_device (eui x) e ≡ false) eui xs i o apart.0 at in
-    let later : position_or_len (is_own (eui o)) xs ≡ i = stands xs i o apart.1 at in
-    ap (λ b. cond (not b) (1 + position_or_len (is_own (eui o)) xs) 0) other ∙ omega (arith, later)
+stands (x ∷ xs) zero o apart at = grind (arith, same_device-refl (eui o))
+stands (x ∷ xs) (suc i) o apart at = grind (arith, all-at (λ e. same_device (eui x) e ≡ false) eui xs i o apart.0 at, stands xs i o apart.1 at)
 
 -- a device stands where its EUI is found
 pub place-own : (os : List Own) (i : ℕ) (o : Own) → IsDistinct same_device (map (λ x. x.device.eui) os) → slice_get os i ≡ Some o → position (is_own o.device.eui) os ≡ Some i
-place-own os i o apart at =
-    let first : position_or_len (is_own o.device.eui) os ≡ i = stands os i o apart at in
-    let within = slice_get_within os i o at in
-    grind (arith, common_steps)
+place-own os i o apart at = grind (arith, common_steps, stands os i o apart at, slice_get_within os i o at)
 
 -- the place among the EUIs is the place in the list
 pub place-eui : (d : DevEui) (os : List Own) → position (λ e. same_device d e) (map (λ o. o.device.eui) os) ≡ position (is_own d) os
@@ -64,9 +55,7 @@ place-eui d os = ap₂ (λ m n. cond {A = Option ℕ} (nat_lt m n) (Some m) None
 -- what stands at an EUI is the device of it
 pub lookup-eui : (d : DevEui) (es : List (DevEui × Own)) → keys_of es ≡ map (λ o. o.device.eui) (values_of es) → lookup (λ e. same_device d e) es ≡ find (is_own d) (values_of es)
 lookup-eui d [] euis = refl
-lookup-eui d (e ∷ es) euis =
-    let key : e.0 ≡ eui e.1 = ap (λ ks. get_or ks 0 e.0) euis in
-    ap₂ (λ b o. cond {A = Option Own} b (Some e.1) o) (ap (same_device d) key ∙ same_device-sym d (eui e.1)) (lookup-eui d es (ap (drop 1) euis))
+lookup-eui d (e ∷ es) euis = grind (arith, same_device-sym d (eui e.1), lookup-eui d es (ap (drop 1) euis))
 
 -- ---- a device more
 
@@ -85,10 +74,8 @@ pub places-added : (es : List (DevEui × Own)) (old new : List (DevAddr × Small
     → (a : DevAddr) → places_in new a ≡ places_from (λ x. x.addr.0 == a.0) 0 (values_of (es ++ (o.device.eui, o) ∷ []))
 places-added es old new o agree more a =
     let long : length (values_of es) ≡ length es = length-map es (λ (e : DevEui × Own). e.1) in
-    let place : length es ≡ 0 + length (values_of es) = omega (arith, long) in
-    more a
-    ∙ ap₂ (λ is n. is ++ cond (o.addr.0 == a.0) (n ∷ []) []) (agree.places a) place
-    ∙ sym (ap (places_from (λ (x : Own). x.addr.0 == a.0) 0) (values-push es (eui o) o) ∙ places-push (λ (x : Own). x.addr.0 == a.0) 0 (values_of es) o)
+    let pushed = places-push (λ (x : Own). x.addr.0 == a.0) 0 (values_of es) o in
+    grind (arith, more a, agree.places a, long, values-push es (eui o) o, pushed)
 
 -- ---- a write of a device that keeps its EUI and its address
 
@@ -105,7 +92,7 @@ values-changed test f es i x y at is changed = values-set es i y ∙ ap (set (va
 keys-set : (es : List (DevEui × Own)) (i : ℕ) (o : Own) → keys_of (set_value_at es i o) ≡ keys_of es
 keys-set [] i o = refl
 keys-set (e ∷ es) zero o = refl
-keys-set (e ∷ es) (suc i) o = ap (λ ks. e.0 ∷ ks) (keys-set es i o)
+keys-set (e ∷ es) (suc i) o = cc (keys-set es i o)
 
 euis-set : (os : List Own) (i : ℕ) (x y : Own) → slice_get os i ≡ Some x → eui y ≡ eui x → map eui (set os i y) ≡ map eui os
 euis-set [] i x y at same = refl
@@ -121,3 +108,13 @@ agree-set es table i x y agree at device addr = record {
       ∙ sym (ap (places_from (λ (o : Own). o.addr.0 == a.0) 0) (values-set es i y)
       ∙ places-set (λ (o : Own). o.addr.0 == a.0) 0 (values_of es) i x y at (ap (λ (b : DevAddr). b.0 == a.0) addr));
 }
+
+-- a write of a device whose state alone is changed
+pub agree-state : (f : DeviceRecord → DeviceRecord) (es : List (DevEui × Own)) (table : List (DevAddr × SmallVec ℕ)) (i : ℕ) (x y : Own) → Agree es table → slice_get (values_of es) i ≡ Some x
+    → y ≡ with_state f x → Agree (set_value_at es i y) table
+agree-state f es table i x y agree at is = agree-set es table i x y agree at (ap (λ (o : Own). o.device) is) (ap (λ (o : Own). o.addr) is)
+
+-- the places at a frame's address are those of the devices that have it
+pub addressed-places : (es : List (DevEui × Own)) (table : List (DevAddr × SmallVec ℕ)) (frame : List ℕ) (addr : DevAddr) → Agree es table → addr.0 ≡ (data_fields frame).addr
+    → places_in table addr ≡ places_from (is_addressed frame) 0 (values_of es)
+addressed-places es table frame addr agree is = agree.places addr ∙ ap (λ (n : ℕ). places_from (λ (o : Own). o.addr.0 == n) 0 (values_of es)) is

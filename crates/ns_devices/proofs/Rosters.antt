@@ -1,5 +1,5 @@
 -- Devices of a roster that are added in its order.
-use Rattle.std.proofs.Common.{◌≡◌, ◌==◌, ◌≢◌, ℕ, ◌+◌, suc, ◌<◌, Bool, true, false, cond, List, [], ◌∷◌, ◌++◌, length, take, filter, map, get_or, Option, Some, None, refl, sym, ap, ◌∙◌, arith, append-nil}
+use Rattle.std.proofs.Common.{◌≡◌, ◌==◌, ◌≢◌, ℕ, ◌+◌, suc, ◌<◌, cond, List, [], ◌∷◌, ◌++◌, length, take, filter, map, get_or, None, refl, sym, ap, ◌∙◌, arith, append-nil}
 use Rattle.std.specs.Prelude.{AllPairs}
 use Rattle.std.proofs.lemmas.Bool.Decides.{nat_tests}
 use Rattle.std.proofs.lemmas.List.{get_or-take, length-take, map-append}
@@ -9,7 +9,6 @@ use Rattle.ns_types.specs.Identity.{shard_of}
 use Rattle.ns_roster.specs.declared.Device.{Device}
 use Rattle.ns_roster.specs.Network.{Network}
 use Rattle.ns_roster.specs.Valid.{Differ}
-use Rattle.ns_calls.specs.Entries.{same_device}
 use Rattle.ns_devices.specs.declared.own.Own.{Own}
 use Rattle.ns_devices.specs.Devices.{joinless, own_of}
 
@@ -22,24 +21,16 @@ none_has : (net : Network) (index : ℕ) (eui : DevEui) (ds : List Device) (x : 
     → own_of eui (map (joinless net) (filter (λ d. shard_of d.eui == index) ds)) ≡ None
 none_has net index eui [] x differ = refl
 none_has net index eui (d ∷ ds) x differ =
-    step (shard_of d.eui == index) (none_has net index eui ds x (λ k lt. differ (suc k) (omega (arith, lt))))
-  where
-    other : same_device d.eui eui ≡ false
-    other = let apart : d.eui.0 ≢ eui.0 = differ 0 (omega arith) in grind (arith, nat_tests)
-
-    step : (b : Bool) → own_of eui (map (joinless net) (filter (λ d. shard_of d.eui == index) ds)) ≡ None
-        → own_of eui (map (joinless net) (cond {A = List Device} b (d ∷ filter (λ d. shard_of d.eui == index) ds) (filter (λ d. shard_of d.eui == index) ds))) ≡ None
-    step true later =
-        ap (λ c. cond {A = Option Own} c (Some (joinless net d)) (own_of eui (map (joinless net) (filter (λ d. shard_of d.eui == index) ds)))) other ∙ later
-    step false later = later
+    let apart : d.eui.0 ≢ eui.0 = differ 0 (omega arith) in
+    let later = none_has net index eui ds x (λ k lt. differ (suc k) (omega (arith, lt))) in
+    grind (arith, nat_tests, later)
 
 module _ (net : Network) (index n : ℕ) (e : Device) (within : n < length net.devices) where
-  here : Device
+  abbrev here : Device
   here = get_or net.devices n e
 
   -- a device of the roster is new after those before it
   pub none-added : AllPairs Differ net.devices → own_of (get_or net.devices n e).eui (added net index n) ≡ None
-  unfolding here
   none-added pairs = none_has net index here.eui (take n net.devices) e differs
     where
       differs : (k : ℕ) → k < length (take n net.devices) → (get_or (take n net.devices) k e).eui.0 ≢ here.eui.0
@@ -49,21 +40,12 @@ module _ (net : Network) (index n : ℕ) (e : Device) (within : n < length net.d
           λ (equal : (get_or (take n net.devices) k e).eui.0 ≡ here.eui.0). pairs k n e before within (ap (λ (d : Device). d.eui.0) (sym same) ∙ equal)
 
   one_more : added net index (n + 1) ≡ map (joinless net) (filter (λ d. shard_of d.eui == index) (take n net.devices) ++ cond (shard_of here.eui == index) (here ∷ []) [])
-  unfolding here
   one_more = ap (map (joinless net)) (filter_more (λ (d : Device). shard_of d.eui == index) net.devices n e within)
 
   -- with a device of the shard there is one more
   pub added-own : shard_of (get_or net.devices n e).eui ≡ index → added net index (n + 1) ≡ added net index n ++ joinless net (get_or net.devices n e) ∷ []
-  unfolding here
-  added-own own =
-      let ds = filter (λ (d : Device). shard_of d.eui == index) (take n net.devices) in
-      let mine : (shard_of here.eui == index) ≡ true = grind (arith, nat_tests) in
-      one_more ∙ ap (λ b. map (joinless net) (ds ++ cond {A = List Device} b (here ∷ []) [])) mine ∙ map-append (joinless net) ds (here ∷ [])
+  added-own own = grind (arith, nat_tests, one_more, map-append)
 
   -- with another one there is not
   pub added-other : shard_of (get_or net.devices n e).eui ≢ index → added net index (n + 1) ≡ added net index n
-  unfolding here
-  added-other other =
-      let ds = filter (λ (d : Device). shard_of d.eui == index) (take n net.devices) in
-      let no : (shard_of here.eui == index) ≡ false = grind (arith, nat_tests) in
-      one_more ∙ ap (λ b. map (joinless net) (ds ++ cond {A = List Device} b (here ∷ []) [])) no ∙ ap (map (joinless net)) (append-nil ds)
+  added-other other = grind (arith, nat_tests, one_more, append-nil)

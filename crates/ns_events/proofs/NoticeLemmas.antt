@@ -44,10 +44,6 @@ session-print : (eui addr session : ℕ) (ms : Members)
 unfolding session_text print_from escape_byte
 session-print eui addr session ms = simp (append_assoc, wide-escape, address-escape)
 
-end-print : print_from true (members_tokens no_members) ≡ codes "}"
-unfolding print_from
-end-print = refl
-
 ack-print : (w : WindowName) (gateway : ℕ)
     → print_from true (members_tokens (ack_members w gateway)) ≡ codes ",\"fCnt\":" ++ decimal w.fcnt ++ codes ",\"gatewayId\":\"" ++ wide gateway ++ codes "\"}"
 unfolding print_from escape_byte

@@ -1,15 +1,16 @@
 -- A response as a plain join server writes it is a head of the grammar and its body.
-use Rattle.std.proofs.Common.{◌≡◌, ℕ, zero, suc, ◌≤◌, ◌&&◌, ◌||◌, Bool, true, false, IsTrue, List, [], ◌∷◌, ◌++◌, length, map, reverse, Some, Ok, refl, sym, ap, subst, ◌∙◌, arith, append_assoc, length-append}
-use Rattle.std.specs.Prelude.{All, replicate, codes, decimal, nat_lt, nat_le}
+use Rattle.std.proofs.Common.{◌≡◌, ℕ, zero, suc, ◌≤◌, ◌&&◌, ◌||◌, true, false, IsTrue, List, [], ◌∷◌, ◌++◌, length, map, reverse, Some, Ok, refl, sym, ap, subst, ◌∙◌, arith, append_assoc, length-append}
+use Rattle.std.specs.Prelude.{replicate, codes, decimal, nat_lt, nat_le}
 use Rattle.std.specs.List.{flat_map, list_any, list_all}
 use Rattle.std.specs.Char.{is_ascii_digit}
 use Rattle.std.specs.Str.Parse.{AllDigits, digits_value}
 use Rattle.std.proofs.lemmas.Fmt.{decimal_is_IsNumeral}
 use Rattle.std.proofs.lemmas.Str.Parse.{digit_at}
 use Rattle.std.proofs.lemmas.List.{map-append, length-map, reverse-append}
-use Rattle.std.proofs.lemmas.List.Elements.{All-map, All-weaker, All-cons, All-nil}
+use Rattle.std.proofs.lemmas.List.Elements.{All-map, All-weaker, All-cons}
 use Rattle.std.proofs.lemmas.List.Folds.{list_any-append, list_all-append}
-use Rattle.std.proofs.lemmas.Bool.{false≢true}
+use Rattle.std.proofs.lemmas.List.Sums.{AllPass-from_list_all}
+use Rattle.std.proofs.lemmas.Bool.{and_parts, or_parts}
 use Rattle.std.proofs.lemmas.Bool.Decides.{nat_tests}
 use Rattle.httparse.specs.Grammar.{crlf, Field, IsField, print_field, is_ows, is_value_byte, skip_ows, trim_ows, ResponseHead, IsResponseHead, print_response}
 use Rattle.httparse.specs.Ascii.{crlf_bytes}
@@ -52,21 +53,11 @@ print_tree w =
 field_valid : (header : List ℕ × List ℕ) → IsHeader header → IsField (field_of header)
 field_valid header is = record { name = is.0; raw = All-cons (λ b. IsTrue (is_value_byte b)) 32 header.1 refl is.1 }
 
-three_pass : (test : ℕ → Bool) (a b c : ℕ) → IsTrue (test a) → IsTrue (test b) → IsTrue (test c) → All (λ x. IsTrue (test x)) (a ∷ b ∷ c ∷ [])
-three_pass test a b c p q r =
-    let passes : ℕ → Type 0 = λ x. IsTrue (test x) in
-    All-cons passes a (b ∷ c ∷ []) p (All-cons passes b (c ∷ []) q (All-cons passes c [] r (All-nil passes)))
-
-two_pass : (test : ℕ → Bool) (a b : ℕ) → IsTrue (test a) → IsTrue (test b) → All (λ x. IsTrue (test x)) (a ∷ b ∷ [])
-two_pass test a b p q =
-    let passes : ℕ → Type 0 = λ x. IsTrue (test x) in
-    All-cons passes a (b ∷ []) p (All-cons passes b [] q (All-nil passes))
-
 tree_valid : (w : Written) → IsWritten w → IsResponseHead (tree w)
 tree_valid w is = record {
   minor = omega arith;
-  digits = (refl, three_pass is_ascii_digit 50 48 48 refl refl refl);
-  reason = two_pass is_value_byte 79 75 refl refl;
+  digits = (refl, AllPass-from_list_all is_ascii_digit (codes "200") refl);
+  reason = AllPass-from_list_all is_value_byte (codes "OK") refl;
   fields = All-map IsField field_of (written_headers w) (All-weaker IsHeader (λ header. IsField (field_of header)) field_valid (written_headers w) is.headers);
 }
 
@@ -79,24 +70,16 @@ names_stay : (name : List ℕ) (headers : List (List ℕ × List ℕ)) → list_
 names_stay name [] = refl
 names_stay name (header ∷ headers) = ap (λ b. has_name name header || b) (names_stay name headers)
 
-neither : (a b : Bool) → (a || b) ≡ false → (a ≡ false) × (b ≡ false)
-neither true b e = absurd (false≢true (sym e))
-neither false b e = (refl, e)
-
-both : (a b : Bool) → (a && b) ≡ true → (a ≡ true) × (b ≡ true)
-both true b e = (refl, e)
-both false b e = absurd (false≢true e)
-
 no_values : (name : List ℕ) (headers : List (List ℕ × List ℕ)) → list_any (has_name name) headers ≡ false → values_of name (map trimmed headers) ≡ []
 no_values name [] none = refl
 no_values name (header ∷ headers) none =
-    let p = neither (has_name name header) (list_any (has_name name) headers) none in
+    let p = or_parts (has_name name header) (list_any (has_name name) headers) none in
     rw p.0 (no_values name headers p.1)
 
 one_value : (name : List ℕ) (before after : List (List ℕ × List ℕ)) (header : List ℕ × List ℕ) → has_name name header ≡ true → list_any (has_name name) (before ++ after) ≡ false
     → values_of name (map trimmed (before ++ header ∷ after)) ≡ trim_ows (32 ∷ header.1) ∷ []
 one_value name before after header named none =
-    let p = neither (list_any (has_name name) before) (list_any (has_name name) after) (sym (list_any-append (has_name name) before after) ∙ none) in
+    let p = or_parts (list_any (has_name name) before) (list_any (has_name name) after) (sym (list_any-append (has_name name) before after) ∙ none) in
     ap (values_of name) (map-append trimmed before (header ∷ after))
     ∙ values_of-append name (map trimmed before) (map trimmed (header ∷ after))
     ∙ ap (λ l. l ++ values_of name (map trimmed (header ∷ after))) (no_values name before p.0)
@@ -122,14 +105,14 @@ zeros_value (suc n) ds = zeros_value n ds
 skip_digits : (ds : List ℕ) → list_all is_ascii_digit ds ≡ true → skip_ows ds ≡ ds
 skip_digits [] all = refl
 skip_digits (d ∷ ds) all =
-    let first = (both (is_ascii_digit d) (list_all is_ascii_digit ds) all).0 in
+    let first = (and_parts (is_ascii_digit d) (list_all is_ascii_digit ds) all).0 in
     let other : is_ows d ≡ false = grind (arith, nat_tests, first) in
     skip_ows_no refl (sym other)
 
 reverse_digits : (ds : List ℕ) → list_all is_ascii_digit ds ≡ true → list_all is_ascii_digit (reverse ds) ≡ true
 reverse_digits [] all = refl
 reverse_digits (d ∷ ds) all =
-    let p = both (is_ascii_digit d) (list_all is_ascii_digit ds) all in
+    let p = and_parts (is_ascii_digit d) (list_all is_ascii_digit ds) all in
     ap (list_all is_ascii_digit) (reverse-append (d ∷ []) ds) ∙ list_all-append is_ascii_digit (reverse ds) (d ∷ [])
     ∙ ap (λ b. b && list_all is_ascii_digit (d ∷ [])) (reverse_digits ds p.1) ∙ ap (λ b. b && true) p.0
 

@@ -1,24 +1,20 @@
 -- The entries of some numbers and the others, with one entry more.
-use Rattle.std.proofs.Common.{◌≡◌, ℕ, ◌+◌, ◌<◌, Bool, true, false, not, ◌==◌, cond, List, [], ◌∷◌, ◌++◌, length, take, drop, get_or, map, filter, slice_get, Some, refl, sym, ap, ◌∙◌, inl, inr, arith}
+use Rattle.std.proofs.Common.{◌≡◌, ℕ, ◌+◌, ◌<◌, Bool, true, false, not, ◌==◌, cond, List, [], ◌∷◌, ◌++◌, length, take, drop, get_or, map, filter, slice_get, Some, refl, sym, ap, ◌∙◌}
 use Rattle.std.specs.List.{list_any}
-use Rattle.std.proofs.lemmas.Bool.Decides.{nat_tests}
+use Rattle.std.proofs.lemmas.Bool.{eq-eqb, false_from_ne_true}
 use Rattle.std.proofs.lemmas.Map.Keys.{any_passes_from_place}
 use Rattle.std.proofs.lemmas.List.{append-nil, length-map, map-append, take-append-drop, take_more, drop_more}
 use Rattle.std.proofs.lemmas.List.Elements.{filter-append}
 use Rattle.ns_calls.specs.declared.call.Entry.{Entry}
-use Rattle.ns_calls.proofs.LocalLemmas.{bool_tells}
 use Rattle.ns_journal.specs.State.{is_numbered, with_numbers, without_numbers, AreNumbersOf}
 
 got_at : {X : Type 0} (xs ys : List X) (y : X) → slice_get (xs ++ y ∷ ys) (length xs) ≡ Some y
 got_at [] ys y = refl
 got_at (x ∷ xs) ys y = got_at xs ys y
 
-same_number : (n : ℕ) → (n == n) ≡ true
-same_number n = grind (arith, nat_tests)
-
 -- a number that is met is one of them
 pub got_any : (stay : List ℕ) (i n : ℕ) → slice_get stay i ≡ Some n → list_any (λ m. m == n) stay ≡ true
-got_any stay i n got = any_passes_from_place (λ m. m == n) stay i n got (same_number n)
+got_any stay i n got = any_passes_from_place (λ m. m == n) stay i n got (eq-eqb n n refl)
 
 module _ (stay : List ℕ) (entries : List Entry) (i : ℕ) (e : Entry) (within : i < length entries) (is : e ≡ get_or entries i e) where
   front : take (i + 1) entries ≡ take i entries ++ e ∷ []
@@ -34,16 +30,10 @@ module _ (stay : List ℕ) (entries : List Entry) (i : ℕ) (e : Entry) (within 
   with-more stays = more (is_numbered stay) ∙ ap (λ b. with_numbers stay (take i entries) ++ cond b (e ∷ []) []) stays
 
   pub without-same : is_numbered stay e ≡ true → without_numbers stay (take (i + 1) entries) ≡ without_numbers stay (take i entries)
-  without-same stays =
-      more (λ x. not (is_numbered stay x))
-      ∙ (ap (λ b. without_numbers stay (take i entries) ++ cond (not b) (e ∷ []) []) stays
-      ∙ append-nil (without_numbers stay (take i entries)))
+  without-same stays = rw (more (λ x. not (is_numbered stay x)), stays) (append-nil (without_numbers stay (take i entries)))
 
   pub with-same : is_numbered stay e ≡ false → with_numbers stay (take (i + 1) entries) ≡ with_numbers stay (take i entries)
-  with-same goes =
-      more (is_numbered stay)
-      ∙ (ap (λ b. with_numbers stay (take i entries) ++ cond b (e ∷ []) []) goes
-      ∙ append-nil (with_numbers stay (take i entries)))
+  with-same goes = rw (more (is_numbered stay), goes) (append-nil (with_numbers stay (take i entries)))
 
   pub without-more : is_numbered stay e ≡ false → without_numbers stay (take (i + 1) entries) ≡ without_numbers stay (take i entries) ++ e ∷ []
   without-more goes = more (λ x. not (is_numbered stay x)) ∙ ap (λ b. without_numbers stay (take i entries) ++ cond (not b) (e ∷ []) []) goes
@@ -64,11 +54,7 @@ module _ (stay : List ℕ) (entries : List Entry) (i : ℕ) (e : Entry) (within 
 
   -- an entry whose number is not the next one goes
   pub goes : AreNumbersOf entries stay → (next : ℕ) → length (with_numbers stay (take i entries)) ≡ next → (slice_get stay next ≡ Some e.number → ⊥) → is_numbered stay e ≡ false
-  goes numbers next met differs =
-      elim (bool_tells (is_numbered stay e)) [
-        | inl stays ↦ absurd (differs (sym (ap (slice_get stay) met) ∙ at_next numbers stays))
-        | inr other ↦ other
-      ]
+  goes numbers next met differs = false_from_ne_true _ (λ stays. differs (sym (ap (slice_get stay) met) ∙ at_next numbers stays))
 
 -- the places of two lists that are the same from a place on
 pub same_rest : (xs ys : List Entry) (i : ℕ) (e : Entry) → i < length xs → i < length ys → drop i xs ≡ drop i ys → e ≡ get_or xs i e
@@ -77,13 +63,6 @@ same_rest xs ys i e in_xs in_ys same is =
     let x = drop_more xs i e in_xs in
     let y = drop_more ys i e in_ys in
     (cc, cc)
-
--- two elements that stand at one place are the same
-pub same_place : (xs : List Entry) (i : ℕ) (e f : Entry) → i < length xs → e ≡ get_or xs i e → f ≡ get_or xs i f → e ≡ f
-same_place xs i e f within is is2 =
-    let x = drop_more xs i e within in
-    let y = drop_more xs i f within in
-    cc
 
 -- no numbers are those of no entries
 pub no_numbers : (entries : List Entry) → AreNumbersOf entries []

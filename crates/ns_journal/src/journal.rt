@@ -143,7 +143,7 @@ impl Journal {
     }
 
     /// Cuts entries out in their place, and hands none out: those of these numbers stay, and the room of the others is free for later
-    /// ones. It takes no memory, and gives none back.
+    /// ones (no clause: the room is no less). It takes no memory, and gives none back.
     pub fn keep(&mut self, stay: &[u64])
         requires numbers { AreNumbersOf self.old.entries stay.now }
         requires fits { self.old.made ≤ 2 ^ 63 + length stay.now }

@@ -1,12 +1,11 @@
 -- The marks of the entries walked over, with those of one more.
-use Rattle.std.proofs.Common.{◌≡◌, ℕ, Bool, true, false, ◌||◌, nat_eq, cond, List, [], ◌∷◌, Some, refl, sym, ap, subst, ◌∙◌, inl, inr}
+use Rattle.std.proofs.Common.{◌≡◌, ℕ, Bool, true, false, ◌||◌, nat_eq, cond, List, [], ◌∷◌, Some, refl, sym, ap, subst, ◌∙◌, inl, inr, arith}
 use Rattle.std.specs.Ordering.{nat_cmp, is_eq}
 use Rattle.std.specs.Cmp.Lexicographic.{slice_cmp}
 use Rattle.std.specs.List.{list_any}
 use Rattle.std.specs.HashSet as hash
 use Rattle.std.specs.BTreeSet as tree
-use Rattle.std.proofs.lemmas.Bool.{false≢true}
-use Rattle.std.proofs.lemmas.Slice.Eq.{bytes_eq-Decides}
+use Rattle.std.proofs.lemmas.Bool.{false≢true, false_from_ne_true}
 use Rattle.std.proofs.lemmas.Map.Text.{is_eq-slice_cmp}
 use Rattle.ns_types.specs.declared.ticket.Ticket.{Ticket}
 use Rattle.ns_calls.specs.declared.call.Call.{Call}
@@ -23,6 +22,7 @@ use Rattle.ns_keep.specs.declared.marks.Marks.{Marks}
 use Rattle.ns_keep.specs.Private.Said.{said_in}
 use Rattle.ns_keep.specs.Private.Marks.{same_key, is_asked, AreMarks, IsUnmarked, MarksAsked}
 use Rattle.ns_keep.specs.Private.Keeps.{MarksSaid}
+use Rattle.ns_kept.proofs.TicketsKept.{same_ticket-refl}
 
 -- no marks are those of no entries
 pub unmarked : (has_ticket : Ticket → Bool) (m : Marks) → IsUnmarked m → AreMarks has_ticket m []
@@ -36,28 +36,18 @@ unmarked has_ticket m none = record {
 }
 
 added : (b : Bool) {had was : Bool} → had ≡ was → cond b true had ≡ (b || was)
-added true e = refl
-added false e = e
+added b e = grind (arith, e)
 
 -- an open ticket is another than one that is not open
 other_ticket : (has_ticket : Ticket → Bool) (t u : Ticket) → has_ticket t ≡ false → has_ticket u ≡ true → same_ticket u t ≡ false
 other_ticket has_ticket t u closed asks =
-    elim (bool_tells (same_ticket u t)) [
-      | inl same ↦ absurd (false≢true (sym closed ∙ (sym (ap has_ticket (same_ticket-eq u t same)) ∙ asks)))
-      | inr differs ↦ differs
-    ]
-
-same_ticket-refl : (t : Ticket) → same_ticket t t ≡ true
-same_ticket-refl t = (bytes_eq-Decides t.0 t.0).1 refl
+    false_from_ne_true _ (λ same. false≢true (sym closed ∙ (sym (ap has_ticket (same_ticket-eq u t same)) ∙ asks)))
 
 same_ticket-sym : (t u : Ticket) → same_ticket t u ≡ same_ticket u t
 same_ticket-sym t u =
     elim (bool_tells (same_ticket t u)) [
       | inl same ↦ same ∙ sym (ap (same_ticket u) (same_ticket-eq t u same) ∙ same_ticket-refl u)
-      | inr differs ↦ differs ∙ sym (elim (bool_tells (same_ticket u t)) [
-        | inl same ↦ absurd (false≢true (sym differs ∙ (ap (same_ticket t) (same_ticket-eq u t same) ∙ same_ticket-refl t)))
-        | inr differs_too ↦ differs_too
-      ])
+      | inr differs ↦ differs ∙ sym (false_from_ne_true _ (λ same. false≢true (sym differs ∙ (ap (same_ticket t) (same_ticket-eq u t same) ∙ same_ticket-refl t))))
     ]
 
 asked_more : (has_ticket : Ticket → Bool) (m n : Marks) (after : List Entry) → AreMarks has_ticket m after → (t : Ticket)

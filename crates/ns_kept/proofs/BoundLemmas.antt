@@ -1,11 +1,9 @@
 -- A trim of a legal history keeps 208 entries of a device at most.
 use Rattle.std.proofs.Common.{◌≡◌, ◌⊎◌, ℕ, ◌+◌, ◌*◌, ◌≤◌, ◌==◌, Bool, true, false, not, ◌||◌, ◌&&◌, cond, List, [], ◌∷◌, length, length-append, filter, filter_map, map, count_by, Option, None, Some, option_map, refl, sym, ap, subst, ◌∙◌, arith, inl, inr, IfSome}
 use Rattle.std.specs.Prelude.{is_some}
-use Rattle.std.specs.List.{AllByRecursion, list_any, cons_option}
+use Rattle.std.specs.List.{list_any, cons_option}
 use Rattle.std.specs.Option.{option_map_or, option_or}
-use Rattle.std.proofs.lemmas.Bool.{and_parts, eqb-true}
-use Rattle.std.proofs.lemmas.Bool.Decides.{nat_tests}
-use Rattle.std.proofs.lemmas.Slice.Eq.{bytes_eq-Decides}
+use Rattle.std.proofs.lemmas.Bool.{and_parts, eqb-true, or_parts, or_cases, and_from, and_right, not_from_true, not-true, eq-eqb, cond-true, cond-false, false_from_ne_true, both_ways}
 use Rattle.ns_types.specs.declared.identity.DevEui.{DevEui}
 use Rattle.ns_types.specs.declared.identity.WindowName.{WindowName}
 use Rattle.ns_types.specs.declared.heard.Heard.{Heard}
@@ -32,45 +30,18 @@ use Rattle.ns_calls.proofs.LimitLemmas.{limits}
 use Rattle.ns_calls.proofs.OutLemmas.{open-asked}
 use Rattle.ns_kept.specs.Kept.{whole, same_session, none_says, keeps_acceptance, keeps_opening, keeps_repetition, keeps_closing, keeps_window_copy, keeps_ticket_copy, is_kept, filter_before, keep, repeated}
 use Rattle.ns_kept.specs.Bound.{device_of, is_of, most_kept}
-use Rattle.ns_kept.proofs.Within.{Adds, Adds-filter, AllEnds, last-append}
+use Rattle.ns_kept.proofs.Within.{Adds, Adds-filter, AllEnds, last-append, find-any, any-weaker, any-filter, each-found, Adds-map}
 use Rattle.ns_kept.proofs.Asked.{acceptances-adds, openings-adds, window_copies-adds, copies_of_ticket-adds, ticket_copies-cons}
 use Rattle.ns_kept.proofs.ReadLemmas.{reading-whole}
-use Rattle.ns_kept.proofs.Dropped.{or_false, has_window, and_both}
+use Rattle.ns_kept.proofs.Dropped.{has_window, same_both}
 use Rattle.ns_kept.proofs.KeptQueries.{sessions_rise}
-use Rattle.ns_kept.proofs.Later.{first_one, first_other, find-any, equal_here}
-use Rattle.ns_kept.proofs.NamesLemmas.{or_true, or_right}
-use Rattle.ns_kept.proofs.Tally.{tally, count-tally, tally-either, tally-either-at, tally-at, times, times-one, times-sixteen, tally-keys, tally-last, tally-adds, any-weaker, any-filter, length-filter, rises-once}
-use Rattle.ns_kept.proofs.Says.{repetition_in, opening-window, repetition-window, clash}
-use Rattle.ns_calls.proofs.OpenLemmas.{not_false}
-
--- ---- booleans
-
-three_true : (a b c : Bool) → (a && b && c) ≡ true → (a ≡ true) × (b ≡ true) × (c ≡ true)
-three_true true true true is = (refl, refl, refl)
-three_true true true false is = absurd (cc is)
-three_true true false c is = absurd (cc is)
-three_true false b c is = absurd (cc is)
-
--- what an entry that passes says
-pub said_one : {Y : Type 0} (test : Y → Bool) (o : Option Y) → option_map_or test o false ≡ true → (y : Y) × (o ≡ Some y) × (test y ≡ true)
-said_one test None is = absurd (cc is)
-said_one test (Some y) is = (y, refl, is)
-
-pub says_so : {Y : Type 0} (test : Y → Bool) (o : Option Y) (y : Y) → o ≡ Some y → test y ≡ true → option_map_or test o false ≡ true
-says_so test o y is passes = ap (λ p. option_map_or test p false) is ∙ passes
+use Rattle.ns_kept.proofs.Later.{first_one, first_other}
+use Rattle.ns_kept.proofs.Tally.{tally, count-tally, tally-either, tally-either-at, tally-at, times, tally-keys, tally-last, tally-adds, rises-once, times-all}
+use Rattle.ns_kept.proofs.Says.{repetition_in, opening-window, repetition-window, in_class, any-said, said_one, said_two, says_so}
+use Rattle.std.proofs.lemmas.List.Sums.{length-filter}
+use Rattle.ns_kept.proofs.TicketsKept.{same_ticket-refl}
 
 -- ---- the last of a kind
-
-abbrev in_class : {Y : Type 0} → (Said → Option Y) → (Y → Bool) → Entry → Bool
-in_class says mine x = option_map_or mine (says (said x.call x.reply)) false
-
-any-said : {Y : Type 0} (says : Said → Option Y) (mine : Y → Bool) (xs : List Entry) → list_any (in_class says mine) xs ≡ list_any mine (filter_map (λ e. says (said e.call e.reply)) xs)
-any-said says mine [] = refl
-any-said {Y} says mine (x ∷ xs) = step (says (said x.call x.reply)) (any-said says mine xs)
-  where
-    step : (o : Option Y) → list_any (in_class says mine) xs ≡ list_any mine (filter_map (λ (e : Entry). says (said e.call e.reply)) xs) → (option_map_or mine o false || list_any (in_class says mine) xs) ≡ list_any mine (cons_option o (filter_map (λ (e : Entry). says (said e.call e.reply)) xs))
-    step None later = later
-    step (Some y) later = ap (λ b. mine y || b) later
 
 abbrev last_of : {Y : Type 0} → (Said → Option Y) → (Y → Bool) → (Y → Y → Bool) → Entry → List Entry → Bool
 last_of says mine same x xs = option_map_or (λ y. mine y && none_says says (same y) xs) (says (said x.call x.reply)) false
@@ -79,18 +50,13 @@ tally-last_of : {Y : Type 0} (says : Said → Option Y) (mine : Y → Bool) (sam
 tally-last_of {Y} says mine same alike es =
     tally-last (last_of says mine same) (in_class says mine)
     (λ x xs is.
-    let one = said_one (λ (y : Y). mine y && none_says says (same y) xs) (says (said x.call x.reply)) is in
+    let one = said_two (λ (y : Y). mine y) (λ (y : Y). none_says says (same y) xs) (says (said x.call x.reply)) is in
     let y : Y = one.0 in
-    let parts = and_parts (mine y) (none_says says (same y) xs) one.2 in
-    let none : list_any (same y) (filter_map (λ (e : Entry). says (said e.call e.reply)) xs) ≡ false = not_false _ parts.1 in
-    (says_so mine (says (said x.call x.reply)) y one.1 parts.0, any-said says mine xs ∙ quiet y parts.0 (filter_map (λ (e : Entry). says (said e.call e.reply)) xs) none)) es
-  where
-    quiet : (y : Y) → mine y ≡ true → (zs : List Y) → list_any (same y) zs ≡ false → list_any mine zs ≡ false
-    quiet y is zs none =
-        elim (bool_tells (list_any mine zs)) [
-          | inr fine ↦ fine
-          | inl some ↦ absurd (clash _ (any-weaker mine (same y) (λ z passes. alike y z is passes) zs some) none)
-        ]
+    let none : list_any (same y) (filter_map (λ (e : Entry). says (said e.call e.reply)) xs) ≡ false = not-true _ one.3 in (
+      says_so mine (says (said x.call x.reply)) y one.1 one.2,
+      any-said says mine xs
+          ∙ false_from_ne_true _ (λ some. both_ways _ none (any-weaker mine (same y) (λ z passes. alike y z one.2 passes) (filter_map (λ (e : Entry). says (said e.call e.reply)) xs) some)),
+    )) es
 
 -- ---- live sessions
 
@@ -101,56 +67,35 @@ live-two h eui = step (active_session h eui) (newest_session h eui)
     step None None = omega arith
     step None (Some y) = omega arith
     step (Some x) None = omega arith
-    step (Some x) (Some y) = by (x == y)
-      where
-        by : (b : Bool) → length (cond {A = List ℕ} b (x ∷ []) (x ∷ y ∷ [])) ≤ 2
-        by true = omega arith
-        by false = omega arith
+    step (Some x) (Some y) = grind arith
 
 live-key : (h : List Entry) (eui d : DevEui) (n : ℕ) → same_device d eui ≡ true → is_live h d n ≡ true → list_any (λ s. same_device d eui && (n == s)) (live h eui) ≡ true
 live-key h eui d n same lives =
     let there : is_live h eui n ≡ true = subst (λ (e : DevEui). is_live h e n ≡ true) (same_device-eq d eui same) lives in
-    any-weaker (λ s. s == n) (λ s. same_device d eui && (n == s)) (λ s is. and_both _ _ same (equal_here n s (sym (eqb-true s n is)))) (live h eui) there
+    any-weaker (λ s. s == n) (λ s. same_device d eui && (n == s)) (λ s is. and_from _ _ same (eq-eqb n s (sym (eqb-true s n is)))) (live h eui) there
 
 times-two : (h : List Entry) (eui : DevEui) → times 1 (live h eui) ≤ 2
-times-two h eui = (let is = times-one (live h eui) in let two = live-two h eui in omega (arith, is, two))
+times-two h eui = (let is = times-all 1 (live h eui) in let two = live-two h eui in omega (arith, is, two))
 
 -- ---- acceptances
 
 abbrev accepts_in : DevEui → ℕ → Entry → Bool
 accepts_in eui s x = in_class accepted (λ a. same_device a.eui eui && (a.session == s)) x
 
-one-session : (eui : DevEui) (s : ℕ) (x : Entry) → length (filter (λ (a : Acceptance). a.session == s) (acceptances (x ∷ []) eui)) ≡ cond (accepts_in eui s x) 1 0
+one-session : (eui : DevEui) (s : ℕ) (x : Entry) → length (filter (λ n. n == s) (map (λ (a : Acceptance). a.session) (acceptances (x ∷ []) eui))) ≡ cond (accepts_in eui s x) 1 0
 one-session eui s x = step (acceptance_in x.call x.reply)
   where
-    by : (a : Acceptance) (c : Bool) → length (filter (λ (b : Acceptance). b.session == s) (cond c (a ∷ []) [])) ≡ cond (c && (a.session == s)) 1 0
-    by a false = refl
-    by a true = inner (a.session == s)
-      where
-        inner : (b : Bool) → length (cond {A = List Acceptance} b (a ∷ []) []) ≡ cond b 1 0
-        inner true = refl
-        inner false = refl
-
-    step : (o : Option Acceptance) → length (filter (λ (a : Acceptance). a.session == s) (filter (λ (a : Acceptance). same_device a.eui eui) (cons_option o []))) ≡ cond (option_map_or (λ (a : Acceptance). same_device a.eui eui && (a.session == s)) o false) 1 0
+    step : (o : Option Acceptance) → length (filter (λ n. n == s) (map (λ (a : Acceptance). a.session) (filter (λ (a : Acceptance). same_device a.eui eui) (cons_option o [])))) ≡ cond (option_map_or (λ (a : Acceptance). same_device a.eui eui && (a.session == s)) o false) 1 0
     step None = refl
-    step (Some a) = by a (same_device a.eui eui)
-
-filter-sessions : (s : ℕ) (joins : List Acceptance) → length (filter (λ (a : Acceptance). a.session == s) joins) ≡ length (filter (λ n. n == s) (map (λ (a : Acceptance). a.session) joins))
-filter-sessions s [] = refl
-filter-sessions s (a ∷ joins) = step (a.session == s) (filter-sessions s joins)
-  where
-    step : (b : Bool) → length (filter (λ (x : Acceptance). x.session == s) joins) ≡ length (filter (λ n. n == s) (map (λ (x : Acceptance). x.session) joins)) →
-        length (cond {A = List Acceptance} b (a ∷ filter (λ (x : Acceptance). x.session == s) joins) (filter (λ (x : Acceptance). x.session == s) joins)) ≡ length (cond {A = List ℕ} b (a.session ∷ filter (λ n. n == s) (map (λ (x : Acceptance). x.session) joins)) (filter (λ n. n == s) (map (λ (x : Acceptance). x.session) joins)))
-    step true later = (let is = later in omega (arith, is))
-    step false later = later
+    step (Some a) = grind arith
 
 session-once : (net : Network) (h : List Entry) → IsLegal net h → (eui : DevEui) (s : ℕ) → tally (λ x _. accepts_in eui s x) h ≤ 1
 session-once net h legal eui s =
-    let is : tally (λ x _. accepts_in eui s x) h ≡ length (filter (λ (a : Acceptance). a.session == s) (acceptances h eui)) =
-    tally-adds (accepts_in eui s) (λ es. filter (λ (a : Acceptance). a.session == s) (acceptances es eui)) (Adds-filter (λ (a : Acceptance). a.session == s) _ (acceptances-adds eui)) (one-session eui s) h in
-    let same = filter-sessions s (acceptances h eui) in
-    let once = rises-once s (map (λ (a : Acceptance). a.session) (acceptances h eui)) (sessions_rise net h legal eui) in
-    omega (arith, is, same, once)
+    let sessions : List Entry → List ℕ = λ es. map (λ (a : Acceptance). a.session) (acceptances es eui) in
+    let is : tally (λ x _. accepts_in eui s x) h ≡ length (filter (λ n. n == s) (sessions h)) =
+    tally-adds (accepts_in eui s) (λ es. filter (λ n. n == s) (sessions es)) (Adds-filter (λ n. n == s) _ (Adds-map (λ (a : Acceptance). a.session) _ (acceptances-adds eui))) (one-session eui s) h in
+    let once = rises-once s (sessions h) (sessions_rise net h legal eui) in
+    omega (arith, is, once)
 
 -- the windows of a device that are open
 abbrev own_windows : List Entry → DevEui → List Opening
@@ -167,12 +112,6 @@ a_live eui h x xs = in_class accepted (λ a. same_device a.eui eui && is_live h 
 
 abbrev a_window : DevEui → List Entry → Entry → List Entry → Bool
 a_window eui h x xs = in_class accepted (λ a. same_device a.eui eui && has_window h a.eui a.session) x
-
-three_ways : (a b c : Bool) → (a || b || c) ≡ true → (a ≡ true) ⊎ ((b ≡ true) ⊎ (c ≡ true))
-three_ways true b c is = inl refl
-three_ways false true c is = inr (inl refl)
-three_ways false false true is = inr (inr refl)
-three_ways false false false is = absurd (cc is)
 
 -- the last that these entries say of the device is the last of the history
 abbrev Lasts : {Y : Type 0} → (List Entry → List Y) → List Entry → List Entry → Type 0
@@ -194,30 +133,27 @@ lasts-here {Y} says mine x xs y is passes none =
 
     empty : (ys : List Y) → list_any mine ys ≡ false → filter mine ys ≡ []
     empty [] nothing = refl
-    empty (z ∷ ys) nothing =
-        let both = or_false (mine z) (list_any mine ys) nothing in
-        ap (λ b. cond {A = List Y} b (z ∷ filter mine ys) (filter mine ys)) both.0 ∙ empty ys both.1
+    empty (z ∷ ys) nothing = (let both = or_parts (mine z) (list_any mine ys) nothing in cond-false _ _ _ both.0 ∙ empty ys both.1)
 
 -- the last acceptance of a device is of a live session
 acceptances-at : (h : List Entry) (eui : DevEui) (es : List Entry) → Lasts (λ xs. acceptances xs eui) h es → AllEnds (λ x xs. a_test eui h x xs ≡ true → (a_live eui h x xs ≡ true) ⊎ (a_window eui h x xs ≡ true)) es
 acceptances-at h eui [] lasts = tt
 acceptances-at h eui (x ∷ xs) lasts = (
   (λ is. (
-      let one = said_one (λ (a : Acceptance). same_device a.eui eui && keeps_acceptance h xs a) (acceptance_in x.call x.reply) is in
+      let one = said_two (λ (a : Acceptance). same_device a.eui eui) (λ (a : Acceptance). keeps_acceptance h xs a) (acceptance_in x.call x.reply) is in
       let a : Acceptance = one.0 in
-      let parts = and_parts (same_device a.eui eui) (keeps_acceptance h xs a) one.2 in
-      let device : a.eui ≡ eui = same_device-eq a.eui eui parts.0 in
-      elim (three_ways (none_says accepted (λ (b : Acceptance). same_device b.eui a.eui) xs) (is_live h a.eui a.session) (has_window h a.eui a.session) parts.1) [
-        | inl newest ↦
-            (let none : list_any (λ (b : Acceptance). same_device b.eui eui) (filter_map (λ (e : Entry). acceptance_in e.call e.reply) xs) ≡ false =
-            subst (λ (d : DevEui). list_any (λ (b : Acceptance). same_device b.eui d) (filter_map (λ (e : Entry). acceptance_in e.call e.reply) xs) ≡ false) device (not_false _ newest) in
-            let here : last (acceptances h eui) ≡ Some a = lasts a (lasts-here accepted (λ (b : Acceptance). same_device b.eui eui) x xs a one.1 parts.0 none) in
-            let lives : is_live h eui a.session ≡ true = first_other (active_session h eui) (newest_session h eui) a.session (ap (option_map (λ (b : Acceptance). b.session)) here) in
-            inl (says_so (λ (b : Acceptance). same_device b.eui eui && is_live h b.eui b.session) (acceptance_in x.call x.reply) a one.1 (and_both _ _ parts.0 (subst (λ (d : DevEui). is_live h d a.session ≡ true) (sym device) lives))))
-        | inr rest ↦
-            elim rest [
-              | inl lives ↦ inl (says_so (λ (b : Acceptance). same_device b.eui eui && is_live h b.eui b.session) (acceptance_in x.call x.reply) a one.1 (and_both _ _ parts.0 lives))
-              | inr opens ↦ inr (says_so (λ (b : Acceptance). same_device b.eui eui && has_window h b.eui b.session) (acceptance_in x.call x.reply) a one.1 (and_both _ _ parts.0 opens))
+      let device : a.eui ≡ eui = same_device-eq a.eui eui one.2 in
+      elim (or_cases _ _ one.3) [
+        | inr opens ↦ inr (says_so (λ (b : Acceptance). same_device b.eui eui && has_window h b.eui b.session) (acceptance_in x.call x.reply) a one.1 (and_from _ _ one.2 opens))
+        | inl some ↦
+            elim (or_cases (none_says accepted (λ (b : Acceptance). same_device b.eui a.eui) xs) (is_live h a.eui a.session) some) [
+              | inr lives ↦ inl (says_so (λ (b : Acceptance). same_device b.eui eui && is_live h b.eui b.session) (acceptance_in x.call x.reply) a one.1 (and_from _ _ one.2 lives))
+              | inl newest ↦
+                  (let none : list_any (λ (b : Acceptance). same_device b.eui eui) (filter_map (λ (e : Entry). acceptance_in e.call e.reply) xs) ≡ false =
+                  subst (λ (d : DevEui). list_any (λ (b : Acceptance). same_device b.eui d) (filter_map (λ (e : Entry). acceptance_in e.call e.reply) xs) ≡ false) device (not-true _ newest) in
+                  let here : last (acceptances h eui) ≡ Some a = lasts a (lasts-here accepted (λ (b : Acceptance). same_device b.eui eui) x xs a one.1 one.2 none) in
+                  let lives : is_live h eui a.session ≡ true = first_other (active_session h eui) (newest_session h eui) a.session (ap (option_map (λ (b : Acceptance). b.session)) here) in
+                  inl (says_so (λ (b : Acceptance). same_device b.eui eui && is_live h b.eui b.session) (acceptance_in x.call x.reply) a one.1 (and_from _ _ one.2 (subst (λ (d : DevEui). is_live h d a.session ≡ true) (sym device) lives))))
             ]
       ])),
   acceptances-at h eui xs (lasts-rest (λ es. acceptances es eui) (acceptances-adds eui) h x xs lasts),
@@ -229,29 +165,27 @@ most-acceptances net h legal eui =
     let of_live : tally (a_live eui h) h ≤ times 1 (live h eui) =
     tally-keys (λ s x _. accepts_in eui s x) 1 h (live h eui) (a_live eui h)
     (λ x xs is.
-    let one = said_one (λ (a : Acceptance). same_device a.eui eui && is_live h a.eui a.session) (acceptance_in x.call x.reply) is in
+    let one = said_two (λ (a : Acceptance). same_device a.eui eui) (λ (a : Acceptance). is_live h a.eui a.session) (acceptance_in x.call x.reply) is in
     let a : Acceptance = one.0 in
-    let parts = and_parts (same_device a.eui eui) (is_live h a.eui a.session) one.2 in
     any-weaker (λ s. same_device a.eui eui && (a.session == s)) (λ s. accepts_in eui s x) (λ s passes. says_so (λ (b : Acceptance). same_device b.eui eui && (b.session == s)) (acceptance_in x.call x.reply) a one.1 passes) (live h eui)
-    (live-key h eui a.eui a.session parts.0 parts.1))
+    (live-key h eui a.eui a.session one.2 one.3))
     (All-each (λ s. tally (λ x _. accepts_in eui s x) h ≤ 1) (λ s. session-once net h legal eui s) (live h eui)) in
     let two : times 1 (live h eui) ≤ 2 = times-two h eui in
     let of_windows : tally (a_window eui h) h ≤ times 1 (own_windows h eui) =
     tally-keys (λ (o : Opening) x _. accepts_in eui o.window.session x) 1 h (own_windows h eui) (a_window eui h)
     (λ x xs is.
-    let one = said_one (λ (a : Acceptance). same_device a.eui eui && has_window h a.eui a.session) (acceptance_in x.call x.reply) is in
+    let one = said_two (λ (a : Acceptance). same_device a.eui eui) (λ (a : Acceptance). has_window h a.eui a.session) (acceptance_in x.call x.reply) is in
     let a : Acceptance = one.0 in
-    let parts = and_parts (same_device a.eui eui) (has_window h a.eui a.session) one.2 in
-    let device : a.eui ≡ eui = same_device-eq a.eui eui parts.0 in
+    let device : a.eui ≡ eui = same_device-eq a.eui eui one.2 in
     let mine : (o : Opening) → (same_device o.window.eui a.eui && (o.window.session == a.session)) ≡ true → same_device o.window.eui eui ≡ true =
     λ o both. subst (λ (d : DevEui). same_device o.window.eui d ≡ true) device (and_parts (same_device o.window.eui a.eui) (o.window.session == a.session) both).0 in
     any-weaker (λ (o : Opening). same_device o.window.eui a.eui && (o.window.session == a.session)) (λ (o : Opening). accepts_in eui o.window.session x)
     (λ o both. says_so (λ (b : Acceptance). same_device b.eui eui && (b.session == o.window.session)) (acceptance_in x.call x.reply) a one.1
-    (and_both _ _ parts.0 (equal_here a.session o.window.session (sym (eqb-true o.window.session a.session (and_parts (same_device o.window.eui a.eui) (o.window.session == a.session) both).1)))))
+    (and_from _ _ one.2 (eq-eqb a.session o.window.session (sym (eqb-true o.window.session a.session (and_parts (same_device o.window.eui a.eui) (o.window.session == a.session) both).1)))))
     (own_windows h eui)
-    (any-filter (λ (o : Opening). same_device o.window.eui a.eui && (o.window.session == a.session)) (λ (o : Opening). same_device o.window.eui eui) mine (open_windows h) parts.1))
+    (any-filter (λ (o : Opening). same_device o.window.eui a.eui && (o.window.session == a.session)) (λ (o : Opening). same_device o.window.eui eui) mine (open_windows h) one.3))
     (All-each (λ (o : Opening). tally (λ x _. accepts_in eui o.window.session x) h ≤ 1) (λ o. session-once net h legal eui o.window.session) (own_windows h eui)) in
-    let as_many : times 1 (own_windows h eui) ≡ length (own_windows h eui) = times-one (own_windows h eui) in
+    let as_many = times-all 1 (own_windows h eui) in
     let most : length (own_windows h eui) ≤ 8 = eight net h legal eui in
     omega (arith, split, of_live, two, of_windows, as_many, most)
 
@@ -271,23 +205,19 @@ abbrev last_in : (Said → Option Opening) → DevEui → ℕ → Entry → List
 last_in says eui s x xs = last_of says (λ o. same_device o.window.eui eui && (o.window.session == s)) (λ o p. same_session p.window o.window) x xs
 
 session-of-both : (v w : WindowName) (eui : DevEui) (s : ℕ) → (same_device v.eui eui && (v.session == s)) ≡ true → (same_device w.eui eui && (w.session == s)) ≡ true → same_session w v ≡ true
-session-of-both v w eui s mine yours =
-    let one = and_parts (same_device v.eui eui) (v.session == s) mine in
-    let two = and_parts (same_device w.eui eui) (w.session == s) yours in
-    and_both _ _ (subst (λ (d : DevEui). same_device w.eui d ≡ true) (sym (same_device-eq v.eui eui one.0)) two.0) (subst (λ n. (w.session == n) ≡ true) (sym (eqb-true v.session s one.1)) two.1)
+session-of-both v w eui s mine yours = (let is = same_both v.eui eui v.session s mine in cc (is.0, is.1))
 
 most-last : (says : Said → Option Opening) (h : List Entry) (eui : DevEui) → tally (last_live says eui h) h ≤ 2
 most-last says h eui =
     let of_live : tally (last_live says eui h) h ≤ times 1 (live h eui) =
     tally-keys (last_in says eui) 1 h (live h eui) (last_live says eui h)
     (λ x xs is.
-    let one = said_one (λ (o : Opening). same_device o.window.eui eui && (is_live h o.window.eui o.window.session && none_says says (λ (p : Opening). same_session p.window o.window) xs)) (says (said x.call x.reply)) is in
+    let one = said_two (λ (o : Opening). same_device o.window.eui eui) (λ (o : Opening). (is_live h o.window.eui o.window.session && none_says says (λ (p : Opening). same_session p.window o.window) xs)) (says (said x.call x.reply)) is in
     let o : Opening = one.0 in
-    let parts = and_parts (same_device o.window.eui eui) (is_live h o.window.eui o.window.session && none_says says (λ (p : Opening). same_session p.window o.window) xs) one.2 in
-    let two = and_parts (is_live h o.window.eui o.window.session) (none_says says (λ (p : Opening). same_session p.window o.window) xs) parts.1 in
+    let two = and_parts (is_live h o.window.eui o.window.session) (none_says says (λ (p : Opening). same_session p.window o.window) xs) one.3 in
     any-weaker (λ s. same_device o.window.eui eui && (o.window.session == s)) (λ s. last_in says eui s x xs)
-    (λ s passes. says_so (λ (b : Opening). (same_device b.window.eui eui && (b.window.session == s)) && none_says says (λ (p : Opening). same_session p.window b.window) xs) (says (said x.call x.reply)) o one.1 (and_both _ _ passes two.1))
-    (live h eui) (live-key h eui o.window.eui o.window.session parts.0 two.0))
+    (λ s passes. says_so (λ (b : Opening). (same_device b.window.eui eui && (b.window.session == s)) && none_says says (λ (p : Opening). same_session p.window b.window) xs) (says (said x.call x.reply)) o one.1 (and_from _ _ passes two.1))
+    (live h eui) (live-key h eui o.window.eui o.window.session one.2 two.0))
     (All-each (λ s. tally (last_in says eui s) h ≤ 1)
     (λ s. tally-last_of says (λ (o : Opening). same_device o.window.eui eui && (o.window.session == s)) (λ (o : Opening) (p : Opening). same_session p.window o.window) (λ o p mine yours. session-of-both o.window p.window eui s mine yours) h) (live h eui)) in
     let two : times 1 (live h eui) ≤ 2 = times-two h eui in
@@ -298,24 +228,21 @@ openings-at : (h : List Entry) (eui : DevEui) (es : List Entry) → Lasts (λ xs
 openings-at h eui [] lasts = tt
 openings-at h eui (x ∷ xs) lasts = (
   (λ is. (
-      let one = said_one (λ (o : Opening). same_device o.window.eui eui && keeps_opening h xs o) (opening_in x.call x.reply) is in
+      let one = said_two (λ (o : Opening). same_device o.window.eui eui) (λ (o : Opening). keeps_opening h xs o) (opening_in x.call x.reply) is in
       let o : Opening = one.0 in
-      let parts = and_parts (same_device o.window.eui eui) (keeps_opening h xs o) one.2 in
-      let device : o.window.eui ≡ eui = same_device-eq o.window.eui eui parts.0 in
+      let device : o.window.eui ≡ eui = same_device-eq o.window.eui eui one.2 in
       let later : List Opening = filter_map (λ (e : Entry). opening_in e.call e.reply) xs in
-      elim (or_true (none_says first_opened (λ (p : Opening). same_device p.window.eui o.window.eui) xs) (is_live h o.window.eui o.window.session && none_says first_opened (λ (p : Opening). same_session p.window o.window) xs) parts.1) [
-        | inr lives ↦ says_so (λ (b : Opening). same_device b.window.eui eui && (is_live h b.window.eui b.window.session && none_says first_opened (λ (p : Opening). same_session p.window b.window) xs)) (opening_in x.call x.reply) o one.1 (and_both _ _ parts.0 lives)
+      elim (or_cases (none_says first_opened (λ (p : Opening). same_device p.window.eui o.window.eui) xs) (is_live h o.window.eui o.window.session && none_says first_opened (λ (p : Opening). same_session p.window o.window) xs) one.3) [
+        | inr lives ↦ says_so (λ (b : Opening). same_device b.window.eui eui && (is_live h b.window.eui b.window.session && none_says first_opened (λ (p : Opening). same_session p.window b.window) xs)) (opening_in x.call x.reply) o one.1 (and_from _ _ one.2 lives)
         | inl newest ↦
-            (let quiet : list_any (λ (p : Opening). same_device p.window.eui o.window.eui) later ≡ false = not_false _ newest in
+            (let quiet : list_any (λ (p : Opening). same_device p.window.eui o.window.eui) later ≡ false = not-true _ newest in
             let none : list_any (λ (p : Opening). same_device p.window.eui eui) later ≡ false = subst (λ (d : DevEui). list_any (λ (p : Opening). same_device p.window.eui d) later ≡ false) device quiet in
-            let here : last (openings h eui) ≡ Some o = lasts o (lasts-here first_opened (λ (p : Opening). same_device p.window.eui eui) x xs o one.1 parts.0 none) in
+            let here : last (openings h eui) ≡ Some o = lasts o (lasts-here first_opened (λ (p : Opening). same_device p.window.eui eui) x xs o one.1 one.2 none) in
             let lives : is_live h eui o.window.session ≡ true = first_one (active_session h eui) (newest_session h eui) o.window.session (ap (option_map (λ (p : Opening). p.window.session)) here) in
-            let of_session : list_any (λ (p : Opening). same_session p.window o.window) later ≡ false = elim (bool_tells (list_any (λ (p : Opening). same_session p.window o.window) later)) [
-              | inr fine ↦ fine
-              | inl some ↦ absurd (clash _ (any-weaker (λ (p : Opening). same_session p.window o.window) (λ (p : Opening). same_device p.window.eui o.window.eui) (λ p both. (and_parts (same_device p.window.eui o.window.eui) (p.window.session == o.window.session) both).0) later some) quiet)
-            ] in
+            let of_session : list_any (λ (p : Opening). same_session p.window o.window) later ≡ false = false_from_ne_true _ (λ some.
+            both_ways _ quiet (any-weaker (λ (p : Opening). same_session p.window o.window) (λ (p : Opening). same_device p.window.eui o.window.eui) (λ p both. (and_parts (same_device p.window.eui o.window.eui) (p.window.session == o.window.session) both).0) later some)) in
             says_so (λ (b : Opening). same_device b.window.eui eui && (is_live h b.window.eui b.window.session && none_says first_opened (λ (p : Opening). same_session p.window b.window) xs)) (opening_in x.call x.reply) o one.1
-            (and_both _ _ parts.0 (and_both _ _ (subst (λ (d : DevEui). is_live h d o.window.session ≡ true) (sym device) lives) (ap not of_session))))
+            (and_from _ _ one.2 (and_from _ _ (subst (λ (d : DevEui). is_live h d o.window.session ≡ true) (sym device) lives) (ap not of_session))))
       ])),
   openings-at h eui xs (lasts-rest (λ es. openings es eui) (openings-adds eui) h x xs lasts),
 )
@@ -347,20 +274,20 @@ most-closings h eui =
     let of_live : tally (c_test eui h) h ≤ times 1 (live h eui) =
     tally-keys (c_session eui) 1 h (live h eui) (c_test eui h)
     (λ x xs is.
-    let one = said_one (λ (c : Closing). same_device c.window.eui eui && keeps_closing h xs c) (closing_in x.call x.reply) is in
+    let one = said_two (λ (c : Closing). same_device c.window.eui eui) (λ (c : Closing). keeps_closing h xs c) (closing_in x.call x.reply) is in
     let c : Closing = one.0 in
-    let parts = and_parts (same_device c.window.eui eui) (keeps_closing h xs c) one.2 in
-    let three = three_true (is_some c.ack) (is_live h c.window.eui c.window.session) (none_says closed (λ (d : Closing). is_some d.ack && same_session d.window c.window) xs) parts.1 in
+    let last_one = and_parts (is_some c.ack && is_live h c.window.eui c.window.session) (none_says closed (λ (d : Closing). is_some d.ack && same_session d.window c.window) xs) one.3 in
+    let lives = and_parts (is_some c.ack) (is_live h c.window.eui c.window.session) last_one.0 in
     any-weaker (λ s. same_device c.window.eui eui && (c.window.session == s)) (λ s. c_session eui s x xs)
     (λ s passes. says_so (λ (b : Closing). (is_some b.ack && (same_device b.window.eui eui && (b.window.session == s))) && none_says closed (λ (d : Closing). is_some d.ack && same_session d.window b.window) xs) (closing_in x.call x.reply) c one.1
-    (and_both _ _ (and_both _ _ three.0 passes) three.2))
-    (live h eui) (live-key h eui c.window.eui c.window.session parts.0 three.1))
+    (and_from _ _ (and_from _ _ lives.0 passes) last_one.1))
+    (live h eui) (live-key h eui c.window.eui c.window.session one.2 lives.1))
     (All-each (λ s. tally (c_session eui s) h ≤ 1)
     (λ s. tally-last_of closed (λ (c : Closing). is_some c.ack && (same_device c.window.eui eui && (c.window.session == s))) (λ (c : Closing) (d : Closing). is_some d.ack && same_session d.window c.window)
     (λ c d mine yours.
     let one = and_parts (is_some c.ack) (same_device c.window.eui eui && (c.window.session == s)) mine in
     let two = and_parts (is_some d.ack) (same_device d.window.eui eui && (d.window.session == s)) yours in
-    and_both _ _ two.0 (session-of-both c.window d.window eui s one.1 two.1)) h) (live h eui)) in
+    and_from _ _ two.0 (session-of-both c.window d.window eui s one.1 two.1)) h) (live h eui)) in
     let two : times 1 (live h eui) ≤ 2 = times-two h eui in
     omega (arith, of_live, two)
 
@@ -375,33 +302,28 @@ copies_window w x = in_class copied (λ c. same_window c.0 w) x
 one-copy : (w : WindowName) (x : Entry) → length (window_copies (x ∷ []) w) ≡ cond (copies_window w x) 1 0
 one-copy w x = step (window_copy_in x.call x.reply)
   where
-    by : (c : WindowName × Heard) (b : Bool) → length (map (λ (d : WindowName × Heard). d.1) (cond {A = List (WindowName × Heard)} b (c ∷ []) [])) ≡ cond b 1 0
-    by c true = refl
-    by c false = refl
-
     step : (o : Option (WindowName × Heard)) → length (map (λ (c : WindowName × Heard). c.1) (filter (λ (c : WindowName × Heard). same_window c.0 w) (cons_option o []))) ≡ cond (option_map_or (λ (c : WindowName × Heard). same_window c.0 w) o false) 1 0
     step None = refl
-    step (Some c) = by c (same_window c.0 w)
+    step (Some c) = grind arith
 
 most-window_copies : (net : Network) (h : List Entry) → IsLegal net h → (eui : DevEui) → tally (w_test eui h) h ≤ 128
 most-window_copies net h legal eui =
     let keys : tally (w_test eui h) h ≤ times 16 (own_windows h eui) =
     tally-keys (λ (o : Opening) x _. copies_window o.window x) 16 h (own_windows h eui) (w_test eui h)
     (λ x xs is.
-    let one = said_one (λ (c : WindowName × Heard). same_device c.0.eui eui && keeps_window_copy h c) (window_copy_in x.call x.reply) is in
+    let one = said_two (λ (c : WindowName × Heard). same_device c.0.eui eui) (λ (c : WindowName × Heard). keeps_window_copy h c) (window_copy_in x.call x.reply) is in
     let c : WindowName × Heard = one.0 in
-    let parts = and_parts (same_device c.0.eui eui) (keeps_window_copy h c) one.2 in
-    let there : list_any (λ (o : Opening). same_window o.window c.0) (open_windows h) ≡ true = sym (find-any (λ (o : Opening). same_window o.window c.0) (open_windows h)) ∙ parts.1 in
+    let there : list_any (λ (o : Opening). same_window o.window c.0) (open_windows h) ≡ true = sym (find-any (λ (o : Opening). same_window o.window c.0) (open_windows h)) ∙ one.3 in
     any-weaker (λ (o : Opening). same_window o.window c.0) (λ (o : Opening). copies_window o.window x)
     (λ o same. says_so (λ (d : WindowName × Heard). same_window d.0 o.window) (window_copy_in x.call x.reply) c one.1 (subst (λ (v : WindowName). same_window c.0 v ≡ true) (sym (same_window-eq o.window c.0 same)) (same_window-refl c.0)))
     (own_windows h eui)
-    (any-filter (λ (o : Opening). same_window o.window c.0) (λ (o : Opening). same_device o.window.eui eui) (λ o same. subst (λ (v : WindowName). same_device v.eui eui ≡ true) (sym (same_window-eq o.window c.0 same)) parts.0) (open_windows h) there))
+    (any-filter (λ (o : Opening). same_window o.window c.0) (λ (o : Opening). same_device o.window.eui eui) (λ o same. subst (λ (v : WindowName). same_device v.eui eui ≡ true) (sym (same_window-eq o.window c.0 same)) one.2) (open_windows h) there))
     (All-each (λ (o : Opening). tally (λ x _. copies_window o.window x) h ≤ 16)
     (λ o.
     let is : tally (λ x _. copies_window o.window x) h ≡ length (window_copies h o.window) = tally-adds (copies_window o.window) (λ es. window_copies es o.window) (window_copies-adds o.window) (one-copy o.window) h in
     let most = (limits net h legal).of_window o.window in
     omega (arith, is, most)) (own_windows h eui)) in
-    let as_many : times 16 (own_windows h eui) ≡ 16 * length (own_windows h eui) = times-sixteen (own_windows h eui) in
+    let as_many : times 16 (own_windows h eui) ≡ 16 * length (own_windows h eui) = times-all 16 (own_windows h eui) in
     let most : length (own_windows h eui) ≤ 8 = eight net h legal eui in
     omega (arith, keys, as_many, most)
 
@@ -419,31 +341,24 @@ last_copies t x xs = copies_ticket t x && not (list_any (asks_for t) xs)
 one-ticket : (t : Ticket) (x : Entry) → length (copies_of_ticket (x ∷ []) t) ≡ cond (copies_ticket t x) 1 0
 one-ticket t x = step (ticket_copy_in x.call x.reply)
   where
-    by : (c : Ticket × Heard) (b : Bool) → length (map (λ (d : Ticket × Heard). d.1) (cond {A = List (Ticket × Heard)} b (c ∷ []) [])) ≡ cond b 1 0
-    by c true = refl
-    by c false = refl
-
     step : (o : Option (Ticket × Heard)) → length (map (λ (c : Ticket × Heard). c.1) (filter (λ (c : Ticket × Heard). same_ticket t c.0) (cons_option o []))) ≡ cond (option_map_or (λ (c : Ticket × Heard). same_ticket t c.0) o false) 1 0
     step None = refl
-    step (Some c) = by c (same_ticket t c.0)
+    step (Some c) = grind arith
 
-and_true : (a : Bool) → (a && true) ≡ a
-and_true true = refl
-and_true false = refl
-
-and_no : (a : Bool) → (a && false) ≡ false
-and_no true = refl
-and_no false = refl
+-- with one more entry, after which the ticket is not asked for
+copies-more : (t : Ticket) (x : Entry) (xs : List Entry) → list_any (asks_for t) xs ≡ false → tally (last_copies t) xs ≡ length (copies_of_ticket xs t) → tally (last_copies t) (x ∷ xs) ≡ length (copies_of_ticket (x ∷ xs) t)
+copies-more t x xs quiet rest =
+    let here = one-ticket t x in
+    let split : length (copies_of_ticket (x ∷ xs) t) ≡ length (copies_of_ticket (x ∷ []) t) + length (copies_of_ticket xs t) = ap length ((copies_of_ticket-adds t).more x xs) ∙ length-append (copies_of_ticket (x ∷ []) t) (copies_of_ticket xs t) in
+    let counts : cond {A = ℕ} (last_copies t x xs) 1 0 ≡ cond (copies_ticket t x) 1 0 = passing (copies_ticket t x) (list_any (asks_for t) xs) quiet in
+    omega (arith, here, rest, split, counts)
+  where
+    passing : (a b : Bool) → b ≡ false → cond {A = ℕ} (a && not b) 1 0 ≡ cond a 1 0
+    passing a b is = grind arith
 
 copies-since : (t : Ticket) (es : List Entry) → list_any (asks_for t) es ≡ false → tally (last_copies t) es ≡ length (copies_of_ticket es t)
 copies-since t [] quiet = sym (ap length (copies_of_ticket-adds t).none)
-copies-since t (x ∷ xs) quiet =
-    let both = or_false (asks_for t x) (list_any (asks_for t) xs) quiet in
-    let rest : tally (last_copies t) xs ≡ length (copies_of_ticket xs t) = copies-since t xs both.1 in
-    let here : cond {A = ℕ} (last_copies t x xs) 1 0 ≡ length (copies_of_ticket (x ∷ []) t) =
-    ap (λ b. cond {A = ℕ} (copies_ticket t x && not b) 1 0) both.1 ∙ (ap (λ b. cond {A = ℕ} b 1 0) (and_true (copies_ticket t x)) ∙ sym (one-ticket t x)) in
-    let split : length (copies_of_ticket (x ∷ xs) t) ≡ length (copies_of_ticket (x ∷ []) t) + length (copies_of_ticket xs t) = ap length ((copies_of_ticket-adds t).more x xs) ∙ length-append (copies_of_ticket (x ∷ []) t) (copies_of_ticket xs t) in
-    omega (arith, rest, here, split)
+copies-since t (x ∷ xs) quiet = (let both = or_parts (asks_for t x) (list_any (asks_for t) xs) quiet in copies-more t x xs both.1 (copies-since t xs both.1))
 
 copies-last : (t : Ticket) (es : List Entry) → list_any (asks_for t) es ≡ true → tally (last_copies t) es ≡ length (ticket_copies es t)
 copies-last t [] asked = absurd (cc asked)
@@ -451,59 +366,40 @@ copies-last t (x ∷ xs) asked =
     elim (bool_tells (list_any (asks_for t) xs)) [
       | inl later ↦
           (let rest : tally (last_copies t) xs ≡ length (ticket_copies xs t) = copies-last t xs later in
-          let here : cond {A = ℕ} (last_copies t x xs) 1 0 ≡ 0 = ap (λ b. cond {A = ℕ} (copies_ticket t x && not b) 1 0) later ∙ ap (λ b. cond {A = ℕ} b 1 0) (and_no (copies_ticket t x)) in
-          let same : length (ticket_copies (x ∷ xs) t) ≡ length (ticket_copies xs t) =
-          ap length (ticket_copies-cons x xs t ∙ ap (λ b. cond {A = List Heard} b (ticket_copies xs t) (cond (asks_for t x) (copies_of_ticket (x ∷ xs) t) [])) later) in
+          let here : cond {A = ℕ} (last_copies t x xs) 1 0 ≡ 0 = cond-false _ _ _ (and_right (copies_ticket t x) _ (not_from_true _ later)) in
+          let same : length (ticket_copies (x ∷ xs) t) ≡ length (ticket_copies xs t) = ap length (ticket_copies-cons x xs t ∙ cond-true _ _ _ later) in
           omega (arith, rest, here, same))
       | inr quiet ↦
           (let asks : asks_for t x ≡ true = first_true (asks_for t x) (list_any (asks_for t) xs) asked quiet in
-          let rest : tally (last_copies t) xs ≡ length (copies_of_ticket xs t) = copies-since t xs quiet in
-          let here : cond {A = ℕ} (last_copies t x xs) 1 0 ≡ length (copies_of_ticket (x ∷ []) t) =
-          ap (λ b. cond {A = ℕ} (copies_ticket t x && not b) 1 0) quiet ∙ (ap (λ b. cond {A = ℕ} b 1 0) (and_true (copies_ticket t x)) ∙ sym (one-ticket t x)) in
-          let split : length (copies_of_ticket (x ∷ xs) t) ≡ length (copies_of_ticket (x ∷ []) t) + length (copies_of_ticket xs t) = ap length ((copies_of_ticket-adds t).more x xs) ∙ length-append (copies_of_ticket (x ∷ []) t) (copies_of_ticket xs t) in
-          let same : length (ticket_copies (x ∷ xs) t) ≡ length (copies_of_ticket (x ∷ xs) t) =
-          ap length (ticket_copies-cons x xs t ∙ (ap (λ b. cond {A = List Heard} b (ticket_copies xs t) (cond (asks_for t x) (copies_of_ticket (x ∷ xs) t) [])) quiet ∙ ap (λ b. cond {A = List Heard} b (copies_of_ticket (x ∷ xs) t) []) asks)) in
-          omega (arith, rest, here, split, same))
+          copies-more t x xs quiet (copies-since t xs quiet) ∙ sym (ap length (ticket_copies-cons x xs t ∙ (cond-false _ _ _ quiet ∙ cond-true _ _ _ asks))))
     ]
   where
     first_true : (a b : Bool) → (a || b) ≡ true → b ≡ false → a ≡ true
-    first_true true b is none = refl
-    first_true false b is none = absurd (clash _ is none)
+    first_true a b is none = grind arith
 
 abbrev own_tickets : List Entry → DevEui → List Ticket
 own_tickets h eui = filter (λ (t : Ticket). same_device (dev_eui t) eui) (open_tickets h)
-
-same_ticket-refl : (t : Ticket) → same_ticket t t ≡ true
-same_ticket-refl t = (bytes_eq-Decides t.0 t.0).1 refl
-
-ticket-members : (ts : List Ticket) → AllByRecursion (λ t. list_any (same_ticket t) ts ≡ true) ts
-ticket-members [] = tt
-ticket-members (t ∷ ts) = (
-  ap (λ b. b || list_any (same_ticket t) ts) (same_ticket-refl t),
-  All-weaker (λ (u : Ticket). list_any (same_ticket u) ts ≡ true) (λ (u : Ticket). list_any (same_ticket u) (t ∷ ts) ≡ true) (λ u later. or_right (same_ticket u t) (list_any (same_ticket u) ts) later) ts (ticket-members ts),
-)
 
 most-ticket_copies : (net : Network) (h : List Entry) → IsLegal net h → (eui : DevEui) → tally (t_test eui h) h ≤ 64
 most-ticket_copies net h legal eui =
     let keys : tally (t_test eui h) h ≤ times 16 (own_tickets h eui) =
     tally-keys last_copies 16 h (own_tickets h eui) (t_test eui h)
     (λ x xs is.
-    let one = said_one (λ (c : Ticket × Heard). same_device (dev_eui c.0) eui && keeps_ticket_copy h xs c) (ticket_copy_in x.call x.reply) is in
+    let one = said_two (λ (c : Ticket × Heard). same_device (dev_eui c.0) eui) (λ (c : Ticket × Heard). keeps_ticket_copy h xs c) (ticket_copy_in x.call x.reply) is in
     let c : Ticket × Heard = one.0 in
-    let parts = and_parts (same_device (dev_eui c.0) eui) (keeps_ticket_copy h xs c) one.2 in
-    let two = and_parts (is_ticket_open h c.0) (not (list_any (asks_for c.0) xs)) parts.1 in
+    let two = and_parts (is_ticket_open h c.0) (not (list_any (asks_for c.0) xs)) one.3 in
     any-weaker (same_ticket c.0) (λ (t : Ticket). last_copies t x xs)
     (λ t same.
     let is_t : c.0 ≡ t = same_ticket-eq c.0 t same in
-    and_both _ _ (says_so (λ (d : Ticket × Heard). same_ticket t d.0) (ticket_copy_in x.call x.reply) c one.1 (subst (λ (u : Ticket). same_ticket t u ≡ true) (sym is_t) (same_ticket-refl t))) (subst (λ (u : Ticket). not (list_any (asks_for u) xs) ≡ true) is_t two.1))
+    and_from _ _ (says_so (λ (d : Ticket × Heard). same_ticket t d.0) (ticket_copy_in x.call x.reply) c one.1 (subst (λ (u : Ticket). same_ticket t u ≡ true) (sym is_t) (same_ticket-refl t))) (subst (λ (u : Ticket). not (list_any (asks_for u) xs) ≡ true) is_t two.1))
     (own_tickets h eui)
-    (any-filter (same_ticket c.0) (λ (t : Ticket). same_device (dev_eui t) eui) (λ t same. subst (λ (u : Ticket). same_device (dev_eui u) eui ≡ true) (same_ticket-eq c.0 t same) parts.0) (open_tickets h) two.0))
+    (any-filter (same_ticket c.0) (λ (t : Ticket). same_device (dev_eui t) eui) (λ t same. subst (λ (u : Ticket). same_device (dev_eui u) eui ≡ true) (same_ticket-eq c.0 t same) one.2) (open_tickets h) two.0))
     (All-weaker (λ (t : Ticket). is_ticket_open h t ≡ true) (λ (t : Ticket). tally (last_copies t) h ≤ 16)
     (λ t opens.
     let is : tally (last_copies t) h ≡ length (ticket_copies h t) = copies-last t h (open-asked h t opens) in
     let most = (limits net h legal).of_ticket t in
-    omega (arith, is, most)) (own_tickets h eui) (All-filter (λ (t : Ticket). is_ticket_open h t ≡ true) (λ (t : Ticket). same_device (dev_eui t) eui) (open_tickets h) (ticket-members (open_tickets h)))) in
-    let as_many : times 16 (own_tickets h eui) ≡ 16 * length (own_tickets h eui) = times-sixteen (own_tickets h eui) in
+    omega (arith, is, most)) (own_tickets h eui) (All-filter (λ (t : Ticket). is_ticket_open h t ≡ true) (λ (t : Ticket). same_device (dev_eui t) eui) (open_tickets h) (each-found same_ticket same_ticket-refl (open_tickets h)))) in
+    let as_many : times 16 (own_tickets h eui) ≡ 16 * length (own_tickets h eui) = times-all 16 (own_tickets h eui) in
     let counted : length (own_tickets h eui) ≡ ticket_count h eui = length-filter (λ (t : Ticket). same_device (dev_eui t) eui) (open_tickets h) in
     let most = (limits net h legal).tickets eui in
     omega (arith, keys, as_many, counted, most)
@@ -547,55 +443,46 @@ with-device : {Y : Type 0} (says : Said → Option Y) (device : Y → DevEui) (k
 with-device {Y} says device keeps x eui names mine is =
     let one = said_one keeps (says (said x.call x.reply)) is in
     let here : same_device (device one.0) eui ≡ true = sym (ap (λ o. option_map_or (λ (d : DevEui). same_device d eui) o false) (names one.0 one.1)) ∙ mine in
-    says_so (λ y. same_device (device y) eui && keeps y) (says (said x.call x.reply)) one.0 one.1 (and_both _ _ here one.2)
+    says_so (λ y. same_device (device y) eui && keeps y) (says (said x.call x.reply)) one.0 one.1 (and_from _ _ here one.2)
 
-abbrev after_c : DevEui → List Entry → Entry → List Entry → Bool
-after_c eui h x xs = w_test eui h x xs || t_test eui h x xs
+either-holds : (a b c d : Bool) → (a ≡ true → c ≡ true) → (b ≡ true → d ≡ true) → (a || b) ≡ true → (c || d) ≡ true
+either-holds a b c d p q is = grind arith
 
-abbrev after_r : DevEui → List Entry → Entry → List Entry → Bool
-after_r eui h x xs = c_test eui h x xs || after_c eui h x xs
+abbrev either : (Entry → List Entry → Bool) → (Entry → List Entry → Bool) → Entry → List Entry → Bool
+either p q x xs = p x xs || q x xs
 
-abbrev after_o : DevEui → List Entry → Entry → List Entry → Bool
-after_o eui h x xs = r_test eui h x xs || after_r eui h x xs
+tally-or : (p q : Entry → List Entry → Bool) (h : List Entry) → tally (either p q) h ≤ tally p h + tally q h
+tally-or p q h = tally-either (either p q) p q (λ x xs is. or_cases (p x xs) (q x xs) is) h
 
-abbrev after_a : DevEui → List Entry → Entry → List Entry → Bool
-after_a eui h x xs = o_test eui h x xs || after_o eui h x xs
+-- the tests of an entry of the device that is kept, by what it says
+abbrev tests : DevEui → List Entry → Entry → List Entry → Bool
+tests eui h x xs = a_test eui h x xs || o_test eui h x xs || r_test eui h x xs || c_test eui h x xs || w_test eui h x xs || t_test eui h x xs
 
-six_ways : (a b c d e f A O R C W T : Bool) → (a ≡ true → A ≡ true) → (b ≡ true → O ≡ true) → (c ≡ true → R ≡ true) → (d ≡ true → C ≡ true) → (e ≡ true → W ≡ true) → (f ≡ true → T ≡ true) →
-    (a || b || c || d || e || f) ≡ true → (A || (O || (R || (C || (W || T))))) ≡ true
-six_ways true b c d e f A O R C W T p q r s t u is = ap (λ x. x || (O || (R || (C || (W || T))))) (p refl)
-six_ways false true c d e f A O R C W T p q r s t u is = or_right A _ (ap (λ x. x || (R || (C || (W || T)))) (q refl))
-six_ways false false true d e f A O R C W T p q r s t u is = or_right A _ (or_right O _ (ap (λ x. x || (C || (W || T))) (r refl)))
-six_ways false false false true e f A O R C W T p q r s t u is = or_right A _ (or_right O _ (or_right R _ (ap (λ x. x || (W || T)) (s refl))))
-six_ways false false false false true f A O R C W T p q r s t u is = or_right A _ (or_right O _ (or_right R _ (or_right C _ (ap (λ x. x || T) (t refl)))))
-six_ways false false false false false true A O R C W T p q r s t u is = or_right A _ (or_right O _ (or_right R _ (or_right C _ (or_right W _ (u refl)))))
-six_ways false false false false false false A O R C W T p q r s t u is = absurd (cc is)
-
-kept-ways : (h : List Entry) (eui : DevEui) (x : Entry) (xs : List Entry) → (is_kept h x xs && is_of eui x) ≡ true → (a_test eui h x xs || after_a eui h x xs) ≡ true
+kept-ways : (h : List Entry) (eui : DevEui) (x : Entry) (xs : List Entry) → (is_kept h x xs && is_of eui x) ≡ true → tests eui h x xs ≡ true
 kept-ways h eui x xs is =
     let parts = and_parts (is_kept h x xs) (is_of eui x) is in
-    six_ways
-    (option_map_or (keeps_acceptance h xs) (acceptance_in x.call x.reply) false) (option_map_or (keeps_opening h xs) (opening_in x.call x.reply) false)
-    (option_map_or (keeps_repetition h xs) (repetition_in x.call x.reply) false) (option_map_or (keeps_closing h xs) (closing_in x.call x.reply) false)
-    (option_map_or (keeps_window_copy h) (window_copy_in x.call x.reply) false) (option_map_or (keeps_ticket_copy h xs) (ticket_copy_in x.call x.reply) false)
-    (a_test eui h x xs) (o_test eui h x xs) (r_test eui h x xs) (c_test eui h x xs) (w_test eui h x xs) (t_test eui h x xs)
+    either-holds _ _ _ _ (either-holds _ _ _ _ (either-holds _ _ _ _ (either-holds _ _ _ _ (either-holds _ _ _ _
     (with-device accepted (λ (a : Acceptance). a.eui) (keeps_acceptance h xs) x eui (acceptance-device x.call x.reply) parts.1)
-    (with-device first_opened (λ (o : Opening). o.window.eui) (keeps_opening h xs) x eui (opening-device x.call x.reply) parts.1)
-    (with-device repeated (λ (o : Opening). o.window.eui) (keeps_repetition h xs) x eui (repetition-device x.call x.reply) parts.1)
-    (with-device closed (λ (c : Closing). c.window.eui) (keeps_closing h xs) x eui (closing-device x.call x.reply) parts.1)
-    (with-device copied (λ (c : WindowName × Heard). c.0.eui) (keeps_window_copy h) x eui (window-device x.call x.reply) parts.1)
+    (with-device first_opened (λ (o : Opening). o.window.eui) (keeps_opening h xs) x eui (opening-device x.call x.reply) parts.1))
+    (with-device repeated (λ (o : Opening). o.window.eui) (keeps_repetition h xs) x eui (repetition-device x.call x.reply) parts.1))
+    (with-device closed (λ (c : Closing). c.window.eui) (keeps_closing h xs) x eui (closing-device x.call x.reply) parts.1))
+    (with-device copied (λ (c : WindowName × Heard). c.0.eui) (keeps_window_copy h) x eui (window-device x.call x.reply) parts.1))
     (with-device join_copied (λ (c : Ticket × Heard). dev_eui c.0) (keeps_ticket_copy h xs) x eui (ticket-device x.call x.reply) parts.1)
     parts.0
 
 pub kept-at-most : (net : Network) (h : List Entry) → IsLegal net h → (eui : DevEui) → count_by (is_of eui) (filter_before (is_kept h) h) ≤ most_kept
 kept-at-most net h legal eui =
     let is : count_by (is_of eui) (filter_before (is_kept h) h) ≡ tally (λ x xs. is_kept h x xs && is_of eui x) h = count-tally (is_kept h) (is_of eui) h in
-    let one : tally (λ x xs. is_kept h x xs && is_of eui x) h ≤ tally (a_test eui h) h + tally (after_a eui h) h =
-    tally-either (λ x xs. is_kept h x xs && is_of eui x) (a_test eui h) (after_a eui h) (λ x xs passes. or_true (a_test eui h x xs) (after_a eui h x xs) (kept-ways h eui x xs passes)) h in
-    let two : tally (after_a eui h) h ≤ tally (o_test eui h) h + tally (after_o eui h) h = tally-either (after_a eui h) (o_test eui h) (after_o eui h) (λ x xs passes. or_true (o_test eui h x xs) (after_o eui h x xs) passes) h in
-    let three : tally (after_o eui h) h ≤ tally (r_test eui h) h + tally (after_r eui h) h = tally-either (after_o eui h) (r_test eui h) (after_r eui h) (λ x xs passes. or_true (r_test eui h x xs) (after_r eui h x xs) passes) h in
-    let four : tally (after_r eui h) h ≤ tally (c_test eui h) h + tally (after_c eui h) h = tally-either (after_r eui h) (c_test eui h) (after_c eui h) (λ x xs passes. or_true (c_test eui h x xs) (after_c eui h x xs) passes) h in
-    let five : tally (after_c eui h) h ≤ tally (w_test eui h) h + tally (t_test eui h) h = tally-either (after_c eui h) (w_test eui h) (t_test eui h) (λ x xs passes. or_true (w_test eui h x xs) (t_test eui h x xs) passes) h in
+    let ao : Entry → List Entry → Bool = either (a_test eui h) (o_test eui h) in
+    let aor : Entry → List Entry → Bool = either ao (r_test eui h) in
+    let aorc : Entry → List Entry → Bool = either aor (c_test eui h) in
+    let aorcw : Entry → List Entry → Bool = either aorc (w_test eui h) in
+    let one : tally (λ x xs. is_kept h x xs && is_of eui x) h ≤ tally aorcw h + tally (t_test eui h) h =
+    tally-either (λ x xs. is_kept h x xs && is_of eui x) aorcw (t_test eui h) (λ x xs passes. or_cases (aorcw x xs) (t_test eui h x xs) (kept-ways h eui x xs passes)) h in
+    let two = tally-or aorc (w_test eui h) h in
+    let three = tally-or aor (c_test eui h) h in
+    let four = tally-or ao (r_test eui h) h in
+    let five = tally-or (a_test eui h) (o_test eui h) h in
     let a = most-acceptances net h legal eui in
     let o = most-openings h eui in
     let r = most-repetitions h eui in

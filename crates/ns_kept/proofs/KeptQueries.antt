@@ -1,9 +1,8 @@
 -- A part of a legal history in which what matters is kept tells the same of what answers rest on.
-use Rattle.std.proofs.Common.{◌≡◌, ℕ, ◌==◌, Bool, true, false, ◌||◌, ◌&&◌, cond, List, [], ◌∷◌, ◌++◌, map, find, unwrap_or, ◌+◌, Option, Some, option_map, refl, sym, ap, subst, ◌∙◌, arith, inl, inr}
+use Rattle.std.proofs.Common.{◌≡◌, ℕ, ◌==◌, Bool, true, ◌&&◌, List, [], ◌∷◌, ◌++◌, map, find, unwrap_or, ◌+◌, Option, option_map, refl, sym, ap, subst, ◌∙◌, arith, inl, inr}
 use Rattle.std.specs.Prelude.{is_some}
 use Rattle.std.specs.List.{AllByRecursion, list_any}
 use Rattle.std.proofs.lemmas.List.{map-append}
-use Rattle.std.proofs.lemmas.Bool.Decides.{nat_tests}
 use Rattle.ns_types.specs.declared.identity.DevEui.{DevEui}
 use Rattle.ns_types.specs.declared.identity.WindowName.{WindowName}
 use Rattle.ns_types.specs.Identity.{same_window}
@@ -13,7 +12,7 @@ use Rattle.ns_calls.specs.declared.call.Call.{Call}
 use Rattle.ns_calls.specs.declared.call.Entry.{Entry}
 use Rattle.ns_calls.specs.Queries.{last, greater, maximum}
 use Rattle.ns_calls.specs.Entries.{Acceptance, Opening, same_device, acceptances, openings, open_windows}
-use Rattle.ns_calls.specs.History.{first_and_other, first_window, session_join, session_acks, open_window, window_copies, open_tickets, last_nonce}
+use Rattle.ns_calls.specs.History.{first_and_other, first_window, session_join, session_acks, open_window, window_copies, open_tickets, last_nonce, rounds}
 use Rattle.ns_calls.specs.Legal.{IsLegal, with_call}
 use Rattle.ns_calls.specs.Laws.{Rises}
 use Rattle.ns_calls.proofs.Lists.{All-weaker, Exceeds-each, Rises-push}
@@ -23,13 +22,14 @@ use Rattle.ns_calls.proofs.AckLemmas.{acks_rise}
 use Rattle.ns_calls.proofs.NameLemmas.{same_window-refl}
 use Rattle.ns_secure.specs.Counter.{Exceeds}
 use Rattle.ns_kept.specs.Kept.{is_kept, with_closings}
-use Rattle.ns_kept.proofs.Within.{Within, Adds-map, last-within, maximum-within}
-use Rattle.ns_kept.proofs.Asked.{acceptances-adds, openings-adds, acks-adds}
+use Rattle.ns_kept.proofs.Within.{Within, Adds-map, last-within, maximum-within, find-any, each-found}
+use Rattle.ns_kept.proofs.Asked.{acceptances-adds, openings-adds, acks-adds, rounds-adds}
 use Rattle.ns_kept.proofs.Dropped.{has_window, idle-map, acceptances-idle, openings-idle, acks-idle, session_join-within, window_copies-within, ticket_copies-within, same_device-refl}
 use Rattle.ns_kept.proofs.RoundsKept.{counters-within, rounds-within, session_round-same}
-use Rattle.ns_kept.proofs.ReadLemmas.{acceptances-with_closings, openings-with_closings, counters-with_closings, rounds-with_closings, acks-with_closings, window_copies-with_closings, open_tickets-with_closings, ticket_copies-with_closings}
+use Rattle.ns_kept.proofs.ReadLemmas.{acceptances-with_closings, counters-with_closings, window_copies-with_closings, open_tickets-with_closings, ticket_copies-with_closings, with_closings-adds}
 use Rattle.ns_kept.proofs.Alike.{Alike}
 use Rattle.ns_calls.proofs.KeyLemmas.{below_next}
+use Rattle.std.proofs.lemmas.Bool.{and_from, eq-eqb}
 
 -- ---- the sessions of a device rise
 
@@ -54,33 +54,16 @@ sessions_rise net h legal =
 -- ---- each open window is found, and is one of its session's
 
 pub found-member : (os : List Opening) → AllByRecursion (λ o. is_some (find (λ (p : Opening). same_window p.window o.window) os) ≡ true) os
-found-member [] = tt
-found-member (x ∷ xs) = (
-  ap (λ b. is_some (cond {A = Option Opening} b (Some x) (find (λ (p : Opening). same_window p.window x.window) xs))) (same_window-refl x.window),
-  All-weaker (λ (o : Opening). is_some (find (λ (p : Opening). same_window p.window o.window) xs) ≡ true) (λ (o : Opening). is_some (find (λ (p : Opening). same_window p.window o.window) (x ∷ xs)) ≡ true)
-      (λ o later. longer (same_window x.window o.window) (find (λ (p : Opening). same_window p.window o.window) xs) later) xs (found-member xs),
-)
-  where
-    longer : (b : Bool) (o : Option Opening) → is_some o ≡ true → is_some (cond b (Some x) o) ≡ true
-    longer true o later = refl
-    longer false o later = later
+found-member os =
+    All-weaker (λ (o : Opening). list_any (λ (p : Opening). same_window p.window o.window) os ≡ true) (λ (o : Opening). is_some (find (λ (p : Opening). same_window p.window o.window) os) ≡ true)
+    (λ o there. find-any (λ (p : Opening). same_window p.window o.window) os ∙ there) os (each-found (λ (o p : Opening). same_window p.window o.window) (λ o. same_window-refl o.window) os)
 
 abbrev pub of_session : DevEui → ℕ → Opening → Bool
 of_session eui session o = same_device o.window.eui eui && (o.window.session == session)
 
 pub session-member : (os : List Opening) → AllByRecursion (λ o. list_any (of_session o.window.eui o.window.session) os ≡ true) os
-session-member [] = tt
-session-member (x ∷ xs) =
-    let number : (x.window.session == x.window.session) ≡ true = grind (arith, nat_tests) in
-    let here : of_session x.window.eui x.window.session x ≡ true = ap (λ b. b && (x.window.session == x.window.session)) (same_device-refl x.window.eui) ∙ number in (
-      ap (λ b. b || list_any (of_session x.window.eui x.window.session) xs) here,
-      All-weaker (λ (o : Opening). list_any (of_session o.window.eui o.window.session) xs ≡ true) (λ (o : Opening). list_any (of_session o.window.eui o.window.session) (x ∷ xs) ≡ true)
-          (λ o later. longer (of_session o.window.eui o.window.session x) (list_any (of_session o.window.eui o.window.session) xs) later) xs (session-member xs),
-    )
-  where
-    longer : (a b : Bool) → b ≡ true → (a || b) ≡ true
-    longer true b is = refl
-    longer false b is = is
+session-member os =
+    each-found (λ (o p : Opening). of_session o.window.eui o.window.session p) (λ o. and_from _ _ (same_device-refl o.window.eui) (eq-eqb o.window.session o.window.session refl)) os
 
 -- ---- what is told
 
@@ -91,7 +74,7 @@ pub alike-within : (net : Network) (h : List Entry) → IsLegal net h → (mark 
     open_windows (with_closings mark names ks) ≡ open_windows h → open_tickets ks ≡ open_tickets h → Alike net (with_closings mark names ks) h
 alike-within net h legal mark names ks within windows tickets =
     let joined = λ (eui : DevEui). acceptances-with_closings mark names ks eui in
-    let opened = λ (eui : DevEui). openings-with_closings mark names ks eui in
+    let opened = λ (eui : DevEui). with_closings-adds (λ es. openings es eui) (openings-adds eui) (λ number w. refl) mark names ks in
     let join_of = λ (joins : List Acceptance) (session : ℕ). option_map (λ (a : Acceptance). a.join_ans) (find (λ (a : Acceptance). a.session == session) joins) in
     record {
       windows = windows;
@@ -124,8 +107,8 @@ alike-within net h legal mark names ks within windows tickets =
       rounds = λ eui session lives.
           session_round-same (with_closings mark names ks) h eui session
           (ap maximum (counters-with_closings mark names ks eui session) ∙ counters-within net h legal eui session lives ks within)
-          (λ n greatest. ap maximum (rounds-with_closings mark names ks (first_window eui session n)) ∙ rounds-within net h legal eui session n lives greatest ks within);
+          (λ n greatest. ap maximum (with_closings-adds (λ es. rounds es (first_window eui session n)) (rounds-adds (first_window eui session n)) (λ number w. refl) mark names ks) ∙ rounds-within net h legal eui session n lives greatest ks within);
       acks = λ eui session lives.
-          ap maximum (acks-with_closings mark names ks eui session)
+          ap maximum (with_closings-adds (λ es. session_acks es eui session) (acks-adds eui session) (λ number w. grind arith) mark names ks)
           ∙ maximum-within (is_kept h) (λ es. session_acks es eui session) (acks-adds eui session) (acks-idle h eui session lives) ks h within (acks_rise net h legal eui session);
     }

@@ -1,9 +1,9 @@
 -- The answers over what is left are those over the whole history.
-use Rattle.std.proofs.Common.{◌≡◌, ◌⊎◌, ℕ, zero, suc, ◌+◌, ◌<◌, ◌≤◌, Bool, true, false, not, ◌||◌, cond, List, [], ◌∷◌, ◌++◌, length, take, drop, filter, count_by, map, nat_le, Option, None, Some, slice_get, refl, sym, ap, subst, ◌∙◌, arith, append_assoc, length-append, take-append-drop, inl, inr}
-use Rattle.std.specs.List.{AllByRecursion, list_any}
+use Rattle.std.proofs.Common.{◌≡◌, ◌⊎◌, ℕ, zero, suc, ◌+◌, ◌<◌, ◌≤◌, Bool, true, false, not, List, [], ◌∷◌, ◌++◌, length, take, drop, filter, count_by, map, nat_le, Some, slice_get, refl, sym, ap, subst, ◌∙◌, arith, append_assoc, length-append, take-append-drop, inl, inr}
+use Rattle.std.specs.List.{AllByRecursion}
 use Rattle.ns_types.specs.declared.identity.DevEui.{DevEui}
 use Rattle.ns_types.specs.Identity.{same_window}
-use Rattle.std.proofs.lemmas.List.{take-append-le, append-nil}
+use Rattle.std.proofs.lemmas.List.{take-append-le, append-nil, drop-append-le, drop_all}
 use Rattle.std.proofs.Math.Seq.{take-length}
 use Rattle.std.proofs.lemmas.Bool.Decides.{nat_tests}
 use Rattle.ns_types.specs.declared.identity.WindowName.{WindowName}
@@ -27,10 +27,10 @@ use Rattle.ns_calls.proofs.WindowLemmas.{windows_open_once}
 use Rattle.ns_calls.specs.Merges.{MergesAreLegal, out}
 use Rattle.ns_calls.proofs.LegalLemmas.{IsLegal-push, get_push}
 use Rattle.ns_calls.proofs.Merges.{merges_are_legal, by_place, at_place, All-take}
-use Rattle.ns_kept.specs.Kept.{Remains, whole, closing_entry, closing_of, with_closings, reading, filter_before, is_kept, keep}
+use Rattle.ns_kept.specs.Kept.{Remains, whole, closing_of, with_closings, reading, filter_before, is_kept, keep}
 use Rattle.ns_kept.specs.Left.{followed_by, left_of, first_entries, Leaves, with_call, Act, made, trimmed, answers_over, calls_in, AreLeft}
 use Rattle.ns_kept.proofs.Within.{Within, filter_before-Within}
-use Rattle.ns_kept.proofs.ReadLemmas.{reading-whole}
+use Rattle.ns_kept.proofs.ReadLemmas.{reading-whole, with_closings-above}
 use Rattle.ns_kept.proofs.Alike.{Alike, reply-alike, answer-alike, out-alike}
 use Rattle.ns_kept.proofs.KeptQueries.{alike-within}
 use Rattle.ns_kept.proofs.TicketsKept.{tickets-kept, still_open-append}
@@ -46,10 +46,12 @@ take-at (suc m) [] n e at = absurd (cc at)
 take-at (suc m) (x ∷ xs) zero e at = (at, omega arith)
 take-at (suc m) (x ∷ xs) (suc n) e at = (let rest = take-at m xs n e at in (rest.0, (let less = rest.1 in omega (arith, less))))
 
-drop-at : (m : ℕ) (xs : List Entry) (n : ℕ) (e : Entry) → slice_get (drop m xs) n ≡ Some e → (p : ℕ) × (m ≤ p) × (slice_get xs p ≡ Some e)
-drop-at zero xs n e at = (n, omega arith, at)
-drop-at (suc m) [] n e at = absurd (cc at)
-drop-at (suc m) (x ∷ xs) n e at = (let rest = drop-at m xs n e at in (suc rest.0, (let le = rest.1 in omega (arith, le)), rest.2))
+-- the place in the whole history, and what is before it there
+drop-place : (m : ℕ) (xs : List Entry) (j : ℕ) (e : Entry) → slice_get (drop m xs) j ≡ Some e → (p : ℕ) × (slice_get xs p ≡ Some e) × (m ≤ p) × (take p xs ≡ take m xs ++ take j (drop m xs))
+drop-place zero xs j e at = (j, at, omega arith, refl)
+drop-place (suc m) [] j e at = absurd (cc at)
+drop-place (suc m) (x ∷ xs) j e at =
+    (let rest = drop-place m xs j e at in (suc rest.0, rest.1, (let le = rest.2 in omega (arith, le)), ap (λ (l : List Entry). x ∷ l) rest.3))
 
 front-below : (m : ℕ) (h : List Entry) → IsNumbered h → AllByRecursion (λ e. nat_le m e.number ≡ false) (take m h)
 front-below m h numbered =
@@ -64,9 +66,9 @@ rest-above : (m : ℕ) (h : List Entry) → IsNumbered h → AllByRecursion (λ 
 rest-above m h numbered =
     by_place (λ e. nat_le m e.number ≡ true) (drop m h)
     (λ n e at.
-    let there = drop-at m h n e at in
-    let is : e.number ≡ there.0 = numbered there.0 e there.2 in
-    let le : m ≤ there.0 = there.1 in
+    let there = drop-place m h n e at in
+    let is : e.number ≡ there.0 = numbered there.0 e there.1 in
+    let le : m ≤ there.0 = there.2 in
     grind (arith, nat_tests))
 
 -- ---- what is read of more entries
@@ -76,16 +78,6 @@ with_closings-append mark names [] ys = refl
 with_closings-append mark names (x ∷ xs) ys =
     ap (λ (es : List Entry). x ∷ closing_of mark names x.number (window_in x.call x.reply) ++ es) (with_closings-append mark names xs ys)
     ∙ ap (λ (es : List Entry). x ∷ es) (sym (append_assoc (closing_of mark names x.number (window_in x.call x.reply)) (with_closings mark names xs) (with_closings mark names ys)))
-
-closing_of-above : (mark : ℕ) (names : List WindowName) (number : ℕ) (o : Option Opening) → nat_le mark number ≡ true → closing_of mark names number o ≡ []
-closing_of-above mark names number None above = refl
-closing_of-above mark names number (Some o) above = ap (λ b. cond {A = List Entry} (b || list_any (same_window o.window) names) [] (closing_entry number o.window ∷ [])) above
-
-with_closings-above : (mark : ℕ) (names : List WindowName) (ys : List Entry) → AllByRecursion (λ e. nat_le mark e.number ≡ true) ys → with_closings mark names ys ≡ ys
-with_closings-above mark names [] above = refl
-with_closings-above mark names (y ∷ ys) above =
-    ap (λ (cs : List Entry). y ∷ cs ++ with_closings mark names ys) (closing_of-above mark names y.number (window_in y.call y.reply) above.0)
-    ∙ ap (λ (es : List Entry). y ∷ es) (with_closings-above mark names ys above.1)
 
 -- ---- a trim, and what came since
 
@@ -116,11 +108,9 @@ reading-left mark h = ap (λ (g : List Entry). with_closings mark (names_of (ope
 pub leaves-alike : (net : Network) (h : List Entry) (k : Remains) → Leaves net h k → Alike net (reading k) h
 leaves-alike net h k leaves =
     let m : ℕ = k.mark in
-    let cut : take m h ++ drop m h ≡ h = take-append-drop m h in
-    let legal : IsLegal net (take m h ++ drop m h) = subst (IsLegal net) (sym cut) leaves.legal in
-    subst (λ (g : List Entry). Alike net g h) (sym (ap reading leaves.left ∙ reading-left m h))
-    (subst (λ (g : List Entry). Alike net (with_closings m (names_of (open_windows (take m h))) (kept_of (take m h) ++ drop m h)) g) cut
-    (left-alike net (take m h) (drop m h) m legal (front-below m h leaves.numbered) (rest-above m h leaves.numbered)))
+    let legal : IsLegal net (take m h ++ drop m h) = rw (take-append-drop m h) leaves.legal in
+    rw (ap reading leaves.left ∙ reading-left m h)
+    (rw (take-append-drop m h) at (left-alike net (take m h) (drop m h) m legal (front-below m h leaves.numbered) (rest-above m h leaves.numbered)))
 
 pub leaves-answer : (net : Network) (h : List Entry) (k : Remains) → Leaves net h k → (c : Call) → answer net (reading k) c ≡ answer net h c
 leaves-answer net h k leaves c = answer-alike net (reading k) h (leaves-alike net h k leaves) c
@@ -137,17 +127,8 @@ numbered_more h e number numbered n x at =
       | inr new ↦ subst (λ (y : Entry). y.number ≡ n) new.1 (number ∙ sym new.0)
     ]
 
-drop_push : (n : ℕ) (xs : List Entry) (e : Entry) → n ≤ length xs → drop n (xs ++ e ∷ []) ≡ drop n xs ++ e ∷ []
-drop_push zero xs e le = refl
-drop_push (suc n) [] e le = absurd (omega (arith, le))
-drop_push (suc n) (x ∷ xs) e le = drop_push n xs e (omega (arith, le))
-
 left-push : (m : ℕ) (h : List Entry) (e : Entry) → m ≤ length h → followed_by (left_of m h) (e ∷ []) ≡ left_of m (h ++ e ∷ [])
-left-push m h e le =
-    let f : List Entry = take m h in
-    ap (λ (es : List Entry). let x : Remains = record { mark = m; windows = (keep m (whole f)).windows; entries = es } in x) (append_assoc (keep m (whole f)).entries (drop m h) (e ∷ []))
-    ∙ (ap (λ (es : List Entry). followed_by (keep m (whole f)) es) (sym (drop_push m h e le))
-    ∙ ap (λ (g : List Entry). followed_by (keep m (whole g)) (drop m (h ++ e ∷ []))) (sym (take-append-le m h (e ∷ []) le)))
+left-push m h e le = rw (take-append-le m h (e ∷ []) le, drop-append-le m h (e ∷ []) le, append_assoc) refl
 
 pub leaves-more : (net : Network) (h : List Entry) (k : Remains) → Leaves net h k → (c : Call) → Leaves net (calls.with_call net h (length h) c) (with_call net (length h) k c)
 leaves-more net h k leaves c =
@@ -163,36 +144,23 @@ leaves-more net h k leaves c =
       left = ap (λ (x : Entry). followed_by k (x ∷ [])) same ∙ (ap (λ (l : Remains). followed_by l (e ∷ [])) leaves.left ∙ left-push k.mark h e within);
     }
 
-drop_all : (xs : List Entry) → drop (length xs) xs ≡ []
-drop_all [] = refl
-drop_all (x ∷ xs) = drop_all xs
-
 entries-within : (net : Network) (h : List Entry) (k : Remains) → Leaves net h k → Within (is_kept h) k.entries h
 entries-within net h k leaves =
     let m : ℕ = k.mark in
-    let cut : take m h ++ drop m h ≡ h = take-append-drop m h in
-    let legal : IsLegal net (take m h ++ drop m h) = subst (IsLegal net) (sym cut) leaves.legal in
+    let legal : IsLegal net (take m h ++ drop m h) = rw (take-append-drop m h) leaves.legal in
     let is : k.entries ≡ kept_of (take m h) ++ drop m h =
     ap (λ (l : Remains). l.entries) leaves.left ∙ ap (λ (g : List Entry). filter_before (is_kept g) (take m h) ++ drop m h) (reading-whole (take m h)) in
-    subst (λ (es : List Entry). Within (is_kept h) es h) (sym is) (subst (λ (g : List Entry). Within (is_kept g) (kept_of (take m h) ++ drop m h) g) cut (kept-within net (take m h) (drop m h) legal))
+    rw is (rw (take-append-drop m h) at (kept-within net (take m h) (drop m h) legal))
 
 -- a trim of what is left is the trim of the whole history
 pub keep-left : (net : Network) (h : List Entry) (k : Remains) → Leaves net h k → (n : ℕ) → keep n k ≡ keep n (whole h)
 keep-left net h k leaves n =
     let alike : Alike net (reading k) h = leaves-alike net h k leaves in
     let entries : filter_before (is_kept (reading k)) k.entries ≡ kept_of h = keep-alike net (reading k) h alike k.entries ∙ keep-within h k.entries h (entries-within net h k leaves) in
-    ap (λ (os : List Opening). let x : Remains = record { mark = n; windows = names_of os; entries = filter_before (is_kept (reading k)) k.entries } in x) alike.windows
-    ∙ (ap (λ (es : List Entry). let x : Remains = record { mark = n; windows = names_of (open_windows h); entries = es } in x) entries
-    ∙ ap (λ (g : List Entry). let x : Remains = record { mark = n; windows = names_of (open_windows g); entries = filter_before (is_kept g) h } in x) (sym (reading-whole h)))
+    rw (entries, alike.windows, reading-whole h) refl
 
 left-all : (h : List Entry) → keep (length h) (whole h) ≡ left_of (length h) h
-left-all h =
-    let n : ℕ = length h in
-    let all : take n h ≡ h = take-length h in
-    let none : drop n h ≡ [] = drop_all h in
-    ap (λ (es : List Entry). let x : Remains = record { mark = n; windows = (keep n (whole h)).windows; entries = es } in x) (sym (append-nil (keep n (whole h)).entries))
-    ∙ (ap (λ (es : List Entry). followed_by (keep n (whole h)) es) (sym none)
-    ∙ ap (λ (g : List Entry). followed_by (keep n (whole g)) (drop n h)) (sym all))
+left-all h = rw (take-length h, drop_all (length h) h (omega arith), append-nil) refl
 
 pub leaves-trim : (net : Network) (h : List Entry) (k : Remains) → Leaves net h k → Leaves net h (keep (length h) k)
 leaves-trim net h k leaves = record {
@@ -236,13 +204,6 @@ at-append (x ∷ xs) ys (suc n) e at =
       | inl here ↦ inl here
       | inr there ↦ inr (there.0, there.1, ap (λ (l : List Entry). x ∷ l) there.2)
     ]
-
--- the place in the whole history, and what is before it there
-drop-place : (m : ℕ) (xs : List Entry) (j : ℕ) (e : Entry) → slice_get (drop m xs) j ≡ Some e → (p : ℕ) × (slice_get xs p ≡ Some e) × (m ≤ p) × (take p xs ≡ take m xs ++ take j (drop m xs))
-drop-place zero xs j e at = (j, at, omega arith, refl)
-drop-place (suc m) [] j e at = absurd (cc at)
-drop-place (suc m) (x ∷ xs) j e at =
-    (let rest = drop-place m xs j e at in (suc rest.0, rest.1, (let le = rest.2 in omega (arith, le)), ap (λ (l : List Entry). x ∷ l) rest.3))
 
 Within-passed : (P : Entry → Type 0) (test : Entry → List Entry → Bool) (ks xs : List Entry) → Within test ks xs → AllByRecursion P xs → AllByRecursion P ks
 Within-passed P test ks [] within all = subst (AllByRecursion P) (sym within) tt

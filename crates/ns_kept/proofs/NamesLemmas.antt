@@ -1,62 +1,19 @@
 -- The windows that are open in what is read are those of the openings that count.
-use Rattle.std.proofs.Common.{◌≡◌, ◌⊎◌, ℕ, ◌<◌, Bool, true, false, not, ◌||◌, cond, List, [], ◌∷◌, ◌++◌, filter, map, nat_le, Option, None, Some, option_to_list, refl, sym, ap, subst, ◌∙◌, arith, inl, inr}
+use Rattle.std.proofs.Common.{◌≡◌, ℕ, ◌<◌, Bool, true, false, not, ◌||◌, cond, List, [], ◌∷◌, ◌++◌, map, nat_le, Option, None, Some, refl, ap, ◌∙◌, arith, inl, inr}
 use Rattle.std.specs.List.{AllByRecursion, list_any}
 use Rattle.std.specs.Option.{option_and_then}
 use Rattle.std.proofs.lemmas.Bool.Decides.{nat_tests}
 use Rattle.ns_types.specs.Cases.{when}
 use Rattle.ns_types.specs.declared.identity.WindowName.{WindowName}
-use Rattle.ns_types.specs.Identity.{same_window}
 use Rattle.ns_calls.specs.declared.call.Entry.{Entry}
 use Rattle.ns_calls.specs.Entries.{still_open, Opening, closes, open_windows}
 use Rattle.ns_calls.proofs.Says.{window_in}
 use Rattle.ns_calls.specs.Laws.{Rises}
-use Rattle.ns_calls.proofs.LocalLemmas.{bool_tells}
 use Rattle.ns_calls.proofs.Lists.{All-weaker, All-map}
-use Rattle.ns_calls.proofs.NameLemmas.{same_window-refl, same_window-eq}
+use Rattle.ns_calls.proofs.NameLemmas.{same_window-refl}
 use Rattle.ns_kept.specs.Kept.{Remains, closing_entry, counts, closing_of, with_closings, reading, counted_windows}
-use Rattle.ns_kept.proofs.WindowsKept.{named}
-use Rattle.ns_kept.proofs.Says.{clash}
-
-pub or_true : (a b : Bool) → (a || b) ≡ true → (a ≡ true) ⊎ (b ≡ true)
-or_true true b is = inl refl
-or_true false b is = inr is
-
-pub or_right : (a b : Bool) → b ≡ true → (a || b) ≡ true
-or_right true b is = refl
-or_right false b is = is
-
--- no closing of the window is added to these entries
-abbrev Unadded : ℕ → List WindowName → WindowName → List Entry → Type 0
-Unadded mark names w es = (named names w ≡ true) ⊎ AllByRecursion (λ e. nat_le mark e.number ≡ true) es
-
-unadded-rest : (mark : ℕ) (names : List WindowName) (w : WindowName) (e : Entry) (es : List Entry) → Unadded mark names w (e ∷ es) → Unadded mark names w es
-unadded-rest mark names w e es (inl name) = inl name
-unadded-rest mark names w e es (inr all) = inr all.1
-
-closers-with_closings : (mark : ℕ) (names : List WindowName) (w : WindowName) (es : List Entry) → Unadded mark names w es → list_any (closes w) (with_closings mark names es) ≡ list_any (closes w) es
-closers-with_closings mark names w [] none = refl
-closers-with_closings mark names w (e ∷ es) none =
-    ap (λ b. closes w e || b)
-    (step (window_in e.call e.reply) none ∙ closers-with_closings mark names w es (unadded-rest mark names w e es none))
-  where
-    step : (o : Option Opening) → Unadded mark names w (e ∷ es) → list_any (closes w) (closing_of mark names e.number o ++ with_closings mark names es) ≡ list_any (closes w) (with_closings mark names es)
-    step None un = refl
-    step (Some o) un = by (counts mark names e.number o.window) refl
-      where
-        by : (b : Bool) → counts mark names e.number o.window ≡ b → list_any (closes w) (cond b [] (closing_entry e.number o.window ∷ []) ++ with_closings mark names es) ≡ list_any (closes w) (with_closings mark names es)
-        by true is = refl
-        by false is =
-            elim un [
-              | inr all ↦ absurd (clash _ (ap (λ b. b || named names o.window) all.0) is)
-              | inl name ↦
-                  elim (bool_tells (same_window o.window w)) [
-                    | inr other ↦ ap (λ b. b || list_any (closes w) (with_closings mark names es)) other
-                    | inl same ↦ absurd (clash _ (or_right (nat_le mark e.number) (named names o.window) (subst (λ (v : WindowName). named names v ≡ true) (sym (same_window-eq o.window w same)) name)) is)
-                  ]
-            ]
-
-abbrev opened_by : Option Opening → List Entry → List Opening
-opened_by o after = filter (λ (p : Opening). not (list_any (closes p.window) after)) (option_to_list o)
+use Rattle.ns_kept.proofs.WindowsKept.{named, Unadded, closers-with_closings, opened_by}
+use Rattle.std.proofs.lemmas.Bool.{or_cases}
 
 abbrev counting : ℕ → List WindowName → ℕ → Option Opening → Option Opening
 counting mark names number o = option_and_then (λ (p : Opening). when (counts mark names number p.window) p) o
@@ -73,7 +30,7 @@ first_part mark names x xs rises (Some o) = by (counts mark names x.number o.win
         opened_by (Some o) (cond b [] (closing_entry x.number o.window ∷ []) ++ with_closings mark names xs) ++ open_windows (cond b [] (closing_entry x.number o.window ∷ []) ++ with_closings mark names xs) ≡ opened_by (when b o) xs ++ open_windows (with_closings mark names xs)
     by false is = ap (λ b. cond {A = List Opening} (not (b || list_any (closes o.window) (with_closings mark names xs))) (o ∷ []) [] ++ open_windows (with_closings mark names xs)) (same_window-refl o.window)
     by true is =
-        let unadded : Unadded mark names o.window xs = elim (or_true (nat_le mark x.number) (named names o.window) is) [
+        let unadded : Unadded mark names o.window xs = elim (or_cases (nat_le mark x.number) (named names o.window) is) [
           | inr name ↦ inl name
           | inl above ↦ inr (All-weaker (λ (e : Entry). x.number < e.number) (λ (e : Entry). nat_le mark e.number ≡ true) (λ e less. grind (arith, nat_tests)) xs rises)
         ] in

@@ -1,9 +1,9 @@
 -- A part of a legal history in which what matters is kept tells the last round of each live session's greatest counter.
-use Rattle.std.proofs.Common.{◌≡◌, ◌⊎◌, ℕ, ◌+◌, ◌<◌, ◌≤◌, ◌==◌, Bool, true, false, ◌||◌, ◌&&◌, cond, List, [], ◌∷◌, ◌++◌, filter, filter_map, map, unwrap_or, Option, None, Some, IfSome, option_to_list, refl, sym, ap, subst, ◌∙◌, arith, inl, inr}
+use Rattle.std.proofs.Common.{◌≡◌, ◌⊎◌, ℕ, ◌+◌, ◌<◌, ◌≤◌, ◌==◌, Bool, true, false, ◌&&◌, cond, List, [], ◌∷◌, ◌++◌, filter, filter_map, map, unwrap_or, Option, None, Some, IfSome, option_to_list, refl, sym, ap, subst, ◌∙◌, arith, inl, inr}
 use Rattle.std.specs.List.{AllByRecursion, list_any, cons_option}
 use Rattle.std.specs.Option.{option_map_or}
 use Rattle.std.proofs.lemmas.List.{append-nil}
-use Rattle.std.proofs.lemmas.Bool.{and_parts, eqb-true}
+use Rattle.std.proofs.lemmas.Bool.{or_parts, not-false, cond-true}
 use Rattle.std.proofs.lemmas.Bool.Decides.{nat_tests}
 use Rattle.ns_types.specs.declared.identity.DevEui.{DevEui}
 use Rattle.ns_types.specs.declared.identity.WindowName.{WindowName}
@@ -14,6 +14,7 @@ use Rattle.ns_calls.specs.declared.call.Call.{Call}
 use Rattle.ns_calls.specs.declared.call.Reply.{Reply}
 use Rattle.ns_calls.specs.declared.call.Entry.{Entry}
 use Rattle.ns_calls.specs.Queries.{maximum}
+use Rattle.ns_calls.specs.Entries as entries
 use Rattle.ns_calls.specs.Entries.{Opening, same_device, session_counters, first_opened, Said, said}
 use Rattle.ns_calls.proofs.Says.{window_in}
 use Rattle.ns_calls.specs.History.{greatest_counter, first_window, rounds, last_round, is_live}
@@ -24,39 +25,23 @@ use Rattle.ns_calls.specs.Headline.{Reaches, session_round}
 use Rattle.ns_calls.proofs.LocalLemmas.{bool_tells}
 use Rattle.ns_calls.proofs.Lists.{All-push, All-weaker, Exceeds-each, Rises-push}
 use Rattle.ns_calls.proofs.Induction.{legal_induction}
-use Rattle.ns_calls.proofs.JoinLemmas.{same_device-eq}
 use Rattle.ns_calls.proofs.NameLemmas.{both_hold, same_uplink-eq}
 use Rattle.ns_calls.proofs.UplinkLemmas.{IsOpened, window-new, counters_rise}
 use Rattle.ns_calls.proofs.RoundLemmas.{opened, HasReached, counters_reach, opened-push, first-apart, rounds-push, rounds-same, filter-none}
 use Rattle.ns_kept.specs.Kept.{same_session, is_kept, repeated}
-use Rattle.ns_kept.proofs.Within.{Within, HasSome, AreIdle, maximum-within, maximum-within-at}
+use Rattle.ns_kept.proofs.Within.{Within, HasSome, AreIdle, maximum-within, maximum-within-at, any-weaker, any-weaker-at, Adds-map, Adds-filter, All-rest}
 use Rattle.ns_kept.proofs.Asked.{counters-adds, rounds-adds}
-use Rattle.ns_kept.proofs.Dropped.{Dropped, dropped, or_false, not_false, and_false, counters-idle}
-use Rattle.ns_kept.proofs.Says.{opening-window, repetition-window, window-either}
+use Rattle.ns_kept.proofs.Dropped.{Dropped, dropped, and_false, counters-idle, same_both, any-has, Adds-same}
+use Rattle.ns_kept.proofs.Says.{opening-window, repetition-window, window-either, in_class, any-said, said_one, says_so}
+use Rattle.ns_kept.proofs.Alike.{All-both}
 
 -- what entries say of some windows is said of all
 pub any-window : (says : Said → Option Opening) → ((c : Call) (r : Reply) (o : Opening) → says (said c r) ≡ Some o → window_in c r ≡ Some o) → (test : Opening → Bool) →
     (es : List Entry) → list_any test (filter_map (λ e. says (said e.call e.reply)) es) ≡ true → list_any test (opened es) ≡ true
-any-window says is_window test [] any = absurd (cc any)
-any-window says is_window test (x ∷ xs) any = step (says (said x.call x.reply)) refl any (any-window says is_window test xs)
-  where
-    or_right : (a b : Bool) → b ≡ true → (a || b) ≡ true
-    or_right true b is = refl
-    or_right false b is = is
-
-    later-too : (o : Option Opening) → list_any test (opened xs) ≡ true → list_any test (cons_option o (opened xs)) ≡ true
-    later-too None later = later
-    later-too (Some p) later = or_right (test p) _ later
-
-    step : (o : Option Opening) → says (said x.call x.reply) ≡ o → list_any test (cons_option o (filter_map (λ (e : Entry). says (said e.call e.reply)) xs)) ≡ true → (list_any test (filter_map (λ (e : Entry). says (said e.call e.reply)) xs) ≡ true → list_any test (opened xs) ≡ true) →
-        list_any test (cons_option (window_in x.call x.reply) (opened xs)) ≡ true
-    step None is some rest = later-too (window_in x.call x.reply) (rest some)
-    step (Some p) is some rest =
-        ap (λ o. list_any test (cons_option o (opened xs))) (is_window x.call x.reply p is)
-        ∙ (elim (bool_tells (test p)) [
-          | inl here ↦ ap (λ b. b || list_any test (opened xs)) here
-          | inr other ↦ or_right (test p) _ (rest (sym (ap (λ b. b || list_any test (filter_map (λ (e : Entry). says (said e.call e.reply)) xs)) other) ∙ some))
-        ])
+any-window says is_window test es any =
+    sym (any-said entries.opened test es)
+    ∙ any-weaker (in_class says test) (in_class entries.opened test)
+    (λ e is. let one = said_one test (says (said e.call e.reply)) is in says_so test (window_in e.call e.reply) one.0 (is_window e.call e.reply one.0 one.1) one.2) es (any-said says test es ∙ any)
 
 -- ---- in a session the counters of the windows never fall
 
@@ -73,16 +58,13 @@ Pairwise-push R (x ∷ xs) y pairs each = (All-push (R x) xs y pairs.0 each.0, P
 abbrev NoLower : Opening → Opening → Type 0
 NoLower o p = same_session p.window o.window ≡ true → o.window.fcnt ≤ p.window.fcnt
 
-pub session-same : (v w : WindowName) → same_session v w ≡ true → (v.eui ≡ w.eui) × (v.session ≡ w.session)
-session-same v w is = (let parts = and_parts (same_device v.eui w.eui) (v.session == w.session) is in (same_device-eq v.eui w.eui parts.0, eqb-true v.session w.session parts.1))
-
 -- the greatest counter of the window's session
 abbrev greatest_of : List Entry → WindowName → Option ℕ
 greatest_of h w = greatest_counter h w.eui w.session
 
 greatest-same : (h : List Entry) (v w : WindowName) → same_session v w ≡ true → greatest_of h v ≡ greatest_of h w
 greatest-same h v w is =
-    let same = session-same v w is in
+    let same = same_both v.eui w.eui v.session w.session is in
     ap (λ (d : DevEui). greatest_counter h d v.session) same.0 ∙ ap (greatest_counter h w.eui) same.1
 
 reached-by : (a : Option ℕ) (m n : ℕ) → Reaches a m → Exceeds a n → m ≤ n
@@ -144,22 +126,8 @@ rounds_rise net h legal = legal_induction net (λ g. (w : WindowName) → Rises 
 
 -- where one of these elements passes a test, and whatever passes it is good, there is one that is good
 some-good : {Y Z : Type 0} (f : Y → Z) (test good : Y → Bool) (ys : List Y) → AllByRecursion (λ y. test y ≡ true → good y ≡ true) ys → list_any test ys ≡ true → HasSome (map f (filter good ys))
-some-good f test good [] all any = absurd (cc any)
-some-good {Y} {Z} f test good (y ∷ ys) all any =
-    elim (bool_tells (good y)) [
-      | inl here ↦ (f y, map f (filter good ys), ap (λ b. map f (cond {A = List Y} b (y ∷ filter good ys) (filter good ys))) here)
-      | inr bad ↦
-          elim (bool_tells (test y)) [
-            | inl passes ↦ absurd (cc (all.0 passes, bad))
-            | inr fails ↦
-                subst HasSome (sym (ap (λ b. map f (cond {A = List Y} b (y ∷ filter good ys) (filter good ys))) bad))
-                (some-good f test good ys all.1 (sym (ap (λ b. b || list_any test ys) fails) ∙ any))
-          ]
-    ]
-
-All-two : {X : Type 0} (P Q R : X → Type 0) → ((x : X) → P x → Q x → R x) → (xs : List X) → AllByRecursion P xs → AllByRecursion Q xs → AllByRecursion R xs
-All-two P Q R gives [] p q = tt
-All-two P Q R gives (x ∷ xs) p q = (gives x p.0 q.0, All-two P Q R gives xs p.1 q.1)
+some-good f test good ys all any =
+    any-has (λ zs. map f (filter good zs)) (Adds-map f _ (Adds-filter good _ Adds-same)) good (λ y is. (f y, [], ap (map f) (cond-true _ _ _ is))) ys (any-weaker-at test good ys all any)
 
 at_most : (a : Option ℕ) (m n : ℕ) → Reaches a m → a ≡ Some n → m ≤ n
 at_most a m n reaches is = subst (λ b. Reaches b m) is reaches
@@ -176,22 +144,18 @@ record Lasts (h : List Entry) (es : List Entry) : Type 0 where
   reach : AllByRecursion (HasReached h) (opened es)
 
 lasts-rest : (h : List Entry) (x : Entry) (xs : List Entry) → Lasts h (x ∷ xs) → Lasts h xs
-lasts-rest h x xs lasts = record { falls = fall (window_in x.call x.reply) lasts.falls; reach = reached (window_in x.call x.reply) lasts.reach }
+lasts-rest h x xs lasts = record { falls = fall (window_in x.call x.reply) lasts.falls; reach = All-rest (HasReached h) (window_in x.call x.reply) (opened xs) lasts.reach }
   where
     fall : (o : Option Opening) → Pairwise NoLower (cons_option o (opened xs)) → Pairwise NoLower (opened xs)
     fall None all = all
     fall (Some o) all = all.1
 
-    reached : (o : Option Opening) → AllByRecursion (HasReached h) (cons_option o (opened xs)) → AllByRecursion (HasReached h) (opened xs)
-    reached None all = all
-    reached (Some o) all = all.1
-
 -- what is missing was followed by another window of its session
 followed : (h : List Entry) (x : Entry) (xs : List Entry) → Dropped h x xs → (o : Opening) → window_in x.call x.reply ≡ Some o → is_live h o.window.eui o.window.session ≡ true → list_any (λ p. same_session p.window o.window) (opened xs) ≡ true
 followed h x xs gone o says lives =
     elim (window-either x.call x.reply o says) [
-      | inl first ↦ any-window first_opened opening-window (λ (p : Opening). same_session p.window o.window) xs (not_false _ (and_false _ _ (or_false _ _ (gone.opening o first)).1 lives))
-      | inr next ↦ any-window repeated repetition-window (λ (p : Opening). same_session p.window o.window) xs (not_false _ (and_false _ _ (gone.repetition o next) lives))
+      | inl first ↦ any-window first_opened opening-window (λ (p : Opening). same_session p.window o.window) xs (not-false _ (and_false _ _ (or_parts _ _ (gone.opening o first)).1 lives))
+      | inr next ↦ any-window repeated repetition-window (λ (p : Opening). same_session p.window o.window) xs (not-false _ (and_false _ _ (gone.repetition o next) lives))
     ]
 
 rounds-idle : (h : List Entry) (w : WindowName) → is_live h w.eui w.session ≡ true → greatest_of h w ≡ Some w.fcnt → (es : List Entry) → Lasts h es → AreIdle (is_kept h) (λ xs. rounds xs w) es
@@ -208,7 +172,7 @@ rounds-idle h w lives greatest (x ∷ xs) lasts = (here, rounds-idle h w lives g
     later o falls same any =
         let is = same_uplink-eq o.window w same in
         some-good round (λ (p : Opening). same_session p.window o.window) of_uplink (opened xs)
-        (All-two (NoLower o) (HasReached h) (λ (p : Opening). same_session p.window o.window ≡ true → of_uplink p ≡ true)
+        (All-both (NoLower o) (HasReached h) (λ (p : Opening). same_session p.window o.window ≡ true → of_uplink p ≡ true)
         (λ p above reached session.
         let mine : same_session p.window w ≡ true = subst (λ (d : DevEui). (same_device p.window.eui d && (p.window.session == w.session)) ≡ true) is.eui (subst (λ s. (same_device p.window.eui o.window.eui && (p.window.session == s)) ≡ true) is.session session) in
         let least : w.fcnt ≤ p.window.fcnt = subst (λ n. n ≤ p.window.fcnt) is.fcnt (above session) in

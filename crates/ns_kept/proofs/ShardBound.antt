@@ -1,8 +1,8 @@
 -- A trim of a shard's history keeps 208 entries for each of its devices at most.
-use Rattle.std.proofs.Common.{◌≡◌, ℕ, suc, ◌*◌, ◌≤◌, ◌==◌, Bool, true, false, ◌||◌, ◌&&◌, cond, List, [], ◌∷◌, length, filter, filter_map, count_by, Option, None, Some, IfSome, option_map, slice_get, refl, sym, ap, subst, ◌∙◌, arith, inl, inr}
+use Rattle.std.proofs.Common.{◌≡◌, ℕ, ◌*◌, ◌≤◌, ◌==◌, Bool, true, false, ◌||◌, ◌&&◌, List, length, filter, filter_map, count_by, Option, None, Some, option_map, refl, sym, ap, subst, ◌∙◌, arith, inl, inr}
 use Rattle.std.specs.List.{AllByRecursion, list_any}
 use Rattle.std.specs.Option.{option_map_or}
-use Rattle.std.proofs.lemmas.Bool.{and_parts, eq-eqb}
+use Rattle.std.proofs.lemmas.Bool.{and_parts, eq-eqb, true_from_ne_false, both_ways}
 use Rattle.std.proofs.lemmas.Option.{same_Some, none-some}
 use Rattle.ns_types.specs.declared.identity.DevEui.{DevEui}
 use Rattle.ns_types.specs.declared.identity.WindowName.{WindowName}
@@ -21,14 +21,14 @@ use Rattle.ns_calls.specs.declared.call.Entry.{Entry}
 use Rattle.ns_calls.specs.Entries as entries
 use Rattle.ns_calls.specs.Entries.{Acceptance, Opening, Closing, same_device, accepted, closed, first_opened, Said, said}
 use Rattle.ns_calls.specs.History.{same_ticket, next_session, open_tickets, is_ticket_open, copied, join_copied}
-use Rattle.ns_calls.proofs.Says.{acceptance_in, opening_in, window_in, closing_in, window_copy_in, ticket_copy_in, uplink-says, join-says, answer-says, close-says}
+use Rattle.ns_calls.proofs.Says.{acceptance_in, window_in, closing_in, window_copy_in, ticket_copy_in, uplink-says, join-says, answer-says, close-says}
 use Rattle.ns_calls.specs.Reply.{reply_to, address}
 use Rattle.ns_calls.specs.Headline.{nonce_at_or_above}
 use Rattle.ns_calls.specs.Legal.{IsLegal, IsHistory, entry_for}
 use Rattle.ns_calls.specs.Shards.{shard_of_call, NamesOwnDevice, device_in}
 use Rattle.ns_calls.specs.Laws.{opening_count, closing_count, WindowsOpenOnce}
-use Rattle.ns_calls.proofs.Lists.{All-weaker}
-use Rattle.ns_calls.proofs.LocalLemmas.{bool_tells, All-each}
+use Rattle.ns_calls.proofs.Lists.{All-weaker, at_some}
+use Rattle.ns_calls.proofs.LocalLemmas.{All-each}
 use Rattle.ns_calls.proofs.Induction.{legal_induction}
 use Rattle.ns_calls.proofs.JoinLemmas.{same_device-eq, accepted-cases, join-has}
 use Rattle.ns_calls.proofs.KnownLemmas.{tickets_known}
@@ -36,16 +36,17 @@ use Rattle.ns_calls.proofs.TicketLemmas.{same_ticket-eq}
 use Rattle.ns_calls.proofs.RoundLemmas.{opened}
 use Rattle.ns_calls.proofs.NameLemmas.{same_window-eq}
 use Rattle.ns_calls.proofs.WindowLemmas.{windows_open_once}
-use Rattle.ns_calls.proofs.Merges.{replies_name_own_devices}
+use Rattle.ns_calls.proofs.Merges.{replies_name_own_devices, by_place, at_place}
 use Rattle.ns_kept.specs.Kept.{whole, keeps_acceptance, keeps_opening, keeps_repetition, keeps_closing, keeps_window_copy, keeps_ticket_copy, is_kept, filter_before, keep, repeated}
 use Rattle.ns_kept.specs.Bound.{device_of, is_of}
-use Rattle.ns_kept.proofs.Within.{AllEnds}
+use Rattle.ns_kept.proofs.Within.{AllEnds, any-weaker, any-filter, passed-one}
 use Rattle.ns_kept.proofs.ReadLemmas.{reading-whole}
 use Rattle.ns_kept.proofs.Dropped.{same_device-refl}
-use Rattle.ns_kept.proofs.Later.{said-more, each-some, counted, each-said, closing-counted, copied-opened, opens-own}
-use Rattle.ns_kept.proofs.Tally.{tally, times, AllEnds-of, tally-keys-at, length-tally, count-tally, times-208, any-weaker, any-filter, length-filter}
-use Rattle.ns_kept.proofs.BoundLemmas.{said_one, says_so, acceptance-device, opening-device, repetition-device, closing-device, window-device, ticket-device, kept-at-most}
-use Rattle.ns_kept.proofs.Says.{repetition_in, opening-window, repetition-window}
+use Rattle.ns_kept.proofs.Later.{said-more, each-some, counted, each-said, closing-counted, copied-opened, opens-own, any-filtered}
+use Rattle.ns_kept.proofs.Tally.{tally, times, AllEnds-of, tally-keys-at, length-tally, count-tally, times-all}
+use Rattle.ns_kept.proofs.BoundLemmas.{acceptance-device, opening-device, repetition-device, closing-device, window-device, ticket-device, kept-at-most}
+use Rattle.ns_kept.proofs.Says.{opening-window, repetition-window, said_one, says_so}
+use Rattle.std.proofs.lemmas.List.Sums.{length-filter}
 
 -- the roster has the device
 abbrev has_device : Network → DevEui → Bool
@@ -58,14 +59,6 @@ known-device net t is =
 
 -- ---- what entries say is of the roster's devices
 
-same_ticket-found : (net : Network) (ts : List Ticket) (t : Ticket) → AllByRecursion (λ u. is_known net (dev_eui u) (join_eui u) ≡ true) ts → list_any (same_ticket t) ts ≡ true → is_known net (dev_eui t) (join_eui t) ≡ true
-same_ticket-found net [] t all is = absurd (cc is)
-same_ticket-found net (u ∷ ts) t all is =
-    elim (bool_tells (same_ticket t u)) [
-      | inl same ↦ subst (λ (v : Ticket). is_known net (dev_eui v) (join_eui v) ≡ true) (sym (same_ticket-eq t u same)) all.0
-      | inr other ↦ same_ticket-found net ts t all.1 (sym (ap (λ b. b || list_any (same_ticket t) ts) other) ∙ is)
-    ]
-
 accepted-known : (net : Network) (g : List Entry) → IsLegal net g → (c : Call) (a : Acceptance) → acceptance_in c (reply_to net g c) ≡ Some a → has_device net a.eui ≡ true
 accepted-known net g legal (call.JoinReply t o) a is =
     elim (accepted-cases t o (is_ticket_open g t) (nonce_at_or_above net g t) (dev_eui t) (next_session g (dev_eui t)) (address net (dev_eui t))) [
@@ -73,7 +66,9 @@ accepted-known net g legal (call.JoinReply t o) a is =
       | inr found ↦
           (let same : Some (dev_eui t) ≡ Some a.eui = ap (option_map (λ (x : Acceptance). x.eui)) (sym found.4 ∙ is) in
           let device : dev_eui t ≡ a.eui = same_Some (dev_eui t) a.eui same in
-          subst (λ (d : DevEui). has_device net d ≡ true) device (known-device net t (same_ticket-found net (open_tickets g) t (tickets_known net g legal) found.2)))
+          let one = passed-one (λ (u : Ticket). is_known net (dev_eui u) (join_eui u) ≡ true) (same_ticket t) (open_tickets g) (tickets_known net g legal) found.2 in
+          let known : is_known net (dev_eui t) (join_eui t) ≡ true = subst (λ (u : Ticket). is_known net (dev_eui u) (join_eui u) ≡ true) (sym (same_ticket-eq t one.0 one.2)) one.1 in
+          subst (λ (d : DevEui). has_device net d ≡ true) device (known-device net t known))
     ]
 accepted-known net g legal (call.Uplink frame heard) a is =
     absurd (none-some a (sym (uplink-says (λ s. accepted s ≡ None) frame heard (λ w. refl) (λ w. refl) (λ w. refl) refl (reply_to net g (call.Uplink frame heard))) ∙ is))
@@ -83,24 +78,8 @@ accepted-known net g legal (call.Close w) a is = absurd (none-some a (sym (close
 opened-known : (net : Network) (g : List Entry) → IsLegal net g → (c : Call) (o : Opening) → window_in c (reply_to net g c) ≡ Some o → has_device net o.window.eui ≡ true
 opened-known net g legal c o says =
     let own = opens-own net g legal c o says in
-    unfiltered (λ (d : Device). (device_addr net d).0 == (data_fields own.frame).addr) net.devices own.device
-  where
-    or_right : (a b : Bool) → b ≡ true → (a || b) ≡ true
-    or_right true b is = refl
-    or_right false b is = is
-
-    unfiltered : (f : Device → Bool) (ds : List Device) → list_any (λ (d : Device). d.eui.0 == o.window.eui.0) (filter f ds) ≡ true → list_any (λ (d : Device). d.eui.0 == o.window.eui.0) ds ≡ true
-    unfiltered f [] is = is
-    unfiltered f (d ∷ ds) is = by (f d) (unfiltered f ds) is
-      where
-        by : (b : Bool) → (list_any (λ (x : Device). x.eui.0 == o.window.eui.0) (filter f ds) ≡ true → list_any (λ (x : Device). x.eui.0 == o.window.eui.0) ds ≡ true) →
-            list_any (λ (x : Device). x.eui.0 == o.window.eui.0) (cond b (d ∷ filter f ds) (filter f ds)) ≡ true → ((d.eui.0 == o.window.eui.0) || list_any (λ (x : Device). x.eui.0 == o.window.eui.0) ds) ≡ true
-        by true later any =
-            elim (bool_tells (d.eui.0 == o.window.eui.0)) [
-              | inl here ↦ ap (λ t. t || list_any (λ (x : Device). x.eui.0 == o.window.eui.0) ds) here
-              | inr other ↦ or_right (d.eui.0 == o.window.eui.0) _ (later (sym (ap (λ t. t || list_any (λ (x : Device). x.eui.0 == o.window.eui.0) (filter f ds)) other) ∙ any))
-            ]
-        by false later any = or_right (d.eui.0 == o.window.eui.0) _ (later any)
+    true_from_ne_false _ (λ none.
+    both_ways _ (any-filtered (λ (d : Device). d.eui.0 == o.window.eui.0) (λ (d : Device). (device_addr net d).0 == (data_fields own.frame).addr) net.devices none) own.device)
 
 -- a Join-Request of a device that the roster doesn't have is no copy
 asked-known : (net : Network) (g : List Entry) (c : Call) (x : Ticket × Heard) → ticket_copy_in c (reply_to net g c) ≡ Some x → has_device net (dev_eui x.0) ≡ true
@@ -134,10 +113,6 @@ record Placed (net : Network) (e : Entry) : Type 0 where
   window_copy : (c : WindowName × Heard) → window_copy_in e.call e.reply ≡ Some c → has_device net c.0.eui ≡ true
   ticket_copy : (c : Ticket × Heard) → ticket_copy_in e.call e.reply ≡ Some c → has_device net (dev_eui c.0) ≡ true
 
-All-five : {X : Type 0} (P Q R S T V : X → Type 0) → ((x : X) → P x → Q x → R x → S x → T x → V x) → (xs : List X) → AllByRecursion P xs → AllByRecursion Q xs → AllByRecursion R xs → AllByRecursion S xs → AllByRecursion T xs → AllByRecursion V xs
-All-five P Q R S T V gives [] p q r s t = tt
-All-five P Q R S T V gives (x ∷ xs) p q r s t = (gives x p.0 q.0 r.0 s.0 t.0, All-five P Q R S T V gives xs p.1 q.1 r.1 s.1 t.1)
-
 placed : (net : Network) (h : List Entry) → IsLegal net h → AllByRecursion (Placed net) h
 placed net h legal =
     let once : WindowsOpenOnce h = windows_open_once net h legal in
@@ -146,80 +121,56 @@ placed net h legal =
     let of_window : (w : WindowName) → 1 ≤ opening_count h w → has_device net w.eui ≡ true = λ w some.
     (let found = counted (λ (o : Opening). has_device net o.window.eui ≡ true) (λ (o : Opening). same_window o.window w) (opened h) known some in
     subst (λ (v : WindowName). has_device net v.eui ≡ true) (same_window-eq found.0.window w found.2) found.1) in
-    All-five
-    (λ (e : Entry). (a : Acceptance) → acceptance_in e.call e.reply ≡ Some a → has_device net a.eui ≡ true)
-    (λ (e : Entry). (o : Opening) → window_in e.call e.reply ≡ Some o → has_device net o.window.eui ≡ true)
-    (λ (e : Entry). (c : Closing) → closing_in e.call e.reply ≡ Some c → has_device net c.window.eui ≡ true)
-    (λ (e : Entry). (c : WindowName × Heard) → window_copy_in e.call e.reply ≡ Some c → has_device net c.0.eui ≡ true)
-    (λ (e : Entry). (c : Ticket × Heard) → ticket_copy_in e.call e.reply ≡ Some c → has_device net (dev_eui c.0) ≡ true)
-    (Placed net) (λ e p q r s t. record { acceptance = p; window = q; closing = r; window_copy = s; ticket_copy = t }) h
-    (each-said (λ (a : Acceptance). has_device net a.eui ≡ true) (λ (e : Entry). acceptance_in e.call e.reply) h (all-said net accepted (λ (a : Acceptance). has_device net a.eui ≡ true) (λ g ok c a says. accepted-known net g ok c a says) h legal))
-    (each-said (λ (o : Opening). has_device net o.window.eui ≡ true) (λ (e : Entry). window_in e.call e.reply) h known)
-    (each-said (λ (c : Closing). has_device net c.window.eui ≡ true) (λ (e : Entry). closing_in e.call e.reply) h
-    (All-weaker (λ (c : Closing). 1 ≤ closing_count h c.window) (λ (c : Closing). has_device net c.window.eui ≡ true)
-    (λ c some. (let sums = once.closes c.window in let opens : 1 ≤ opening_count h c.window = omega (arith, some, sums) in of_window c.window opens)) _ (closing-counted h)))
-    (each-said (λ (c : WindowName × Heard). has_device net c.0.eui ≡ true) (λ (e : Entry). window_copy_in e.call e.reply) h
-    (All-weaker (λ (c : WindowName × Heard). 1 ≤ opening_count h c.0) (λ (c : WindowName × Heard). has_device net c.0.eui ≡ true) (λ c some. of_window c.0 some) _ (copied-opened net h legal)))
-    (each-said (λ (c : Ticket × Heard). has_device net (dev_eui c.0) ≡ true) (λ (e : Entry). ticket_copy_in e.call e.reply) h (all-said net join_copied (λ (c : Ticket × Heard). has_device net (dev_eui c.0) ≡ true) (λ g ok c x says. asked-known net g c x says) h legal))
+    let closings : AllByRecursion (λ (c : Closing). has_device net c.window.eui ≡ true) (filter_map (λ (e : Entry). closing_in e.call e.reply) h) =
+    All-weaker (λ (c : Closing). 1 ≤ closing_count h c.window) (λ (c : Closing). has_device net c.window.eui ≡ true)
+    (λ c some. (let sums = once.closes c.window in let opens : 1 ≤ opening_count h c.window = omega (arith, some, sums) in of_window c.window opens)) _ (closing-counted h) in
+    let copies : AllByRecursion (λ (c : WindowName × Heard). has_device net c.0.eui ≡ true) (filter_map (λ (e : Entry). window_copy_in e.call e.reply) h) =
+    All-weaker (λ (c : WindowName × Heard). 1 ≤ opening_count h c.0) (λ (c : WindowName × Heard). has_device net c.0.eui ≡ true) (λ c some. of_window c.0 some) _ (copied-opened net h legal) in
+    by_place (Placed net) h (λ n e at. record {
+      acceptance = at_place _ h (each-said (λ (a : Acceptance). has_device net a.eui ≡ true) (λ (x : Entry). acceptance_in x.call x.reply) h (all-said net accepted (λ (a : Acceptance). has_device net a.eui ≡ true) (λ g ok c a says. accepted-known net g ok c a says) h legal)) n e at;
+      window = at_place _ h (each-said (λ (o : Opening). has_device net o.window.eui ≡ true) (λ (x : Entry). window_in x.call x.reply) h known) n e at;
+      closing = at_place _ h (each-said (λ (c : Closing). has_device net c.window.eui ≡ true) (λ (x : Entry). closing_in x.call x.reply) h closings) n e at;
+      window_copy = at_place _ h (each-said (λ (c : WindowName × Heard). has_device net c.0.eui ≡ true) (λ (x : Entry). window_copy_in x.call x.reply) h copies) n e at;
+      ticket_copy = at_place _ h (each-said (λ (c : Ticket × Heard). has_device net (dev_eui c.0) ≡ true) (λ (x : Entry). ticket_copy_in x.call x.reply) h (all-said net join_copied (λ (c : Ticket × Heard). has_device net (dev_eui c.0) ≡ true) (λ g ok c x says. asked-known net g c x says) h legal)) n e at;
+    })
 
 -- the device of a kept entry
-HasPlace : Network → Entry → Type 0
+abbrev HasPlace : Network → Entry → Type 0
 HasPlace net x = (eui : DevEui) × (device_of x.call x.reply ≡ Some eui) × (has_device net eui ≡ true)
 
 one-place : {Y : Type 0} (net : Network) (x : Entry) (says : Said → Option Y) (device : Y → DevEui) (keeps : Y → Bool) → ((y : Y) → says (said x.call x.reply) ≡ Some y → device_of x.call x.reply ≡ Some (device y)) → ((y : Y) → says (said x.call x.reply) ≡ Some y → has_device net (device y) ≡ true) →
     option_map_or keeps (says (said x.call x.reply)) false ≡ true → HasPlace net x
-unfolding HasPlace
 one-place net x says device keeps names has is = (let one = said_one keeps (says (said x.call x.reply)) is in (device one.0, names one.0 one.1, has one.0 one.1))
 
-of_six : {T : Type 0} (a b c d e f : Bool) → (a ≡ true → T) → (b ≡ true → T) → (c ≡ true → T) → (d ≡ true → T) → (e ≡ true → T) → (f ≡ true → T) → (a || b || c || d || e || f) ≡ true → T
-of_six true b c d e f p q r s t u is = p refl
-of_six false true c d e f p q r s t u is = q refl
-of_six false false true d e f p q r s t u is = r refl
-of_six false false false true e f p q r s t u is = s refl
-of_six false false false false true f p q r s t u is = t refl
-of_six false false false false false true p q r s t u is = u refl
-of_six false false false false false false p q r s t u is = absurd (cc is)
+one-way : {T : Type 0} (a b : Bool) → (a ≡ true → T) → (b ≡ true → T) → (a || b) ≡ true → T
+one-way true b p q is = p refl
+one-way false b p q is = q is
 
 kept-place : (net : Network) (h : List Entry) (x : Entry) (xs : List Entry) → Placed net x → is_kept h x xs ≡ true → HasPlace net x
 kept-place net h x xs at is =
-    of_six
-    (option_map_or (keeps_acceptance h xs) (acceptance_in x.call x.reply) false) (option_map_or (keeps_opening h xs) (opening_in x.call x.reply) false)
-    (option_map_or (keeps_repetition h xs) (repetition_in x.call x.reply) false) (option_map_or (keeps_closing h xs) (closing_in x.call x.reply) false)
-    (option_map_or (keeps_window_copy h) (window_copy_in x.call x.reply) false) (option_map_or (keeps_ticket_copy h xs) (ticket_copy_in x.call x.reply) false)
+    one-way _ _ (one-way _ _ (one-way _ _ (one-way _ _ (one-way _ _
     (one-place net x accepted (λ (a : Acceptance). a.eui) (keeps_acceptance h xs) (acceptance-device x.call x.reply) at.acceptance)
-    (one-place net x first_opened (λ (o : Opening). o.window.eui) (keeps_opening h xs) (opening-device x.call x.reply) (λ o says. at.window o (opening-window x.call x.reply o says)))
-    (one-place net x repeated (λ (o : Opening). o.window.eui) (keeps_repetition h xs) (repetition-device x.call x.reply) (λ o says. at.window o (repetition-window x.call x.reply o says)))
-    (one-place net x closed (λ (c : Closing). c.window.eui) (keeps_closing h xs) (closing-device x.call x.reply) at.closing)
-    (one-place net x copied (λ (c : WindowName × Heard). c.0.eui) (keeps_window_copy h) (window-device x.call x.reply) at.window_copy)
+    (one-place net x first_opened (λ (o : Opening). o.window.eui) (keeps_opening h xs) (opening-device x.call x.reply) (λ o says. at.window o (opening-window x.call x.reply o says))))
+    (one-place net x repeated (λ (o : Opening). o.window.eui) (keeps_repetition h xs) (repetition-device x.call x.reply) (λ o says. at.window o (repetition-window x.call x.reply o says))))
+    (one-place net x closed (λ (c : Closing). c.window.eui) (keeps_closing h xs) (closing-device x.call x.reply) at.closing))
+    (one-place net x copied (λ (c : WindowName × Heard). c.0.eui) (keeps_window_copy h) (window-device x.call x.reply) at.window_copy))
     (one-place net x join_copied (λ (c : Ticket × Heard). dev_eui c.0) (keeps_ticket_copy h xs) (ticket-device x.call x.reply) at.ticket_copy)
     is
 
 -- ---- of one shard
 
 own-shard : (c : Call) (r : Reply) → NamesOwnDevice c r → (eui : DevEui) → device_of c r ≡ Some eui → shard_of eui ≡ shard_of_call c
-own-shard (call.Uplink frame heard) r names eui is = by (device_in r) names is
-  where
-    by : (o : Option DevEui) → IfSome o (λ d. shard_of d ≡ shard_of_call (call.Uplink frame heard)) → o ≡ Some eui → shard_of eui ≡ shard_of_call (call.Uplink frame heard)
-    by None holds none = absurd (cc none)
-    by (Some d) holds some = subst (λ (e : DevEui). shard_of e ≡ shard_of_call (call.Uplink frame heard)) (same_Some d eui some) holds
+own-shard (call.Uplink frame heard) r names eui is = at_some (λ (d : DevEui). shard_of d ≡ shard_of_call (call.Uplink frame heard)) (device_in r) eui is names
 own-shard (call.Join t heard) r names eui is = ap shard_of (sym (same_Some (dev_eui t) eui is))
 own-shard (call.JoinReply t o) r names eui is = ap shard_of (sym (same_Some (dev_eui t) eui is))
 own-shard (call.Close w) r names eui is = ap shard_of (sym (same_Some w.eui eui is))
-
-by_place : (P : Entry → Type 0) (xs : List Entry) → ((n : ℕ) (e : Entry) → slice_get xs n ≡ Some e → P e) → AllByRecursion P xs
-by_place P [] each = tt
-by_place P (x ∷ xs) each = (each 0 x refl, by_place P xs (λ n e at. each (suc n) e at))
 
 abbrev devices_of : Network → ℕ → List Device
 devices_of net k = filter (λ d. shard_of d.eui == k) net.devices
 
 pub shard-keeps-at-most : (net : Network) → IsRoster net → (k : ℕ) (h : List Entry) → IsHistory net k h → (made : ℕ) → length (keep made (whole h)).entries ≤ 208 * count_by (λ d. shard_of d.eui == k) net.devices
-unfolding HasPlace
 shard-keeps-at-most net valid k h history made =
     let keys : List Device = devices_of net k in
-    let own : AllByRecursion (λ (e : Entry). (eui : DevEui) → device_of e.call e.reply ≡ Some eui → shard_of eui ≡ k) h =
-    by_place (λ (e : Entry). (eui : DevEui) → device_of e.call e.reply ≡ Some eui → shard_of eui ≡ k) h
-    (λ n e at eui is. own-shard e.call e.reply (replies_name_own_devices net valid h history.legal n e at) eui is ∙ history.own n e at) in
     let ends : AllEnds (λ x xs. is_kept h x xs ≡ true → list_any (λ (d : Device). is_kept h x xs && is_of d.eui x) keys ≡ true) h =
     AllEnds-of (λ (e : Entry). Placed net e × ((eui : DevEui) → device_of e.call e.reply ≡ Some eui → shard_of eui ≡ k)) (λ x xs. is_kept h x xs ≡ true → list_any (λ (d : Device). is_kept h x xs && is_of d.eui x) keys ≡ true)
     (λ x xs both is.
@@ -231,16 +182,12 @@ shard-keeps-at-most net valid k h history made =
     ap (λ b. b && is_of d.eui x) is ∙ mine)
     keys
     (any-filter (λ (d : Device). same_device d.eui eui) (λ (d : Device). shard_of d.eui == k) (λ d same. eq-eqb (shard_of d.eui) k (ap shard_of (same_device-eq d.eui eui same) ∙ both.1 eui place.1)) net.devices place.2))
-    h (pair h (placed net h history.legal) own) in
+    h (by_place _ h (λ n e at. (at_place (Placed net) h (placed net h history.legal) n e at, (λ eui is. own-shard e.call e.reply (replies_name_own_devices net valid h history.legal n e at) eui is ∙ history.own n e at)))) in
     let each : AllByRecursion (λ (d : Device). tally (λ x xs. is_kept h x xs && is_of d.eui x) h ≤ 208) keys =
     All-each (λ (d : Device). tally (λ x xs. is_kept h x xs && is_of d.eui x) h ≤ 208)
     (λ d. (let is = count-tally (is_kept h) (is_of d.eui) h in let most = kept-at-most net h history.legal d.eui in omega (arith, is, most))) keys in
     let most : tally (is_kept h) h ≤ times 208 keys = tally-keys-at (λ (d : Device) x xs. is_kept h x xs && is_of d.eui x) 208 h keys (is_kept h) ends each in
-    let as_many : times 208 keys ≡ 208 * length keys = times-208 keys in
+    let as_many : times 208 keys ≡ 208 * length keys = times-all 208 keys in
     let counted_so : length keys ≡ count_by (λ (d : Device). shard_of d.eui == k) net.devices = length-filter (λ (d : Device). shard_of d.eui == k) net.devices in
     let is : length (filter_before (is_kept h) h) ≡ tally (is_kept h) h = length-tally (is_kept h) h in
     subst (λ (g : List Entry). length (filter_before (is_kept g) h) ≤ 208 * count_by (λ (d : Device). shard_of d.eui == k) net.devices) (sym (reading-whole h)) (omega (arith, most, as_many, counted_so, is))
-  where
-    pair : (es : List Entry) → AllByRecursion (Placed net) es → AllByRecursion (λ (e : Entry). (eui : DevEui) → device_of e.call e.reply ≡ Some eui → shard_of eui ≡ k) es → AllByRecursion (λ (e : Entry). Placed net e × ((eui : DevEui) → device_of e.call e.reply ≡ Some eui → shard_of eui ≡ k)) es
-    pair [] p q = tt
-    pair (e ∷ es) p q = ((p.0, q.0), pair es p.1 q.1)

@@ -1,7 +1,8 @@
 -- A number that was written in decimal is read back.
-use Rattle.std.proofs.Common.{◌≡◌, ℕ, ◌+◌, ◌-◌, ◌*◌, ◌^◌, ◌<◌, ◌&&◌, Bool, true, false, nat_le, List, length, take, fold, Some, refl, sym, ap, ◌∙◌, arith}
+use Rattle.std.proofs.Common.{◌≡◌, ℕ, ◌+◌, ◌-◌, ◌*◌, ◌^◌, ◌<◌, true, nat_le, List, length, take, fold, Some, refl, sym, ap, ◌∙◌, arith}
 use Rattle.std.specs.Prelude.{decimal}
 use Rattle.std.specs.List.{list_all}
+use Rattle.std.proofs.lemmas.Bool.{and_parts}
 use Rattle.std.proofs.lemmas.Bool.Decides.{nat_tests}
 use Rattle.std.proofs.lemmas.List.{take_all}
 use Rattle.std.proofs.lemmas.Fmt.{decimal_nonempty, digits_decimal, digits_value-decimal}
@@ -12,14 +13,10 @@ use Rattle.ns_replay.proofs.Digits.{number_of_digits}
 abbrev AreDigits : List ℕ → Type 0
 AreDigits ds = list_all is_digit ds ≡ true
 
-split : (a b : Bool) → (a && b) ≡ true → (a ≡ true) × (b ≡ true)
-split true b h = (refl, h)
-split false b h = absurd (cc h)
-
 tells : IsDigitsTest AreDigits
 tells = record {
   empty = refl;
-  parts = λ c cs is. let s = split (is_digit c) (list_all is_digit cs) is in let t = split (nat_le 48 c) (nat_le c 57) s.0 in (grind (arith, nat_tests, t.0, t.1), s.1);
+  parts = λ c cs is. let s = and_parts (is_digit c) (list_all is_digit cs) is in let t = and_parts (nat_le 48 c) (nat_le c 57) s.0 in (grind (arith, nat_tests, t.0, t.1), s.1);
   more = λ c cs within rest. let low : nat_le 48 c ≡ true = grind (arith, nat_tests, within) in let high : nat_le c 57 ≡ true = grind (arith, nat_tests, within) in rw (low, high) rest;
 }
 

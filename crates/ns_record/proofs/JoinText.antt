@@ -1,7 +1,7 @@
 -- The text of a JoinAns is read as the answer that it says.
-use Rattle.std.proofs.Common.{◌≡◌, ℕ, zero, suc, ◌/◌, ◌%◌, ◌^◌, ◌<◌, ◌≤◌, false, List, [], ◌∷◌, ◌++◌, length, slice_index, codes, Option, None, Some, option_and_then, refl, sym, ap, ◌∙◌, arith, append_assoc, append-nil}
+use Rattle.std.proofs.Common.{◌≡◌, ℕ, suc, ◌/◌, ◌%◌, ◌^◌, ◌<◌, ◌≤◌, false, List, [], ◌∷◌, ◌++◌, length, slice_index, codes, Option, None, Some, option_and_then, refl, sym, ap, ◌∙◌, arith, append_assoc, append-nil}
 use Rattle.std.specs.Prelude.{decimal}
-use Rattle.std.specs.List.{AllByRecursion}
+use Rattle.std.proofs.lemmas.List.Elements.{All-from_recursion}
 use Rattle.json.specs.Token.{Token}
 use Rattle.json.specs.Lex.{tokens}
 use Rattle.json.specs.Json as json
@@ -49,12 +49,8 @@ join_data t join = object (with_app join.app (rest_data t join))
 
 digit_alone : (i : ℕ) → i < 16 → escape_byte (slice_index lower_digits i) ≡ slice_index lower_digits i ∷ []
 unfolding escape_byte
-digit_alone i within = table lower_digits (refl, (refl, (refl, (refl, (refl, (refl, (refl, (refl, (refl, (refl, (refl, (refl, (refl, (refl, (refl, (refl, tt)))))))))))))))) i within
-  where
-    table : (xs : List ℕ) → AllByRecursion (λ x. escape_byte x ≡ x ∷ []) xs → (i : ℕ) → i < length xs → escape_byte (slice_index xs i) ≡ slice_index xs i ∷ []
-    table [] are i h = absurd (omega arith)
-    table (x ∷ xs) are zero h = are.0
-    table (x ∷ xs) are (suc i) h = table xs are.1 i (omega arith)
+digit_alone i within =
+    All-from_recursion (λ x. escape_byte x ≡ x ∷ []) lower_digits (refl, (refl, (refl, (refl, (refl, (refl, (refl, (refl, (refl, (refl, (refl, (refl, (refl, (refl, (refl, (refl, tt)))))))))))))))) i 0 within
 
 escape-hex : (bytes : List ℕ) → ((i : ℕ) → slice_index bytes i < 256) → escape (encode_lower bytes) ≡ encode_lower bytes
 unfolding encode_with
@@ -119,26 +115,17 @@ join-compact t join app nwk accept = by join.app app
 
 -- ---- the text is read
 
-HasNumbers-join : (t : ℕ) (join : JoinAns) → t < 2 ^ 64 → HasNumbers (outline (join_data t join))
-HasNumbers-join t join fits = by join.app
-  where
-    by : (o : Option Key) → HasNumbers (outline (object (with_app o (rest_data t join))))
-    by None = (tt, ((tt, tt), (tt, ((tt, tt), (IsNumber-decimal t fits, tt)))))
-    by (Some key) = ((tt, tt), (tt, ((tt, tt), (tt, ((tt, tt), (IsNumber-decimal t fits, tt))))))
+HasNumbers-join : (t : ℕ) (join : JoinAns) (app : Option Key) → t < 2 ^ 64 → HasNumbers (outline (object (with_app app (rest_data t join))))
+HasNumbers-join t join None fits = (tt, ((tt, tt), (tt, ((tt, tt), (IsNumber-decimal t fits, tt)))))
+HasNumbers-join t join (Some key) fits = ((tt, tt), (tt, ((tt, tt), (tt, ((tt, tt), (IsNumber-decimal t fits, tt))))))
 
-of_json-join : (t : ℕ) (join : JoinAns) → t < 2 ^ 64 → of_json (outline (join_data t join)) ≡ Some (join_data t join)
-of_json-join t join fits = by join.app
-  where
-    by : (o : Option Key) → of_json (outline (object (with_app o (rest_data t join)))) ≡ Some (object (with_app o (rest_data t join)))
-    by None = rw (number_of-decimal t fits) refl
-    by (Some key) = rw (number_of-decimal t fits) refl
+of_json-join : (t : ℕ) (join : JoinAns) (app : Option Key) → t < 2 ^ 64 → of_json (outline (object (with_app app (rest_data t join)))) ≡ Some (object (with_app app (rest_data t join)))
+of_json-join t join None fits = rw (number_of-decimal t fits) refl
+of_json-join t join (Some key) fits = rw (number_of-decimal t fits) refl
 
-shallow : (t : ℕ) (join : JoinAns) → depth (outline (join_data t join)) ≤ max_depth
-shallow t join = by join.app
-  where
-    by : (o : Option Key) → depth (outline (object (with_app o (rest_data t join)))) ≤ max_depth
-    by None = omega arith
-    by (Some key) = omega arith
+shallow : (t : ℕ) (join : JoinAns) (app : Option Key) → depth (outline (object (with_app app (rest_data t join)))) ≤ max_depth
+shallow t join None = omega arith
+shallow t join (Some key) = omega arith
 
 abbrev read_whole : Option (json.Json × List Token) → Option Data
 read_whole o = option_and_then of_json (option_and_then (λ p. json.if_last p.0 p.1) o)
@@ -147,5 +134,5 @@ pub join-read : (t : ℕ) (join : JoinAns) → t < 2 ^ 64 → IsKeyOrNone join.a
 join-read t join fits app nwk accept =
     let j : json.Json = outline (join_data t join) in
     let same : tokens (join_text t join) ≡ json_tokens j =
-    ap tokens (join-compact t join app nwk accept ∙ sym (print-outline (join_data t join))) ∙ tokens-print (json_tokens j) (ArePrintable-json_tokens j (HasNumbers-join t join fits)) in
-    ap read_whole (ap (json.value max_depth) (same ∙ sym (append-nil (json_tokens j))) ∙ value-json_tokens j max_depth [] (shallow t join)) ∙ of_json-join t join fits
+    ap tokens (join-compact t join app nwk accept ∙ sym (print-outline (join_data t join))) ∙ tokens-print (json_tokens j) (ArePrintable-json_tokens j (HasNumbers-join t join join.app fits)) in
+    ap read_whole (ap (json.value max_depth) (same ∙ sym (append-nil (json_tokens j))) ∙ value-json_tokens j max_depth [] (shallow t join join.app)) ∙ of_json-join t join join.app fits

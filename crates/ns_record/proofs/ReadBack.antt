@@ -1,14 +1,18 @@
 -- The step line of a call is read back to it.
-use Rattle.std.proofs.Common.{◌≡◌, ℕ, zero, suc, ◌-◌, ◌^◌, ◌<◌, ◌≤◌, ◌==◌, Bool, true, false, nat_lt, List, [], ◌∷◌, ◌++◌, map, length, slice_index, codes, Option, None, Some, option_and_then, refl, sym, ap, subst, ◌∙◌, arith, inl, inr, append_assoc, append-nil}
+use Rattle.std.proofs.Common.{◌≡◌, ℕ, ◌-◌, ◌%◌, ◌^◌, ◌<◌, ◌≤◌, ◌==◌, true, false, nat_lt, List, [], ◌∷◌, ◌++◌, map, length, slice_index, codes, Option, None, Some, option_and_then, refl, sym, ap, subst, ◌∙◌, arith, inl, inr, append_assoc, append-nil}
 use Rattle.std.specs.Prelude.{decimal, Result, Ok, Err, if◌then◌else◌}
 use Rattle.std.specs.Int.{w64, to_be_bytes}
+use Rattle.std.proofs.lemmas.Bool.{cond_both}
 use Rattle.std.proofs.lemmas.Bool.Decides.{nat_tests}
+use Rattle.std.proofs.lemmas.List.Elements.{All-from_recursion}
 use Rattle.std.proofs.lemmas.Nat.{from_be_bytes-to_be_bytes_8}
+use Rattle.std.proofs.lemmas.Option.{cond_some}
 use Rattle.std.proofs.lemmas.Str.{is_utf8-from_IsUtf8, IsUtf8-from_ascii}
 use Rattle.serde_json.specs.Data.{Data, object}
 use Rattle.hex.specs.Hex.{encode_lower}
 use Rattle.hex.proofs.HexLemmas.{decode_of-encode_lower, decode_sized-encode_lower}
 use Rattle.ns_types.proofs.ByteLemmas.{each_byte}
+use Rattle.ns_types.proofs.ResultLemmas.{bind-some}
 use Rattle.ns_types.specs.Bytes.{AreBytes}
 use Rattle.ns_types.specs.declared.identity.Key.{Key}
 use Rattle.ns_types.specs.declared.identity.WindowName.{WindowName}
@@ -74,11 +78,7 @@ same_Ok : {F : Type 0} (x y : Call) → ◌≡◌ {A = Result Call F} (Ok x) (Ok
 same_Ok x y h = cc
 
 frame_text : (h : Heard) (frame : List ℕ) → step_text (frame_call h frame) ≡ heard_text h frame
-frame_text h frame = by (ftype_of frame == join_request)
-  where
-    by : (b : Bool) → step_text (if b then call.Join (record { 0 = frame }) h else call.Uplink frame h) ≡ heard_text h frame
-    by true = refl
-    by false = refl
+frame_text h frame = cond_both (ftype_of frame == join_request) _ _ (λ c. step_text c ≡ heard_text h frame) (λ _. refl) (λ _. refl)
 
 datagram-line : (bytes : List ℕ) (c : Call) → AreBytes bytes → datagram_call bytes ≡ Ok c → HasLine c
 datagram-line bytes c are is = by (datagram_of bytes) refl is
@@ -136,12 +136,10 @@ app-known message None is = tt
 app-known message (Some key) (envelope, at, is) = key-known envelope key is
 
 small_of : (o : Option ℕ) (t : ℕ) → option_and_then (λ n. if nat_lt n (2 ^ 32) then Some n else None) o ≡ Some t → nat_lt t (2 ^ 32) ≡ true
-small_of None t h = absurd (cc h)
-small_of (Some n) t h = by (nat_lt n (2 ^ 32)) refl h
-  where
-    by : (b : Bool) → nat_lt n (2 ^ 32) ≡ b → (if b then Some n else None) ≡ Some t → nat_lt t (2 ^ 32) ≡ true
-    by true is h = let same : n ≡ t = cc in subst (λ (m : ℕ). nat_lt m (2 ^ 32) ≡ true) same is
-    by false is h = absurd (cc h)
+small_of o t h =
+    let (n, is, kept) = bind-some o _ t h in
+    let (low, same) = cond_some (nat_lt n (2 ^ 32)) n t kept in
+    subst (λ (m : ℕ). nat_lt m (2 ^ 32) ≡ true) same low
 
 key-spelled : (key : Key) → IsKey key → SpellsKey (key_data key) key
 key-spelled key is = record { text = encode_lower key.0; aes_key = refl; bytes = hex_bytes-encode_lower key.0 16 is.sized is.bytes; plain = refl }
@@ -208,29 +206,19 @@ reply-line t body is (Err fault) found = lost-line t is
 -- ---- a closing
 
 wide_byte : (n i : ℕ) → slice_index (to_be_bytes w64 n) i < 256
-wide_byte n zero = omega arith
-wide_byte n (suc zero) = omega arith
-wide_byte n (suc (suc zero)) = omega arith
-wide_byte n (suc (suc (suc zero))) = omega arith
-wide_byte n (suc (suc (suc (suc zero)))) = omega arith
-wide_byte n (suc (suc (suc (suc (suc zero))))) = omega arith
-wide_byte n (suc (suc (suc (suc (suc (suc zero)))))) = omega arith
-wide_byte n (suc (suc (suc (suc (suc (suc (suc zero))))))) = omega arith
-wide_byte n (suc (suc (suc (suc (suc (suc (suc (suc i)))))))) = omega arith
+wide_byte n =
+    let small : (k : ℕ) → k % 256 < 256 = λ k. omega arith in
+    each_byte (to_be_bytes w64 n) (All-from_recursion (λ b. b < 256) (to_be_bytes w64 n) (small _, (small _, (small _, (small _, (small _, (small _, (small _, (small _, tt)))))))))
 
 counter-spelled : (w : WindowName) → IsName w → SpellsCounter (decimal w.fcnt ++ round_text w.round) w.fcnt w.round
-counter-spelled w is = by (nat_lt 1 w.round) refl
-  where
-    by : (b : Bool) → nat_lt 1 w.round ≡ b → SpellsCounter (decimal w.fcnt ++ (if b then codes ":" ++ decimal w.round else [])) w.fcnt w.round
-    by true above = inr (decimal w.fcnt, decimal w.round, refl, number-decimal w.fcnt is.fcnt, number-decimal w.round is.round, grind (arith, nat_tests, above))
-    by false first = inl (ap number (append-nil (decimal w.fcnt)) ∙ number-decimal w.fcnt is.fcnt, (let low : 1 ≤ w.round = is.first in grind (arith, nat_tests, first, low)))
+counter-spelled w is =
+    cond_both (nat_lt 1 w.round) (codes ":" ++ decimal w.round) [] (λ l. SpellsCounter (decimal w.fcnt ++ l) w.fcnt w.round)
+    (λ above. inr (decimal w.fcnt, decimal w.round, refl, number-decimal w.fcnt is.fcnt, number-decimal w.round is.round, grind (arith, nat_tests, above)))
+    (λ first. inl (ap number (append-nil (decimal w.fcnt)) ∙ number-decimal w.fcnt is.fcnt, (let low : 1 ≤ w.round = is.first in grind (arith, nat_tests, first, low))))
 
 round-plain : (round : ℕ) → plain (round_text round) ≡ true
-round-plain round = by (nat_lt 1 round)
-  where
-    by : (b : Bool) → plain (if b then codes ":" ++ decimal round else []) ≡ true
-    by true = both (codes ":") (decimal round) refl (decimal_plain round)
-    by false = refl
+round-plain round =
+    cond_both (nat_lt 1 round) (codes ":" ++ decimal round) [] (λ l. plain l ≡ true) (λ _. both (codes ":") (decimal round) refl (decimal_plain round)) (λ _. refl)
 
 close-line : (w : WindowName) → IsName w → HasLine (call.Close w)
 unfolding close_text window_text wide

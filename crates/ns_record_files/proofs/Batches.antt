@@ -84,12 +84,6 @@ stays_more batches b f whole = (b.steps, ap (λ l. l ++ b.steps) (sym whole.step
 abbrev Stays : List Batch → Files → Type 0
 Stays batches f = IsFront (all_steps batches) f.safe
 
--- nothing was appended
-pub not_begun : (batches : List Batch) (b : Batch) (old : Option Moments) → HasAll batches old → GoesOnKnown batches b old old
-not_begun batches b None has = refl
-not_begun batches b (Some ms) has =
-    (ms, refl, record { later = []; moments = refl; stays = All-nil (Stays batches); recorded = all-more batches b (all_moments ms) has.0 })
-
 -- a front of the steps was appended
 pub torn_at_steps : (batches : List Batch) (b : Batch) (old new : Option Moments) (front : List ℕ) → HasAll batches old → IsFront front b.steps
     → new ≡ option_map (moves (with_steps front)) old → GoesOnKnown batches b old new

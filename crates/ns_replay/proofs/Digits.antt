@@ -1,17 +1,11 @@
 -- The value of decimal digits, digit by digit.
-use Rattle.std.proofs.Common.{◌≡◌, ℕ, ◌+◌, ◌-◌, ◌*◌, ◌<◌, ◌≤◌, Bool, true, false, List, [], ◌∷◌, ◌++◌, length, take, drop, get_or, fold, refl, sym, ap, ◌∙◌, arith, take-append-drop, ◌^◌, ◌&&◌, Some, None, nat_lt}
+use Rattle.std.proofs.Common.{◌≡◌, ℕ, ◌+◌, ◌-◌, ◌*◌, ◌<◌, ◌≤◌, true, false, List, [], ◌∷◌, ◌++◌, length, take, drop, get_or, fold, refl, sym, ap, ◌∙◌, arith, take-append-drop, ◌^◌, ◌&&◌, Some, None, nat_lt}
+use Rattle.std.proofs.lemmas.Bool.{and_right}
 use Rattle.std.proofs.lemmas.Bool.Decides.{nat_tests}
 use Rattle.ns_types.specs.Cases.{when}
 use Rattle.std.specs.List.{list_all}
 use Rattle.std.proofs.lemmas.List.{take_more, take_all}
 use Rattle.ns_replay.specs.StepLines.{is_digit, decimal_value, number}
-
-when_false : {X : Type 0} (a : Bool) {b : Bool} (x : X) → b ≡ false → when (a && b) x ≡ None
-when_false true {b = b} x h = ap (λ t. when t x) h
-when_false false x h = refl
-
-when_all : {X : Type 0} (a b c : Bool) (x : X) → a ≡ true → b ≡ true → c ≡ true → when (a && b && c) x ≡ Some x
-when_all a b c x ea eb ec = rw (ea, eb, ec) refl
 
 abbrev more : ℕ → ℕ → ℕ
 more n digit = n * 10 + (digit - 48)
@@ -39,7 +33,7 @@ pub number_too_large : (text : List ℕ) (i : ℕ) → 2 ^ 32 ≤ decimal_value 
 unfolding number
 number_too_large text i h =
     let e : nat_lt (decimal_value text) (2 ^ 32) ≡ false = grind (arith, nat_tests, decimal_value_grows text i) in
-    when_false _ _ e
+    ap (λ t. when t (decimal_value text)) (and_right (nat_lt 0 (length text) && list_all is_digit text) _ e)
 
 -- digits that make a number that fits
 pub number_of_digits : (text : List ℕ) (i n : ℕ) → 0 < length text → length text ≤ i → n ≡ decimal_value (take i text) → list_all is_digit (take i text) ≡ true → n < 2 ^ 32 → Some n ≡ number text
@@ -50,4 +44,4 @@ number_of_digits text i n some whole value digits small =
     let e : nat_lt 0 (length text) ≡ true = grind (arith, nat_tests) in
     let d : list_all is_digit text ≡ true = ap (list_all is_digit) (sym all) ∙ digits in
     let f : nat_lt (decimal_value text) (2 ^ 32) ≡ true = grind (arith, nat_tests) in
-    ap Some v ∙ sym (when_all _ _ _ (decimal_value text) e d f)
+    rw (e, d, f) (ap Some v)

@@ -86,8 +86,7 @@ pub found_line : (net : Network) (uplinks : Output) (answers new : Answers) (lin
     → ((lines : List (Option Act)) → Has net uplinks answers lines → Has net uplinks new (lines ++ step (line ++ part) ∷ []))
     → FoundIn net uplinks new [] (text ++ (part ++ 10 ∷ []))
 found_line net uplinks answers new line part text in_text unended added =
-    let (begun, some) = in_text in
-    let (lines, has, each) = some in
+    let (begun, (lines, has, each)) = in_text in
     let more_lines = lines ++ step (line ++ part) ∷ [] in
     let next : (more : List ℕ) → steps ((text ++ (part ++ 10 ∷ [])) ++ more) ≡ more_lines ++ steps ([] ++ more) = λ more.
     ap steps (append_assoc text (part ++ 10 ∷ []) more ∙ ap (λ l. text ++ l) (append_assoc part (10 ∷ []) more))
@@ -101,15 +100,13 @@ found_line net uplinks answers new line part text in_text unended added =
 pub found_part : (net : Network) (uplinks : Output) (answers : Answers) (line part text : List ℕ) → FoundIn net uplinks answers line text → Unended part
     → FoundIn net uplinks answers (line ++ part) (text ++ part)
 found_part net uplinks answers line part text in_text unended =
-    let (begun, some) = in_text in
-    let (lines, has, each) = some in
+    let (begun, (lines, has, each)) = in_text in
     (All-append (λ b. eqb b 10 ≡ false) line part begun unended, (lines, has, λ more. ap steps (append_assoc text part more) ∙ each (part ++ more) ∙ ap (λ l. lines ++ steps l) (sym (append_assoc line part more))))
 
 -- the end of a text behind a line feed
 pub found_all : (net : Network) (uplinks : Output) (answers : Answers) (line text : List ℕ) → FoundIn net uplinks answers line text → line ≡ [] → Has net uplinks answers (steps text)
 found_all net uplinks answers line text in_text empty =
-    let (begun, some) = in_text in
-    let (lines, has, each) = some in
+    let (begun, (lines, has, each)) = in_text in
     let same : steps text ≡ lines = ap steps (sym (append-nil text)) ∙ each [] ∙ ap (λ l. lines ++ steps (l ++ [])) empty ∙ ap (λ l. lines ++ map step l) raw_lines_nil ∙ append-nil lines in
     subst (Has net uplinks answers) (sym same) has
 
@@ -118,8 +115,7 @@ pub found_last : (net : Network) (uplinks : Output) (answers new : Answers) (lin
     → ((lines : List (Option Act)) → Has net uplinks answers lines → Has net uplinks new (lines ++ step line ∷ []))
     → Has net uplinks new (steps text)
 found_last net uplinks answers new line text in_text long added =
-    let (begun, some) = in_text in
-    let (lines, has, each) = some in
+    let (begun, (lines, has, each)) = in_text in
     let same : steps text ≡ lines ++ step line ∷ [] = ap steps (sym (append-nil text)) ∙ each [] ∙ ap (λ l. lines ++ steps l) (append-nil line) ∙ ap (λ l. lines ++ map step l) (raw_lines_last line long begun) in
     subst (Has net uplinks new) (sym same) (added lines has)
 

@@ -118,62 +118,63 @@ abbrev pub bytes_by_code : List ℕ → List ℕ → List ℕ
 bytes_by_code v w =
     zip2 (λ x y. (x + y) % 256) (zip2 (λ x y. x * 2 ^ y % 256) (pick_l 0 (v ++ w) evens) (replicate 16 4)) (pick_l 0 (v ++ w) odds)
 
+-- every other digit from the first on, and from the second on
+abbrev firsts : List ℕ → List ℕ
+firsts [] = []
+firsts (high ∷ []) = []
+firsts (high ∷ low ∷ rest) = high ∷ firsts rest
+
+abbrev seconds : List ℕ → List ℕ
+seconds [] = []
+seconds (high ∷ []) = []
+seconds (high ∷ low ∷ rest) = low ∷ seconds rest
+
 lane : (x y : ℕ) → x < 256 → y < 256 → digit_or_16 x < 16 → digit_or_16 y < 16 → (value_or_more x * 16 % 256 + value_or_more y) % 256 ≡ digit_or_16 x * 16 + digit_or_16 y
 lane x y fx fy dx dy = omega (arith, dx, dy, value_of_digit x fx dx, value_of_digit y fy dy)
+
+lanes : (text : List ℕ) → Each1 (Fits w8) text → AreDigits text
+    → zip2 (λ x y. (x + y) % 256) (zip2 (λ x y. x * 2 ^ y % 256) (map value_or_more (firsts text)) (map (λ _. 4) (firsts text))) (map value_or_more (seconds text)) ≡ bytes_of text
+lanes [] fits digits = refl
+lanes (a ∷ []) fits digits = refl
+lanes (a ∷ b ∷ rest) fits digits = joined (lane a b fits.0.fits fits.1.0.fits digits.0 digits.1.0) (lanes rest fits.1.1 digits.1.1)
+
+-- what is shown of two halves, once each is split into its sixteen digits
+abbrev HasBytes : List ℕ → List ℕ → Type 0
+HasBytes v w = Each1 (Fits w8) (v ++ w) → AreDigits (v ++ w) → bytes_by_code (map value_or_more v) (map value_or_more w) ≡ bytes_of (v ++ w)
 
 -- the bytes of 32 digits, by their values
 pub bytes_are : (a b : List ℕ) → IsBlock a → IsBlock b → AreDigits (a ++ b) → bytes_by_code (map value_or_more a) (map value_or_more b) ≡ bytes_of (a ++ b)
 bytes_are a b ia ib digits =
-    sixteen (λ a. Each1 (Fits w8) a → AreDigits (a ++ b) → bytes_by_code (map value_or_more a) (map value_or_more b) ≡ bytes_of (a ++ b))
-    (λ a0 a1 a2 a3 a4 a5 a6 a7 a8 a9 a10 a11 a12 a13 a14 a15 fa da.
-    sixteen (λ b. Each1 (Fits w8) b → AreDigits ((a0 ∷ a1 ∷ a2 ∷ a3 ∷ a4 ∷ a5 ∷ a6 ∷ a7 ∷ a8 ∷ a9 ∷ a10 ∷ a11 ∷ a12 ∷ a13 ∷ a14 ∷ a15 ∷ []) ++ b) → bytes_by_code (map value_or_more (a0 ∷ a1 ∷ a2 ∷ a3 ∷ a4 ∷ a5 ∷ a6 ∷ a7 ∷ a8 ∷ a9 ∷ a10 ∷ a11 ∷ a12 ∷ a13 ∷ a14 ∷ a15 ∷ [])) (map value_or_more b) ≡ bytes_of ((a0 ∷ a1 ∷ a2 ∷ a3 ∷ a4 ∷ a5 ∷ a6 ∷ a7 ∷ a8 ∷ a9 ∷ a10 ∷ a11 ∷ a12 ∷ a13 ∷ a14 ∷ a15 ∷ []) ++ b))
-    (λ b0 b1 b2 b3 b4 b5 b6 b7 b8 b9 b10 b11 b12 b13 b14 b15 fb d.
-    joined (lane a0 a1 fa.0.fits fa.1.0.fits d.0 d.1.0) (
-    joined (lane a2 a3 fa.1.1.0.fits fa.1.1.1.0.fits d.1.1.0 d.1.1.1.0) (
-    joined (lane a4 a5 fa.1.1.1.1.0.fits fa.1.1.1.1.1.0.fits d.1.1.1.1.0 d.1.1.1.1.1.0) (
-    joined (lane a6 a7 fa.1.1.1.1.1.1.0.fits fa.1.1.1.1.1.1.1.0.fits d.1.1.1.1.1.1.0 d.1.1.1.1.1.1.1.0) (
-    joined (lane a8 a9 fa.1.1.1.1.1.1.1.1.0.fits fa.1.1.1.1.1.1.1.1.1.0.fits d.1.1.1.1.1.1.1.1.0 d.1.1.1.1.1.1.1.1.1.0) (
-    joined (lane a10 a11 fa.1.1.1.1.1.1.1.1.1.1.0.fits fa.1.1.1.1.1.1.1.1.1.1.1.0.fits d.1.1.1.1.1.1.1.1.1.1.0 d.1.1.1.1.1.1.1.1.1.1.1.0) (
-    joined (lane a12 a13 fa.1.1.1.1.1.1.1.1.1.1.1.1.0.fits fa.1.1.1.1.1.1.1.1.1.1.1.1.1.0.fits d.1.1.1.1.1.1.1.1.1.1.1.1.0 d.1.1.1.1.1.1.1.1.1.1.1.1.1.0) (
-    joined (lane a14 a15 fa.1.1.1.1.1.1.1.1.1.1.1.1.1.1.0.fits fa.1.1.1.1.1.1.1.1.1.1.1.1.1.1.1.0.fits d.1.1.1.1.1.1.1.1.1.1.1.1.1.1.0 d.1.1.1.1.1.1.1.1.1.1.1.1.1.1.1.0) (
-    joined (lane b0 b1 fb.0.fits fb.1.0.fits d.1.1.1.1.1.1.1.1.1.1.1.1.1.1.1.1.0 d.1.1.1.1.1.1.1.1.1.1.1.1.1.1.1.1.1.0) (
-    joined (lane b2 b3 fb.1.1.0.fits fb.1.1.1.0.fits d.1.1.1.1.1.1.1.1.1.1.1.1.1.1.1.1.1.1.0 d.1.1.1.1.1.1.1.1.1.1.1.1.1.1.1.1.1.1.1.0) (
-    joined (lane b4 b5 fb.1.1.1.1.0.fits fb.1.1.1.1.1.0.fits d.1.1.1.1.1.1.1.1.1.1.1.1.1.1.1.1.1.1.1.1.0 d.1.1.1.1.1.1.1.1.1.1.1.1.1.1.1.1.1.1.1.1.1.0) (
-    joined (lane b6 b7 fb.1.1.1.1.1.1.0.fits fb.1.1.1.1.1.1.1.0.fits d.1.1.1.1.1.1.1.1.1.1.1.1.1.1.1.1.1.1.1.1.1.1.0 d.1.1.1.1.1.1.1.1.1.1.1.1.1.1.1.1.1.1.1.1.1.1.1.0) (
-    joined (lane b8 b9 fb.1.1.1.1.1.1.1.1.0.fits fb.1.1.1.1.1.1.1.1.1.0.fits d.1.1.1.1.1.1.1.1.1.1.1.1.1.1.1.1.1.1.1.1.1.1.1.1.0 d.1.1.1.1.1.1.1.1.1.1.1.1.1.1.1.1.1.1.1.1.1.1.1.1.1.0) (
-    joined (lane b10 b11 fb.1.1.1.1.1.1.1.1.1.1.0.fits fb.1.1.1.1.1.1.1.1.1.1.1.0.fits d.1.1.1.1.1.1.1.1.1.1.1.1.1.1.1.1.1.1.1.1.1.1.1.1.1.1.0 d.1.1.1.1.1.1.1.1.1.1.1.1.1.1.1.1.1.1.1.1.1.1.1.1.1.1.1.0) (
-    joined (lane b12 b13 fb.1.1.1.1.1.1.1.1.1.1.1.1.0.fits fb.1.1.1.1.1.1.1.1.1.1.1.1.1.0.fits d.1.1.1.1.1.1.1.1.1.1.1.1.1.1.1.1.1.1.1.1.1.1.1.1.1.1.1.1.0 d.1.1.1.1.1.1.1.1.1.1.1.1.1.1.1.1.1.1.1.1.1.1.1.1.1.1.1.1.1.0) (
-    joined (lane b14 b15 fb.1.1.1.1.1.1.1.1.1.1.1.1.1.1.0.fits fb.1.1.1.1.1.1.1.1.1.1.1.1.1.1.1.0.fits d.1.1.1.1.1.1.1.1.1.1.1.1.1.1.1.1.1.1.1.1.1.1.1.1.1.1.1.1.1.1.0 d.1.1.1.1.1.1.1.1.1.1.1.1.1.1.1.1.1.1.1.1.1.1.1.1.1.1.1.1.1.1.1.0) (
-    refl)))))))))))))))))
-    b ib.0 ib.1 da)
-    a ia.0 ia.1 digits
+    sixteen (λ v. HasBytes v b)
+    (λ a0 a1 a2 a3 a4 a5 a6 a7 a8 a9 a10 a11 a12 a13 a14 a15.
+    sixteen (HasBytes (a0 ∷ a1 ∷ a2 ∷ a3 ∷ a4 ∷ a5 ∷ a6 ∷ a7 ∷ a8 ∷ a9 ∷ a10 ∷ a11 ∷ a12 ∷ a13 ∷ a14 ∷ a15 ∷ []))
+    (λ b0 b1 b2 b3 b4 b5 b6 b7 b8 b9 b10 b11 b12 b13 b14 b15.
+    lanes ((a0 ∷ a1 ∷ a2 ∷ a3 ∷ a4 ∷ a5 ∷ a6 ∷ a7 ∷ a8 ∷ a9 ∷ a10 ∷ a11 ∷ a12 ∷ a13 ∷ a14 ∷ a15 ∷ []) ++ (b0 ∷ b1 ∷ b2 ∷ b3 ∷ b4 ∷ b5 ∷ b6 ∷ b7 ∷ b8 ∷ b9 ∷ b10 ∷ b11 ∷ b12 ∷ b13 ∷ b14 ∷ b15 ∷ [])))
+    b ib.0)
+    a ia.0 ((each_append (Fits w8) a b).1 (ia.1, ib.1)) digits
 
 halves_of : (text : List ℕ) → length text ≡ 32 → chunk 0 16 text ++ chunk 16 16 text ≡ text
 halves_of text long = ap (λ l. take 16 text ++ l) (take_all 16 (drop 16 text) (omega (arith, length-drop 16 text, long))) ∙ take-append-drop 16 text
 
 module _ (text v w : List ℕ) (long : length text ≡ 32) (fits : (i : ℕ) → Fits w8 (get_or text i 0))
     (front : v ≡ map value_or_more (chunk 0 16 text)) (back : w ≡ map value_or_more (chunk 16 16 text)) where
-  a : List ℕ
+  abbrev a : List ℕ
   a = chunk 0 16 text
 
-  b : List ℕ
+  abbrev b : List ℕ
   b = chunk 16 16 text
 
   is_a : IsBlock a
-  unfolding a
   is_a = (length-chunk 0 16 text (omega (arith, long)), chunk-fits w8 0 16 text fits)
 
   is_b : IsBlock b
-  unfolding b
   is_b = (length-chunk 16 16 text (omega (arith, long)), chunk-fits w8 16 16 text fits)
 
   both_are : zip2 bit_or v w ≡ zip2 bit_or (map value_or_more a) (map value_or_more b)
-  unfolding a b
   both_are j = zip2 bit_or (front j) (back j)
 
   -- 32 bytes whose values are below 16
   pub sixteen_read : Each1 (λ x. x < 16) (zip2 bit_or v w) → AreDigits text × (bytes_by_code v w ≡ bytes_of text)
-  unfolding a b
   sixteen_read h =
       let digits : AreDigits (a ++ b) = (small_digits a b is_a is_b).0 (subst (Each1 (λ x. x < 16)) both_are h) in (
         subst AreDigits (halves_of text long) digits,
@@ -182,7 +183,6 @@ module _ (text v w : List ℕ) (long : length text ≡ 32) (fits : (i : ℕ) →
 
   -- 32 digits
   pub sixteen_small : AreDigits text → Each1 (λ x. x < 16) (zip2 bit_or v w)
-  unfolding a b
   sixteen_small h = subst (Each1 (λ x. x < 16)) (sym both_are) ((small_digits a b is_a is_b).1 (subst AreDigits (sym (halves_of text long)) h))
 
 -- ---- texts

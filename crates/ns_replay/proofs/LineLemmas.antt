@@ -1,11 +1,12 @@
 -- Lines one after another.
-use Rattle.std.proofs.Common.{◌≡◌, ℕ, ◌+◌, ◌<◌, ◌≤◌, Bool, true, false, cond, List, [], ◌∷◌, ◌++◌, length, take, drop, get_or, Some, None, refl, ap, ◌∙◌, arith, eqb, ltb}
-use Rattle.std.specs.List.{slice_split, position, position_or_len, before_first, after_first, All}
+use Rattle.std.proofs.Common.{◌≡◌, ℕ, ◌+◌, ◌<◌, ◌≤◌, Bool, true, false, cond, List, [], ◌∷◌, ◌++◌, length, take, drop, Some, None, refl, sym, ap, ◌∙◌, arith, eqb, ltb}
+use Rattle.std.specs.List.{slice_split, position, position_or_len, All}
 use borrow.Author.Tests.{eqb-true}
-use Rattle.std.proofs.lemmas.Bool.{ltb-true, ltb-false}
+use Rattle.std.proofs.lemmas.Bool.{ltb-false}
 use Rattle.std.proofs.lemmas.Bool.Decides.{nat_tests}
-use Rattle.std.proofs.lemmas.List.{length-take-le, get_or-take}
-use Rattle.std.proofs.lemmas.List.Sums.{fails_before_first, passes_at_first, split_at_first}
+use Rattle.std.proofs.lemmas.List.{length-take-le, get_or-take, take-append-drop, drop_more}
+use Rattle.std.proofs.lemmas.List.Quantifiers.{position-Some}
+use Rattle.std.proofs.lemmas.List.Sums.{fails_before_first}
 use Rattle.std.proofs.lemmas.List.Splits.{slice_split_at, slice_split_none, length-slice_split}
 use Rattle.ns_replay.specs.StepLines.{raw_lines, without_empty_last}
 
@@ -37,36 +38,24 @@ pub raw_lines_last : (line : List ℕ) → 0 < length line → Unended line → 
 unfolding raw_lines
 raw_lines_last line some h = ap without_empty_last (slice_split_none (λ b. eqb b 10) line h) ∙ one_part line some
 
-at_some : (b : Bool) (n i : ℕ) → cond b (Some n) None ≡ Some i → (b ≡ true) × (n ≡ i)
-at_some true n i h = (refl, cc)
-at_some false n i h = cc
-
 at_none : (b : Bool) (n : ℕ) → cond b (Some n) None ≡ None → b ≡ false
 at_none true n h = cc
 at_none false n h = refl
 
--- what stands before the first such byte
-none_before : (byte : ℕ) (xs : List ℕ) (i : ℕ) → position (λ b. eqb b byte) xs ≡ Some i → All (λ b. eqb b byte ≡ false) (take i xs)
-none_before byte xs i h k d within =
-    let test : ℕ → Bool = λ b. eqb b byte in
-    let found = at_some (ltb (position_or_len test xs) (length xs)) (position_or_len test xs) i h in
-    let low : position_or_len test xs < length xs = ltb-true _ _ found.0 in
-    let long = length-take-le i xs (omega (arith, low, found.1)) in
-    ap test (get_or-take i xs k d (omega (arith, long, within))) ∙ fails_before_first test xs k d (omega (arith, long, within, found.1))
+-- what stands before the first line feed
+pub unended_before : (xs : List ℕ) (i : ℕ) → position (λ b. eqb b 10) xs ≡ Some i → Unended (take i xs)
+unended_before xs i h k d within =
+    let found = position-Some (λ b. eqb b 10) xs i d h in
+    let long = length-take-le i xs (omega (arith, found.0)) in
+    ap (λ b. eqb b 10) (get_or-take i xs k d (omega (arith, long, within))) ∙ found.2 k (omega (arith, long, within))
 
 -- the text is what stands before the first such byte, the byte, and what stands behind it
 pub byte_at : (byte : ℕ) (xs : List ℕ) (i : ℕ) → position (λ b. eqb b byte) xs ≡ Some i → xs ≡ take i xs ++ byte ∷ drop (i + 1) xs
 byte_at byte xs i h =
-    let test : ℕ → Bool = λ b. eqb b byte in
-    let found = at_some (ltb (position_or_len test xs) (length xs)) (position_or_len test xs) i h in
-    let low : position_or_len test xs < length xs = ltb-true _ _ found.0 in
-    let here : get_or xs (position_or_len test xs) 0 ≡ byte = eqb-true _ _ (passes_at_first test xs 0 low) in
-    split_at_first test xs 0 low
-    ∙ ap (λ b. before_first test xs ++ b ∷ after_first test xs) here
-    ∙ ap (λ n. take n xs ++ byte ∷ drop (n + 1) xs) found.1
-
-pub unended_before : (xs : List ℕ) (i : ℕ) → position (λ b. eqb b 10) xs ≡ Some i → Unended (take i xs)
-unended_before = none_before 10
+    let found = position-Some (λ b. eqb b byte) xs i 0 h in
+    sym (take-append-drop i xs)
+    ∙ ap (λ l. take i xs ++ l) (drop_more xs i 0 found.0)
+    ∙ ap (λ b. take i xs ++ b ∷ drop (i + 1) xs) (eqb-true _ _ found.1)
 
 pub feed_at : (xs : List ℕ) (i : ℕ) → position (λ b. eqb b 10) xs ≡ Some i → xs ≡ take i xs ++ 10 ∷ drop (i + 1) xs
 feed_at = byte_at 10

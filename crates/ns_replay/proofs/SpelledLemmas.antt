@@ -1,17 +1,19 @@
 -- A line is a step line exactly where it spells a step.
-use Rattle.std.proofs.Common.{◌≡◌, ◌⊎◌, ℕ, suc, ◌+◌, ◌-◌, ◌<◌, ◌==◌, Bool, true, false, not, ◌||◌, ◌&&◌, cond, List, [], ◌∷◌, ◌++◌, length, take, drop, Option, Some, None, option_map, refl, sym, ap, ◌∙◌, subst, arith, inl, inr, length-append, bytes_eq}
-use Rattle.std.specs.Prelude.{Result, Ok, Err, if◌then◌else◌, codes, option_and_then, slice_index, position, nat_lt, ◌^◌, ◌%◌, ◌/◌}
-use Rattle.std.specs.List.{list_any, list_all, position_or_len}
+use Rattle.std.proofs.Common.{◌≡◌, ℕ, suc, ◌+◌, ◌-◌, ◌<◌, ◌==◌, Bool, true, false, not, ◌&&◌, cond, List, [], ◌∷◌, ◌++◌, length, take, drop, Option, Some, None, option_map, refl, sym, ap, ap₂, ◌∙◌, subst, arith, inl, inr, length-append, bytes_eq}
+use Rattle.std.specs.Prelude.{Result, Ok, Err, if◌then◌else◌, codes, option_and_then, slice_index, position, nat_lt, ◌^◌}
+use Rattle.std.specs.List.{AllPass, list_any, list_all, position_or_len}
 use Rattle.std.specs.Result.{result_ok}
-use Rattle.std.proofs.lemmas.Bool.{eqb-true, cases_Bool}
+use Rattle.std.proofs.lemmas.Bool.{eqb-true, and_parts, or_parts, cond_both, false_from_ne_true}
 use Rattle.std.proofs.lemmas.Bool.Decides.{nat_tests}
 use Rattle.std.proofs.lemmas.Option.{same_Some}
 use Rattle.std.proofs.lemmas.Slice.Eq.{bytes_eq-Decides}
-use Rattle.std.proofs.Math.Seq.{take-append_seam}
-use Rattle.hex.specs.Hex as hex_spec
-use Rattle.hex.specs.Hex.{decode_of, decode_sized, decode_pairs, hex_digit_value, value_at, digit_or_error, pair_value}
+use Rattle.std.proofs.lemmas.List.Elements.{All-weaker}
+use Rattle.std.proofs.lemmas.List.Folds.{list_any_none}
+use Rattle.std.proofs.lemmas.List.Sums.{AllPass-from_list_all}
+use Rattle.std.proofs.Math.Seq.{take-append_seam, drop-append-add}
+use Rattle.hex.specs.Hex.{decode_of, decode_sized, is_hex_digit}
+use Rattle.hex.proofs.HexLemmas.{decode_of-ok, decode_sized-ok, decode_sized-twice}
 use Rattle.hex.specs.declared.error.FromHexError.{FromHexError}
-use Rattle.hex.specs.declared.error.FromHexError.TheVariants.{OddLength, InvalidStringLength}
 use Rattle.ns_types.specs.Cases.{when}
 use Rattle.ns_types.proofs.ResultLemmas.{bind-some}
 use Rattle.ns_types.specs.declared.identity.DevEui.{DevEui}
@@ -32,20 +34,12 @@ has_space text = has 32 text
 
 -- ---- words
 
-drop_seam : (xs ys : List ℕ) (y : ℕ) → drop (length xs + 1) (xs ++ y ∷ ys) ≡ ys
-drop_seam [] ys y = refl
-drop_seam (x ∷ xs) ys y = (let more : length (x ∷ xs) + 1 ≡ suc (length xs + 1) = omega arith in ap (λ n. drop n (x ∷ xs ++ y ∷ ys)) more ∙ drop_seam xs ys y)
-
-or_none : (x y : Bool) → (x || y) ≡ false → (x ≡ false) × (y ≡ false)
-or_none true y is = absurd (cc is)
-or_none false y is = (refl, is)
-
 first_place : (byte : ℕ) (word rest : List ℕ) → has byte word ≡ false → position_or_len (λ b. b == byte) (word ++ byte ∷ rest) ≡ length word
 first_place byte [] rest none =
     let same : (byte == byte) ≡ true = grind (arith, nat_tests) in
     ap (λ t. cond (not t) (1 + position_or_len (λ b. b == byte) rest) 0) same
 first_place byte (b ∷ word) rest none =
-    let parts = or_none (b == byte) (has byte word) none in
+    let parts = or_parts (b == byte) (has byte word) none in
     let ih = first_place byte word rest parts.1 in
     ap (λ t. cond (not t) (1 + position_or_len (λ c. c == byte) (word ++ byte ∷ rest)) 0) parts.0 ∙ omega (arith, ih)
 
@@ -60,20 +54,17 @@ parted-from byte word rest none =
     let inside : nat_lt (length word) (length whole) ≡ true = grind (arith, nat_tests, long, some) in
     ap (λ n. option_map (λ i. (take i whole, drop (i + 1) whole)) (cond (nat_lt n (length whole)) (Some n) None)) first
     ∙ (ap (λ t. option_map (λ i. (take i whole, drop (i + 1) whole)) (cond t (Some (length word)) None)) inside
-    ∙ ap Some (both (take-append_seam word (byte ∷ rest)) (drop_seam word rest byte)))
-  where
-    both : {a c b d : List ℕ} → a ≡ c → b ≡ d → ◌≡◌ {A = List ℕ × List ℕ} (a, b) (c, d)
-    both first second = λ i. (first i, second i)
+    ∙ ap₂ (λ front behind. Some (front, behind)) (take-append_seam word (byte ∷ rest)) (drop-append-add word (byte ∷ rest) 1))
+
+map-some : {A B : Type 0} (o : Option A) (f : A → B) (y : B) → option_map f o ≡ Some y → (x : A) × (o ≡ Some x) × (f x ≡ y)
+map-some None f y h = cc
+map-some (Some x) f y h = (x, refl, same_Some (f x) y h)
 
 parted-is : (byte : ℕ) (text : List ℕ) (p : List ℕ × List ℕ) → split_by byte text ≡ Some p → text ≡ p.0 ++ byte ∷ p.1
 unfolding split_by
-parted-is byte text p is = found (position (λ b. b == byte) text) refl is
-  where
-    found : (o : Option ℕ) → position (λ b. b == byte) text ≡ o → option_map (λ i. (take i text, drop (i + 1) text)) o ≡ Some p → text ≡ p.0 ++ byte ∷ p.1
-    found None at h = cc
-    found (Some i) at h =
-        let same : (take i text, drop (i + 1) text) ≡ p = same_Some _ p h in
-        byte_at byte text i at ∙ ap (λ (q : List ℕ × List ℕ). q.0 ++ byte ∷ q.1) same
+parted-is byte text p is =
+    let (i, at, same) = map-some (position (λ b. b == byte) text) (λ n. (take n text, drop (n + 1) text)) p is in
+    byte_at byte text i at ∙ ap (λ (q : List ℕ × List ℕ). q.0 ++ byte ∷ q.1) same
 
 -- a text in which the byte does not stand is not split
 unparted : (byte : ℕ) (text : List ℕ) → has byte text ≡ false → split_by byte text ≡ None
@@ -87,7 +78,7 @@ unparted byte text none =
     nowhere : (bytes : List ℕ) → has byte bytes ≡ false → position_or_len (λ b. b == byte) bytes ≡ length bytes
     nowhere [] is = refl
     nowhere (b ∷ bytes) is =
-        let parts = or_none (b == byte) (has byte bytes) is in
+        let parts = or_parts (b == byte) (has byte bytes) is in
         let ih = nowhere bytes parts.1 in
         ap (λ t. cond (not t) (1 + position_or_len (λ c. c == byte) bytes) 0) parts.0 ∙ omega (arith, ih)
 
@@ -106,81 +97,38 @@ front_of words b =
     let at : length (words ++ b ∷ []) - 1 ≡ length words = omega (arith, long) in
     ap (λ n. take n (words ++ b ∷ [])) at ∙ take-append_seam words (b ∷ [])
 
-split_last : (line : List ℕ) (b : ℕ) → (slice_index line (length line - 1) == 13) ≡ true → line ≡ take (length line - 1) line ++ 13 ∷ []
-split_last [] b is = absurd (cc is)
-split_last (x ∷ []) b is = ap (λ n. n ∷ []) (eqb-true x 13 is)
-split_last (x ∷ y ∷ more) b is =
+split_last : (line : List ℕ) → (slice_index line (length line - 1) == 13) ≡ true → line ≡ take (length line - 1) line ++ 13 ∷ []
+split_last [] is = absurd (cc is)
+split_last (x ∷ []) is = ap (λ n. n ∷ []) (eqb-true x 13 is)
+split_last (x ∷ y ∷ more) is =
     let at : length (x ∷ y ∷ more) - 1 ≡ suc (length (y ∷ more) - 1) = omega arith in
     let inner : (slice_index (y ∷ more) (length (y ∷ more) - 1) == 13) ≡ true = sym (ap (λ n. slice_index (x ∷ y ∷ more) n == 13) at) ∙ is in
-    ap (λ l. x ∷ l) (split_last (y ∷ more) b inner) ∙ ap (λ n. take n (x ∷ y ∷ more) ++ 13 ∷ []) (sym at)
+    ap (λ l. x ∷ l) (split_last (y ∷ more) inner) ∙ ap (λ n. take n (x ∷ y ∷ more) ++ 13 ∷ []) (sym at)
 
 says-without : (line : List ℕ) → Says line (without_return line)
 unfolding without_return
-says-without line = by (slice_index line (length line - 1) == 13) refl
-  where
-    by : (b : Bool) → (slice_index line (length line - 1) == 13) ≡ b → Says line (cond b (take (length line - 1) line) line)
-    by true is = inl (split_last line 0 is)
-    by false is = inr (refl, is)
+says-without line =
+    cond_both (slice_index line (length line - 1) == 13) (take (length line - 1) line) line (Says line) (λ is. inl (split_last line is)) (λ is. inr (refl, is))
 
 without-says : (line words : List ℕ) → Says line words → without_return line ≡ words
 unfolding without_return
-without-says line words (inl is) =
-    let ends : (slice_index (words ++ 13 ∷ []) (length (words ++ 13 ∷ []) - 1) == 13) ≡ true = ap (λ n. n == 13) (last_of words 13) in
-    ap (λ (l : List ℕ). cond (slice_index l (length l - 1) == 13) (take (length l - 1) l) l) is
-    ∙ (ap (λ b. cond {A = List ℕ} b (take (length (words ++ 13 ∷ []) - 1) (words ++ 13 ∷ [])) (words ++ 13 ∷ [])) ends ∙ front_of words 13)
-without-says line words (inr is) =
-    ap (λ (l : List ℕ). cond (slice_index l (length l - 1) == 13) (take (length l - 1) l) l) is.0
-    ∙ ap (λ b. cond {A = List ℕ} b (take (length words - 1) words) words) is.1
+without-says line words (inl is) = rw (is, last_of words 13) (front_of words 13)
+without-says line words (inr (is, other)) = rw (is, other) refl
 
 -- ---- hex digits and decimal digits are no spaces
 
-digit_no_space : (b i v : ℕ) → value_at b i ≡ Ok v → (b == 32) ≡ false
-digit_no_space b i v is = elim (cases_Bool (b == 32)) [
-  | inl space ↦
-      (let at : hex_digit_value b ≡ None = ap hex_digit_value (eqb-true b 32 space) in
-      let bad : Err _ ≡ Ok v = sym (ap (digit_or_error b i) at) ∙ is in
-      absurd (cc bad))
-  | inr other ↦ other
-]
-
-bind-hex : {A B : Type 0} (r : Result A FromHexError) (f : A → Result B FromHexError) (y : B) → (hex_spec.◌>>=◌ r f) ≡ Ok y → (x : A) × (r ≡ Ok x) × (f x ≡ Ok y)
-bind-hex (Ok x) f y h = (x, refl, h)
-bind-hex (Err e) f y h = cc
-
-pairs-no_space : (i : ℕ) (text bytes : List ℕ) → decode_pairs i text ≡ Ok bytes → has_space text ≡ false
-unfolding decode_pairs
-pairs-no_space i [] bytes is = refl
-pairs-no_space i (digit ∷ []) bytes is = absurd (cc is)
-pairs-no_space i (high ∷ low ∷ rest) bytes is =
-    let p = bind-hex (pair_value high low i) _ bytes is in
-    let q = bind-hex (decode_pairs (i + 2) rest) _ bytes p.2 in
-    let h = bind-hex (value_at high i) _ p.0 p.1 in
-    let l = bind-hex (value_at low (i + 1)) _ p.0 h.2 in
-    ap (λ b. b || ((low == 32) || has_space rest)) (digit_no_space high i h.0 h.1)
-    ∙ (ap (λ b. b || has_space rest) (digit_no_space low (i + 1) l.0 l.1) ∙ pairs-no_space (i + 2) rest q.0 q.1)
+-- a byte that fails a test doesn't stand in a text whose bytes all pass it
+without : (test : ℕ → Bool) (byte : ℕ) → test byte ≡ false → (text : List ℕ) → AllPass test text → has byte text ≡ false
+without test byte none text all =
+    list_any_none (λ b. b == byte) text (All-weaker (λ b. test b ≡ true) (λ b. (b == byte) ≡ false) apart text all)
+  where
+    apart : (b : ℕ) → test b ≡ true → (b == byte) ≡ false
+    apart b passes = false_from_ne_true (b == byte) (λ same. cc (none, passes, eqb-true b byte same))
 
 sized-no_space : (text : List ℕ) (n : ℕ) (bytes : List ℕ) → decode_sized text n ≡ Ok bytes → has_space text ≡ false
-sized-no_space text n bytes is = by (length text % 2 == 1) (length text / 2 == n) is
-  where
-    by : (odd sized : Bool) → (if odd then Err OddLength else if sized then decode_pairs 0 text else Err InvalidStringLength) ≡ Ok bytes → has_space text ≡ false
-    by true sized h = absurd (cc h)
-    by false true h = pairs-no_space 0 text bytes h
-    by false false h = absurd (cc h)
-
-and_parts : (a b : Bool) → (a && b) ≡ true → (a ≡ true) × (b ≡ true)
-and_parts true b h = (refl, h)
-and_parts false b h = absurd (cc h)
-
--- a byte that is no digit doesn't stand in digits
-digits-without : (byte : ℕ) → is_digit byte ≡ false → (text : List ℕ) → list_all is_digit text ≡ true → has byte text ≡ false
-digits-without byte none [] is = refl
-digits-without byte none (b ∷ text) is =
-    let parts = and_parts (is_digit b) (list_all is_digit text) is in
-    ap (λ t. t || has byte text) (other (cases_Bool (b == byte)) parts.0) ∙ digits-without byte none text parts.1
-  where
-    other : ((b == byte) ≡ true) ⊎ ((b == byte) ≡ false) → is_digit b ≡ true → (b == byte) ≡ false
-    other (inl same) digit = absurd (cc (none, digit, eqb-true b byte same))
-    other (inr apart) digit = apart
+sized-no_space text n bytes is =
+    let long = decode_sized-ok text n bytes is in
+    without is_hex_digit 32 refl text (decode_of-ok text bytes (sym (decode_sized-twice text n long) ∙ is)).1
 
 when-is : {X : Type 0} (b : Bool) (x y : X) → when b x ≡ Some y → (b ≡ true) × (x ≡ y)
 when-is true x y h = (refl, same_Some x y h)
@@ -191,15 +139,11 @@ unfolding number
 number-without byte none text n is =
     let w = when-is (nat_lt 0 (length text) && list_all is_digit text && nat_lt (decimal_value text) (2 ^ 32)) (decimal_value text) n is in
     let p = and_parts (nat_lt 0 (length text) && list_all is_digit text) (nat_lt (decimal_value text) (2 ^ 32)) w.0 in
-    digits-without byte none text (and_parts (nat_lt 0 (length text)) (list_all is_digit text) p.0).1
+    without is_digit byte none text (AllPass-from_list_all is_digit text (and_parts (nat_lt 0 (length text)) (list_all is_digit text) p.0).1)
 
 -- ---- what is read is spelled
 
-map-some : {A B : Type 0} (o : Option A) (f : A → B) (y : B) → option_map f o ≡ Some y → (x : A) × (o ≡ Some x) × (f x ≡ y)
-map-some None f y h = cc
-map-some (Some x) f y h = (x, refl, same_Some (f x) y h)
-
-ok-is : {A : Type 0} (r : Result A FromHexError) (x : A) → result_ok r ≡ Some x → r ≡ Ok x
+pub ok-is : {A : Type 0} (r : Result A FromHexError) (x : A) → result_ok r ≡ Some x → r ≡ Ok x
 ok-is (Ok y) x h = ap Ok (same_Some y x h)
 ok-is (Err e) x h = absurd (cc h)
 
@@ -322,15 +266,13 @@ reads-from : (words : List ℕ) (a : Act) → SpellsStep words a → reads words
 unfolding act datagram_step answer_step lost_step
 reads-from words (Datagram bytes) (hex, is, decoded, some) =
     let is_some : nat_lt 0 (length bytes) ≡ true = grind (arith, nat_tests, some) in
-    ap reads is ∙ (ap (option_and_then (λ (p : List ℕ × List ℕ). act p.0 p.1)) (parted-from 32 (codes "heard") hex refl) ∙ rw (decoded, is_some) refl)
+    rw (is, parted-from 32 (codes "heard") hex refl, decoded, is_some) refl
 reads-from words (Answer t text) (hex, is, spelled) =
-    ap reads is
-    ∙ (ap (option_and_then (λ (p : List ℕ × List ℕ). act p.0 p.1)) (parted-from 32 (codes "answer") (hex ++ (32 ∷ text)) refl)
-    ∙ rw (parted-from 32 hex text (sized-no_space hex 23 t.0 spelled), ticket-from hex t spelled) refl)
+    rw (is, parted-from 32 (codes "answer") (hex ++ (32 ∷ text)) refl, parted-from 32 hex text (sized-no_space hex 23 t.0 spelled), ticket-from hex t spelled) refl
 reads-from words (Lost t) (hex, is, spelled) =
-    ap reads is ∙ (ap (option_and_then (λ (p : List ℕ × List ℕ). act p.0 p.1)) (parted-from 32 (codes "lost") hex refl) ∙ rw (ticket-from hex t spelled) refl)
+    rw (is, parted-from 32 (codes "lost") hex refl, ticket-from hex t spelled) refl
 reads-from words (Close w) (rest, is, spelled) =
-    ap reads is ∙ (ap (option_and_then (λ (p : List ℕ × List ℕ). act p.0 p.1)) (parted-from 32 (codes "close") rest refl) ∙ closed-from rest w spelled)
+    rw (is, parted-from 32 (codes "close") rest refl) (closed-from rest w spelled)
 
 pub spelled-step : (line : List ℕ) (a : Act) → Spells line a → step line ≡ Some a
 unfolding step

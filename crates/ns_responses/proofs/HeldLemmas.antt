@@ -68,6 +68,14 @@ range_front xs s e ordered fits =
     ap (λ k. take k (paste xs 0 (drop s xs) (e - s))) count
     ∙ take-paste xs 0 (drop s xs) (e - s) (omega arith) (omega (arith, length-drop s xs))
 
+-- all that is unread stands at the front of the room
+pub record IsCompact (bytes : List ℕ) (start middle end : ℕ) (unread : List ℕ) : Type 0 where
+  pub start_is : start ≡ 0
+  pub middle_is : middle ≡ 0
+  pub unread_is : slice_range bytes 0 end ≡ unread
+  pub within : end ≤ length bytes
+  pub sized : length bytes ≡ 4096
+
 -- what the steps of `Held` do
 module _ (xs : List ℕ) (s m e : ℕ) (now : HeldBytes) (is : held xs s m e ≡ now) (ordered : (s ≤ m) × (m ≤ e) × (e ≤ length xs)) where
   unread_is : slice_range xs m e ≡ now.unread
@@ -107,63 +115,46 @@ module _ (xs : List ℕ) (s m e : ℕ) (now : HeldBytes) (is : held xs s m e ≡
       let unread = range_cut xs m e from to between fits ordered.2 ∙ ap (λ l. take from l ++ drop to l) unread_is in
       λ i. record { ready = ready i; unread = unread i }
 
+  pub compact : (sized : length xs ≡ 4096) (ys : List ℕ) → ys ≡ copy_within xs m e 0 → IsCompact ys 0 0 (e - m) now.unread
+  compact sized ys moved =
+      let same : length ys ≡ length xs = ap length moved ∙ length-paste xs 0 (drop m xs) (e - m) (omega (arith, ordered.1, ordered.2)) (omega (arith, length-drop m xs, ordered.2)) in
+      record {
+        start_is = refl;
+        middle_is = refl;
+        unread_is = ap (λ l. slice_range l 0 (e - m)) moved ∙ range_front xs m e ordered.1 ordered.2 ∙ unread_is;
+        within = omega (arith, same, ordered.2);
+        sized = same ∙ sized;
+      }
+
+  pub compact_already : length xs ≡ 4096 → m ≤ 0 → IsCompact xs s m e now.unread
+  compact_already sized none =
+      let middle : m ≡ 0 = omega (arith, none) in
+      record {
+        start_is = omega (arith, none, ordered.0);
+        middle_is = middle;
+        unread_is = ap (λ k. slice_range xs k e) (sym middle) ∙ unread_is;
+        within = ordered.2;
+        sized = sized;
+      }
+
 -- bytes behind those that stand at the front of the room
 pub filled : (xs ys unread : List ℕ) (end k n : ℕ) → end ≤ length xs → length ys ≡ k → n ≤ k → slice_range xs 0 end ≡ unread
     → held (put_mid end k xs ys) 0 0 (end + n) ≡ unready (unread ++ take n ys)
 filled xs ys unread end k n within sized some is =
     let all = put_mid end k xs ys in
     let whole : take (end + length ys) all ≡ take end xs ++ ys = take-put_mid end k xs ys (end + length ys) refl within in
+    let zero : end - 0 ≡ end = omega arith in
+    let is_front : take end xs ≡ unread = rw zero at is in
+    let count : length unread ≡ end = sym (ap length is) ∙ length_range xs 0 end (omega arith) within ∙ zero in
     let front : take (end + n) all ≡ unread ++ take n ys =
     sym (take-take (end + n) (end + length ys) all (omega (arith, sized)))
     ∙ ap (take (end + n)) whole
-    ∙ ap (λ l. take (end + n) (l ++ ys)) (is_front ∙ is)
+    ∙ ap (λ l. take (end + n) (l ++ ys)) is_front
     ∙ ap (λ k. take (k + n) (unread ++ ys)) (sym count)
     ∙ take-append-add unread ys n in
     let none = range_same all 0 in
-    λ i. record { ready = none i; unread = (ap (λ k. take k all) (sym minus_zero) ∙ front) i }
-  where
-    is_front : take end xs ≡ slice_range xs 0 end
-    is_front = ap (λ k. take k xs) (let e : end ≡ end - 0 = omega arith in e)
-
-    count : length unread ≡ end
-    count = sym (ap length is) ∙ length_range xs 0 end (omega arith) within ∙ (let e : end - 0 ≡ end = omega arith in e)
-
-    minus_zero : end + n ≡ end + n - 0
-    minus_zero = omega arith
-
--- all that is unread stands at the front of the room
-pub record IsCompact (bytes : List ℕ) (start middle end : ℕ) (unread : List ℕ) : Type 0 where
-  pub start_is : start ≡ 0
-  pub middle_is : middle ≡ 0
-  pub unread_is : slice_range bytes 0 end ≡ unread
-  pub within : end ≤ length bytes
-  pub sized : length bytes ≡ 4096
-
-module _ (xs : List ℕ) (s m e : ℕ) (now : HeldBytes) (is : held xs s m e ≡ now) (ordered : (s ≤ m) × (m ≤ e) × (e ≤ length xs)) (sized : length xs ≡ 4096) where
-  unread_of : slice_range xs m e ≡ now.unread
-  unread_of = ap (λ (h : HeldBytes). h.unread) is
-
-  pub compact : (ys : List ℕ) → ys ≡ copy_within xs m e 0 → IsCompact ys 0 0 (e - m) now.unread
-  compact ys moved =
-      let same : length ys ≡ length xs = ap length moved ∙ length-paste xs 0 (drop m xs) (e - m) (omega (arith, ordered.1, ordered.2)) (omega (arith, length-drop m xs, ordered.2)) in
-      record {
-        start_is = refl;
-        middle_is = refl;
-        unread_is = ap (λ l. slice_range l 0 (e - m)) moved ∙ range_front xs m e ordered.1 ordered.2 ∙ unread_of;
-        within = omega (arith, same, ordered.2);
-        sized = same ∙ sized;
-      }
-
-  pub compact_already : m ≤ 0 → IsCompact xs s m e now.unread
-  compact_already none =
-      let middle : m ≡ 0 = omega (arith, none) in
-      record {
-        start_is = omega (arith, none, ordered.0);
-        middle_is = middle;
-        unread_is = ap (λ k. slice_range xs k e) (sym middle) ∙ unread_of;
-        within = ordered.2;
-        sized = sized;
-      }
+    let size : end + n - 0 ≡ end + n = omega arith in
+    λ i. record { ready = none i; unread = (ap (λ k. take k all) size ∙ front) i }
 
 -- a piece behind compact bytes
 pub filled_behind : (xs ys unread : List ℕ) (start middle end k n : ℕ) → IsCompact xs start middle end unread → length ys ≡ k → n ≤ length ys

@@ -1,12 +1,10 @@
 -- What is given, by the steps that the reading takes.
-use Rattle.std.proofs.Common.{◌≡◌, ℕ, zero, suc, ◌+◌, ◌-◌, ◌<◌, ◌≤◌, ⊎_elim, Bool, true, false, cond, List, [], ◌++◌, length, take, drop, Option, None, Some, IfSome, refl, sym, ap, ◌∙◌, arith, append_assoc, take-append-drop}
+use Rattle.std.proofs.Common.{◌≡◌, ℕ, zero, suc, ◌+◌, ◌-◌, ◌<◌, ◌≤◌, Bool, true, false, cond, List, [], ◌++◌, length, take, drop, Option, None, Some, IfSome, refl, sym, ap, ◌∙◌, arith, append_assoc, take-append-drop}
 use Rattle.std.specs.Prelude.{nat_eq}
 use Rattle.std.specs.Option.{option_map}
 use Rattle.std.specs.List.{slice_range, starts_with}
-use Rattle.std.specs.Io.KnownBytes.{Consumes, Keeps, IsAtEnd}
-use Rattle.std.proofs.Math.Seq.{take-append-add, drop-append-add}
+use Rattle.std.specs.Io.KnownBytes.{Consumes, IsAtEnd}
 use Rattle.std.proofs.lemmas.List.{take-append-le, drop-append-le}
-use Rattle.std.proofs.lemmas.Bool.{cases_lt}
 use Rattle.http1.specs.declared.chunked.State.TheVariants.{Failed}
 use Rattle.http1.specs.declared.chunked.ChunkError.{ChunkError}
 use Rattle.http1.specs.declared.chunked.ChunkedDecoder.{ChunkedDecoder}
@@ -14,6 +12,7 @@ use Rattle.httparse.specs.declared.spans.Span.{Span}
 use Rattle.http1.specs.ChunkedDecoder.{start, run, Advances, FailsAt, use_of}
 use Rattle.http1.proofs.RunLemmas.{run_after, run_stays, run-nil}
 use Rattle.ns_responses.specs.Lines.{section_of}
+use Rattle.ns_responses.proofs.LinesLemmas.{room_taken}
 use Rattle.ns_responses.specs.Head.{is_chunked_head, unframed}
 use Rattle.ns_responses.specs.Plain.{Given, version_text, interim_text, unchanged, with_front, is_done, content_of, dechunked, chunked_body, plain_by, plain_of}
 use Rattle.ns_responses.specs.Reading.{GivesBy}
@@ -30,14 +29,8 @@ plain_more (suc heads) bytes some = let same : heads ≡ suc heads - 1 = omega a
 
 -- where no head stands at the front
 pub plain_without : (heads : ℕ) (bytes : List ℕ) → section_of version_text bytes ≡ None → plain_of heads bytes ≡ unchanged bytes
-plain_without heads bytes none = ⊎_elim
-    (λ (some : 0 < heads). plain_more heads bytes some ∙ ap (plain_by (plain_of (heads - 1)) bytes) none)
-    (λ (zero : heads ≤ 0). let e : heads ≡ 0 = omega arith in ap (λ n. plain_of n bytes) e ∙ plain_none bytes)
-    (cases_lt 0 heads)
-
--- the head that stands in bytes stands in more of them
-head_in : (bytes more : List ℕ) (n : ℕ) → n ≤ length bytes → (take n (bytes ++ more) ≡ take n bytes) × (drop n (bytes ++ more) ≡ drop n bytes ++ more)
-head_in bytes more n within = (take-append-le n bytes more within, drop-append-le n bytes more within)
+plain_without zero bytes none = plain_none bytes
+plain_without (suc heads) bytes none = plain_more (suc heads) bytes (omega arith) ∙ ap (plain_by (plain_of (suc heads - 1)) bytes) none
 
 module _ (heads : ℕ) (bytes : List ℕ) (n : ℕ) (some : 0 < heads) (within : n ≤ length bytes)
     (ends : (more : List ℕ) → section_of version_text (bytes ++ more) ≡ Some n) where
@@ -45,11 +38,12 @@ module _ (heads : ℕ) (bytes : List ℕ) (n : ℕ) (some : 0 < heads) (within :
       ≡ cond (starts_with nat_eq (take n bytes) interim_text) (plain_of (heads - 1) (drop n bytes ++ more))
       (cond (is_chunked_head (take n bytes)) (with_front (unframed (take n bytes)) (chunked_body (drop n bytes ++ more))) (unchanged (bytes ++ more)))
   by_head more =
-      let parts = head_in bytes more n within in
+      let front = take-append-le n bytes more within in
+      let behind = drop-append-le n bytes more within in
       plain_more heads (bytes ++ more) some
       ∙ ap (plain_by (plain_of (heads - 1)) (bytes ++ more)) (ends more)
-      ∙ (λ i. cond (starts_with nat_eq (parts.0 i) interim_text) (plain_of (heads - 1) (parts.1 i))
-      (cond (is_chunked_head (parts.0 i)) (with_front (unframed (parts.0 i)) (chunked_body (parts.1 i))) (unchanged (bytes ++ more))))
+      ∙ (λ i. cond (starts_with nat_eq (front i) interim_text) (plain_of (heads - 1) (behind i))
+      (cond (is_chunked_head (front i)) (with_front (unframed (front i)) (chunked_body (behind i))) (unchanged (bytes ++ more))))
 
   pub plain_interim : starts_with nat_eq (take n bytes) interim_text ≡ true → (more : List ℕ) → plain_of heads (bytes ++ more) ≡ plain_of (heads - 1) (drop n bytes ++ more)
   plain_interim interim more = rw interim at (by_head more)
@@ -66,19 +60,8 @@ module _ (heads : ℕ) (bytes : List ℕ) (n : ℕ) (some : 0 < heads) (within :
 pub chunked_body-append : (bytes more : List ℕ) → length bytes ≤ 65536
     → chunked_body (bytes ++ more) ≡ dechunked (start 65536) (bytes ++ take (65536 - length bytes) more) (drop (65536 - length bytes) more)
 chunked_body-append bytes more fits =
-    let sum : 65536 ≡ length bytes + (65536 - length bytes) = omega arith in
-    let coded : take 65536 (bytes ++ more) ≡ bytes ++ take (65536 - length bytes) more = ap (λ n. take n (bytes ++ more)) sum ∙ take-append-add bytes more (65536 - length bytes) in
-    let later : drop 65536 (bytes ++ more) ≡ drop (65536 - length bytes) more = ap (λ n. drop n (bytes ++ more)) sum ∙ drop-append-add bytes more (65536 - length bytes) in
-    λ i. dechunked (start 65536) (coded i) (later i)
-
--- a piece that was read of what chunks may take
-pub room_taken : (piece more : List ℕ) (room n : ℕ) → length piece ≡ n → n ≤ room
-    → (take room (piece ++ more) ≡ piece ++ take (room - n) more) × (drop room (piece ++ more) ≡ drop (room - n) more)
-room_taken piece more room n sized fits =
-    let sum : room ≡ length piece + (room - n) = omega arith in (
-      ap (λ k. take k (piece ++ more)) sum ∙ take-append-add piece more (room - n),
-      ap (λ k. drop k (piece ++ more)) sum ∙ drop-append-add piece more (room - n),
-    )
+    let taken = room_taken bytes more 65536 (length bytes) refl fits in
+    λ i. dechunked (start 65536) (taken.0 i) (taken.1 i)
 
 -- data that a decoder gave
 pub decoded : (old new : ChunkedDecoder) (bytes : List ℕ) (span : Span) → Advances old bytes new span → (coded later : List ℕ)
@@ -135,23 +118,9 @@ pub whole_ended : (left : Option (List ℕ)) (given : List ℕ → Given) (is : 
 whole_ended None given is ended h = tt
 whole_ended (Some xs) given is ended h = ap (λ l. (given l).whole) ended ∙ h
 
--- the same before what was given
-pub whole_before : (before after : Option (List ℕ)) (old new : List ℕ → Given) (front : List ℕ) (is : Bool) → GivesBy before after old new front
-    → IfSome (option_map (λ bytes. (new bytes).whole) after) (λ whole. whole ≡ is)
-    → IfSome (option_map (λ bytes. (old bytes).whole) before) (λ whole. whole ≡ is)
-whole_before None after old new front is p h = tt
-whole_before (Some xs) None old new front is p h = absurd p
-whole_before (Some xs) (Some ys) old new front is p h = ap (λ g. g.whole) p ∙ h
-
 -- the bytes that were given
 pub consumed : (before after : Option (List ℕ)) (old new : List ℕ → Given) (front : List ℕ) → GivesBy before after old new front
     → Consumes (option_map (λ bytes. (old bytes).bytes) before) (option_map (λ bytes. (new bytes).bytes) after) front
 consumed None after old new front p = tt
 consumed (Some xs) None old new front p = absurd p
 consumed (Some xs) (Some ys) old new front p = ap (λ g. g.bytes) p
-
-pub kept : (before after : Option (List ℕ)) (old new : List ℕ → Given) → GivesBy before after old new []
-    → Keeps (option_map (λ bytes. (old bytes).bytes) before) (option_map (λ bytes. (new bytes).bytes) after)
-kept None after old new p = tt
-kept (Some xs) None old new p = absurd p
-kept (Some xs) (Some ys) old new p = sym (ap (λ g. g.bytes) p)

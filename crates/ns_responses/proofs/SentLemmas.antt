@@ -1,11 +1,12 @@
 -- What is given in the place of a response that a server sends in chunks.
-use Rattle.std.proofs.Common.{◌≡◌, ℕ, suc, ◌+◌, ◌-◌, ◌<◌, ◌≤◌, ◌&&◌, ◌||◌, ◌==◌, Bool, true, false, not, cond, List, [], ◌∷◌, ◌++◌, length, take, drop, map, Option, None, Some, refl, sym, ap, ◌∙◌, arith, append_assoc}
+use Rattle.std.proofs.Common.{◌≡◌, ℕ, suc, ◌+◌, ◌-◌, ◌<◌, ◌≤◌, ◌==◌, true, false, not, cond, List, [], ◌∷◌, ◌++◌, length, take, drop, map, Option, None, Some, refl, sym, ap, ◌∙◌, arith, append_assoc}
 use Rattle.std.specs.Prelude.{All, nat_eq, flat_map, is_some}
 use Rattle.std.specs.Option.{option_map}
 use Rattle.std.specs.List.{list_any, filter, starts_with}
-use Rattle.std.proofs.Math.Seq.{take-append-add, drop-append-add}
-use Rattle.std.proofs.lemmas.List.{append-nil, length-append, take_all, drop_all, take-append-drop}
-use Rattle.std.proofs.lemmas.List.Elements.{All-head, All-tail}
+use Rattle.std.proofs.lemmas.Bool.{and_parts, or_left, or_parts}
+use Rattle.std.proofs.lemmas.List.{length-append, map-append, take_all, drop_all, take-append-drop}
+use Rattle.std.proofs.lemmas.List.Elements.{All-head, All-tail, filter-append}
+use Rattle.std.proofs.lemmas.List.Folds.{flat_map-map, list_any-append}
 use Rattle.std.proofs.lemmas.Grind.{flat_map-append}
 use Rattle.http1.specs.ChunkedBody.{Chunks, AreChunks, print_chunks, content}
 use Rattle.http1.specs.ChunkedDecoder.{start}
@@ -14,16 +15,12 @@ use Rattle.ns_responses.specs.Lines.{lines_of, onto_line, section_length, sectio
 use Rattle.ns_responses.specs.Head.{is_framing, is_chunked, is_chunked_alone, framing_lines, is_chunked_head, unframed, is_transfer_encoding}
 use Rattle.ns_responses.specs.Plain.{version_text, interim_text, unchanged, with_front, content_of, has_trailers, dechunked, chunked_body, plain_of}
 use Rattle.ns_responses.specs.Sent.{line, section, Sent, sent_head, sent_bytes, plain_bytes, IsText, IsInterim, IsSent}
-use Rattle.ns_responses.proofs.LinesLemmas.{ended_section}
+use Rattle.ns_responses.proofs.LinesLemmas.{ended_section, room_taken}
 use Rattle.ns_responses.proofs.PlainLemmas.{plain_interim, plain_chunked}
 
 -- no byte of a text is LF
 abbrev HasNoFeed : List ℕ → Type 0
 HasNoFeed text = list_any (λ b. b == 10) text ≡ false
-
-or_false : (a b : Bool) → (a || b) ≡ false → (a ≡ false) × (b ≡ false)
-or_false true b e = cc
-or_false false b e = (refl, e)
 
 more_text : (n : ℕ) (found : Option ℕ) → option_map suc (option_map (λ k. n + k) found) ≡ option_map (λ k. suc n + k) found
 more_text n None = refl
@@ -37,29 +34,26 @@ text_on [] tail none = same (section_length true tail)
     same None = refl
     same (Some n) = ap Some (omega arith)
 text_on (b ∷ text) tail none =
-    let parts = or_false (b == 10) _ none in
+    let parts = or_parts (b == 10) _ none in
     rw parts.0 (ap (option_map suc) (text_on text tail parts.1) ∙ more_text (length text) (section_length true tail))
 
 line_on : (text tail : List ℕ) → IsText text → section_length false (text ++ tail) ≡ option_map (λ n. length text + n) (section_length true tail)
 line_on [] tail is = absurd (omega (arith, is.some))
 line_on (b ∷ text) tail is =
-    let parts = or_false (b == 10) _ is.one_line in
+    let parts = or_parts (b == 10) _ is.one_line in
     rw (parts.0, is.no_return) (ap (option_map suc) (text_on text tail parts.1) ∙ more_text (length text) (section_length true tail))
 
 -- the first line, and those behind it
-section_cons : (text : List ℕ) (texts : List (List ℕ)) (rest : List ℕ) → section (text ∷ texts) ++ rest ≡ text ++ (13 ∷ 10 ∷ (section texts ++ rest))
-section_cons text texts rest =
-    ap (λ l. l ++ rest) (append_assoc (line text) (flat_map line texts) (line []))
-    ∙ append_assoc (line text) (section texts) rest
-    ∙ append_assoc text (13 ∷ 10 ∷ []) (section texts ++ rest)
+section_cons : (text : List ℕ) (texts : List (List ℕ)) → section (text ∷ texts) ≡ text ++ (13 ∷ 10 ∷ section texts)
+section_cons text texts = append_assoc (line text) (flat_map line texts) (line []) ∙ append_assoc text (13 ∷ 10 ∷ []) (section texts)
 
 -- a section ends with its empty line
 pub section_ends : (texts : List (List ℕ)) → All IsText texts → (rest : List ℕ) → section_length false (section texts ++ rest) ≡ Some (length (section texts))
 section_ends [] all rest = refl
 section_ends (text ∷ texts) all rest =
     let count : length (section (text ∷ texts)) ≡ length text + suc (suc (length (section texts))) =
-    ap length (sym (append-nil (section (text ∷ texts))) ∙ section_cons text texts [] ∙ ap (λ l. text ++ (13 ∷ 10 ∷ l)) (append-nil (section texts))) ∙ length-append text (13 ∷ 10 ∷ section texts) in
-    ap (section_length false) (section_cons text texts rest)
+    ap length (section_cons text texts) ∙ length-append text (13 ∷ 10 ∷ section texts) in
+    ap (section_length false) (ap (λ l. l ++ rest) (section_cons text texts) ∙ append_assoc text (13 ∷ 10 ∷ section texts) rest)
     ∙ line_on text (13 ∷ 10 ∷ (section texts ++ rest)) (All-head IsText text texts all)
     ∙ ap (λ o. option_map (λ n. length text + n) (option_map suc (option_map suc o))) (section_ends texts (All-tail IsText text texts all) rest)
     ∙ ap Some (sym count)
@@ -68,51 +62,24 @@ section_ends (text ∷ texts) all rest =
 line_first : (text rest : List ℕ) → HasNoFeed text → lines_of (text ++ (13 ∷ 10 ∷ rest)) ≡ line text ∷ lines_of rest
 line_first [] rest none = refl
 line_first (b ∷ text) rest none =
-    let parts = or_false (b == 10) _ none in
+    let parts = or_parts (b == 10) _ none in
     rw parts.0 (ap (onto_line b) (line_first text rest parts.1))
 
 section_lines : (texts : List (List ℕ)) → All IsText texts → lines_of (section texts) ≡ map line texts ++ (line [] ∷ [])
 section_lines [] all = refl
 section_lines (text ∷ texts) all =
-    ap lines_of (sym (append-nil (section (text ∷ texts))) ∙ section_cons text texts [] ∙ ap (λ l. text ++ (13 ∷ 10 ∷ l)) (append-nil (section texts)))
+    ap lines_of (section_cons text texts)
     ∙ line_first text (section texts) (All-head IsText text texts all).one_line
     ∙ ap (λ l. line text ∷ l) (section_lines texts (All-tail IsText text texts all))
 
 -- lines that do not frame the body
-none_frames : (texts : List (List ℕ)) → list_any (λ text. is_framing (line text)) texts ≡ false → filter is_framing (map line texts) ≡ []
-none_frames [] none = refl
-none_frames (text ∷ texts) none =
-    let parts = or_false (is_framing (line text)) _ none in
-    rw parts.0 (none_frames texts parts.1)
-
-all_stay : (texts : List (List ℕ)) → list_any (λ text. is_framing (line text)) texts ≡ false → filter (λ l. not (is_framing l)) (map line texts) ≡ map line texts
-all_stay [] none = refl
-all_stay (text ∷ texts) none =
-    let parts = or_false (is_framing (line text)) _ none in
-    rw parts.0 (ap (λ l. line text ∷ l) (all_stay texts parts.1))
-
-kept_first : (passes : Bool) (x : List ℕ) (all xs ys : List (List ℕ)) → all ≡ xs ++ ys → cond passes (x ∷ all) all ≡ cond passes (x ∷ xs) xs ++ ys
-kept_first true x all xs ys e = ap (λ l. x ∷ l) e
-kept_first false x all xs ys e = e
-
-filter_append : (test : List ℕ → Bool) (xs ys : List (List ℕ)) → filter test (xs ++ ys) ≡ filter test xs ++ filter test ys
-filter_append test [] ys = refl
-filter_append test (x ∷ xs) ys = kept_first (test x) x (filter test (xs ++ ys)) (filter test xs) (filter test ys) (filter_append test xs ys)
-
-map_append : (xs ys : List (List ℕ)) → map line (xs ++ ys) ≡ map line xs ++ map line ys
-map_append [] ys = refl
-map_append (x ∷ xs) ys = ap (λ l. line x ∷ l) (map_append xs ys)
-
-joined : (texts : List (List ℕ)) → flat_map (λ l. l) (map line texts) ≡ flat_map line texts
-joined [] = refl
-joined (text ∷ texts) = ap (λ l. line text ++ l) (joined texts)
-
-any_append : (test : List ℕ → Bool) (xs ys : List (List ℕ)) → list_any test (xs ++ ys) ≡ false → (list_any test xs ≡ false) × (list_any test ys ≡ false)
-any_append test [] ys none = (refl, none)
-any_append test (x ∷ xs) ys none =
-    let parts = or_false (test x) (list_any test (xs ++ ys)) none in
-    let rest = any_append test xs ys parts.1 in
-    (rw parts.0 rest.0, rest.1)
+lines_apart : (texts : List (List ℕ)) → list_any (λ text. is_framing (line text)) texts ≡ false
+    → (filter is_framing (map line texts) ≡ []) × (filter (λ l. not (is_framing l)) (map line texts) ≡ map line texts)
+lines_apart [] none = (refl, refl)
+lines_apart (text ∷ texts) none =
+    let parts = or_parts (is_framing (line text)) _ none in
+    let rest = lines_apart texts parts.1 in
+    rw parts.0 (rest.0, ap (λ l. line text ∷ l) rest.1)
 
 -- a head in which one line names the coding
 module _ (xs : List (List ℕ)) (coding : List ℕ) (ys : List (List ℕ)) (texts : All IsText (xs ++ (coding ∷ ys)))
@@ -121,26 +88,22 @@ module _ (xs : List (List ℕ)) (coding : List ℕ) (ys : List (List ℕ)) (text
   head = section (xs ++ (coding ∷ ys))
 
   apart : (list_any (λ text. is_framing (line text)) xs ≡ false) × (list_any (λ text. is_framing (line text)) ys ≡ false)
-  apart = any_append (λ text. is_framing (line text)) xs ys others
+  apart = or_parts _ _ (sym (list_any-append (λ text. is_framing (line text)) xs ys) ∙ others)
 
   framing : is_framing (line coding) ≡ true
-  framing = by_parts (is_transfer_encoding (line coding)) _ _ chunked
-    where
-      by_parts : (a b c : Bool) → (a && b) ≡ true → (a || c) ≡ true
-      by_parts true b c e = refl
-      by_parts false b c e = cc
+  framing = or_left _ _ (and_parts (is_transfer_encoding (line coding)) _ chunked).0
 
   lines_are : lines_of head ≡ map line xs ++ (line coding ∷ (map line ys ++ (line [] ∷ [])))
   lines_are = section_lines (xs ++ (coding ∷ ys)) texts
-      ∙ ap (λ l. l ++ (line [] ∷ [])) (map_append xs (coding ∷ ys))
+      ∙ ap (λ l. l ++ (line [] ∷ [])) (map-append line xs (coding ∷ ys))
       ∙ append_assoc (map line xs) (line coding ∷ map line ys) (line [] ∷ [])
 
   framing_are : framing_lines head ≡ line coding ∷ []
   framing_are = ap (filter is_framing) lines_are
-      ∙ filter_append is_framing (map line xs) (line coding ∷ (map line ys ++ (line [] ∷ [])))
-      ∙ ap (λ l. l ++ filter is_framing (line coding ∷ (map line ys ++ (line [] ∷ [])))) (none_frames xs apart.0)
+      ∙ filter-append is_framing (map line xs) (line coding ∷ (map line ys ++ (line [] ∷ [])))
+      ∙ ap (λ l. l ++ filter is_framing (line coding ∷ (map line ys ++ (line [] ∷ [])))) (lines_apart xs apart.0).0
       ∙ ap (λ t. cond t (line coding ∷ filter is_framing (map line ys ++ (line [] ∷ []))) (filter is_framing (map line ys ++ (line [] ∷ [])))) framing
-      ∙ ap (λ l. line coding ∷ l) (filter_append is_framing (map line ys) (line [] ∷ []) ∙ ap (λ l. l ++ []) (none_frames ys apart.1))
+      ∙ ap (λ l. line coding ∷ l) (filter-append is_framing (map line ys) (line [] ∷ []) ∙ ap (λ l. l ++ []) (lines_apart ys apart.1).0)
 
   pub head_is_chunked : is_chunked_head head ≡ true
   head_is_chunked = ap is_chunked_alone framing_are ∙ chunked
@@ -151,25 +114,21 @@ module _ (xs : List (List ℕ)) (coding : List ℕ) (ys : List (List ℕ)) (text
       let rest = map line ys ++ (line [] ∷ []) in
       let lines : filter kept (lines_of head) ≡ map line xs ++ rest =
       ap (filter kept) lines_are
-      ∙ filter_append kept (map line xs) (line coding ∷ rest)
-      ∙ ap (λ l. l ++ filter kept (line coding ∷ rest)) (all_stay xs apart.0)
+      ∙ filter-append kept (map line xs) (line coding ∷ rest)
+      ∙ ap (λ l. l ++ filter kept (line coding ∷ rest)) (lines_apart xs apart.0).1
       ∙ ap (λ t. map line xs ++ cond (not t) (line coding ∷ filter kept rest) (filter kept rest)) framing
-      ∙ ap (λ l. map line xs ++ l) (filter_append kept (map line ys) (line [] ∷ []) ∙ ap (λ l. l ++ (line [] ∷ [])) (all_stay ys apart.1)) in
-      ap (flat_map (λ l. l)) (lines ∙ sym (append_assoc (map line xs) (map line ys) (line [] ∷ [])) ∙ ap (λ l. l ++ (line [] ∷ [])) (sym (map_append xs ys)))
+      ∙ ap (λ l. map line xs ++ l) (filter-append kept (map line ys) (line [] ∷ []) ∙ ap (λ l. l ++ (line [] ∷ [])) (lines_apart ys apart.1).1) in
+      ap (flat_map (λ l. l)) (lines ∙ sym (append_assoc (map line xs) (map line ys) (line [] ∷ [])) ∙ ap (λ l. l ++ (line [] ∷ [])) (sym (map-append line xs ys)))
       ∙ flat_map-append (λ (l : List ℕ). l) (map line (xs ++ ys)) (line [] ∷ [])
-      ∙ ap (λ l. l ++ line []) (joined (xs ++ ys))
+      ∙ ap (λ l. l ++ line []) (flat_map-map (λ (l : List ℕ). l) line (xs ++ ys))
 
 -- a text that bytes begin with is one with a shorter one
 shorter_start : (text more bytes : List ℕ) → starts_with nat_eq bytes (text ++ more) ≡ true → starts_with nat_eq bytes text ≡ true
 shorter_start [] more bytes e = refl
 shorter_start (t ∷ text) more [] e = cc
 shorter_start (t ∷ text) more (b ∷ bytes) e =
-    let parts = both (nat_eq t b) _ e in
+    let parts = and_parts (nat_eq t b) _ e in
     rw parts.0 (shorter_start text more bytes parts.1)
-  where
-    both : (p q : Bool) → (p && q) ≡ true → (p ≡ true) × (q ≡ true)
-    both true q e = (refl, e)
-    both false q e = cc
 
 -- a head of lines ends where it does
 pub head_ends : (texts : List (List ℕ)) → All IsText texts → length (section texts) ≤ 4096 → starts_with nat_eq (section texts) version_text ≡ true
@@ -179,11 +138,7 @@ head_ends texts all short version = ended_section version_text (section texts) (
     long : (text bytes : List ℕ) → starts_with nat_eq bytes text ≡ true → length text ≤ length bytes
     long [] bytes e = omega arith
     long (t ∷ text) [] e = cc
-    long (t ∷ text) (b ∷ bytes) e = let rest = long text bytes (second (nat_eq t b) _ e) in omega (arith, rest)
-      where
-        second : (p q : Bool) → (p && q) ≡ true → q ≡ true
-        second true q e = e
-        second false q e = cc
+    long (t ∷ text) (b ∷ bytes) e = let rest = long text bytes (and_parts (nat_eq t b) _ e).1 in omega (arith, rest)
 
 -- interim heads are passed over
 pub interim_passed : (heads : ℕ) (interim : List (List (List ℕ))) → All IsInterim interim → length interim < heads → (rest : List ℕ)
@@ -215,12 +170,10 @@ body_whole chunks trailers more are fits all short =
     let text = print_chunks chunks in
     let rest = section trailers ++ more in
     let k = 65536 - length text in
-    let sum : 65536 ≡ length text + k = omega (arith, fits) in
-    let coded : take 65536 (text ++ rest) ≡ text ++ take k rest = ap (λ n. take n (text ++ rest)) sum ∙ take-append-add text rest k in
-    let later : drop 65536 (text ++ rest) ≡ drop k rest = ap (λ n. drop n (text ++ rest)) sum ∙ drop-append-add text rest k in
+    let taken = room_taken text rest 65536 (length text) refl fits in
     let ran = run_chunks 65536 (text ++ take k rest) chunks (take k rest) (are, refl) in
     let there : has_trailers (take k rest ++ drop k rest) ≡ true = ap has_trailers (take-append-drop k rest) ∙ trailers_there trailers all short more in
-    (λ i. dechunked (start 65536) (coded i) (later i))
+    (λ i. dechunked (start 65536) (taken.0 i) (taken.1 i))
     ∙ ap (λ r. content_of r (drop k rest)) ran
     ∙ (λ i. record { bytes = content chunks; whole = there i })
 

@@ -1,5 +1,5 @@
 -- The steps of the reading, by what is given before and after them.
-use Rattle.std.proofs.Common.{◌≡◌, ℕ, ◌+◌, ◌-◌, ◌≤◌, ◌&&◌, true, List, [], ◌++◌, length, take, drop, Option, None, Some, sym, ap, ◌∙◌, arith, append_assoc, ⊎_elim, take-take, drop-drop, take-append-drop}
+use Rattle.std.proofs.Common.{◌≡◌, ℕ, ◌+◌, ◌-◌, ◌≤◌, ◌&&◌, true, List, [], ◌++◌, length, take, drop, Option, None, Some, sym, ap, ◌∙◌, arith, append_assoc, inl, inr, take-take, drop-drop, take-append-drop}
 use Rattle.std.proofs.Math.Seq.{take-append-add, drop-append-add}
 use Rattle.std.specs.Prelude.{is_some}
 use Rattle.std.specs.List.{slice_range}
@@ -14,12 +14,12 @@ use Rattle.http1.proofs.RunLemmas.{run_stops}
 use Rattle.ns_responses.specs.declared.part.Part.{Part}
 use Rattle.ns_responses.specs.declared.part.Part.TheVariants.{Unchanged}
 use Rattle.ns_responses.specs.Held.{HeldBytes, unready}
-use Rattle.ns_responses.specs.Lines.{section_of}
 use Rattle.ns_responses.specs.Finding.{FindsSection}
 use Rattle.ns_responses.specs.Plain.{Given, version_text, unchanged, with_front, is_done, content_of, has_trailers, dechunked, chunked_body, plain_of}
 use Rattle.ns_responses.specs.Reading.{goes_on, GivesBy}
 use Rattle.ns_responses.proofs.HeldLemmas.{range_take}
-use Rattle.ns_responses.proofs.PlainLemmas.{plain_without, chunked_body-append, room_taken, gives_always, gives_ended}
+use Rattle.ns_responses.proofs.LinesLemmas.{room_taken}
+use Rattle.ns_responses.proofs.PlainLemmas.{plain_without, chunked_body-append, gives_always, gives_ended}
 
 -- what is given by a part and what is held
 abbrev pub given_by : Part → HeldBytes → List ℕ → Given
@@ -41,24 +41,20 @@ module _ (before after : Option (List ℕ)) (unread piece : List ℕ) (f g : Lis
   -- no head stands there
   pub no_head : (heads : ℕ) → ((more : List ℕ) → f more ≡ plain_of heads (unread ++ more)) → ((more : List ℕ) → g more ≡ unchanged ((unread ++ piece) ++ more))
       → FindsSection version_text (unread ++ piece) after None → GivesBy before after f g []
-  no_head heads old new found = ⊎_elim
-      (λ (none : (more : List ℕ) → section_of version_text ((unread ++ piece) ++ more) ≡ None). gives_always before after f g [] piece read
-      (λ more. old (piece ++ more) ∙ ap (plain_of heads) (sym (append_assoc unread piece more)) ∙ plain_without heads ((unread ++ piece) ++ more) (none more) ∙ sym (new more)))
-      (λ ended. gives_ended before after f g [] piece read ended.0
-      (let all : unread ++ (piece ++ []) ≡ unread ++ piece = ap (λ l. unread ++ l) (append-nil piece) in
-      old (piece ++ []) ∙ ap (plain_of heads) all ∙ plain_without heads (unread ++ piece) ended.1 ∙ ap unchanged (sym (append-nil (unread ++ piece))) ∙ sym (new [])))
-      found
+  no_head heads old new (inl none) = gives_always before after f g [] piece read
+      (λ more. old (piece ++ more) ∙ ap (plain_of heads) (sym (append_assoc unread piece more)) ∙ plain_without heads ((unread ++ piece) ++ more) (none more) ∙ sym (new more))
+  no_head heads old new (inr ended) =
+      let all : unread ++ (piece ++ []) ≡ unread ++ piece = ap (λ l. unread ++ l) (append-nil piece) in
+      gives_ended before after f g [] piece read ended.0
+      (old (piece ++ []) ∙ ap (plain_of heads) all ∙ plain_without heads (unread ++ piece) ended.1 ∙ ap unchanged (sym (append-nil (unread ++ piece))) ∙ sym (new []))
 
   -- the trailer section stands there
   pub trailers_read : (n : ℕ) → ((more : List ℕ) → f more ≡ record { bytes = []; whole = has_trailers (unread ++ more) }) → ((more : List ℕ) → g more ≡ unchanged [])
       → FindsSection [] (unread ++ piece) after (Some n) → GivesBy before after f g []
-  trailers_read n old new found = ⊎_elim
-      (λ has. gives_always before after f g [] piece read
-      (λ more. old (piece ++ more)
-      ∙ (let whole : has_trailers (unread ++ (piece ++ more)) ≡ true = ap has_trailers (sym (append_assoc unread piece more)) ∙ ap is_some (has.1 more) in λ i. record { bytes = []; whole = whole i })
-      ∙ sym (new more)))
-      (λ ended. cc)
-      found
+  trailers_read n old new (inl has) = gives_always before after f g [] piece read
+      (λ more. let whole : has_trailers (unread ++ (piece ++ more)) ≡ true = ap has_trailers (sym (append_assoc unread piece more)) ∙ ap is_some (has.1 more) in
+      old (piece ++ more) ∙ (λ i. record { bytes = []; whole = whole i }) ∙ sym (new more))
+  trailers_read n old new (inr ended) = cc
 
   -- a piece of the chunks was read
   pub chunks_read : (decoder : ChunkedDecoder) (room n : ℕ) → length piece ≡ n → n ≤ room

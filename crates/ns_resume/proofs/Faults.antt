@@ -1,17 +1,15 @@
 -- Why a line is not run, and which line a fault names.
-use Rattle.std.proofs.Common.{◌≡◌, ℕ, false, List, ◌++◌, Option, None, Some, Result, Ok, Err, refl, sym, ap, ◌∙◌, subst}
+use Rattle.std.proofs.Common.{◌≡◌, ℕ, List, ◌++◌, Option, None, Some, Result, Ok, Err, sym, ap, ◌∙◌, subst}
 use Rattle.std.specs.Prelude.{flat_map, IfSome}
-use Rattle.std.specs.Result.{result_ok, IfErr, IsErrAnd}
+use Rattle.std.specs.Result.{IfErr, IsErrAnd}
 use Rattle.std.specs.Io.KnownBytes.{Consumes}
 use Rattle.ns_roster.specs.Network.{Network}
 use Rattle.ns_calls.specs.declared.call.Call.{Call}
 use Rattle.ns_calls.specs.declared.call.Entry.{Entry}
 use Rattle.ns_calls.specs.Out.{answer}
 use Rattle.ns_calls.specs.Shards.{shard_of_call}
-use Rattle.ns_calls.specs.Steps.{Refusal, link, view}
 use Rattle.ns_recorded.specs.Recorded.{matters}
 use Rattle.ns_shard.specs.declared.step.Step.{Step}
-use Rattle.ns_shard.specs.Taken.{call_of}
 use Rattle.ns_shard.specs.State.{State}
 use Rattle.ns_shard.specs.Steps.{call_taken, shard_history}
 use Rattle.ns_shard.proofs.Entries.{answer-is}
@@ -22,24 +20,12 @@ use Rattle.ns_resume.specs.declared.fault.RecordFault.TheVariants.{NoStep, NoFit
 use Rattle.ns_resume.specs.declared.run.Running.{Running}
 use Rattle.ns_resume.specs.Resumed.{AreResumed, fits, NamesLineFrom}
 use Rattle.ns_resume.specs.Private.Running.{HasRun, RunsUpTo}
-use Rattle.ns_resume.specs.Private.Faults.{NamesNoLine, MakesNoCall, DoesNotMatter, RefusesLine}
+use Rattle.ns_resume.specs.Private.Faults.{NamesNoLine, DoesNotMatter, RefusesLine}
 
 -- the error that a call gave is handed on
 pub from_err : {A : Type 0} (r : Result A RecordFault) (P : RecordFault → Type 0) (e : RecordFault) → P e → IsErrAnd r (λ f. f ≡ e) → IfErr r P
 from_err (Ok a) P e holds is = absurd is
 from_err (Err f) P e holds is = subst P (sym is) holds
-
-no-call : (net : Network) (steps : List Step) (r : Result Call Refusal) → result_ok r ≡ None → fits (call_taken net steps r) ≡ false
-no-call net steps (Err (link fault)) none = refl
-no-call net steps (Err (view fault)) none = refl
-no-call net steps (Ok c) none = absurd (cc none)
-
-pub refused-call : (net : Network) (steps : List Step) (line : List ℕ) (number : ℕ) (e : RecordFault) → MakesNoCall line number e → RefusesLine net steps line number e
-refused-call net steps line number (NoStep n) is = is
-refused-call net steps line number (NoFit n) (same, made) =
-    let (act, reads, none) = made in
-    (same, (act, reads, no-call net steps (call_of act) none))
-refused-call net steps line number _ is = tt
 
 pub refused-answer : (net : Network) (steps : List Step) (line : List ℕ) (number : ℕ) (shards : List State) (c : Call) (e : RecordFault) → AreResumed net steps shards → ReadsBack line c → DoesNotMatter shards c number e → RefusesLine net steps line number e
 refused-answer net steps line number shards c (NoStep n) are back is = absurd is
@@ -58,11 +44,6 @@ refused-answer net steps line number shards c (NoFit n) are back (same, found) =
       ),
     )
 refused-answer net steps line number shards c _ are back is = tt
-
-pub refused-never : (net : Network) (steps : List Step) (line : List ℕ) (number : ℕ) (e : RecordFault) → NamesNoLine e → RefusesLine net steps line number e
-refused-never net steps line number (NoStep n) is = absurd is
-refused-never net steps line number (NoFit n) is = absurd is
-refused-never net steps line number _ is = tt
 
 pub names-none : (net : Network) (start : ℕ) (known : Option (List ℕ)) (e : RecordFault) → NamesNoLine e → NamesLineFrom net start known e
 names-none net start known (NoStep n) is = absurd is

@@ -1,11 +1,11 @@
 -- Lines as they are read, and the text that they make.
-use Rattle.std.proofs.Common.{◌≡◌, ℕ, zero, suc, ◌<◌, ◌≤◌, ◌==◌, Bool, true, false, List, [], ◌∷◌, ◌++◌, length, take, drop, get_or, Option, None, Some, refl, sym, ap, ◌∙◌, append-nil, inl, inr, arith}
+use Rattle.std.proofs.Common.{◌≡◌, ℕ, ◌<◌, ◌≤◌, ◌==◌, Bool, true, false, List, [], ◌++◌, length, take, drop, Option, None, Some, refl, sym, ap, ◌∙◌, append-nil, arith}
 use Rattle.std.specs.Io.KnownBytes.{Consumes}
 use Rattle.std.specs.Prelude.{slice_index}
 use Rattle.std.specs.Cmp.Lexicographic.{same_text}
-use Rattle.std.proofs.lemmas.Bool.{false_from_ne_true}
-use Rattle.std.proofs.lemmas.Bool.Decides.{eqb_tells}
-use Rattle.std.proofs.lemmas.List.{length-take-le, get_or-take}
+use Rattle.std.proofs.lemmas.Bool.{eqb-true, false_from_ne_true}
+use Rattle.std.proofs.lemmas.List.{length-take-le, get_or-take, nil_from_length, take-append-drop}
+use Rattle.std.proofs.lemmas.List.Elements.{All-from_get_or}
 use Rattle.std.proofs.lemmas.List.Folds.{list_any_none}
 use Rattle.memchr.specs.Find.{Nowhere, Passes, is_byte}
 use Rattle.ns_calls.specs.Text.{has_line_feed}
@@ -21,38 +21,23 @@ known-then (Some xs) (Some ys) text rest read all = read ∙ ap (λ l. text ++ l
 
 -- ---- line feeds
 
-same_default : (xs : List ℕ) (k d e : ℕ) → k < length xs → get_or xs k d ≡ get_or xs k e
-same_default [] k d e within = absurd (omega (arith, within))
-same_default (x ∷ xs) zero d e within = refl
-same_default (x ∷ xs) (suc k) d e within = same_default xs k d e (omega (arith, within))
-
 -- the bytes before the first line feed
 pub no_feed_before : (xs : List ℕ) (n : ℕ) → n ≤ length xs → Nowhere (Passes (is_byte 10) xs) 0 n → has_line_feed (take n xs) ≡ false
 no_feed_before xs n within none =
-    list_any_none (λ b. b == 10) (take n xs) (λ k d less.
+    list_any_none (λ b. b == 10) (take n xs) (All-from_get_or (λ b. (b == 10) ≡ false) (take n xs) 0 (λ k less.
     let long : length (take n xs) ≡ n = length-take-le n xs within in
     let below : k < n = omega (arith, less, long) in
-    ap (λ x. x == 10) (get_or-take n xs k d below ∙ same_default xs k d 0 (omega (arith, below, within)))
-    ∙ false_from_ne_true (slice_index xs k == 10) (none k (omega arith) below))
+    ap (λ x. x == 10) (get_or-take n xs k 0 below) ∙ false_from_ne_true (slice_index xs k == 10) (none k (omega arith) below)))
 
 -- ---- a line, as far as it was read
-
-front_and_rest : (n : ℕ) (xs : List ℕ) → xs ≡ take n xs ++ drop n xs
-front_and_rest zero xs = refl
-front_and_rest (suc n) [] = refl
-front_and_rest (suc n) (x ∷ xs) = ap (λ l. x ∷ l) (front_and_rest n xs)
 
 pub front-is : (whole : Bool) (part line : List ℕ) → is_front whole part line ≡ true → IsFrontOf whole part line
 front-is true part line is = ([], same_text line part (sym is) ∙ sym (append-nil part), λ w. refl)
 front-is false part line is = (
   drop (length part) line,
-  front_and_rest (length part) line ∙ ap (λ l. l ++ drop (length part) line) (sym (same_text part (take (length part) line) (sym is))),
+  sym (take-append-drop (length part) line) ∙ ap (λ l. l ++ drop (length part) line) (sym (same_text part (take (length part) line) (sym is))),
   λ w. absurd (cc w),
 )
 
 pub empty : (xs : List ℕ) (n : ℕ) → n ≡ length xs → (n == 0) ≡ true → xs ≡ []
-empty [] n long none = refl
-empty (x ∷ xs) n long none = elim (eqb_tells n 0) [ inl same ↦ absurd (omega (arith, long, same.1)) | inr other ↦ absurd (clash (sym none ∙ other.0)) ]
-  where
-    clash : true ≡ false → ⊥
-    clash e = cc e
+empty xs n long none = nil_from_length xs (sym long ∙ eqb-true n 0 none)

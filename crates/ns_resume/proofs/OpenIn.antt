@@ -1,7 +1,7 @@
 -- What is open in shards that have what they keep of a history: each window once, and each ticket that waits.
-use Rattle.std.proofs.Common.{◌≡◌, ◌≢◌, ℕ, ◌+◌, ◌<◌, ◌≤◌, zero, suc, Bool, true, false, ◌||◌, cond, List, [], ◌∷◌, ◌++◌, slice_get, map, filter_map, count_by, take, drop, zero-add, Option, None, Some, refl, sym, ap, ◌∙◌, subst, arith, inl, inr}
+use Rattle.std.proofs.Common.{◌≡◌, ◌≢◌, ℕ, ◌+◌, ◌<◌, ◌≤◌, zero, suc, Bool, true, false, ◌||◌, List, [], ◌∷◌, ◌++◌, slice_get, map, filter_map, count_by, take, drop, zero-add, Option, None, Some, refl, sym, ap, ◌∙◌, subst, arith, inl, inr}
 use Rattle.std.specs.List.{AllByRecursion, list_any, cons_option}
-use Rattle.std.proofs.lemmas.Bool.{false≢true}
+use Rattle.std.proofs.lemmas.Bool.{cond_both, false_from_ne_true, false≢true, or_right}
 use Rattle.std.proofs.lemmas.Bool.Decides.{eqb_tells}
 use Rattle.std.proofs.lemmas.List.{take-append-drop}
 use Rattle.std.proofs.lemmas.List.Folds.{list_any-append}
@@ -23,7 +23,7 @@ use Rattle.ns_calls.specs.Legal.{IsHistory}
 use Rattle.ns_calls.specs.Reply.{reply_to}
 use Rattle.ns_calls.specs.Shards.{shard_of_call}
 use Rattle.ns_calls.proofs.JoinLemmas.{join-has}
-use Rattle.ns_calls.proofs.Lists.{All-append, All-weaker, count-append, count-cons}
+use Rattle.ns_calls.proofs.Lists.{All-append, All-weaker, count-append}
 use Rattle.ns_calls.proofs.LocalLemmas.{bool_tells}
 use Rattle.ns_calls.proofs.Merges.{by_place, replies_name_own_devices}
 use Rattle.ns_calls.proofs.NameLemmas.{same_window-eq}
@@ -36,10 +36,12 @@ use Rattle.ns_kept.specs.Kept.{Remains, reading, filter_before, is_kept}
 use Rattle.ns_kept.specs.Left.{Leaves}
 use Rattle.ns_kept.proofs.Law.{leaves-alike}
 use Rattle.ns_kept.proofs.ReadLemmas.{open_tickets-with_closings}
+use Rattle.ns_kept.proofs.Within.{All-end}
 use Rattle.ns_sessions.proofs.OpenTickets.{open_asked, at_member, same_ticket-refl}
 use Rattle.ns_shard.specs.State.{State, remains, seen, asked_in, open_tickets_in}
 use Rattle.ns_shard.specs.declared.step.Step.{Step}
 use Rattle.ns_shard.specs.Steps.{shard_history}
+use Rattle.ns_shard.proofs.Maps.{count-map}
 use Rattle.ns_shard.proofs.RunHistories.{shard_history-is}
 use Rattle.ns_resume.specs.Resumed.{AreResumed, AreOpenIn, windows_in, tickets_in}
 
@@ -54,16 +56,8 @@ named w ws = count_by (λ v. same_window v w) ws
 
 -- they are of the shard's devices, and each stands there once
 record AreOnce (index : ℕ) (s : State) : Type 0 where
-  own : AllByRecursion (λ w. shard_of w.eui ≡ index) (names s)
+  own : AllByRecursion (IsOwn index) (open_windows (seen s))
   once : (w : WindowName) → named w (names s) ≤ 1
-
-count-map : {X Y : Type 0} (f : X → Y) (test : Y → Bool) (xs : List X) → count_by test (map f xs) ≡ count_by (λ x. test (f x)) xs
-count-map f test [] = refl
-count-map f test (x ∷ xs) = count-cons test (f x) (map f xs) ∙ (ap (λ n. cond (test (f x)) 1 0 + n) (count-map f test xs) ∙ sym (count-cons (λ y. test (f y)) x xs))
-
-All-map : {X Y : Type 0} (f : X → Y) (P : Y → Type 0) (xs : List X) → AllByRecursion (λ x. P (f x)) xs → AllByRecursion P (map f xs)
-All-map f P [] all = tt
-All-map f P (x ∷ xs) all = (all.0, All-map f P xs all.1)
 
 are-once : (net : Network) (index : ℕ) (h : List Entry) (s : State) → IsRoster net → IsHistory net index h → Leaves net h (remains s) → AreOnce index s
 are-once net index h s valid is leaves =
@@ -72,7 +66,7 @@ are-once net index h s valid is leaves =
     let own : AllByRecursion (IsOwn index) (open_windows h) = open_windows-mine index h (by_place (λ e. Housed e × (shard_of_call e.call ≡ index)) h each) in
     let opens : WindowsOpenOnce h = windows_open_once net h is.legal in
     record {
-      own = All-map (λ (o : Opening). o.window) (λ w. shard_of w.eui ≡ index) (open_windows (seen s)) (subst (AllByRecursion (IsOwn index)) (sym same) own);
+      own = subst (AllByRecursion (IsOwn index)) (sym same) own;
       once = λ w.
           let counted : named w (names s) ≡ open_count h w = count-map (λ (o : Opening). o.window) (λ v. same_window v w) (open_windows (seen s)) ∙ ap (count_by (λ (o : Opening). same_window o.window w)) same in
           let most = opens.opens w in
@@ -83,14 +77,12 @@ are-once net index h s valid is leaves =
 -- a window of another shard is none of these
 none-named : (index : ℕ) (s : State) → AreOnce index s → (w : WindowName) → shard_of w.eui ≢ index → named w (names s) ≡ 0
 none-named index s has w other =
-    count-none (λ v. same_window v w) (names s)
-    (All-weaker (λ (v : WindowName). shard_of v.eui ≡ index) (λ v. same_window v w ≡ false) differs (names s) has.own)
+    count-map (λ (o : Opening). o.window) (λ v. same_window v w) (open_windows (seen s))
+    ∙ count-none (λ (o : Opening). same_window o.window w) (open_windows (seen s))
+    (All-weaker (IsOwn index) (λ o. same_window o.window w ≡ false) differs (open_windows (seen s)) has.own)
   where
-    differs : (v : WindowName) → shard_of v.eui ≡ index → same_window v w ≡ false
-    differs v mine = elim (bool_tells (same_window v w)) [
-      | inl same ↦ absurd (other (ap (λ (x : WindowName). shard_of x.eui) (sym (same_window-eq v w same)) ∙ mine))
-      | inr apart ↦ apart
-    ]
+    differs : (o : Opening) → IsOwn index o → same_window o.window w ≡ false
+    differs o mine = false_from_ne_true _ (λ same. other (ap (λ (x : WindowName). shard_of x.eui) (sym (same_window-eq o.window w same)) ∙ mine))
 
 -- ---- those of all shards
 
@@ -147,32 +139,21 @@ abbrev IsJoin : Call → Type 0
 IsJoin (call.Join t heard) = Unit {0}
 IsJoin _ = ⊥
 
-asks-its_ticket : (net : Network) (h : List Entry) (e : Entry) → e.reply ≡ reply_to net h e.call → AsksItsTicket e
-asks-its_ticket net h e is = step e.call e.reply is
-  where
-    step : (c : Call) (r : Reply) → r ≡ reply_to net h c → AsksIts c r
-    step (call.Join t heard) r is =
-        subst (IsAsked t) (sym is)
-        (join-has (IsAsked t) net h t (record { unknown = λ no. tt; old = λ known g. tt; copied = λ known room. tt; crowded = tt; busy = tt; ask = λ known closed room. refl }))
-    step (call.Uplink frame heard) r is = tt
-    step (call.JoinReply t o) r is = tt
-    step (call.Close w) r is = tt
+asks-its_ticket : (net : Network) (h : List Entry) (c : Call) (r : Reply) → r ≡ reply_to net h c → AsksIts c r
+asks-its_ticket net h (call.Join t heard) r is =
+    subst (IsAsked t) (sym is)
+    (join-has (IsAsked t) net h t (record { unknown = λ no. tt; old = λ known g. tt; copied = λ known room. tt; crowded = tt; busy = tt; ask = λ known closed room. refl }))
+asks-its_ticket net h _ r is = tt
 
 All-left : {X : Type 0} (P : X → Type 0) (xs ys : List X) → AllByRecursion P (xs ++ ys) → AllByRecursion P xs
 All-left P [] ys all = tt
 All-left P (x ∷ xs) ys all = (all.0, All-left P xs ys all.1)
 
-All-right : {X : Type 0} (P : X → Type 0) (xs ys : List X) → AllByRecursion P (xs ++ ys) → AllByRecursion P ys
-All-right P [] ys all = all
-All-right P (x ∷ xs) ys all = All-right P xs ys all.1
-
 All-filter_before : {X : Type 0} (P : X → Type 0) (test : X → List X → Bool) (xs : List X) → AllByRecursion P xs → AllByRecursion P (filter_before test xs)
 All-filter_before P test [] all = tt
-All-filter_before {X} P test (x ∷ xs) all = step (test x xs) (All-filter_before P test xs all.1)
-  where
-    step : (b : Bool) → AllByRecursion P (filter_before test xs) → AllByRecursion P (cond b (x ∷ filter_before test xs) (filter_before test xs))
-    step true later = (all.0, later)
-    step false later = later
+All-filter_before P test (x ∷ xs) all =
+    let later = All-filter_before P test xs all.1 in
+    cond_both (test x xs) (x ∷ filter_before test xs) (filter_before test xs) (AllByRecursion P) (λ _. (all.0, later)) (λ _. later)
 
 -- what is left of a history are some of its entries
 All-left_of : (P : Entry → Type 0) (net : Network) (h : List Entry) (k : Remains) → Leaves net h k → AllByRecursion P h → AllByRecursion P k.entries
@@ -182,7 +163,7 @@ All-left_of P net h k leaves all =
     subst (λ (x : Remains). AllByRecursion P x.entries) (sym leaves.left)
     (All-append P (filter_before (is_kept (reading (record { mark = 0; windows = []; entries = take m h }))) (take m h)) (drop m h)
     (All-filter_before P (is_kept (reading (record { mark = 0; windows = []; entries = take m h }))) (take m h) (All-left P (take m h) (drop m h) both))
-    (All-right P (take m h) (drop m h) both))
+    (All-end P (take m h) (drop m h) both))
 
 module _ (test : Ticket → Bool) (t : Ticket) where
   abbrev listed : List Entry → List Ticket
@@ -210,16 +191,11 @@ module _ (test : Ticket → Bool) (t : Ticket) where
       let same : v ≡ t = is ∙ sym (same_ticket-eq t u asks) in
       ap (λ x. when (test x) x) same ∙ ap (λ b. when b t) holds
   asked holds (call.Join u heard) _ is asks = absurd (false≢true asks)
-  asked holds (call.Uplink frame heard) r is asks = absurd (asked-by (λ c p. is_ticket t p ≡ true → IsJoin c) (λ c no. absurd (false≢true no)) (λ v h is. tt) (call.Uplink frame heard) r asks)
-  asked holds (call.JoinReply u o) r is asks = absurd (asked-by (λ c p. is_ticket t p ≡ true → IsJoin c) (λ c no. absurd (false≢true no)) (λ v h is. tt) (call.JoinReply u o) r asks)
-  asked holds (call.Close w) r is asks = absurd (asked-by (λ c p. is_ticket t p ≡ true → IsJoin c) (λ c no. absurd (false≢true no)) (λ v h is. tt) (call.Close w) r asks)
+  asked holds c r is asks = absurd (asked-by (λ d p. is_ticket t p ≡ true → IsJoin d) (λ d no. absurd (false≢true no)) (λ v h is. tt) c r asks)
 
   or-later : (o : Option Ticket) (ts : List Ticket) → list_any (same_ticket t) ts ≡ true → list_any (same_ticket t) (cons_option o ts) ≡ true
   or-later None ts later = later
-  or-later (Some u) ts later = ap (λ b. same_ticket t u || b) later ∙ elim (bool_tells (same_ticket t u)) [
-    | inl same ↦ ap (λ b. b || true) same
-    | inr other ↦ ap (λ b. b || true) other
-  ]
+  or-later (Some u) ts later = or_right (same_ticket t u) (list_any (same_ticket t) ts) later
 
   -- it is listed where some entry asks for it
   lists : test t ≡ true → (es : List Entry) → AllByRecursion AsksItsTicket es → list_any (asks_for t) es ≡ true → list_any (same_ticket t) (listed es) ≡ true
@@ -234,16 +210,13 @@ named-wait : (net : Network) (index : ℕ) (h : List Entry) (s : State) → IsHi
 named-wait net index h s is leaves t = step (is_ticket_open (seen s) t) refl
   where
     own : AllByRecursion AsksItsTicket s.entries
-    own = All-left_of AsksItsTicket net h (remains s) leaves (by_place AsksItsTicket h (λ n e at. asks-its_ticket net (take n h) e (is.legal n e at)))
+    own = All-left_of AsksItsTicket net h (remains s) leaves (by_place AsksItsTicket h (λ n e at. asks-its_ticket net (take n h) e.call e.reply (is.legal n e at)))
 
     step : (b : Bool) → is_ticket_open (seen s) t ≡ b → list_any (same_ticket t) (open_tickets_in s) ≡ b
     step true here =
         let within : is_ticket_open s.entries t ≡ true = sym (ap (list_any (same_ticket t)) (open_tickets-with_closings s.mark s.windows s.entries)) ∙ here in
         lists (is_ticket_open (seen s)) t here s.entries own (at_member (λ u. list_any (asks_for u) s.entries ≡ true) t (open_tickets s.entries) within (open_asked s.entries))
-    step false closed = elim (bool_tells (list_any (same_ticket t) (open_tickets_in s))) [
-      | inl some ↦ absurd (false≢true (sym closed ∙ passes (is_ticket_open (seen s)) t s.entries some))
-      | inr none ↦ none
-    ]
+    step false closed = false_from_ne_true _ (λ some. false≢true (sym closed ∙ passes (is_ticket_open (seen s)) t s.entries some))
 
 all-wait : (t : Ticket) (shards : List State) → ((k : ℕ) (s : State) → slice_get shards k ≡ Some s → list_any (same_ticket t) (open_tickets_in s) ≡ is_ticket_open (seen s) t)
     → list_any (same_ticket t) (tickets_in shards) ≡ list_any (λ s. is_ticket_open (seen s) t) shards

@@ -1,11 +1,12 @@
 -- One line more of a run.
 use Rattle.std.proofs.Common.{◌≡◌, false, ℕ, ◌+◌, ◌≤◌, ◌<◌, arith, List, [], ◌∷◌, ◌++◌, length, length-append, Option, Some, refl, subst, sym, ap, ◌∙◌, append-nil}
-use Rattle.std.proofs.KnownBytes.{Consumes-trans}
+use Rattle.std.proofs.KnownBytes.{Consumes-nil, Consumes-trans}
 use Rattle.std.proofs.lemmas.List.{map-append, length-map}
 use Rattle.std.specs.Prelude.{map, flat_map}
 use Rattle.std.specs.Io.KnownBytes.{Consumes}
 use Rattle.std.specs.Option.{option_map_or}
 use Rattle.ns_roster.specs.Network.{Network}
+use Rattle.ns_calls.proofs.Lists.{All-push}
 use Rattle.ns_calls.specs.declared.call.Call.{Call}
 use Rattle.ns_calls.specs.declared.answer.Answer.{Answer}
 use Rattle.ns_calls.specs.Text.{up_text, has_line_feed}
@@ -18,13 +19,11 @@ use Rattle.ns_replay.specs.Output.{ended, step_of}
 use Rattle.ns_record.specs.StepText.{ReadsBack}
 use Rattle.ns_resume.specs.declared.run.Resumed.{Resumed}
 use Rattle.ns_resume.specs.declared.run.Running.{Running}
-use Rattle.ns_resume.specs.declared.ups.Ups.{Ups}
 use Rattle.ns_resume.specs.Resumed.{IsAllOf, AreResumed, HasRunAll, AreUps, ups_since}
 use Rattle.ns_resume.specs.Private.Ups.{GoOn}
 use Rattle.ns_resume.specs.Private.Running.{HasAnswered, HasRun, RunsOn, RunsUpTo}
 use Rattle.ns_resume.proofs.Lines.{known-then}
-use Rattle.ns_resume.proofs.UpLines.{consumes-none}
-use Rattle.ns_resume.proofs.Steps.{resumed-none, resumed-step, taken-is, fit-push, ups-push, ups-first, All-push, flat_map-push}
+use Rattle.ns_resume.proofs.Steps.{resumed-none, resumed-step, taken-is, fit-push, ups-push, ups-first, flat_map-push}
 
 -- the shards after a line, and what fits, whatever `up` lines it implies
 module _ (net : Network) (before : ℕ) (steps : List Step) (line read : List ℕ) (old new : Running) (c : Call) (a : Answer)
@@ -53,9 +52,7 @@ module _ (net : Network) (before : ℕ) (steps : List Step) (line read : List �
         is_step = back.1;
         bytes = bytes;
         consumed = consumed;
-        has_run = has-run (read ++ bytes)
-            (subst (λ l. AreUps (read ++ bytes) l new.ups.missing.items new.ups.torn)
-            (sym (ups-push net before steps made_step (shard_of_call c) (length (shard_history net (shard_of_call c) steps)) a within taken)) ups);
+        has_run = has-run (read ++ bytes) (rw (ups-push net before steps made_step (shard_of_call c) (length (shard_history net (shard_of_call c) steps)) a within taken) ups);
       }
 
   -- one of the first lines
@@ -68,11 +65,8 @@ module _ (net : Network) (before : ℕ) (steps : List Step) (line read : List �
         step = made_step;
         is_step = back.1;
         bytes = [];
-        consumed = consumes-none then;
-        has_run = has-run (read ++ [])
-            (subst (λ l. AreUps l (ups_since net before (steps ++ made_step ∷ [])) new.ups.missing.items new.ups.torn) (sym (append-nil read))
-            (subst (λ l. AreUps read l new.ups.missing.items new.ups.torn) (sym none)
-            (subst (λ (u : Ups). AreUps read (ups_since net before steps) u.missing.items u.torn) (sym same) run.ups)));
+        consumed = Consumes-nil then;
+        has_run = has-run (read ++ []) (rw (append-nil read, none, same) run.ups);
       }
 
 -- ---- the lines so far
@@ -83,11 +77,11 @@ up-to-none net start before first ups_first r after none torn = record {
   lines = [];
   numbered = omega arith;
   whole = tt;
-  consumed = consumes-none first;
+  consumed = Consumes-nil first;
   steps = [];
   are_steps = refl;
   read = [];
-  ups_consumed = consumes-none ups_first;
+  ups_consumed = Consumes-nil ups_first;
   has_run = record {
     shards = resumed-none net r.shards.items after;
     fit = tt;
@@ -112,7 +106,7 @@ pub up-to-more : (net : Network) (start before number : ℕ) (first now next ups
 up-to-more net start before number first now next ups_first ups_now ups_next old new line run consumed no_feed on =
     record {
       lines = run.lines ++ line ∷ [];
-      numbered = ap (λ n. n + start) (length-append run.lines (line ∷ [])) ∙ one_more (length run.lines) start number run.numbered;
+      numbered = omega (arith, length-append run.lines (line ∷ []), run.numbered);
       whole = All-push (λ l. has_line_feed l ≡ false) run.lines line run.whole no_feed;
       consumed = subst (Consumes first next) (sym (flat_map-push ended run.lines line)) (Consumes-trans first now next (flat_map ended run.lines) (ended line) run.consumed consumed);
       steps = run.steps ++ on.step ∷ [];
@@ -123,9 +117,6 @@ up-to-more net start before number first now next ups_first ups_now ups_next old
       ups_consumed = Consumes-trans ups_first ups_now ups_next run.read on.bytes run.ups_consumed on.consumed;
       has_run = on.has_run;
     }
-  where
-    one_more : (n s k : ℕ) → n + s ≡ k → n + 1 + s ≡ k + 1
-    one_more n s k is = omega (arith, is)
 
 pub up-to-end : (net : Network) (start before number : ℕ) (first now ups_first ups_now : Option (List ℕ)) (run : Running) (torn : List ℕ) (r : Resumed)
     → RunsUpTo net start before number first now ups_first ups_now run → before + start ≤ number → has_line_feed torn ≡ false → IsAllOf now torn → IsAllOf ups_now []
@@ -148,9 +139,6 @@ up-to-end net start before number first now ups_first ups_now run torn r up_to e
         are_steps = up_to.are_steps;
         fit = up_to.has_run.fit;
         shards = subst (AreResumed net up_to.steps) (sym shards) up_to.has_run.shards;
-        ups =
-            subst (λ l. AreUps l (ups_since net before up_to.steps) r.missing.items r.up_torn) (sym (append-nil up_to.read))
-            (subst (λ l. AreUps up_to.read (ups_since net before up_to.steps) l r.up_torn) (sym missing)
-            (subst (AreUps up_to.read (ups_since net before up_to.steps) run.ups.missing.items) (sym up_torn) up_to.has_run.ups));
+        ups = rw (append-nil up_to.read, missing, up_torn) up_to.has_run.ups;
       },
     )

@@ -1,10 +1,11 @@
 -- The shards after one step more, and what came of it.
-use Rattle.std.proofs.Common.{◌≡◌, ℕ, ◌<◌, ◌≤◌, drop, zero, suc, true, Ok, List, [], ◌∷◌, ◌++◌, length, slice_get, slice_set, cond, Some, refl, sym, ap, ◌∙◌, subst, arith, eqb, eq-eqb, inl, inr, append-nil, append_assoc}
+use Rattle.std.proofs.Common.{◌≡◌, ℕ, ◌<◌, ◌≤◌, drop, suc, true, Ok, List, [], ◌∷◌, ◌++◌, length, slice_get, slice_set, cond, Some, refl, sym, ap, ◌∙◌, subst, arith, eqb, eq-eqb, inl, inr, append-nil, append_assoc}
 use Rattle.std.specs.Prelude.{flat_map}
 use Rattle.std.specs.List.{AllByRecursion}
 use Rattle.std.proofs.lemmas.Bool.Decides.{eqb_tells}
 use Rattle.std.proofs.lemmas.List.{length-set, drop-append-le, drop_all}
-use Rattle.std.proofs.lemmas.Option.{slice_get_within}
+use Rattle.std.proofs.lemmas.List.Concat.{flat_map-append}
+use Rattle.std.proofs.lemmas.Option.{same_Some, slice_get_within}
 use Rattle.ns_roster.specs.Network.{Network}
 use Rattle.ns_calls.specs.declared.call.Call.{Call}
 use Rattle.ns_calls.specs.declared.call.Entry.{Entry}
@@ -12,7 +13,8 @@ use Rattle.ns_calls.specs.declared.answer.Answer.{Answer}
 use Rattle.ns_calls.specs.Legal.{with_call}
 use Rattle.ns_calls.specs.Out.{answer}
 use Rattle.ns_calls.specs.Shards.{shard_of_call}
-use Rattle.ns_calls.proofs.MergeLemmas.{slice_get-set_other}
+use Rattle.ns_calls.proofs.Lists.{All-push}
+use Rattle.ns_calls.proofs.MergeLemmas.{slice_get-set_same, slice_get-set_other}
 use Rattle.ns_recorded.specs.Recorded.{matters}
 use Rattle.ns_kept.proofs.Law.{whole-leaves, leaves-trim}
 use Rattle.ns_kept.specs.Left.{Leaves}
@@ -29,9 +31,6 @@ use Rattle.ns_resume.specs.Resumed.{IsResumedAt, AreResumed, MayBeTrimmed, fits,
 use Rattle.ns_resume.specs.Private.Running.{AreInPlace, HasAnswered}
 
 -- ---- shards in place
-
-same_state : (a b : State) → Some a ≡ Some b → a ≡ b
-same_state a b e = cc
 
 pub in_place : (net : Network) (steps : List Step) (shards : List State) → AreResumed net steps shards → AreInPlace shards
 in_place net steps shards are k s at = (are.each k s at).index
@@ -70,11 +69,6 @@ resumed-trimmed net steps k s t (inr trimmed) is =
 
 -- ---- all shards
 
-slice_get-set_same : {X : Type 0} (xs : List X) (k : ℕ) (x y : X) → slice_get xs k ≡ Some x → slice_get (slice_set xs k y) k ≡ Some y
-slice_get-set_same [] k x y h = absurd (cc h)
-slice_get-set_same (z ∷ zs) zero x y h = refl
-slice_get-set_same (z ∷ zs) (suc k) x y h = slice_get-set_same zs k x y h
-
 -- the shards after a step that makes this call
 pub resumed-step : (net : Network) (steps : List Step) (step : Step) (shards new : List State) (c : Call) (a : Answer) → AreResumed net steps shards → call_of step.act ≡ Ok c → HasAnswered shards new c a
     → AreResumed net (steps ++ step ∷ []) new
@@ -86,7 +80,7 @@ resumed-step net steps step shards new c a are made answered =
       | inl same ↦
           let one : one_call own (call_of step.act) ≡ c ∷ [] = calls own ∙ ap (λ b. cond {A = List Call} b (c ∷ []) []) (eq-eqb own own refl) in
           let set : slice_get (slice_set shards own answered.after) own ≡ Some answered.after = slice_get-set_same shards own s answered.after answered.at in
-          let is : answered.after ≡ t = same_state answered.after t (sym set ∙ (ap (slice_get (slice_set shards own answered.after)) same.1 ∙ at)) in
+          let is : answered.after ≡ t = same_Some answered.after t (sym set ∙ (ap (slice_get (slice_set shards own answered.after)) same.1 ∙ at)) in
           subst (λ n. IsResumedAt net (steps ++ step ∷ []) n t) same.1
           (subst (IsResumedAt net (steps ++ step ∷ []) own) is
           (resumed-trimmed net (steps ++ step ∷ []) own (after_call s c) answered.after answered.trimmed (resumed-own net steps step c own s one (are.each own s answered.at))))
@@ -107,7 +101,7 @@ resumed-none net shards after = record {
   sixteen = after.sixteen;
   each = λ k s at.
       let within : k < length shards = slice_get_within shards k s at in
-      let is : state_after net k [] ≡ s = same_state (state_after net k []) s (sym (after.each k (omega (arith, after.sixteen, within))) ∙ at) in
+      let is : state_after net k [] ≡ s = same_Some (state_after net k []) s (sym (after.each k (omega (arith, after.sixteen, within))) ∙ at) in
       subst (IsResumedAt net [] k) is (record { roster = refl; index = refl; keeps = keeps-none net k });
 }
 
@@ -129,13 +123,8 @@ taken-is net steps step shards new c a are made answered =
     ap (call_taken net steps) made
     ∙ ap (Made own (length h)) (sym (answered.answered ∙ answer-is h answered.before c is.keeps ∙ ap (λ n. answer n h c) is.roster))
 
-pub All-push : {X : Type 0} (P : X → Type 0) (xs : List X) (x : X) → AllByRecursion P xs → P x → AllByRecursion P (xs ++ x ∷ [])
-All-push P [] x all last = (last, tt)
-All-push P (y ∷ ys) x all last = (all.0, All-push P ys x all.1 last)
-
 pub flat_map-push : {X Y : Type 0} (f : X → List Y) (xs : List X) (x : X) → flat_map f (xs ++ x ∷ []) ≡ flat_map f xs ++ f x
-flat_map-push f [] x = append-nil (f x)
-flat_map-push f (y ∷ ys) x = ap (λ l. f y ++ l) (flat_map-push f ys x) ∙ sym (append_assoc (f y) (flat_map f ys) (f x))
+flat_map-push f xs x = flat_map-append f xs (x ∷ []) ∙ ap (λ l. flat_map f xs ++ l) (append-nil (f x))
 
 pub fit-push : (net : Network) (steps : List Step) (step : Step) (shard number : ℕ) (a : Answer) → AllFit net steps → step_taken net steps step ≡ Made shard number a → matters a.reply ≡ true → AllFit net (steps ++ step ∷ [])
 fit-push net steps step shard number a all made fit =

@@ -1,30 +1,15 @@
 -- The `up` lines that are there, beside one more that is implied.
-use Rattle.std.proofs.Common.{◌≡◌, ℕ, List, [], ◌∷◌, ◌++◌, length, Option, None, Some, refl, sym, ap, ◌∙◌, append_assoc, append-nil}
-use Rattle.std.specs.Io.KnownBytes.{Consumes}
+use Rattle.std.proofs.Common.{◌≡◌, ℕ, List, [], ◌∷◌, ◌++◌, length, length-append, Option, refl, sym, ap, ◌∙◌, append_assoc, append-nil, arith}
+use Rattle.std.proofs.KnownBytes.{Consumes-nil}
+use Rattle.std.proofs.lemmas.List.{nil_from_length}
 use Rattle.ns_replay.specs.Output.{ended}
 use Rattle.ns_resume.specs.Resumed.{AreUps}
 use Rattle.ns_resume.specs.Private.Ups.{GoOn}
 use Rattle.ns_resume.specs.declared.ups.Ups.{Ups}
 
-pub consumes-none : (known : Option (List ℕ)) → Consumes known known []
-consumes-none None = tt
-consumes-none (Some xs) = refl
-
 -- no line more is implied
 pub goes-on-none : (known : Option (List ℕ)) (there ups : List ℕ) (u : Ups) → AreUps there ups u.missing.items u.torn → GoOn known known there (ups ++ []) u
-goes-on-none known there ups u are = (
-  [],
-  consumes-none known,
-  record {
-    front = are.front;
-    rest = are.rest;
-    more = are.more;
-    are_there = append-nil there ∙ are.are_there;
-    are_all = append-nil ups ∙ are.are_all;
-    begins = are.begins;
-    bytes = are.bytes;
-  },
-)
+goes-on-none known there ups u are = ([], Consumes-nil known, rw (append-nil there, append-nil ups) are)
 
 -- a line that is missing, behind others
 pub ups-missing : (there ups missing line : List ℕ) (torn : ℕ) → AreUps there ups missing torn → AreUps (there ++ []) (ups ++ ended line) (missing ++ ended line) torn
@@ -38,13 +23,9 @@ ups-missing there ups missing line torn are = record {
   bytes = are.bytes;
 }
 
-both_empty : (xs ys : List ℕ) → [] ≡ xs ++ ys → xs ≡ []
-both_empty [] ys e = refl
-both_empty (x ∷ xs) ys e = absurd (cc e)
-
 module _ (there ups : List ℕ) (torn : ℕ) (are : AreUps there ups [] torn) where
   none : are.rest ≡ []
-  none = both_empty are.rest are.more are.begins
+  none = nil_from_length are.rest (omega (arith, ap length are.begins, length-append are.rest are.more))
 
   -- where none is missing, all are there
   all_there : there ≡ ups

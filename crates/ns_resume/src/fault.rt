@@ -13,7 +13,7 @@ pub enum RecordFault {
     /// A growth was refused.
     #[error("no memory")]
     NoMemory,
-    /// A source failed, or had no memory for a line.
+    /// A source failed or had no memory for a line, or the files could not be had, written or mended.
     #[error("record: io")]
     Io,
     /// This line is no step line.

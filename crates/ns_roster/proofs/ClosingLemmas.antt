@@ -1,11 +1,11 @@
 -- The text of a roster with last nonces is read back.
-use Rattle.std.proofs.Common.{◌≡◌, ◌≢◌, ℕ, zero, suc, ◌^◌, ◌<◌, ◌≤◌, ◌+◌, List, [], ◌∷◌, ◌++◌, false, Option, None, Some, IfSome, option_map, Ok, Err, OnOk, refl, subst, take, sym, ◌∙◌, ap, inr, arith, length, map, get_or, All, AllPairs}
+use Rattle.std.proofs.Common.{◌≡◌, ℕ, zero, suc, ◌<◌, ◌≤◌, ◌+◌, List, [], ◌∷◌, ◌++◌, false, Option, None, Some, IfSome, option_map, Ok, Err, OnOk, refl, subst, take, sym, ◌∙◌, ap, inr, arith, length, map, get_or}
 use Rattle.std.specs.Prelude.{Result}
 use Rattle.std.specs.Str.{IsUtf8}
 use Rattle.std.specs.Int.{w64, from_be_bytes}
 use Rattle.std.proofs.lemmas.List.{map-append, take_more, take_all}
 use Rattle.serde_json.specs.declared.value.Value.{Value}
-use Rattle.serde_json.specs.Data.{Data, Items, item, depth, items_depth}
+use Rattle.serde_json.specs.Data.{Data, depth, items_depth}
 use Rattle.serde_json.specs.Read.{read, max_depth}
 use Rattle.serde_json.specs.View.{view, items_of}
 use Rattle.serde_json.specs.Written.{has_float, items_have_float}
@@ -14,7 +14,7 @@ use Rattle.ns_roster.specs.declared.Device.{Device}
 use Rattle.ns_roster.specs.Field.{hex_bytes, hex_number}
 use Rattle.ns_roster.specs.Network.{Network}
 use Rattle.ns_roster.specs.Text.{roster_of}
-use Rattle.ns_roster.specs.Valid.{max_slot, max_nonce, Differ, AreDevices, IsRoster}
+use Rattle.ns_roster.specs.Valid.{max_nonce, AreDevices, IsRoster}
 use Rattle.ns_roster.specs.Spelled.{SpellsDevice, SpellDevices}
 use Rattle.ns_roster.specs.Closing.{device_value, network_value, devices_with, with_nonces}
 use Rattle.ns_roster.proofs.TextLemmas.{value_of-some, items_list_of_items}
@@ -28,47 +28,28 @@ OnOk-always (Err e) P holds = tt
 
 -- ---- one device
 
-device_at : ℕ → ℕ → ℕ → Option DevNonce → Device
-device_at eui join_eui slot last_nonce = record { eui = record { 0 = eui }; join_eui = record { 0 = join_eui }; slot = slot; last_nonce = last_nonce }
-
--- the text of the EUI is read back
-ReadsBack : ℕ → Type 0
-ReadsBack n = option_map (from_be_bytes w64) (hex_bytes 8 (hex_number 8 n)) ≡ Some n
-
-spells : (e j s : ℕ) (o : Option DevNonce) → ReadsBack e → ReadsBack j → IfSome o (λ n. n.0 ≤ max_nonce) → SpellsDevice 2 (device_value (device_at e j s o)) (device_at e j s o)
-unfolding device_at ReadsBack
-spells e j s None eui join_eui fits = record { eui = eui; join_eui = join_eui; slot = refl; last_nonce = inr refl }
-spells e j s (Some n) eui join_eui fits = record { eui = eui; join_eui = join_eui; slot = refl; last_nonce = (refl, refl, fits) }
-
 -- the value of a device spells it
 pub device_value-spells : (d : Device) → option_map (from_be_bytes w64) (hex_bytes 8 (hex_number 8 d.eui.0)) ≡ Some d.eui.0
     → option_map (from_be_bytes w64) (hex_bytes 8 (hex_number 8 d.join_eui.0)) ≡ Some d.join_eui.0 → IfSome d.last_nonce (λ n. n.0 ≤ max_nonce) → SpellsDevice 2 (device_value d) d
-unfolding device_at ReadsBack
-device_value-spells d eui join_eui fits = spells d.eui.0 d.join_eui.0 d.slot d.last_nonce eui join_eui fits
+device_value-spells d eui join_eui fits = elim d.last_nonce as (λ o. IfSome o (λ n. n.0 ≤ max_nonce) → let x = record d { last_nonce = o } in SpellsDevice 2 (device_value x) x) [
+  | None ↦ λ _. record { eui = eui; join_eui = join_eui; slot = refl; last_nonce = inr refl }
+  | Some n ↦ λ below. record { eui = eui; join_eui = join_eui; slot = refl; last_nonce = (refl, refl, below) }
+] fits
 
 -- it has no float, and nests once
-has_float-device : (e j s : ℕ) (o : Option DevNonce) → has_float (device_value (device_at e j s o)) ≡ false
-unfolding device_at
-has_float-device e j s None = refl
-has_float-device e j s (Some n) = refl
+has_float-device : (d : Device) → has_float (device_value d) ≡ false
+has_float-device d = grind arith
 
-depth-device : (e j s : ℕ) (o : Option DevNonce) → depth (device_value (device_at e j s o)) ≤ 1
-unfolding device_at
-depth-device e j s None = omega arith
-depth-device e j s (Some n) = omega arith
+depth-device : (d : Device) → depth (device_value d) ≤ 1
+depth-device d = grind arith
 
 items_have_float-devices : (ds : List Device) → items_have_float (items_of (map device_value ds)) ≡ false
-unfolding device_at
 items_have_float-devices [] = refl
-items_have_float-devices (d ∷ ds) = rw (has_float-device d.eui.0 d.join_eui.0 d.slot d.last_nonce) (items_have_float-devices ds)
+items_have_float-devices (d ∷ ds) = rw (has_float-device d) (items_have_float-devices ds)
 
 items_depth-devices : (ds : List Device) → items_depth (items_of (map device_value ds)) ≤ 1
-unfolding device_at
 items_depth-devices [] = omega arith
-items_depth-devices (d ∷ ds) =
-    let one : depth (device_value d) ≤ 1 = depth-device d.eui.0 d.join_eui.0 d.slot d.last_nonce in
-    let more : items_depth (items_of (map device_value ds)) ≤ 1 = items_depth-devices ds in
-    omega arith
+items_depth-devices (d ∷ ds) = omega (arith, depth-device d, items_depth-devices ds)
 
 -- ---- a network
 
@@ -76,7 +57,7 @@ pub has_float-network : (net : Network) (ds : List Device) → has_float (networ
 has_float-network net ds = rw (items_have_float-devices ds) refl
 
 pub depth-network : (net : Network) (ds : List Device) → depth (network_value net (items_of (map device_value ds))) ≤ max_depth
-depth-network net ds = let more : items_depth (items_of (map device_value ds)) ≤ 1 = items_depth-devices ds in omega arith
+depth-network net ds = omega (arith, items_depth-devices ds)
 
 -- the text of a valid network is read to it
 pub network-read : (net : Network) (text : List ℕ) → IsRoster net → SpellDevices 2 (map device_value net.devices) net.devices → IsUtf8 text
@@ -111,17 +92,15 @@ length-devices_with (d ∷ ds) (n ∷ ns) same = ap suc (length-devices_with ds 
 
 pub get_or-devices_with : (ds : List Device) (ns : List (Option DevNonce)) (i : ℕ) (x d : Device) (n : Option DevNonce) → i < length ds → i < length ns
     → get_or (devices_with ds ns) i x ≡ record (get_or ds i d) { last_nonce = get_or ns i n }
-get_or-devices_with [] ns i x d n within also = absurd (omega (arith, within))
-get_or-devices_with (e ∷ ds) [] i x d n within also = absurd (omega (arith, also))
 get_or-devices_with (e ∷ ds) (m ∷ ns) zero x d n within also = refl
 get_or-devices_with (e ∷ ds) (m ∷ ns) (suc i) x d n within also = get_or-devices_with ds ns i x d n (omega (arith, within)) (omega (arith, also))
+get_or-devices_with ds ns i x d n within also = absurd (omega (arith, within, also))
 
 pub SpellDevices-push : (version : ℕ) (values : List Data) (xs : List Device) (d : Data) (x : Device) → SpellDevices version values xs → SpellsDevice version d x
     → SpellDevices version (values ++ d ∷ []) (xs ++ x ∷ [])
 SpellDevices-push version [] [] d x spelled one = (one, tt)
-SpellDevices-push version [] (y ∷ xs) d x spelled one = absurd spelled
-SpellDevices-push version (e ∷ ds) [] d x spelled one = absurd spelled
 SpellDevices-push version (e ∷ ds) (y ∷ xs) d x spelled one = (spelled.0, SpellDevices-push version ds xs d x spelled.1 one)
+SpellDevices-push version values xs d x spelled one = absurd spelled
 
 -- a last nonce changes neither DevEUIs nor slots
 AreDevices-with : (ds : List Device) (ns : List (Option DevNonce)) → length ns ≡ length ds → AreDevices ds → AreDevices (devices_with ds ns)
@@ -155,9 +134,8 @@ pub record AreValues (vs : List Value) (ds : List Device) : Type 0 where
 
 AreValues-push : (vs : List Value) (ds : List Device) (v : Value) (d : Device) → AreValues vs ds → view v ≡ device_value d → SpellsDevice 2 (device_value d) d → AreValues (vs ++ v ∷ []) (ds ++ d ∷ [])
 AreValues-push vs ds v d are is spells = record {
-  values = map-append view vs (v ∷ [])
-      ∙ (ap (λ ws. ws ++ view v ∷ []) are.values ∙ (ap (λ a. map device_value ds ++ a ∷ []) is ∙ sym (map-append device_value ds (d ∷ []))));
-  spell = subst (λ (ws : List Data). SpellDevices 2 ws (ds ++ d ∷ [])) (sym (map-append device_value ds (d ∷ []))) (SpellDevices-push 2 (map device_value ds) ds (device_value d) d are.spell spells);
+  values = simp (map-append, are.values, is);
+  spell = rw map-append (SpellDevices-push 2 (map device_value ds) ds (device_value d) d are.spell spells);
 }
 
 -- one device more

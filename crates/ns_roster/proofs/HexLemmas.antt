@@ -1,7 +1,7 @@
 -- The hex of bytes, of an EUI and of a NetID read back.
-use Rattle.std.proofs.Common.{◌≡◌, ℕ, zero, suc, ◌^◌, ◌<◌, ◌≤◌, ◌%◌, List, [], ◌∷◌, ◌&&◌, Bool, true, false, length, Option, Some, None, option_map, refl, sym, ◌∙◌, ap, inl, inr, eqb, arith, slice_index}
+use Rattle.std.proofs.Common.{◌≡◌, ℕ, zero, suc, ◌^◌, ◌<◌, ◌≤◌, ◌%◌, List, [], ◌∷◌, false, length, Some, None, option_map, refl, sym, ◌∙◌, ap, eqb, arith, slice_index}
 use Rattle.std.specs.Int.{w32, w64, byte_at, bytes_high_first, from_be_bytes}
-use Rattle.std.proofs.lemmas.Bool.{cases_Bool, eqb-true}
+use Rattle.std.proofs.lemmas.Bool.{ne_eqb, and_right}
 use Rattle.std.proofs.lemmas.Nat.{from_be_bytes-to_be_bytes_4, from_be_bytes-to_be_bytes_8}
 use Rattle.hex.specs.Hex.{encode_lower, lower_digits, hex_digit_value, encode_with, IsBytes}
 use Rattle.hex.proofs.HexLemmas.{IsDigits-lower_digits, decode_sized-encode_lower}
@@ -10,33 +10,23 @@ use Rattle.ns_roster.specs.Valid.{max_net_id}
 
 -- no digit is an x
 digit_is_no_x : (d : ℕ) → d < 16 → eqb (slice_index lower_digits d) 120 ≡ false
-digit_is_no_x d lt = elim (cases_Bool (eqb (slice_index lower_digits d) 120)) [
-  | inl t ↦ let bad : None ≡ Some d = sym (ap hex_digit_value (eqb-true (slice_index lower_digits d) 120 t)) ∙ IsDigits-lower_digits d lt in cc
-  | inr f ↦ f
-]
-
-and_false : (b c : Bool) → c ≡ false → (b && c) ≡ false
-and_false true c h = h
-and_false false c h = refl
+digit_is_no_x d lt = ne_eqb _ _ (λ e. let bad : None ≡ Some d = sym (ap hex_digit_value e) ∙ IsDigits-lower_digits d lt in cc)
 
 -- no 0x stands before the hex of bytes
 without_0x-encode_lower : (bytes : List ℕ) → without_0x (encode_lower bytes) ≡ encode_lower bytes
 unfolding encode_with
 without_0x-encode_lower [] = refl
-without_0x-encode_lower (b ∷ rest) = let lt : b % 16 < 16 = omega arith in rw (and_false _ _ (digit_is_no_x (b % 16) lt)) refl
+without_0x-encode_lower (b ∷ rest) = let lt : b % 16 < 16 = omega arith in rw (and_right _ _ (digit_is_no_x (b % 16) lt)) refl
 
 -- the hex of bytes is read back
 pub hex_bytes-encode_lower : (bytes : List ℕ) (n : ℕ) → length bytes ≡ n → IsBytes bytes → hex_bytes n (encode_lower bytes) ≡ Some bytes
 hex_bytes-encode_lower bytes n sized are = rw (without_0x-encode_lower bytes, decode_sized-encode_lower bytes n sized are) refl
 
 -- the bytes of a number are bytes, and as many as were asked for
-byte_small : (k n : ℕ) → byte_at k n < 256
-byte_small zero n = omega arith
-byte_small (suc k) n = omega arith
-
 IsBytes-bytes_high_first : (k n : ℕ) → IsBytes (bytes_high_first k n)
 IsBytes-bytes_high_first zero n i = omega arith
-IsBytes-bytes_high_first (suc k) n zero = byte_small k n
+IsBytes-bytes_high_first (suc zero) n zero = omega arith
+IsBytes-bytes_high_first (suc (suc k)) n zero = omega arith
 IsBytes-bytes_high_first (suc k) n (suc i) = IsBytes-bytes_high_first k n i
 
 length-bytes_high_first : (k n : ℕ) → length (bytes_high_first k n) ≡ k

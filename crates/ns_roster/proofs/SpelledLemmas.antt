@@ -1,11 +1,14 @@
 -- A text is accepted exactly where it spells a valid network.
-use Rattle.std.proofs.Common.{◌≡◌, ◌≢◌, ◌⊎◌, ℕ, suc, ◌≤◌, List, [], ◌∷◌, ◌++◌, Bool, true, false, not, ◌&&◌, ◌||◌, Option, Some, None, Ok, Err, option_map, length, refl, sym, ◌∙◌, ap, inl, inr, arith, eqb, is_some, All, AllPairs}
+use Rattle.std.proofs.Common.{◌≡◌, ◌⊎◌, ℕ, suc, ◌≤◌, List, [], ◌∷◌, ◌++◌, Bool, true, false, not, ◌&&◌, Option, Some, None, Ok, Err, option_map, length, refl, sym, ◌∙◌, ap, inl, inr, arith, eqb, is_some, All, AllPairs}
 use Rattle.std.specs.Prelude.{Result, if◌then◌else◌, ◌==◌, nat_le, nat_lt, codes}
 use Rattle.std.specs.Option.{ok_or}
 use Rattle.std.specs.Option.{option_map_or, option_and_then}
-use Rattle.std.proofs.lemmas.Bool.{cases_Bool, eqb-true, eqb-false, eq-eqb, leb-true, le-leb, ltb-false, le-ltb}
+use Rattle.std.proofs.Math.Bool.{and-false}
+use Rattle.std.proofs.lemmas.Bool.{cases_Bool, eqb-true, eqb-false, ne_eqb, leb-true, le-leb, ltb-false, le-ltb, and_parts, and_cases, not-false}
+use Rattle.std.proofs.lemmas.List.Elements.{All-contains, Contains-append_right}
+use Rattle.std.proofs.lemmas.Bool.Decides.{nat_tests}
 use Rattle.std.proofs.lemmas.List.{append_assoc, append-nil}
-use Rattle.serde_json.specs.Data.{Data, null, boolean, number, string, array, object, Items}
+use Rattle.serde_json.specs.Data.{Data, null, Items}
 use Rattle.serde_json.specs.Find.{get, as_null, as_number, as_u64}
 use Rattle.ns_types.specs.declared.identity.DevNonce.{DevNonce}
 use Rattle.ns_types.specs.Results.{◌>>=◌}
@@ -32,20 +35,12 @@ fault-ok : {A : Type 0} (b : Bool) (e : RosterFault) (r : Result A RosterFault) 
 fault-ok true e r y h = cc
 fault-ok false e r y h = (refl, h)
 
-both : (a b : Bool) → (a && b) ≡ true → (a ≡ true) × (b ≡ true)
-both true b h = (refl, h)
-both false b h = cc
-
-Ok-same : {A : Type 0} (x y : A) → ◌≡◌ {A = Result A RosterFault} (Ok x) (Ok y) → x ≡ y
-Ok-same x y h = cc
-
 no_devices : AreDevices []
 no_devices = record { slots = λ k d within. absurd (omega arith); distinct = λ i j d before within. absurd (omega arith) }
 
 -- what holds of each holds of one in the middle
 middle : (P : Device → Type 0) (acc : List Device) (x : Device) (xs : List Device) → All P (acc ++ x ∷ xs) → P x
-middle P [] x xs each = each 0 x (omega arith)
-middle P (y ∷ acc) x xs each = middle P acc x xs (λ k d within. each (suc k) d (omega arith))
+middle P acc x xs each = All-contains P (acc ++ x ∷ xs) x each (Contains-append_right acc (x ∷ xs) x (0, omega arith, refl))
 
 -- where DevEUIs are apart, a device's is not among those before it
 absent_before : (acc : List Device) (x : Device) (xs : List Device) → AllPairs Differ (acc ++ x ∷ xs) → is_some (device_with x.eui.0 acc) ≡ false
@@ -68,39 +63,23 @@ nonce-spelled (Some n) o h =
 there-not_missing : (o : Option Data) (n : ℕ) → option_and_then as_u64 (option_and_then as_number o) ≡ Some n → option_map_or (λ found. is_some (as_null found)) o true ≡ false
 there-not_missing None n h = cc
 there-not_missing (Some null) n h = cc
-there-not_missing (Some (boolean b)) n h = refl
-there-not_missing (Some (number x)) n h = refl
-there-not_missing (Some (string s)) n h = refl
-there-not_missing (Some (array ds)) n h = refl
-there-not_missing (Some (object ms)) n h = refl
+there-not_missing (Some d) n h = refl
 
 -- the last nonce of a device that was accepted is the one that its value spells
 last_nonce-spelled : (version : ℕ) (d : Data) (o : Option DevNonce) → last_nonce_of version d ≡ Ok o → SpellsNonce version d o
-last_nonce-spelled version d o h = step (version == 2) refl (is_missing (codes "last_nonce") d) refl h
-  where
-    none : (version ≢ 2) ⊎ (is_missing (codes "last_nonce") d ≡ true) → None ≡ o → SpellsNonce version d o
-    none why same = rw (← same) why
-
-    step : (b : Bool) → (version == 2) ≡ b → (m : Bool) → is_missing (codes "last_nonce") d ≡ m
-        → (if b && not m then (ok_or (whole_at (codes "last_nonce") d) Field >>= nonce_from) else Ok None) ≡ Ok o → SpellsNonce version d o
-    step true is true missing h = none (inr missing) (cc)
-    step true is false there h =
-        let p = nonce-spelled (whole_at (codes "last_nonce") d) o h in
-        rw p.1 (eqb-true version 2 is, p.2, p.3)
-    step false is m missing h = none (inl (eqb-false version 2 is)) (cc)
+last_nonce-spelled version d o h = elim (cases_Bool ((version == 2) && not (is_missing (codes "last_nonce") d))) [
+  | inl named ↦
+      let p = nonce-spelled (whole_at (codes "last_nonce") d) o (rw named at h) in
+      rw p.1 (eqb-true version 2 (and_parts _ _ named).0, p.2, p.3)
+  | inr unnamed ↦
+      let none : None ≡ o = (let g = rw unnamed at h in cc) in
+      rw (← none) (elim (and_cases _ _ unnamed) [ inl other ↦ inl (eqb-false version 2 other) | inr missing ↦ inr (not-false _ missing) ])
+]
 
 -- a last nonce that a value spells is accepted
 last_nonce-from_spelled : (version : ℕ) (d : Data) (o : Option DevNonce) → SpellsNonce version d o → last_nonce_of version d ≡ Ok o
-last_nonce-from_spelled version d None (inl other) = step (version == 2) refl
-  where
-    step : (b : Bool) → (version == 2) ≡ b → (if b && not (is_missing (codes "last_nonce") d) then (ok_or (whole_at (codes "last_nonce") d) Field >>= nonce_from) else Ok None) ≡ Ok None
-    step true is = absurd (other (eqb-true version 2 is))
-    step false is = refl
-last_nonce-from_spelled version d None (inr missing) = rw missing (step (version == 2))
-  where
-    step : (b : Bool) → (if b && false then (ok_or (whole_at (codes "last_nonce") d) Field >>= nonce_from) else Ok None) ≡ Ok None
-    step true = refl
-    step false = refl
+last_nonce-from_spelled version d None (inl other) = rw (ne_eqb version 2 other) refl
+last_nonce-from_spelled version d None (inr missing) = rw (missing, and-false (version == 2)) refl
 last_nonce-from_spelled version d (Some n) (two, at, fits) =
     let there = there-not_missing (get (codes "last_nonce") d) n.0 at in
     rw (two, there, at, le-leb n.0 max_nonce fits) refl
@@ -111,19 +90,11 @@ last_nonce-from_spelled version d (Some n) (two, at, fits) =
 device_fields : (e j s : Option ℕ) (l : Result (Option DevNonce) RosterFault) (x : Device)
     → (ok_or e Field >>= λ eui. ok_or j Field >>= λ join_eui. ok_or s Field >>= λ slot. l >>= λ last_nonce. device_from eui join_eui slot last_nonce) ≡ Ok x
     → (e ≡ Some x.eui.0) × (j ≡ Some x.join_eui.0) × (s ≡ Some x.slot) × (l ≡ Ok x.last_nonce) × (x.slot ≤ max_slot)
-device_fields None j s l x h = cc
-device_fields (Some e) None s l x h = cc
-device_fields (Some e) (Some j) None l x h = cc
-device_fields (Some e) (Some j) (Some s) (Err fault) x h = cc
 device_fields (Some e) (Some j) (Some s) (Ok nonce) x h =
     let y : Device = record { eui = record { 0 = e }; join_eui = record { 0 = j }; slot = s; last_nonce = nonce } in
-    let t = test-ok (nat_le s max_slot) Slot y x h in (
-      ap (λ (z : Device). Some z.eui.0) t.1,
-      ap (λ (z : Device). Some z.join_eui.0) t.1,
-      ap (λ (z : Device). Some z.slot) t.1,
-      ap (λ (z : Device). Ok z.last_nonce) t.1,
-      rw (← ap (λ (z : Device). z.slot) t.1) (leb-true s max_slot t.0),
-    )
+    let t = test-ok (nat_le s max_slot) Slot y x h in
+    rw (← t.1) (refl, refl, refl, refl, leb-true s max_slot t.0)
+device_fields e j s l x h = cc
 
 -- a device that was accepted is the one that its value spells
 device-spelled : (version : ℕ) (d : Data) (x : Device) → device_of version d ≡ Ok x → SpellsDevice version d x × (x.slot ≤ max_slot)
@@ -141,13 +112,13 @@ device-from_spelled version d x spelled slot =
 -- a device that was added has a DevEUI of its own
 device_added : (acc : List Device) (x : Device) (more : List Device) → with_device acc x ≡ Ok more → (is_some (device_with x.eui.0 acc) ≡ false) × (acc ++ x ∷ [] ≡ more)
 device_added acc x more h =
-    let p = fault-ok (is_some (device_with x.eui.0 acc)) Twice (Ok (acc ++ x ∷ [])) more h in (p.0, Ok-same (acc ++ x ∷ []) more p.1)
+    let p = fault-ok (is_some (device_with x.eui.0 acc)) Twice (Ok (acc ++ x ∷ [])) more h in (p.0, cc)
 
 -- devices that were accepted are those that the values spell, and are valid
 devices-spelled : (version : ℕ) (acc : List Device) (values : List Data) (ds : List Device) → AreDevices acc → devices_from version acc values ≡ Ok ds
     → (xs : List Device) × (acc ++ xs ≡ ds) × SpellDevices version values xs × AreDevices ds
 devices-spelled version acc [] ds valid h =
-    let same = Ok-same acc ds h in
+    let same : acc ≡ ds = cc in
     ([], append-nil acc ∙ same, tt, rw (← same) valid)
 devices-spelled version acc (d ∷ rest) ds valid h =
     let p = bind-ok (with_value version acc d) (λ more. devices_from version more rest) ds h in
@@ -161,55 +132,37 @@ devices-spelled version acc (d ∷ rest) ds valid h =
 -- devices that the values spell, and that are valid, are accepted
 devices-from_spelled : (version : ℕ) (acc : List Device) (values : List Data) (xs : List Device) → SpellDevices version values xs → AreDevices (acc ++ xs) → devices_from version acc values ≡ Ok (acc ++ xs)
 devices-from_spelled version acc [] [] spelled valid = ap Ok (sym (append-nil acc))
-devices-from_spelled version acc [] (x ∷ xs) spelled valid = absurd spelled
-devices-from_spelled version acc (d ∷ rest) [] spelled valid = absurd spelled
 devices-from_spelled version acc (d ∷ rest) (x ∷ xs) spelled valid =
     let whole : acc ++ x ∷ [] ++ xs ≡ acc ++ x ∷ xs = append_assoc acc (x ∷ []) xs in
     let one = device-from_spelled version d x spelled.0 (middle (λ z. z.slot ≤ max_slot) acc x xs valid.slots) in
     let none = absent_before acc x xs valid.distinct in
     rw (one, none) (devices-from_spelled version (acc ++ x ∷ []) rest xs spelled.1 (rw whole valid) ∙ ap Ok whole)
+devices-from_spelled version acc values xs spelled valid = absurd spelled
 
 -- there is one device for each value
 length-spelled : (version : ℕ) (values : List Data) (xs : List Device) → SpellDevices version values xs → length xs ≡ length values
 length-spelled version [] [] spelled = refl
-length-spelled version [] (x ∷ xs) spelled = absurd spelled
-length-spelled version (d ∷ ds) [] spelled = absurd spelled
 length-spelled version (d ∷ ds) (x ∷ xs) spelled = ap suc (length-spelled version ds xs spelled.1)
+length-spelled version values xs spelled = absurd spelled
 
 -- the versions that are read
 one_or_two : (v : ℕ) → is_version v ≡ true → (v ≡ 1) ⊎ (v ≡ 2)
-one_or_two v h = elim (cases_Bool (v == 1)) [
-  | inl one ↦ inl (eqb-true v 1 one)
-  | inr other ↦ inr (eqb-true v 2 (rw other at h))
-]
+one_or_two v h = grind (arith, nat_tests)
 
 is_version-true : (v : ℕ) → (v ≡ 1) ⊎ (v ≡ 2) → is_version v ≡ true
-is_version-true v (inl one) = rw one refl
-is_version-true v (inr two) = rw two refl
+is_version-true v h = grind (arith, nat_tests)
 
 -- outer fields that were accepted have the fields' values, in their ranges
 outer_fields : (v n o r : Option ℕ) (l : Option Items) (x : Outer)
     → (ok_or v Field >>= λ version. ok_or n Field >>= λ net_id. ok_or o Field >>= λ rx1_offset. ok_or r Field >>= λ rx_delay. ok_or l Field >>= λ devices. outer_from version net_id rx1_offset rx_delay devices) ≡ Ok x
     → (v ≡ Some x.version) × ((x.version ≡ 1) ⊎ (x.version ≡ 2)) × (n ≡ Some x.net_id.0) × (o ≡ Some x.rx1_offset) × (r ≡ Some x.rx_delay) × (option_map items_list l ≡ Some x.devices) × (x.rx1_offset ≤ max_rx1_offset) × (x.rx_delay ≤ max_rx_delay)
-outer_fields None n o r l x h = cc
-outer_fields (Some v) None o r l x h = cc
-outer_fields (Some v) (Some n) None r l x h = cc
-outer_fields (Some v) (Some n) (Some o) None l x h = cc
-outer_fields (Some v) (Some n) (Some o) (Some r) None x h = cc
 outer_fields (Some v) (Some n) (Some o) (Some r) (Some l) x h =
     let y : Outer = record { version = v; net_id = record { 0 = n }; rx1_offset = o; rx_delay = r; devices = items_list l } in
     let t = test-ok (is_version v && nat_le o max_rx1_offset && nat_le r max_rx_delay) Field y x h in
-    let p = both (is_version v && nat_le o max_rx1_offset) (nat_le r max_rx_delay) t.0 in
-    let q = both (is_version v) (nat_le o max_rx1_offset) p.0 in (
-      ap (λ (z : Outer). Some z.version) t.1,
-      rw (← ap (λ (z : Outer). z.version) t.1) (one_or_two v q.0),
-      ap (λ (z : Outer). Some z.net_id.0) t.1,
-      ap (λ (z : Outer). Some z.rx1_offset) t.1,
-      ap (λ (z : Outer). Some z.rx_delay) t.1,
-      ap (λ (z : Outer). Some z.devices) t.1,
-      rw (← ap (λ (z : Outer). z.rx1_offset) t.1) (leb-true o max_rx1_offset q.1),
-      rw (← ap (λ (z : Outer). z.rx_delay) t.1) (leb-true r max_rx_delay p.1),
-    )
+    let p = and_parts (is_version v && nat_le o max_rx1_offset) (nat_le r max_rx_delay) t.0 in
+    let q = and_parts (is_version v) (nat_le o max_rx1_offset) p.0 in
+    rw (← t.1) (refl, one_or_two v q.0, refl, refl, refl, refl, leb-true o max_rx1_offset q.1, leb-true r max_rx_delay p.1)
+outer_fields v n o r l x h = cc
 
 -- a network that was accepted is the one of its outer fields and of its devices
 network-spelled : (outer : Outer) (net : Network) → network_from outer ≡ Ok net
@@ -218,10 +171,9 @@ network-spelled outer net h =
     let p = fault-ok (nat_lt max_net_id outer.net_id.0) fault.NetId (if nat_lt max_devices (length outer.devices) then Err TooMany else (devices_from outer.version [] outer.devices >>= λ devices. Ok (network_of outer devices))) net h in
     let q = fault-ok (nat_lt max_devices (length outer.devices)) TooMany (devices_from outer.version [] outer.devices >>= λ devices. Ok (network_of outer devices)) net p.1 in
     let r = bind-ok (devices_from outer.version [] outer.devices) (λ devices. Ok (network_of outer devices)) net q.1 in
-    let e : network_of outer r.0 ≡ net = Ok-same (network_of outer r.0) net r.2 in
+    let e : network_of outer r.0 ≡ net = (let h = r.2 in cc) in
     let s = devices-spelled outer.version [] outer.devices r.0 no_devices r.1 in
-    let same : r.0 ≡ net.devices = ap (λ (z : Network). z.devices) e in
-    (ltb-false max_net_id outer.net_id.0 p.0, ltb-false max_devices (length outer.devices) q.0, ap (λ ds. network_of outer ds) (sym same) ∙ e, rw (← same, ← s.1) s.2, rw (← same) s.3)
+    rw (← e) (ltb-false max_net_id outer.net_id.0 p.0, ltb-false max_devices (length outer.devices) q.0, refl, rw (← s.1) s.2, s.3)
 
 -- the list behind its values
 found_list : (l : Option Items) (values : List Data) → option_map items_list l ≡ Some values → (items : Items) × (l ≡ Some items) × (items_list items ≡ values)
@@ -258,10 +210,7 @@ spelled-from_accepted bytes net h =
     let q = bind-ok (outer_of d) network_from net p.2 in
     let f = outer_fields (whole_at (codes "version") d) (net_id_at (codes "net_id") d) (whole_at (codes "rx1_offset") d) (whole_at (codes "rx_delay") d) (list_at (codes "devices") d) q.0 q.1 in
     let n = network-spelled q.0 net q.2 in
-    let e : network_of q.0 net.devices ≡ net = n.2 in
-    let net_id = ap (λ (z : Network). z.net_id.0) e in
-    let rx1_offset = ap (λ (z : Network). z.rx1_offset) e in
-    let rx_delay = ap (λ (z : Network). z.rx_delay) e in (
+    rw (← n.2) (
       (
         d,
         ok_or-ok (value_of bytes) NotJson d p.1,
@@ -269,18 +218,18 @@ spelled-from_accepted bytes net h =
           version = q.0.version;
           one_or_two = f.1;
           version_at = f.0;
-          net_id = f.2 ∙ ap Some net_id;
-          rx1_offset = f.3 ∙ ap Some rx1_offset;
-          rx_delay = f.4 ∙ ap Some rx_delay;
+          net_id = f.2;
+          rx1_offset = f.3;
+          rx_delay = f.4;
           values = q.0.devices;
           list = f.5;
           devices = n.3;
         },
       ),
       record {
-        net_id = rw (← net_id) n.0;
-        rx1_offset = rw (← rx1_offset) f.6;
-        rx_delay = rw (← rx_delay) f.7;
+        net_id = n.0;
+        rx1_offset = f.6;
+        rx_delay = f.7;
         count = rw (length-spelled q.0.version q.0.devices net.devices n.3) n.1;
         devices = n.4;
       },

@@ -1,5 +1,5 @@
 -- Lemmas on the definitions of a roster's text.
-use Rattle.std.proofs.Common.{◌≡◌, ℕ, ◌+◌, ◌<◌, List, [], ◌∷◌, ◌++◌, Bool, true, false, cond, Option, Some, None, length, get_or, drop, map, refl, sym, ◌∙◌, ap, inl, inr, is_some, eqb}
+use Rattle.std.proofs.Common.{arith, ◌≡◌, ℕ, ◌+◌, ◌<◌, List, [], ◌∷◌, ◌++◌, Bool, true, false, cond, Option, Some, None, length, get_or, drop, map, refl, sym, ◌∙◌, ap, inl, inr, is_some, eqb}
 use Rattle.std.specs.Str.{is_utf8, IsUtf8}
 use Rattle.std.proofs.lemmas.Str.{IsUtf8-from_is_utf8, is_utf8-from_IsUtf8}
 use Rattle.std.proofs.lemmas.Bool.{cases_Bool, eqb-true}
@@ -23,10 +23,7 @@ pub value_of-none : (bytes : List ℕ) → (IsUtf8 bytes → read bytes ≡ None
 value_of-none bytes none = elim (cases_Bool (is_utf8 bytes)) [ inl t ↦ rw (t, none (IsUtf8-from_is_utf8 bytes t)) refl | inr f ↦ rw f refl ]
 
 at_key : (b : Bool) (x : Device) (o : Option Device) → (b ≡ true → is_some o ≡ false) → cond b (Some x) o ≡ option_or o (cond b (Some x) None)
-at_key true x None h = refl
-at_key true x (Some y) h = let bad : is_some (Some y) ≡ false = h refl in cc
-at_key false x None h = refl
-at_key false x (Some y) h = refl
+at_key b x o h = grind arith
 
 -- a device at the end of the list, and at its DevEUI in the map
 pub device_with-push : (devices : List Device) (x : Device) (old new : ℕ → Option Device)
@@ -46,9 +43,7 @@ pub devices_from-next : {X : Type 0} (version : ℕ) (f : X → Data) (devices :
 devices_from-next version f devices vs i v r within item step =
     let here : get_or (map f vs) i (f v) ≡ f v = get_or-map f vs i v (f v) within ∙ ap f (sym item) in
     let inside : i < length (map f vs) = rw (length-map vs f) within in
-    at_drop_more (devices_from version devices) (map f vs) i (f v) inside
-    ∙ ap (λ d. with_value version devices d >>= λ more. devices_from version more (drop (i + 1) (map f vs))) here
-    ∙ ap (λ s. s >>= λ more. devices_from version more (drop (i + 1) (map f vs))) step
+    rw (at_drop_more (devices_from version devices) (map f vs) i (f v) inside, here, step) refl
 
 -- a list's values, of a list of values
 pub items_list_of_items : (ds : List Data) → items_list (items_of ds) ≡ ds

@@ -1,5 +1,5 @@
 -- One device more.
-use Rattle.std.proofs.Common.{◌≡◌, ◌≢◌, ℕ, suc, zero, ◌<◌, ◌≤◌, List, [], ◌∷◌, ◌++◌, Bool, true, false, cond, Option, Some, length, get_or, refl, arith, eqb, is_some}
+use Rattle.std.proofs.Common.{◌≡◌, ◌≢◌, ℕ, suc, zero, ◌<◌, ◌≤◌, List, [], ◌∷◌, ◌++◌, Bool, false, cond, Option, Some, length, get_or, arith, eqb, is_some}
 use Rattle.std.proofs.lemmas.Bool.{eqb-false}
 use Rattle.std.proofs.lemmas.List.Elements.{All-push}
 use Rattle.std.proofs.lemmas.List.Quantifiers.{all_pairs_push}
@@ -8,8 +8,7 @@ use Rattle.ns_roster.specs.Text.{device_with}
 use Rattle.ns_roster.specs.Valid.{max_slot, Differ, AreDevices}
 
 not_first : (b : Bool) (x : Device) (o : Option Device) → is_some (cond b (Some x) o) ≡ false → (b ≡ false) × (is_some o ≡ false)
-not_first true x o h = cc
-not_first false x o h = (refl, h)
+not_first b x o h = grind arith
 
 -- a DevEUI at which no device is found is none of theirs
 absent_differs : (eui : ℕ) (ds : List Device) → is_some (device_with eui ds) ≡ false → (k : ℕ) (d : Device) → k < length ds → (get_or ds k d).eui.0 ≢ eui

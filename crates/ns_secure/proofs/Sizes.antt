@@ -1,5 +1,7 @@
 -- How long blocks, MICs and keys are.
-use Rattle.std.proofs.Common.{◌≡◌, ℕ, zero, suc, ◌+◌, ◌-◌, ◌*◌, ◌/◌, ◌<◌, ◌≤◌, List, [], ◌∷◌, ◌++◌, length, take, drop, map, reverse, replicate, Bool, true, false, eqb-true, if◌then◌else◌, ◌==◌, refl, ap, ◌∙◌, arith, length-append, length-drop, length-take}
+use Rattle.std.proofs.Common.{◌≡◌, ℕ, zero, suc, ◌+◌, ◌-◌, ◌*◌, ◌/◌, ◌<◌, ◌≤◌, List, [], ◌∷◌, ◌++◌, length, take, drop, map, reverse, replicate, eqb-true, if◌then◌else◌, ◌==◌, refl, ap, ◌∙◌, arith, length-append, length-drop, length-take}
+use Rattle.std.proofs.lemmas.Bool.{cond_both}
+use Rattle.ns_types.proofs.ByteLemmas.{length-part}
 use Rattle.std.proofs.lemmas.List.{length-map, length-replicate, length-reverse, reverse-append}
 use Rattle.ns_aes_cmac.specs.Aes.{aes, unaes, xor_bytes, first_key, inverse_rounds, inverse_sub_bytes, inverse_shift_rows, rounds, round_keys, round_keys_by, round_constants, next_round_key, rot_sub_word, shift_rows, sub_bytes, mix_columns, mix_columns_by, s_box}
 use Rattle.ns_aes_cmac.specs.Cmac.{cmac, chained, last_block, block, block_count, subkey_1, subkey_2, doubled, shifted_left, top_bit}
@@ -9,16 +11,13 @@ use Rattle.ns_secure.specs.declared.Dir.{Dir}
 use Rattle.ns_secure.specs.Integrity.{block_b0, mic, join_mic}
 use Rattle.ns_secure.specs.Cipher.{block_a, key_stream, cipher}
 use Rattle.ns_secure.specs.Keys.{session_key}
-use Rattle.ns_secure.proofs.Stream.{length-xor, nil_xor}
+use Rattle.ns_secure.proofs.Stream.{length-xor}
 use Rattle.ns_secure.proofs.KeyStream.{key_stream_none, key_stream_more}
 
 -- ---- AES-128
 
 sum_len : (n : ℕ) (xs ys : List ℕ) → length xs ≡ n → length ys ≡ n → length (xor_bytes xs ys) ≡ n
 sum_len n xs ys e f = omega (arith, length-xor xs ys)
-
-word_len : (n : ℕ) (k : List ℕ) → n + 4 ≤ length k → length (take 4 (drop n k)) ≡ 4
-word_len n k h = omega (arith, length-take 4 (drop n k), length-drop n k)
 
 turned_len : (rcon : ℕ) (w : List ℕ) → length w ≡ 4 → length (rot_sub_word rcon w) ≡ 4
 turned_len rcon w e =
@@ -37,8 +36,8 @@ next_len rcon k e =
     let w3 = xor_bytes (drop 12 k) w2 in
     let last : length (drop 12 k) ≡ 4 = omega (arith, length-drop 12 k) in
     let e0 : length w0 ≡ 4 = sum_len 4 (take 4 k) (rot_sub_word rcon (drop 12 k)) (omega (arith, length-take 4 k)) (turned_len rcon (drop 12 k) last) in
-    let e1 : length w1 ≡ 4 = sum_len 4 (take 4 (drop 4 k)) w0 (word_len 4 k (omega arith)) e0 in
-    let e2 : length w2 ≡ 4 = sum_len 4 (take 4 (drop 8 k)) w1 (word_len 8 k (omega arith)) e1 in
+    let e1 : length w1 ≡ 4 = sum_len 4 (take 4 (drop 4 k)) w0 (length-part k 4 4 (omega arith)) e0 in
+    let e2 : length w2 ≡ 4 = sum_len 4 (take 4 (drop 8 k)) w1 (length-part k 8 4 (omega arith)) e1 in
     let e3 : length w3 ≡ 4 = sum_len 4 (drop 12 k) w2 last e2 in
     four_words w0 w1 w2 w3 e0 e1 e2 e3
 
@@ -71,12 +70,8 @@ length-aes key b e f = rounds_len (round_keys key) (xor_bytes key b) (round_keys
 mixed_by_len : (a b c d n : ℕ) (s : List ℕ) → length s ≡ 4 * n → length (mix_columns_by a b c d s) ≡ 4 * n
 unfolding mix_columns_by
 mixed_by_len a b c d zero [] e = refl
-mixed_by_len a b c d zero (w ∷ s) e = absurd (omega (arith, e))
-mixed_by_len a b c d (suc n) [] e = absurd (omega (arith, e))
-mixed_by_len a b c d (suc n) (w ∷ []) e = absurd (omega (arith, e))
-mixed_by_len a b c d (suc n) (w ∷ x ∷ []) e = absurd (omega (arith, e))
-mixed_by_len a b c d (suc n) (w ∷ x ∷ y ∷ []) e = absurd (omega (arith, e))
 mixed_by_len a b c d (suc n) (w ∷ x ∷ y ∷ z ∷ s) e = omega (arith, mixed_by_len a b c d n s (omega arith))
+mixed_by_len a b c d n s e = absurd (omega (arith, e))
 
 inverse_rounds_len : (ks : List (List ℕ)) (s : List ℕ) → AreBlocks ks → length s ≡ 16 → length (inverse_rounds ks s) ≡ 16
 unfolding inverse_rounds
@@ -118,20 +113,14 @@ unfolding last_block
 last_len key b e h =
     let k1 : length (subkey_1 key) ≡ 16 = doubled_len (aes key (replicate 16 0)) (length-aes key (replicate 16 0) e refl) in
     let k2 : length (subkey_2 key) ≡ 16 = doubled_len (subkey_1 key) k1 in
-    let P : Bool → Type 0 = λ v. (length b == 16) ≡ v → length (if v then xor_bytes b (subkey_1 key) else xor_bytes (b ++ 0x80 ∷ replicate (15 - length b) 0) (subkey_2 key)) ≡ 16 in
-    let cases : (v : Bool) → P v = λ v. elim v as P [
-      | true ↦ λ t. sum_len 16 b (subkey_1 key) (eqb-true (length b) 16 t) k1
-      | false ↦ λ t. omega (arith, length-xor (b ++ 0x80 ∷ replicate (15 - length b) 0) (subkey_2 key), length-append b (0x80 ∷ replicate (15 - length b) 0), length-replicate {A = ℕ} (15 - length b) 0)
-    ] in
-    cases (length b == 16) refl
-
-block_len : (m : List ℕ) (i : ℕ) → 16 * i + 16 ≤ length m → length (block m i) ≡ 16
-block_len m i h = omega (arith, length-take 16 (drop (16 * i) m), length-drop (16 * i) m)
+    cond_both (length b == 16) (xor_bytes b (subkey_1 key)) (xor_bytes (b ++ 0x80 ∷ replicate (15 - length b) 0) (subkey_2 key)) (λ l. length l ≡ 16)
+    (λ t. sum_len 16 b (subkey_1 key) (eqb-true (length b) 16 t) k1)
+    (λ t. omega (arith, length-xor (b ++ 0x80 ∷ replicate (15 - length b) 0) (subkey_2 key), length-append b (0x80 ∷ replicate (15 - length b) 0), length-replicate {A = ℕ} (15 - length b) 0))
 
 chained_len : (key m : List ℕ) (n : ℕ) → length key ≡ 16 → 16 * n ≤ length m → length (chained key m n) ≡ 16
 unfolding chained
 chained_len key m zero e h = refl
-chained_len key m (suc n) e h = length-aes key (xor_bytes (chained key m n) (block m n)) e (sum_len 16 (chained key m n) (block m n) (chained_len key m n e (omega arith)) (block_len m n (omega arith)))
+chained_len key m (suc n) e h = length-aes key (xor_bytes (chained key m n) (block m n)) e (sum_len 16 (chained key m n) (block m n) (chained_len key m n e (omega arith)) (length-part m (16 * n) 16 (omega arith)))
 
 pub length-cmac : (key m : List ℕ) → length key ≡ 16 → length (cmac key m) ≡ 16
 unfolding cmac
@@ -160,7 +149,7 @@ xor_twice x y = xor_assoc x y y ∙ ap (bit_xor x) (xor_self y) ∙ xor_zero_r x
 
 sum_twice : (payload stream : List ℕ) → length payload ≤ length stream → xor_bytes (xor_bytes payload stream) stream ≡ payload
 unfolding xor_bytes
-sum_twice [] stream h = ap (λ (l : List ℕ). xor_bytes l stream) (nil_xor stream) ∙ nil_xor stream
+sum_twice [] stream h = refl
 sum_twice (x ∷ payload) [] h = absurd (omega (arith, h))
 sum_twice (x ∷ payload) (y ∷ stream) h = ap (λ (b : ℕ). b ∷ xor_bytes (xor_bytes payload stream) stream) (xor_twice x y) ∙ ap (λ (l : List ℕ). x ∷ l) (sum_twice payload stream (omega arith))
 

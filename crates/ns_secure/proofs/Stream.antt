@@ -10,10 +10,9 @@ summed i bytes stream = xor_bytes (take i bytes) stream ++ drop i bytes
 
 summed-suc : (i : ℕ) (bytes stream : List ℕ) → i < length bytes → i < length stream → set (summed i bytes stream) i (bit_xor (get_or (summed i bytes stream) i 0) (get_or stream i 0)) ≡ summed (suc i) bytes stream
 unfolding xor_bytes
-summed-suc i [] stream h k = absurd (omega (arith, h))
-summed-suc i (x ∷ bytes) [] h k = absurd (omega (arith, k))
 summed-suc zero (x ∷ bytes) (y ∷ stream) h k = refl
 summed-suc (suc i) (x ∷ bytes) (y ∷ stream) h k = ap (λ (l : List ℕ). bit_xor x y ∷ l) (summed-suc i bytes stream (omega arith) (omega arith))
+summed-suc i bytes stream h k = absurd (omega (arith, h, k))
 
 pub summed_more : (i : ℕ) (bytes stream : List ℕ) → i < length bytes → i < length stream → set (summed i bytes stream) i (bit_xor (get_or (summed i bytes stream) i 0) (get_or stream i 0)) ≡ summed (i + 1) bytes stream
 summed_more i bytes stream h k = rw add-one (summed-suc i bytes stream h k)
@@ -21,45 +20,32 @@ summed_more i bytes stream h k = rw add-one (summed-suc i bytes stream h k)
 -- a list is summed as far as the stream goes
 pub xor_take : (n : ℕ) (bytes stream : List ℕ) → min (length bytes) (length stream) ≤ n → xor_bytes (take n bytes) stream ≡ xor_bytes bytes stream
 unfolding xor_bytes
-xor_take zero [] stream h = refl
-xor_take (suc n) [] stream h = refl
-xor_take zero (x ∷ bytes) [] h = refl
-xor_take (suc n) (x ∷ bytes) [] h = refl
 xor_take zero (x ∷ bytes) (y ∷ stream) h = absurd (omega (arith, h))
 xor_take (suc n) (x ∷ bytes) (y ∷ stream) h = ap (λ (l : List ℕ). bit_xor x y ∷ l) (xor_take n bytes stream (omega (arith, h)))
+xor_take zero bytes stream h = refl
+xor_take (suc n) bytes stream h = refl
 
 pub length-xor : (bytes stream : List ℕ) → length (xor_bytes bytes stream) ≡ min (length bytes) (length stream)
 unfolding xor_bytes
-length-xor [] stream = omega arith
-length-xor (x ∷ bytes) [] = omega arith
 length-xor (x ∷ bytes) (y ∷ stream) = omega (arith, length-xor bytes stream)
+length-xor bytes stream = omega arith
 
 -- a stream that goes on
 pub xor-append : (bytes front back : List ℕ) → xor_bytes bytes (front ++ back) ≡ xor_bytes bytes front ++ xor_bytes (drop (length front) bytes) back
 unfolding xor_bytes
+xor-append (x ∷ bytes) (y ∷ front) back = ap (λ (l : List ℕ). bit_xor x y ∷ l) (xor-append bytes front back)
 xor-append [] [] back = refl
 xor-append [] (y ∷ front) back = refl
 xor-append (x ∷ bytes) [] back = refl
-xor-append (x ∷ bytes) (y ∷ front) back = ap (λ (l : List ℕ). bit_xor x y ∷ l) (xor-append bytes front back)
 
 pub xor_nil : (bytes : List ℕ) → xor_bytes bytes [] ≡ []
 unfolding xor_bytes
 xor_nil [] = refl
 xor_nil (x ∷ bytes) = refl
 
-pub nil_xor : (stream : List ℕ) → xor_bytes [] stream ≡ []
-unfolding xor_bytes
-nil_xor [] = refl
-nil_xor (y ∷ stream) = refl
-
--- what a stream has past the bytes is not used
-pub xor_enough : (bytes front back : List ℕ) → length bytes ≤ length front → xor_bytes bytes (front ++ back) ≡ xor_bytes bytes front
-xor_enough bytes front back h =
-    let none : drop (length front) bytes ≡ [] = drop_all (length front) bytes h in
-    xor-append bytes front back ∙ ap (λ (l : List ℕ). xor_bytes bytes front ++ xor_bytes l back) none ∙ ap (λ (l : List ℕ). xor_bytes bytes front ++ l) (nil_xor back) ∙ append-nil (xor_bytes bytes front)
-
 pub summed_none : (bytes stream : List ℕ) → bytes ≡ summed 0 bytes stream
-summed_none bytes stream = sym (ap (λ (l : List ℕ). l ++ bytes) (nil_xor stream))
+unfolding xor_bytes
+summed_none bytes stream = refl
 
 pub summed_all : (i : ℕ) (bytes stream : List ℕ) → length stream ≡ 16 → i ≡ min 16 (length bytes) → summed i bytes stream ≡ xor_bytes bytes stream ++ drop 16 bytes
 summed_all i bytes stream long at =
@@ -76,13 +62,6 @@ enciphered payload stream = xor_bytes payload stream ++ drop (length stream) pay
 pub enciphered_none : (payload stream : List ℕ) → stream ≡ [] → payload ≡ enciphered payload stream
 enciphered_none payload stream none = sym (rw (none, xor_nil) refl)
 
--- the front is as long as the stream, and what stands behind it is still the payload
-front_is : (payload stream : List ℕ) → length stream ≤ length payload → take (length stream) (enciphered payload stream) ≡ xor_bytes payload stream
-front_is payload stream h = take_at (xor_bytes payload stream) (drop (length stream) payload) (length stream) (omega (arith, length-xor payload stream))
-
-back_is : (payload stream : List ℕ) → length stream ≤ length payload → drop (length stream) (enciphered payload stream) ≡ drop (length stream) payload
-back_is payload stream h = drop_at (xor_bytes payload stream) (drop (length stream) payload) (length stream) (omega (arith, length-xor payload stream))
-
 enciphered_more : (payload stream block : List ℕ) → length block ≡ 16 → xor_bytes payload stream ++ (xor_bytes (drop (length stream) payload) block ++ drop 16 (drop (length stream) payload)) ≡ enciphered payload (stream ++ block)
 enciphered_more payload stream block long =
     let behind : drop 16 (drop (length stream) payload) ≡ drop (length (stream ++ block)) payload =
@@ -92,8 +71,9 @@ enciphered_more payload stream block long =
 -- one more block of the stream, added to what stands behind the front
 pub block_more : (payload stream block so_far old new : List ℕ) (at k : ℕ) → length stream ≡ at → at ≤ length payload → length block ≡ 16 → so_far ≡ enciphered payload stream → length so_far ≤ at + k → old ≡ drop at so_far → new ≡ xor_bytes old block ++ drop 16 old → put_mid at k so_far new ≡ enciphered payload (stream ++ block)
 block_more payload stream block so_far old new at k stream_len within block_len is all old_is new_is =
-    let front : take at so_far ≡ xor_bytes payload stream = rw (is, ← stream_len) (front_is payload stream (omega arith)) in
-    let back : drop at so_far ≡ drop (length stream) payload = rw (is, ← stream_len) (back_is payload stream (omega arith)) in
+    let front_len : length (xor_bytes payload stream) ≡ at = omega (arith, length-xor payload stream) in
+    let front : take at so_far ≡ xor_bytes payload stream = rw is (take_at (xor_bytes payload stream) (drop (length stream) payload) at front_len) in
+    let back : drop at so_far ≡ drop (length stream) payload = rw is (drop_at (xor_bytes payload stream) (drop (length stream) payload) at front_len) in
     let none : drop k (drop at so_far) ≡ [] = drop_all k (drop at so_far) (omega (arith, length-drop at so_far)) in
     let written : put_mid at k so_far new ≡ xor_bytes payload stream ++ new = ap (λ (l : List ℕ). l ++ (new ++ drop k (drop at so_far))) front ∙ ap (λ (l : List ℕ). xor_bytes payload stream ++ (new ++ l)) none ∙ ap (λ (l : List ℕ). xor_bytes payload stream ++ l) (append-nil new) in
     let summed_is : new ≡ xor_bytes (drop (length stream) payload) block ++ drop 16 (drop (length stream) payload) = new_is ∙ ap (λ (l : List ℕ). xor_bytes l block ++ drop 16 l) (old_is ∙ back) in

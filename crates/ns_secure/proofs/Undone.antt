@@ -1,6 +1,8 @@
 -- A change of each block, undone block by block.
-use Rattle.std.proofs.Common.{◌≡◌, ℕ, zero, suc, ◌+◌, ◌*◌, ◌/◌, ◌%◌, ◌<◌, ◌≤◌, List, ◌++◌, length, take, drop, flat_map, refl, sym, ap, ◌∙◌, arith, add-zero, length-append, length-take, length-drop}
-use Rattle.std.proofs.lemmas.List.{take_at, take_all, take-take, take-append-drop, drop_at, drop-drop, drop-take, get_or-take, get_or-drop}
+use Rattle.std.proofs.Common.{◌≡◌, ℕ, zero, suc, ◌+◌, ◌*◌, ◌/◌, ◌%◌, ◌<◌, ◌≤◌, List, ◌++◌, length, take, drop, flat_map, refl, sym, ap, ◌∙◌, arith, add-zero, length-append}
+use Rattle.std.proofs.Math.Seq.{take-add}
+use Rattle.ns_types.proofs.ByteLemmas.{length-part}
+use Rattle.std.proofs.lemmas.List.{take_at, take_all, drop_at, drop-drop, get_or-take, get_or-drop}
 use Rattle.ns_aes_cmac.specs.Aes.{IsBlock}
 use Rattle.ns_aes_cmac.specs.Cmac.{block}
 use Rattle.ns_secure.specs.Cipher.{numbers, each_block}
@@ -33,10 +35,6 @@ joined_agree f h first zero each = refl
 joined_agree f h first (suc count) each =
     ap (λ (l : List ℕ). l ++ flat_map f (numbers (first + 1) count)) (each first (omega arith) (omega arith)) ∙ ap (λ (l : List ℕ). h first ++ l) (joined_agree f h (first + 1) count (λ i low high. each i (omega arith) (omega arith)))
 
-take_two : (n m : ℕ) (bytes : List ℕ) → take n bytes ++ take m (drop n bytes) ≡ take (n + m) bytes
-take_two n m bytes =
-    ap (λ (l : List ℕ). l ++ take m (drop n bytes)) (sym (take-take n (n + m) bytes (omega arith))) ∙ ap (λ (l : List ℕ). take n (take (n + m) bytes) ++ l) (sym (drop-take n m bytes)) ∙ take-append-drop n (take (n + m) bytes)
-
 blocks_joined : (bytes : List ℕ) (first count : ℕ) → flat_map (block bytes) (numbers first count) ≡ take (16 * count) (drop (16 * first) bytes)
 unfolding numbers
 blocks_joined bytes first zero = refl
@@ -44,12 +42,12 @@ blocks_joined bytes first (suc count) =
     let at : 16 * (first + 1) ≡ 16 * first + 16 = omega arith in
     let all : 16 + 16 * count ≡ 16 * suc count = omega arith in
     let back = drop (16 * first) bytes in
-    ap (λ (l : List ℕ). take 16 back ++ l) (blocks_joined bytes (first + 1) count ∙ ap (λ (n : ℕ). take (16 * count) (drop n bytes)) at ∙ ap (take (16 * count)) (sym (drop-drop 16 (16 * first) bytes))) ∙ take_two 16 (16 * count) back ∙ ap (λ (n : ℕ). take n back) all
+    ap (λ (l : List ℕ). take 16 back ++ l) (blocks_joined bytes (first + 1) count ∙ ap (λ (n : ℕ). take (16 * count) (drop n bytes)) at ∙ ap (take (16 * count)) (sym (drop-drop 16 (16 * first) bytes))) ∙ sym (take-add 16 (16 * count) back) ∙ ap (λ (n : ℕ). take n back) all
 
 -- a block of bytes is a block
 pub block_is : (bytes : List ℕ) → AreBlocks bytes → (i : ℕ) → i < length bytes / 16 → IsBlock (block bytes i)
 block_is bytes h i within =
-    let size : length (block bytes i) ≡ 16 = omega (arith, length-take 16 (drop (16 * i) bytes), length-drop (16 * i) bytes) in
+    let size : length (block bytes i) ≡ 16 = length-part bytes (16 * i) 16 (omega arith) in
     (size, λ k d inside. rw (get_or-take 16 (drop (16 * i) bytes) k d (omega arith), get_or-drop (16 * i) bytes k d) (h.0 (16 * i + k) d (omega arith)))
 
 -- where undo gives each block back that change changed, it gives back the bytes

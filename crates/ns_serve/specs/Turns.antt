@@ -37,13 +37,13 @@ pub record HasClosed (net : Network) (jobs : List CloseJob) (old new : List ℕ)
   pub answered : AreAnswered net receipts
   pub counted : RisesByReceipts old new receipts
 
--- what a gateway worker did from its start to its end: each datagram that it was given had its turn
+-- what a gateway worker did from its start to its end: what comes of the turns of some datagrams (nothing is said of those it was given)
 pub record IsServed (net : Network) (output : Output) (window_ms : ℕ) (pass : List ℕ) (fault : Option ServeFault) : Type 0 where
   pub served : Served
   pub serves : ServesAll net output Anything Anything window_ms None None (effects none_made None None None) (effects pass None None None) served
   pub ended : fault ≡ option_map serve_fault served.fault
 
--- what a join worker did from its start to its end: each ticket that it was given was answered
+-- what a join worker did from its start to its end: what comes of answers to some tickets (nothing is said of those it was given)
 pub record IsAnswered (net : Network) (HasOutcome : Ticket → Outcome → Type 0) (pass : List ℕ) (fault : Option ServeFault) : Type 0 where
   pub joined : Joined
   pub answers : Answers net Anything (IsOutcome Anything Anything HasOutcome) None None (effects none_made None None None) (effects pass None None None) joined

@@ -216,7 +216,7 @@ pub(crate) fn close_and_write<B: Naming, R: Wait + Clock + Log, W: Sink>(
         return fault_of(ended.fault);
     }
     if written.is_err() {
-        error!(shared.rt; "closer: standard output failed");
+        error!(shared.rt; "closer: standard output or the record failed");
         return Some(ServeFault::Io);
     }
     None
@@ -230,7 +230,7 @@ pub(crate) fn write_notices<R: Wait + Log, W: Sink>(
 ) -> Option<ServeFault> {
     let lines = take_notices(rt, state);
     if !lines.is_empty() && put_under_lock(rt, output, lines.as_slice()).is_err() {
-        error!(rt; "closer: standard output failed");
+        error!(rt; "closer: standard output or the record failed");
         return Some(ServeFault::Io);
     }
     None

@@ -250,7 +250,7 @@ fn fault_of<R: Log>(
     match fault {
         WorkerFault::NoMemory => error!(rt; "{worker}: no memory for a call"),
         WorkerFault::SourceFailed => error!(rt; "{worker}: no datagrams come any more"),
-        WorkerFault::SinkFailed => error!(rt; "{worker}: standard output failed"),
+        WorkerFault::SinkFailed => error!(rt; "{worker}: standard output or the record failed"),
     }
     state.break_off();
     Some(ServeFault::from(fault))

@@ -370,8 +370,8 @@ fn run_server<
 /// options ask for it, each with a line feed, and gives T, which is how many entries there are in all shards. `upkeep` looks after the
 /// record, if there is one, about once a second.
 ///
-/// `NoMemory` where a growth was refused, or a thread could not be made; `Io` where the socket or the writer failed. Each is logged
-/// with where it was; the lines of what was closed before it are written all the same.
+/// `NoMemory` where a growth was refused, or a thread could not be made; `Io` where the socket, the writer, the record or a clock failed.
+/// Each is logged with where it was; the lines of what was closed before it are written all the same.
 pub fn serve<
     R: Threads + Wait + Clock + Net<Listener = TcpListener, Stream = TcpStream> + Log + Sync,
     S: Stop + Send + Drop + 'static,

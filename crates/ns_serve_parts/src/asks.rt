@@ -53,7 +53,7 @@ impl Asks {
     }
 
     /// The ticket to be answered at this time, if there is one: the oldest, where it is too old to be asked about, so that its device is
-    /// free to ask again; else the newest of those that are due.
+    /// free to ask again; else the last before the first that is not due, which is the newest due one, as tickets are due in their order.
     pub fn take(&mut self, now: u64) -> Option<AskJob>
         ensures gives { result ≡ option_and_then (slice_get self.old.jobs.items) (next_place now self.old.jobs.items) }
         ensures rest { self.new.jobs.items ≡ option_map_or (remove self.old.jobs.items) (next_place now self.old.jobs.items) self.old.jobs.items }

@@ -43,7 +43,7 @@ const REPLIES: [&str; 19] = [
 /// How often each thing happened.
 #[derive(Drop)]
 pub struct Counts {
-    // When they were logged last, in milliseconds since the server began.
+    // When they were logged last, in milliseconds of the server's clock.
     logged_ms: AtomicU64,
     refusals: [AtomicU64; 12],
     replies: [AtomicU64; 19],
@@ -59,7 +59,7 @@ pub struct Counts {
     pub unsent: AtomicU64,
     /// Tickets that were too old to be asked about.
     pub stale: AtomicU64,
-    /// Lines that standard output did not take, and that the record alone has.
+    /// Lines that standard output did not take: `up` lines the record alone has, and lines of events, which are in no record.
     pub unwritten: AtomicU64,
 }
 
@@ -214,7 +214,7 @@ impl Counts {
         info!(rt; "replies:{replies} unanswered {unanswered} unsent {unsent} stale tickets {stale}");
         let unwritten = value(&self.unwritten);
         if unwritten > 0 {
-            warn!(rt; "standard output failed: {unwritten} up lines are in the record alone");
+            warn!(rt; "standard output failed: {unwritten} lines did not reach it");
         }
     }
 }

@@ -1,8 +1,9 @@
 //! What a server over sockets is made of: each part by itself, without what the threads share.
 //!
-//! The table of devices that ask; the tickets that wait; counters; the output and its lines, and those of events; moments of the wall clock; connections to the join server with one limit each; when a
-//! shard is trimmed; the closing roster; what is to be served and why serving ended. Each has a contract for what it gives, over its
-//! definition in `specs/`. What stands under a lock, and what the system does with a socket, no contract says.
+//! The table of devices that ask; the tickets that wait; counters; the output and its lines, and those of events; moments of the wall
+//! clock; connections to the join server with one limit each; when a shard is trimmed; the closing roster; what is to be served and why
+//! serving ended. What is computed has a contract over its definition in `specs/`. What stands under a lock, what is logged, and what the
+//! system does with a socket, no contract says.
 //! The crate stands on `ns_server` and `ns_workers`, on `ns_calls`, `ns_events`, `ns_joinclient`, `ns_joinwire`, `ns_link`,
 //! `ns_responses`, `ns_roster`, `ns_shard`, `ns_types` and `ns_views`, and on `arrayvec`, `itoa`, `jiff_core`, `log`, `lru` and
 //! `thiserror` of the kit.

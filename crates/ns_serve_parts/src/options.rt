@@ -35,7 +35,7 @@ pub struct ServeOptions<'a> {
     pub stop_after: Option<u32>,
     /// Whether the server stops at the end of the input that it is given.
     pub stop_at_end: bool,
-    /// After how many further entries a shard is trimmed, if at all.
+    /// After how many further entries a shard is trimmed, if at all: at least a quarter of how many devices there are.
     pub trim: Option<u32>,
     /// How uplinks are written.
     pub output: Output,
@@ -51,7 +51,7 @@ pub enum ServeFault {
     /// A growth was refused, or a thread could not be made.
     #[error("no memory")]
     NoMemory,
-    /// The socket or the output failed.
+    /// The socket, the output, the record or a clock failed.
     #[error("io")]
     Io,
 }

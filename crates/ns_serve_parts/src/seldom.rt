@@ -6,7 +6,7 @@ use std::sync::atomic::{AtomicU64, Ordering};
 // Between two such lines, in milliseconds.
 const MINUTE_MS: u64 = 60_000;
 
-/// What is logged once a minute at most: when it was last, in milliseconds since the server began, and how often it happened since.
+/// What is logged once a minute at most: when it was last, in milliseconds of the server's clock, and how often it happened since.
 #[derive(Drop)]
 pub struct Seldom {
     logged_ms: AtomicU64,

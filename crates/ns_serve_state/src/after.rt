@@ -13,8 +13,9 @@ use std::alloc::{AllocError, Global};
 use std::sync::Wait;
 use std::sync::atomic::Ordering;
 
-/// A writer of lines that takes none before what they rest on is written. Where there is a record, which has the lines, its failure is
-/// no failure of the server: from then on the writer gets nothing, and what it would have got is counted.
+/// A writer of lines that takes none before what they rest on is written. Where there is a record, which has the `up` lines, the writer's
+/// failure is none of the server: from then on it gets nothing, and the lines that it would have got are counted, also those of events,
+/// which are in no record.
 #[derive(Drop)]
 pub struct AfterRecord<'a, R, W> {
     rt: &'a R,

@@ -84,8 +84,9 @@ impl Begun {
         })
     }
 
-    /// A server as the lines of these files leave it, which goes on with them. After a fault no byte of them has changed, unless it was a
-    /// failure while they were mended: they are, once all lines were run.
+    /// A server as the lines of these files leave it, which goes on with them. The files are mended once all lines were run: a fault
+    /// before that has changed no byte of them, and one behind it (they could not be mended, or there was no memory for the recorder)
+    /// leaves them as far mended as it came.
     pub fn resume<L: Log>(
         log: &L,
         alloc: Global,

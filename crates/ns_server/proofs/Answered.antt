@@ -34,13 +34,11 @@ history_of net shard s call r h made set_up is keeps =
 -- so it has one
 pub has_history : (net : Network) (shard : ℕ) (s : State) (call : Call) (r : Receipt) → r ≡ receipt_for s call → IsStateOf net shard s → HasHistory net shard r
 has_history net shard s call r made is =
-    let own = subst (λ k. IsHistory s.roster k is.state.history) is.index is.state.is_history in
-    (history_of net shard s call r is.state.history made is.set_up (subst (λ n. IsHistory n shard is.state.history) is.set_up own) is.state.keeps).0
+    (history_of net shard s call r is.state.history made is.set_up (rw (is.set_up, is.index) at is.state.is_history) is.state.keeps).0
 
 -- and one that begins with each with which the shard began
 pub answers_from : (net : Network) (first : State) (shard : ℕ) (s : State) (call : Call) (r : Receipt) → r ≡ receipt_for s call → IsStateOf net shard s → BeganAs first s → AnswersFrom net first shard r
 answers_from net first shard s call r made is began h legal keeps =
     let was = began.goes_on h legal keeps in
-    let own = subst (λ k. IsHistory s.roster k (h ++ was.more)) is.index was.is_history in
-    let has = history_of net shard s call r (h ++ was.more) made is.set_up (subst (λ n. IsHistory n shard (h ++ was.more)) is.set_up own) was.keeps in
+    let has = history_of net shard s call r (h ++ was.more) made is.set_up (rw (is.set_up, is.index) at was.is_history) was.keeps in
     (was.more, has.0, has.1)

@@ -1,7 +1,8 @@
 -- Shards that began with entries, and those that a server begins with.
-use Rattle.std.proofs.Common.{◌≡◌, ℕ, zero, suc, ◌+◌, ◌≤◌, ◌<◌, List, [], ◌∷◌, ◌++◌, length, take, Some, Result, Ok, Err, IfOk, OnOk, OnErr, refl, ap, sym, ◌∙◌, subst, arith}
+use Rattle.std.proofs.Common.{◌≡◌, ℕ, zero, suc, ◌+◌, ◌≤◌, List, [], ◌∷◌, ◌++◌, length, take, Option, None, Some, unwrap_or, Result, Ok, Err, IfOk, OnOk, OnErr, refl, ap, sym, ◌∙◌, subst, arith}
 use Rattle.std.specs.Prelude.{slice_get, get_or}
-use Rattle.std.proofs.lemmas.List.{append_assoc}
+use Rattle.std.proofs.lemmas.List.{append_assoc, append-nil, take_all}
+use Rattle.std.proofs.lemmas.Option.{unwrap_or-slice_get}
 use Rattle.std.proofs.Math.Seq.{take-suc}
 use Rattle.ns_types.specs.Identity.{shard_count}
 use Rattle.ns_roster.specs.Network.{Network}
@@ -25,17 +26,13 @@ use Rattle.ns_server.specs.Rows.{states_below, new_states, IsPlaced, AreFirst}
 
 -- ---- one shard
 
-append_none : (h : List Entry) → h ≡ h ++ []
-append_none [] = refl
-append_none (e ∷ h) = ap (λ l. e ∷ l) (append_none h)
-
 -- a shard began as it is
 began_self : (s : State) → BeganAs s s
 began_self s = record {
   goes_on = λ h is keeps. record {
     more = [];
-    is_history = subst (IsHistory s.roster s.index) (append_none h) is;
-    keeps = subst (λ l. Keeps l s) (append_none h) keeps;
+    is_history = subst (IsHistory s.roster s.index) (sym (append-nil h)) is;
+    keeps = subst (λ l. Keeps l s) (sym (append-nil h)) keeps;
   };
 }
 
@@ -117,26 +114,12 @@ first_new net begun ss is new = record {
   placed = subst (IsPlaced net) (sym is) (λ k. (refl, refl));
 }
 
-placed_or : (net : Network) (k i : ℕ) (ss : List State) → ((j : ℕ) (s : State) → slice_get ss j ≡ Some s → (s.roster ≡ net) × (s.index ≡ i + j)) →
-    ((get_or ss k (no_entries net (i + k))).roster ≡ net) × ((get_or ss k (no_entries net (i + k))).index ≡ i + k)
-placed_or net k i [] are = (refl, refl)
-placed_or net zero i (s ∷ ss) are = are 0 s refl
-placed_or net (suc k) i (s ∷ ss) are =
-    let next : suc i + k ≡ i + suc k = omega arith in
-    let rest = placed_or net k (suc i) ss (λ j q at. let here = are (suc j) q at in (here.0, omega (arith, here.1))) in
-    subst (λ n. ((get_or ss k (no_entries net n)).roster ≡ net) × ((get_or ss k (no_entries net n)).index ≡ n)) next rest
-
 placed_at : (net : Network) (ss : List State) → ArePlaced net ss → IsPlaced net (states_at net ss)
-placed_at net ss are k =
-    let here : 0 + k ≡ k = omega arith in
-    subst (λ n. ((get_or ss k (no_entries net n)).roster ≡ net) × ((get_or ss k (no_entries net n)).index ≡ n)) here
-    (placed_or net k 0 ss (λ j q at. let is = are j q at in (is.0, omega (arith, is.1))))
-
-take_all : (ss : List State) (n : ℕ) → length ss ≡ n → take n ss ≡ ss
-take_all [] zero is = refl
-take_all [] (suc n) is = absurd (omega (arith, is))
-take_all (s ∷ ss) zero is = absurd (omega (arith, is))
-take_all (s ∷ ss) (suc n) is = ap (λ l. s ∷ l) (take_all ss n (omega (arith, is)))
+placed_at net ss are k = rw (← unwrap_or-slice_get ss k (no_entries net k)) (pick (slice_get ss k) refl)
+  where
+    pick : (o : Option State) → slice_get ss k ≡ o → ((unwrap_or o (no_entries net k)).roster ≡ net) × ((unwrap_or o (no_entries net k)).index ≡ k)
+    pick None at = (refl, refl)
+    pick (Some s) at = are k s at
 
 below_take : (net : Network) (ss : List State) (n : ℕ) → n ≤ length ss → take n ss ≡ states_below (states_at net ss) n
 below_take net ss zero fits = refl
@@ -146,6 +129,6 @@ below_take net ss (suc n) fits =
 -- sixteen shards are those at their places
 pub first_at : (net : Network) (begun : ℕ → State) (ss : List State) → begun ≡ states_at net ss → length ss ≡ shard_count → ArePlaced net ss → AreFirst net begun shard_count ss
 first_at net begun ss is sixteen are = subst (λ state. AreFirst net state shard_count ss) (sym is) (record {
-  below = sym (take_all ss shard_count sixteen) ∙ below_take net ss shard_count (omega (arith, sixteen));
+  below = sym (take_all shard_count ss (omega (arith, sixteen))) ∙ below_take net ss shard_count (omega (arith, sixteen));
   placed = placed_at net ss are;
 })

@@ -1,9 +1,8 @@
 -- What the tests of a receipt say.
-use Rattle.std.proofs.Common.{◌≡◌, inl, inr, ℕ, zero, suc, [], ◌∷◌, ◌<◌, ◌≤◌, Bool, true, false, not, List, take, Some, length, refl, ap, sym, subst, arith}
-use Rattle.std.specs.Prelude.{slice_get, ◌↔◌, IsTrue, nat_lt}
-use Rattle.std.proofs.lemmas.Bool.Decides.{nat_tests}
+use Rattle.std.proofs.Common.{◌≡◌, inl, inr, ℕ, zero, suc, [], ◌∷◌, ◌≤◌, Bool, false, List, take, Some, length, sym, subst, arith}
+use Rattle.std.specs.Prelude.{slice_get, ◌↔◌, IsTrue}
+use Rattle.std.proofs.lemmas.Bool.{cases_lt}
 use Rattle.std.proofs.lemmas.Option.{slice_get_within}
-use Rattle.ns_calls.proofs.LocalLemmas.{bool_tells}
 use Rattle.ns_calls.specs.declared.call.Entry.{Entry}
 use Rattle.ns_shard.specs.State.{State}
 use Rattle.ns_server.specs.declared.kept.Receipt.{Receipt}
@@ -13,20 +12,18 @@ use Rattle.ns_server.specs.Check.{StandsIn, Stands, IsPassed, IsRepeated, IsRigh
 pub stands_there : (states ss : List State) (r : Receipt) (place : ℕ) (s : State) (b : Bool) → ss ≡ states → place ≡ r.shard → slice_get ss place ≡ Some s
     → (IsTrue b ↔ StandsIn s r) → (IsTrue b ↔ Stands states r)
 stands_there states ss r place s b seen shard at stands =
-    let home : slice_get states r.shard ≡ Some s = subst (λ l. slice_get l r.shard ≡ Some s) seen (subst (λ k. slice_get ss k ≡ Some s) shard at) in (
+    let home : slice_get states r.shard ≡ Some s = cc in (
       (λ t. (s, home, stands.0 t)),
-      (λ w.
-          let same : w.0 ≡ s = cc (w.1, home) in
-          stands.1 (subst (λ (q : State). StandsIn q r) same w.2)),
+      (λ w. (let same : w.0 ≡ s = cc (w.1, home) in stands.1 (rw same at w.2))),
     )
 
 -- the number of a receipt that is not passed over is not below the mark
 pub since_mark : (states ss : List State) (r : Receipt) (place : ℕ) (s : State) → ss ≡ states → place ≡ r.shard → slice_get ss place ≡ Some s → (IsPassed states r → ⊥) → s.mark ≤ r.entry.number
 since_mark states ss r place s same shard at unpassed =
-    let home : slice_get states r.shard ≡ Some s = subst (λ l. slice_get l r.shard ≡ Some s) same (subst (λ k. slice_get ss k ≡ Some s) shard at) in
-    elim (bool_tells (nat_lt r.entry.number s.mark)) [
-      | inl is ↦ (let below : r.entry.number < s.mark = grind (arith, nat_tests, is) in absurd (unpassed (s, home, below)))
-      | inr isnt ↦ (let since : s.mark ≤ r.entry.number = grind (arith, nat_tests, isnt) in since)
+    let home : slice_get states r.shard ≡ Some s = cc in
+    elim (cases_lt r.entry.number s.mark) [
+      | inl below ↦ absurd (unpassed (s, home, below))
+      | inr since ↦ since
     ]
 
 -- there is no such shard
@@ -38,22 +35,9 @@ stands_nowhere states ss r place seen shard past = (
       absurd (omega (arith, within, shard, past))),
 )
 
--- a receipt that is passed over is right
-pub right_passed : (states : List State) (receipts : List Receipt) (i : ℕ) (r : Receipt) → slice_get receipts i ≡ Some r → IsPassed states r → IsRight states receipts i
-right_passed states receipts i r at passed q there = (let same : r ≡ q = cc (at, there) in inl (subst (IsPassed states) same passed))
-
--- another one is right where it stands and no earlier one has its place
+-- a receipt is right where it stands and no earlier one has its place
 pub right_stands : (states : List State) (receipts : List Receipt) (i : ℕ) (r : Receipt) → slice_get receipts i ≡ Some r → Stands states r → (IsRepeated receipts i → ⊥) → IsRight states receipts i
 right_stands states receipts i r at stands fresh q there = (let same : r ≡ q = cc (at, there) in inr (subst (Stands states) same stands, fresh))
-
-pub not_both : (b : Bool) → IsTrue (not b) → IsTrue b → ⊥
-not_both true isnt is = absurd (cc isnt)
-not_both false isnt is = absurd (cc is)
-
--- what fails is not so
-pub fresh_if : (b : Bool) → (IsTrue b → ⊥) → IsTrue (not b)
-fresh_if true fails = absurd (fails refl)
-fresh_if false fails = refl
 
 pub right_is : (states : List State) (receipts : List Receipt) (i : ℕ) (r : Receipt) → slice_get receipts i ≡ Some r → (IsPassed states r → ⊥) → IsRight states receipts i → Stands states r × (IsRepeated receipts i → ⊥)
 right_is states receipts i r at unpassed right = elim (right r at) [
@@ -61,11 +45,9 @@ right_is states receipts i r at unpassed right = elim (right r at) [
   | inr stands ↦ stands
 ]
 
--- what stands at a place of the beginning of a history stands there in the history, after the same entries
-pub stands_before : (h : List Entry) (n k : ℕ) (e : Entry) → slice_get (take n h) k ≡ Some e → (slice_get h k ≡ Some e) × (take k h ≡ take k (take n h))
+-- what stands at a place of the beginning of a history stands there in the history
+pub stands_before : (h : List Entry) (n k : ℕ) (e : Entry) → slice_get (take n h) k ≡ Some e → slice_get h k ≡ Some e
 stands_before h zero k e at = absurd cc
 stands_before [] (suc n) k e at = absurd cc
-stands_before (x ∷ h) (suc n) zero e at = (at, refl)
-stands_before (x ∷ h) (suc n) (suc k) e at =
-    let rest = stands_before h n k e at in
-    (rest.0, ap (λ l. x ∷ l) rest.1)
+stands_before (x ∷ h) (suc n) zero e at = at
+stands_before (x ∷ h) (suc n) (suc k) e at = stands_before h n k e at

@@ -1,7 +1,8 @@
 -- Where no window is open each opening has exactly one closing.
-use Rattle.std.proofs.lemmas.List.Sums.{sum_by-cons}
+use Rattle.std.proofs.lemmas.Bool.{cond-true}
+use Rattle.ns_calls.proofs.Lists.{count-cons}
 use Rattle.std.specs.List.{cons_option}
-use Rattle.std.proofs.Common.{cond, ◌≡◌, ℕ, zero, suc, ◌<◌, ◌≤◌, Bool, true, List, [], ◌∷◌, Some, None, refl, ap, sym, ◌∙◌, subst, arith}
+use Rattle.std.proofs.Common.{◌≡◌, ℕ, zero, suc, ◌<◌, ◌≤◌, Bool, true, List, [], ◌∷◌, Some, None, refl, ap, sym, ◌∙◌, subst, arith}
 use Rattle.std.specs.Prelude.{slice_get, count_by, filter_map, Option, option_map}
 use Rattle.ns_types.specs.declared.identity.WindowName.{WindowName}
 use Rattle.ns_types.specs.Identity.{same_window}
@@ -9,7 +10,6 @@ use Rattle.ns_calls.specs.declared.call.Entry.{Entry}
 use Rattle.ns_calls.specs.Queries.{first}
 use Rattle.ns_calls.specs.Entries.{Opening, open_windows}
 use Rattle.ns_calls.proofs.Says.{window_in}
-use Rattle.ns_calls.specs.Headline.{oldest}
 use Rattle.ns_calls.specs.Legal.{IsLegal}
 use Rattle.ns_roster.specs.Network.{Network}
 use Rattle.ns_kept.specs.Kept.{Remains, reading}
@@ -20,20 +20,14 @@ use Rattle.ns_server.specs.Drain.{NoneOpen, EachIsClosed}
 use Rattle.ns_calls.proofs.NameLemmas.{same_window-refl}
 use Rattle.ns_calls.specs.Laws.{opening_count, closing_count, WindowsOpenOnce}
 
--- what an element counts
-abbrev the_count : Bool → ℕ
-the_count b = cond b 1 0
-
 -- one element more in front leaves no fewer that pass
 more_pass : (test : Opening → Bool) (q : Option Opening) (os : List Opening) → count_by test os ≤ count_by test (cons_option q os)
 more_pass test None os = omega arith
-more_pass test (Some o) os = omega (arith, sum_by-cons (λ x. cond (test x) 1 0) o os)
+more_pass test (Some o) os = omega (arith, count-cons test o os)
 
 -- one that passes in front is counted
 front_passes : (test : Opening → Bool) (o : Opening) (os : List Opening) → test o ≡ true → 0 < count_by test (o ∷ os)
-front_passes test o os passes =
-    let one : the_count (test o) ≡ the_count true = ap the_count passes in
-    omega (arith, one, sum_by-cons (λ x. cond (test x) 1 0) o os)
+front_passes test o os passes = omega (arith, cond-true {A = ℕ} (test o) 1 0 passes, count-cons test o os)
 
 -- an entry that opens a window is counted
 opened_counts : (h : List Entry) (n : ℕ) (e : Entry) (o : Opening) → slice_get h n ≡ Some e → window_in e.call e.reply ≡ Some o → 0 < opening_count h o.window
@@ -53,9 +47,6 @@ none_first : (os : List Opening) → option_map (λ (o : Opening). o.window) (fi
 none_first [] none = refl
 none_first (o ∷ os) none = absurd (cc none)
 
-none_open : (h : List Entry) → oldest h ≡ None → open_windows h ≡ []
-none_open h none = none_first (open_windows h) none
-
 -- where nothing is left open, in a history each name is closed as often as it is opened
 abbrev pub Drained : Network → Type 0
 Drained net = (h : List Entry) (k : Remains) → Leaves net h k → open_windows (reading k) ≡ [] → (w : WindowName) → closing_count h w ≡ opening_count h w
@@ -64,5 +55,5 @@ Drained net = (h : List Entry) (k : Remains) → Leaves net h k → open_windows
 pub each_closed : (net : Network) (states : List State) → ((h : List Entry) → IsLegal net h → WindowsOpenOnce h) → Drained net → AreStates net states → NoneOpen states → EachIsClosed states
 each_closed net states once drained are none k s at h leaves n e o stands opens =
     let there : Leaves net h (remains s) = subst (λ m. Leaves m h (remains s)) (are k s at).set_up leaves in
-    let all = drained h (remains s) there (none_open (seen s) (none k s at)) o.window in
+    let all = drained h (remains s) there (none_first (open_windows (seen s)) (none k s at)) o.window in
     omega (arith, opened_counts h n e o stands opens, all, (once h there.legal).opens o.window)

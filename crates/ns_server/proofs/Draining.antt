@@ -17,19 +17,19 @@ get_set [] i k new s at = inr at
 get_set (x ∷ ss) zero zero new s at = inl (refl, cc)
 get_set (x ∷ ss) zero (suc k) new s at = inr at
 get_set (x ∷ ss) (suc i) zero new s at = inr at
-get_set (x ∷ ss) (suc i) (suc k) new s at = next (get_set ss i k new s at)
-  where
-    next : ((k ≡ i) × (new ≡ s)) ⊎ (slice_get ss k ≡ Some s) → ((suc k ≡ suc i) × (new ≡ s)) ⊎ (slice_get ss k ≡ Some s)
-    next (inl same) = inl (ap suc same.0, same.1)
-    next (inr there) = inr there
+get_set (x ∷ ss) (suc i) (suc k) new s at =
+    elim (get_set ss i k new s at) [
+      | inl same ↦ inl (ap suc same.0, same.1)
+      | inr there ↦ inr there
+    ]
 
 -- the states with one of them after a call of its own
 pub states_set : (net : Network) (ss : List State) (i : ℕ) (new : State) → AreStates net ss → IsStateOf net i new → AreStates net (set ss i new)
-states_set net ss i new are is k s at = pick (get_set ss i k new s at)
-  where
-    pick : ((k ≡ i) × (new ≡ s)) ⊎ (slice_get ss k ≡ Some s) → IsStateOf net k s
-    pick (inl same) = subst (λ n. IsStateOf net n s) (sym same.0) (subst (IsStateOf net i) same.1 is)
-    pick (inr there) = are k s there
+states_set net ss i new are is k s at =
+    elim (get_set ss i k new s at) [
+      | inl same ↦ subst (λ n. IsStateOf net n s) (sym same.0) (subst (IsStateOf net i) same.1 is)
+      | inr there ↦ are k s there
+    ]
 
 -- a state after a call of its shard
 pub state_after : (net : Network) (i : ℕ) (w : WindowName) (old new : State) → IsStateOf net i old → new ≡ after_call old (Close w) → IsState new → IsStateOf net i new
@@ -40,12 +40,12 @@ state_after net i w old new was is state = record {
 }
 
 -- the window that was opened first, of the first shard that has one, is closed
-pub drains : (net : Network) (ss : List State) (i : ℕ) (w : WindowName) (old new : State) (r : Receipt) → AreStates net ss → slice_get ss i ≡ Some old → OpensFirst ss i w
-    → new ≡ after_call old (Close w) → r ≡ receipt_for old (Close w) → Drains ss r (set ss i new)
-drains net ss i w old new r are at first is receipt =
+pub drains : (net : Network) (states ss : List State) (i : ℕ) (w : WindowName) (old new : State) (r : Receipt) → ss ≡ states → AreStates net ss → slice_get ss i ≡ Some old → OpensFirst ss i w
+    → new ≡ after_call old (Close w) → r ≡ receipt_for old (Close w) → Drains states r (set ss i new)
+drains net states ss i w old new r seen are at first is receipt =
     let same : first.state ≡ old = cc (first.shard, at) in
     let place : r.shard ≡ i = ap (λ (q : Receipt). q.shard) receipt ∙ first.own ∙ ap (λ (s : State). s.index) same ∙ (are i old at).index in
-    record {
+    subst (λ l. Drains l r (set ss i new)) seen (record {
       state = old;
       window = w;
       shard = ap (slice_get ss) place ∙ at;
@@ -53,10 +53,4 @@ drains net ss i w old new r are at first is receipt =
       first = λ j s lt found. first.first j s (subst (λ n. j < n) place lt) found;
       receipt = receipt;
       after = ap (λ n. set ss n new) (sym place) ∙ ap (set ss r.shard) is;
-    }
-
--- the same, where the states go by another name
-pub drains_seen : (net : Network) (states ss : List State) (i : ℕ) (w : WindowName) (old new : State) (r : Receipt) → ss ≡ states → AreStates net ss → slice_get ss i ≡ Some old → OpensFirst ss i w
-    → new ≡ after_call old (Close w) → r ≡ receipt_for old (Close w) → Drains states r (set ss i new)
-drains_seen net states ss i w old new r seen are at first is receipt =
-    subst (λ l. Drains l r (set ss i new)) seen (drains net ss i w old new r are at first is receipt)
+    })

@@ -1,12 +1,12 @@
 -- Receipts of entries that were made since a trim: as many as these entries are all of them.
-use Rattle.std.proofs.Common.{◌≡◌, inl, inr, ◌==◌, ◌&&◌, ℕ, suc, ◌+◌, ◌<◌, ◌≤◌, Bool, true, false, cond, List, [], ◌∷◌, length, take, drop, length-append, take-append-drop, Some, refl, ap, sym, ◌∙◌, subst, arith}
+use Rattle.std.proofs.Common.{◌≡◌, inl, inr, ◌==◌, ◌&&◌, ℕ, suc, ◌+◌, ◌<◌, ◌≤◌, Bool, true, cond, List, [], ◌∷◌, length, take, drop, length-append, take-append-drop, Some, refl, ap, sym, ◌∙◌, subst, arith}
 use Rattle.std.specs.Prelude.{slice_get, nat_le}
-use Rattle.std.proofs.lemmas.Bool.Decides.{nat_tests}
+use Rattle.std.proofs.Math.Bool.{and-true}
+use Rattle.std.proofs.lemmas.Bool.{cond_both, cond-true, cond-false, and_parts, eqb-true, leb-true, le-leb, lt-leb}
 use Rattle.std.proofs.lemmas.List.{length-take-le}
-use Rattle.std.proofs.lemmas.List.Sums.{sum_by-cons}
 use Rattle.std.proofs.lemmas.Option.{slice_get_within}
 use Rattle.ns_calls.specs.declared.call.Entry.{Entry}
-use Rattle.ns_calls.proofs.Lists.{count-append}
+use Rattle.ns_calls.proofs.Lists.{count-append, count-cons}
 use Rattle.ns_kept.specs.Kept.{Remains, whole, reading, is_kept, filter_before}
 use Rattle.ns_kept.proofs.Law.{sent-from_mark}
 use Rattle.ns_shard.specs.State.{State, IsState, Keeps, remains}
@@ -19,29 +19,21 @@ use Rattle.ns_server.proofs.Unread.{kept_of, get_drop}
 
 -- ---- how many entries there are from the mark on
 
-abbrev bit : Bool → ℕ
-bit b = cond b 1 0
-
 count_low : (mark : ℕ) (test : Entry → List Entry → Bool) (xs : List Entry) → ((i : ℕ) (e : Entry) → slice_get xs i ≡ Some e → e.number < mark)
     → entries_since mark (filter_before test xs) ≡ 0
 count_low mark test [] low = refl
-count_low mark test (x ∷ xs) low = pick (test x xs) (count_low mark test xs (λ i e at. low (suc i) e at))
-  where
-    pick : (b : Bool) → entries_since mark (filter_before test xs) ≡ 0 → entries_since mark (cond {A = List Entry} b (x ∷ filter_before test xs) (filter_before test xs)) ≡ 0
-    pick true none =
-        let less = low 0 x refl in
-        let isnt : nat_le mark x.number ≡ false = grind (arith, nat_tests, less) in
-        let here : bit (nat_le mark x.number) ≡ 0 = ap bit isnt in
-        omega (arith, here, none, sum_by-cons (λ (e : Entry). cond (nat_le mark e.number) 1 0) x (filter_before test xs))
-    pick false none = none
+count_low mark test (x ∷ xs) low =
+    let rest : List Entry = filter_before test xs in
+    let none = count_low mark test xs (λ i e at. low (suc i) e at) in
+    let here = cond-false {A = ℕ} (nat_le mark x.number) 1 0 (lt-leb mark x.number (low 0 x refl)) in
+    let all = count-cons (λ (e : Entry). nat_le mark e.number) x rest in
+    cond_both (test x xs) (x ∷ rest) rest (λ es. entries_since mark es ≡ 0) (λ _. omega (arith, none, here, all)) (λ _. none)
 
 count_high : (mark : ℕ) (xs : List Entry) → ((i : ℕ) (e : Entry) → slice_get xs i ≡ Some e → mark ≤ e.number) → entries_since mark xs ≡ length xs
 count_high mark [] high = refl
 count_high mark (x ∷ xs) high =
-    let le = high 0 x refl in
-    let is : nat_le mark x.number ≡ true = grind (arith, nat_tests, le) in
-    let here : bit (nat_le mark x.number) ≡ 1 = ap bit is in
-    omega (arith, here, count_high mark xs (λ i e at. high (suc i) e at), sum_by-cons (λ (e : Entry). cond (nat_le mark e.number) 1 0) x xs)
+    let here = cond-true {A = ℕ} (nat_le mark x.number) 1 0 (le-leb mark x.number (high 0 x refl)) in
+    omega (arith, here, count_high mark xs (λ i e at. high (suc i) e at), count-cons (λ (e : Entry). nat_le mark e.number) x xs)
 
 -- the entries from the mark on are those that were made since
 pub count_since : (s : State) (h : List Entry) → Keeps h s → entries_since s.mark s.entries + s.mark ≡ s.made
@@ -52,7 +44,7 @@ count_since s h keeps =
     let front : length f ≡ m = length-take-le m h keeps.left.within in
     let low : entries_since m kept ≡ 0 = count_low m (is_kept (reading (whole f))) f (λ i e at.
     let within = slice_get_within f i e at in
-    let number = keeps.left.numbered i e (stands_before h m i e at).0 in
+    let number = keeps.left.numbered i e (stands_before h m i e at) in
     omega (arith, within, number, front)) in
     let high : entries_since m (drop m h) ≡ length (drop m h) = count_high m (drop m h) (λ i e at.
     let number = keeps.left.numbered (m + i) e (sym (get_drop m h i) ∙ at) in
@@ -69,12 +61,9 @@ abbrev mine : ℕ → ℕ → Receipt → Bool
 mine k mark r = r.shard == k && nat_le mark r.entry.number
 
 mine_is : (k mark : ℕ) (r : Receipt) → mine k mark r ≡ true → (r.shard ≡ k) × (mark ≤ r.entry.number)
-mine_is k mark r is = parts (r.shard == k) (nat_le mark r.entry.number) refl refl is
-  where
-    parts : (a b : Bool) → (r.shard == k) ≡ a → nat_le mark r.entry.number ≡ b → (a && b) ≡ true → (r.shard ≡ k) × (mark ≤ r.entry.number)
-    parts true true own since both = (grind (arith, nat_tests, own), grind (arith, nat_tests, since))
-    parts true false own since both = absurd (cc both)
-    parts false b own since both = absurd (cc both)
+mine_is k mark r is =
+    let both = and_parts (r.shard == k) (nat_le mark r.entry.number) is in
+    (eqb-true _ _ both.0, leb-true _ _ both.1)
 
 -- a right receipt from the mark on is not passed over
 right_there : (states : List State) (receipts : List Receipt) → AreRight states receipts → (k : ℕ) (s : State) → slice_get states k ≡ Some s
@@ -82,10 +71,8 @@ right_there : (states : List State) (receipts : List Receipt) → AreRight state
 right_there states receipts right k s at i r here own since = elim (right i (slice_get_within receipts i r here) r here) [
   | inr stands ↦ stands
   | inl passed ↦
-      (let there : slice_get states k ≡ Some passed.0 = subst (λ n. slice_get states n ≡ Some passed.0) own passed.1 in
-      let same : passed.0 ≡ s = cc (there, at) in
-      let trimmed : r.entry.number < s.mark = subst (λ (q : State). r.entry.number < q.mark) same passed.2 in
-      absurd (omega (arith, trimmed, since)))
+      (let same : passed.0 ≡ s = cc (passed.1, own, at) in
+      absurd (omega (arith, rw same at passed.2, since)))
 ]
 
 -- its entry stands in the history
@@ -93,9 +80,8 @@ right_entry : (states : List State) (receipts : List Receipt) → AreRight state
     → (i : ℕ) (r : Receipt) → slice_get receipts i ≡ Some r → r.shard ≡ k → s.mark ≤ r.entry.number → slice_get h r.entry.number ≡ Some r.entry
 right_entry states receipts right k s at h keeps i r here own since =
     let stands = (right_there states receipts right k s at i r here own since).0 in
-    let there : slice_get states k ≡ Some stands.0 = subst (λ n. slice_get states n ≡ Some stands.0) own stands.1 in
-    let same : stands.0 ≡ s = cc (there, at) in
-    let stands_in : StandsIn s r = subst (λ (q : State). StandsIn q r) same stands.2 in
+    let same : stands.0 ≡ s = cc (stands.1, own, at) in
+    let stands_in : StandsIn s r = rw same at stands.2 in
     (stands_in h keeps).entry
 
 pub all_since : (states : List State) (receipts : List Receipt) → AreRight states receipts
@@ -132,19 +118,10 @@ all_left states receipts right k s at is all n e stands since =
 count_alike : (k mark : ℕ) → mark ≡ 0 → (rs : List Receipt) → receipts_since k mark rs ≡ receipts_of k rs
 count_alike k mark untrimmed [] = refl
 count_alike k mark untrimmed (r ∷ rs) =
-    let is : nat_le mark r.entry.number ≡ true = grind (arith, nat_tests, untrimmed) in
-    let here : bit (mine k mark r) ≡ bit (r.shard == k) = ap bit (ap (λ b. r.shard == k && b) is ∙ always (r.shard == k)) in
-    omega (
-      arith,
-      here,
-      count_alike k mark untrimmed rs,
-      sum_by-cons (λ (q : Receipt). cond (mine k mark q) 1 0) r rs,
-      sum_by-cons (λ (q : Receipt). cond (q.shard == k) 1 0) r rs,
-    )
-  where
-    always : (b : Bool) → (b && true) ≡ b
-    always true = refl
-    always false = refl
+    let is : nat_le mark r.entry.number ≡ true = le-leb mark r.entry.number (omega (arith, untrimmed)) in
+    let same : mine k mark r ≡ (r.shard == k) = rw is (and-true (r.shard == k)) in
+    let here = ap (λ b. cond {A = ℕ} b 1 0) same in
+    omega (arith, here, count_alike k mark untrimmed rs, count-cons (mine k mark) r rs, count-cons (λ (q : Receipt). q.shard == k) r rs)
 
 pub all_receipts : (states : List State) (receipts : List Receipt) → AreRight states receipts
     → (k : ℕ) (s : State) → slice_get states k ≡ Some s → IsState s → s.mark ≡ 0 → receipts_of k receipts ≡ length s.entries

@@ -1,7 +1,7 @@
 -- Receipts of entries that were made since a trim.
 use Rattle.std.proofs.Common.{◌≡◌, ℕ, ◌+◌, ◌-◌, ◌<◌, ◌≤◌, Bool, false, List, length, take, Some, sym, ap, subst, ◌∙◌, arith}
 use Rattle.std.specs.Prelude.{slice_get, ◌↔◌, IsTrue, get_or}
-use Rattle.std.proofs.lemmas.Option.{slice_get_within, slice_get-get_or}
+use Rattle.std.proofs.lemmas.Option.{slice_get-get_or}
 use Rattle.ns_roster.specs.Network.{Network}
 use Rattle.ns_calls.specs.declared.call.Entry.{Entry}
 use Rattle.ns_calls.specs.Legal.{IsLegal}
@@ -52,19 +52,18 @@ pub record FoundFor (s : State) (r : Receipt) (place : ℕ) (e : Entry) : Type 0
   at : place + s.made ≡ length s.entries + r.entry.number
   found : slice_get s.entries place ≡ Some e
 
-pub found_for : (s : State) → IsState s → (r : Receipt) (es : List Entry) (made : ℕ) (e : Entry) → es ≡ s.entries → made ≡ s.made → s.mark ≤ r.entry.number → r.entry.number < s.made →
-    let place : ℕ = length es - (made - r.entry.number) in
-    get_or es place e ≡ e → FoundFor s r place e
-found_for s is r es made e es_is made_is since below got =
-    let place : ℕ = length es - (made - r.entry.number) in
+pub found_for : (s : State) → IsState s → (r : Receipt) (es : List Entry) (made : ℕ) (e : Entry) → es ≡ s.entries → made ≡ s.made → s.mark ≤ r.entry.number → r.entry.number < made →
+    get_or es (length es - (made - r.entry.number)) e ≡ e → FoundFor s r (length s.entries - (made - r.entry.number)) e
+found_for s is r es made e es_is made_is since fewer got =
+    let place : ℕ = length s.entries - (made - r.entry.number) in
+    let below : r.entry.number < s.made = omega (arith, fewer, made_is) in
     let fits = place_fits s is r.entry.number since below in
-    let len = ap length es_is in
-    let inside : place < length es = omega (arith, fits.0, fits.1, len, made_is) in
+    let inside : place < length s.entries = omega (arith, fits.0, fits.1, made_is) in
     record {
       since = since;
       below = below;
-      at = omega (arith, fits.0, below, len, made_is);
-      found = subst (λ (l : List Entry). slice_get l place ≡ Some e) es_is (slice_get-get_or es place e inside ∙ ap Some got);
+      at = omega (arith, fits.0, below, made_is);
+      found = slice_get-get_or s.entries place e inside ∙ ap Some (rw es_is at got);
     }
 
 -- the laws that are asked of histories
@@ -108,13 +107,4 @@ stands_other s is r place e a it same failed = (
       let st = standing s is.history is.keeps r.entry.number place it.since it.below it.at in
       let there : Some e ≡ Some r.entry = sym it.found ∙ (st.there ∙ (stands is.history is.keeps).entry) in
       same.1 (cc there)),
-)
-
--- no such entry was made
-pub stands_later : (s : State) → IsState s → (r : Receipt) → s.made ≤ r.entry.number → (IsTrue false ↔ StandsIn s r)
-stands_later s is r past = (
-  (λ t. absurd (cc t)),
-  (λ stands.
-      let within = slice_get_within is.history r.entry.number r.entry (stands is.history is.keeps).entry in
-      absurd (omega (arith, within, past, is.keeps.made))),
 )

@@ -1,10 +1,13 @@
 -- What goes out at an entry, searched in what is kept of a history as it stands.
-use Rattle.std.proofs.Common.{◌≡◌, inl, inr, ℕ, zero, suc, ◌+◌, ◌≤◌, ◌==◌, Bool, true, false, not, ◌||◌, cond, List, [], ◌∷◌, ◌++◌, length, take, drop, filter, filter_map, find, count_by, Option, Some, None, option_map, option_to_list, refl, sym, ap, subst, ◌∙◌, arith, take-append-drop, length-append, append_assoc}
+use Rattle.std.proofs.Common.{◌≡◌, inl, inr, ℕ, zero, zero-add, suc, ◌+◌, ◌≤◌, ◌==◌, Bool, true, false, not, cond, List, [], ◌∷◌, ◌++◌, length, take, drop, filter, filter_map, find, count_by, Option, Some, None, option_map, option_to_list, refl, sym, ap, subst, ◌∙◌, arith, take-append-drop, length-append, length-drop, append_assoc}
 use Rattle.std.specs.Prelude.{slice_get, is_some}
 use Rattle.std.specs.List.{list_any, cons_option}
 use Rattle.std.specs.Option.{option_and_then}
-use Rattle.std.proofs.lemmas.List.{length-take-le}
-use Rattle.std.proofs.lemmas.List.Elements.{filter_map-append}
+use Rattle.std.proofs.lemmas.Bool.{cond_both, cond-true, or_cases, or_left, or_right}
+use Rattle.std.proofs.Math.Seq.{take-append-add, drop-append_seam}
+use Rattle.std.proofs.lemmas.List.{length-take-le, take-take, drop-take}
+use Rattle.std.proofs.lemmas.List.Sums.{length-filter}
+use Rattle.std.proofs.lemmas.List.Filters.{sum_by-filter_both}
 use Rattle.std.proofs.lemmas.List.Folds.{list_any-append}
 use Rattle.ns_types.specs.declared.identity.DevEui.{DevEui}
 use Rattle.ns_types.specs.declared.identity.WindowName.{WindowName}
@@ -34,11 +37,11 @@ use Rattle.ns_calls.specs.Laws.{opening_count, open_count, WindowsOpenOnce}
 use Rattle.ns_calls.specs.Headline.{LimitsHold, nonce_at_or_above}
 use Rattle.ns_calls.proofs.LocalLemmas.{bool_tells}
 use Rattle.ns_calls.proofs.Lists.{count-append, count-cons, count-found}
-use Rattle.ns_kept.specs.Kept.{Remains, whole, reading, is_kept, filter_before, keep, with_closings, closing_of, closing_entry, counts}
+use Rattle.ns_kept.specs.Kept.{Remains, whole, reading, is_kept, filter_before, keep, with_closings, closing_of, counts}
 use Rattle.ns_kept.specs.Left.{Leaves, followed_by, first_entries}
 use Rattle.ns_kept.proofs.Alike.{out-alike}
 use Rattle.ns_kept.proofs.Law.{leaves-alike, leaves-answer}
-use Rattle.ns_kept.proofs.Within.{Within, Adds}
+use Rattle.ns_kept.proofs.Within.{Within, Adds, Adds-says, Adds-filter}
 use Rattle.ns_kept.proofs.Asked.{window_copies-adds}
 use Rattle.ns_sent.specs.Found.{AcceptFits, CopiesFit}
 use Rattle.ns_server.proofs.Checking.{stands_before}
@@ -49,19 +52,12 @@ use Rattle.ns_kept.proofs.ReadLemmas.{acceptances-with_closings, window_copies-w
 any_more : (mark : ℕ) (names : List WindowName) (test : Entry → Bool) (es : List Entry) → list_any test es ≡ true → list_any test (with_closings mark names es) ≡ true
 any_more mark names test [] is = absurd (cc is)
 any_more mark names test (e ∷ es) is =
-    elim (bool_tells (test e)) [
-      | inl here ↦ ap (λ b. b || list_any test (closing_of mark names e.number (window_in e.call e.reply) ++ with_closings mark names es)) here
-      | inr other ↦ or_right (test e) _ (behind mark names test e es (any_more mark names test es (sym (ap (λ b. b || list_any test es) other) ∙ is)))
+    let cs = closing_of mark names e.number (window_in e.call e.reply) in
+    let rest = with_closings mark names es in
+    elim (or_cases (test e) (list_any test es) is) [
+      | inl here ↦ or_left (test e) (list_any test (cs ++ rest)) here
+      | inr later ↦ or_right (test e) _ (list_any-append test cs rest ∙ or_right (list_any test cs) _ (any_more mark names test es later))
     ]
-  where
-    or_right : (a b : Bool) → b ≡ true → (a || b) ≡ true
-    or_right true b is_b = refl
-    or_right false b is_b = is_b
-
-    behind : (mark : ℕ) (names : List WindowName) (test : Entry → Bool) (e : Entry) (es : List Entry) → list_any test (with_closings mark names es) ≡ true → list_any test (closing_of mark names e.number (window_in e.call e.reply) ++ with_closings mark names es) ≡ true
-    behind mark names test e es later =
-        list_any-append test (closing_of mark names e.number (window_in e.call e.reply)) (with_closings mark names es)
-        ∙ or_right (list_any test (closing_of mark names e.number (window_in e.call e.reply))) _ later
 
 -- elements of the other list, in order
 abbrev Among : List Opening → List Opening → Type 0
@@ -83,11 +79,8 @@ among_step (Some o) es after more xs ys all = step (list_any (closes o.window) e
 
 closing_opens : (mark : ℕ) (names : List WindowName) (number : ℕ) (o : Option Opening) (rest : List Entry) → open_windows (closing_of mark names number o ++ rest) ≡ open_windows rest
 closing_opens mark names number None rest = refl
-closing_opens mark names number (Some o) rest = step (counts mark names number o.window)
-  where
-    step : (b : Bool) → open_windows (cond b [] (closing_entry number o.window ∷ []) ++ rest) ≡ open_windows rest
-    step true = refl
-    step false = refl
+closing_opens mark names number (Some o) rest =
+    cond_both (counts mark names number o.window) _ _ (λ (es : List Entry). open_windows (es ++ rest) ≡ open_windows rest) (λ _. refl) (λ _. refl)
 
 opened_among : (mark : ℕ) (names : List WindowName) (es : List Entry) → Among (open_windows (with_closings mark names es)) (open_windows es)
 unfolding opened_by
@@ -100,42 +93,26 @@ opened_among mark names (e ∷ es) =
     (among_step (window_in e.call e.reply) es (cs ++ rest)
     (λ w closed. list_any-append (closes w) cs rest ∙ or_right (list_any (closes w) cs) (list_any (closes w) rest) (any_more mark names (closes w) es closed))
     (open_windows rest) (open_windows es) (opened_among mark names es))
-  where
-    or_right : (a b : Bool) → b ≡ true → (a || b) ≡ true
-    or_right true b is_b = refl
-    or_right false b is_b = is_b
 
 -- what is found in the one is found in the other, where it has no two that pass
 found_among : (test : Opening → Bool) (xs ys : List Opening) → Among xs ys → count_by test ys ≤ 1 → (o : Opening) → find test xs ≡ Some o → find test ys ≡ Some o
 found_among test xs [] all once o found = absurd (cc (sym (ap (find test) all) ∙ found))
 found_among test xs (y ∷ ys) (inl kept) once o found =
     let here : find test (y ∷ kept.0) ≡ Some o = sym (ap (find test) kept.1) ∙ found in
+    let sum = count-cons test y ys in
     elim (bool_tells (test y)) [
-      | inl passes ↦ ap (λ b. cond {A = Option Opening} b (Some y) (find test ys)) passes ∙ (sym (ap (λ b. cond {A = Option Opening} b (Some y) (find test kept.0)) passes) ∙ here)
-      | inr fails ↦
-          (let fewer : count_by test ys ≤ 1 = (let sum = count-cons test y ys in omega (arith, once, sum)) in
-          ap (λ b. cond {A = Option Opening} b (Some y) (find test ys)) fails
-          ∙ found_among test kept.0 ys kept.2 fewer o (sym (ap (λ b. cond {A = Option Opening} b (Some y) (find test kept.0)) fails) ∙ here))
+      | inl passes ↦ rw passes (rw passes at here)
+      | inr fails ↦ rw fails (found_among test kept.0 ys kept.2 (omega (arith, once, sum)) o (rw fails at here))
     ]
 found_among test xs (y ∷ ys) (inr gone) once o found =
-    let later : find test ys ≡ Some o = found_among test xs ys gone.1 (let sum = count-cons test y ys in omega (arith, once, sum)) o found in
+    let sum = count-cons test y ys in
+    let later = found_among test xs ys gone.1 (omega (arith, once, sum)) o found in
     elim (bool_tells (test y)) [
-      | inr fails ↦ ap (λ b. cond {A = Option Opening} b (Some y) (find test ys)) fails ∙ later
-      | inl passes ↦
-          (let sum : count_by test (y ∷ ys) ≡ 1 + count_by test ys = count-cons test y ys ∙ ap (λ b. cond {A = ℕ} b 1 0 + count_by test ys) passes in
-          let some : 1 ≤ count_by test ys = count-found test ys (ap is_some later) in
-          absurd (omega (arith, once, sum, some)))
+      | inr fails ↦ rw fails later
+      | inl passes ↦ absurd (omega (arith, once, sum, cond-true {A = ℕ} (test y) 1 0 passes, count-found test ys (ap is_some later)))
     ]
 
 -- no more windows of a name are open than were opened
-counted_front : (test : Opening → Bool) (stays : Opening → Bool) (o : Option Opening) → count_by test (filter stays (option_to_list o)) ≤ count_by test (option_to_list o)
-counted_front test stays None = omega arith
-counted_front test stays (Some o) = step (stays o)
-  where
-    step : (b : Bool) → count_by test (cond {A = List Opening} b (o ∷ []) []) ≤ count_by test (o ∷ [])
-    step true = omega arith
-    step false = omega arith
-
 front_of : (o : Option Opening) (os : List Opening) → cons_option o os ≡ option_to_list o ++ os
 front_of None os = refl
 front_of (Some o) os = refl
@@ -144,37 +121,49 @@ open_opened : (es : List Entry) (w : WindowName) → open_count es w ≤ opening
 open_opened [] w = omega arith
 open_opened (e ∷ es) w =
     let named = λ (o : Opening). same_window o.window w in
-    let later = open_opened es w in
-    let front : List Opening = filter (λ (p : Opening). not (list_any (closes p.window) es)) (option_to_list (window_in e.call e.reply)) in
-    let one = counted_front named (λ (p : Opening). not (list_any (closes p.window) es)) (window_in e.call e.reply) in
-    let opens : open_count (e ∷ es) w ≡ count_by named front + open_count es w = count-append named front (open_windows es) in
-    let all : opening_count (e ∷ es) w ≡ count_by named (option_to_list (window_in e.call e.reply)) + opening_count es w =
-    ap (count_by named) (front_of (window_in e.call e.reply) (filter_map (λ (x : Entry). window_in x.call x.reply) es)) ∙ count-append named (option_to_list (window_in e.call e.reply)) (filter_map (λ (x : Entry). window_in x.call x.reply) es) in
-    omega (arith, later, one, opens, all)
+    let stays = λ (o : Opening). not (list_any (closes o.window) es) in
+    let here : List Opening = option_to_list (window_in e.call e.reply) in
+    let fewer = sum_by-filter_both stays (λ o. not (stays o)) (λ _. refl) (λ o. cond (named o) 1 0) here in
+    let opens : open_count (e ∷ es) w ≡ count_by named (filter stays here) + open_count es w = count-append named (filter stays here) (open_windows es) in
+    let opened = filter_map (λ (x : Entry). window_in x.call x.reply) es in
+    let all : opening_count (e ∷ es) w ≡ count_by named here + opening_count es w =
+    ap (count_by named) (front_of (window_in e.call e.reply) opened) ∙ count-append named here opened in
+    omega (arith, open_opened es w, fewer, opens, all)
 
-opening_append : (xs ys : List Entry) (w : WindowName) → opening_count (xs ++ ys) w ≡ opening_count xs w + opening_count ys w
-opening_append xs ys w =
-    let named = λ (o : Opening). same_window o.window w in
-    let says = λ (x : Entry). window_in x.call x.reply in
-    ap (count_by named) (filter_map-append says xs ys) ∙ count-append named (filter_map says xs) (filter_map says ys)
+abbrev pub kept_of : List Entry → ℕ → List Entry
+kept_of h m = (keep m (whole (take m h))).entries
 
-kept_opened : (test : Entry → List Entry → Bool) (xs : List Entry) (w : WindowName) → opening_count (filter_before test xs) w ≤ opening_count xs w
-kept_opened test [] w = omega arith
-kept_opened test (x ∷ xs) w = step (test x xs) (kept_opened test xs w)
-  where
-    step : (b : Bool) → opening_count (filter_before test xs) w ≤ opening_count xs w → opening_count (cond {A = List Entry} b (x ∷ filter_before test xs) (filter_before test xs)) w ≤ opening_count (x ∷ xs) w
-    step true later = (let a = opening_append (x ∷ []) (filter_before test xs) w in let b = opening_append (x ∷ []) xs w in omega (arith, later, a, b))
-    step false later = (let b = opening_append (x ∷ []) xs w in omega (arith, later, b))
+adds_append : {Y : Type 0} (L : List Entry → List Y) → Adds L → (xs ys : List Entry) → L (xs ++ ys) ≡ L xs ++ L ys
+adds_append L adds [] ys = sym (ap (λ l. l ++ L ys) adds.none)
+adds_append L adds (x ∷ xs) ys =
+    adds.more x (xs ++ ys) ∙ (ap (λ l. L (x ∷ []) ++ l) (adds_append L adds xs ys) ∙ (sym (append_assoc (L (x ∷ [])) (L xs) (L ys)) ∙ ap (λ l. l ++ L ys) (sym (adds.more x xs))))
+
+pub kept_fewer : {Y : Type 0} (L : List Entry → List Y) → Adds L → (test : Entry → List Entry → Bool) (xs : List Entry) → length (L (filter_before test xs)) ≤ length (L xs)
+kept_fewer L adds test [] = omega arith
+kept_fewer L adds test (x ∷ xs) =
+    let parts = λ (es : List Entry). ap length (adds.more x es) ∙ length-append (L (x ∷ [])) (L es) in
+    let kept = filter_before test xs in
+    let fewer = kept_fewer L adds test xs in
+    cond_both (test x xs) (x ∷ kept) kept (λ es. length (L es) ≤ length (L (x ∷ xs)))
+    (λ _. omega (arith, fewer, parts kept, parts xs)) (λ _. omega (arith, fewer, parts xs))
+
+-- what a history says, entry by entry, is said no more often in what is left
+left_fewer : {Y : Type 0} (L : List Entry → List Y) → Adds L → (net : Network) (h : List Entry) (k : Remains) → Leaves net h k → length (L k.entries) ≤ length (L h)
+left_fewer L adds net h k leaves =
+    let f : List Entry = take k.mark h in
+    let rest : List Entry = drop k.mark h in
+    let is : length (L k.entries) ≡ length (L (kept_of h k.mark)) + length (L rest) =
+    ap (λ (l : Remains). length (L l.entries)) leaves.left ∙ (ap length (adds_append L adds (kept_of h k.mark) rest) ∙ length-append (L (kept_of h k.mark)) (L rest)) in
+    let whole_is : length (L f) + length (L rest) ≡ length (L h) = sym (ap length (adds_append L adds f rest) ∙ length-append (L f) (L rest)) ∙ ap (λ (es : List Entry). length (L es)) (take-append-drop k.mark h) in
+    omega (arith, is, whole_is, kept_fewer L adds (is_kept (reading (whole f))) f)
 
 -- a name is opened no more often in what is left than in the history
 left_opened : (net : Network) (h : List Entry) (k : Remains) → Leaves net h k → (w : WindowName) → opening_count k.entries w ≤ opening_count h w
 left_opened net h k leaves w =
-    let f : List Entry = take k.mark h in
-    let kept : List Entry = (keep k.mark (whole f)).entries in
-    let is : opening_count k.entries w ≡ opening_count kept w + opening_count (drop k.mark h) w = ap (λ (l : Remains). opening_count l.entries w) leaves.left ∙ opening_append kept (drop k.mark h) w in
-    let whole_is : opening_count f w + opening_count (drop k.mark h) w ≡ opening_count h w = sym (opening_append f (drop k.mark h) w) ∙ ap (λ (es : List Entry). opening_count es w) (take-append-drop k.mark h) in
-    let fewer = kept_opened (is_kept (reading (whole f))) f w in
-    omega (arith, is, whole_is, fewer)
+    let named = λ (o : Opening). same_window o.window w in
+    let says = λ (x : Entry). window_in x.call x.reply in
+    let fewer = left_fewer (λ es. filter named (filter_map says es)) (Adds-filter named (filter_map says) (Adds-says says)) net h k leaves in
+    omega (arith, fewer, length-filter named (filter_map says k.entries), length-filter named (filter_map says h))
 
 -- an open window is found in what is left as it stands
 pub open_unread : (net : Network) (h : List Entry) (k : Remains) → Leaves net h k → WindowsOpenOnce h → (w : WindowName) (o : Opening) → find (λ (p : Opening). same_window p.window w) (open_windows (reading k)) ≡ Some o →
@@ -224,35 +213,13 @@ out_unread net h k leaves once e is =
 
 -- ---- the first entries of what is left
 
-take_behind : (xs ys : List Entry) (j : ℕ) → take (length xs + j) (xs ++ ys) ≡ xs ++ take j ys
-take_behind [] ys j = (let same : zero + j ≡ j = omega arith in ap (λ n. take n ys) same)
-take_behind (x ∷ xs) ys j = (let more : length (x ∷ xs) + j ≡ suc (length xs + j) = omega arith in ap (λ n. take n (x ∷ (xs ++ ys))) more ∙ ap (λ (l : List Entry). x ∷ l) (take_behind xs ys j))
-
-get_behind : (xs ys : List Entry) (j : ℕ) → slice_get (xs ++ ys) (length xs + j) ≡ slice_get ys j
-get_behind [] ys j = (let same : zero + j ≡ j = omega arith in ap (slice_get ys) same)
-get_behind (x ∷ xs) ys j = (let more : length (x ∷ xs) + j ≡ suc (length xs + j) = omega arith in ap (slice_get (x ∷ (xs ++ ys))) more ∙ get_behind xs ys j)
-
 pub get_drop : (m : ℕ) (xs : List Entry) (j : ℕ) → slice_get (drop m xs) j ≡ slice_get xs (m + j)
-get_drop zero xs j = (let same : zero + j ≡ j = omega arith in sym (ap (slice_get xs) same))
+get_drop zero xs j = rw zero-add
 get_drop (suc m) [] j = (let more : suc m + j ≡ suc (m + j) = omega arith in let none : List Entry = [] in sym (ap (slice_get none) more))
 get_drop (suc m) (x ∷ xs) j = (let more : suc m + j ≡ suc (m + j) = omega arith in get_drop m xs j ∙ sym (ap (slice_get (x ∷ xs)) more))
 
-take_less : (m j : ℕ) (xs : List Entry) → take m (take (m + j) xs) ≡ take m xs
-take_less zero j xs = refl
-take_less (suc m) j [] = (let more : suc m + j ≡ suc (m + j) = omega arith in ap (λ n. take (suc m) (take {A = Entry} n [])) more)
-take_less (suc m) j (x ∷ xs) = (let more : suc m + j ≡ suc (m + j) = omega arith in ap (λ n. take (suc m) (take n (x ∷ xs))) more ∙ ap (λ (l : List Entry). x ∷ l) (take_less m j xs))
-
-drop_less : (m j : ℕ) (xs : List Entry) → drop m (take (m + j) xs) ≡ take j (drop m xs)
-drop_less zero j xs = (let same : zero + j ≡ j = omega arith in ap (λ n. take n xs) same)
-drop_less (suc m) j [] = (let more : suc m + j ≡ suc (m + j) = omega arith in ap (λ n. drop (suc m) (take {A = Entry} n [])) more ∙ none j)
-  where
-    none : (n : ℕ) → [] ≡ take {A = Entry} n []
-    none zero = refl
-    none (suc n) = refl
-drop_less (suc m) j (x ∷ xs) = (let more : suc m + j ≡ suc (m + j) = omega arith in ap (λ n. drop (suc m) (take n (x ∷ xs))) more ∙ drop_less m j xs)
-
-abbrev pub kept_of : List Entry → ℕ → List Entry
-kept_of h m = (keep m (whole (take m h))).entries
+get_behind : (xs ys : List Entry) (j : ℕ) → slice_get (xs ++ ys) (length xs + j) ≡ slice_get ys j
+get_behind xs ys j = sym (get_drop (length xs) (xs ++ ys) j) ∙ ap (λ (l : List Entry). slice_get l j) (drop-append_seam xs ys)
 
 -- the first entries of a history leave the first entries of what it leaves
 pub leaves_first : (net : Network) (h : List Entry) (k : Remains) → Leaves net h k → (j : ℕ) → k.mark + j ≤ length h → Leaves net (take (k.mark + j) h) (first_entries (length (kept_of h k.mark) + j) k)
@@ -263,11 +230,11 @@ leaves_first net h k leaves j le =
     let len : length (take p h) ≡ p = length-take-le p h le in
     record {
       legal = legal-front net (take p h) (drop p h) (subst (IsLegal net) (sym (take-append-drop p h)) leaves.legal);
-      numbered = λ n e at. leaves.numbered n e (stands_before h p n e at).0;
+      numbered = λ n e at. leaves.numbered n e (stands_before h p n e at);
       within = omega (arith, len);
       left = ap (first_entries (length kept + j)) leaves.left
-          ∙ (ap (λ (es : List Entry). let x : Remains = record { mark = m; windows = (keep m (whole (take m h))).windows; entries = es } in x) (take_behind kept (drop m h) j ∙ ap (λ (l : List Entry). kept ++ l) (sym (drop_less m j h)))
-          ∙ ap (λ (g : List Entry). followed_by (keep m (whole g)) (drop m (take p h))) (sym (take_less m j h)));
+          ∙ (ap (λ (es : List Entry). let x : Remains = record { mark = m; windows = (keep m (whole (take m h))).windows; entries = es } in x) (take-append-add kept (drop m h) j ∙ ap (λ (l : List Entry). kept ++ l) (sym (drop-take m j h)))
+          ∙ ap (λ (g : List Entry). followed_by (keep m (whole g)) (drop m (take p h))) (sym (take-take m p h (omega arith))));
     }
 
 -- the place of an entry from the mark on
@@ -276,39 +243,9 @@ place_left net h k leaves j = ap (λ (l : Remains). slice_get l.entries (length 
 
 pub length_left : (net : Network) (h : List Entry) (k : Remains) → Leaves net h k → length k.entries + k.mark ≡ length (kept_of h k.mark) + length h
 length_left net h k leaves =
-    let all : length k.entries ≡ length (kept_of h k.mark) + length (drop k.mark h) = ap (λ (l : Remains). length l.entries) leaves.left ∙ length-append (kept_of h k.mark) (drop k.mark h) in
-    let whole_is : length (take k.mark h) + length (drop k.mark h) ≡ length h = sym (length-append (take k.mark h) (drop k.mark h)) ∙ ap length (take-append-drop k.mark h) in
-    let front : length (take k.mark h) ≡ k.mark = length-take-le k.mark h leaves.within in
-    omega (arith, all, whole_is, front)
+    omega (arith, ap (λ (l : Remains). length l.entries) leaves.left, length-append (kept_of h k.mark) (drop k.mark h), length-drop k.mark h, leaves.within)
 
 -- ---- copies
-
-adds_append : {Y : Type 0} (L : List Entry → List Y) → Adds L → (xs ys : List Entry) → L (xs ++ ys) ≡ L xs ++ L ys
-adds_append L adds [] ys = sym (ap (λ l. l ++ L ys) adds.none)
-adds_append L adds (x ∷ xs) ys =
-    adds.more x (xs ++ ys) ∙ (ap (λ l. L (x ∷ []) ++ l) (adds_append L adds xs ys) ∙ (sym (append_assoc (L (x ∷ [])) (L xs) (L ys)) ∙ ap (λ l. l ++ L ys) (sym (adds.more x xs))))
-
-kept_fewer : {Y : Type 0} (L : List Entry → List Y) → Adds L → (test : Entry → List Entry → Bool) (xs : List Entry) → length (L (filter_before test xs)) ≤ length (L xs)
-kept_fewer L adds test [] = omega arith
-kept_fewer {Y} L adds test (x ∷ xs) = step (test x xs) (kept_fewer L adds test xs)
-  where
-    parts : (es : List Entry) → length (L (x ∷ es)) ≡ length (L (x ∷ [])) + length (L es)
-    parts es = ap length (adds.more x es) ∙ length-append (L (x ∷ [])) (L es)
-
-    step : (b : Bool) → length (L (filter_before test xs)) ≤ length (L xs) → length (L (cond {A = List Entry} b (x ∷ filter_before test xs) (filter_before test xs))) ≤ length (L (x ∷ xs))
-    step true later = (let a = parts (filter_before test xs) in let b = parts xs in omega (arith, later, a, b))
-    step false later = (let b = parts xs in omega (arith, later, b))
-
-window_copies_left : (net : Network) (h : List Entry) (k : Remains) → Leaves net h k → (w : WindowName) → length (window_copies k.entries w) ≤ length (window_copies h w)
-window_copies_left net h k leaves w =
-    let L : List Entry → List Heard = λ es. window_copies es w in
-    let adds : Adds L = window_copies-adds w in
-    let f : List Entry = take k.mark h in
-    let is : length (L k.entries) ≡ length (L (kept_of h k.mark)) + length (L (drop k.mark h)) =
-    ap (λ (l : Remains). length (L l.entries)) leaves.left ∙ (ap length (adds_append L adds (kept_of h k.mark) (drop k.mark h)) ∙ length-append (L (kept_of h k.mark)) (L (drop k.mark h))) in
-    let whole_is : length (L f) + length (L (drop k.mark h)) ≡ length (L h) = sym (ap length (adds_append L adds f (drop k.mark h)) ∙ length-append (L f) (L (drop k.mark h))) ∙ ap (λ (es : List Entry). length (L es)) (take-append-drop k.mark h) in
-    let fewer = kept_fewer L adds (is_kept (reading (whole f))) f in
-    omega (arith, is, whole_is, fewer)
 
 accept_fits : (net : Network) (h : List Entry) (k : Remains) → Leaves net h k → LimitsHold h → (c : Call) (r : Reply) → r ≡ reply_to net h c → AcceptFits k.entries c r
 accept_fits net h k leaves limits (call.JoinReply t (outcome.Success join)) (reply.Accepted eui session addr) is = step (is_ticket_open h t) refl is
@@ -325,6 +262,6 @@ accept_fits net h k leaves limits _ _ is = tt
 -- the copies of what is left fit, at an entry that is legal after the history
 pub copies_fit : (net : Network) (h : List Entry) (k : Remains) → Leaves net h k → LimitsHold h → (e : Entry) → e.reply ≡ reply_to net h e.call → CopiesFit k.entries e
 copies_fit net h k leaves limits e is = record {
-  windows = λ w. (let a = window_copies_left net h k leaves w in let b = limits.of_window w in omega (arith, a, b));
+  windows = λ w. (let fewer = left_fewer (λ es. window_copies es w) (window_copies-adds w) net h k leaves in omega (arith, fewer, limits.of_window w));
   ticket = accept_fits net h k leaves limits e.call e.reply is;
 }

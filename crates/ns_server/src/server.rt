@@ -287,8 +287,8 @@ impl<B: Naming> Server<B> {
 
     /// Makes a call with a worker's pass, under the lock of the call's shard alone, with the visits of the gate. `NoMemory`
     /// (`AllocError`) where a growth was refused. What it does to the shard, and when it is refused, is said of `Kept::step`: the contract
-    /// has no name for what lies under the lock. Each reply is the plain server's after the entries of its shard before it, and what goes
-    /// out is what the receipt tells.
+    /// has no name for what lies under the lock. Each reply is the plain server's after some history of its shard, as long as the
+    /// entry's number, and what goes out is what the receipt tells.
     pub fn call<R: Wait, G: Gate<R>>(
         &self,
         rt: &R,

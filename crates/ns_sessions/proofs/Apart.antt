@@ -1,8 +1,7 @@
 -- In a legal history no ticket is open twice.
-use Rattle.std.proofs.Common.{◌≡◌, ℕ, Bool, true, false, not, ◌||◌, cond, List, [], ◌∷◌, ◌++◌, filter, Option, None, Some, IfSome, option_to_list, sym, ap, subst, ◌∙◌, inl, inr}
+use Rattle.std.proofs.Common.{◌≡◌, ℕ, Bool, false, not, List, [], ◌∷◌, ◌++◌, filter, Option, None, Some, IfSome, option_to_list, sym, subst, arith}
 use Rattle.std.specs.List.{AllByRecursion, list_any}
 use Rattle.std.proofs.lemmas.List.{append-nil}
-use Rattle.std.proofs.lemmas.Bool.{false≢true}
 use Rattle.ns_types.specs.declared.ticket.Ticket.{Ticket}
 use Rattle.ns_roster.specs.Network.{Network}
 use Rattle.ns_calls.specs.declared.call.Call.{Call}
@@ -12,7 +11,6 @@ use Rattle.ns_calls.specs.History.{same_ticket, ends_ticket, open_tickets, is_ti
 use Rattle.ns_calls.proofs.Says.{asking_in, uplink-says, answer-says, close-says}
 use Rattle.ns_calls.specs.Reply.{reply_to}
 use Rattle.ns_calls.specs.Legal.{IsLegal, entry_for, with_call}
-use Rattle.ns_calls.proofs.LocalLemmas.{bool_tells}
 use Rattle.ns_calls.proofs.Lists.{All-append, All-filter}
 use Rattle.ns_calls.proofs.Induction.{legal_induction}
 use Rattle.ns_calls.proofs.JoinLemmas.{join-has}
@@ -26,19 +24,11 @@ AreApart (t ∷ ts) = AllByRecursion (λ u. same_ticket t u ≡ false) ts × Are
 
 pub none_equal : (t : Ticket) (ts : List Ticket) → list_any (same_ticket t) ts ≡ false → AllByRecursion (λ u. same_ticket u t ≡ false) ts
 none_equal t [] is = tt
-none_equal t (u ∷ ts) is =
-    elim (bool_tells (same_ticket t u)) [
-      | inl here ↦ absurd (false≢true (sym is ∙ ap (λ b. b || list_any (same_ticket t) ts) here))
-      | inr there ↦ (same_ticket-sym t u false there, none_equal t ts (subst (λ b. (b || list_any (same_ticket t) ts) ≡ false) there is))
-    ]
+none_equal t (u ∷ ts) is = grind (arith, same_ticket-sym t u false, none_equal t ts)
 
 pub apart-filter : (keep : Ticket → Bool) (ts : List Ticket) → AreApart ts → AreApart (filter keep ts)
 apart-filter keep [] apart = tt
-apart-filter keep (t ∷ ts) apart = step (keep t) (All-filter (λ u. same_ticket t u ≡ false) keep ts apart.0) (apart-filter keep ts apart.1)
-  where
-    step : (b : Bool) → AllByRecursion (λ u. same_ticket t u ≡ false) (filter keep ts) → AreApart (filter keep ts) → AreApart (cond b (t ∷ filter keep ts) (filter keep ts))
-    step true here later = (here, later)
-    step false here later = later
+apart-filter keep (t ∷ ts) apart = grind (arith, All-filter (λ u. same_ticket t u ≡ false) keep ts apart.0, apart-filter keep ts apart.1)
 
 pub apart-push : (t : Ticket) (ts : List Ticket) → AllByRecursion (λ u. same_ticket u t ≡ false) ts → AreApart ts → AreApart (ts ++ t ∷ [])
 apart-push t [] new apart = (tt, tt)

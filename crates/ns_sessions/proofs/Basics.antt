@@ -1,15 +1,7 @@
--- Tests and greatest numbers.
-use Rattle.std.proofs.Common.{◌≡◌, ℕ, Bool, true, false, ◌||◌, Option, None, Some, refl, ap, arith}
+-- Greatest numbers.
+use Rattle.std.proofs.Common.{◌≡◌, ℕ, Option, None, Some, refl, ap, arith}
 use Rattle.ns_secure.specs.Counter.{Exceeds}
 use Rattle.ns_calls.specs.Queries.{greater}
-
-pub or_last : (b : Bool) → (b || false) ≡ true → b ≡ true
-or_last true is = refl
-or_last false is = absurd (cc is)
-
-pub or_later : (b c : Bool) → c ≡ true → (b || c) ≡ true
-or_later true c is = refl
-or_later false c is = is
 
 pub greater-none : (a : Option ℕ) → greater a None ≡ a
 greater-none None = refl

@@ -1,16 +1,12 @@
 -- What the sessions of every legal history are like.
-use Rattle.std.proofs.Common.{◌≡◌, ◌⊎◌, ℕ, ◌==◌, Bool, true, false, ◌||◌, cond, List, [], ◌∷◌, ◌++◌, filter, map, Option, None, Some, IfSome, option_map, refl, sym, ap, subst, ◌∙◌, arith, inl, inr}
+use Rattle.std.proofs.Common.{◌≡◌, ◌⊎◌, ℕ, ◌==◌, Bool, true, false, List, [], ◌∷◌, ◌++◌, filter, map, Option, None, Some, IfSome, option_map, refl, sym, ap, subst, ◌∙◌, arith, inl, inr}
 use Rattle.std.specs.Prelude.{IsSome, is_some}
 use Rattle.std.specs.List.{AllByRecursion, list_any}
-use Rattle.std.specs.Option.{option_and_then}
 use Rattle.std.proofs.lemmas.List.{append-nil}
 use Rattle.std.proofs.lemmas.List.Elements.{filter-append}
-use Rattle.std.proofs.lemmas.Option.{same_Some}
-use Rattle.std.proofs.lemmas.Bool.{false≢true}
 use Rattle.std.proofs.lemmas.Bool.Decides.{nat_tests}
 use Rattle.ns_types.specs.declared.identity.DevEui.{DevEui}
 use Rattle.ns_types.specs.declared.identity.WindowName.{WindowName}
-use Rattle.ns_types.specs.Cases.{first_case}
 use Rattle.ns_types.specs.Identity.{same_window}
 use Rattle.ns_views.specs.Frame.{data_fields}
 use Rattle.ns_secure.specs.Counter.{above}
@@ -19,32 +15,28 @@ use Rattle.ns_roster.specs.Network.{Network}
 use Rattle.ns_calls.specs.declared.call.JoinAns.{JoinAns}
 use Rattle.ns_calls.specs.declared.call.Call.{Call}
 use Rattle.ns_calls.specs.declared.call.Call.TheVariants as call
-use Rattle.ns_calls.specs.declared.call.Reply.TheVariants as reply
 use Rattle.ns_calls.specs.declared.call.Entry.{Entry}
 use Rattle.ns_calls.specs.Queries.{last}
 use Rattle.ns_calls.specs.Entries.{Acceptance, Opening, Closing, acceptances, openings, same_device, session_counters, open_windows, first_opened, closed}
 use Rattle.ns_calls.proofs.Says.{opening_in, closing_in, uplink-says, join-says, answer-says, close-says}
-use Rattle.ns_calls.specs.History.{first_and_other, closings, session_join, active_session, newest_session, live, is_live, greatest_counter, open_window}
-use Rattle.ns_calls.specs.Reply.{Fit, fit_of, fitting_counter, session_fit, device_fit, devices_at, first_fit, ack_number, reply_to}
+use Rattle.ns_calls.specs.History.{closings, session_join, active_session, newest_session, live, is_live, open_window}
+use Rattle.ns_calls.specs.Reply.{Fit, session_fit, device_fit, devices_at, first_fit, reply_to}
 use Rattle.ns_calls.specs.Legal.{IsLegal, entry_for, with_call}
 use Rattle.ns_calls.specs.Headline.{SessionsHaveJoins}
-use Rattle.ns_calls.proofs.LocalLemmas.{bool_tells}
-use Rattle.ns_calls.proofs.Lists.{said-adds, All-push, All-weaker, find-has, at_some, first-gives_of}
+use Rattle.ns_calls.proofs.Lists.{said-adds, All-push, All-weaker, find-has, at_some, first-gives_of, first-gives}
 use Rattle.ns_calls.proofs.QueryLemmas.{last-push}
 use Rattle.ns_calls.proofs.Induction.{legal_induction}
 use Rattle.ns_calls.proofs.JoinLemmas.{acceptances-cases, same_device-eq}
 use Rattle.ns_calls.proofs.UplinkLemmas.{AddedOpening, openings-cases, uplink-has}
 use Rattle.ns_calls.proofs.KeyLemmas.{has_join-stays, session_join-next, sessions_have_joins}
 use Rattle.ns_calls.proofs.NameLemmas.{same_window-eq}
-use Rattle.ns_sessions.proofs.Basics.{or_last, or_later}
+use Rattle.std.proofs.Math.Bool.{or-true}
 
 -- ---- where an uplink fits
 
 each_member : (xs : List ℕ) → AllByRecursion (λ s. list_any (λ n. n == s) xs ≡ true) xs
 each_member [] = tt
-each_member (x ∷ xs) =
-    let here : (x == x) ≡ true = grind (arith, nat_tests) in
-    (ap (λ b. b || list_any (λ n. n == x) xs) here, All-weaker (λ s. list_any (λ n. n == s) xs ≡ true) (λ s. list_any (λ n. n == s) (x ∷ xs) ≡ true) (λ s is. or_later (x == s) _ is) xs (each_member xs))
+each_member (x ∷ xs) = (grind (arith, nat_tests), All-weaker (λ s. list_any (λ n. n == s) xs ≡ true) (λ s. list_any (λ n. n == s) (x ∷ xs) ≡ true) (λ s is. rw (is, or-true)) xs (each_member xs))
 
 -- the fit's session lives, and has keys
 pub record IsFit (h : List Entry) (f : Fit) : Type 0 where
@@ -52,15 +44,7 @@ pub record IsFit (h : List Entry) (f : Fit) : Type 0 where
   pub keyed : IsSome (session_join h f.eui f.session)
 
 session_fit-live : (recover : Option ℕ → ℕ → Option ℕ) (h : List Entry) (frame : List ℕ) (eui : DevEui) (session : ℕ) → is_live h eui session ≡ true → IfSome (session_fit recover h frame eui session) (IsFit h)
-session_fit-live recover h frame eui session lives = joined (session_join h eui session) refl
-  where
-    step : IsSome (session_join h eui session) → (o : Option ℕ) → IfSome (option_map (fit_of eui session) o) (IsFit h)
-    step keyed None = tt
-    step keyed (Some n) = record { lives = lives; keyed = keyed }
-
-    joined : (j : Option JoinAns) → session_join h eui session ≡ j → IfSome (option_map (fit_of eui session) (option_and_then (λ (join : JoinAns). fitting_counter recover frame join.nwk (greatest_counter h eui session)) j)) (IsFit h)
-    joined None is = tt
-    joined (Some join) is = step (subst (λ o. IsSome o) (sym is) refl) (fitting_counter recover frame join.nwk (greatest_counter h eui session))
+session_fit-live recover h frame eui session lives = grind arith
 
 pub device_fit-live : (recover : Option ℕ → ℕ → Option ℕ) (h : List Entry) (frame : List ℕ) (eui : DevEui) → IfSome (device_fit recover h frame eui) (IsFit h)
 device_fit-live recover h frame eui =
@@ -69,11 +53,7 @@ device_fit-live recover h frame eui =
 
 pub first_fit-live : (recover : Option ℕ → ℕ → Option ℕ) (net : Network) (h : List Entry) (frame : List ℕ) → IfSome (first_fit recover net h frame) (IsFit h)
 first_fit-live recover net h frame =
-    first-gives_of (IsFit h) (λ (d : Device). device_fit recover h frame d.eui) (devices_at net (data_fields frame).addr) (each (devices_at net (data_fields frame).addr))
-  where
-    each : (ds : List Device) → AllByRecursion (λ (d : Device). IfSome (device_fit recover h frame d.eui) (IsFit h)) ds
-    each [] = tt
-    each (d ∷ ds) = (device_fit-live recover h frame d.eui, each ds)
+    first-gives (IsFit h) (λ (d : Device). device_fit recover h frame d.eui) (λ (d : Device). device_fit-live recover h frame d.eui) (devices_at net (data_fields frame).addr)
 
 -- the window's session lives, and has keys
 pub record IsLiveWindow (h : List Entry) (w : WindowName) : Type 0 where
@@ -100,12 +80,7 @@ closing-open : (net : Network) (h : List Entry) (c : Call) → IfSome (closing_i
 closing-open net h (call.Uplink frame heard) = uplink-says (λ s. IfSome (closed s) (λ x. is_some (open_window h x.window) ≡ true)) frame heard (λ w. tt) (λ w. tt) (λ w. tt) tt (reply_to net h (call.Uplink frame heard))
 closing-open net h (call.Join t heard) = join-says (λ s. IfSome (closed s) (λ x. is_some (open_window h x.window) ≡ true)) t heard tt tt tt (reply_to net h (call.Join t heard))
 closing-open net h (call.JoinReply t o) = answer-says (λ s. IfSome (closed s) (λ x. is_some (open_window h x.window) ≡ true)) t o (λ n. tt) tt tt (reply_to net h (call.JoinReply t o))
-closing-open net h (call.Close w) = step (open_window h w) refl
-  where
-    step : (found : Option Opening) → open_window h w ≡ found →
-        IfSome (closing_in (call.Close w) (first_case (option_map (λ o. reply.Closed w (ack_number h o)) found ∷ []) reply.NoWindow)) (λ x. is_some (open_window h x.window) ≡ true)
-    step None is = tt
-    step (Some o) is = ap is_some is
+closing-open net h (call.Close w) = grind arith
 
 -- ---- what a call adds to the openings and closings of a device
 
@@ -138,24 +113,14 @@ closings-open net h number c eui =
 
 -- an open window's session has keys
 open-keyed : (h : List Entry) → SessionsHaveJoins h → (w : WindowName) → is_some (open_window h w) ≡ true → IsSome (session_join h w.eui w.session)
-open-keyed h keyed w is = step (open_window h w) is (find-has (λ (o : Opening). IsSome (session_join h o.window.eui o.window.session)) (λ (o : Opening). same_window o.window w) (open_windows h) keyed.of_windows)
-  where
-    step : (found : Option Opening) → is_some found ≡ true → IfSome found (λ o. IsSome (session_join h o.window.eui o.window.session) × (same_window o.window w ≡ true)) → IsSome (session_join h w.eui w.session)
-    step None some has = absurd (cc some)
-    step (Some o) some has = subst (λ (v : WindowName). IsSome (session_join h v.eui v.session)) (same_window-eq o.window w has.1) has.0
+open-keyed h keyed w is =
+    let has = find-has (λ (o : Opening). IsSome (session_join h o.window.eui o.window.session)) (λ (o : Opening). same_window o.window w) (open_windows h) keyed.of_windows in
+    grind (arith, has, same_window-eq)
 
 -- nothing is of a session that has no keys
 pub none_of_session : {X : Type 0} (keys : ℕ → Option JoinAns) (session : X → ℕ) (n : ℕ) → keys n ≡ None → (xs : List X) → AllByRecursion (λ x. IsSome (keys (session x))) xs → filter (λ x. session x == n) xs ≡ []
 none_of_session keys session n none [] all = refl
-none_of_session {X} keys session n none (x ∷ xs) all =
-    let rest = none_of_session keys session n none xs all.1 in
-    elim (bool_tells (session x == n)) [
-      | inl here ↦
-          (let is : session x ≡ n = grind (arith, nat_tests) in
-          let some : is_some (keys n) ≡ true = subst (λ m. IsSome (keys m)) is all.0 in
-          absurd (false≢true (ap is_some (sym none) ∙ some)))
-      | inr there ↦ ap (λ b. cond {A = List X} b (x ∷ filter (λ y. session y == n) xs) (filter (λ y. session y == n) xs)) there ∙ rest
-    ]
+none_of_session keys session n none (x ∷ xs) all = grind (arith, nat_tests, all.0, none_of_session keys session n none xs all.1)
 
 -- ---- every legal history
 
@@ -186,25 +151,10 @@ closings-keyed net h number c keyed facts eui =
           (All-push Keyed (closings h eui) new.c (facts.of_closings eui) (subst (λ (d : DevEui). IsSome (session_join h d new.c.window.session)) new.device (open-keyed h keyed new.c.window new.was_open)))
     ]
 
--- a live session that is not the newest is the active one, and then the newest was not used
-live_other : (a : Option ℕ) (y s : ℕ) (P : Type 0) → list_any (λ n. n == s) (first_and_other a (Some y)) ≡ true → (s == y) ≡ false → (option_map (λ x. x == y) a ≡ Some true) ⊎ P → P
-live_other None y s P lives differs fact =
-    let same : (y == s) ≡ true = or_last (y == s) lives in
-    let back : (s == y) ≡ true = grind (arith, nat_tests) in
-    absurd (false≢true (sym differs ∙ back))
-live_other (Some x) y s P lives differs (inr unused) = unused
-live_other (Some x) y s P lives differs (inl same) =
-    let is : (x == y) ≡ true = same_Some (x == y) true same in
-    let alone : (x == s) ≡ true = or_last (x == s) (subst (λ b. list_any (λ n. n == s) (cond {A = List ℕ} b (x ∷ []) (x ∷ y ∷ [])) ≡ true) is lives) in
-    let back : (s == y) ≡ true = grind (arith, nat_tests) in
-    absurd (false≢true (sym differs ∙ back))
-
 -- the counters of a session, with an opening in another
 other_counters : (os : List Opening) (o : Opening) (y : ℕ) → (o.window.session == y) ≡ false →
     map (λ (x : Opening). x.window.fcnt) (filter (λ (x : Opening). x.window.session == y) os) ≡ [] → map (λ (x : Opening). x.window.fcnt) (filter (λ (x : Opening). x.window.session == y) (os ++ o ∷ [])) ≡ []
-other_counters os o y differs none =
-    let test : Opening → Bool = λ x. x.window.session == y in
-    ap (map (λ (x : Opening). x.window.fcnt)) (filter-append test os (o ∷ []) ∙ (ap (λ b. filter test os ++ cond {A = List Opening} b (o ∷ []) []) differs ∙ append-nil (filter test os))) ∙ none
+other_counters os o y differs none = grind (arith, filter-append, append-nil)
 
 newest_step : (net : Network) (h : List Entry) (number : ℕ) (c : Call) → SessionFacts h → (eui : DevEui) →
     IfSome (newest_session (with_call net h number c) eui) (λ y. (option_map (λ x. x == y) (active_session (with_call net h number c) eui) ≡ Some true) ⊎ (session_counters (with_call net h number c) eui y ≡ []))
@@ -213,12 +163,8 @@ newest_step net h number c facts eui =
     let Fine : List Acceptance → List Opening → Type 0 = λ joins os. IfSome (option_map (λ (a : Acceptance). a.session) (last joins)) (λ y. (option_map (λ x. x == y) (option_map (λ (o : Opening). o.window.session) (last os)) ≡ Some true) ⊎ (map (λ (o : Opening). o.window.fcnt) (filter (λ (o : Opening). o.window.session == y) os) ≡ [])) in
     elim (acceptances-cases net h number c eui) [
       | inr joined ↦
-          (let unused : session_counters now eui joined.a.session ≡ [] =
-          ap (map (λ (o : Opening). o.window.fcnt))
-          (none_of_session (session_join h eui) (λ (o : Opening). o.window.session) joined.a.session (ap (session_join h eui) joined.session ∙ session_join-next h eui) (openings now eui) (openings-keyed net h number c facts eui)) in
-          subst (λ joins. Fine joins (openings now eui)) (sym joined.joined)
-          (subst (λ (o : Option Acceptance). IfSome (option_map (λ (a : Acceptance). a.session) o) (λ y. (option_map (λ x. x == y) (active_session now eui) ≡ Some true) ⊎ (session_counters now eui y ≡ [])))
-          (sym (last-push (acceptances h eui) joined.a)) (inr unused)))
+          (let unused = none_of_session (session_join h eui) (λ (o : Opening). o.window.session) joined.a.session (ap (session_join h eui) joined.session ∙ session_join-next h eui) (openings now eui) (openings-keyed net h number c facts eui) in
+          subst (λ joins. Fine joins (openings now eui)) (sym joined.joined) (grind (arith, unused, last-push (acceptances h eui) joined.a)))
       | inl same ↦ subst (λ joins. Fine joins (openings now eui)) (sym same) (elim (openings-cases (IsLiveOpening h) net h number c (opening-live net h c) eui) [
         | inl still ↦ subst (λ os. Fine (acceptances h eui) os) (sym still) (facts.newest eui)
         | inr new ↦ subst (λ os. Fine (acceptances h eui) os) (sym new.joined) (opened new)
@@ -228,18 +174,9 @@ newest_step net h number c facts eui =
     opened : (new : AddedOpening (IsLiveOpening h) h eui (openings (with_call net h number c) eui)) →
         IfSome (newest_session h eui) (λ y. (option_map (λ x. x == y) (option_map (λ (o : Opening). o.window.session) (last (openings h eui ++ new.o ∷ []))) ≡ Some true)
         ⊎ (map (λ (o : Opening). o.window.fcnt) (filter (λ (o : Opening). o.window.session == y) (openings h eui ++ new.o ∷ [])) ≡ []))
-    opened new = step (newest_session h eui) (facts.newest eui) (subst (λ (d : DevEui). is_live h d new.o.window.session ≡ true) new.device new.new.lives)
-      where
-        step : (b : Option ℕ) → IfSome b (λ y. (option_map (λ x. x == y) (active_session h eui) ≡ Some true) ⊎ (session_counters h eui y ≡ [])) →
-            list_any (λ n. n == new.o.window.session) (first_and_other (active_session h eui) b) ≡ true →
-            IfSome b (λ y. (option_map (λ x. x == y) (option_map (λ (o : Opening). o.window.session) (last (openings h eui ++ new.o ∷ []))) ≡ Some true)
-            ⊎ (map (λ (o : Opening). o.window.fcnt) (filter (λ (o : Opening). o.window.session == y) (openings h eui ++ new.o ∷ [])) ≡ []))
-        step None fact lives = tt
-        step (Some y) fact lives =
-            elim (bool_tells (new.o.window.session == y)) [
-              | inl is ↦ inl (ap (λ (o : Option Opening). option_map (λ x. x == y) (option_map (λ (p : Opening). p.window.session) o)) (last-push (openings h eui) new.o) ∙ ap Some is)
-              | inr differs ↦ inr (other_counters (openings h eui) new.o y differs (live_other (active_session h eui) y new.o.window.session (session_counters h eui y ≡ []) lives differs fact))
-            ]
+    opened new =
+        let lives : is_live h eui new.o.window.session ≡ true = subst (λ (d : DevEui). is_live h d new.o.window.session ≡ true) new.device new.new.lives in
+        grind (arith, nat_tests, lives, facts.newest eui, last-push (openings h eui) new.o, other_counters (openings h eui) new.o)
 
 pub session_facts : (net : Network) (h : List Entry) → IsLegal net h → SessionFacts h
 session_facts net h legal =

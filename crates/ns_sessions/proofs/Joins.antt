@@ -1,5 +1,5 @@
 -- Join-Requests and answers of join servers agree with the history.
-use Rattle.std.proofs.Common.{◌≡◌, ℕ, ◌+◌, Bool, true, false, not, cond, List, [], ◌∷◌, ◌++◌, length, nat_le, nat_lt, Option, None, Some, option_map, refl, sym, ap, ap₂, ◌∙◌, IfSome}
+use Rattle.std.proofs.Common.{◌≡◌, ℕ, Bool, true, false, not, cond, List, [], ◌∷◌, ◌++◌, length, nat_le, Option, None, Some, option_map, refl, sym, ap, ap₂, ◌∙◌, IfSome, arith}
 use Rattle.std.proofs.lemmas.List.{length-map}
 use Rattle.std.proofs.lemmas.List.Sums.{length-filter}
 use Rattle.ns_types.specs.declared.identity.DevEui.{DevEui}
@@ -14,18 +14,16 @@ use Rattle.ns_calls.specs.declared.call.Reply.TheVariants as reply
 use Rattle.ns_calls.specs.declared.call.Entry.{Entry}
 use Rattle.ns_calls.specs.History.{open_tickets, is_ticket_open, ticket_count, ticket_copies, closings, last_nonce}
 use Rattle.ns_calls.specs.Headline.{session_round, nonce_at_or_above}
-use Rattle.ns_calls.specs.Entries.{acceptances, openings, same_device, most_copies, Acceptance, Opening, Closing, said, accepted, first_opened, opened, closed}
+use Rattle.ns_calls.specs.Entries.{acceptances, openings, same_device, accepted, first_opened, opened, closed}
 use Rattle.ns_calls.specs.Reply.{join_copy_reply, most_tickets, JoinFacts, join_facts, join_rule, reply_to_join}
 use Rattle.ns_calls.specs.Legal.{IsLegal, entry_of}
-use Rattle.ns_calls.proofs.PushLemmas.{acceptances-push, openings-push, closings-push}
 use Rattle.ns_sessions.specs.declared.ticket.OpenTicket.{OpenTicket}
 use Rattle.ns_sessions.specs.declared.decision.JoinDecision.{JoinDecision}
 use Rattle.ns_sessions.specs.declared.decision.JoinDecision.TheVariants as join
 use Rattle.ns_sessions.specs.Record.{DeviceRecord, device_record, ticket_record, tickets_of, ticket_in, decision_of, join_decision, with_join}
 use Rattle.ns_sessions.specs.Laws.{join_decision_reply, JoinsAgree}
 use Rattle.ns_sessions.proofs.Sessions.{sessions_by}
-use Rattle.ns_sessions.proofs.Rounds.{rounds-stay}
-use Rattle.ns_sessions.proofs.Records.{tickets_said, record_by, record_said, none_added}
+use Rattle.ns_sessions.proofs.Records.{tickets_said, record_by, record_said, sessions_keep}
 use Rattle.ns_sessions.proofs.JoinSteps.{tickets_asked, tickets_copied, among_said}
 use Rattle.ns_sessions.proofs.Uplinks.{record_stays}
 use Rattle.ns_calls.proofs.Says.{join-says}
@@ -46,19 +44,13 @@ known_reply t stale copies busy =
 
 -- its decision stands for it
 told_back : (t : Ticket) (stale copies : Option ℕ) (busy : Bool) → join_decision_reply t (decision_of (known_reply t stale copies busy)) ≡ known_reply t stale copies busy
-told_back t (Some g) copies busy = refl
-told_back t None (Some n) busy =
-    elim (nat_lt n most_copies) as (λ b. join_decision_reply t (decision_of (cond b (reply.JoinCopied (n + 1)) reply.JoinCrowded)) ≡ cond b (reply.JoinCopied (n + 1)) reply.JoinCrowded) [ true ↦ refl | false ↦ refl ]
-told_back t None None true = refl
-told_back t None None false = refl
+told_back t stale copies busy = grind arith
 
 count_said : (h : List Entry) (eui : DevEui) → length (tickets_said h eui) ≡ ticket_count h eui
 count_said h eui = length-map (tickets_of h eui) (ticket_record h) ∙ length-filter (λ u. same_device (dev_eui u) eui) (open_tickets h)
 
 copies_said : (net : Network) (h : List Entry) (t : Ticket) → option_map (λ (o : OpenTicket). o.copies.count) (ticket_in (said_of net h (dev_eui t)) t) ≡ when (is_ticket_open h t) (length (ticket_copies h t))
-copies_said net h t =
-    ap (option_map (λ (o : OpenTicket). o.copies.count)) (ticket_said net h t)
-    ∙ elim (is_ticket_open h t) as (λ b. option_map (λ (o : OpenTicket). o.copies.count) (cond b (Some (ticket_record h t)) None) ≡ when b (length (ticket_copies h t))) [ true ↦ refl | false ↦ refl ]
+copies_said net h t = grind (arith, ticket_said net h t)
 
 -- the decision, by what the history says
 decision_said : (net : Network) (h : List Entry) (t : Ticket) →
@@ -75,36 +67,23 @@ join_replies net h t known =
 
 -- what is asked for was not open
 asked_closed : (t : Ticket) (stale : Option ℕ) (is_open : Bool) (n : ℕ) (busy : Bool) → decision_of (known_reply t stale (when is_open n) busy) ≡ join.Ask → is_open ≡ false
-asked_closed t (Some g) is_open n busy is = absurd (cc is)
-asked_closed t None true n busy is = absurd (step (nat_lt n most_copies) is)
-  where
-    step : (b : Bool) → decision_of (cond b (reply.JoinCopied (n + 1)) reply.JoinCrowded) ≡ join.Ask → ⊥
-    step true eq = cc eq
-    step false eq = cc eq
-asked_closed t None false n busy is = refl
+asked_closed t stale is_open n busy is = grind arith
 
 -- the sessions stay
 join_keeps : (net : Network) (h : List Entry) (number : ℕ) (t : Ticket) (heard : Heard) (r : Reply) → let e : Entry = entry_of number (call.Join t heard) r in
     device_record net (h ++ e ∷ []) (dev_eui t) ≡ record_by (last_nonce net (dev_eui t)) (acceptances h (dev_eui t)) (sessions_by (acceptances h (dev_eui t)) (openings h (dev_eui t)) (session_round h (dev_eui t)) (closings h (dev_eui t))) (tickets_said (h ++ e ∷ []) (dev_eui t))
 join_keeps net h number t heard r =
-    let e : Entry = entry_of number (call.Join t heard) r in
     let eui : DevEui = dev_eui t in
-    let joins : acceptances (h ++ e ∷ []) eui ≡ acceptances h eui = acceptances-push h e eui ∙ none_added (λ (a : Acceptance). same_device a.eui eui) (acceptances h eui) (accepted (said (call.Join t heard) r)) (join-says (λ s. IfSome (accepted s) (λ a. same_device a.eui eui ≡ false)) t heard tt tt tt r) in
-    let os : openings (h ++ e ∷ []) eui ≡ openings h eui = openings-push h e eui ∙ none_added (λ (a : Opening). same_device a.window.eui eui) (openings h eui) (first_opened (said (call.Join t heard) r)) (join-says (λ s. IfSome (first_opened s) (λ a. same_device a.window.eui eui ≡ false)) t heard tt tt tt r) in
-    let cs : closings (h ++ e ∷ []) eui ≡ closings h eui = closings-push h e eui ∙ none_added (λ (a : Closing). same_device a.window.eui eui) (closings h eui) (closed (said (call.Join t heard) r)) (join-says (λ s. IfSome (closed s) (λ a. same_device a.window.eui eui ≡ false)) t heard tt tt tt r) in
-    let rs : session_round (h ++ e ∷ []) eui ≡ session_round h eui = rounds-stay h e eui os (join-says (λ s. IfSome (opened s) (λ o. same_device o.window.eui eui ≡ false)) t heard tt tt tt r) in
-    record_said net (h ++ e ∷ []) eui ∙ (λ i. record_by (last_nonce net eui) (joins i) (sessions_by (joins i) (os i) (rs i) (cs i)) (tickets_said (h ++ e ∷ []) eui))
+    sessions_keep net h (entry_of number (call.Join t heard) r) eui
+    (join-says (λ s. IfSome (accepted s) (λ a. same_device a.eui eui ≡ false)) t heard tt tt tt r)
+    (join-says (λ s. IfSome (first_opened s) (λ a. same_device a.window.eui eui ≡ false)) t heard tt tt tt r)
+    (join-says (λ s. IfSome (closed s) (λ a. same_device a.window.eui eui ≡ false)) t heard tt tt tt r)
+    (join-says (λ s. IfSome (opened s) (λ o. same_device o.window.eui eui ≡ false)) t heard tt tt tt r)
 
 after_decision : (net : Network) (h : List Entry) → IsLegal net h → (number : ℕ) (t : Ticket) (heard : Heard) (decision : JoinDecision) → (decision ≡ join.Ask → is_ticket_open h t ≡ false) →
     with_join decision t heard (device_record net h (dev_eui t)) ≡ device_record net (h ++ entry_of number (call.Join t heard) (join_decision_reply t decision) ∷ []) (dev_eui t)
-after_decision net h legal number t heard join.Ask closed =
-    let r = said_of net h (dev_eui t) in
-    ap (with_join join.Ask t heard) (record_said net h (dev_eui t))
-    ∙ sym (join_keeps net h number t heard (reply.Ask t) ∙ ap (λ ts. record r { tickets = ts }) (tickets_asked h number t heard (closed refl)))
-after_decision net h legal number t heard (join.Copied place) closed =
-    let r = said_of net h (dev_eui t) in
-    ap (with_join (join.Copied place) t heard) (record_said net h (dev_eui t))
-    ∙ sym (join_keeps net h number t heard (reply.JoinCopied place) ∙ ap (λ ts. record r { tickets = ts }) (tickets_copied net h legal number place t heard))
+after_decision net h legal number t heard join.Ask closed = cc (record_said net h (dev_eui t), join_keeps net h number t heard (reply.Ask t), tickets_asked h number t heard (closed refl))
+after_decision net h legal number t heard (join.Copied place) closed = cc (record_said net h (dev_eui t), join_keeps net h number t heard (reply.JoinCopied place), tickets_copied net h legal number place t heard)
 after_decision net h legal number t heard join.Crowded closed = sym (record_stays net h (entry_of number (call.Join t heard) reply.JoinCrowded) (dev_eui t) refl)
 after_decision net h legal number t heard (join.Old greatest) closed = sym (record_stays net h (entry_of number (call.Join t heard) (reply.NonceOld greatest)) (dev_eui t) refl)
 after_decision net h legal number t heard join.Busy closed = sym (record_stays net h (entry_of number (call.Join t heard) reply.JoinBusy) (dev_eui t) refl)

@@ -1,5 +1,5 @@
 -- The rounds of a device's sessions, with one more entry.
-use Rattle.std.proofs.Common.{◌≡◌, ℕ, ◌+◌, ◌^◌, ◌≤◌, ◌==◌, Bool, true, false, ◌&&◌, List, [], ◌∷◌, ◌++◌, filter, map, nat_lt, Option, None, Some, IfSome, refl, sym, ap, ◌∙◌, arith, inl, inr}
+use Rattle.std.proofs.Common.{◌≡◌, ℕ, ◌+◌, ◌^◌, ◌≤◌, ◌==◌, false, ◌&&◌, List, [], ◌∷◌, ◌++◌, filter, map, nat_lt, Option, None, Some, IfSome, refl, ap, ◌∙◌, arith}
 use Rattle.std.specs.Option.{option_map_or}
 use Rattle.std.proofs.lemmas.Bool.Decides.{nat_tests}
 use Rattle.ns_types.specs.declared.identity.DevEui.{DevEui}
@@ -16,7 +16,6 @@ use Rattle.ns_calls.specs.History.{first_window, last_round, greatest_counter}
 use Rattle.ns_calls.specs.Headline.{session_round}
 use Rattle.ns_calls.specs.Reply.{Fit, window_of, is_greatest}
 use Rattle.ns_calls.specs.Legal.{IsLegal}
-use Rattle.ns_calls.proofs.LocalLemmas.{bool_tells}
 use Rattle.ns_calls.proofs.Lists.{IfSome-weaker}
 use Rattle.ns_calls.proofs.RoundLemmas.{last_round-new, last_round-other, rounds_are_counted}
 
@@ -45,11 +44,6 @@ rounds-stay h e eui same other =
     λ i n. session_round-stays h e eui n (ap (counter_in n) same)
     (IfSome-weaker (λ (o : Opening). same_device o.window.eui eui ≡ false) (λ (o : Opening). (same_device o.window.eui eui && (o.window.session == n)) ≡ false) (window_in e.call e.reply) (λ o apart. ap (λ b. b && (o.window.session == n)) apart) other) i
 
--- a window of another session leaves a session's rounds
-pub elsewhere : (a b : Bool) → b ≡ false → (a && b) ≡ false
-elsewhere true b is = is
-elsewhere false b is = refl
-
 -- the round of the window that is opened is that of its session
 pub session_round-new : (h : List Entry) (e : Entry) (o : Opening) → window_in e.call e.reply ≡ Some o → counter_in o.window.session (openings (h ++ e ∷ []) o.window.eui) ≡ Some o.window.fcnt
     → last_round h o.window ≤ o.window.round → session_round (h ++ e ∷ []) o.window.eui o.window.session ≡ o.window.round
@@ -63,11 +57,4 @@ new-below net h legal w exceeds = (let none = (rounds_are_counted net h legal).n
 pub next_round-by : (h : List Entry) (f : Fit) (greatest : Option ℕ) →
     (let round : ℕ = round_at h f.eui f.session greatest + 1 in when (is_greatest greatest f.counter && nat_lt round (2 ^ 32)) round)
     ≡ (let round : ℕ = last_round h (window_of f) + 1 in when (is_greatest greatest f.counter && nat_lt round (2 ^ 32)) round)
-next_round-by h f None = refl
-next_round-by h f (Some g) =
-    elim (bool_tells (g == f.counter)) [
-      | inl same ↦ (let is : g ≡ f.counter = grind (arith, nat_tests) in ap (λ m. (let round : ℕ = last_round h (first_window f.eui f.session m) + 1 in when ((g == f.counter) && nat_lt round (2 ^ 32)) round)) is)
-      | inr other ↦
-          ap (λ b. (let round : ℕ = last_round h (first_window f.eui f.session g) + 1 in when (b && nat_lt round (2 ^ 32)) round)) other
-          ∙ sym (ap (λ b. (let round : ℕ = last_round h (window_of f) + 1 in when (b && nat_lt round (2 ^ 32)) round)) other)
-    ]
+next_round-by h f greatest = grind (arith, nat_tests)

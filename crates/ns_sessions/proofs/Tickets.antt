@@ -1,5 +1,5 @@
 -- The first ticket of equal bytes in a list.
-use Rattle.std.proofs.Common.{◌≡◌, ℕ, zero, suc, ◌+◌, ◌<◌, Bool, true, false, cond, List, [], ◌∷◌, nat_lt, length, set, get_or, Option, None, Some, refl, sym, ap, subst, ◌∙◌, arith}
+use Rattle.std.proofs.Common.{◌≡◌, ℕ, zero, suc, ◌+◌, ◌<◌, Bool, true, false, List, [], ◌∷◌, length, set, get_or, None, Some, refl, sym, ap, arith}
 use Rattle.std.specs.List.{position, position_from, remove}
 use Rattle.std.proofs.lemmas.List.Quantifiers.{position-Some}
 use Rattle.std.proofs.lemmas.Iterator.Adapters.{position_from-zero}
@@ -8,10 +8,8 @@ use Rattle.ns_types.specs.declared.ticket.Ticket.{Ticket}
 use Rattle.ns_calls.specs.History.{same_ticket}
 use Rattle.ns_sessions.specs.declared.ticket.OpenTicket.{OpenTicket}
 use Rattle.ns_sessions.specs.declared.decision.JoinDecision.{JoinDecision}
-use Rattle.ns_calls.specs.declared.call.Reply.TheVariants as told
-use Rattle.ns_calls.specs.Entries.{most_copies}
 use Rattle.ns_sessions.specs.Copies.{with_one_more}
-use Rattle.ns_sessions.specs.Record.{ticket_among, decision_of, copy_decision, with_copy, tickets_after_copy, tickets_after_join, without}
+use Rattle.ns_sessions.specs.Record.{ticket_among, copy_decision, with_copy, tickets_after_copy, tickets_after_join, without}
 
 abbrev pub is_of : Ticket → OpenTicket → Bool
 is_of t o = same_ticket t o.ticket
@@ -36,30 +34,20 @@ first_found t xs i o at =
 
 none_from : (t : Ticket) (i : ℕ) (xs : List OpenTicket) → position_from (is_of t) i xs ≡ None → (ticket_among t xs ≡ None) × (without t xs ≡ xs)
 none_from t i [] none = (refl, refl)
-none_from t i (x ∷ xs) none = step (is_of t x) none (none_from t (i + 1) xs)
-  where
-    step : (b : Bool) → cond b (Some i) (position_from (is_of t) (i + 1) xs) ≡ None →
-        (position_from (is_of t) (i + 1) xs ≡ None → (ticket_among t xs ≡ None) × (without t xs ≡ xs)) →
-        (cond {A = Option OpenTicket} b (Some x) (ticket_among t xs) ≡ None) × (cond {A = List OpenTicket} b xs (x ∷ without t xs) ≡ x ∷ xs)
-    step true is rest = absurd (cc is)
-    step false is rest = ((rest is).0, ap (λ ys. x ∷ ys) (rest is).1)
+none_from t i (x ∷ xs) none = grind (arith, none_from t (i + 1) xs)
 
 pub none_found : (t : Ticket) (xs : List OpenTicket) → position (is_of t) xs ≡ None → (ticket_among t xs ≡ None) × (without t xs ≡ xs)
-none_found t xs none = none_from t 0 xs (sym (position_from-zero (is_of t) xs) ∙ none)
+none_found t xs none = none_from t 0 xs (cc (position_from-zero (is_of t) xs))
 
 pub among-first : (t : Ticket) (xs : List OpenTicket) (i : ℕ) (o : OpenTicket) → FirstAt t xs i o → ticket_among t xs ≡ Some o
 among-first t [] i o at = absurd at
-among-first t (x ∷ xs) zero o at = ap (λ b. cond {A = Option OpenTicket} b (Some x) (ticket_among t xs)) at.1 ∙ ap Some at.0
-among-first t (x ∷ xs) (suc i) o at = ap (λ b. cond {A = Option OpenTicket} b (Some x) (ticket_among t xs)) at.0 ∙ among-first t xs i o at.1
+among-first t (x ∷ xs) zero o at = cc
+among-first t (x ∷ xs) (suc i) o at = cc (among-first t xs i o at.1)
 
 copied-first : (t : Ticket) (heard : Heard) (xs : List OpenTicket) (i : ℕ) (o : OpenTicket) → FirstAt t xs i o → set xs i (record o { copies = with_one_more heard o.copies }) ≡ tickets_after_copy t heard xs
 copied-first t heard [] i o at = absurd at
-copied-first t heard (x ∷ xs) zero o at =
-    let more : OpenTicket → OpenTicket = λ y. record y { copies = with_one_more heard y.copies } in
-    ap (λ y. more y ∷ xs) (sym at.0) ∙ sym (ap (λ b. cond {A = List OpenTicket} b (more x ∷ xs) (x ∷ tickets_after_copy t heard xs)) at.1)
-copied-first t heard (x ∷ xs) (suc i) o at =
-    let more : OpenTicket → OpenTicket = λ y. record y { copies = with_one_more heard y.copies } in
-    ap (λ ys. x ∷ ys) (copied-first t heard xs i o at.1) ∙ sym (ap (λ b. cond {A = List OpenTicket} b (more x ∷ xs) (x ∷ tickets_after_copy t heard xs)) at.0)
+copied-first t heard (x ∷ xs) zero o at = cc
+copied-first t heard (x ∷ xs) (suc i) o at = cc (copied-first t heard xs i o at.1)
 
 same-first : (t : Ticket) (xs : List OpenTicket) (i : ℕ) (o : OpenTicket) → FirstAt t xs i o → set xs i o ≡ xs
 same-first t [] i o at = absurd at
@@ -69,14 +57,9 @@ same-first t (x ∷ xs) (suc i) o at = ap (λ ys. x ∷ ys) (same-first t xs i o
 -- what came of one more copy of the ticket that stands there
 pub asked-first : (decision : JoinDecision) (t : Ticket) (heard : Heard) (xs : List OpenTicket) (i : ℕ) (o : OpenTicket) → FirstAt t xs i o → decision ≡ copy_decision o →
     set xs i (with_copy decision heard o) ≡ tickets_after_join decision t heard xs
-asked-first decision t heard xs i o at is = subst (λ k. set xs i (with_copy k heard o) ≡ tickets_after_join k t heard xs) (sym is) (step (nat_lt o.copies.count most_copies))
-  where
-    step : (b : Bool) → let k : JoinDecision = decision_of (cond b (told.JoinCopied (o.copies.count + 1)) told.JoinCrowded) in set xs i (with_copy k heard o) ≡ tickets_after_join k t heard xs
-    step true = copied-first t heard xs i o at
-    step false = same-first t xs i o at
+asked-first decision t heard xs i o at is = grind (arith, copied-first t heard xs i o at, same-first t xs i o at)
 
 pub without-first : (t : Ticket) (xs : List OpenTicket) (i : ℕ) (o : OpenTicket) → FirstAt t xs i o → remove xs i ≡ without t xs
 without-first t [] i o at = absurd at
-without-first t (x ∷ xs) zero o at = sym (ap (λ b. cond {A = List OpenTicket} b xs (x ∷ without t xs)) at.1)
-without-first t (x ∷ xs) (suc i) o at =
-    ap (λ ys. x ∷ ys) (without-first t xs i o at.1) ∙ sym (ap (λ b. cond {A = List OpenTicket} b xs (x ∷ without t xs)) at.0)
+without-first t (x ∷ xs) zero o at = cc
+without-first t (x ∷ xs) (suc i) o at = cc (without-first t xs i o at.1)

@@ -11,7 +11,7 @@ pub enum JoinDecision {
     Copied(u8),
     /// The join is open, and has 16 copies already.
     Crowded,
-    /// The nonce is at most this one, the greatest accepted.
+    /// The nonce is at most this one, the device's greatest: accepted, or the roster's last.
     Old(DevNonce),
     /// Four joins of the device are open already.
     Busy,
@@ -24,7 +24,7 @@ pub enum AnswerDecision {
     NoTicket,
     /// The join server refused, or did not answer.
     Refused,
-    /// The nonce is at most this one, the greatest accepted.
+    /// The nonce is at most this one, the device's greatest: accepted, or the roster's last.
     Stale(DevNonce),
     /// A session begins: its number, from 1, and the best copy of the Join-Request.
     Accepted { session: u32, best: Heard },

@@ -1,5 +1,5 @@
 -- What comes of a join server's answer by the devices that agree with the entries, and that they agree after it.
-use Rattle.std.proofs.Common.{◌≡◌, ℕ, true, false, not, List, length, Option, None, Some, IfSome, option_map, refl, sym, ap, ap₂, subst, ◌∙◌, inl, inr}
+use Rattle.std.proofs.Common.{◌≡◌, ℕ, true, false, List, length, Option, None, Some, IfSome, option_map, refl, sym, ap, ap₂, subst, ◌∙◌}
 use Rattle.std.specs.Prelude.{IsSome}
 use Rattle.std.specs.List.{AllByRecursion}
 use Rattle.std.specs.Option.{option_and_then}
@@ -31,11 +31,8 @@ use Rattle.ns_calls.specs.Reply.{reply_to, reply_to_join_reply, address, is_fail
 use Rattle.ns_calls.specs.Headline.{nonce_at_or_above}
 use Rattle.ns_calls.specs.Out.{answer, uplink_out, downlink_out, downlink_to, join_accept_delay}
 use Rattle.ns_calls.specs.Legal.{IsLegal, entry_for, with_call}
-use Rattle.ns_calls.proofs.LocalLemmas.{bool_tells}
-use Rattle.ns_calls.proofs.Lists.{All-after}
 use Rattle.ns_calls.proofs.PushLemmas.{open_tickets-push}
 use Rattle.ns_calls.proofs.LegalLemmas.{history_more}
-use Rattle.ns_calls.proofs.Induction.{legal_induction}
 use Rattle.ns_calls.proofs.JoinLemmas.{join_reply_by, join-has}
 use Rattle.ns_sessions.specs.declared.decision.AnswerDecision.{AnswerDecision}
 use Rattle.ns_sessions.specs.declared.decision.AnswerDecision.TheVariants as decision
@@ -52,12 +49,10 @@ use Rattle.ns_shard.specs.Private.Parts.{Agrees}
 use Rattle.ns_shard.proofs.Roster.{own-found}
 use Rattle.ns_shard.proofs.DeviceSteps.{devices-changed}
 use Rattle.ns_shard.proofs.WindowSteps.{windows-quiet}
-use Rattle.ns_shard.proofs.PartSteps.{joined, others-stay, same_device-false, ended_or}
+use Rattle.ns_shard.proofs.PartSteps.{joined, others-stay, same_device-false, ended_or, all-open}
+use Rattle.std.proofs.lemmas.Bool.{false_from_ne_true}
 
 -- ---- the devices of open tickets are the roster's
-
-TicketsKnown : Network → List Entry → Type 0
-TicketsKnown net h = AllByRecursion (λ t. IsSome (device net (dev_eui t))) (open_tickets h)
 
 has-some : (j : JoinEui) (o : Option Device) → has_join_eui j o ≡ true → IsSome o
 has-some j None is = absurd (cc is)
@@ -77,32 +72,17 @@ asked-known net h valid (call.Join t heard) =
       ask = λ known closed room. has-some (join_eui t) (device net (dev_eui t)) (sym (is_known-by_device net valid (dev_eui t) (join_eui t)) ∙ known);
     })
 
-tickets_step : (net : Network) → IsRoster net → (h : List Entry) (number : ℕ) (c : Call) → TicketsKnown net h → TicketsKnown net (with_call net h number c)
-unfolding TicketsKnown
-tickets_step net valid h number c known =
-    subst (AllByRecursion Known) (sym (open_tickets-push h e))
-    (All-after Known (λ t. not (ends_ticket t e)) (open_tickets h) (asking_in c (reply_to net h c)) known (asked-known net h valid c))
-  where
-    e : Entry
-    e = entry_for net h number c
+tickets_known : (net : Network) (h : List Entry) → IsRoster net → IsLegal net h → AllByRecursion (λ t. IsSome (device net (dev_eui t))) (open_tickets h)
+tickets_known net h valid legal =
+    all-open net (λ (t : Ticket). IsSome (device net (dev_eui t))) open_tickets ends_ticket asking_in tt open_tickets-push (λ g c. asked-known net g valid c) h legal
 
-    Known : Ticket → Type 0
-    Known t = IsSome (device net (dev_eui t))
+-- an open ticket is of a device of the roster
+pub open-known : (net : Network) (h : List Entry) (t : Ticket) → IsRoster net → IsLegal net h → is_ticket_open h t ≡ true → IsSome (device net (dev_eui t))
+open-known net h t valid legal is = at_member (λ u. IsSome (device net (dev_eui u))) t (open_tickets h) is (tickets_known net h valid legal)
 
-tickets_known : (net : Network) (h : List Entry) → IsRoster net → IsLegal net h → TicketsKnown net h
-unfolding TicketsKnown
-tickets_known net h valid legal = legal_induction net (TicketsKnown net) tt (λ g number c ok known. tickets_step net valid g number c known) h legal
-
--- a ticket of an unknown device is not open
 pub not_open : (net : Network) (h : List Entry) (t : Ticket) → IsRoster net → IsLegal net h → device net (dev_eui t) ≡ None → is_ticket_open h t ≡ false
-unfolding TicketsKnown
 not_open net h t valid legal none =
-    elim (bool_tells (is_ticket_open h t)) [
-      | inr closed ↦ closed
-      | inl is ↦
-          (let some : IsSome (device net (dev_eui t)) = at_member (λ u. IsSome (device net (dev_eui u))) t (open_tickets h) is (tickets_known net h valid legal) in
-          absurd (cc (subst (λ (o : Option Device). IsSome o) none some)))
-    ]
+    false_from_ne_true (is_ticket_open h t) (λ is. cc (subst (λ (o : Option Device). IsSome o) none (open-known net h t valid legal is)))
 
 pub answer-unknown : (net : Network) (h : List Entry) (t : Ticket) (o : Outcome) → is_ticket_open h t ≡ false → reply_to_join_reply net h t o ≡ reply.NoTicket
 answer-unknown net h t o closed = ap (λ b. join_reply_by b (is_failed o) (nonce_at_or_above net h t) (reply.Accepted (dev_eui t) (next_session h (dev_eui t)) (address net (dev_eui t)))) closed
@@ -119,12 +99,8 @@ no_ticket-out net h t (outcome.Success join) = refl
 
 decision-out : (net : Network) (h : List Entry) (t : Ticket) (o : Outcome) (d : AnswerDecision) → ((session : ℕ) (heard : Heard) → d ≡ decision.Accepted session heard → best (ticket_copies h t) ≡ Some heard) →
     ended_or net reply.NoTicket (answer_ended (address net (dev_eui t)) t o d) ≡ answer_with net h t o (answer_decision_reply net t d)
-decision-out net h t o decision.NoTicket copies = no_ticket-out net h t o
-decision-out net h t outcome.Failed decision.Refused copies = refl
-decision-out net h t (outcome.Success join) decision.Refused copies = refl
-decision-out net h t outcome.Failed (decision.Stale greatest) copies = refl
-decision-out net h t (outcome.Success join) (decision.Stale greatest) copies = refl
-decision-out net h t outcome.Failed (decision.Accepted session heard) copies = refl
+decision-out net h t outcome.Failed decision.NoTicket copies = refl
+decision-out net h t outcome.Failed _ copies = refl
 decision-out net h t (outcome.Success join) (decision.Accepted session heard) copies =
     ap (λ (o : Option Heard).
     let a : Answer = record {
@@ -132,6 +108,7 @@ decision-out net h t (outcome.Success join) (decision.Accepted session heard) co
       uplink = None;
       downlink = option_map (λ copy. downlink_to (accept_bytes join.accept) (rx1 copy 0 join_accept_delay)) o;
     } in a) (sym (copies session heard refl))
+decision-out net h t (outcome.Success join) _ copies = refl
 
 pub answer-answered : (net : Network) (index : ℕ) (h : List Entry) (devices : List Own) (windows : List Window) (t : Ticket) (o : Outcome) → Agrees net index h devices windows → AnswersAgree net h → shard_of (dev_eui t) ≡ index →
     ended_or net reply.NoTicket (shard_answer_ended devices t o) ≡ answer net h (call.JoinReply t o)

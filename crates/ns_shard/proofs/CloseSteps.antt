@@ -1,5 +1,5 @@
 -- What comes of a closing by the devices and windows that agree with the entries, and that they agree after it.
-use Rattle.std.proofs.Common.{◌≡◌, ℕ, ◌+◌, ◌^◌, ◌==◌, Bool, true, false, not, cond, nat_lt, List, [], ◌∷◌, ◌++◌, length, find, Option, None, Some, IfSome, option_map, refl, sym, ap, ap₂, subst, ◌∙◌, inl, inr}
+use Rattle.std.proofs.Common.{◌≡◌, ℕ, ◌^◌, ◌==◌, Bool, true, false, cond, nat_lt, List, [], ◌∷◌, ◌++◌, length, find, Option, None, Some, IfSome, option_map, refl, sym, ap, ap₂, subst, ◌∙◌, inl, inr}
 use Rattle.std.specs.Prelude.{IsSome, Contains}
 use Rattle.std.specs.List.{AllByRecursion}
 use Rattle.std.specs.Option.{option_and_then}
@@ -30,10 +30,9 @@ use Rattle.ns_calls.specs.Reply.{reply_to, reply_to_close, ack_number, Fit, fit_
 use Rattle.ns_calls.specs.Out.{answer, uplink_of, first_uplink_of, uplink_out, downlink_out, ack_downlink}
 use Rattle.ns_calls.specs.Legal.{IsLegal, entry_for, with_call}
 use Rattle.ns_calls.proofs.LocalLemmas.{bool_tells}
-use Rattle.ns_calls.proofs.Lists.{All-after, All-filter, All-weaker, find-has, first-gives, first-gives_of, IfSome-weaker, at_some}
+use Rattle.ns_calls.proofs.Lists.{All-weaker, find-has, first-gives, first-gives_of, IfSome-weaker, at_some, All-passed}
 use Rattle.ns_calls.proofs.PushLemmas.{open_windows-push}
 use Rattle.ns_calls.proofs.LegalLemmas.{history_more}
-use Rattle.ns_calls.proofs.Induction.{legal_induction}
 use Rattle.ns_calls.proofs.UplinkLemmas.{uplink-has}
 use Rattle.ns_calls.proofs.NameLemmas.{same_window-eq}
 use Rattle.ns_sessions.specs.declared.session.Session.{Session}
@@ -51,8 +50,9 @@ use Rattle.ns_shard.specs.Private.Parts.{Agrees}
 use Rattle.ns_shard.proofs.Roster.{own-found, members}
 use Rattle.ns_shard.proofs.DeviceSteps.{devices-changed, devices-same}
 use Rattle.ns_shard.proofs.WindowSteps.{windows-quiet, windows-closed, windows-named}
-use Rattle.ns_shard.proofs.PartSteps.{joined, others-stay, same_device-false, ended_or}
+use Rattle.ns_shard.proofs.PartSteps.{joined, others-stay, same_device-false, ended_or, all-open}
 use Rattle.ns_calls.proofs.Says.{join-says, answer-says, close-says}
+use Rattle.ns_shard.proofs.Maps.{some-of}
 
 -- ---- the devices of open windows are the roster's
 
@@ -63,24 +63,30 @@ session_fit-eui recover h frame eui session = step (option_and_then (λ (join : 
     step None = tt
     step (Some n) = refl
 
-pub device_fit-eui : (recover : Option ℕ → ℕ → Option ℕ) (h : List Entry) (frame : List ℕ) (eui : DevEui) → IfSome (plain.device_fit recover h frame eui) (λ f. f.eui ≡ eui)
+device_fit-eui : (recover : Option ℕ → ℕ → Option ℕ) (h : List Entry) (frame : List ℕ) (eui : DevEui) → IfSome (plain.device_fit recover h frame eui) (λ f. f.eui ≡ eui)
 device_fit-eui recover h frame eui = first-gives (λ (f : Fit). f.eui ≡ eui) (plain.session_fit recover h frame eui) (session_fit-eui recover h frame eui) (live h eui)
 
--- what fits is of a device of the roster
+-- what fits is of a device of the roster at the frame's address
+pub fit-of : (P : DevEui → Type 0) (recover : Option ℕ → ℕ → Option ℕ) (net : Network) (h : List Entry) (frame : List ℕ) → ((d : Device) → Contains net.devices d → ((device_addr net d).0 == (data_fields frame).addr) ≡ true → P d.eui)
+    → IfSome (first_fit recover net h frame) (λ f. P f.eui)
+fit-of P recover net h frame each =
+    first-gives_of Fits (λ (d : Device). plain.device_fit recover h frame d.eui) (devices_at net (data_fields frame).addr)
+    (All-weaker (λ (d : Device). Contains net.devices d × (addressed d ≡ true)) (λ (d : Device). IfSome (plain.device_fit recover h frame d.eui) Fits) here (devices_at net (data_fields frame).addr)
+    (All-passed (Contains net.devices) addressed net.devices (members net)))
+  where
+    Fits : Fit → Type 0
+    Fits f = P f.eui
+
+    addressed : Device → Bool
+    addressed d = (device_addr net d).0 == (data_fields frame).addr
+
+    here : (d : Device) → Contains net.devices d × (addressed d ≡ true) → IfSome (plain.device_fit recover h frame d.eui) Fits
+    here d both = IfSome-weaker (λ (f : Fit). f.eui ≡ d.eui) Fits (plain.device_fit recover h frame d.eui) (λ f is. subst P (sym is) (each d both.0 both.1)) (device_fit-eui recover h frame d.eui)
+
 pub fit-known : (recover : Option ℕ → ℕ → Option ℕ) (net : Network) (h : List Entry) (frame : List ℕ) → IsRoster net → IfSome (first_fit recover net h frame) (λ f. IsSome (device net f.eui))
 fit-known recover net h frame valid =
-    first-gives_of Known (λ (d : Device). plain.device_fit recover h frame d.eui) (devices_at net (data_fields frame).addr)
-    (All-filter (λ (d : Device). IfSome (plain.device_fit recover h frame d.eui) Known) (λ (d : Device). (device_addr net d).0 == (data_fields frame).addr) net.devices
-    (All-weaker (Contains net.devices) (λ (d : Device). IfSome (plain.device_fit recover h frame d.eui) Known) each net.devices (members net)))
-  where
-    Known : Fit → Type 0
-    Known f = IsSome (device net f.eui)
-
-    each : (d : Device) → Contains net.devices d → IfSome (plain.device_fit recover h frame d.eui) Known
-    each d member =
-        let found : device net d.eui ≡ Some d = device-found net valid d.eui d (member, refl) in
-        let here : IsSome (device net d.eui) = subst (λ (o : Option Device). IsSome o) (sym found) refl in
-        IfSome-weaker (λ (f : Fit). f.eui ≡ d.eui) Known (plain.device_fit recover h frame d.eui) (λ f is. subst (λ (e : DevEui). IsSome (device net e)) (sym is) here) (device_fit-eui recover h frame d.eui)
+    fit-of (λ (e : DevEui). IsSome (device net e)) recover net h frame
+    (λ d member at. subst (λ (o : Option Device). IsSome o) (sym (device-found net valid d.eui d (member, refl))) refl)
 
 -- whatever is opened, in any round, is of a device of the roster
 opened-known : (net : Network) (h : List Entry) → IsRoster net → (c : Call) → IfSome (history.window_in c (reply_to net h c)) (λ o. IsSome (device net o.window.eui))
@@ -97,65 +103,35 @@ opened-known net h valid (call.Uplink frame heard) = uplink-has (λ r. IfSome (h
   none = tt;
 })
 
-WindowsKnown : Network → List Entry → Type 0
-WindowsKnown net h = AllByRecursion (λ o. IsSome (device net o.window.eui)) (open_windows h)
+windows_known : (net : Network) (h : List Entry) → IsRoster net → IsLegal net h → AllByRecursion (λ o. IsSome (device net o.window.eui)) (open_windows h)
+windows_known net h valid legal =
+    all-open net (λ (o : Opening). IsSome (device net o.window.eui)) open_windows (λ (o : Opening) e. closes o.window e) history.window_in tt open_windows-push (λ g c. opened-known net g valid c) h legal
 
-windows_step : (net : Network) → IsRoster net → (h : List Entry) (number : ℕ) (c : Call) → WindowsKnown net h → WindowsKnown net (with_call net h number c)
-unfolding WindowsKnown
-windows_step net valid h number c known =
-    subst (AllByRecursion Known) (sym (open_windows-push h e))
-    (All-after Known (λ o. not (closes o.window e)) (open_windows h) (history.window_in c (reply_to net h c)) known (opened-known net h valid c))
-  where
-    e : Entry
-    e = entry_for net h number c
-
-    Known : Opening → Type 0
-    Known o = IsSome (device net o.window.eui)
-
-windows_known : (net : Network) (h : List Entry) → IsRoster net → IsLegal net h → WindowsKnown net h
-unfolding WindowsKnown
-windows_known net h valid legal = legal_induction net (WindowsKnown net) tt (λ g number c ok known. windows_step net valid g number c known) h legal
-
--- what is known of an open window
-record IsKept (net : Network) (h : List Entry) (o : Opening) : Type 0 where
-  known : IsSome (device net o.window.eui)
-  keyed : IsSome (session_join h o.window.eui o.window.session)
-
-all_both : {X : Type 0} (P Q : X → Type 0) (xs : List X) → AllByRecursion P xs → AllByRecursion Q xs → AllByRecursion (λ x. P x × Q x) xs
+pub all_both : {X : Type 0} (P Q : X → Type 0) (xs : List X) → AllByRecursion P xs → AllByRecursion Q xs → AllByRecursion (λ x. P x × Q x) xs
 all_both P Q [] p q = tt
 all_both P Q (x ∷ xs) p q = ((p.0, q.0), all_both P Q xs p.1 q.1)
 
-open-kept : (net : Network) (index : ℕ) (h : List Entry) (devices : List Own) (windows : List Window) (w : WindowName) (o : Opening) → Agrees net index h devices windows → open_window h w ≡ Some o → (o.window ≡ w) × IsKept net h o
-unfolding WindowsKnown
+-- what is known of an open window
+open-kept : (net : Network) (index : ℕ) (h : List Entry) (devices : List Own) (windows : List Window) (w : WindowName) (o : Opening) → Agrees net index h devices windows → open_window h w ≡ Some o → (o.window ≡ w) × IsSome (device net o.window.eui) × IsSome (session_join h o.window.eui o.window.session)
 open-kept net index h devices windows w o agrees is =
     let Kept : Opening → Type 0 = λ x. IsSome (device net x.window.eui) × IsSome (session_join h x.window.eui x.window.session) in
     let all : AllByRecursion Kept (open_windows h) =
     all_both (λ (x : Opening). IsSome (device net x.window.eui)) (λ (x : Opening). IsSome (session_join h x.window.eui x.window.session)) (open_windows h) (windows_known net h agrees.valid agrees.history.legal) (joined net index h devices windows agrees) in
     let found : Kept o × (same_window o.window w ≡ true) = at_some (λ (x : Opening). Kept x × (same_window x.window w ≡ true)) (open_window h w) o is (find-has Kept (λ (x : Opening). same_window x.window w) (open_windows h) all) in
-    (same_window-eq o.window w found.1, record { known = found.0.0; keyed = found.0.1 })
+    (same_window-eq o.window w found.1, found.0.0, found.0.1)
 
 -- ---- what goes out
 
 uplink-same : (h : List Entry) (o : Opening) → IsSome (session_join h o.window.eui o.window.session) → uplink_from (window_of_opening h o) ≡ uplink_of h o
-uplink-same h o keyed = step (session_join h o.window.eui o.window.session) refl keyed
-  where
-    step : (j : Option JoinAns) → session_join h o.window.eui o.window.session ≡ j → IsSome j → uplink_from (window_of_opening h o) ≡ uplink_of h o
-    step None is some = absurd (cc some)
-    step (Some join) is some = rw is refl
+uplink-same h o keyed = let (join, is) = some-of (session_join h o.window.eui o.window.session) keyed in rw is refl
 
 ack-same : (net : Network) (h : List Entry) (o : Opening) (n : ℕ) → IsSome (session_join h o.window.eui o.window.session) → ack_from net (window_of_opening h o) n ≡ ack_downlink net h o n
-ack-same net h o n keyed = step (session_join h o.window.eui o.window.session) refl keyed
-  where
-    step : (j : Option JoinAns) → session_join h o.window.eui o.window.session ≡ j → IsSome j → ack_from net (window_of_opening h o) n ≡ ack_downlink net h o n
-    step None is some = absurd (cc some)
-    step (Some join) is some = rw is refl
+ack-same net h o n keyed = let (join, is) = some-of (session_join h o.window.eui o.window.session) keyed in rw is refl
 
 pub own-some : (net : Network) (index : ℕ) (h : List Entry) (eui : DevEui) → shard_of eui ≡ index → IsSome (device net eui) → (d : Device) × (own_of eui (devices_in net index h) ≡ Some (own_in net h d)) × (d.eui ≡ eui)
-own-some net index h eui mine known = step (device net eui) refl known
-  where
-    step : (x : Option Device) → device net eui ≡ x → IsSome x → (d : Device) × (own_of eui (devices_in net index h) ≡ Some (own_in net h d)) × (d.eui ≡ eui)
-    step None is some = absurd (cc some)
-    step (Some d) is some = (d, own-found net index h eui mine ∙ ap (option_map (own_in net h)) is, (found-device net eui d is).1)
+own-some net index h eui mine known =
+    let (d, is) = some-of (device net eui) known in
+    (d, own-found net index h eui mine ∙ ap (option_map (own_in net h)) is, (found-device net eui d is).1)
 
 -- the number of the device's record
 ack-by_record : (net : Network) (index : ℕ) (h : List Entry) (o : Opening) → shard_of o.window.eui ≡ index → IsSome (device net o.window.eui) →
@@ -192,30 +168,24 @@ close-answered net index h devices windows w agrees law mine =
         let kept = open-kept net index h devices windows w o agrees is in
         let name : o.window ≡ w = kept.0 in
         let shard : shard_of o.window.eui ≡ index = ap (λ (v : WindowName). shard_of v.eui) name ∙ mine in
-        let ack : ack_of (devices_in net index h) (window_of_opening h o) ≡ ack_number h o = ack-by_record net index h o shard kept.1.known ∙ sym (law.numbers agrees.history.legal o) in
+        let ack : ack_of (devices_in net index h) (window_of_opening h o) ≡ ack_number h o = ack-by_record net index h o shard kept.1 ∙ sym (law.numbers agrees.history.legal o) in
         ap₂ (λ (v : WindowName) (n : Option ℕ).
         let a : Answer = record { reply = reply.Closed v n; uplink = first_uplink_from (window_of_opening h o); downlink = option_and_then (λ m. ack_from net (window_of_opening h o) m) n } in a) name ack
-        ∙ (closed-out net h w o is (ack_number h o) (uplink-same h o kept.1.keyed) (λ n. ack-same net h o n kept.1.keyed)
+        ∙ (closed-out net h w o is (ack_number h o) (uplink-same h o kept.2) (λ n. ack-same net h o n kept.2)
         ∙ ap (close_with net h w) (sym (close-reply h w (Some o) is)))
 
 -- ---- after it
 
 -- where there is no number, nothing is used
 no_ack : (s : Session) → session_ack s ≡ None → session_after_ack s ≡ s
-no_ack s is = step (nat_lt s.next_ack (2 ^ 32)) is
-  where
-    step : (b : Bool) → when b s.next_ack ≡ None → cond b (record s { next_ack = s.next_ack + 1 }) s ≡ s
-    step true none = absurd (cc none)
-    step false none = refl
+no_ack s is = elim (bool_tells (nat_lt s.next_ack (2 ^ 32))) [ inl less ↦ absurd (cc (rw less at is)) | inr used ↦ rw used ]
 
 none-acknowledged : (number : ℕ) (sessions : List Session) → option_and_then session_ack (find (λ s. s.number == number) sessions) ≡ None → change_session number session_after_ack sessions ≡ sessions
 none-acknowledged number [] none = refl
 none-acknowledged number (s ∷ sessions) none =
-    let asked = λ (b : Bool). option_and_then session_ack (cond {A = Option Session} b (Some s) (find (λ (x : Session). x.number == number) sessions)) in
-    let left = λ (b : Bool). cond {A = List Session} b (session_after_ack s ∷ sessions) (s ∷ change_session number session_after_ack sessions) in
     elim (bool_tells (s.number == number)) [
-      | inl here ↦ ap left here ∙ ap (λ (x : Session). x ∷ sessions) (no_ack s (sym (ap asked here) ∙ none))
-      | inr other ↦ ap left other ∙ ap (λ xs. s ∷ xs) (none-acknowledged number sessions (sym (ap asked other) ∙ none))
+      | inl here ↦ rw here (ap (λ (x : Session). x ∷ sessions) (no_ack s (rw here at none)))
+      | inr other ↦ rw other (ap (λ xs. s ∷ xs) (none-acknowledged number sessions (rw other at none)))
     ]
 
 with_ack-none : (session : ℕ) (r : DeviceRecord) → ack_in r session ≡ None → with_ack session r ≡ r
@@ -264,26 +234,22 @@ agrees-close net index h devices windows w agrees stay law mine = record {
     devices_step None is = sym (devices-same net index h now (unnumbered net h w reply.NoWindow stay (close-reply h w None is) (λ eui. refl)))
     devices_step (Some o) is =
         let kept = open-kept net index h devices windows w o agrees is in
-        let by = λ (b : Bool). cond b (with_change_of o.window.eui (with_ack o.window.session) (devices_in net index h)) (devices_in net index h) in
         elim (bool_tells (is_confirmed o.frame)) [
           | inl confirmed ↦
-              ap by confirmed
-              ∙ (ap (λ (v : WindowName). with_change_of v.eui (with_ack v.session) (devices_in net index h)) kept.0
+              rw confirmed
+              (ap (λ (v : WindowName). with_change_of v.eui (with_ack v.session) (devices_in net index h)) kept.0
               ∙ sym (confirmed_step o is confirmed (ack_in (device_record net h w.eui) w.session) refl))
           | inr not_confirmed ↦
               (let number : ack_number h o ≡ None = law.numbers agrees.history.legal o ∙ ap (λ b. cond b (ack_in (device_record net h o.window.eui) o.window.session) None) not_confirmed in
-              ap by not_confirmed
-              ∙ sym (devices-same net index h now (unnumbered net h w (reply.Closed w None) stay (close-reply h w (Some o) is ∙ ap (reply.Closed w) number) (λ eui. refl))))
+              rw not_confirmed
+              (sym (devices-same net index h now (unnumbered net h w (reply.Closed w None) stay (close-reply h w (Some o) is ∙ ap (reply.Closed w) number) (λ eui. refl)))))
         ]
 
     windows_after : (found : Option Opening) → open_window h w ≡ found → windows_in now ≡ without w (windows_in h)
     windows_after None is =
         let e : Entry = entry_for net h (length h) (call.Close w) in
         let reply_is : reply_to_close h w ≡ reply.NoWindow = close-reply h w None is in
-        windows-quiet h e (joined net index h devices windows agrees) (ap (closing_of w) reply_is) (close-says (λ s. opened s ≡ None) w (λ ack. refl) refl (reply_to net h (call.Close w))) (close-says (λ s. copied s ≡ None) w (λ ack. refl) refl (reply_to net h (call.Close w)))
+        windows-quiet h e (joined net index h devices windows agrees) (ap (history.closing_in (call.Close w)) reply_is) (close-says (λ s. opened s ≡ None) w (λ ack. refl) refl (reply_to net h (call.Close w))) (close-says (λ s. copied s ≡ None) w (λ ack. refl) refl (reply_to net h (call.Close w)))
         ∙ sym (Rattle.ns_windows.proofs.Places.filter-none (Rattle.ns_windows.specs.Windows.is_named w) (windows_in h) (Rattle.ns_windows.proofs.Places.none_found (Rattle.ns_windows.specs.Windows.is_named w) (windows_in h) (windows-named h w ∙ ap (option_map (window_of_opening h)) is)))
-      where
-        closing_of : WindowName → Reply → Option Rattle.ns_calls.specs.Entries.Closing
-        closing_of v r = history.closing_in (call.Close v) r
     windows_after (Some o) is =
         windows-closed h (entry_for net h (length h) (call.Close w)) w (ack_number h o) (joined net index h devices windows agrees) refl (close-reply h w (Some o) is)

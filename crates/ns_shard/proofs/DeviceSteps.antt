@@ -1,12 +1,12 @@
 -- How the devices of a shard change with one more entry.
-use Rattle.std.proofs.Common.{◌≡◌, ℕ, Bool, false, cond, List, [], ◌∷◌, map, refl, sym, ap, ap₂, subst, ◌∙◌, inl, inr}
+use Rattle.std.proofs.Common.{◌≡◌, ℕ, false, List, [], ◌∷◌, map, refl, sym, ap, ap₂, subst, inl, inr}
 use Rattle.ns_types.specs.declared.identity.DevEui.{DevEui}
 use Rattle.ns_roster.specs.declared.Device.{Device}
 use Rattle.ns_roster.specs.Network.{Network}
 use Rattle.ns_roster.specs.Valid.{IsRoster}
 use Rattle.ns_calls.specs.declared.call.Entry.{Entry}
 use Rattle.ns_calls.specs.Entries.{same_device}
-use Rattle.ns_calls.proofs.LocalLemmas.{bool_tells}
+use Rattle.ns_calls.proofs.LocalLemmas.{bool_tells, All-each}
 use Rattle.ns_calls.proofs.Lists.{All-weaker}
 use Rattle.ns_calls.proofs.JoinLemmas.{same_device-eq}
 use Rattle.ns_sessions.specs.Record.{DeviceRecord, device_record}
@@ -23,10 +23,8 @@ OthersSame net g h eui = (other : DevEui) → same_device other eui ≡ false �
 -- a change of one device's record
 change-one : (net : Network) (h g : List Entry) (eui : DevEui) (f : DeviceRecord → DeviceRecord) (ds : List Device) → AreDistinct ds → OthersSame net g h eui → device_record net g eui ≡ f (device_record net h eui) →
     map (own_in net g) ds ≡ change_first (is_own eui) (with_state f) (map (own_in net h) ds)
-unfolding AreDistinct
 change-one net h g eui f [] apart others this = refl
 change-one net h g eui f (d ∷ ds) apart others this =
-    let here = λ (b : Bool). cond {A = List Own} b (with_state f (own_in net h d) ∷ map (own_in net h) ds) (own_in net h d ∷ change_first (is_own eui) (with_state f) (map (own_in net h) ds)) in
     elim (bool_tells (same_device d.eui eui)) [
       | inl same ↦
           (let is : d.eui ≡ eui = same_device-eq d.eui eui same in
@@ -35,9 +33,9 @@ change-one net h g eui f (d ∷ ds) apart others this =
           map-same (own_in net g) (own_in net h) ds
           (All-weaker (λ (x : Device). same_device x.eui d.eui ≡ false) (λ (x : Device). own_in net g x ≡ own_in net h x)
           (λ x differs. ap (λ r. own net r x) (others x.eui (subst (λ (e : DevEui). same_device x.eui e ≡ false) is differs))) ds apart.0) in
-          ap₂ (λ (o : Own) os. o ∷ os) (ap (λ r. own net r d) record_is) rest ∙ ap here (sym same))
+          rw same (ap₂ (λ (o : Own) os. o ∷ os) (ap (λ r. own net r d) record_is) rest))
       | inr differs ↦
-          ap₂ (λ (o : Own) os. o ∷ os) (ap (λ r. own net r d) (others d.eui differs)) (change-one net h g eui f ds apart.1 others this) ∙ ap here (sym differs)
+          rw differs (ap₂ (λ (o : Own) os. o ∷ os) (ap (λ r. own net r d) (others d.eui differs)) (change-one net h g eui f ds apart.1 others this))
     ]
 
 pub devices-changed : (net : Network) (index : ℕ) (h g : List Entry) (eui : DevEui) (f : DeviceRecord → DeviceRecord) → IsRoster net → OthersSame net g h eui → device_record net g eui ≡ f (device_record net h eui) →
@@ -45,8 +43,6 @@ pub devices-changed : (net : Network) (index : ℕ) (h g : List Entry) (eui : De
 devices-changed net index h g eui f valid others this = change-one net h g eui f (devices_of net index) (own-distinct net index valid) others this
 
 pub devices-same : (net : Network) (index : ℕ) (h g : List Entry) → ((eui : DevEui) → device_record net g eui ≡ device_record net h eui) → devices_in net index g ≡ devices_in net index h
-devices-same net index h g same = each (devices_of net index)
-  where
-    each : (ds : List Device) → map (own_in net g) ds ≡ map (own_in net h) ds
-    each [] = refl
-    each (d ∷ ds) = ap₂ (λ (o : Own) os. o ∷ os) (ap (λ r. own net r d) (same d.eui)) (each ds)
+devices-same net index h g same =
+    map-same (own_in net g) (own_in net h) (devices_of net index)
+    (All-each (λ (d : Device). own_in net g d ≡ own_in net h d) (λ d. ap (λ r. own net r d) (same d.eui)) (devices_of net index))

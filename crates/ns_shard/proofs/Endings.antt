@@ -1,9 +1,9 @@
 -- Closings and answers by the devices and windows that agree with the entries: what ends, whose it is, and what stays where nothing ends.
-use Rattle.std.proofs.Common.{◌≡◌, ℕ, ◌==◌, Bool, true, false, ◌||◌, cond, List, [], ◌∷◌, length, filter, Option, None, Some, slice_get, option_map, refl, sym, ap, subst, ◌∙◌, arith, inl, inr}
+use Rattle.std.proofs.Common.{◌≡◌, ℕ, ◌==◌, true, false, ◌||◌, List, [], ◌∷◌, length, Option, None, Some, slice_get, option_map, refl, sym, ap, subst, ◌∙◌, arith, inl, inr}
 use Rattle.std.specs.Arc.{arc_value}
 use Rattle.std.specs.List.{AllByRecursion, list_any}
 use Rattle.std.specs.Option.{is_some, option_and_then}
-use Rattle.std.proofs.lemmas.Bool.{false≢true}
+use Rattle.std.proofs.lemmas.Bool.{false≢true, false_from_ne_true, eq-eqb}
 use Rattle.std.proofs.lemmas.Bool.Decides.{nat_tests}
 use Rattle.ns_types.specs.declared.identity.DevEui.{DevEui}
 use Rattle.ns_types.specs.declared.identity.WindowName.{WindowName}
@@ -55,14 +55,15 @@ use Rattle.ns_shard.specs.Private.Room.{opens}
 use Rattle.ns_shard.specs.Private.Reaction.{answer_ended, own_answer_ended, shard_answer_ended, ack_of, close_ended, with_closing}
 use Rattle.ns_shard.specs.declared.parts.Parts.{Parts}
 use Rattle.ns_shard.specs.Private.Parts.{Agrees, AreParts}
-use Rattle.ns_shard.proofs.Maps.{find-map}
-use Rattle.ns_shard.proofs.Places.{change_first-none}
+use Rattle.ns_shard.proofs.Maps.{find-map, some-of}
 use Rattle.ns_shard.proofs.DeviceSteps.{devices-same}
 use Rattle.ns_shard.proofs.WindowSteps.{windows-named}
 use Rattle.ns_shard.proofs.PartSteps.{ended_or}
 use Rattle.ns_shard.proofs.AnswerSteps.{answer-unknown, answer-answered, agrees-answer}
 use Rattle.ns_shard.proofs.CloseSteps.{close-answered, agrees-close}
 use Rattle.ns_shard.proofs.Totals.{is_some-map, is_some-none, ends, ends-found, answer-opens, close-opens}
+use Rattle.std.proofs.lemmas.List.Elements.{filter_passes, recursion_from_All}
+use Rattle.ns_devices.proofs.Positions.{change-nothing}
 
 -- ---- whose it is
 
@@ -86,40 +87,26 @@ open-own net index h (call.Uplink frame heard) valid history is = absurd (false�
 open-own net index h (call.Join t heard) valid history is = absurd (false≢true is)
 open-own net index h (call.JoinReply t o) valid history is =
     asked-own index t h (by_place (λ e. shard_of_call e.call ≡ index) h history.own) (at_member (λ u. list_any (asks_for u) h ≡ true) t (open_tickets h) is (open_asked h))
-open-own net index h (call.Close w) valid history is = step (open_window h w) refl is
+open-own net index h (call.Close w) valid history is =
+    let (o, here) = some-of (open_window h w) is in
+    let all = open_windows-mine index h (by_place (λ e. Housed e × (shard_of_call e.call ≡ index)) h mine) in
+    let found = at_some (λ (x : Opening). IsOwn index x × (same_window x.window w ≡ true)) (open_window h w) o here (find-has (IsOwn index) (λ (x : Opening). same_window x.window w) (open_windows h) all) in
+    ap (λ (v : WindowName). shard_of v.eui) (sym (same_window-eq o.window w found.1)) ∙ found.0
   where
     mine : (n : ℕ) (e : Entry) → slice_get h n ≡ Some e → Housed e × (shard_of_call e.call ≡ index)
     mine n e at = (replies_name_own_devices net valid h history.legal n e at, history.own n e at)
-
-    step : (found : Option Opening) → open_window h w ≡ found → is_some found ≡ true → shard_of w.eui ≡ index
-    step None here some = absurd (false≢true some)
-    step (Some o) here some =
-        let all = open_windows-mine index h (by_place (λ e. Housed e × (shard_of_call e.call ≡ index)) h mine) in
-        let found = at_some (λ (x : Opening). IsOwn index x × (same_window x.window w ≡ true)) (open_window h w) o here (find-has (IsOwn index) (λ (x : Opening). same_window x.window w) (open_windows h) all) in
-        ap (λ (v : WindowName). shard_of v.eui) (sym (same_window-eq o.window w found.1)) ∙ found.0
 
 -- a device of another shard is none of the shard's
 pub foreign-none : (net : Network) (index : ℕ) (h : List Entry) (eui : DevEui) → (shard_of eui == index) ≡ false → own_of eui (devices_in net index h) ≡ None
 foreign-none net index h eui foreign =
     find-map (own_in net h) (is_own eui) (devices_of net index)
     ∙ ap (option_map (own_in net h)) (find-none (λ (d : Device). same_device d.eui eui) (devices_of net index)
-    (All-weaker (λ (d : Device). (shard_of d.eui == index) ≡ true) (λ (d : Device). same_device d.eui eui ≡ false) other (devices_of net index) (kept net.devices)))
+    (All-weaker (λ (d : Device). (shard_of d.eui == index) ≡ true) (λ (d : Device). same_device d.eui eui ≡ false) other (devices_of net index)
+    (recursion_from_All (λ (d : Device). (shard_of d.eui == index) ≡ true) (devices_of net index) (filter_passes (λ (d : Device). shard_of d.eui == index) net.devices))))
   where
     other : (d : Device) → (shard_of d.eui == index) ≡ true → same_device d.eui eui ≡ false
     other d here =
-        elim (bool_tells (same_device d.eui eui)) [
-          | inl same ↦ absurd (false≢true (sym foreign ∙ (ap (λ (e : DevEui). shard_of e == index) (sym (same_device-eq d.eui eui same)) ∙ here)))
-          | inr differs ↦ differs
-        ]
-
-    kept : (ds : List Device) → AllByRecursion (λ d. (shard_of d.eui == index) ≡ true) (filter (λ d. shard_of d.eui == index) ds)
-    kept [] = tt
-    kept (d ∷ ds) = step (shard_of d.eui == index) refl (kept ds)
-      where
-        step : (b : Bool) → (shard_of d.eui == index) ≡ b → AllByRecursion (λ x. (shard_of x.eui == index) ≡ true) (filter (λ x. shard_of x.eui == index) ds)
-            → AllByRecursion (λ x. (shard_of x.eui == index) ≡ true) (cond b (d ∷ filter (λ x. shard_of x.eui == index) ds) (filter (λ x. shard_of x.eui == index) ds))
-        step true is rest = (is, rest)
-        step false is rest = rest
+        false_from_ne_true (same_device d.eui eui) (λ same. false≢true (sym foreign ∙ (ap (λ (e : DevEui). shard_of e == index) (sym (same_device-eq d.eui eui same)) ∙ here)))
 
 -- ---- what ends
 
@@ -148,13 +135,9 @@ answer-ends net index h devices windows t o agrees =
 
     closed : (shard_of (dev_eui t) == index) ≡ false → is_ticket_open h t ≡ false
     closed foreign =
-        elim (bool_tells (is_ticket_open h t)) [
-          | inl is ↦
-              (let mine : shard_of (dev_eui t) ≡ index = open-own net index h (call.JoinReply t o) agrees.valid agrees.history is in
-              let here : (shard_of (dev_eui t) == index) ≡ true = grind (arith, nat_tests) in
-              absurd (false≢true (sym foreign ∙ here)))
-          | inr none ↦ none
-        ]
+        false_from_ne_true (is_ticket_open h t) (λ is.
+        let mine : shard_of (dev_eui t) ≡ index = open-own net index h (call.JoinReply t o) agrees.valid agrees.history is in
+        false≢true (sym foreign ∙ eq-eqb (shard_of (dev_eui t)) index mine))
 
 -- ---- what each does
 
@@ -192,7 +175,7 @@ module _ (p : Parts) (are : AreParts p) where
                 (after own).by_device
                 ∙ (devices-same (arc_value p.roster) p.index are.history now (λ eui. others_stay.others (arc_value p.roster) are.history (entry_for (arc_value p.roster) are.history (length are.history) (call.JoinReply t o)) eui (ap (λ (r : Reply). concerns eui (call.JoinReply t o) r) (answer-unknown (arc_value p.roster) are.history t o closed)))
                 ∙ sym are.agrees.by_device))
-            | inr foreign ↦ change_first-none (is_own (dev_eui t)) (with_state (after_answer t o)) p.devices (ap (own_of (dev_eui t)) are.agrees.by_device ∙ foreign-none (arc_value p.roster) p.index are.history (dev_eui t) foreign)
+            | inr foreign ↦ sym (change-nothing (is_own (dev_eui t)) (with_state (after_answer t o)) p.devices (ap (own_of (dev_eui t)) are.agrees.by_device ∙ foreign-none (arc_value p.roster) p.index are.history (dev_eui t) foreign))
           ]
 
   pub close-ending : (w : WindowName) {ds : List Own} {ws : List Window} → ds ≡ with_closing (window_named w p.windows) p.devices → ws ≡ without w p.windows →
@@ -202,15 +185,12 @@ module _ (p : Parts) (are : AreParts p) where
     opens_none = close-opens w;
     told = λ own. close-answered (arc_value p.roster) p.index are.history p.devices p.windows w are.agrees (closings_agree (arc_value p.roster) are.history) own;
     agrees = λ own.
-        subst (λ (v : List Own). Agrees (arc_value p.roster) p.index now v ws) (sym devices_are) (subst (λ (v : List Window). Agrees (arc_value p.roster) p.index now (with_closing (window_named w p.windows) p.devices) v) (sym windows_are)
-        (agrees-close (arc_value p.roster) p.index are.history p.devices p.windows w are.agrees others_stay (closings_agree (arc_value p.roster) are.history) own));
+        rw (devices_are, windows_are)
+        (agrees-close (arc_value p.roster) p.index are.history p.devices p.windows w are.agrees others_stay (closings_agree (arc_value p.roster) are.history) own);
     devices_stay = λ closed. devices_are ∙ ap (λ (o : Option Window). with_closing o p.devices) (none closed);
     windows_stay = λ closed. windows_are ∙ filter-none (is_named w) p.windows (none_found (is_named w) p.windows (none closed));
   }
     where
-      now : List Entry
-      now = with_call (arc_value p.roster) are.history (length are.history) (call.Close w)
-
       found : is_some (window_named w p.windows) ≡ is_some (open_window are.history w)
       found = ap (λ (o : Option Window). is_some o) (ap (window_named w) are.agrees.by_window ∙ windows-named are.history w) ∙ is_some-map (window_of_opening are.history) (open_window are.history w)
 

@@ -1,10 +1,9 @@
 -- The live sessions and the open tickets of a history are those that its devices tell.
-use Rattle.std.proofs.Common.{◌≡◌, ℕ, suc, Bool, true, false, ◌||◌, ◌==◌, cond, List, [], ◌∷◌, filter, filter_map, map, find, slice_get, Option, None, Some, option_map, is_some, ◌⊎◌, refl, sym, ap, subst, ◌∙◌, inl, inr, arith}
+use Rattle.std.proofs.Common.{◌≡◌, ℕ, suc, Bool, true, false, ◌||◌, ◌==◌, cond, List, [], ◌∷◌, filter_map, map, find, slice_get, Option, None, Some, option_map, is_some, ◌⊎◌, refl, sym, ap, subst, ◌∙◌, inl, inr}
 use Rattle.std.specs.Prelude.{IsSome}
 use Rattle.std.specs.List.{AllByRecursion, list_any, cons_option}
 use Rattle.std.specs.Option.{option_map_or}
-use Rattle.std.proofs.lemmas.Bool.{false≢true, eq-eqb}
-use Rattle.std.proofs.lemmas.Bool.Decides.{nat_tests}
+use Rattle.std.proofs.lemmas.Bool.{false≢true, eq-eqb, eqb-true, false_from_ne_true}
 use Rattle.ns_types.specs.declared.identity.DevEui.{DevEui}
 use Rattle.ns_types.specs.declared.ticket.Ticket.{Ticket}
 use Rattle.ns_types.specs.Identity.{shard_of}
@@ -22,29 +21,31 @@ use Rattle.ns_calls.specs.declared.call.Reply.TheVariants as reply
 use Rattle.ns_calls.specs.declared.call.Entry.{Entry}
 use Rattle.ns_calls.specs.Entries.{Acceptance, acceptances, same_device, accepted}
 use Rattle.ns_calls.proofs.Says.{acceptance_in, uplink-says, join-says, answer-says, close-says, accepted-by}
-use Rattle.ns_calls.specs.History.{same_ticket, session_join, greatest_counter, next_ack, live, is_live, open_tickets, is_ticket_open}
-use Rattle.ns_calls.specs.Headline.{session_round}
+use Rattle.ns_calls.specs.History.{same_ticket, session_join, live, is_live, open_tickets, is_ticket_open}
 use Rattle.ns_calls.specs.Reply.{reply_to}
 use Rattle.ns_calls.specs.Shards.{shard_of_call}
 use Rattle.ns_calls.specs.Legal.{IsLegal, IsHistory, entry_for}
 use Rattle.ns_calls.proofs.Induction.{legal_induction}
 use Rattle.ns_calls.proofs.JoinLemmas.{same_device-eq}
 use Rattle.ns_calls.proofs.KeyLemmas.{sessions_have_joins}
-use Rattle.ns_calls.proofs.LocalLemmas.{bool_tells}
-use Rattle.ns_calls.proofs.TicketLemmas.{same_ticket-eq}
+use Rattle.ns_calls.proofs.LocalLemmas.{bool_tells, list_any-own}
 use Rattle.ns_kept.proofs.Later.{said-more, each-some}
 use Rattle.ns_sessions.specs.declared.session.Session.{Session}
 use Rattle.ns_sessions.specs.declared.ticket.OpenTicket.{OpenTicket}
 use Rattle.ns_sessions.specs.Record.{device_record, session_record, ticket_record, tickets_of, session_in}
-use Rattle.ns_sessions.proofs.OpenTickets.{same_device-refl}
+use Rattle.ns_sessions.proofs.OpenTickets.{same_device-refl, other_device}
 use Rattle.ns_devices.specs.declared.own.Own.{Own}
 use Rattle.ns_shard.specs.Private.Devices.{own_in, devices_in}
 use Rattle.ns_devices.specs.Devices.{own_of}
 use Rattle.ns_devices.specs.Devices.{lives_in, has_ticket_in}
 use Rattle.ns_shard.proofs.Roster.{own-found}
-use Rattle.ns_shard.proofs.AnswerSteps.{not_open, answer-unknown}
+use Rattle.ns_shard.proofs.AnswerSteps.{not_open, answer-unknown, open-known}
 use Rattle.ns_shard.proofs.Endings.{open-own, foreign-none}
 use Rattle.std.proofs.lemmas.Option.{none-some, same_Some}
+use Rattle.ns_calls.proofs.RoundLemmas.{filter-none}
+use Rattle.ns_calls.proofs.Lists.{All-weaker}
+use Rattle.ns_shard.proofs.CloseSteps.{all_both}
+use Rattle.ns_shard.proofs.Maps.{some-of}
 
 -- ---- whose joins are accepted
 
@@ -87,20 +88,6 @@ said-of k (e ∷ h) own = step (acceptance_in e.call e.reply) refl (said-of k h 
     step None is rest = rest
     step (Some a) is rest = (accepted-own k e.call e.reply a is (own 0 e refl), rest)
 
--- no join of another device is accepted
-no-acceptances : (net : Network) (index : ℕ) (eui : DevEui) → (IsHome net index eui → ⊥) → (joins : List Acceptance) → AllByRecursion (λ a. shard_of a.eui ≡ index) joins → AllByRecursion (λ a. IsSome (device net a.eui)) joins →
-    filter (λ a. same_device a.eui eui) joins ≡ []
-no-acceptances net index eui away [] own known = refl
-no-acceptances net index eui away (a ∷ joins) own known =
-    elim (bool_tells (same_device a.eui eui)) [
-      | inl same ↦
-          (let here : a.eui ≡ eui = same_device-eq a.eui eui same in
-          absurd (away (ap shard_of (sym here) ∙ own.0, subst (λ e. IsSome (device net e)) here known.0)))
-      | inr differs ↦
-          ap (λ b. cond {A = List Acceptance} b (a ∷ filter (λ x. same_device x.eui eui) joins) (filter (λ x. same_device x.eui eui) joins)) differs
-          ∙ no-acceptances net index eui away joins own.1 known.1
-    ]
-
 all-known : (net : Network) → IsRoster net → (h : List Entry) → IsLegal net h → AllByRecursion (λ a. IsSome (device net a.eui)) (filter_map (λ e. acceptance_in e.call e.reply) h)
 all-known net valid h legal =
     let Known : Acceptance → Type 0 = λ a. IsSome (device net a.eui) in
@@ -108,8 +95,17 @@ all-known net valid h legal =
     (λ g number c ok all. said-more Known (λ (e : Entry). acceptance_in e.call e.reply) g (entry_for net g number c) all
     (each-some Known (acceptance_in c (reply_to net g c)) (λ a is. accepted-known net valid g ok c a is))) h legal
 
+-- no join of another device is accepted
 away-none : (net : Network) (index : ℕ) (h : List Entry) (eui : DevEui) → IsRoster net → IsHistory net index h → (IsHome net index eui → ⊥) → acceptances h eui ≡ []
-away-none net index h eui valid history away = no-acceptances net index eui away (filter_map (λ (e : Entry). acceptance_in e.call e.reply) h) (said-of index h history.own) (all-known net valid h history.legal)
+away-none net index h eui valid history away =
+    filter-none (λ (a : Acceptance). same_device a.eui eui) joins (All-weaker (λ (a : Acceptance). IsHome net index a.eui) (λ (a : Acceptance). same_device a.eui eui ≡ false) other joins
+    (all_both (λ (a : Acceptance). shard_of a.eui ≡ index) (λ (a : Acceptance). IsSome (device net a.eui)) joins (said-of index h history.own) (all-known net valid h history.legal)))
+  where
+    joins : List Acceptance
+    joins = filter_map (λ (e : Entry). acceptance_in e.call e.reply) h
+
+    other : (a : Acceptance) → IsHome net index a.eui → same_device a.eui eui ≡ false
+    other a home = false_from_ne_true (same_device a.eui eui) (λ same. away (subst (IsHome net index) (same_device-eq a.eui eui same) home))
 
 -- ---- live sessions
 
@@ -120,26 +116,17 @@ none-live h eui s none (x ∷ xs) all =
     let gone : session_join h eui x ≡ None = ap (λ joins. option_map (λ (a : Acceptance). a.join_ans) (find (λ (a : Acceptance). a.session == x) joins)) none in
     absurd (cc (subst (λ (o : Option JoinAns). IsSome o) gone all.0))
 
--- the record of a session, by its join server's answer
-abbrev session_from : List Entry → DevEui → ℕ → Option JoinAns → Option Session
-session_from h eui x j = option_map (λ join_ans. record { number = x; nwk = join_ans.nwk; app = join_ans.app; greatest_counter = greatest_counter h eui x; round = session_round h eui x; next_ack = next_ack h eui x }) j
-
 found-more : (b later : Bool) (y : Session) (o : Option Session) → is_some o ≡ later → is_some (cond {A = Option Session} b (Some y) o) ≡ (b || later)
 found-more true later y o is = refl
 found-more false later y o is = is
-
-found-one : (h : List Entry) (eui : DevEui) (s x : ℕ) (xs : List ℕ) (j : Option JoinAns) → IsSome j → is_some (find (λ (y : Session). y.number == s) (filter_map (session_record h eui) xs)) ≡ list_any (λ z. z == s) xs →
-    is_some (find (λ (y : Session). y.number == s) (cons_option (session_from h eui x j) (filter_map (session_record h eui) xs))) ≡ ((x == s) || list_any (λ z. z == s) xs)
-found-one h eui s x xs None some later = absurd (cc some)
-found-one h eui s x xs (Some join) some later =
-    found-more (x == s) (list_any (λ z. z == s) xs) (record { number = x; nwk = join.nwk; app = join.app; greatest_counter = greatest_counter h eui x; round = session_round h eui x; next_ack = next_ack h eui x })
-    (find (λ (y : Session). y.number == s) (filter_map (session_record h eui) xs)) later
 
 -- the sessions of a device's record are those that live
 found-live : (h : List Entry) (eui : DevEui) (s : ℕ) (xs : List ℕ) → AllByRecursion (λ x. IsSome (session_join h eui x)) xs →
     is_some (find (λ (y : Session). y.number == s) (filter_map (session_record h eui) xs)) ≡ list_any (λ x. x == s) xs
 found-live h eui s [] all = refl
-found-live h eui s (x ∷ xs) all = found-one h eui s x xs (session_join h eui x) all.0 (found-live h eui s xs all.1)
+found-live h eui s (x ∷ xs) all =
+    let (join, is) = some-of (session_join h eui x) all.0 in
+    rw is (found-more (x == s) (list_any (λ z. z == s) xs) _ (find (λ (y : Session). y.number == s) (filter_map (session_record h eui) xs)) (found-live h eui s xs all.1))
 
 -- ---- open tickets
 
@@ -147,37 +134,16 @@ any-mapped : (h : List Entry) (t : Ticket) (ts : List Ticket) → list_any (λ (
 any-mapped h t [] = refl
 any-mapped h t (u ∷ ts) = ap (λ b. same_ticket t u || b) (any-mapped h t ts)
 
-other-ticket : (t u : Ticket) → same_device (dev_eui u) (dev_eui t) ≡ false → same_ticket t u ≡ false
-other-ticket t u foreign =
-    elim (bool_tells (same_ticket t u)) [
-      | inl same ↦ absurd (false≢true (sym foreign ∙ (ap (λ (v : Ticket). same_device (dev_eui v) (dev_eui t)) (sym (same_ticket-eq t u same)) ∙ same_device-refl (dev_eui t))))
-      | inr differs ↦ differs
-    ]
-
-any-own : (t : Ticket) (ts : List Ticket) → list_any (same_ticket t) (filter (λ u. same_device (dev_eui u) (dev_eui t)) ts) ≡ list_any (same_ticket t) ts
-any-own t [] = refl
-any-own t (u ∷ ts) =
-    let rest : List Ticket = filter (λ v. same_device (dev_eui v) (dev_eui t)) ts in
-    elim (bool_tells (same_device (dev_eui u) (dev_eui t))) [
-      | inl own ↦ ap (λ b. list_any (same_ticket t) (cond {A = List Ticket} b (u ∷ rest) rest)) own ∙ ap (λ b. same_ticket t u || b) (any-own t ts)
-      | inr foreign ↦
-          ap (λ b. list_any (same_ticket t) (cond {A = List Ticket} b (u ∷ rest) rest)) foreign
-          ∙ (any-own t ts ∙ ap (λ b. b || list_any (same_ticket t) ts) (sym (other-ticket t u foreign)))
-    ]
-
 -- ---- a device is found among the shard's, or is none of the shard's
 
 found-or_away : (net : Network) (index : ℕ) (h : List Entry) (eui : DevEui) →
     ((d : Device) × (own_of eui (devices_in net index h) ≡ Some (own_in net h d)) × (d.eui ≡ eui)) ⊎ ((own_of eui (devices_in net index h) ≡ None) × (IsHome net index eui → ⊥))
 found-or_away net index h eui =
     elim (bool_tells (shard_of eui == index)) [
-      | inl mine ↦ step (device net eui) refl (eq-of (shard_of eui) index mine)
+      | inl mine ↦ step (device net eui) refl (eqb-true (shard_of eui) index mine)
       | inr foreign ↦ inr (foreign-none net index h eui foreign, λ home. false≢true (sym foreign ∙ eq-eqb (shard_of eui) index home.0))
     ]
   where
-    eq-of : (m n : ℕ) → (m == n) ≡ true → m ≡ n
-    eq-of m n is = grind (arith, nat_tests)
-
     step : (x : Option Device) → device net eui ≡ x → shard_of eui ≡ index →
         ((d : Device) × (own_of eui (devices_in net index h) ≡ Some (own_in net h d)) × (d.eui ≡ eui)) ⊎ ((own_of eui (devices_in net index h) ≡ None) × (IsHome net index eui → ⊥))
     step None is mine = inr (own-found net index h eui mine ∙ ap (option_map (own_in net h)) is, λ home. cc (subst (λ (o : Option Device). IsSome o) is home.1))
@@ -205,23 +171,13 @@ module _ (net : Network) (index : ℕ) (h : List Entry) (valid : IsRoster net) (
         | inl found ↦
             ap (λ x. option_map_or (λ (o : Own). list_any (λ (y : OpenTicket). same_ticket t y.ticket) o.state.tickets) x false) found.1
             ∙ (ap (λ e. list_any (λ (y : OpenTicket). same_ticket t y.ticket) (map (ticket_record h) (tickets_of h e))) found.2
-            ∙ (any-mapped h t (tickets_of h (dev_eui t)) ∙ any-own t (open_tickets h)))
+            ∙ (any-mapped h t (tickets_of h (dev_eui t)) ∙ list_any-own (λ (u : Ticket). same_device (dev_eui u) (dev_eui t)) (same_ticket t) (λ u foreign. other_device (dev_eui t) t u (same_device-refl (dev_eui t)) foreign) (open_tickets h)))
         | inr away ↦
             ap (λ x. option_map_or (λ (o : Own). list_any (λ (y : OpenTicket). same_ticket t y.ticket) o.state.tickets) x false) away.0
             ∙ sym (closed away.1)
       ]
     where
-      some-or : (x : Option Device) → (IsSome x) ⊎ (x ≡ None)
-      some-or None = inr refl
-      some-or (Some d) = inl refl
-
       closed : (IsHome net index (dev_eui t) → ⊥) → is_ticket_open h t ≡ false
       closed away =
-          elim (bool_tells (is_ticket_open h t)) [
-            | inr not_there ↦ not_there
-            | inl there ↦
-                elim (some-or (device net (dev_eui t))) [
-                  | inl known ↦ absurd (away (open-own net index h (call.JoinReply t outcome.Failed) valid history there, known))
-                  | inr unknown ↦ not_open net h t valid history.legal unknown
-                ]
-          ]
+          false_from_ne_true (is_ticket_open h t) (λ there.
+          away (open-own net index h (call.JoinReply t outcome.Failed) valid history there, open-known net h t valid history.legal there))

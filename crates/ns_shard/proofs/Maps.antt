@@ -1,25 +1,16 @@
--- Questions to a list of which each element is mapped.
-use Rattle.std.proofs.Common.{◌≡◌, ℕ, ◌+◌, Bool, true, false, cond, List, [], ◌∷◌, filter, map, find, count_by, Option, Some, option_map, refl, sym, ap, ap₂, ◌∙◌, arith, inl, inr}
+-- Questions to a list of which each element is mapped, what stands at its front, and what an option has.
+use Rattle.std.proofs.Common.{◌≡◌, ◌+◌, Bool, true, false, cond, List, [], ◌∷◌, filter, map, find, count_by, Option, Some, option_map, refl, sym, ap, ap₂, ◌∙◌, ◌++◌, length, None, slice_get}
 use Rattle.std.specs.List.{AllByRecursion}
-use Rattle.ns_calls.specs.Queries.{first}
-use Rattle.ns_calls.proofs.LocalLemmas.{bool_tells}
 use Rattle.ns_calls.proofs.Lists.{count-cons}
+use Rattle.std.specs.Prelude.{IsSome}
 
 pub map-same : {X Y : Type 0} (f g : X → Y) (xs : List X) → AllByRecursion (λ x. f x ≡ g x) xs → map f xs ≡ map g xs
 map-same f g [] same = refl
 map-same f g (x ∷ xs) same = ap₂ (λ y ys. y ∷ ys) same.0 (map-same f g xs same.1)
 
-pub filter-same : {X : Type 0} (p q : X → Bool) → ((x : X) → p x ≡ q x) → (xs : List X) → filter p xs ≡ filter q xs
-filter-same p q same [] = refl
-filter-same {X} p q same (x ∷ xs) = ap₂ (λ b ys. cond {A = List X} b (x ∷ ys) ys) (same x) (filter-same p q same xs)
-
 pub map-map : {X Y Z : Type 0} (f : X → Y) (g : Y → Z) (xs : List X) → map g (map f xs) ≡ map (λ x. g (f x)) xs
 map-map f g [] = refl
 map-map f g (x ∷ xs) = ap (λ ys. g (f x) ∷ ys) (map-map f g xs)
-
-pub first-map : {X Y : Type 0} (f : X → Y) (xs : List X) → first (map f xs) ≡ option_map f (first xs)
-first-map f [] = refl
-first-map f (x ∷ xs) = refl
 
 pub find-map : {X Y : Type 0} (f : X → Y) (p : Y → Bool) (xs : List X) → find p (map f xs) ≡ option_map f (find (λ x. p (f x)) xs)
 find-map f p [] = refl
@@ -37,17 +28,12 @@ pub count-map : {X Y : Type 0} (f : X → Y) (p : Y → Bool) (xs : List X) → 
 count-map f p [] = refl
 count-map f p (x ∷ xs) = count-cons p (f x) (map f xs) ∙ (ap (λ n. cond (p (f x)) 1 0 + n) (count-map f p xs) ∙ sym (count-cons (λ y. p (f y)) x xs))
 
--- nothing counts, so nothing passes
-pub none-count : {X : Type 0} (p : X → Bool) (xs : List X) → count_by p xs ≡ 0 → AllByRecursion (λ x. p x ≡ false) xs
-none-count p [] none = tt
-none-count p (x ∷ xs) none =
-    let is : count_by p (x ∷ xs) ≡ cond (p x) 1 0 + count_by p xs = count-cons p x xs in
-    elim (bool_tells (p x)) [
-      | inl passes ↦
-          (let one : count_by p (x ∷ xs) ≡ 1 + count_by p xs = is ∙ ap (λ b. cond {A = ℕ} b 1 0 + count_by p xs) passes in
-          absurd (omega (arith, one, none)))
-      | inr fails ↦
-          (let rest : count_by p (x ∷ xs) ≡ 0 + count_by p xs = is ∙ ap (λ b. cond {A = ℕ} b 1 0 + count_by p xs) fails in
-          let zero_left : count_by p xs ≡ 0 = omega (arith, rest, none) in
-          (fails, none-count p xs zero_left))
-    ]
+-- the element that follows the first ones
+pub at-front : {X : Type 0} (xs ys : List X) (y : X) → slice_get (xs ++ y ∷ ys) (length xs) ≡ Some y
+at-front [] ys y = refl
+at-front (x ∷ xs) ys y = at-front xs ys y
+
+-- what an option has
+pub some-of : {X : Type 0} (o : Option X) → IsSome o → (x : X) × (o ≡ Some x)
+some-of None some = absurd (cc some)
+some-of (Some x) some = (x, refl)

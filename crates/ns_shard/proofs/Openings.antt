@@ -1,40 +1,27 @@
 -- What comes of an uplink that no open window has, by where it fits.
-use Rattle.std.proofs.Common.{◌≡◌, ℕ, Bool, false, cond, nat_le, length, List, [], ◌∷◌, Option, None, Some, option_map, refl, sym, ap, ap₂, ◌∙◌}
-use Rattle.std.specs.Option.{option_map_or}
+use Rattle.std.proofs.Common.{◌≡◌, ℕ, Bool, false, cond, nat_le, List, [], ◌∷◌, Option, None, Some, option_map, sym, ap, ◌∙◌}
+use Rattle.std.specs.Option.{option_map_or, is_some}
 use Rattle.ns_types.specs.declared.identity.WindowName.{WindowName}
 use Rattle.ns_types.specs.declared.heard.Heard.{Heard}
 use Rattle.ns_types.specs.Cases.{first_case}
 use Rattle.ns_views.specs.Frame.{is_confirmed}
-use Rattle.ns_secure.specs.Counter.{above, below}
-use Rattle.ns_calls.specs.declared.call.Reply.{Reply}
+use Rattle.ns_secure.specs.Counter.{above}
 use Rattle.ns_calls.specs.declared.call.Reply.TheVariants as reply
-use Rattle.ns_calls.specs.Reply.{Fit, window_of, in_round, most_windows, unless_busy, uplink_rule}
+use Rattle.ns_calls.specs.Reply.{Fit, window_of, in_round, most_windows, unless_busy}
 use Rattle.ns_windows.specs.declared.window.Window.{Window}
 use Rattle.ns_windows.specs.Windows.{window_of_frame, addition, count, with_copy_in, with_copy_of}
 use Rattle.ns_devices.specs.declared.own.Own.{Own}
 use Rattle.ns_devices.specs.Devices.{first_own_fit}
 use Rattle.ns_shard.specs.Private.Reaction.{open_reply, again_reply, round_of, uplink_reply}
+use Rattle.ns_shard.proofs.Totals.{is_some-map, is_some-none}
 
 pub nothing-framed : (frame : List ℕ) (windows : List Window) → None ≡ option_map addition (window_of_frame frame windows) → window_of_frame frame windows ≡ None
-nothing-framed frame windows none = step (window_of_frame frame windows) none
-  where
-    step : (o : Option Window) → None ≡ option_map addition o → o ≡ None
-    step None is = refl
-    step (Some w) is = absurd (cc is)
+nothing-framed frame windows none =
+    is_some-none (window_of_frame frame windows) (sym (is_some-map addition (window_of_frame frame windows)) ∙ ap (λ o. is_some o) (sym none))
 
--- the reply by what is asked of the devices and windows
-reply-by : List Own → List Window → List ℕ → Option Window → Option Fit → Option Fit → Reply
-reply-by devices windows frame copied fresh stale = uplink_rule (record {
-  confirmed = is_confirmed frame;
-  copied = option_map (λ w. (w.name, length w.copies.items)) copied;
-  above = option_map (λ f. (f, count f.eui windows)) fresh;
-  below = option_map (λ f. (f, count f.eui windows, round_of devices windows f)) stale;
-})
-
+-- the reply to a frame that fits above the greatest counter
 pub fresh-reply : (devices : List Own) (windows : List Window) (frame : List ℕ) (f : Fit) → window_of_frame frame windows ≡ None → first_own_fit above frame devices ≡ Some f → open_reply windows f ≡ uplink_reply devices windows frame
-unfolding reply-by
-fresh-reply devices windows frame f none fits =
-    sym (ap₂ (λ (x : Option Window) (y : Option Fit). reply-by devices windows frame x y (first_own_fit below frame devices)) none fits)
+fresh-reply devices windows frame f none fits = rw (none, fits)
 
 -- the reply with which a window is opened, by whether its device is busy
 pub open-told : (windows : List Window) (f : Fit) (name : WindowName) (busy : Bool) → name ≡ window_of f → busy ≡ nat_le most_windows (count name.eui windows) → busy ≡ false → open_reply windows f ≡ reply.Opened (window_of f)

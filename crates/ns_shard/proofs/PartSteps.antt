@@ -1,8 +1,7 @@
 -- What comes of a call by the devices and windows that agree with the entries is what comes of it by the entries, and they agree after it.
-use Rattle.std.proofs.Common.{◌≡◌, ◌==◌, ℕ, zero, suc, All, Bool, false, cond, List, [], ◌∷◌, length, map, Option, None, Some, option_map, refl, sym, ap, ap₂, ◌∙◌, arith, inl, inr}
+use Rattle.std.proofs.Common.{◌≡◌, ◌==◌, ℕ, Bool, false, cond, List, [], ◌∷◌, length, map, Option, None, Some, option_map, refl, sym, ap, ◌∙◌, arith, inl, inr, not, ◌++◌, filter, option_to_list, IfSome, subst}
 use Rattle.std.specs.Prelude.{Contains}
 use Rattle.std.specs.Option.{option_map_or, option_and_then}
-use Rattle.std.proofs.lemmas.List.Elements.{All-filter}
 use Rattle.std.proofs.lemmas.Bool.Decides.{nat_tests}
 use Rattle.ns_types.specs.declared.identity.DevEui.{DevEui}
 use Rattle.ns_types.specs.declared.identity.DevNonce.{DevNonce}
@@ -23,7 +22,7 @@ use Rattle.ns_calls.specs.declared.answer.Answer.{Answer}
 use Rattle.ns_calls.specs.Entries.{same_device, closed, opened}
 use Rattle.ns_calls.specs.History.{last_nonce, copied}
 use Rattle.ns_calls.specs.Reply.{reply_to, reply_to_join, JoinFacts, join_facts, join_rule}
-use Rattle.ns_calls.specs.Legal.{entry_for, with_call}
+use Rattle.ns_calls.specs.Legal.{entry_for, with_call, IsLegal}
 use Rattle.ns_calls.proofs.LocalLemmas.{bool_tells}
 use Rattle.ns_calls.proofs.LegalLemmas.{history_none, history_more}
 use Rattle.ns_calls.proofs.KeyLemmas.{sessions_have_joins}
@@ -39,27 +38,26 @@ use Rattle.ns_shard.specs.State.{quiet}
 use Rattle.ns_shard.specs.Private.Sending.{answer_of}
 use Rattle.ns_shard.specs.Private.Reaction.{own_join_reply, shard_join_reply}
 use Rattle.ns_shard.specs.Private.Parts.{Agrees}
-use Rattle.ns_shard.proofs.Places.{change_first-same, change_first-stays, change_first-none}
-use Rattle.ns_shard.proofs.Roster.{own-found}
+use Rattle.ns_shard.proofs.Places.{change_first-same, change_first-stays}
+use Rattle.ns_shard.proofs.Roster.{own-found, members}
 use Rattle.ns_shard.proofs.DeviceSteps.{OthersSame, devices-changed, devices-same}
 use Rattle.ns_shard.proofs.WindowSteps.{windows-quiet, WindowsHaveJoins}
 use Rattle.ns_calls.proofs.Says.{join-says}
+use Rattle.ns_devices.proofs.Positions.{change-nothing}
+use Rattle.std.specs.List.{AllByRecursion}
+use Rattle.ns_calls.proofs.Induction.{legal_induction}
+use Rattle.ns_calls.proofs.Lists.{All-after, All-filter, All-weaker}
+use Rattle.ns_shard.proofs.Maps.{map-same}
 
 -- ---- no entries
-
--- each element of a list is one of it
-contained_each : {X : Type 0} (xs : List X) → All (Contains xs) xs
-contained_each [] k d within = absurd (omega (arith, within))
-contained_each (x ∷ xs) zero d within = (0, omega arith, refl)
-contained_each (x ∷ xs) (suc k) d within =
-    let held = contained_each xs k d (omega (arith, within)) in
-    (suc held.0, omega (arith, held.1), held.2)
 
 pub agrees-new : (net : Network) (index : ℕ) → OthersStay → IsRoster net → Agrees net index [] (map (joinless net) (devices_of net index)) []
 agrees-new net index stay valid = record {
   valid = valid;
   history = history_none net index;
-  by_device = each (devices_of net index) (All-filter (λ d. shard_of d.eui == index) (Contains net.devices) net.devices (contained_each net.devices));
+  by_device =
+      map-same (joinless net) (own_in net []) (devices_of net index)
+      (All-weaker (Contains net.devices) (λ (d : Device). joinless net d ≡ own_in net [] d) same (devices_of net index) (All-filter (Contains net.devices) (λ (d : Device). shard_of d.eui == index) net.devices (members net)));
   by_window = refl;
 }
   where
@@ -67,11 +65,8 @@ agrees-new net index stay valid = record {
     named : (d : Device) → Contains net.devices d → option_map (λ (n : DevNonce). n.0) d.last_nonce ≡ last_nonce net d.eui
     named d held = sym (ap (option_and_then (λ (x : Device). option_map (λ (n : DevNonce). n.0) x.last_nonce)) (device-found net valid d.eui d (held, refl)))
 
-    each : (ds : List Device) → All (Contains net.devices) ds → map (joinless net) ds ≡ map (own_in net []) ds
-    each [] held = refl
-    each (d ∷ ds) held =
-        ap₂ (λ (o : Own) os. o ∷ os) (ap (λ r. own net r d) (ap no_joins (named d (held 0 d (omega arith))) ∙ sym (stay.none net d.eui)))
-        (each ds (λ k x within. held (suc k) x (omega (arith, within))))
+    same : (d : Device) → Contains net.devices d → joinless net d ≡ own_in net [] d
+    same d held = ap (λ r. own net r d) (ap no_joins (named d held) ∙ sym (stay.none net d.eui))
 
 -- ---- any call
 
@@ -85,6 +80,15 @@ joined net index h devices windows agrees = (sessions_have_joins net h agrees.hi
 -- what is said of the devices that a call does not concern stays
 pub others-stay : (net : Network) (h : List Entry) (number : ℕ) (c : Call) (eui : DevEui) → OthersStay → ((other : DevEui) → same_device other eui ≡ false → concerns other c (reply_to net h c) ≡ false) → OthersSame net (with_call net h number c) h eui
 others-stay net h number c eui stay apart other differs = stay.others net h (entry_for net h number c) other (apart other differs)
+
+-- what is open is known, where whatever opens is known
+pub all-open : {X : Type 0} (net : Network) (Known : X → Type 0) (open_in : List Entry → List X) (ends : X → Entry → Bool) (new : Call → Reply → Option X) → AllByRecursion Known (open_in [])
+    → ((h : List Entry) (e : Entry) → open_in (h ++ e ∷ []) ≡ filter (λ x. not (ends x e)) (open_in h) ++ option_to_list (new e.call e.reply))
+    → ((h : List Entry) (c : Call) → IfSome (new c (reply_to net h c)) Known) → (h : List Entry) → IsLegal net h → AllByRecursion Known (open_in h)
+all-open net Known open_in ends new none push known h legal =
+    legal_induction net (λ g. AllByRecursion Known (open_in g)) none (λ g number c ok all.
+    let e = entry_for net g number c in
+    subst (AllByRecursion Known) (sym (push g e)) (All-after Known (λ x. not (ends x e)) (open_in g) (new c (reply_to net g c)) all (known g c))) h legal
 
 -- ---- joins
 
@@ -149,7 +153,7 @@ agrees-join net index h devices windows t heard agrees stay law mine = record {
 
     step : (o : Option Device) → device net (dev_eui t) ≡ o → with_join_of t heard (devices_in net index h) ≡ devices_in net index now
     step None is =
-        change_first-none (is_own (dev_eui t)) f (devices_in net index h) (found ∙ ap (option_map (own_in net h)) is)
+        sym (change-nothing (is_own (dev_eui t)) f (devices_in net index h) (found ∙ ap (option_map (own_in net h)) is))
         ∙ stays (known_is ∙ ap (has_join_eui (join_eui t)) is)
     step (Some d) is =
         let o : Own = own_in net h d in

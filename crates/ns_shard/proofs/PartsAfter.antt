@@ -68,12 +68,14 @@ abbrev pub history-after : (p : Parts) → AreParts p → Call → List Entry
 history-after p are c = with_call (arc_value p.roster) are.history (length are.history) c
 
 -- how many are open then
-total-by : (p : Parts) (are : AreParts p) (c : Call) (r : Reply) → r ≡ reply_to (arc_value p.roster) are.history c → open_total (history-after p are c) + cond (ends_open are.history c) 1 0 ≡ p.journal.reserved + cond (opens c r) 1 0
-total-by p are c r is =
+total-by : (p : Parts) (are : AreParts p) (c : Call) (r : Reply) (ended opened : Bool) → r ≡ reply_to (arc_value p.roster) are.history c → ends_open are.history c ≡ ended → opens c r ≡ opened
+    → open_total (history-after p are c) + cond ended 1 0 ≡ p.journal.reserved + cond opened 1 0
+total-by p are c r ended opened is ends begins =
     let total = total-after (arc_value p.roster) are.history (length are.history) c are.agrees.history.legal in
-    let begun = ap (λ x. cond {A = ℕ} (opens c x) 1 0) is in
+    let over = ap (λ b. cond {A = ℕ} b 1 0) ends in
+    let begun = ap (λ b. cond {A = ℕ} b 1 0) (ap (opens c) (sym is) ∙ begins) in
     let kept = are.reserved in
-    omega (arith, total, begun, kept)
+    omega (arith, total, over, begun, kept)
 
 module _ (p q : Parts) (are : AreParts p) (c : Call) (same : state_of q ≡ state_of p) (agrees : Agrees (arc_value p.roster) p.index (history-after p are c) q.devices q.windows) (kept : q.journal.reserved ≡ p.journal.reserved) where
   -- by the answer and the room
@@ -90,31 +92,24 @@ module _ (p q : Parts) (are : AreParts p) (c : Call) (same : state_of q ≡ stat
 
   -- an uplink or a Join-Request
   pub opening-taken : (r : Reply) → quiet r ≡ answer (arc_value p.roster) are.history c → ends_open are.history c ≡ false → q.journal.reserved + 2 ≤ q.journal.room → AreTaken q c (opening_event c r)
-  opening-taken r told ends room = step (opens c r) (total-by p are c r (ap (λ (a : Answer). a.reply) told))
+  opening-taken r told ends room = step (opens c r) (total-by p are c r false (opens c r) (ap (λ (a : Answer). a.reply) told) ends refl)
     where
-      none : cond {A = ℕ} (ends_open are.history c) 1 0 ≡ 0
-      none = ap (λ b. cond {A = ℕ} b 1 0) ends
-
-      step : (b : Bool) → open_total (history-after p are c) + cond (ends_open are.history c) 1 0 ≡ p.journal.reserved + cond b 1 0 → AreTaken q c (cond b (event.Opened r) (event.Quiet r))
-      step true total = taken-by (event.Opened r) told room (omega (arith, total, none, kept))
-      step false total = taken-by (event.Quiet r) told (omega (arith, room)) (omega (arith, total, none, kept))
+      step : (b : Bool) → open_total (history-after p are c) + 0 ≡ p.journal.reserved + cond b 1 0 → AreTaken q c (cond b (event.Opened r) (event.Quiet r))
+      step true total = taken-by (event.Opened r) told room (omega (arith, total, kept))
+      step false total = taken-by (event.Quiet r) told (omega (arith, room)) (omega (arith, total, kept))
 
   -- an answer or a closing that ends something
   pub ended-taken : (x : Ended) → answer_of (arc_value p.roster) (event.Ended x) ≡ answer (arc_value p.roster) are.history c → ends_open are.history c ≡ true → ((r : Reply) → opens c r ≡ false) → AreTaken q c (event.Ended x)
   ended-taken x told ends opens_none =
       let r : Reply = reply_of (event.Ended x) in
-      let total = total-by p are c r (ap (λ (a : Answer). a.reply) told) in
-      let one = ap (λ b. cond {A = ℕ} b 1 0) ends in
-      let none = ap (λ b. cond {A = ℕ} b 1 0) (opens_none r) in
-      taken-by (event.Ended x) told (omega (arith, total, one, none, kept)) (omega (arith, total, one, none, kept))
+      let total = total-by p are c r true false (ap (λ (a : Answer). a.reply) told) ends (opens_none r) in
+      taken-by (event.Ended x) told (omega (arith, total, kept)) (omega (arith, total, kept))
 
   -- one that finds nothing open
   pub unopened-taken : (r : Reply) → quiet r ≡ answer (arc_value p.roster) are.history c → ends_open are.history c ≡ false → ((x : Reply) → opens c x ≡ false) → q.journal.reserved + 1 ≤ q.journal.room → AreTaken q c (event.Quiet r)
   unopened-taken r told ends opens_none room =
-      let total = total-by p are c r (ap (λ (a : Answer). a.reply) told) in
-      let over = ap (λ b. cond {A = ℕ} b 1 0) ends in
-      let none = ap (λ b. cond {A = ℕ} b 1 0) (opens_none r) in
-      taken-by (event.Quiet r) told (omega (arith, room)) (omega (arith, total, over, none, kept))
+      let total = total-by p are c r false false (ap (λ (a : Answer). a.reply) told) ends (opens_none r) in
+      taken-by (event.Quiet r) told (omega (arith, room)) (omega (arith, total, kept))
 
 -- ---- uplinks and Join-Requests
 
@@ -162,14 +157,12 @@ module _ (p : Parts) (are : AreParts p) {c : Call} {what : Option Ended} {r : Re
   pub ending-none : None ≡ what → AreParts (record p { devices = ds; windows = ws })
   ending-none none =
       let closed : ends_open are.history c ≡ false = sym is.ends ∙ sym (ap (λ (o : Option Ended). is_some o) none) in
-      subst (λ (v : List Own). AreParts (record p { devices = v; windows = ws })) (sym (is.devices_stay closed)) (subst (λ (v : List Window). AreParts (record p { windows = v })) (sym (is.windows_stay closed)) are)
+      rw (is.devices_stay closed, is.windows_stay closed) are
 
   -- where nothing is open, the parts with room for the entry
   pub ending-unopened : (j : JournalState) → state_of (record p { journal = j }) ≡ state_of p → j.reserved ≡ p.journal.reserved → j.reserved + 1 ≤ j.room → shard_of_call c ≡ p.index → finds_open (state_of p) c ≡ false → AreTaken (record p { journal = j }) c (event.Quiet r)
   ending-unopened j same kept room own none =
       let closed : ends_open are.history c ≡ false = sym (finds_open-is are.history (state_of p) c are.keeps) ∙ none in
       let told : quiet r ≡ answer (arc_value p.roster) are.history c = ap (ended_or (arc_value p.roster) r) (sym (is_some-none what (is.ends ∙ closed))) ∙ is.told own in
-      let agrees : Agrees (arc_value p.roster) p.index (history-after p are c) p.devices p.windows =
-      subst (λ (v : List Own). Agrees (arc_value p.roster) p.index (history-after p are c) v p.windows) (is.devices_stay closed)
-      (subst (λ (v : List Window). Agrees (arc_value p.roster) p.index (history-after p are c) ds v) (is.windows_stay closed) (is.agrees own)) in
+      let agrees = rw (is.devices_stay closed, is.windows_stay closed) at (is.agrees own) in
       unopened-taken p (record p { journal = j }) are c same agrees kept r told closed is.opens_none room

@@ -2,11 +2,10 @@
 use Rattle.ns_shard.specs.State.{known_greatest}
 use Rattle.ns_devices.specs.declared.own.Own.{Own}
 use Rattle.std.specs.Option.{option_and_then}
-use Rattle.std.proofs.Common.{◌≡◌, ℕ, zero, suc, ◌==◌, Bool, true, false, cond, List, [], ◌∷◌, filter, filter_map, map, find, Option, Some, option_map, refl, sym, ap, ap₂, ◌∙◌, arith, inl, inr, None}
-use Rattle.std.specs.Prelude.{All, AllPairs, Contains}
+use Rattle.std.proofs.Common.{◌≡◌, ℕ, ◌==◌, Bool, true, false, List, [], ◌∷◌, filter, filter_map, map, Option, Some, option_map, refl, sym, ap, ◌∙◌, inl, inr, None}
+use Rattle.std.specs.Prelude.{AllPairs, Contains}
 use Rattle.std.specs.List.{AllByRecursion, cons_option}
-use Rattle.std.proofs.lemmas.List.Elements.{Contains-get_or}
-use Rattle.std.proofs.lemmas.Bool.Decides.{nat_tests}
+use Rattle.std.proofs.lemmas.List.Elements.{recursion_from_All, All-contains_itself}
 use Rattle.ns_types.specs.declared.identity.DevEui.{DevEui}
 use Rattle.ns_types.specs.Identity.{shard_of, shard_of_addr}
 use Rattle.ns_views.specs.Frame.{data_fields}
@@ -20,86 +19,50 @@ use Rattle.ns_calls.specs.Entries.{same_device}
 use Rattle.ns_calls.specs.History.{greatest_nonce}
 use Rattle.ns_calls.specs.Reply as plain
 use Rattle.ns_calls.specs.Reply.{fit_of, first_fit}
-use Rattle.ns_calls.proofs.LocalLemmas.{bool_tells}
-use Rattle.ns_calls.proofs.Lists.{All-filter, All-weaker}
+use Rattle.ns_calls.proofs.LocalLemmas.{bool_tells, All-each}
+use Rattle.ns_calls.proofs.Lists.{All-weaker, find-own, filter_map-same}
 use Rattle.ns_calls.proofs.JoinLemmas.{same_device-eq}
 use Rattle.ns_sessions.specs.Record.{device_fit, device_record}
 use Rattle.ns_shard.specs.Private.Devices.{own_in, devices_in}
 use Rattle.ns_devices.specs.Devices.{devices_of, is_own, own_of, own_fit, is_addressed, first_own_fit}
 use Rattle.ns_shard.proofs.Maps.{find-map, filter-map}
-
-pub all_each : {X : Type 0} (P : X → Type 0) (xs : List X) → All P xs → AllByRecursion P xs
-all_each P [] all = tt
-all_each P (x ∷ xs) all = (all zero x (omega arith), all_each P xs (λ k d lt. all (suc k) d (omega (arith, lt))))
+use Rattle.std.proofs.lemmas.Bool.{ne_eqb, eq-eqb, eqb-true}
+use Rattle.ns_windows.specs.Windows.{NoTwo}
+use Rattle.ns_windows.proofs.Pairs.{NoTwo-filter}
 
 -- each device of a roster is one of its devices
 pub members : (net : Network) → AllByRecursion (Contains net.devices) net.devices
-members net = all_each (Contains net.devices) net.devices (λ k d lt. Contains-get_or net.devices k d lt)
+members net = recursion_from_All (Contains net.devices) net.devices (All-contains_itself net.devices)
 
 -- ---- distinct EUIs
 
-unfoldable pub AreDistinct : List Device → Type 0
-AreDistinct [] = Unit {0}
-AreDistinct (d ∷ ds) = AllByRecursion (λ (x : Device). same_device x.eui d.eui ≡ false) ds × AreDistinct ds
+abbrev pub AreDistinct : List Device → Type 0
+AreDistinct = NoTwo (λ d x. same_device x.eui d.eui)
 
 differs : (d x : Device) → Differ d x → same_device x.eui d.eui ≡ false
-differs d x differ =
-    elim (bool_tells (same_device x.eui d.eui)) [
-      | inl same ↦ absurd (differ (ap (λ (e : DevEui). e.0) (sym (same_device-eq x.eui d.eui same))))
-      | inr apart ↦ apart
-    ]
+differs d x differ = ne_eqb x.eui.0 d.eui.0 (λ same. differ (sym same))
 
-pub distinct : (ds : List Device) → AllPairs Differ ds → AreDistinct ds
-unfolding AreDistinct
+distinct : (ds : List Device) → AllPairs Differ ds → AreDistinct ds
 distinct [] pairs = tt
 distinct (d ∷ ds) pairs =
-    (All-weaker (Differ d) (λ (x : Device). same_device x.eui d.eui ≡ false) (differs d) ds (all_each (Differ d) ds (later_differ d ds pairs)), distinct ds (rest_apart d ds pairs))
-
-pub distinct-filter : (keep : Device → Bool) (ds : List Device) → AreDistinct ds → AreDistinct (filter keep ds)
-unfolding AreDistinct
-distinct-filter keep [] apart = tt
-distinct-filter keep (d ∷ ds) apart = step (keep d) (All-filter (λ (x : Device). same_device x.eui d.eui ≡ false) keep ds apart.0) (distinct-filter keep ds apart.1)
-  where
-    step : (b : Bool) → AllByRecursion (λ (x : Device). same_device x.eui d.eui ≡ false) (filter keep ds) → AreDistinct (filter keep ds) → AreDistinct (cond b (d ∷ filter keep ds) (filter keep ds))
-    step true here later = (here, later)
-    step false here later = later
+    (All-weaker (Differ d) (λ (x : Device). same_device x.eui d.eui ≡ false) (differs d) ds (recursion_from_All (Differ d) ds (later_differ d ds pairs)), distinct ds (rest_apart d ds pairs))
 
 pub own-distinct : (net : Network) (index : ℕ) → IsRoster net → AreDistinct (devices_of net index)
-own-distinct net index valid = distinct-filter (λ (d : Device). shard_of d.eui == index) net.devices (distinct net.devices valid.devices.distinct)
+own-distinct net index valid = NoTwo-filter (λ (d x : Device). same_device x.eui d.eui) (λ (d : Device). shard_of d.eui == index) net.devices (distinct net.devices valid.devices.distinct)
 
 -- ---- what is found
-
--- what passes both tests, where the first tells the second
-find-filter : {X : Type 0} (p q : X → Bool) → ((x : X) → p x ≡ true → q x ≡ true) → (xs : List X) → find p (filter q xs) ≡ find p xs
-find-filter p q tells [] = refl
-find-filter {X} p q tells (x ∷ xs) =
-    let ih = find-filter p q tells xs in
-    let here = λ (b c : Bool). find p (cond {A = List X} b (x ∷ filter q xs) (filter q xs)) in
-    elim (bool_tells (p x)) [
-      | inl passes ↦
-          ap (λ b. find p (cond {A = List X} b (x ∷ filter q xs) (filter q xs))) (tells x passes)
-          ∙ (ap (λ b. cond {A = Option X} b (Some x) (find p (filter q xs))) passes ∙ sym (ap (λ b. cond {A = Option X} b (Some x) (find p xs)) passes))
-      | inr fails ↦
-          elim (bool_tells (q x)) [
-            | inl kept ↦
-                ap (λ b. find p (cond {A = List X} b (x ∷ filter q xs) (filter q xs))) kept
-                ∙ ap₂ (λ b o. cond {A = Option X} b (Some x) o) refl ih
-            | inr dropped ↦
-                ap (λ b. find p (cond {A = List X} b (x ∷ filter q xs) (filter q xs))) dropped
-                ∙ (ih ∙ sym (ap (λ b. cond {A = Option X} b (Some x) (find p xs)) fails))
-          ]
-    ]
 
 -- the device of an EUI of the shard
 pub own-found : (net : Network) (index : ℕ) (h : List Entry) (eui : DevEui) → shard_of eui ≡ index → own_of eui (devices_in net index h) ≡ option_map (own_in net h) (device net eui)
 own-found net index h eui mine =
     find-map (own_in net h) (is_own eui) (devices_of net index)
-    ∙ ap (option_map (own_in net h)) (find-filter (λ (d : Device). same_device d.eui eui) (λ (d : Device). shard_of d.eui == index) tells net.devices)
+    ∙ ap (option_map (own_in net h)) (find-own own (λ (d : Device). same_device d.eui eui) net.devices (All-each (λ (d : Device). same_device d.eui eui ≡ true → own d ≡ true) tells net.devices))
   where
-    tells : (d : Device) → same_device d.eui eui ≡ true → (shard_of d.eui == index) ≡ true
-    tells d is =
-        let shard : shard_of d.eui ≡ index = ap shard_of (same_device-eq d.eui eui is) ∙ mine in
-        grind (arith, nat_tests)
+    own : Device → Bool
+    own d = shard_of d.eui == index
+
+    tells : (d : Device) → same_device d.eui eui ≡ true → own d ≡ true
+    tells d is = eq-eqb (shard_of d.eui) index (ap shard_of (same_device-eq d.eui eui is) ∙ mine)
 
 -- the greatest nonce of a device of the shard
 pub greatest-found : (net : Network) (index : ℕ) (h : List Entry) (eui : DevEui) → shard_of eui ≡ index
@@ -115,28 +78,16 @@ greatest-found net index h eui mine = ap (option_and_then (λ (o : Own). o.state
 
 filter-filter : {X : Type 0} (p q : X → Bool) (xs : List X) → AllByRecursion (λ x. p x ≡ true → q x ≡ true) xs → filter p (filter q xs) ≡ filter p xs
 filter-filter p q [] tells = refl
-filter-filter {X} p q (x ∷ xs) tells =
+filter-filter p q (x ∷ xs) tells =
     let ih = filter-filter p q xs tells.1 in
     elim (bool_tells (p x)) [
-      | inl passes ↦
-          ap (λ b. filter p (cond {A = List X} b (x ∷ filter q xs) (filter q xs))) (tells.0 passes)
-          ∙ ap (λ ys. cond {A = List X} (p x) (x ∷ ys) ys) ih
-      | inr fails ↦
-          elim (bool_tells (q x)) [
-            | inl kept ↦ ap (λ b. filter p (cond {A = List X} b (x ∷ filter q xs) (filter q xs))) kept ∙ ap (λ ys. cond {A = List X} (p x) (x ∷ ys) ys) ih
-            | inr dropped ↦
-                ap (λ b. filter p (cond {A = List X} b (x ∷ filter q xs) (filter q xs))) dropped
-                ∙ (ih ∙ sym (ap (λ b. cond {A = List X} b (x ∷ filter p xs) (filter p xs)) fails))
-          ]
+      | inl passes ↦ rw (tells.0 passes, passes, ih)
+      | inr fails ↦ elim (bool_tells (q x)) [ inl kept ↦ rw (kept, fails, ih) | inr dropped ↦ rw (dropped, fails, ih) ]
     ]
 
 filter_map-map : {X Y Z : Type 0} (f : X → Y) (g : Y → Option Z) (xs : List X) → filter_map g (map f xs) ≡ filter_map (λ x. g (f x)) xs
 filter_map-map f g [] = refl
 filter_map-map f g (x ∷ xs) = ap (cons_option (g (f x))) (filter_map-map f g xs)
-
-filter_map-same : {X Y : Type 0} (f g : X → Option Y) → ((x : X) → f x ≡ g x) → (xs : List X) → filter_map f xs ≡ filter_map g xs
-filter_map-same f g same [] = refl
-filter_map-same f g same (x ∷ xs) = ap₂ cons_option (same x) (filter_map-same f g same xs)
 
 -- the sessions that a device's record holds fit where the plain server says
 abbrev pub FitsAgree : (Option ℕ → ℕ → Option ℕ) → Network → List Entry → List ℕ → Type 0
@@ -150,16 +101,16 @@ fit-own recover net index h frame valid agree mine =
     (ap (filter_map (own_fit recover frame)) (filter-map (own_in net h) (is_addressed frame) (devices_of net index))
     ∙ (filter_map-map (own_in net h) (own_fit recover frame) (filter addressed (devices_of net index))
     ∙ (ap (filter_map (λ (d : Device). own_fit recover frame (own_in net h d))) (filter-filter addressed (λ (d : Device). shard_of d.eui == index) net.devices tells)
-    ∙ filter_map-same (λ (d : Device). own_fit recover frame (own_in net h d)) (λ (d : Device). plain.device_fit recover h frame d.eui) (λ d. agree d.eui) (filter addressed net.devices))))
+    ∙ filter_map-same (λ (d : Device). own_fit recover frame (own_in net h d)) (λ (d : Device). plain.device_fit recover h frame d.eui) (filter addressed net.devices)
+    (All-each (λ (d : Device). own_fit recover frame (own_in net h d) ≡ plain.device_fit recover h frame d.eui) (λ d. agree d.eui) (filter addressed net.devices)))))
   where
     addressed : Device → Bool
     addressed d = (device_addr net d).0 == (data_fields frame).addr
 
     tell : (d : Device) → Contains net.devices d → addressed d ≡ true → (shard_of d.eui == index) ≡ true
     tell d member is =
-        let addr : (device_addr net d).0 ≡ (data_fields frame).addr = grind (arith, nat_tests) in
-        let shard : shard_of d.eui ≡ index = sym (shard_of_device net valid d member) ∙ (ap (λ n. shard_of_addr (record { 0 = n })) addr ∙ mine) in
-        grind (arith, nat_tests)
+        let addr : (device_addr net d).0 ≡ (data_fields frame).addr = eqb-true (device_addr net d).0 (data_fields frame).addr is in
+        eq-eqb (shard_of d.eui) index (sym (shard_of_device net valid d member) ∙ (ap (λ n. shard_of_addr (record { 0 = n })) addr ∙ mine))
 
     tells : AllByRecursion (λ (d : Device). addressed d ≡ true → (shard_of d.eui == index) ≡ true) net.devices
     tells = All-weaker (Contains net.devices) (λ (d : Device). addressed d ≡ true → (shard_of d.eui == index) ≡ true) tell net.devices (members net)

@@ -10,11 +10,10 @@ use Rattle.ns_types.specs.declared.identity.DevNonce.{DevNonce}
 use Rattle.ns_types.specs.declared.identity.DevEui.{DevEui}
 use Rattle.std.specs.Option.{option_and_then}
 use Rattle.std.specs.Prelude.{Contains}
-use Rattle.std.proofs.Common.{◌≡◌, ℕ, ◌<◌, List, [], ◌∷◌, ◌++◌, length, map, filter, slice_get, take, drop, ◌≤◌, Some, Result, Ok, Err, refl, sym, ap, ◌∙◌, subst, arith, eqb, cond, inl, inr, None, Option, option_map, find, ◌==◌, eq-eqb}
+use Rattle.std.proofs.Common.{◌≡◌, ℕ, ◌<◌, List, [], ◌∷◌, ◌++◌, length, map, filter, slice_get, take, drop, ◌≤◌, Some, Result, Ok, Err, refl, sym, ap, ◌∙◌, subst, arith, eqb, cond, None, Option, option_map, find, ◌==◌, eq-eqb, Bool, true}
 use Rattle.std.specs.List.{AllByRecursion}
-use Rattle.std.proofs.lemmas.Bool.Decides.{eqb_tells}
 use Rattle.std.proofs.lemmas.List.{append_assoc, append-nil, map_push, take_all, drop_all}
-use Rattle.std.proofs.lemmas.Option.{slice_get_within}
+use Rattle.std.proofs.lemmas.Option.{slice_get_within, same_Some}
 use Rattle.ns_roster.specs.Network.{Network, device}
 use Rattle.ns_calls.specs.declared.call.Call.{Call}
 use Rattle.ns_calls.specs.declared.call.Entry.{Entry}
@@ -37,6 +36,9 @@ use Rattle.ns_shard.specs.State.{State, known_greatest, greatest_in}
 use Rattle.ns_shard.specs.Taken.{call_of, calls_of, OfEach, HandsOut}
 use Rattle.ns_shard.specs.Steps.{shard_history, call_taken, all_taken, state_after, AreAfter}
 use Rattle.ns_shard.specs.NextRun.{greatest_among, greatest_after, closing_roster, accepted_by}
+use Rattle.ns_calls.proofs.Lists.{All-weaker}
+use Rattle.std.proofs.lemmas.Bool.{eqb-true}
+use Rattle.std.proofs.lemmas.List.Elements.{filter_passes, recursion_from_All}
 
 -- calls of one shard lengthen a history of it
 is_history : (net : Network) (shard : ℕ) (before : List Entry) (calls : List Call) → AllByRecursion (λ c. shard_of_call c ≡ shard) calls → IsHistory net shard before → IsHistory net shard (history_after net before calls)
@@ -49,11 +51,9 @@ calls_in net before [] = rw append-nil refl
 calls_in net before (call ∷ calls) = rw (map_push, append_assoc) at (calls_in net (with_call net before (length before) call) calls)
 
 own_calls : (shard : ℕ) (calls : List Call) → AllByRecursion (λ c. shard_of_call c ≡ shard) (filter (λ c. eqb (shard_of_call c) shard) calls)
-own_calls shard [] = tt
-own_calls shard (c ∷ calls) = elim (eqb_tells (shard_of_call c) shard) [
-  | inl own ↦ subst (λ b. AllByRecursion (λ x. shard_of_call x ≡ shard) (cond {A = List Call} b (c ∷ filter (λ x. eqb (shard_of_call x) shard) calls) (filter (λ x. eqb (shard_of_call x) shard) calls))) (sym own.0) (own.1, own_calls shard calls)
-  | inr other ↦ subst (λ b. AllByRecursion (λ x. shard_of_call x ≡ shard) (cond {A = List Call} b (c ∷ filter (λ x. eqb (shard_of_call x) shard) calls) (filter (λ x. eqb (shard_of_call x) shard) calls))) (sym other.0) (own_calls shard calls)
-]
+own_calls shard calls =
+    let own : Call → Bool = λ c. eqb (shard_of_call c) shard in
+    All-weaker (λ (c : Call). own c ≡ true) (λ (c : Call). shard_of_call c ≡ shard) (λ c is. eqb-true (shard_of_call c) shard is) (filter own calls) (recursion_from_All (λ (c : Call). own c ≡ true) (filter own calls) (filter_passes own calls))
 
 pub shard_history-is : (net : Network) (shard : ℕ) (steps : List Step) → IsHistory net shard (shard_history net shard steps)
 shard_history-is net shard steps = is_history net shard [] (calls_of shard steps) (own_calls shard _) (history_none net shard)
@@ -62,10 +62,7 @@ shard_history-is net shard steps = is_history net shard [] (calls_of shard steps
 entries-after : (net : Network) (steps : List Step) (shards : List State) → AreAfter net steps shards → (shard : ℕ) (s : State) → slice_get shards shard ≡ Some s → shard_history net shard steps ≡ s.entries
 entries-after net steps shards after shard s at =
     let within : shard < length shards = slice_get_within shards shard s at in
-    same (state_after net shard steps) s (sym (after.each shard (omega (arith, after.sixteen, within))) ∙ at)
-  where
-    same : (a b : State) → Some a ≡ Some b → a.entries ≡ b.entries
-    same a b e = cc
+    ap (λ (t : State). t.entries) (same_Some (state_after net shard steps) s (sym (after.each shard (omega (arith, after.sixteen, within))) ∙ at))
 
 of_each : (P : ℕ → List Entry → Type 0) (net : Network) (steps : List Step) (shards : List State) → AreAfter net steps shards → ((shard : ℕ) → P shard (shard_history net shard steps)) → OfEach shards P
 of_each P net steps shards after holds shard s at = subst (P shard) (entries-after net steps shards after shard s at) (holds shard)
@@ -98,7 +95,6 @@ pub all-hand_out : (net : Network) (before steps : List Step) → AllByRecursion
 all-hand_out net before [] = tt
 all-hand_out net before (step ∷ steps) = (hands_out net before (call_of step.act), all-hand_out net (before ++ step ∷ []) steps)
 
--- what came of all the steps
 -- the shards after all steps
 pub after-all : (net : Network) (steps : List Step) (i : ℕ) (shards : List State) → length steps ≤ i → AreAfter net (take i steps) shards → AreAfter net steps shards
 after-all net steps i shards whole after = subst (λ ss. AreAfter net ss shards) (take_all i steps whole) after

@@ -1,11 +1,10 @@
 -- The shards after one step more.
 use Rattle.std.proofs.Common.{◌≡◌, ℕ, suc, ◌+◌, ◌<◌, Bool, List, [], ◌∷◌, ◌++◌, length, filter, filter_map, slice_get, slice_set, get_or, take, drop, append_assoc, add-one, drop-cons, Option, None, Some, option_to_list, Result, Ok, Err, refl, sym, ap, ◌∙◌, subst, arith, eqb, cond, inl, inr}
 use Rattle.std.specs.Result.{result_ok}
-use Rattle.std.specs.List.{cons_option}
 use Rattle.std.proofs.lemmas.Bool.Decides.{eqb_tells}
 use Rattle.std.proofs.lemmas.List.{append-nil, length-append, length-set, take_more}
 use Rattle.std.proofs.lemmas.List.Elements.{filter-append, filter_map-append}
-use Rattle.std.proofs.lemmas.Option.{slice_get_within}
+use Rattle.std.proofs.lemmas.Option.{same_Some}
 use Rattle.ns_roster.specs.Network.{Network}
 use Rattle.ns_calls.specs.declared.call.Call.{Call}
 use Rattle.ns_calls.specs.declared.call.Call.TheVariants as call
@@ -23,23 +22,17 @@ use Rattle.ns_shard.specs.declared.step.Step.{Step}
 use Rattle.ns_shard.specs.State.{State, after_call}
 use Rattle.ns_shard.specs.Taken.{call_of, calls_of}
 use Rattle.ns_shard.specs.Steps.{shard_history, call_taken, step_taken, all_taken, state_after, AreAfter}
-use Rattle.ns_shard.specs.Private.Run.{refused_as, AreInPlace, taken_in, states_after}
+use Rattle.ns_shard.specs.Private.Run.{refused_as, taken_in, states_after}
+use Rattle.ns_calls.proofs.Lists.{one_more}
 
--- the history of one call more
-history_after-push : (net : Network) (before : List Entry) (calls : List Call) (c : Call) → history_after net before (calls ++ c ∷ []) ≡ with_call net (history_after net before calls) (length (history_after net before calls)) c
-history_after-push net before [] c = refl
-history_after-push net before (call ∷ calls) c = history_after-push net (with_call net before (length before) call) calls c
+-- the history of more calls
+pub history-joined : (net : Network) (before : List Entry) (xs ys : List Call) → history_after net before (xs ++ ys) ≡ history_after net (history_after net before xs) ys
+history-joined net before [] ys = refl
+history-joined net before (x ∷ xs) ys = history-joined net (with_call net before (length before) x) xs ys
 
 -- the calls of one step more
 abbrev pub one_call : (shard : ℕ) → Result Call Refusal → List Call
 one_call shard r = filter (λ c. eqb (shard_of_call c) shard) (option_to_list (result_ok r))
-
-cons_option-nil : {Y : Type 0} (o : Option Y) → cons_option o [] ≡ option_to_list o
-cons_option-nil None = refl
-cons_option-nil (Some y) = refl
-
-filter_map-one : {X Y : Type 0} (f : X → Option Y) (x : X) → filter_map f (x ∷ []) ≡ option_to_list (f x)
-filter_map-one f x = cons_option-nil (f x)
 
 -- the calls of the steps so far and of more steps
 pub calls_of-joined : (shard : ℕ) (steps more : List Step) → calls_of shard (steps ++ more) ≡ calls_of shard steps ++ calls_of shard more
@@ -52,21 +45,18 @@ calls_of-push : (shard : ℕ) (steps : List Step) (step : Step) → calls_of sha
 calls_of-push shard steps step =
     let own : Call → Bool = λ c. eqb (shard_of_call c) shard in
     calls_of-joined shard steps (step ∷ [])
-    ∙ ap (λ cs. calls_of shard steps ++ filter own cs) (filter_map-one (λ s. result_ok (call_of s.act)) step)
-
-shard_history-push : (net : Network) (shard : ℕ) (steps : List Step) (step : Step) → shard_history net shard (steps ++ step ∷ []) ≡ history_of net (calls_of shard steps ++ one_call shard (call_of step.act))
-shard_history-push net shard steps step = ap (history_of net) (calls_of-push shard steps step)
+    ∙ ap (λ cs. calls_of shard steps ++ filter own cs) (one_more (λ (s : Step). result_ok (call_of s.act)) step)
 
 -- a step that makes no call on a shard
 pub shard_history-other : (net : Network) (shard : ℕ) (steps : List Step) (step : Step) → one_call shard (call_of step.act) ≡ [] → shard_history net shard (steps ++ step ∷ []) ≡ shard_history net shard steps
 shard_history-other net shard steps step none =
-    shard_history-push net shard steps step ∙ ap (λ cs. history_of net (calls_of shard steps ++ cs)) none ∙ ap (history_of net) (append-nil (calls_of shard steps))
+    ap (history_of net) (calls_of-push shard steps step ∙ (ap (λ cs. calls_of shard steps ++ cs) none ∙ append-nil (calls_of shard steps)))
 
 -- a step that makes a call on a shard
 pub shard_history-own : (net : Network) (shard : ℕ) (steps : List Step) (step : Step) (c : Call) → one_call shard (call_of step.act) ≡ c ∷ [] →
     let h = shard_history net shard steps in shard_history net shard (steps ++ step ∷ []) ≡ with_call net h (length h) c
 shard_history-own net shard steps step c one =
-    shard_history-push net shard steps step ∙ ap (λ cs. history_of net (calls_of shard steps ++ cs)) one ∙ history_after-push net [] (calls_of shard steps) c
+    ap (history_of net) (calls_of-push shard steps step ∙ ap (λ cs. calls_of shard steps ++ cs) one) ∙ history-joined net [] (calls_of shard steps) (c ∷ [])
 
 state_after-other : (net : Network) (shard : ℕ) (steps : List Step) (step : Step) → one_call shard (call_of step.act) ≡ [] → state_after net shard (steps ++ step ∷ []) ≡ state_after net shard steps
 state_after-other net shard steps step none =
@@ -80,14 +70,21 @@ state_after-own net shard steps step c one =
     ap (λ es. state (length es) es) (shard_history-own net shard steps step c one) ∙ (ap (λ n. state n (with_call net h (length h) c)) (length-append h _)
     ∙ ap (λ es. state (length h + 1) (h ++ entry_for net es (length h) c ∷ [])) (sym (reading-whole h)))
 
+-- there are sixteen shards
+pub shard_small : (c : Call) → shard_of_call c < 16
+shard_small (call.Uplink frame heard) = omega arith
+shard_small (call.Join ticket heard) = omega arith
+shard_small (call.JoinReply ticket outcome) = omega arith
+shard_small (call.Close window) = omega arith
+
 -- what comes of a step in the shards after the steps before it
 pub taken-after : (net : Network) (before : List Step) (shards : List State) (r : Result Call Refusal) → AreAfter net before shards
-    → ((c : Call) → shard_of_call c < 16) → taken_in shards (refused_as r) ≡ Some (call_taken net before r)
-taken-after net before shards (Err (link fault)) after small = refl
-taken-after net before shards (Err (view fault)) after small = refl
-taken-after net before shards (Ok c) after small =
+    → taken_in shards (refused_as r) ≡ Some (call_taken net before r)
+taken-after net before shards (Err (link fault)) after = refl
+taken-after net before shards (Err (view fault)) after = refl
+taken-after net before shards (Ok c) after =
     let h = shard_history net (shard_of_call c) before in
-    rw (after.each (shard_of_call c) (small c)) (ap (λ es. Some (Made (shard_of_call c) (length h) (answer net es c))) (reading-whole h))
+    rw (after.each (shard_of_call c) (shard_small c)) (ap (λ es. Some (Made (shard_of_call c) (length h) (answer net es c))) (reading-whole h))
 
 -- a step that makes no call leaves the shards
 after-refused : (net : Network) (before : List Step) (step : Step) (shards : List State) → AreAfter net before shards → result_ok (call_of step.act) ≡ None → AreAfter net (before ++ step ∷ []) shards
@@ -100,9 +97,9 @@ after-refused net before step shards after none =
     }
 
 -- a call changes its own shard alone
-after-called : (net : Network) (before : List Step) (step : Step) (shards : List State) (c : Call) → AreAfter net before shards → shard_of_call c < 16 → call_of step.act ≡ Ok c
+after-called : (net : Network) (before : List Step) (step : Step) (shards : List State) (c : Call) → AreAfter net before shards → call_of step.act ≡ Ok c
     → AreAfter net (before ++ step ∷ []) (slice_set shards (shard_of_call c) (after_call (state_after net (shard_of_call c) before) c))
-after-called net before step shards c after within made =
+after-called net before step shards c after made =
     let own = shard_of_call c in
     let next = after_call (state_after net own before) c in
     let calls : (shard : ℕ) → one_call shard (call_of step.act) ≡ cond (eqb own shard) (c ∷ []) [] = λ shard. ap (one_call shard) made in
@@ -112,7 +109,7 @@ after-called net before step shards c after within made =
         | inl same ↦
             let one : one_call shard (call_of step.act) ≡ c ∷ [] = calls shard ∙ ap (λ b. cond {A = List Call} b (c ∷ []) []) same.0 in
             subst (λ k. slice_get (slice_set shards own next) k ≡ Some (state_after net k (before ++ step ∷ []))) same.1
-            (slice_get-set_same shards own (state_after net own before) next (after.each own within)
+            (slice_get-set_same shards own (state_after net own before) next (after.each own (shard_small c))
             ∙ ap Some (sym (state_after-own net own before step c (rw same.1 one))))
         | inr other ↦
             let no_call : one_call shard (call_of step.act) ≡ [] = calls shard ∙ ap (λ b. cond {A = List Call} b (c ∷ []) []) other.0 in
@@ -121,22 +118,12 @@ after-called net before step shards c after within made =
     }
 
 -- the shards after one step more
-pub after-step : (net : Network) (before : List Step) (step : Step) (shards : List State) (r : Result Call Refusal) → AreAfter net before shards → ((c : Call) → shard_of_call c < 16)
+pub after-step : (net : Network) (before : List Step) (step : Step) (shards : List State) (r : Result Call Refusal) → AreAfter net before shards
     → call_of step.act ≡ r → AreAfter net (before ++ step ∷ []) (states_after shards (refused_as r))
-after-step net before step shards (Err (link fault)) after small made = after-refused net before step shards after (ap result_ok made)
-after-step net before step shards (Err (view fault)) after small made = after-refused net before step shards after (ap result_ok made)
-after-step net before step shards (Ok c) after small made =
-    rw (after.each (shard_of_call c) (small c)) (after-called net before step shards c after (small c) made)
-
--- the shards after steps stand in place
-pub AreInPlace-after : (net : Network) (steps : List Step) (shards : List State) → AreAfter net steps shards → AreInPlace shards
-AreInPlace-after net steps shards after shard s at =
-    let within : shard < length shards = slice_get_within shards shard s at in
-    let same : Some (state_after net shard steps) ≡ Some s = sym (after.each shard (omega (arith, after.sixteen))) ∙ at in
-    some_index (state_after net shard steps) s same
-  where
-    some_index : (a b : State) → Some a ≡ Some b → b.index ≡ a.index
-    some_index a b e = cc
+after-step net before step shards (Err (link fault)) after made = after-refused net before step shards after (ap result_ok made)
+after-step net before step shards (Err (view fault)) after made = after-refused net before step shards after (ap result_ok made)
+after-step net before step shards (Ok c) after made =
+    rw (after.each (shard_of_call c) (shard_small c)) (after-called net before step shards c after made)
 
 -- what came of the steps so far and comes of the rest, with one step more
 pub told-more : (net : Network) (steps : List Step) (i : ℕ) (x : Step) (taken all : List Taken) (t : Taken) → i < length steps → x ≡ get_or steps i x
@@ -151,17 +138,10 @@ told-more net steps i x taken all t within is told new =
     ∙ ap (λ ys. taken ++ all_taken net (take i steps) ys) (sym rest)
     ∙ told
 
--- there are sixteen shards
-pub shard_small : (c : Call) → shard_of_call c < 16
-shard_small (call.Uplink frame heard) = omega arith
-shard_small (call.Join ticket heard) = omega arith
-shard_small (call.JoinReply ticket outcome) = omega arith
-shard_small (call.Close window) = omega arith
-
 -- one step of a run
 pub next-after : (net : Network) (before : List Step) (x : Step) (shards next : List State) → AreAfter net before shards
     → next ≡ states_after shards (refused_as (call_of x.act)) → AreAfter net (before ++ x ∷ []) next
-next-after net before x shards next after changed = rw changed (after-step net before x shards (call_of x.act) after shard_small refl)
+next-after net before x shards next after changed = rw changed (after-step net before x shards (call_of x.act) after refl)
 
 pub step-more : (net : Network) (steps : List Step) (i : ℕ) (x : Step) (next : List State) → i < length steps → x ≡ get_or steps i x
     → AreAfter net (take i steps ++ x ∷ []) next → AreAfter net (take (i + 1) steps) next
@@ -171,7 +151,4 @@ step-more net steps i x next within is after =
 
 pub step-taken : (net : Network) (before : List Step) (x : Step) (shards : List State) (t : Taken) → AreAfter net before shards
     → taken_in shards (refused_as (call_of x.act)) ≡ Some t → t ≡ step_taken net before x
-step-taken net before x shards t after told = some_same t (step_taken net before x) (sym told ∙ taken-after net before shards (call_of x.act) after shard_small)
-  where
-    some_same : (a b : Taken) → Some a ≡ Some b → a ≡ b
-    some_same a b e = cc
+step-taken net before x shards t after told = same_Some t (step_taken net before x) (sym told ∙ taken-after net before shards (call_of x.act) after)

@@ -1,5 +1,5 @@
 -- What a run hands out: each uplink with just its copies, and once.
-use Rattle.std.proofs.Common.{◌≡◌, ◌⊎◌, ℕ, ◌+◌, ◌≤◌, Bool, true, false, ◌&&◌, cond, List, [], ◌∷◌, ◌++◌, length, take, slice_get, find, count_by, Option, None, Some, IfSome, option_map, option_to_list, Result, Ok, Err, refl, sym, ap, subst, ◌∙◌, arith, eqb, inl, inr}
+use Rattle.std.proofs.Common.{◌≡◌, ◌⊎◌, ℕ, ◌+◌, ◌≤◌, Bool, true, false, cond, List, [], ◌∷◌, ◌++◌, length, take, slice_get, find, count_by, Option, None, Some, IfSome, option_map, option_to_list, Result, Ok, Err, refl, sym, ap, subst, ◌∙◌, arith, inl, inr}
 use Rattle.std.specs.List.{AllByRecursion}
 use Rattle.std.specs.Option.{option_map_or, option_and_then}
 use Rattle.std.proofs.lemmas.Bool.Decides.{eqb_tells}
@@ -27,8 +27,8 @@ use Rattle.ns_calls.specs.Runs.{history_after, history_of}
 use Rattle.ns_calls.specs.Shards.{shard_of_call}
 use Rattle.ns_calls.specs.Steps.{Refusal, link, view}
 use Rattle.ns_calls.proofs.CopyLemmas.{just_its_copies}
-use Rattle.ns_calls.proofs.Lists.{count-cons}
-use Rattle.ns_calls.proofs.LocalLemmas.{bool_tells}
+use Rattle.ns_calls.proofs.Lists.{count-cons, at_some, find-has}
+use Rattle.ns_calls.proofs.LocalLemmas.{All-each}
 use Rattle.ns_calls.proofs.NameLemmas.{same_uplink-eq, same_window-eq}
 use Rattle.ns_calls.proofs.WindowLemmas.{windows_open_once, closings-added}
 use Rattle.ns_shard.specs.declared.step.Step.{Step}
@@ -36,7 +36,11 @@ use Rattle.ns_shard.specs.State.{State}
 use Rattle.ns_shard.specs.Taken.{call_of, calls_of, HasCopiesAt, HasCopies, hands_out, AreHandedOutOnce}
 use Rattle.ns_shard.specs.Steps.{shard_history, call_taken, made, all_taken, state_after, AreAfter}
 use Rattle.ns_shard.proofs.RunHistories.{shard_history-is}
-use Rattle.ns_shard.proofs.RunSteps.{one_call, calls_of-joined, shard_history-other, shard_history-own, shard_small}
+use Rattle.ns_shard.proofs.RunSteps.{one_call, calls_of-joined, shard_history-other, shard_history-own, shard_small, history-joined}
+use Rattle.std.proofs.Math.Seq.{take-append_seam}
+use Rattle.std.proofs.Math.Bool.{and-true}
+use Rattle.std.proofs.lemmas.Bool.{eq-eqb, false_from_ne_true}
+use Rattle.ns_shard.proofs.Maps.{at-front}
 
 -- ---- a call hands out an uplink only where it closes the uplink's window
 
@@ -51,14 +55,8 @@ record Closes (net : Network) (h : List Entry) (c : Call) : Type 0 where
   is_first_of : is_first window ≡ true
 
 found-passes : {X : Type 0} (test : X → Bool) (xs : List X) (x : X) → find test xs ≡ Some x → test x ≡ true
-found-passes test [] x is = absurd (cc is)
-found-passes {X} test (y ∷ ys) x is =
-    elim (bool_tells (test y)) [
-      | inl here ↦
-          (let same : y ≡ x = same_Some y x (sym (ap (λ b. cond {A = Option X} b (Some y) (find test ys)) here) ∙ is) in
-          sym (ap test same) ∙ here)
-      | inr later ↦ found-passes test ys x (sym (ap (λ b. cond {A = Option X} b (Some y) (find test ys)) later) ∙ is)
-    ]
+found-passes {X} test xs x is =
+    (at_some (λ (y : X). Unit {0} × (test y ≡ true)) (find test xs) x is (find-has (λ (y : X). Unit {0}) test xs (All-each (λ (y : X). Unit {0}) (λ y. tt) xs))).1
 
 closing-cases : (net : Network) (h : List Entry) (c : Call) → ((answer net h c).uplink ≡ None) ⊎ Closes net h c
 closing-cases net h (call.Uplink frame heard) = inl refl
@@ -101,29 +99,14 @@ history-begins net before (c ∷ calls) =
     let more = history-begins net (with_call net before (length before) c) calls in
     (entry_for net before (length before) c ∷ more.0, more.1 ∙ append_assoc before (entry_for net before (length before) c ∷ []) more.0)
 
-history-joined : (net : Network) (before : List Entry) (xs ys : List Call) → history_after net before (xs ++ ys) ≡ history_after net (history_after net before xs) ys
-history-joined net before [] ys = refl
-history-joined net before (x ∷ xs) ys = history-joined net (with_call net before (length before) x) xs ys
-
 shard_history-begins : (net : Network) (shard : ℕ) (before steps : List Step) → (rest : List Entry) × (shard_history net shard (before ++ steps) ≡ shard_history net shard before ++ rest)
 shard_history-begins net shard before steps =
     let more = history-begins net (shard_history net shard before) (calls_of shard steps) in
     (more.0, ap (history_of net) (calls_of-joined shard before steps) ∙ (history-joined net [] (calls_of shard before) (calls_of shard steps) ∙ more.1))
 
-take-front : (xs ys : List Entry) → take (length xs) (xs ++ ys) ≡ xs
-take-front [] ys = refl
-take-front (x ∷ xs) ys = ap (λ es. x ∷ es) (take-front xs ys)
-
-at-front : (xs ys : List Entry) (y : Entry) → slice_get (xs ++ y ∷ ys) (length xs) ≡ Some y
-at-front [] ys y = refl
-at-front (x ∷ xs) ys y = at-front xs ys y
-
 -- a call of its own shard
 one_call-own : (c : Call) → one_call (shard_of_call c) (Ok c) ≡ c ∷ []
-one_call-own c = ap (λ b. cond {A = List Call} b (c ∷ []) []) (eqb-same (shard_of_call c))
-  where
-    eqb-same : (n : ℕ) → eqb n n ≡ true
-    eqb-same n = elim (eqb_tells n n) [ inl same ↦ same.0 | inr other ↦ absurd (other.1 refl) ]
+one_call-own c = ap (λ b. cond {A = List Call} b (c ∷ []) []) (eq-eqb (shard_of_call c) (shard_of_call c) refl)
 
 -- what a call hands out after the steps before it, in the shards after all steps
 call-copies : (net : Network) (before after : List Step) (step : Step) (shards : List State) (c : Call) → AreAfter net ((before ++ step ∷ []) ++ after) shards → call_of step.act ≡ Ok c
@@ -149,7 +132,7 @@ call-copies net before after step shards c are is = by (answer net h c).uplink r
           entry = e;
           at = ap (λ es. slice_get es (length h)) whole ∙ at-front h more.0 e;
           closing = closed_by (closing-cases net h c);
-          copies = subst (λ es. HasJustItsCopies es u) (sym (ap (take (length h)) whole ∙ take-front h (e ∷ more.0))) (just_its_copies net h (shard_history-is net shard before).legal c u out);
+          copies = subst (λ es. HasJustItsCopies es u) (sym (ap (take (length h)) whole ∙ take-append_seam h (e ∷ more.0))) (just_its_copies net h (shard_history-is net shard before).legal c u out);
         }
       where
         closed_by : ((answer net h c).uplink ≡ None) ⊎ Closes net h c → c ≡ call.Close u.window
@@ -190,21 +173,14 @@ handed w o = option_map_or (λ u. same_uplink u.window w) o false
 handed-closed : (net : Network) (h : List Entry) (c : Call) (w : WindowName) → cond (handed w (answer net h c).uplink) 1 0 ≤ closed_by net h c w
 handed-closed net h c w = by (closing-cases net h c)
   where
-    and_true : (a : Bool) → (a && true) ≡ a
-    and_true true = refl
-    and_true false = refl
-
     by : ((answer net h c).uplink ≡ None) ⊎ Closes net h c → cond (handed w (answer net h c).uplink) 1 0 ≤ closed_by net h c w
     by (inl none) = (let nothing : cond (handed w (answer net h c).uplink) 1 0 ≡ 0 = ap (λ o. cond {A = ℕ} (handed w o) 1 0) none in omega (arith, nothing))
     by (inr closes) =
         let test : Closing → Bool = λ x. same_window x.window (first_of w) in
-        let out : cond (handed w (answer net h c).uplink) 1 0 ≡ cond (same_uplink closes.window w) 1 0 =
-        ap (λ o. cond {A = ℕ} (handed w o) 1 0) closes.is_uplink ∙ ap (λ (v : WindowName). cond {A = ℕ} (same_uplink v w) 1 0) closes.is_window in
-        let closed : closing_in c (reply_to net h c) ≡ Some (record { window = closes.window; ack = closes.ack }) =
-        ap (closing_in c) closes.is_reply ∙ ap (λ (x : Call). closing_in x (reply.Closed closes.window closes.ack)) closes.is_closing in
+        let out : cond {A = ℕ} (handed w (answer net h c).uplink) 1 0 ≡ cond (same_uplink closes.window w) 1 0 = rw (closes.is_uplink, closes.is_window) in
+        let closed : closing_in c (reply_to net h c) ≡ Some (record { window = closes.window; ack = closes.ack }) = rw (closes.is_reply, closes.is_closing) in
         let one : closed_by net h c w ≡ cond (same_window closes.window (first_of w)) 1 0 + 0 = ap (λ o. count_by test (option_to_list o)) closed ∙ count-cons test (record { window = closes.window; ack = closes.ack }) [] in
-        let same : same_window closes.window (first_of w) ≡ same_uplink closes.window w = ap (λ b. same_uplink closes.window w && b) closes.is_first_of ∙ and_true (same_uplink closes.window w) in
-        let here : cond (same_window closes.window (first_of w)) 1 0 ≡ cond (same_uplink closes.window w) 1 0 = ap (λ b. cond {A = ℕ} b 1 0) same in
+        let here : cond {A = ℕ} (same_window closes.window (first_of w)) 1 0 ≡ cond (same_uplink closes.window w) 1 0 = rw (closes.is_first_of, and-true (same_uplink closes.window w)) in
         omega (arith, out, one, here)
 
 -- what a call of another shard hands out is of another uplink
@@ -214,23 +190,20 @@ handed-elsewhere net h c w apart = by (closing-cases net h c)
     by : ((answer net h c).uplink ≡ None) ⊎ Closes net h c → handed w (answer net h c).uplink ≡ false
     by (inl none) = ap (handed w) none
     by (inr closes) =
-        elim (bool_tells (same_uplink closes.window w)) [
-          | inl same ↦ absurd (apart (ap shard_of_call closes.is_closing ∙ ap shard_of (same_uplink-eq closes.window w same).eui))
-          | inr other ↦ ap (handed w) closes.is_uplink ∙ (ap (λ (v : WindowName). same_uplink v w) closes.is_window ∙ other)
-        ]
+        rw (closes.is_uplink, closes.is_window)
+        (false_from_ne_true (same_uplink closes.window w) (λ same. apart (ap shard_of_call closes.is_closing ∙ ap shard_of (same_uplink-eq closes.window w same).eui)))
+
+-- a step that makes no call on the shard closes nothing there
+none-closed : (net : Network) (before : List Step) (step : Step) (w : WindowName) → one_call (shard_of w.eui) (call_of step.act) ≡ [] →
+    closing_count (shard_history net (shard_of w.eui) (before ++ step ∷ [])) (first_of w) ≡ closing_count (shard_history net (shard_of w.eui) before) (first_of w)
+none-closed net before step w none = ap (λ es. closing_count es (first_of w)) (shard_history-other net (shard_of w.eui) before step none)
 
 -- one step hands out no more of an uplink than it closes of its first window in its shard
 step-handed : (net : Network) (before : List Step) (step : Step) (w : WindowName) (r : Result Call Refusal) → call_of step.act ≡ r →
     let shard = shard_of w.eui in
     cond (hands_out w (call_taken net before r)) 1 0 + closing_count (shard_history net shard before) (first_of w) ≤ closing_count (shard_history net shard (before ++ step ∷ [])) (first_of w)
-step-handed net before step w (Err (link fault)) is =
-    let shard = shard_of w.eui in
-    let same = ap (λ es. closing_count es (first_of w)) (shard_history-other net shard before step (ap (one_call shard) is)) in
-    omega (arith, same)
-step-handed net before step w (Err (view fault)) is =
-    let shard = shard_of w.eui in
-    let same = ap (λ es. closing_count es (first_of w)) (shard_history-other net shard before step (ap (one_call shard) is)) in
-    omega (arith, same)
+step-handed net before step w (Err (link fault)) is = omega (arith, none-closed net before step w (ap (one_call (shard_of w.eui)) is))
+step-handed net before step w (Err (view fault)) is = omega (arith, none-closed net before step w (ap (one_call (shard_of w.eui)) is))
 step-handed net before step w (Ok c) is =
     let shard = shard_of w.eui in
     elim (eqb_tells (shard_of_call c) shard) [
@@ -241,8 +214,7 @@ step-handed net before step w (Ok c) is =
           let out : cond (hands_out w (call_taken net before (Ok c))) 1 0 ≤ closed_by net h c w = subst (λ k. cond (handed w (answer net (shard_history net k before) c).uplink) 1 0 ≤ closed_by net h c w) (sym own.1) (handed-closed net h c w) in
           omega (arith, now, out))
       | inr other ↦
-          (let none : one_call shard (call_of step.act) ≡ [] = ap (one_call shard) is ∙ ap (λ b. cond {A = List Call} b (c ∷ []) []) other.0 in
-          let same = ap (λ es. closing_count es (first_of w)) (shard_history-other net shard before step none) in
+          (let same = none-closed net before step w (ap (one_call shard) is ∙ ap (λ b. cond {A = List Call} b (c ∷ []) []) other.0) in
           let out : cond (hands_out w (call_taken net before (Ok c))) 1 0 ≡ 0 = ap (λ b. cond {A = ℕ} b 1 0) (handed-elsewhere net (shard_history net (shard_of_call c) before) c w other.1) in
           omega (arith, same, out))
     ]

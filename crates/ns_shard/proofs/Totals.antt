@@ -1,5 +1,5 @@
 -- How many windows and tickets are open after one more entry.
-use Rattle.std.proofs.Common.{◌≡◌, ℕ, suc, ◌+◌, Bool, true, false, not, ◌||◌, cond, List, [], ◌∷◌, length, length-append, filter, count_by, zero-add, Option, None, Some, option_map, option_to_list, refl, sym, ap, ap₂, subst, ◌∙◌, arith, inl, inr}
+use Rattle.std.proofs.Common.{◌≡◌, ℕ, ◌+◌, Bool, true, false, not, ◌||◌, cond, List, [], ◌∷◌, length, length-append, filter, count_by, zero-add, Option, None, Some, option_map, option_to_list, refl, sym, ap, subst, ◌∙◌, arith, inl, inr, ◌++◌}
 use Rattle.std.specs.List.{AllByRecursion, list_any}
 use Rattle.std.specs.Option.{option_map_or, is_some}
 use Rattle.std.proofs.lemmas.Bool.{false≢true}
@@ -20,48 +20,30 @@ use Rattle.ns_calls.specs.History.{same_ticket, ends_ticket, open_window, open_t
 use Rattle.ns_calls.proofs.Says.{window_in, closing_in, asking_in, ending_in, is_ticket, uplink-says, join-says, answer-says, close-says}
 use Rattle.ns_calls.specs.Reply.{reply_to, reply_to_close, reply_to_join_reply, ack_number, is_failed, address}
 use Rattle.ns_calls.specs.Headline.{nonce_at_or_above}
-use Rattle.ns_calls.specs.Laws.{open_count}
 use Rattle.ns_calls.specs.Legal.{IsLegal, entry_for, with_call}
-use Rattle.ns_calls.proofs.LocalLemmas.{bool_tells}
+use Rattle.ns_calls.proofs.LocalLemmas.{bool_tells, All-each}
 use Rattle.ns_calls.proofs.Lists.{count-cons, count-found}
 use Rattle.ns_calls.proofs.PushLemmas.{open_windows-push, open_tickets-push}
 use Rattle.ns_calls.proofs.TicketLemmas.{same_ticket-eq}
 use Rattle.ns_calls.proofs.WindowLemmas.{windows_open_once}
 use Rattle.ns_sessions.proofs.Apart as sessions
 use Rattle.ns_sessions.proofs.OpenTickets.{same_ticket-sym}
-use Rattle.ns_windows.proofs.Places.{none_found}
 use Rattle.ns_shard.specs.State.{ends_open}
 use Rattle.ns_shard.specs.Private.Room.{opens, open_total}
-use Rattle.ns_shard.proofs.WindowSteps.{same_window-sym}
 use Rattle.ns_calls.proofs.RoundLemmas.{count-none}
+use Rattle.ns_windows.proofs.Named.{same_window-sym}
+use Rattle.std.proofs.lemmas.List.Sums.{length-filter}
+use Rattle.std.proofs.lemmas.List.Filters.{length-filter_both}
+use Rattle.std.proofs.lemmas.List.Elements.{filter_agree}
 
 -- ---- lists
 
 -- what passes a test and what does not are all
-passed-and-failed : {X : Type 0} (test : X → Bool) (xs : List X) → length (filter (λ x. not (test x)) xs) + count_by test xs ≡ length xs
-passed-and-failed test [] = refl
-passed-and-failed {X} test (x ∷ xs) =
-    let ih = passed-and-failed test xs in
-    let kept = filter (λ y. not (test y)) xs in
-    let left = λ (b : Bool). length (cond {A = List X} (not b) (x ∷ kept) kept) in
-    elim (bool_tells (test x)) [
-      | inl passes ↦
-          (let is : count_by test (x ∷ xs) ≡ 1 + count_by test xs = count-cons test x xs ∙ ap (λ b. cond {A = ℕ} b 1 0 + count_by test xs) passes in
-          let rest : length (filter (λ y. not (test y)) (x ∷ xs)) ≡ length kept = ap left passes in
-          omega (arith, ih, is, rest))
-      | inr fails ↦
-          (let is : count_by test (x ∷ xs) ≡ 0 + count_by test xs = count-cons test x xs ∙ ap (λ b. cond {A = ℕ} b 1 0 + count_by test xs) fails in
-          let rest : length (filter (λ y. not (test y)) (x ∷ xs)) ≡ suc (length kept) = ap left fails in
-          omega (arith, ih, is, rest))
-    ]
-
 nothing-counted : {X : Type 0} (xs : List X) → count_by (λ _. false) xs ≡ 0
-nothing-counted [] = refl
-nothing-counted (x ∷ xs) = count-cons (λ _. false) x xs ∙ (zero-add (count_by (λ _. false) xs) ∙ nothing-counted xs)
+nothing-counted {X} xs = count-none (λ _. false) xs (All-each (λ (x : X). false ≡ false) (λ x. refl) xs)
 
 count-same : {X : Type 0} (p q : X → Bool) → ((x : X) → p x ≡ q x) → (xs : List X) → count_by p xs ≡ count_by q xs
-count-same p q same [] = refl
-count-same p q same (x ∷ xs) = count-cons p x xs ∙ (ap₂ (λ b n. cond {A = ℕ} b 1 0 + n) (same x) (count-same p q same xs) ∙ sym (count-cons q x xs))
+count-same p q same xs = sym (length-filter p xs) ∙ (ap length (filter_agree p q same xs) ∙ length-filter q xs)
 
 option-length : {X : Type 0} (o : Option X) → length (option_to_list o) ≡ cond (is_some o) 1 0
 option-length None = refl
@@ -79,6 +61,16 @@ is_some-when : {X : Type 0} (b : Bool) (x : X) → is_some (when b x) ≡ b
 is_some-when true x = refl
 is_some-when false x = refl
 
+-- how long a list is from which what ends is taken out, and to which something may be added
+length-after : {X : Type 0} (ends : X → Bool) (xs now : List X) (new : Option X) (n : ℕ) → now ≡ filter (λ x. not (ends x)) xs ++ option_to_list new → count_by ends xs ≡ n
+    → length now + n ≡ length xs + cond (is_some new) 1 0
+length-after ends xs now new n is ended =
+    let passed = length-filter ends xs in
+    let all = length-filter_both ends (λ x. not (ends x)) (λ x. refl) xs in
+    let joined = ap length is ∙ length-append (filter (λ x. not (ends x)) xs) (option_to_list new) in
+    let one = option-length new in
+    omega (arith, passed, all, joined, one, ended)
+
 -- ---- closings
 
 closing-is : (h : List Entry) (w : WindowName) → closing_in (call.Close w) (reply_to_close h w) ≡ option_map (λ o. let c : Closing = record { window = w; ack = ack_number h o } in c) (open_window h w)
@@ -88,19 +80,15 @@ closing-is h w = step (open_window h w)
     step None = refl
     step (Some o) = refl
 
--- a closing ends the one open window of its name, if there is one
-named-once : (net : Network) (h : List Entry) (w : WindowName) → IsLegal net h → (found : Option Opening) → open_window h w ≡ found → count_by (λ o. same_window w o.window) (open_windows h) ≡ cond (is_some found) 1 0
-named-once net h w legal found is =
-    count-same (λ (o : Opening). same_window w o.window) (λ (o : Opening). same_window o.window w) (λ o. same_window-sym w o.window) (open_windows h) ∙ step found is
-  where
-    step : (found : Option Opening) → open_window h w ≡ found → open_count h w ≡ cond (is_some found) 1 0
-    step None is = count-none (λ (o : Opening). same_window o.window w) (open_windows h) (none_found (λ (o : Opening). same_window o.window w) (open_windows h) is)
-    step (Some o) is =
-        let once = windows_open_once net h legal in
-        let most = once.opens w in
-        let split = once.closes w in
-        let least = count-found (λ (o : Opening). same_window o.window w) (open_windows h) (ap (λ (x : Option Opening). is_some x) is) in
-        omega (arith, most, split, least)
+-- a closing ends the one open window of its name
+named-once : (net : Network) (h : List Entry) (w : WindowName) (o : Opening) → IsLegal net h → open_window h w ≡ Some o → count_by (λ x. same_window w x.window) (open_windows h) ≡ 1
+named-once net h w o legal is =
+    let same = count-same (λ (x : Opening). same_window w x.window) (λ (x : Opening). same_window x.window w) (λ x. same_window-sym w x.window) (open_windows h) in
+    let once = windows_open_once net h legal in
+    let most = once.opens w in
+    let split = once.closes w in
+    let least = count-found (λ (x : Opening). same_window x.window w) (open_windows h) (ap (λ (x : Option Opening). is_some x) is) in
+    omega (arith, same, most, split, least)
 
 abbrev closed-by : Option Closing → Opening → Bool
 closed-by c o = option_map_or (λ x. same_window x.window o.window) c false
@@ -119,19 +107,13 @@ windows-ended net h (call.Close w) legal =
 
     step : (found : Option Opening) → open_window h w ≡ found → count_by (closed-by (closing found)) (open_windows h) ≡ cond (is_some (closing found)) 1 0
     step None is = nothing-counted (open_windows h)
-    step (Some o) is = named-once net h w legal (Some o) is
+    step (Some o) is = named-once net h w o legal is
 
 windows-total : (net : Network) (h : List Entry) (number : ℕ) (c : Call) → IsLegal net h →
     length (open_windows (with_call net h number c)) + cond (is_some (closing_in c (reply_to net h c))) 1 0 ≡ length (open_windows h) + cond (is_some (window_in c (reply_to net h c))) 1 0
 windows-total net h number c legal =
     let e = entry_for net h number c in
-    let opened = window_in c (reply_to net h c) in
-    let stays : List Opening = filter (λ o. not (closes o.window e)) (open_windows h) in
-    let now : length (open_windows (with_call net h number c)) ≡ length stays + cond (is_some opened) 1 0 =
-    ap (λ (os : List Opening). length os) (open_windows-push h e) ∙ (length-append stays (option_to_list opened) ∙ ap (λ n. length stays + n) (option-length opened)) in
-    let all = passed-and-failed (λ (o : Opening). closes o.window e) (open_windows h) in
-    let ended : count_by (λ (o : Opening). closes o.window e) (open_windows h) ≡ cond (is_some (closing_in c (reply_to net h c))) 1 0 = windows-ended net h c legal in
-    omega (arith, now, all, ended)
+    length-after (λ (o : Opening). closes o.window e) (open_windows h) (open_windows (h ++ e ∷ [])) (window_in c (reply_to net h c)) _ (open_windows-push h e) (windows-ended net h c legal)
 
 -- ---- answers
 
@@ -185,13 +167,7 @@ tickets-total : (net : Network) (h : List Entry) (number : ℕ) (c : Call) → I
     length (open_tickets (with_call net h number c)) + cond (is_some (ending_in c (reply_to net h c))) 1 0 ≡ length (open_tickets h) + cond (is_some (asking_in c (reply_to net h c))) 1 0
 tickets-total net h number c legal =
     let e = entry_for net h number c in
-    let asked = asking_in c (reply_to net h c) in
-    let stays : List Ticket = filter (λ t. not (ends_ticket t e)) (open_tickets h) in
-    let now : length (open_tickets (with_call net h number c)) ≡ length stays + cond (is_some asked) 1 0 =
-    ap (λ (ts : List Ticket). length ts) (open_tickets-push h e) ∙ (length-append stays (option_to_list asked) ∙ ap (λ n. length stays + n) (option-length asked)) in
-    let all = passed-and-failed (λ (t : Ticket). ends_ticket t e) (open_tickets h) in
-    let ended : count_by (λ (t : Ticket). ends_ticket t e) (open_tickets h) ≡ cond (is_some (ending_in c (reply_to net h c))) 1 0 = tickets-ended net h c legal in
-    omega (arith, now, all, ended)
+    length-after (λ (t : Ticket). ends_ticket t e) (open_tickets h) (open_tickets (h ++ e ∷ [])) (asking_in c (reply_to net h c)) _ (open_tickets-push h e) (tickets-ended net h c legal)
 
 -- ---- both
 

@@ -2,7 +2,6 @@
 use Rattle.std.proofs.Common.{◌≡◌, ◌≤◌, ◌*◌, count_by, ℕ, ◌<◌, Bool, true, false, not, ◌||◌, ◌==◌, cond, List, [], ◌∷◌, map, filter, length, refl, sym, ap, subst, ◌∙◌, arith}
 use Rattle.std.specs.List.{AllByRecursion, list_any}
 use Rattle.std.specs.Arc.{arc_value}
-use Rattle.std.proofs.lemmas.Bool.Decides.{nat_tests}
 use Rattle.std.proofs.lemmas.List.{length-map}
 use Rattle.ns_types.specs.Identity.{shard_count, shard_of}
 use Rattle.ns_types.specs.declared.identity.WindowName.{WindowName}
@@ -26,17 +25,10 @@ use Rattle.ns_shard.specs.State.{State, Keeps, remains, seen, after_trim, droppe
 use Rattle.ns_shard.specs.Private.Parts.{Agrees, AreParts, state_of}
 use Rattle.ns_shard.specs.declared.parts.Parts.{Parts}
 use Rattle.ns_shard.proofs.Live.{lives-told, tickets-told}
+use Rattle.std.proofs.lemmas.Bool.{eq-eqb, ne_eqb}
+use Rattle.ns_shard.proofs.Maps.{map-map}
 
 -- ---- entries by their numbers, where numbers rise
-
-same_number : (n : ℕ) → (n == n) ≡ true
-same_number n = grind (arith, nat_tests)
-
-above : (n m : ℕ) → n < m → (m == n) ≡ false
-above n m less = grind (arith, nat_tests)
-
-below : (n m : ℕ) → n < m → (n == m) ≡ false
-below n m less = grind (arith, nat_tests)
 
 module _ (test : Entry → List Entry → Bool) where
   -- the numbers of what passes are above one that all numbers are above
@@ -47,57 +39,45 @@ module _ (test : Entry → List Entry → Bool) where
       step : (b : Bool) → list_any (λ m. m == n) (map (λ (x : Entry). x.number) (filter_before test es)) ≡ false
           → list_any (λ m. m == n) (map (λ (x : Entry). x.number) (cond b (e ∷ filter_before test es) (filter_before test es))) ≡ false
       step false rest = rest
-      step true rest = ap (λ b. b || list_any (λ m. m == n) (map (λ (x : Entry). x.number) (filter_before test es))) (above n e.number all.0) ∙ rest
+      step true rest = ap (λ b. b || list_any (λ m. m == n) (map (λ (x : Entry). x.number) (filter_before test es))) (ne_eqb e.number n (λ is. omega (arith, is, all.0))) ∙ rest
 
   -- an entry of a greater number has it among these exactly where it has it among the rest
   filters-same : (n : ℕ) (numbers : List ℕ) (keeps : Bool → Bool) (es : List Entry) → AllByRecursion (λ m. n < m) (map (λ (e : Entry). e.number) es) →
       filter (λ e. keeps (is_numbered (n ∷ numbers) e)) es ≡ filter (λ e. keeps (is_numbered numbers e)) es
   filters-same n numbers keeps [] all = refl
   filters-same n numbers keeps (e ∷ es) all =
-      ap (λ b. cond {A = List Entry} (keeps (b || is_numbered numbers e)) (e ∷ filter (λ x. keeps (is_numbered (n ∷ numbers) x)) es) (filter (λ x. keeps (is_numbered (n ∷ numbers) x)) es)) (below n e.number all.0)
+      ap (λ b. cond {A = List Entry} (keeps (b || is_numbered numbers e)) (e ∷ filter (λ x. keeps (is_numbered (n ∷ numbers) x)) es) (filter (λ x. keeps (is_numbered (n ∷ numbers) x)) es)) (ne_eqb n e.number (λ is. omega (arith, is, all.0)))
       ∙ ap (λ xs. cond {A = List Entry} (keeps (is_numbered numbers e)) (e ∷ xs) xs) (filters-same n numbers keeps es all.1)
 
-  -- the entries with the numbers of those that pass are those that pass
-  pub with-kept : (es : List Entry) → Rises (map (λ (e : Entry). e.number) es) → with_numbers (map (λ (e : Entry). e.number) (filter_before test es)) es ≡ filter_before test es
-  with-kept [] rises = refl
-  with-kept (e ∷ es) rises = step (test e es) (with-kept es rises.1)
+  -- the entries that have the numbers of those that pass are those that pass, and the others are those that fail
+  numbered-kept : (keeps : Bool → Bool) (es : List Entry) → Rises (map (λ (e : Entry). e.number) es) →
+      filter (λ e. keeps (is_numbered (map (λ (x : Entry). x.number) (filter_before test es)) e)) es ≡ filter_before (λ e after. keeps (test e after)) es
+  numbered-kept keeps [] rises = refl
+  numbered-kept keeps (e ∷ es) rises = step (test e es) (numbered-kept keeps es rises.1)
     where
-      step : (b : Bool) → with_numbers (map (λ (x : Entry). x.number) (filter_before test es)) es ≡ filter_before test es →
-          with_numbers (map (λ (x : Entry). x.number) (cond b (e ∷ filter_before test es) (filter_before test es))) (e ∷ es) ≡ cond b (e ∷ filter_before test es) (filter_before test es)
-      step true rest =
-          ap (λ b. cond {A = List Entry} (b || list_any (λ n. n == e.number) (map (λ (x : Entry). x.number) (filter_before test es))) (e ∷ filter (is_numbered (e.number ∷ map (λ (x : Entry). x.number) (filter_before test es))) es) (filter (is_numbered (e.number ∷ map (λ (x : Entry). x.number) (filter_before test es))) es)) (same_number e.number)
-          ∙ ap (λ (xs : List Entry). e ∷ xs) (filters-same e.number (map (λ (x : Entry). x.number) (filter_before test es)) (λ b. b) es rises.0 ∙ rest)
-      step false rest =
-          ap (λ b. cond {A = List Entry} b (e ∷ with_numbers (map (λ (x : Entry). x.number) (filter_before test es)) es) (with_numbers (map (λ (x : Entry). x.number) (filter_before test es)) es)) (kept-above e.number es rises.0) ∙ rest
+      numbers : List ℕ
+      numbers = map (λ (x : Entry). x.number) (filter_before test es)
 
-  -- and the others are those that fail
-  pub without-kept : (es : List Entry) → Rises (map (λ (e : Entry). e.number) es) → without_numbers (map (λ (e : Entry). e.number) (filter_before test es)) es ≡ filter_before (λ e after. not (test e after)) es
-  without-kept [] rises = refl
-  without-kept (e ∷ es) rises = step (test e es) (without-kept es rises.1)
-    where
-      step : (b : Bool) → without_numbers (map (λ (x : Entry). x.number) (filter_before test es)) es ≡ filter_before (λ x after. not (test x after)) es →
-          without_numbers (map (λ (x : Entry). x.number) (cond b (e ∷ filter_before test es) (filter_before test es))) (e ∷ es)
-          ≡ cond (not b) (e ∷ filter_before (λ x after. not (test x after)) es) (filter_before (λ x after. not (test x after)) es)
+      kept : List Entry
+      kept = filter_before (λ x after. keeps (test x after)) es
+
+      step : (b : Bool) → filter (λ x. keeps (is_numbered numbers x)) es ≡ kept →
+          filter (λ x. keeps (is_numbered (map (λ (y : Entry). y.number) (cond b (e ∷ filter_before test es) (filter_before test es))) x)) (e ∷ es) ≡ cond (keeps b) (e ∷ kept) kept
       step true rest =
-          ap (λ b. cond {A = List Entry} (not (b || list_any (λ n. n == e.number) (map (λ (x : Entry). x.number) (filter_before test es)))) (e ∷ filter (λ y. not (is_numbered (e.number ∷ map (λ (x : Entry). x.number) (filter_before test es)) y)) es)
-          (filter (λ y. not (is_numbered (e.number ∷ map (λ (x : Entry). x.number) (filter_before test es)) y)) es)) (same_number e.number)
-          ∙ (filters-same e.number (map (λ (x : Entry). x.number) (filter_before test es)) not es rises.0 ∙ rest)
+          ap (λ b. cond {A = List Entry} (keeps (b || list_any (λ n. n == e.number) numbers)) (e ∷ filter (λ x. keeps (is_numbered (e.number ∷ numbers) x)) es) (filter (λ x. keeps (is_numbered (e.number ∷ numbers) x)) es)) (eq-eqb e.number e.number refl)
+          ∙ ap (λ (xs : List Entry). cond (keeps true) (e ∷ xs) xs) (filters-same e.number numbers keeps es rises.0 ∙ rest)
       step false rest =
-          ap (λ b. cond {A = List Entry} (not b) (e ∷ without_numbers (map (λ (x : Entry). x.number) (filter_before test es)) es) (without_numbers (map (λ (x : Entry). x.number) (filter_before test es)) es)) (kept-above e.number es rises.0)
-          ∙ ap (λ (xs : List Entry). e ∷ xs) rest
+          ap (λ b. cond {A = List Entry} (keeps b) (e ∷ filter (λ x. keeps (is_numbered numbers x)) es) (filter (λ x. keeps (is_numbered numbers x)) es)) (kept-above e.number es rises.0)
+          ∙ ap (λ (xs : List Entry). cond (keeps false) (e ∷ xs) xs) rest
 
 -- ---- what the shard's tables say
-
-names-map : (h : List Entry) (os : List Opening) → map (λ (w : Window). w.name) (map (window_of_opening h) os) ≡ map (λ (o : Opening). o.window) os
-names-map h [] = refl
-names-map h (o ∷ os) = ap (λ (ns : List WindowName). o.window ∷ ns) (names-map h os)
 
 -- the names of the windows are those of the open windows
 pub names-told : (net : Network) (index : ℕ) (h : List Entry) (k : Remains) (devices : List Own) (windows : List Window) → Agrees net index h devices windows → Leaves net h k →
     map (λ (w : Window). w.name) windows ≡ map (λ (o : Opening). o.window) (open_windows (reading k))
 names-told net index h k devices windows agrees leaves =
     ap (map (λ (w : Window). w.name)) agrees.by_window
-    ∙ (names-map h (open_windows h) ∙ ap (map (λ (o : Opening). o.window)) (sym (leaves-alike net h k leaves).windows))
+    ∙ (map-map (window_of_opening h) (λ (w : Window). w.name) (open_windows h) ∙ ap (map (λ (o : Opening). o.window)) (sym (leaves-alike net h k leaves).windows))
 
 -- the tables are those of the history as it reads
 pub tables-are : (net : Network) (index : ℕ) (h : List Entry) (k : Remains) (devices : List Own) (windows : List Window) (names : List WindowName) → Agrees net index h devices windows → Leaves net h k →
@@ -137,13 +117,13 @@ module _ (p : Parts) (are : AreParts p) where
   pub numbers-of-entries : (stay : List ℕ) → stay ≡ numbers_kept (seen (state_of p)) p.journal.entries → AreNumbersOf p.journal.entries stay
   numbers-of-entries stay is =
       ap (λ ns. map (λ (e : Entry). e.number) (with_numbers ns p.journal.entries)) is
-      ∙ (ap (map (λ (e : Entry). e.number)) (with-kept (is_kept (seen (state_of p))) p.journal.entries rises) ∙ sym is)
+      ∙ (ap (map (λ (e : Entry). e.number)) (numbered-kept (is_kept (seen (state_of p))) (λ b. b) p.journal.entries rises) ∙ sym is)
 
   pub entries-kept : (stay : List ℕ) → stay ≡ numbers_kept (seen (state_of p)) p.journal.entries → with_numbers stay p.journal.entries ≡ (after_trim (state_of p)).entries
-  entries-kept stay is = ap (λ ns. with_numbers ns p.journal.entries) is ∙ with-kept (is_kept (seen (state_of p))) p.journal.entries rises
+  entries-kept stay is = ap (λ ns. with_numbers ns p.journal.entries) is ∙ numbered-kept (is_kept (seen (state_of p))) (λ b. b) p.journal.entries rises
 
   pub entries-dropped : (stay : List ℕ) → stay ≡ numbers_kept (seen (state_of p)) p.journal.entries → without_numbers stay p.journal.entries ≡ dropped (state_of p)
-  entries-dropped stay is = ap (λ ns. without_numbers ns p.journal.entries) is ∙ without-kept (is_kept (seen (state_of p))) p.journal.entries rises
+  entries-dropped stay is = ap (λ ns. without_numbers ns p.journal.entries) is ∙ numbered-kept (is_kept (seen (state_of p))) not p.journal.entries rises
 
   pub count-kept : (stay : List ℕ) → stay ≡ numbers_kept (seen (state_of p)) p.journal.entries → length stay ≡ length (after_trim (state_of p)).entries
   count-kept stay is = ap length is ∙ length-map (after_trim (state_of p)).entries (λ (e : Entry). e.number)
@@ -169,8 +149,7 @@ module _ (p : Parts) (are : AreParts p) where
   -- parts that were trimmed
   pub parts-trimmed : (q : Parts) → state_of q ≡ after_trim (state_of p) → q.devices ≡ p.devices → q.windows ≡ p.windows → q.journal.reserved ≡ p.journal.reserved → AreParts q
   parts-trimmed q state devices windows reserved =
-      let held : Agrees net p.index are.history q.devices q.windows =
-      subst (λ (ws : List Window). Agrees net p.index are.history q.devices ws) (sym windows) (subst (λ (ds : List Own). Agrees net p.index are.history ds p.windows) (sym devices) are.agrees) in
+      let held : Agrees net p.index are.history q.devices q.windows = rw (devices, windows) are.agrees in
       record {
         small = subst (λ (s : State). s.index < shard_count) (sym state) are.small;
         history = are.history;

@@ -1,9 +1,9 @@
 -- What comes of an uplink by the devices and windows that agree with the entries, and that they agree after it.
-use Rattle.std.proofs.Common.{◌≡◌, ℕ, ◌+◌, ◌<◌, ◌≤◌, ◌==◌, Bool, true, false, cond, nat_lt, List, [], ◌∷◌, ◌++◌, length, filter, Option, None, Some, IfSome, option_map, refl, sym, ap, ap₂, subst, ◌∙◌, arith, inl, inr}
-use Rattle.std.specs.Prelude.{IsSome, is_some, Contains, ◌-◌, ◌^◌, ◌&&◌, ◌||◌, not, find, unwrap_or}
+use Rattle.std.proofs.Common.{◌≡◌, ℕ, ◌+◌, ◌<◌, ◌==◌, Bool, true, false, cond, nat_lt, List, [], ◌∷◌, ◌++◌, length, Option, None, Some, IfSome, option_map, refl, sym, ap, ap₂, subst, ◌∙◌, arith, inl, inr}
+use Rattle.std.specs.Prelude.{IsSome, is_some, Contains, ◌-◌, ◌^◌, ◌&&◌, ◌||◌, not, unwrap_or}
 use Rattle.std.specs.List.{AllByRecursion, list_any}
 use Rattle.std.specs.Option.{option_and_then}
-use Rattle.std.proofs.lemmas.Option.{same_Some}
+use Rattle.std.proofs.lemmas.Option.{cond_some}
 use Rattle.std.proofs.lemmas.Bool.Decides.{nat_tests}
 use Rattle.ns_types.specs.declared.identity.DevEui.{DevEui}
 use Rattle.ns_types.specs.declared.identity.Key.{Key}
@@ -18,7 +18,6 @@ use Rattle.ns_roster.specs.Network.{Network, device, device_addr}
 use Rattle.ns_roster.specs.Valid.{IsRoster}
 use Rattle.ns_roster.proofs.DeviceLemmas.{shard_of_device}
 use Rattle.ns_calls.specs.declared.call.JoinAns.{JoinAns}
-use Rattle.ns_calls.specs.declared.call.Call.{Call}
 use Rattle.ns_calls.specs.declared.call.Call.TheVariants as call
 use Rattle.ns_calls.specs.declared.call.Reply.{Reply}
 use Rattle.ns_calls.specs.declared.call.Reply.TheVariants as reply
@@ -30,10 +29,10 @@ use Rattle.ns_calls.specs.History.{open_window, is_uplink_open, window_count, wi
 use Rattle.ns_calls.specs.Headline.{session_round}
 use Rattle.ns_calls.proofs.Says.{window_copy_in, opening_of, closing_in, uplink-says}
 use Rattle.ns_calls.specs.Reply as plain
-use Rattle.ns_calls.specs.Reply.{reply_to_uplink, Fit, window_of, first_fit, devices_at, uplink_rule}
+use Rattle.ns_calls.specs.Reply.{reply_to_uplink, Fit, window_of, first_fit, uplink_rule}
 use Rattle.ns_calls.specs.Legal.{IsLegal, entry_for, with_call}
 use Rattle.ns_calls.proofs.LocalLemmas.{bool_tells}
-use Rattle.ns_calls.proofs.Lists.{All-weaker, IfSome-weaker, at_some, first-gives_of, option_map-same}
+use Rattle.ns_calls.proofs.Lists.{All-weaker, IfSome-weaker, at_some, option_map-same}
 use Rattle.ns_calls.proofs.LegalLemmas.{history_more}
 use Rattle.ns_calls.proofs.UplinkLemmas.{uplink-has, window-fits}
 use Rattle.ns_calls.proofs.RoundLemmas.{rounds-same, rounds_are_counted}
@@ -53,22 +52,17 @@ use Rattle.ns_devices.specs.Devices.{keys_in, first_own_fit}
 use Rattle.ns_shard.specs.Private.Reaction as kept
 use Rattle.ns_shard.specs.Private.Reaction.{uplink_reply, with_shard_uplink, with_copy_or_window, with_window, HasPlace, CanOpen}
 use Rattle.ns_shard.specs.Private.Parts.{Agrees}
-use Rattle.ns_shard.proofs.Roster.{fit-own, members}
+use Rattle.ns_shard.proofs.Roster.{fit-own}
 use Rattle.ns_shard.proofs.DeviceSteps.{devices-changed, devices-same}
 use Rattle.ns_shard.proofs.WindowSteps.{windows-quiet, windows-copied, windows-opened, windows-framed, windows-named, windows-count, copied-full}
 use Rattle.ns_shard.proofs.PartSteps.{joined, same_device-false}
-use Rattle.ns_shard.proofs.CloseSteps.{device_fit-eui, fit-known, own-some}
-
--- nothing is found: no element passes
-none-found : (test : Opening → Bool) (os : List Opening) → find test os ≡ None → AllByRecursion (λ o. test o ≡ false) os
-none-found test [] is = tt
-none-found test (o ∷ os) is = step (none-found test os) (test o) refl is
-  where
-    step : (find test os ≡ None → AllByRecursion (λ x. test x ≡ false) os) → (b : Bool) → test o ≡ b → cond {A = Option Opening} b (Some o) (find test os) ≡ None → AllByRecursion (λ x. test x ≡ false) (o ∷ os)
-    step later true here none = absurd (cc none)
-    step later false here none = (here, later none)
-
--- ---- the reply
+use Rattle.ns_shard.proofs.CloseSteps.{fit-known, own-some, fit-of}
+use Rattle.ns_windows.proofs.Places.{none_found}
+use Rattle.ns_kept.proofs.Within.{find-any}
+use Rattle.std.proofs.Math.Bool.{and-true}
+use Rattle.ns_shard.proofs.Totals.{is_some-map}
+use Rattle.ns_shard.proofs.Maps.{some-of}
+use Rattle.std.proofs.lemmas.Bool.{le-ltb, eqb-true}
 
 -- ---- the reply to a frame at or below the greatest counter
 
@@ -79,39 +73,31 @@ record IsPlaced (net : Network) (index : ℕ) (h : List Entry) (f : Fit) : Type 
   known : IsSome (device net f.eui)
 
 next-round : (h : List Entry) (f : Fit) (round : ℕ) → plain.next_round h f ≡ Some round → round ≡ last_round h (window_of f) + 1
-next-round h f round is = step (plain.is_greatest (greatest_counter h f.eui f.session) f.counter && nat_lt (last_round h (window_of f) + 1) (2 ^ 32)) is
-  where
-    step : (b : Bool) → when b (last_round h (window_of f) + 1) ≡ Some round → round ≡ last_round h (window_of f) + 1
-    step true some = sym (same_Some (last_round h (window_of f) + 1) round some)
-    step false none = absurd (cc none)
+next-round h f round is =
+    let found = cond_some (plain.is_greatest (greatest_counter h f.eui f.session) f.counter && nat_lt (last_round h (window_of f) + 1) (2 ^ 32)) (last_round h (window_of f) + 1) round is in
+    sym found.1
+
+-- two tests that say the same
+any-same : (test other : Opening → Bool) (os : List Opening) → AllByRecursion (λ o. test o ≡ other o) os → list_any test os ≡ list_any other os
+any-same test other [] same = refl
+any-same test other (o ∷ os) same = ap₂ (λ b c. b || c) same.0 (any-same test other os same.1)
 
 -- the window of an uplink's last round is open where one of its windows is
-find-any : (test other : Opening → Bool) (os : List Opening) → AllByRecursion (λ o. test o ≡ other o) os → is_some (find test os) ≡ list_any other os
-find-any test other [] same = refl
-find-any test other (o ∷ os) same = step (find-any test other os same.1) (test o) same.0
-  where
-    step : is_some (find test os) ≡ list_any other os → (b : Bool) → b ≡ other o → is_some (cond {A = Option Opening} b (Some o) (find test os)) ≡ (other o || list_any other os)
-    step rest true is = ap (λ c. c || list_any other os) is
-    step rest false is = rest ∙ ap (λ c. c || list_any other os) is
-
 last-open : (net : Network) (h : List Entry) → IsLegal net h → (f : Fit) → is_some (open_window h (plain.in_round f (last_round h (window_of f)))) ≡ is_uplink_open h (window_of f)
 last-open net h legal f =
-    find-any (λ (o : Opening). same_window o.window (plain.in_round f last)) (λ (o : Opening). same_uplink o.window (window_of f)) (open_windows h)
+    find-any (λ (o : Opening). same_window o.window (plain.in_round f last)) (open_windows h)
+    ∙ any-same (λ (o : Opening). same_window o.window (plain.in_round f last)) (λ (o : Opening). same_uplink o.window (window_of f)) (open_windows h)
     (All-weaker (λ (o : Opening). o.window.round ≡ last_round h o.window) (λ (o : Opening). same_window o.window (plain.in_round f last) ≡ same_uplink o.window (window_of f)) same (open_windows h) (rounds_are_counted net h legal).of_open)
   where
     last : ℕ
     last = last_round h (window_of f)
-
-    and_true : (a : Bool) → (a && true) ≡ a
-    and_true true = refl
-    and_true false = refl
 
     same : (o : Opening) → o.window.round ≡ last_round h o.window → same_window o.window (plain.in_round f (last_round h (window_of f))) ≡ same_uplink o.window (window_of f)
     same o is = elim (bool_tells (same_uplink o.window (window_of f))) [
       | inl mine ↦
           (let round : o.window.round ≡ last_round h (window_of f) = is ∙ ap (λ ns. unwrap_or (maximum ns) 0) (rounds-same h o.window (window_of f) mine) in
           let test : (o.window.round == last_round h (window_of f)) ≡ true = grind (arith, nat_tests) in
-          ap (λ b. same_uplink o.window (window_of f) && b) test ∙ and_true (same_uplink o.window (window_of f)))
+          ap (λ b. same_uplink o.window (window_of f) && b) test ∙ and-true (same_uplink o.window (window_of f)))
       | inr other ↦ ap (λ b. b && (o.window.round == last_round h (window_of f))) other ∙ sym other
     ]
 
@@ -127,10 +113,6 @@ round-same net index h f legal law placed = ap open_before next ∙ by_round (pl
         ap (option_and_then (λ (o : Own). next_round_in o.state f.session f.counter)) own.1
         ∙ (ap (λ (e : DevEui). next_round_in (device_record net h e) f.session f.counter) own.2 ∙ law.rounds legal f placed.fits.lives)
 
-    some-map : (o : Option Opening) → is_some (option_map (window_of_opening h) o) ≡ is_some o
-    some-map None = refl
-    some-map (Some o) = refl
-
     by_round : (o : Option ℕ) → plain.next_round h f ≡ o → open_before o ≡ cond (is_uplink_open h (window_of f)) None o
     by_round None is = elim (is_uplink_open h (window_of f)) as (λ b. None ≡ cond {A = Option ℕ} b None None) [ true ↦ refl | false ↦ refl ]
     by_round (Some round) is =
@@ -139,35 +121,17 @@ round-same net index h f legal law placed = ap open_before next ∙ by_round (pl
         let opens : is_some (window_named (plain.in_round f (round - 1)) (windows_in h)) ≡ is_uplink_open h (window_of f) =
         ap (λ n. is_some (window_named (plain.in_round f n) (windows_in h))) before
         ∙ (ap (λ o. is_some o) (windows-named h (plain.in_round f (last_round h (window_of f))))
-        ∙ (some-map (open_window h (plain.in_round f (last_round h (window_of f)))) ∙ last-open net h legal f)) in
+        ∙ (is_some-map (window_of_opening h) (open_window h (plain.in_round f (last_round h (window_of f)))) ∙ last-open net h legal f)) in
         ap (λ b. when (not b) round) opens ∙ elim (is_uplink_open h (window_of f)) as (λ b. when (not b) round ≡ cond {A = Option ℕ} b None (Some round)) [ true ↦ refl | false ↦ refl ]
-
-filter-passes : {X : Type 0} (P : X → Type 0) (test : X → Bool) (xs : List X) → AllByRecursion P xs → AllByRecursion (λ x. P x × (test x ≡ true)) (filter test xs)
-filter-passes P test [] all = tt
-filter-passes {X} P test (x ∷ xs) all = step (test x) refl (filter-passes P test xs all.1)
-  where
-    step : (b : Bool) → test x ≡ b → AllByRecursion (λ y. P y × (test y ≡ true)) (filter test xs) → AllByRecursion (λ y. P y × (test y ≡ true)) (cond b (x ∷ filter test xs) (filter test xs))
-    step true is rest = ((all.0, is), rest)
-    step false is rest = rest
 
 -- what fits is of a device of the frame's shard
 fit-shard : (recover : Option ℕ → ℕ → Option ℕ) (net : Network) (index : ℕ) (h : List Entry) (frame : List ℕ) → IsRoster net → shard_of_addr (record { 0 = (data_fields frame).addr }) ≡ index → IfSome (first_fit recover net h frame) (λ f. shard_of f.eui ≡ index)
-fit-shard recover net index h frame valid mine =
-    first-gives_of Mine (λ (d : Device). plain.device_fit recover h frame d.eui) (devices_at net (data_fields frame).addr)
-    (All-weaker (λ (d : Device). Contains net.devices d × (addressed d ≡ true)) (λ (d : Device). IfSome (plain.device_fit recover h frame d.eui) Mine) each (devices_at net (data_fields frame).addr)
-    (filter-passes (Contains net.devices) addressed net.devices (members net)))
+fit-shard recover net index h frame valid mine = fit-of (λ (e : DevEui). shard_of e ≡ index) recover net h frame each
   where
-    Mine : Fit → Type 0
-    Mine f = shard_of f.eui ≡ index
-
-    addressed : Device → Bool
-    addressed d = (device_addr net d).0 == (data_fields frame).addr
-
-    each : (d : Device) → Contains net.devices d × (addressed d ≡ true) → IfSome (plain.device_fit recover h frame d.eui) Mine
-    each d both =
-        let addr : (device_addr net d).0 ≡ (data_fields frame).addr = (let is = both.1 in grind (arith, nat_tests)) in
-        let shard : shard_of d.eui ≡ index = sym (shard_of_device net valid d both.0) ∙ (ap (λ n. shard_of_addr (record { 0 = n })) addr ∙ mine) in
-        IfSome-weaker (λ (f : Fit). f.eui ≡ d.eui) Mine (plain.device_fit recover h frame d.eui) (λ f is. ap shard_of is ∙ shard) (device_fit-eui recover h frame d.eui)
+    each : (d : Device) → Contains net.devices d → ((device_addr net d).0 == (data_fields frame).addr) ≡ true → shard_of d.eui ≡ index
+    each d member is =
+        let addr : (device_addr net d).0 ≡ (data_fields frame).addr = eqb-true (device_addr net d).0 (data_fields frame).addr is in
+        sym (shard_of_device net valid d member) ∙ (ap (λ n. shard_of_addr (record { 0 = n })) addr ∙ mine)
 
 -- where a frame fits is placed
 fits-placed : (recover : Option ℕ → ℕ → Option ℕ) (net : Network) (index : ℕ) (h : List Entry) (frame : List ℕ) → IsRoster net → shard_of_addr (record { 0 = (data_fields frame).addr }) ≡ index → IfSome (first_fit recover net h frame) (IsPlaced net index h)
@@ -245,27 +209,22 @@ opened-session net index h frame w is join keyed =
     is.found ∙ ap (option_map (λ (j : JoinAns). let s : Session = record { number = w.session; nwk = j.nwk; app = j.app; greatest_counter = greatest_counter h w.eui w.session; round = session_round h w.eui w.session; next_ack = next_ack h w.eui w.session } in s)) keyed
 
 new_counter : (net : Network) (index : ℕ) (h : List Entry) (frame : List ℕ) (w : WindowName) → IsOpened net index h frame w → Exceeds (greatest_counter h w.eui w.session) w.fcnt → IsNewCounter (session_in (device_record net h w.eui) w.session) w.fcnt
-new_counter net index h frame w is above = step (session_join h w.eui w.session) refl is.keyed
-  where
-    step : (j : Option JoinAns) → session_join h w.eui w.session ≡ j → IsSome j → IsNewCounter (session_in (device_record net h w.eui) w.session) w.fcnt
-    step None none some = absurd (cc some)
-    step (Some join) keyed some = subst (λ o. IsNewCounter o w.fcnt) (sym (opened-session net index h frame w is join keyed)) above
+new_counter net index h frame w is above =
+    let (join, keyed) = some-of (session_join h w.eui w.session) is.keyed in
+    subst (λ o. IsNewCounter o w.fcnt) (sym (opened-session net index h frame w is join keyed)) above
 
 opened-keys : (net : Network) (index : ℕ) (h : List Entry) (frame : List ℕ) (w : WindowName) → IsOpened net index h frame w →
     keys_in (devices_in net index h) w ≡ Some (nwk_of (session_join h w.eui w.session), app_of (session_join h w.eui w.session))
-opened-keys net index h frame w is = step (session_join h w.eui w.session) refl is.keyed
+opened-keys net index h frame w is =
+    let (join, keyed) = some-of (session_join h w.eui w.session) is.keyed in
+    let own = own-some net index h w.eui is.shard is.known in
+    ap (option_and_then (λ (o : Own). keys_of (session_in o.state w.session))) own.1
+    ∙ (ap (λ (e : DevEui). keys_of (session_in (device_record net h e) w.session)) own.2
+    ∙ (ap keys_of (opened-session net index h frame w is join keyed)
+    ∙ ap (λ (j : Option JoinAns). Some (nwk_of j, app_of j)) (sym keyed)))
   where
     keys_of : Option Session → Option (Key × Option Key)
     keys_of o = option_map (λ (s : Session). (s.nwk, s.app)) o
-
-    step : (j : Option JoinAns) → session_join h w.eui w.session ≡ j → IsSome j → keys_in (devices_in net index h) w ≡ Some (nwk_of (session_join h w.eui w.session), app_of (session_join h w.eui w.session))
-    step None none some = absurd (cc some)
-    step (Some join) keyed some =
-        let own = own-some net index h w.eui is.shard is.known in
-        ap (option_and_then (λ (o : Own). keys_of (session_in o.state w.session))) own.1
-        ∙ (ap (λ (e : DevEui). keys_of (session_in (device_record net h e) w.session)) own.2
-        ∙ (ap keys_of (opened-session net index h frame w is join keyed)
-        ∙ ap (λ (j : Option JoinAns). Some (nwk_of j, app_of j)) (sym keyed)))
 
 has-place : (net : Network) (index : ℕ) (h : List Entry) (devices : List Own) (windows : List Window) (frame : List ℕ) (w : WindowName) → Agrees net index h devices windows → IsOpened net index h frame w → HasPlace devices windows w
 has-place net index h devices windows frame w agrees is = record {
@@ -286,36 +245,21 @@ can_open net index h devices windows frame heard agrees law mine =
 -- ---- after it
 
 -- where a copy is added there is room for it, and none where the window is crowded
-room-of : (net : Network) (h : List Entry) (frame : List ℕ) (w : WindowName) (place : ℕ) → reply_to_uplink net h frame ≡ reply.Copied w place → length (window_copies h w) < most_copies
-room-of net h frame w place = uplink-has (λ r. r ≡ reply.Copied w place → length (window_copies h w) < most_copies) net h frame (record {
-  copied = λ o is room said. subst (λ (v : WindowName). length (window_copies h v) < most_copies) (same o.window (length (window_copies h o.window) + 1) said) room;
-  crowded = λ o is full said. absurd (cc said);
-  opened = λ f none is room said. absurd (cc said);
-  again = λ f round none is confirmed next room said. absurd (cc said);
-  busy = λ recover f is said. absurd (cc said);
-  old = λ f is said. absurd (cc said);
-  none = λ said. absurd (cc said);
-})
-  where
-    same : (v : WindowName) (n : ℕ) → reply.Copied v n ≡ reply.Copied w place → v ≡ w
-    same v n said = cc
+abbrev HasRoom : List Entry → Reply → Type 0
+HasRoom h (reply.Copied w place) = length (window_copies h w) < most_copies
+HasRoom h (reply.Crowded w) = nat_lt (length (window_copies h w)) most_copies ≡ false
+HasRoom h _ = Unit {0}
 
-full-of : (net : Network) (h : List Entry) (frame : List ℕ) (w : WindowName) → reply_to_uplink net h frame ≡ reply.Crowded w → nat_lt (length (window_copies h w)) most_copies ≡ false
-full-of net h frame w = uplink-has (λ r. r ≡ reply.Crowded w → nat_lt (length (window_copies h w)) most_copies ≡ false) net h frame (record {
-  copied = λ o is room said. absurd (cc said);
-  crowded = λ o is full said. subst (λ (v : WindowName). nat_lt (length (window_copies h v)) most_copies ≡ false) (same o.window said) (not_less (length (window_copies h o.window)) full);
-  opened = λ f none is room said. absurd (cc said);
-  again = λ f round none is confirmed next room said. absurd (cc said);
-  busy = λ recover f is said. absurd (cc said);
-  old = λ f is said. absurd (cc said);
-  none = λ said. absurd (cc said);
+has-room : (net : Network) (h : List Entry) (frame : List ℕ) → HasRoom h (reply_to_uplink net h frame)
+has-room net h frame = uplink-has (HasRoom h) net h frame (record {
+  copied = λ o is room. room;
+  crowded = λ o is full. le-ltb (length (window_copies h o.window)) most_copies full;
+  opened = λ f none is room. tt;
+  again = λ f round none is confirmed next room. tt;
+  busy = λ recover f is. tt;
+  old = λ f is. tt;
+  none = tt;
 })
-  where
-    same : (v : WindowName) → reply.Crowded v ≡ reply.Crowded w → v ≡ w
-    same v said = cc
-
-    not_less : (n : ℕ) → most_copies ≤ n → nat_lt n most_copies ≡ false
-    not_less n full = grind (arith, nat_tests, full)
 
 -- the devices and the windows after an uplink
 record After (net : Network) (index : ℕ) (h g : List Entry) (frame : List ℕ) (heard : Heard) (r : Reply) : Type 0 where
@@ -326,9 +270,6 @@ after-of : (net : Network) (index : ℕ) (h : List Entry) (devices : List Own) (
     shard_of_addr (record { 0 = (data_fields frame).addr }) ≡ index → (r : Reply) → reply_to_uplink net h frame ≡ r → After net index h (with_call net h (length h) (call.Uplink frame heard)) frame heard r
 after-of net index h devices windows frame heard agrees stay law mine r is = step r is
   where
-    c : Call
-    c = call.Uplink frame heard
-
     e : Entry
     e = entry_for net h (length h) (call.Uplink frame heard)
 
@@ -345,28 +286,23 @@ after-of net index h devices windows frame heard agrees stay law mine r is = ste
     windows_opened w opened says copied =
         ap (λ keys. with_window frame heard w keys (windows_in h)) (opened-keys net index h frame w opened)
         ∙ sym (windows-opened h e (opening_of w frame heard) (joined net index h devices windows agrees) opened.keyed closes_none says copied opened.apart.copies
-        (none-found (λ (o : Opening). same_window o.window w) (open_windows h) opened.apart.name))
+        (none_found (λ (o : Opening). same_window o.window w) (open_windows h) opened.apart.name))
 
     quiet : (x : Reply) → reply_to_uplink net h frame ≡ x → history.window_in (call.Uplink frame heard) x ≡ None → window_copy_in (call.Uplink frame heard) x ≡ None → windows_in h ≡ windows_in (h ++ e ∷ [])
     quiet x said opens copies =
         sym (windows-quiet h e (joined net index h devices windows agrees) closes_none (ap (history.window_in (call.Uplink frame heard)) said ∙ opens) (ap (window_copy_in (call.Uplink frame heard)) said ∙ copies))
-
-    -- a reply that changes no device and no window
-    still : (x : Reply) → reply_to_uplink net h frame ≡ x → ((eui : DevEui) → concerns eui (call.Uplink frame heard) x ≡ false) → history.window_in (call.Uplink frame heard) x ≡ None → window_copy_in (call.Uplink frame heard) x ≡ None
-        → with_shard_uplink x (devices_in net index h) ≡ devices_in net index h → with_copy_or_window x frame heard (devices_in net index h) (windows_in h) ≡ windows_in h → After net index h (h ++ e ∷ []) frame heard x
-    still x said none opens copies devices_stay windows_stay = record { devices_after = devices_stay ∙ unconcerned x said none; windows_after = windows_stay ∙ quiet x said opens copies }
 
     step : (x : Reply) → reply_to_uplink net h frame ≡ x → After net index h (h ++ e ∷ []) frame heard x
     step (reply.Copied w place) said = record {
       devices_after = unconcerned (reply.Copied w place) said (λ eui. refl);
       windows_after =
           sym (windows-copied h e w heard (joined net index h devices windows agrees) closes_none (ap (history.window_in (call.Uplink frame heard)) said) (ap (window_copy_in (call.Uplink frame heard)) said)
-          (room-of net h frame w place said));
+          (subst (HasRoom h) said (has-room net h frame)));
     }
     step (reply.Crowded w) said = record {
       devices_after = unconcerned (reply.Crowded w) said (λ eui. refl);
       windows_after =
-          copied-full h w heard (full-of net h frame w said)
+          copied-full h w heard (subst (HasRoom h) said (has-room net h frame))
           ∙ quiet (reply.Crowded w) said refl refl;
     }
     step (reply.Opened w) said =
@@ -392,7 +328,7 @@ after-of net index h devices windows frame heard agrees stay law mine r is = ste
               ∙ sym (law.again (length h) frame heard w next.counter (omega (arith, round)))));
           windows_after = windows_opened w opened (ap (history.window_in (call.Uplink frame heard)) said) (ap (window_copy_in (call.Uplink frame heard)) said);
         }
-    step x said = still x said (λ d. refl) refl refl refl refl
+    step x said = record { devices_after = unconcerned x said (λ eui. refl); windows_after = quiet x said refl refl }
 
 pub agrees-uplink : (net : Network) (index : ℕ) (h : List Entry) (devices : List Own) (windows : List Window) (frame : List ℕ) (heard : Heard) → Agrees net index h devices windows → OthersStay → UplinksAgree net h →
     shard_of_addr (record { 0 = (data_fields frame).addr }) ≡ index → (r : Reply) → reply_to_uplink net h frame ≡ r →

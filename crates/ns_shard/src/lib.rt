@@ -4,7 +4,7 @@
 //! the entries made before, that a call adds exactly its own entry, and that where memory is refused nothing has changed. It answers
 //! from its records, and never searches its entries. `Shards::run` takes steps, from their bytes on, to the sixteen shards: each
 //! makes the entry that the plain server makes, or is refused. It stands on `ns_devices`, `ns_windows` and `ns_journal`, on `ns_sent`
-//! for what goes out, on `ns_keep` for trims, and on the definitions of `ns_calls`.
+//! for what goes out, on `ns_keep` for trims, on `ns_joinwire` for join servers' answers, and on the definitions of `ns_calls`.
 #![tactic(auto)]
 
 mod boxed;

@@ -146,7 +146,7 @@ impl BoxedAnswer {
         })
     }
 
-    // The answer where something was ended. It stays a function of its own, so that a call that ends nothing makes no room for a window.
+    // The answer where something was ended. It stays a function of its own, so that a call that ends nothing makes no room for what goes out.
     #[inline(never)]
     fn ending(alloc: Global, roster: &Roster, ended: Ended) -> Result<BoxedAnswer, AllocError>
         ensures { IfOk result (λ a. a ≡ answer_of roster.now (event.Ended ended)) }

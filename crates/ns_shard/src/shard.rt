@@ -157,7 +157,7 @@ impl Shard {
     }
 
     /// Trims the shard as `trim` does, in the memory of its entries: those that are dropped are handed out to nobody, and their room stays
-    /// for later ones.
+    /// for later ones (no clause).
     pub fn trim_in_place(&mut self, alloc: Global) -> Result<(), TrimFault>
         ensures kept { OnOk result (self.new ≡ after_trim self.old) }
         ensures full { result ≡ Err Full → 2 ^ 63 + length (after_trim self.old).entries < self.old.made }

@@ -34,7 +34,7 @@ after_news before (Heard window addr gateway is_new) now =
 abbrev pub noted : News → ℕ → Option Device → Option Device
 noted news now before = Some (after_news before news now)
 
--- how many counters of the session, up to the greatest that was heard, were not heard
+-- how many counters of the session, from 0 to the greatest that was heard, were not counted as new
 abbrev pub missed_of : Option ℕ → ℕ → ℕ
 missed_of None counters = 0
 missed_of (Some fcnt) counters = (fcnt + 1) - counters

@@ -14,7 +14,7 @@ use std::alloc::{AllocError, Global};
 /// When and by which gateway a device was heard.
 #[derive(Clone, Copy, Debug, PartialEq, Eq)]
 pub struct HeardBy {
-    /// When, in milliseconds since the server began.
+    /// When, in milliseconds of the server's clock.
     pub at_ms: u64,
     pub gateway: GatewayId,
 }
@@ -26,11 +26,11 @@ pub struct Device {
     pub session: u32,
     /// Its address in that session.
     pub addr: DevAddr,
-    /// When the session was first told of, in milliseconds since the server began.
+    /// When the session was first told of, in milliseconds of the server's clock.
     pub since_ms: u64,
     /// How many new counters were heard in the session.
     pub counters: u32,
-    /// The greatest of them.
+    /// The greatest counter that was heard in it, also by a copy alone.
     pub fcnt: Option<u32>,
     /// When it was heard last.
     pub heard: Option<HeardBy>,
@@ -101,7 +101,7 @@ impl Device {
         }
     }
 
-    /// How many counters of the session, up to the greatest that was heard, were not heard.
+    /// How many counters of the session, from 0 to the greatest that was heard, were not counted as new.
     pub fn missed(&self) -> u64
         ensures { result ≡ missed self.now }
     {

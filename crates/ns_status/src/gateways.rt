@@ -18,7 +18,7 @@ const MOST: usize = 65_536;
 pub struct Gateway {
     /// How many frames it was heard with.
     pub frames: u64,
-    /// When it was heard last, in milliseconds since the server began.
+    /// When it was heard last, in milliseconds of the server's clock.
     pub at_ms: u64,
 }
 

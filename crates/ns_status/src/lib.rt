@@ -7,7 +7,7 @@
 //!   Prometheus; `page_text` for a browser, which has its script in itself and asks for the others.
 //! - HTTP/1.1, one request a connection: `read_request` reads a head of at most 4,096 bytes, and `head_of` is that of a response.
 //!
-//! Each text is exactly the one that `specs/` defines. Stands on ns_types, ns_views, ns_roster and ns_calls, and on arrayvec, hex,
+//! Each text but the page's is exactly the one that `specs/` defines. Stands on ns_types, ns_views, ns_roster and ns_calls, and on arrayvec, hex,
 //! httparse, indexmap, itoa, lru and serde_json of the kit.
 #![tactic(auto)]
 

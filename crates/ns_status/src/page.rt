@@ -48,7 +48,7 @@ a { color: inherit; }
 <body>
 <header><h1>LoRaWAN network server</h1><span id="state">asking ..</span></header>
 <div id="tiles"></div>
-<h2>Devices that joined</h2>
+<h2>Devices heard since the start</h2>
 <div class="bar"><input id="find" type="search" placeholder="DevEUI, address or gateway" aria-label="Find devices"><span id="shown"></span></div>
 <div class="wide"><table id="devices"></table></div>
 <h2>Gateways</h2>
@@ -83,7 +83,7 @@ const number = n => n === null ? "-" : n.toLocaleString("en").replace(/,/g, "\u2
 const tables = {
   devices: { by: "devEui", up: true, columns: [
     ["devEui", "DevEUI", d => d.devEui, "id"], ["devAddr", "Address", d => d.devAddr, "id"],
-    ["session", "Session", d => number(d.session)], ["sinceMs", "Joined", d => ago(devices.nowMs, d.sinceMs)],
+    ["session", "Session", d => number(d.session)], ["sinceMs", "Known since", d => ago(devices.nowMs, d.sinceMs)],
     ["fCnt", "Last FCnt", d => number(d.fCnt)], ["missed", "Missed", d => number(d.missed)],
     ["heardMs", "Heard", d => ago(devices.nowMs, d.heardMs)], ["gatewayId", "By gateway", d => d.gatewayId || "-", "id"]] },
   gateways: { by: "heardMs", up: false, columns: [
@@ -131,7 +131,7 @@ function show() {
   const word = at("find").value.trim().toLowerCase();
   const all = devices.devices;
   const found = word ? all.filter(d => d.devEui.includes(word) || d.devAddr.includes(word) || (d.gatewayId || "").includes(word)) : all.slice();
-  draw("devices", found, devices, all.length ? "None of them has that." : "No device has joined yet.");
+  draw("devices", found, devices, all.length ? "None of them has that." : "No device was heard yet.");
   const shown = Math.min(found.length, MOST);
   at("shown").textContent = shown < found.length ? number(shown) + " of " + number(found.length) + " are shown: find, or sort by a column" : number(shown) + " shown";
   const heard = gateways.gateways;
@@ -155,7 +155,7 @@ function showCounts(text) {
   }
   const opened = of["reply opened"], lost = of["dropped"] + of["failed receives"];
   tiles.replaceChildren();
-  for (const [value, name] of [[of["sessions"], "of " + number(of["devices"]) + " devices joined"], [of["gateways"], "gateways heard"],
+  for (const [value, name] of [[of["sessions"], "of " + number(of["devices"]) + " devices heard"], [of["gateways"], "gateways heard"],
       [opened, "new uplinks"], [of["datagrams"], "datagrams"], [of["open windows"], "open windows"], [of["open tickets"], "open tickets"], [lost, "datagrams lost"]]) {
     const tile = made("div", undefined, "tile");
     tile.append(made("b", number(value)), made("span", name));

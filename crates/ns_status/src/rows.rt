@@ -23,7 +23,7 @@ pub(crate) fn put_number(text: &mut String, n: u64) -> Result<(), AllocError>
     text.push_str(Buffer::new().format(n))
 }
 
-/// Puts what stands before the rows: at which moment of the server's clock they were read, when the server began, in milliseconds since
+/// Puts what stands before the rows: at which moment of the server's clock they were read, when that clock was 0, in milliseconds since
 /// 1970, and the name of the list.
 pub fn put_front(
     text: &mut String,

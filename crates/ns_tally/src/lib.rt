@@ -1,8 +1,8 @@
 //! Sixteen ledgers under one name: how many entries each worker has made in each shard, and how many were made in all.
 //!
 //! A ledger is std's `sync::ledger`: a book, which holds the total, and shares of it, which hold what each worker has added. Its name
-//! is part of its type, so sixteen ledgers are sixteen types. Nothing above this crate has sixteen of anything for that: `ShardBook` is the book of
-//! a shard that is a value, and `Shares` is a worker's share of each ledger. The crate stands on std alone.
+//! is part of its type, so sixteen ledgers are sixteen types. Above this crate only `Server::locked` names the sixteen books, to put each under
+//! its lock: `ShardBook` is the book of a shard that is a value, and `Shares` is a worker's share of each ledger. The crate stands on std alone.
 #![tactic(auto)]
 
 ghost use Rattle.std.specs.Prelude.{◌≡◌, ◌+◌, ◌≤◌, ◌<◌, ℕ, List, [], ◌∷◌, slice_index, slice_set, length};

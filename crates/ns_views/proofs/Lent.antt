@@ -21,10 +21,6 @@ WorksOnParts-call g work bytes r after lent left uplink are met shows same_lengt
   uplink = IsDataUplink-replaced bytes left.now after uplink are same_length writes;
 }
 
--- a front of a front of a front
-take_of_fronts : (n p m : ℕ) (bytes : List ℕ) → n ≤ p → p ≤ m → take n (take p (take m bytes)) ≡ take n bytes
-take_of_fronts n p m bytes h k = take-take n p (take m bytes) h ∙ take-take n m bytes (omega arith)
-
 -- a part within a front
 part_of_front : (o p : ℕ) (bytes : List ℕ) → 8 + o ≤ p → take o (drop 8 (take p bytes)) ≡ take o (drop 8 bytes)
 part_of_front o p bytes h =
@@ -45,7 +41,7 @@ payload-part o p m bytes e h f =
 -- the header, the options and the payload, from two cuts of the frame
 module _ (bytes front head : List ℕ) (o p m : ℕ) (front-is : front ≡ take m bytes) (head-is : head ≡ take p front) (order : 8 + o ≤ p) (inside : p ≤ m) where
   header-cut : (part : List ℕ) → part ≡ take 8 head → part ≡ take 8 bytes
-  header-cut part e = e ∙ ap (take 8) (head-is ∙ ap (take p) front-is) ∙ take_of_fronts 8 p m bytes (omega arith) inside
+  header-cut part e = e ∙ ap (take 8) (head-is ∙ ap (take p) front-is ∙ take-take p m bytes inside) ∙ take-take 8 p bytes (omega arith)
 
   options-cut : (rest : List ℕ) → rest ≡ drop 8 head → o ≡ fopts_len bytes → take o rest ≡ take (fopts_len bytes) (drop 8 bytes)
   options-cut rest e f =

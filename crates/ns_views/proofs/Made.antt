@@ -27,14 +27,7 @@ pub record IsJoinSized (bytes : List ℕ) : Type 0 where
 -- the bytes up to the options are these parts
 pub header-is : (bytes : List ℕ) → 8 ≤ length bytes → take 8 bytes ≡ get_or bytes 0 0 ∷ take 4 (drop 1 bytes) ++ (get_or bytes 5 0 ∷ take 2 (drop 6 bytes))
 header-is (a ∷ b ∷ c ∷ d ∷ e ∷ f ∷ g ∷ h ∷ bytes) p = refl
-header-is [] p = absurd (omega arith)
-header-is (a ∷ []) p = absurd (omega arith)
-header-is (a ∷ b ∷ []) p = absurd (omega arith)
-header-is (a ∷ b ∷ c ∷ []) p = absurd (omega arith)
-header-is (a ∷ b ∷ c ∷ d ∷ []) p = absurd (omega arith)
-header-is (a ∷ b ∷ c ∷ d ∷ e ∷ []) p = absurd (omega arith)
-header-is (a ∷ b ∷ c ∷ d ∷ e ∷ f ∷ []) p = absurd (omega arith)
-header-is (a ∷ b ∷ c ∷ d ∷ e ∷ f ∷ g ∷ []) p = absurd (omega arith)
+header-is bytes p = absurd (omega arith)
 
 -- a port and what is behind it, or nothing
 pub ported-first_byte : (bytes : List ℕ) → ported (first_byte bytes) (drop 1 bytes) ≡ bytes
@@ -47,10 +40,6 @@ signed-parts bytes h =
     let k = fopts_len bytes in
     sym (take-append-drop (8 + k) (signed bytes))
     ∙ ap (λ front. front ++ port_and_payload bytes) (take-take (8 + k) (length bytes - 4) bytes (omega (arith, h.options)) ∙ take-add 8 k bytes)
-
--- MHDR is its three parts
-mhdr-is : (b : ℕ) → b % 4 ≡ 0 → b ≡ mhdr (b / 32) (b % 32 / 4)
-mhdr-is b h = omega arith
 
 -- numbers of 4, 2 and 8 bytes are below that power
 below_4 : (bytes : List ℕ) → ((i : ℕ) → get_or bytes i 0 < 256) → from_le_bytes w32 bytes < 2 ^ 32
@@ -85,7 +74,7 @@ frame-is bytes b h =
     let options = take (fopts_len bytes) (drop 8 bytes) in
     let rest = port_and_payload bytes in
     let sized = h.least in
-    let first : get_or bytes 0 0 ≡ mhdr (ftype_of bytes) (get_or bytes 0 0 % 32 / 4) = mhdr-is (get_or bytes 0 0) h.major in
+    let first : get_or bytes 0 0 ≡ mhdr (ftype_of bytes) (get_or bytes 0 0 % 32 / 4) = omega (arith, h.major) in
     sym (take-append-drop (length bytes - 4) bytes)
     ∙ ap (λ front. front ++ drop (length bytes - 4) bytes)
     (signed-parts bytes h

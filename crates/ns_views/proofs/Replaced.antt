@@ -18,14 +18,8 @@ ported-payload : (port : Option ℕ) (payload : List ℕ) → IfNone port (paylo
 ported-payload None payload h = sym h
 ported-payload (Some port) payload h = refl
 
-split : (a b c d e : List ℕ) → a ++ (b ++ c ++ (d ++ e)) ≡ (a ++ (b ++ c ++ d)) ++ e
-split a b c d e = simp append_assoc
-
 before_mic-front : (reserved : ℕ) (d : DataFields) → IfNone d.port (d.payload ≡ []) → frame_before_mic reserved d ≡ front reserved d ++ d.payload
-before_mic-front reserved d h =
-    let header = mhdr d.ftype reserved ∷ to_le_bytes w32 d.addr in
-    let counter = d.fctrl ∷ to_le_bytes w16 d.fcnt16 in
-    ap (λ rest. header ++ (counter ++ d.fopts ++ rest)) (ported-payload d.port d.payload h) ∙ split header counter d.fopts (ported d.port []) d.payload
+before_mic-front reserved d h = rw (ported-payload d.port d.payload h) (simp append_assoc)
 
 -- no payload where there is no port
 kept_nil : (port : Option ℕ) (payload written : List ℕ) → IfNone port (payload ≡ []) → length written ≡ length payload → IfNone port (written ≡ [])

@@ -1,77 +1,47 @@
 -- A frame of the grammar passes the tests of a view, and bytes that pass them have no fault.
-use Rattle.std.proofs.Common.{◌≡◌, ℕ, ◌+◌, ◌-◌, ◌*◌, ◌%◌, ◌≤◌, ◌≢◌, ◌⊎◌, List, [], ◌∷◌, ◌++◌, length, take, drop, ap, Option, None, Some, refl, sym, subst, ◌∙◌, IsTrue, inl, inr, arith, length-append}
-use Rattle.std.specs.Int.{w16, w32, w64, to_le_bytes}
+use Rattle.std.proofs.Common.{◌≡◌, ℕ, ◌+◌, ◌-◌, ◌⊎◌, List, [], ◌∷◌, ◌++◌, length, take, drop, ap, Option, None, Some, refl, sym, ◌∙◌, IsTrue, inl, inr, arith, length-append}
+use Rattle.std.specs.Int.{w16, w32, to_le_bytes}
 use Rattle.std.proofs.lemmas.Bool.Decides.{nat_tests}
-use Rattle.std.proofs.lemmas.Bool.{cases_eq}
 use Rattle.std.proofs.lemmas.List.{take-append-drop}
 use Rattle.ns_views.specs.Grammar.{DataFields, JoinFields, IsDataUplink, IsJoinRequest, mhdr, ported, frame_before_mic, join_request}
-use Rattle.ns_views.specs.Frame.{fopts_len, port_and_payload, ftype_of, major_of, data_fields, join_fields, is_join_type, is_data_type, view_fault, parts_fault}
-use Rattle.ns_views.proofs.Reading.{ftype-is}
+use Rattle.ns_views.specs.Frame.{fopts_len, port_and_payload, ftype_of, data_fields, join_fields, is_join_type, is_data_type, view_fault, parts_fault}
+use Rattle.ns_views.proofs.Reading.{frame, ftype-is}
 use Rattle.ns_views.specs.Laws.{HasNoReading, PartsCover, FaultsAreExact, PartsFaultsAreExact}
 use Rattle.ns_types.specs.Cases.{when, first_of}
 use Rattle.ns_views.specs.declared.ViewFault.{ViewFault}
 use Rattle.ns_views.specs.declared.ViewFault.TheVariants.{FrameType}
 use Rattle.ns_views.proofs.Made.{IsDataSized, IsJoinSized, IsDataUplink-sized, IsJoinRequest-sized, signed-parts, ported-first_byte}
 
--- the grammar's frame with these fields
-abbrev frame : ℕ → DataFields → List ℕ
-frame reserved d = frame_before_mic reserved d ++ d.mic
-
 length-frame : (reserved : ℕ) (d : DataFields) → length (frame reserved d) ≡ 8 + length d.fopts + length (ported d.port d.payload) + length d.mic
 length-frame reserved d = omega (arith, length-append (frame_before_mic reserved d) d.mic, length-append (mhdr d.ftype reserved ∷ to_le_bytes w32 d.addr) (d.fctrl ∷ to_le_bytes w16 d.fcnt16 ++ d.fopts ++ ported d.port d.payload), length-append (d.fctrl ∷ to_le_bytes w16 d.fcnt16 ++ d.fopts) (ported d.port d.payload), length-append (d.fctrl ∷ to_le_bytes w16 d.fcnt16) d.fopts)
-
-major-frame : (reserved : ℕ) (d : DataFields) → major_of (frame reserved d) ≡ 0
-major-frame reserved d = byte d.ftype reserved
-  where
-    byte : (t r : ℕ) → (t * 32 + r * 4) % 4 ≡ 0
-    byte t r = omega arith
 
 -- an uplink passes the tests of a data frame
 pub IsDataSized-uplink : (bytes : List ℕ) (d : DataFields) → IsDataUplink bytes d → IsDataSized bytes
 IsDataSized-uplink bytes d h =
     let r = h.0.parts.0 in
-    let e = h.0.parts.2 in
     let len = length-frame r d in
     let opts = h.0.fopts in
     let mic = h.0.mic in
-    let P : List ℕ → Type 0 = λ b. length b ≤ 255 → IsDataSized b in
-    let made : P (frame r d) = λ most. record {
-      major = major-frame r d;
+    rw h.0.parts.2 (record {
+      major = omega arith;
       ftype = elim (h.1) [ inl t ↦ inl (ftype-is r d h.0.parts.1 ∙ t) | inr t ↦ inr (ftype-is r d h.0.parts.1 ∙ t) ];
       least = omega arith;
       options = omega arith;
-      most = most;
-    } in
-    subst P (sym e) made h.0.size
+      most = rw h.0.parts.2 at h.0.size;
+    })
 
 -- a Join-Request passes its tests
 pub IsJoinSized-request : (bytes : List ℕ) (j : JoinFields) → IsJoinRequest bytes j → IsJoinSized bytes
 IsJoinSized-request bytes j h =
-    let reserved = h.parts.0 in
     let below = h.parts.1 in
     let mic = h.mic in
-    let P : List ℕ → Type 0 = λ b. IsJoinSized b in
-    let made : P (mhdr join_request reserved ∷ to_le_bytes w64 j.join_eui ++ to_le_bytes w64 j.dev_eui ++ to_le_bytes w16 j.nonce ++ j.mic) = record {
-      major = omega arith;
-      ftype = omega arith;
-      size = omega arith;
-    } in
-    subst P (sym h.parts.2) made
+    rw h.parts.2 (record { major = omega arith; ftype = omega arith; size = omega arith })
 
 pub view_fault-data : (bytes : List ℕ) → IsDataSized bytes → view_fault bytes ≡ None
-view_fault-data bytes h =
-    let most = h.most in
-    let least = h.least in
-    let options = h.options in
-    let major = h.major in
-    elim (h.ftype) [ inl t ↦ grind (arith, nat_tests) | inr t ↦ grind (arith, nat_tests) ]
+view_fault-data bytes h = grind (arith, nat_tests)
 
 pub view_fault-join : (bytes : List ℕ) → IsJoinSized bytes → view_fault bytes ≡ None
-view_fault-join bytes h =
-    let size = h.size in
-    let major = h.major in
-    let type = h.ftype in
-    grind (arith, nat_tests)
+view_fault-join bytes h = grind (arith, nat_tests)
 
 -- bytes with no fault pass the tests of a view
 join_sized : (bytes : List ℕ) → view_fault bytes ≡ None → ftype_of bytes ≡ join_request → IsJoinSized bytes
@@ -90,23 +60,15 @@ data_sized bytes h t = record {
   most = elim t [ inl e ↦ grind (arith, nat_tests) | inr e ↦ grind (arith, nat_tests) ];
 }
 
-no_other_type : (bytes : List ℕ) → view_fault bytes ≡ None → ftype_of bytes ≢ 0 → ftype_of bytes ≢ 2 → ftype_of bytes ≡ 4
-no_other_type bytes h n m = grind (arith, nat_tests)
+types : (bytes : List ℕ) → view_fault bytes ≡ None → (ftype_of bytes ≡ 0) ⊎ ((ftype_of bytes ≡ 2) ⊎ (ftype_of bytes ≡ 4))
+types bytes h = grind (arith, nat_tests)
 
 pub sized-no_fault : (bytes : List ℕ) → view_fault bytes ≡ None → IsDataSized bytes ⊎ IsJoinSized bytes
-sized-no_fault bytes h =
-    elim (cases_eq (ftype_of bytes) 0) [
-      | inl e ↦ inr (join_sized bytes h e)
-      | inr n ↦ elim (cases_eq (ftype_of bytes) 2) [
-        | inl e ↦ inl (data_sized bytes h (inl e))
-        | inr m ↦ inl (data_sized bytes h (inr (no_other_type bytes h n m)))
-      ]
-    ]
+sized-no_fault bytes h = elim (types bytes h) [ inl join ↦ inr (join_sized bytes h join) | inr other ↦ inl (data_sized bytes h other) ]
 
 -- the types of a data uplink
 pub data_type-cases : (bytes : List ℕ) → IsTrue (is_data_type bytes) → (ftype_of bytes ≡ 2) ⊎ (ftype_of bytes ≡ 4)
-data_type-cases bytes h =
-    elim (cases_eq (ftype_of bytes) 2) [ inl e ↦ inl e | inr n ↦ inr (grind (arith, nat_tests)) ]
+data_type-cases bytes h = grind (arith, nat_tests)
 
 -- bytes with a fault have no reading
 pub no_reading : (bytes : List ℕ) (fault : ViewFault) → view_fault bytes ≡ Some fault → HasNoReading bytes
@@ -126,7 +88,7 @@ view_fault-exact bytes b = (
 parts_fault-data : (bytes : List ℕ) → IsDataSized bytes → parts_fault bytes ≡ None
 parts_fault-data bytes h =
     let e = view_fault-data bytes h in
-    rw e (elim (h.ftype) [ inl t ↦ grind (arith, nat_tests) | inr t ↦ grind (arith, nat_tests) ])
+    rw e (grind (arith, nat_tests))
 
 -- no case holds, so the first one does not
 first_of-none : {X : Type 0} (a : Option X) (cases : List (Option X)) → first_of (a ∷ cases) ≡ None → a ≡ None
@@ -136,7 +98,6 @@ first_of-none (Some x) cases h = cc
 parts_fault-join : (bytes : List ℕ) → IsJoinSized bytes → parts_fault bytes ≡ Some FrameType
 parts_fault-join bytes h =
     let e = view_fault-join bytes h in
-    let t = h.ftype in
     rw e (grind (arith, nat_tests))
 
 pub parts_fault-exact : PartsFaultsAreExact

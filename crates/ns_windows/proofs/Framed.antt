@@ -1,52 +1,37 @@
 -- The names by frame, and windows of which no two have one frame.
-use Rattle.std.proofs.Common.{◌≡◌, ℕ, Bool, true, false, not, cond, List, [], ◌∷◌, ◌++◌, filter, map, find, bytes_eq, Option, None, Some, unwrap_or, option_map, refl, sym, ap, ap₂, subst, ◌∙◌, inl, inr}
+use Rattle.std.proofs.Common.{◌≡◌, ℕ, Bool, true, false, not, cond, List, [], ◌∷◌, ◌++◌, map, find, bytes_eq, Option, None, Some, option_map, refl, sym, ap, ap₂, subst, ◌∙◌, inl, inr}
 use Rattle.std.proofs.lemmas.Cmp.{nat_list_eq_equiv}
 use Rattle.std.specs.List.{AllByRecursion}
 use Rattle.std.specs.Map.{lookup, KeepsOthers}
+use Rattle.std.specs.Option.{option_or}
+use Rattle.std.proofs.lemmas.List.Folds.{find-append}
 use Rattle.std.proofs.lemmas.Slice.Eq.{bytes_eq-Decides}
 use Rattle.ns_types.specs.declared.identity.WindowName.{WindowName}
 use Rattle.ns_calls.proofs.LocalLemmas.{bool_tells}
 use Rattle.ns_windows.specs.declared.window.Window.{Window}
 use Rattle.ns_windows.specs.Windows.{is_named, is_of, window_of_frame, without, AreApart, AreOfFrames}
 use Rattle.ns_windows.proofs.Names.{none_else}
-use Rattle.ns_windows.proofs.Places.{NonePasses, filter-none}
-use Rattle.ns_windows.proofs.Pairs.{NoTwo-filter, NoTwo-push, NoTwo-map}
-use Rattle.ns_calls.proofs.Lists.{All-filter, find-none}
+use Rattle.ns_windows.proofs.Places.{NonePasses, filter-none, found_cases}
+use Rattle.ns_windows.proofs.Pairs.{NoTwo-push, NoTwo-map}
+use Rattle.ns_calls.proofs.Lists.{All-filter, find-none, find-has, at_some}
 
 bytes_sym : (a b : List ℕ) → bytes_eq a b ≡ bytes_eq b a
 bytes_sym a b = nat_list_eq_equiv.symm a b
 
 -- ---- a window more
 
-abbrev or_else : {X : Type 0} → Option X → Option X → Option X
-or_else None r = r
-or_else (Some x) r = Some x
-
-lookup-push : {F : Type 0} (test : F → Bool) (es : List (F × WindowName)) (k : F) (n : WindowName) → lookup test (es ++ (k, n) ∷ []) ≡ or_else (lookup test es) (cond (test k) (Some n) None)
+lookup-push : {F : Type 0} (test : F → Bool) (es : List (F × WindowName)) (k : F) (n : WindowName) → lookup test (es ++ (k, n) ∷ []) ≡ option_or (lookup test es) (cond (test k) (Some n) None)
 lookup-push test [] k n = refl
-lookup-push {F} test (e ∷ es) k n = step (test e.0) (lookup-push test es k n)
-  where
-    step : (b : Bool) → lookup test (es ++ (k, n) ∷ []) ≡ or_else (lookup test es) (cond (test k) (Some n) None)
-        → cond {A = Option WindowName} b (Some e.1) (lookup test (es ++ (k, n) ∷ [])) ≡ or_else (cond {A = Option WindowName} b (Some e.1) (lookup test es)) (cond (test k) (Some n) None)
-    step true later = refl
-    step false later = later
+lookup-push test (e ∷ es) k n =
+    elim (bool_tells (test e.0)) [
+      | inl is ↦ rw is
+      | inr isnt ↦ rw isnt (lookup-push test es k n)
+    ]
 
-find-push : (test : Window → Bool) (ws : List Window) (w : Window) → find test (ws ++ w ∷ []) ≡ or_else (find test ws) (cond (test w) (Some w) None)
-find-push test [] w = refl
-find-push test (v ∷ ws) w = step (test v) (find-push test ws w)
-  where
-    step : (b : Bool) → find test (ws ++ w ∷ []) ≡ or_else (find test ws) (cond (test w) (Some w) None)
-        → cond {A = Option Window} b (Some v) (find test (ws ++ w ∷ [])) ≡ or_else (cond {A = Option Window} b (Some v) (find test ws)) (cond (test w) (Some w) None)
-    step true later = refl
-    step false later = later
-
-map-or : (a b : Option Window) → option_map (λ w. w.name) (or_else a b) ≡ or_else (option_map (λ w. w.name) a) (option_map (λ w. w.name) b)
-map-or None b = refl
-map-or (Some w) b = refl
-
-map-last : (w : Window) (b : Bool) → cond {A = Option WindowName} b (Some w.name) None ≡ option_map (λ x. x.name) (cond {A = Option Window} b (Some w) None)
-map-last w true = refl
-map-last w false = refl
+name-or : (o : Option Window) (w : Window) (b : Bool) → option_or (option_map (λ v. v.name) o) (cond b (Some w.name) None) ≡ option_map (λ v. v.name) (option_or o (cond b (Some w) None))
+name-or None w true = refl
+name-or None w false = refl
+name-or (Some v) w b = refl
 
 module _ {F : Type 0} (bytes : F → List ℕ) where
   pub frames-push : (frames : List (F × WindowName)) (ws : List Window) (k : F) (w : Window) (frame : List ℕ) → bytes k ≡ w.frame
@@ -54,14 +39,10 @@ module _ {F : Type 0} (bytes : F → List ℕ) where
       → lookup (λ x. bytes_eq frame (bytes x)) (frames ++ (k, w.name) ∷ []) ≡ option_map (λ v. v.name) (window_of_frame frame (ws ++ w ∷ []))
   frames-push frames ws k w frame of_key agree =
       let same : bytes_eq frame (bytes k) ≡ is_of frame w = ap (λ b. bytes_eq frame b) of_key ∙ bytes_sym frame w.frame in
-      lookup-push (λ x. bytes_eq frame (bytes x)) frames k w.name
-      ∙ ap (λ b. or_else (lookup (λ x. bytes_eq frame (bytes x)) frames) (cond {A = Option WindowName} b (Some w.name) None)) same
-      ∙ ap (λ r. or_else r (cond {A = Option WindowName} (is_of frame w) (Some w.name) None)) agree
-      ∙ ap (λ r. or_else (option_map (λ v. v.name) (window_of_frame frame ws)) r) (map-last w (is_of frame w))
-      ∙ sym (map-or (window_of_frame frame ws) (cond {A = Option Window} (is_of frame w) (Some w) None))
-      ∙ ap (λ r. option_map (λ v. v.name) r) (sym (find-push (is_of frame) ws w))
+      rw (lookup-push (λ x. bytes_eq frame (bytes x)) frames k w.name, same, agree, find-append (is_of frame) ws (w ∷ []))
+      (name-or (window_of_frame frame ws) w (is_of frame w))
 
-abbrev of_one_frame : Window → Window → Bool
+abbrev pub of_one_frame : Window → Window → Bool
 of_one_frame w v = is_of w.frame v
 
 pub of_frames-push : (ws : List Window) (w : Window) → AreOfFrames ws → NonePasses (is_of w.frame) ws → AreOfFrames (ws ++ w ∷ [])
@@ -69,44 +50,29 @@ of_frames-push ws w apart new = NoTwo-push of_one_frame (λ x y differs. bytes_s
 
 -- ---- a window less
 
-pub of_frames-filter : (keep : Window → Bool) (ws : List Window) → AreOfFrames ws → AreOfFrames (filter keep ws)
-of_frames-filter keep ws apart = NoTwo-filter of_one_frame keep ws apart
-
-pub same_some : {X : Type 0} {x y : X} → Some x ≡ Some y → x ≡ y
-same_some {X} {x} e = ap (λ r. unwrap_or r x) e
-
 -- what holds of all holds of the one that is found
 pub All-found : (P : Window → Type 0) (test : Window → Bool) (ws : List Window) (w : Window) → AllByRecursion P ws → find test ws ≡ Some w → P w
-All-found P test [] w all found = absurd (cc found)
-All-found P test (v ∷ ws) w all found = step (test v) found (λ (rest : find test ws ≡ Some w). All-found P test ws w all.1 rest)
-  where
-    step : (b : Bool) → cond {A = Option Window} b (Some v) (find test ws) ≡ Some w → (find test ws ≡ Some w → P w) → P w
-    step true here later = subst P (same_some here) all.0
-    step false here later = later here
+All-found P test ws w all found = (at_some (λ v. P v × (test v ≡ true)) (find test ws) w found (find-has P test ws all)).0
 
 framed-gone : (name : WindowName) (ws : List Window) (w : Window) → AreOfFrames ws → find (is_named name) ws ≡ Some w → window_of_frame w.frame (without name ws) ≡ None
 framed-gone name [] w apart found = refl
-framed-gone name (v ∷ ws) w apart found = step (is_named name v) found (λ (rest : find (is_named name) ws ≡ Some w). framed-gone name ws w apart.1 rest)
-  where
-    step : (b : Bool) → cond {A = Option Window} b (Some v) (find (is_named name) ws) ≡ Some w → (find (is_named name) ws ≡ Some w → window_of_frame w.frame (without name ws) ≡ None)
-        → window_of_frame w.frame (cond {A = List Window} (not b) (v ∷ without name ws) (without name ws)) ≡ None
-    step true here later =
-        subst (λ (x : Window). window_of_frame x.frame (without name ws) ≡ None) (same_some here)
-        (find-none (is_of v.frame) (without name ws) (All-filter (λ u. is_of v.frame u ≡ false) (λ u. not (is_named name u)) ws apart.0))
-    step false here later =
-        let differs : is_of w.frame v ≡ false = bytes_sym v.frame w.frame ∙ All-found (λ u. is_of v.frame u ≡ false) (is_named name) ws w apart.0 here in
-        ap (λ b. cond {A = Option Window} b (Some v) (window_of_frame w.frame (without name ws))) differs ∙ later here
+framed-gone name (v ∷ ws) w apart found =
+    elim (found_cases (is_named name v) v w (find (is_named name) ws) found) [
+      | inl here ↦
+          rw (here.0, ← here.1)
+          (find-none (is_of v.frame) (without name ws) (All-filter (λ u. is_of v.frame u ≡ false) (λ u. not (is_named name u)) ws apart.0))
+      | inr rest ↦
+          (let differs : is_of w.frame v ≡ false = bytes_sym v.frame w.frame ∙ All-found (λ u. is_of v.frame u ≡ false) (is_named name) ws w apart.0 rest.1 in
+          rw (rest.0, differs) (framed-gone name ws w apart.1 rest.1))
+    ]
 
 framed-kept : (name : WindowName) (ws : List Window) (w : Window) (frame : List ℕ) → AreApart ws → find (is_named name) ws ≡ Some w → is_of frame w ≡ false → window_of_frame frame (without name ws) ≡ window_of_frame frame ws
 framed-kept name [] w frame apart found other = refl
-framed-kept name (v ∷ ws) w frame apart found other = step (is_named name v) refl found (λ (rest : find (is_named name) ws ≡ Some w). framed-kept name ws w frame apart.1 rest other)
-  where
-    step : (b : Bool) → is_named name v ≡ b → cond {A = Option Window} b (Some v) (find (is_named name) ws) ≡ Some w → (find (is_named name) ws ≡ Some w → window_of_frame frame (without name ws) ≡ window_of_frame frame ws)
-        → window_of_frame frame (cond {A = List Window} (not b) (v ∷ without name ws) (without name ws)) ≡ window_of_frame frame (v ∷ ws)
-    step true is here later =
-        ap (λ us. window_of_frame frame us) (filter-none (is_named name) ws (none_else name v ws is apart.0))
-        ∙ sym (ap (λ b. cond {A = Option Window} b (Some v) (window_of_frame frame ws)) (ap (is_of frame) (same_some here) ∙ other))
-    step false is here later = ap (λ r. cond {A = Option Window} (is_of frame v) (Some v) r) (later here)
+framed-kept name (v ∷ ws) w frame apart found other =
+    elim (found_cases (is_named name v) v w (find (is_named name) ws) found) [
+      | inl here ↦ rw (here.0, filter-none (is_named name) ws (none_else name v ws here.0 apart.0), ap (is_of frame) here.1 ∙ other)
+      | inr rest ↦ rw (rest.0, framed-kept name ws w frame apart.1 rest.1 other)
+    ]
 
 module _ {F : Type 0} (bytes : F → List ℕ) where
   kept_others : (frames after : List (F × WindowName)) (w : Window) (frame : List ℕ)
@@ -139,11 +105,10 @@ module _ (f : Window → Window) (name : (w : Window) → (f w).name ≡ w.name)
   pub framed-map : (frame : List ℕ) (ws : List Window) → option_map (λ v. v.name) (window_of_frame frame (map f ws)) ≡ option_map (λ v. v.name) (window_of_frame frame ws)
   framed-map frame [] = refl
   framed-map frame (w ∷ ws) =
-      ap (λ b. option_map (λ v. v.name) (cond {A = Option Window} (bytes_eq b frame) (Some (f w)) (window_of_frame frame (map f ws)))) (of_frame w) ∙ step (is_of frame w) (framed-map frame ws)
-    where
-      step : (b : Bool) → option_map (λ v. v.name) (window_of_frame frame (map f ws)) ≡ option_map (λ v. v.name) (window_of_frame frame ws) → option_map (λ v. v.name) (cond {A = Option Window} b (Some (f w)) (window_of_frame frame (map f ws))) ≡ option_map (λ v. v.name) (cond {A = Option Window} b (Some w) (window_of_frame frame ws))
-      step true later = ap (λ n. Some n) (name w)
-      step false later = later
+      elim (bool_tells (is_of frame w)) [
+        | inl is ↦ rw (of_frame w, is, name w)
+        | inr isnt ↦ rw (of_frame w, isnt, framed-map frame ws)
+      ]
 
   pub of_frames-map : (ws : List Window) → AreOfFrames ws → AreOfFrames (map f ws)
   of_frames-map ws apart = NoTwo-map of_one_frame f (λ w v. ap₂ (λ a b. bytes_eq a b) (of_frame v) (of_frame w)) ws apart

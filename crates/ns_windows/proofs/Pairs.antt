@@ -1,17 +1,16 @@
 -- Lists of which no two pass a test together.
-use Rattle.std.proofs.Common.{◌≡◌, Bool, true, false, cond, List, [], ◌∷◌, ◌++◌, filter, map, ◌∙◌}
+use Rattle.std.proofs.Common.{◌≡◌, Bool, false, List, [], ◌∷◌, ◌++◌, filter, map, ◌∙◌}
 use Rattle.std.specs.List.{AllByRecursion}
+use Rattle.std.proofs.lemmas.Bool.{cond_both}
 use Rattle.ns_calls.proofs.Lists.{All-filter, All-push}
 use Rattle.ns_windows.specs.Windows.{NoTwo}
 
 module _ {X : Type 0} (test : X → X → Bool) where
   pub NoTwo-filter : (keep : X → Bool) (xs : List X) → NoTwo test xs → NoTwo test (filter keep xs)
   NoTwo-filter keep [] apart = tt
-  NoTwo-filter keep (x ∷ xs) apart = step (keep x) (All-filter (λ y. test x y ≡ false) keep xs apart.0) (NoTwo-filter keep xs apart.1)
-    where
-      step : (b : Bool) → AllByRecursion (λ y. test x y ≡ false) (filter keep xs) → NoTwo test (filter keep xs) → NoTwo test (cond b (x ∷ filter keep xs) (filter keep xs))
-      step true here later = (here, later)
-      step false here later = later
+  NoTwo-filter keep (x ∷ xs) apart =
+      let rest = NoTwo-filter keep xs apart.1 in
+      cond_both (keep x) _ _ (NoTwo test) (λ _. (All-filter (λ y. test x y ≡ false) keep xs apart.0, rest)) (λ _. rest)
 
   pub NoTwo-push : ((x y : X) → test x y ≡ false → test y x ≡ false) → (xs : List X) (x : X) → NoTwo test xs → AllByRecursion (λ y. test x y ≡ false) xs → NoTwo test (xs ++ x ∷ [])
   NoTwo-push back [] x apart new = (tt, tt)

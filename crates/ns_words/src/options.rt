@@ -146,7 +146,7 @@ pub enum BadWords {
     NoMemory,
     /// A word is no UTF-8.
     NotText,
-    /// The value of this option is none that it can have.
+    /// The value of this option is none that it can have, or it is `record` and stands beside `--closing`.
     BadValue(OptionName),
     /// Bad words, or a request for help or the version: the text to print, and whether it is an error.
     Shown(clap::Error),
@@ -602,8 +602,9 @@ fn read_command<'a>(name: &str, found: &ArgMatches<'a>) -> Result<Asked<'a>, Bad
 }
 
 /// What the words ask for, each field by the option of its name. Where clap finds a fault in them by the program's rules, as an option that
-/// is unknown or a number out of its range, a text that says so is to be printed; and `BadValue` names an option of `serve` just where its
-/// value is none that it can have. Want of memory is told as such, and never as a text to print.
+/// is unknown or a number out of its range, a text that says so is to be printed; and `BadValue` names an option of `serve` only where its
+/// value is none that it can have, or `record`, where it stands beside `--closing`. Want of memory is told as such, and never as a text
+/// to print.
 pub fn read_words<'a>(alloc: Global, words: &'a [String]) -> Result<Asked<'a>, BadWords>
     ensures told { IfErr result IsTold }
     ensures refused { IfErr result (IsRefusal (map string_bytes words.now)) }

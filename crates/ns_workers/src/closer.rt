@@ -64,8 +64,8 @@ pub(crate) fn hand_out<B: Naming, R, G, D: Downlinks<R>, M: Monitor<R>, T: Timer
     write_uplink(shared.rt, shared.output, timer, due, sink, &receipt.uplink)
 }
 
-/// Closes the windows of at most `limit` jobs, each as it becomes due, sends what goes down, and writes the line of each that was
-/// open, with a line feed. Room for the receipts is taken first. Each receipt tells the plain server's answer after a history of its
+/// Closes the windows of at most `limit` jobs, each as it becomes due, sends what goes down, and writes the line of each first window
+/// that was open, with a line feed. Room for the receipts is taken first. Each receipt tells the plain server's answer after a history of its
 /// shard.
 ///
 /// With no fault and fewer receipts than `limit` the source has ended. K1 where a growth was refused: then nothing was done with the

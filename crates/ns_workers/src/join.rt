@@ -189,8 +189,8 @@ fn answer_job<
 /// can be used, as failed. About a ticket that is older than `MOST_AGE_MS` when its turn comes it is not asked. In which order the
 /// tickets come is the source's business.
 ///
-/// With no fault the source has ended. K1 where the call was refused for want of memory: then the ticket taken last was not open (no clause). K2
-/// where the source failed. K3 never comes.
+/// With no fault the source has ended, or 2^63 tickets were taken. K1 where the call was refused for want of memory: then the ticket taken
+/// last was not open (no clause). K2 where the source failed. K3 never comes.
 #[tactic(auto, using(crate::proofs::Answerings::answered_first, crate::proofs::Answerings::answered_next, crate::proofs::Answerings::answers_end, crate::proofs::Answerings::answers_full, crate::proofs::Answerings::answers_broken, crate::proofs::Answerings::answers_refused,))]
 pub fn run_join<
     B: Naming,

@@ -5,30 +5,44 @@ use ns_calls::shard_of_call;
 use ns_shard::Shard;
 use std::alloc::Global;
 
-// The shard of the device, once it has joined.
-fn joined(alloc: Global) -> Option<Shard> {
-    let mut shard = Shard::new(alloc, roster(alloc)?, 13).ok()?;
-    for line in [JOIN, JOIN_2, ANSWERED] {
-        let call = call_of(alloc, line)?;
-        if shard_of_call(&call) != shard.index() {
-            return None;
-        }
-        shard.apply(call).ok()?;
+// Makes the call of a step line at the shard of its device.
+fn is_made(alloc: Global, shard: &mut Shard, line: &str) -> bool {
+    let Some(call) = call_of(alloc, line) else {
+        return false;
+    };
+    if shard_of_call(&call) != shard.index() {
+        return false;
     }
-    Some(shard)
+    shard.apply(call).is_ok()
 }
 
-// How many entries a trim in place leaves of these three, and whether they are those that a trim leaves. None where memory was refused.
-fn left(alloc: Global) -> Option<(usize, bool)> {
-    let mut shard = joined(alloc)?;
-    let mut other = joined(alloc)?;
-    shard.trim_in_place(alloc).ok()?;
-    let _dropped = other.trim(alloc).ok()?;
-    let same = shard.entries() == other.entries() && shard.mark() == other.mark();
-    Some((shard.entries().len(), same))
+// Makes a join of two copies and its answer.
+fn is_joined(alloc: Global, shard: &mut Shard) -> bool {
+    is_made(alloc, shard, JOIN) && is_made(alloc, shard, JOIN_2) && is_made(alloc, shard, ANSWERED)
+}
+
+// Whether a trim in place leaves of a join the one entry that a trim leaves.
+fn is_alike(alloc: Global, one: &mut Shard, other: &mut Shard) -> bool {
+    if !is_joined(alloc, one) || !is_joined(alloc, other) {
+        return false;
+    }
+    if one.trim_in_place(alloc).is_err() || other.trim(alloc).is_err() {
+        return false;
+    }
+    one.entries().len() == 1 && one.entries() == other.entries() && one.mark() == other.mark()
+}
+
+// A shard without entries.
+fn new_shard(alloc: Global) -> Option<Shard> {
+    Shard::new(alloc, roster(alloc)?, 13).ok()
 }
 
 #[test]
 fn a_trim_in_place_leaves_what_a_trim_leaves(rt: HostRuntime) {
-    assert!(rt; left(rt.alloc()) == Some((1, true)));
+    let alloc = rt.alloc();
+    let is_right = match (new_shard(alloc), new_shard(alloc)) {
+        (Some(mut one), Some(mut other)) => is_alike(alloc, &mut one, &mut other),
+        _ => false,
+    };
+    assert!(rt; is_right);
 }

@@ -179,8 +179,8 @@ pub fn at_once<B: Naming + Send + Sync, R: Threads + Wait + Abort + Clock + Sync
     let (one, two) = two_of(passes)?;
     let gate = Until::new();
     let answered = held(rt, &server, one, two, &gate);
-    assert_eq!(rt; answered, (0, 15));
-    assert_eq!(rt; gate.saw(), [0, 0]);
+    assert!(rt; answered == (0, 15));
+    assert!(rt; gate.saw() == [0, 0]);
     Ok(())
 }
 
@@ -224,11 +224,11 @@ pub fn one_after_the_other<B: Naming + Send + Sync, R: Threads + Wait + Abort + 
     passes: Vec<Pass<B>>,
 ) -> Result<(), Fail> {
     let (mut one, two) = two_of(passes)?;
-    assert_eq!(rt; one_call(rt, &server, &mut one, 0, &Open), 0);
+    assert!(rt; one_call(rt, &server, &mut one, 0, &Open) == 0);
     let gate = Turns::new();
     let numbers = in_turn(rt, &server, one, two, &gate);
-    assert_eq!(rt; numbers, (1, 2));
-    assert_eq!(rt; gate.saw(), [0, 2, 1, 2]);
+    assert!(rt; numbers == (1, 2));
+    assert!(rt; gate.saw() == [0, 2, 1, 2]);
     Ok(())
 }
 

@@ -111,7 +111,7 @@ pub fn calls_refused<B: Naming, R: Wait + Abort>(
     let pass = passes.last_mut().ok_or("no pass")?;
     let right = run_refused(rt, alloc, &server, pass)?;
     let settled = settled_by(server, passes)?;
-    assert_eq!(rt; (right, settled.total()), (6, 6));
+    assert!(rt; (right, settled.total()) == (6, 6));
     Ok(())
 }
 
@@ -209,10 +209,10 @@ pub fn closed_without<B: Naming, R: Wait + Abort>(
 ) -> Result<(), Fail> {
     let pass = passes.last_mut().ok_or("no pass")?;
     let (opened, ended, answered) = all_closed(rt, alloc, &server, pass)?;
-    assert_eq!(rt; (opened, ended), (14, 12));
+    assert!(rt; (opened, ended) == (14, 12));
     let answered = answered.ok_or("memory was not refused")?;
     let settled = settled_by(server, passes)?;
-    assert_eq!(rt; settled.total(), 26u128.wrapping_add(u128::from(answered)));
+    assert!(rt; settled.total() == 26u128.wrapping_add(u128::from(answered)));
     Ok(())
 }
 
@@ -281,13 +281,10 @@ pub fn trim_refused<B: Naming, R: Wait + Abort>(
 ) -> Result<(), Fail> {
     let pass = passes.last_mut().ok_or("no pass")?;
     let (opened, trimmed, ended) = trimmed_at_last(rt, alloc, &server, pass)?;
-    assert_eq!(rt; (opened, ended), (14, 12));
+    assert!(rt; (opened, ended) == (14, 12));
     let (refused, out) = trimmed.ok_or("a trim was refused otherwise")?;
-    assert_eq!(rt; (refused > 0, out), (true, 1));
+    assert!(rt; (refused > 0, out) == (true, 1));
     let settled = settled_by(server, passes)?;
-    assert_eq!(rt;
-        (settled.total(), settled.mark(13), settled.dropped(13)),
-        (26, 14, 1)
-    );
+    assert!(rt; (settled.total(), settled.mark(13), settled.dropped(13)) == (26, 14, 1));
     Ok(())
 }

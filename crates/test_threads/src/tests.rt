@@ -24,7 +24,7 @@ pub fn day<B: Naming + Send + Sync, R: Threads + Wait + Abort + Sync>(
     passes: Vec<Pass<B>>,
 ) -> Result<(), Fail> {
     let (mut settled, mut receipts) = served(rt, alloc, server, passes, Work::Hear)?;
-    assert_eq!(rt; (settled.total(), receipts.len()), (600, 600));
+    assert!(rt; (settled.total(), receipts.len()) == (600, 600));
     counted(rt, receipts.as_slice());
     changed_is_found(rt, &settled, &mut receipts);
     again_is_found(rt, &settled, &mut receipts)?;
@@ -45,7 +45,7 @@ fn counted<R: Abort>(rt: &R, receipts: &[Receipt]) {
         };
         counts[place] = counts[place].wrapping_add(1);
     }
-    assert_eq!(rt; counts, [100, 100, 100, 300]);
+    assert!(rt; counts == [100, 100, 100, 300]);
 }
 
 // A receipt of the same entry with which nothing goes out.
@@ -65,7 +65,7 @@ fn is_found<B: Naming, R: Abort>(
     receipts: &[Receipt],
     want: Result<(), usize>,
 ) {
-    assert_eq!(rt; settled.check(receipts), want);
+    assert!(rt; settled.check(receipts) == want);
 }
 
 // All receipts pass; one whose reply is changed is found at its place.
@@ -74,7 +74,7 @@ fn changed_is_found<B: Naming, R: Abort>(
     settled: &Settled<B>,
     receipts: &mut Vec<Receipt>,
 ) {
-    assert_eq!(rt; receipts.len(), 600);
+    assert!(rt; receipts.len() == 600);
     is_found(rt, settled, receipts.as_slice(), Ok(()));
     let reply = receipts[250].entry.reply;
     receipts[250].entry.reply = Reply::JoinBusy;
@@ -88,7 +88,7 @@ fn again_is_found<B: Naming, R: Abort>(
     settled: &Settled<B>,
     receipts: &mut Vec<Receipt>,
 ) -> Result<(), AllocError> {
-    assert_eq!(rt; receipts.len(), 600);
+    assert!(rt; receipts.len() == 600);
     let again = bare(&receipts[250]);
     receipts.push(again)?;
     is_found(rt, settled, receipts.as_slice(), Err(600));
@@ -103,8 +103,8 @@ fn drained_pass<B: Naming, R: Abort>(
     receipts: &mut Vec<Receipt>,
 ) -> Result<(), AllocError> {
     drained(settled, receipts)?;
-    assert_eq!(rt; receipts.len(), 700);
-    assert_eq!(rt; settled.total(), 700);
+    assert!(rt; receipts.len() == 700);
+    assert!(rt; settled.total() == 700);
     is_found(rt, settled, receipts.as_slice(), Ok(()));
     receipts[699].downlink = None;
     is_found(rt, settled, receipts.as_slice(), Err(699));
@@ -149,7 +149,7 @@ pub fn held_back<B: Naming, R: Wait + Abort>(
 // One call by a pass.
 fn makes_one<B: Naming, R: Wait + Abort>(rt: &R, server: &Server<B>, one: &mut Pass<B>) {
     let made = server.call(rt, one, traffic::join(0, 1), &Open).is_ok();
-    assert_eq!(rt; (made, one.made(0)), (true, 1));
+    assert!(rt; (made, one.made(0)) == (true, 1));
 }
 
 // The pass that was missing is given back, and the server settled.
@@ -161,11 +161,8 @@ fn given_back<B: Naming, R: Abort>(
     let SettleFault { server, mut passes } = fault;
     let pushed = passes.push(one).is_ok();
     let settled = settled_by(server, passes)?;
-    assert_eq!(rt; (pushed, settled.total()), (true, 1));
-    assert_eq!(rt;
-        (settled.history(0).len(), settled.history(1).len()),
-        (1, 0)
-    );
+    assert!(rt; (pushed, settled.total()) == (true, 1));
+    assert!(rt; (settled.history(0).len(), settled.history(1).len()) == (1, 0));
     Ok(())
 }
 
@@ -186,10 +183,10 @@ pub fn random_run<B: Naming + Send + Sync, R: Threads + Wait + Abort + Sync>(
     calls: usize,
 ) -> Result<(), Fail> {
     let (mut settled, mut receipts) = served(rt, alloc, server, passes, Work::Wander)?;
-    assert_eq!(rt; receipts.len(), calls);
+    assert!(rt; receipts.len() == calls);
     is_found(rt, &settled, receipts.as_slice(), Ok(()));
     drained(&mut settled, &mut receipts)?;
-    assert_eq!(rt; settled.total(), receipts.len() as u128);
+    assert!(rt; settled.total() == receipts.len() as u128);
     is_found(rt, &settled, receipts.as_slice(), Ok(()));
     Ok(())
 }

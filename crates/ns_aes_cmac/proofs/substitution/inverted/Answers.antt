@@ -1,7 +1,7 @@
 use Rattle.std.proofs.Common.{bit_xor, refl}
 use Rattle.std.proofs.lemmas.Simd.{zip2_of_maps}
 use Rattle.ns_aes_cmac.specs.Lookups.{look_at, inverses, inverses_times_a, low_half, high_half, both_halves, place_i, place_j, half_i, half_j}
-use Rattle.ns_aes_cmac.proofs.Lanes.{looked, places_of}
+use Rattle.ns_aes_cmac.proofs.Lanes.{looked, looked_both, places_of}
 use Rattle.ns_aes_cmac.proofs.substitution.inverted.Goals as goal
 
 pub look-a-requires : goal.look-a-requires
@@ -15,27 +15,22 @@ look-requires-2 c = places_of both_halves c.args.v c.fits-v.1 (zip2_of_maps bit_
 
 pub look-requires-3 : goal.look-requires-3
 look-requires-3 c =
-    let v = c.args.v in
-    places_of place_i v c.fits-v.1
-    (zip2_of_maps bit_xor (λ b. look_at inverses (high_half b)) (λ b. look_at inverses_times_a (low_half b)) v
-    (looked inverses high_half v c.look.ensures c.high-i.ensures) (looked inverses_times_a low_half v c.look-a.ensures c.low-k.ensures))
-    refl
+    let place = looked_both inverses inverses_times_a high_half low_half c.args.v c.high-i.ensures c.look.ensures c.low-k.ensures c.look-a.ensures in
+    places_of place_i c.args.v c.fits-v.1 place refl
 
 pub look-requires-4 : goal.look-requires-4
 look-requires-4 c =
     let v = c.args.v in
     let both = zip2_of_maps bit_xor high_half low_half v c.high-i.ensures c.low-k.ensures in
-    places_of place_j v c.fits-v.1
-    (zip2_of_maps bit_xor (λ b. look_at inverses (both_halves b)) (λ b. look_at inverses_times_a (low_half b)) v
-    (looked inverses both_halves v c.look-2.ensures both) (looked inverses_times_a low_half v c.look-a.ensures c.low-k.ensures))
-    refl
+    let place = looked_both inverses inverses_times_a both_halves low_half v both c.look-2.ensures c.low-k.ensures c.look-a.ensures in
+    places_of place_j v c.fits-v.1 place refl
 
 pub returns-clause-i : goal.returns-clause-i
 unfolding half_i
 returns-clause-i c =
     let v = c.args.v in
     let both = zip2_of_maps bit_xor high_half low_half v c.high-i.ensures c.low-k.ensures in
-    let place = zip2_of_maps bit_xor (λ b. look_at inverses (high_half b)) (λ b. look_at inverses_times_a (low_half b)) v (looked inverses high_half v c.look.ensures c.high-i.ensures) (looked inverses_times_a low_half v c.look-a.ensures c.low-k.ensures) in
+    let place = looked_both inverses inverses_times_a high_half low_half v c.high-i.ensures c.look.ensures c.low-k.ensures c.look-a.ensures in
     zip2_of_maps bit_xor (λ b. look_at inverses (place_i b)) both_halves v (looked inverses place_i v c.look-3.ensures place) both
 
 pub returns-clause-j : goal.returns-clause-j
@@ -43,21 +38,13 @@ unfolding half_j
 returns-clause-j c =
     let v = c.args.v in
     let both = zip2_of_maps bit_xor high_half low_half v c.high-i.ensures c.low-k.ensures in
-    let place = zip2_of_maps bit_xor (λ b. look_at inverses (both_halves b)) (λ b. look_at inverses_times_a (low_half b)) v (looked inverses both_halves v c.look-2.ensures both) (looked inverses_times_a low_half v c.look-a.ensures c.low-k.ensures) in
+    let place = looked_both inverses inverses_times_a both_halves low_half v both c.look-2.ensures c.low-k.ensures c.look-a.ensures in
     zip2_of_maps bit_xor (λ b. look_at inverses (place_j b)) high_half v (looked inverses place_j v c.look-4.ensures place) c.high-i.ensures
 
 pub returns-clause-places_i : goal.returns-clause-places_i
 unfolding half_i
-returns-clause-places_i c =
-    let v = c.args.v in
-    let both = zip2_of_maps bit_xor high_half low_half v c.high-i.ensures c.low-k.ensures in
-    let place = zip2_of_maps bit_xor (λ b. look_at inverses (high_half b)) (λ b. look_at inverses_times_a (low_half b)) v (looked inverses high_half v c.look.ensures c.high-i.ensures) (looked inverses_times_a low_half v c.look-a.ensures c.low-k.ensures) in
-    places_of (λ b. bit_xor (look_at inverses (place_i b)) (both_halves b)) v c.fits-v.1 (zip2_of_maps bit_xor (λ b. look_at inverses (place_i b)) both_halves v (looked inverses place_i v c.look-3.ensures place) both) refl
+returns-clause-places_i c = places_of half_i c.args.v c.fits-v.1 (returns-clause-i c) refl
 
 pub returns-clause-places_j : goal.returns-clause-places_j
 unfolding half_j
-returns-clause-places_j c =
-    let v = c.args.v in
-    let both = zip2_of_maps bit_xor high_half low_half v c.high-i.ensures c.low-k.ensures in
-    let place = zip2_of_maps bit_xor (λ b. look_at inverses (both_halves b)) (λ b. look_at inverses_times_a (low_half b)) v (looked inverses both_halves v c.look-2.ensures both) (looked inverses_times_a low_half v c.look-a.ensures c.low-k.ensures) in
-    places_of (λ b. bit_xor (look_at inverses (place_j b)) (high_half b)) v c.fits-v.1 (zip2_of_maps bit_xor (λ b. look_at inverses (place_j b)) high_half v (looked inverses place_j v c.look-4.ensures place) c.high-i.ensures) refl
+returns-clause-places_j c = places_of half_j c.args.v c.fits-v.1 (returns-clause-j c) refl

@@ -1,4 +1,4 @@
-use Rattle.std.proofs.Common.{◌≡◌, IsAscii, ap, sym, subst, ◌∙◌}
+use Rattle.std.proofs.Common.{IsAscii, ap, sym, subst, ◌∙◌}
 use Rattle.hex.specs.Hex.{lower_digits}
 use Rattle.hex.proofs.HexLemmas.{IsAscii-encode_with}
 use Rattle.ns_calls.proofs.HexDigits.{ascii_digits, first_half, text_of_padded}

@@ -1,10 +1,10 @@
 use Rattle.std.proofs.Common.{◌≡◌, ◌+◌, ◌<◌, length, nat_eq, vec_capacity, true, [], ◌∷◌, ◌++◌, take, drop, refl, sym, ap, ◌∙◌, arith, rules}
 use Rattle.std.specs.List.{list_any}
 use Rattle.std.proofs.lemmas.Bool.{false≢true}
-use Rattle.std.proofs.lemmas.List.{take_more_set, drop-set-lt, length_push}
+use Rattle.std.proofs.lemmas.List.{take_more_set, drop-set-lt, length_push, get_or_read}
 use Rattle.std.proofs.Math.ListN.{length-set}
 use Rattle.ns_journal.specs.State.{with_numbers}
-use Rattle.ns_journal.proofs.Parting.{got_any, with-more, with-same, goes, same_rest, same_place}
+use Rattle.ns_journal.proofs.Parting.{got_any, with-more, with-same, goes, same_rest}
 use Rattle.ns_journal.proofs.journal.gather.Goals as goal
 use Rattle.ns_journal.proofs.journal.gather.Goals.{then-is_next, else-is_next}
 
@@ -22,14 +22,13 @@ entries-preserved c =
     elim c.if-is_next.branch [
       | then-is_next w ↦
           let moved = w.index-then-is_next.result.now in
-          let is : moved ≡ e = same_place now i moved e in_now w.index-then-is_next.ensures c.index.ensures in
+          let is : moved ≡ e = get_or_read now i moved in_now w.index-then-is_next.ensures e ∙ sym c.index.ensures in
           let stays : list_any (λ n. nat_eq n e.number) stay ≡ true = got_any stay c.entries.next e.number (w.if-is_next.ensures.0 refl) in
           let next = c.entries.next in
-          let in_next : next < length now = omega (arith, inv.within, in_now) in
           let front = with-more stay old i e in_old same.0 stays in
           record {
             front = ap (λ n. take n c.if-is_next.entries.items) w.next-is ∙ (ap (λ v. take (next + 1) v.items) w.entries-is
-                ∙ (take_more_set now next moved in_next ∙ (ap (λ x. take next now ++ x ∷ []) is ∙ (ap (λ xs. xs ++ e ∷ []) inv.front ∙ sym front))));
+                ∙ (take_more_set now next moved (omega (arith, inv.within, in_now)) ∙ (ap (λ x. take next now ++ x ∷ []) is ∙ (ap (λ xs. xs ++ e ∷ []) inv.front ∙ sym front))));
             met = ap length front ∙ (length_push (with_numbers stay (take i old)) e ∙ (ap (λ n. n + 1) inv.met ∙ sym w.next-is));
             within = omega (arith, inv.within, w.next-is);
             rest = ap (λ v. drop (i + 1) v.items) w.entries-is ∙ (drop-set-lt (i + 1) now next moved (omega (arith, inv.within)) ∙ same.1);

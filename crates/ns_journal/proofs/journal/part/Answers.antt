@@ -33,14 +33,13 @@ entries-preserved c =
           }
       | else-is_next w ↦
           let out = c.entries.out in
-          let in_out : out < length now = omega (arith, inv.parted, in_now) in
           let differs = goes stay old i e in_old same.0 c.requires.numbers c.entries.next (sym (ap length inv.kept) ∙ inv.met) (λ met. false≢true (w.if-is_next.ensures.1 met)) in
           record {
             kept = ap (λ v. v.items) w.kept-is ∙ (inv.kept ∙ sym (with-same stay old i e in_old same.0 differs));
             met = ap (λ v. length v.items) w.kept-is ∙ (inv.met ∙ sym w.next-is);
             count = ap vec_len w.kept-is ∙ (inv.count ∙ sym w.next-is);
             out = ap (λ n. take n c.if-is_next.entries.items) w.out-is ∙ (ap (λ v. take (out + 1) v.items) w.entries-is
-                ∙ (take_more_set now out e in_out ∙ (ap (λ xs. xs ++ e ∷ []) inv.out ∙ sym (without-more stay old i e in_old same.0 differs))));
+                ∙ (take_more_set now out e (omega (arith, inv.parted, in_now)) ∙ (ap (λ xs. xs ++ e ∷ []) inv.out ∙ sym (without-more stay old i e in_old same.0 differs))));
             parted = omega (arith, inv.parted, w.next-is, w.out-is);
             rest = ap (λ v. drop (i + 1) v.items) w.entries-is ∙ (drop-set-lt (i + 1) now out e (omega (arith, inv.parted)) ∙ same.1);
             len = ap (λ v. length v.items) w.entries-is ∙ (length-set now out e ∙ inv.len);

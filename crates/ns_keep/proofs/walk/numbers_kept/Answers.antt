@@ -1,5 +1,5 @@
-use Rattle.std.proofs.Common.{◌≡◌, List, [], ◌∷◌, ◌++◌, length, reverse, sym, ap, ◌∙◌, append_assoc, arith, rules}
-use Rattle.std.proofs.lemmas.List.{append-nil}
+use Rattle.std.proofs.Common.{◌≡◌, List, [], ◌∷◌, ◌++◌, length, reverse, sym, ap, ◌∙◌, append_assoc, rules}
+use Rattle.std.proofs.lemmas.List.{append-nil, nil_from_length}
 use Rattle.ns_calls.specs.declared.call.Entry.{Entry}
 use Rattle.ns_calls.specs.Entries.{said}
 use Rattle.ns_keep.specs.Tables.{numbers_kept}
@@ -47,8 +47,7 @@ walk-preserved g c =
     )
 
 none_left : (rest after entries : List Entry) → length rest ≡ 0 → rest ++ after ≡ entries → after ≡ entries
-none_left [] after entries empty whole = whole
-none_left (e ∷ rest) after entries empty whole = absurd (omega arith)
+none_left rest after entries empty whole = rw (nil_from_length rest empty) at whole
 
 pub returns : goal.returns
 returns g c = λ h are.

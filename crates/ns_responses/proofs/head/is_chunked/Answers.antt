@@ -1,7 +1,6 @@
 use Rattle.std.proofs.Common.{ap, sym, ◌∙◌, drop}
-use Rattle.std.proofs.lemmas.List.{take_rest}
+use Rattle.std.proofs.lemmas.List.{drop_min, take_rest}
 use Rattle.ns_responses.specs.Head.{is_chunked_text}
-use Rattle.ns_responses.proofs.HeadLemmas.{drop_min}
 use Rattle.ns_responses.proofs.head.is_chunked.Goals as goal
 
 pub returns-then-is_transfer_encoding : goal.returns-then-is_transfer_encoding

@@ -1,5 +1,6 @@
-use Rattle.std.proofs.Common.{ℕ, List, ◌++◌, Option, None, Result, Ok, Err, refl, ◌∙◌}
-use Rattle.std.specs.Prelude.{IfOk}
+use Rattle.std.proofs.Common.{ℕ, List, ◌++◌, Option, None, refl, ◌∙◌}
+use Rattle.std.proofs.KnownBytes.{Consumes-nil}
+use Rattle.std.proofs.lemmas.Result.{IfOk-weaker}
 use Rattle.std.specs.Arc.{arc_value}
 use Rattle.ns_roster.specs.Network.{Network}
 use Rattle.ns_resume.specs.declared.base.Base.{Base}
@@ -7,26 +8,21 @@ use Rattle.ns_resume.specs.declared.fault.RecordFault.{RecordFault}
 use Rattle.ns_resume.specs.Base.{head_text}
 use Rattle.ns_resume.specs.Resumed.{NamesLine}
 use Rattle.ns_resume.proofs.Lines.{known-then}
-use Rattle.ns_resume.proofs.UpLines.{consumes-none}
 use Rattle.ns_resume.proofs.Faults.{from_err, names-none}
 use Rattle.ns_resume.proofs.run.run_record.Goals as goal
-
-if_ok : {A E : Type 0} {P Q : A → Type 0} (r : Result A E) → ((a : A) → P a → Q a) → IfOk r P → IfOk r Q
-if_ok (Ok a) f p = f a p
-if_ok (Err e) f p = p
 
 pub returns-in_err-base-clause-fault : goal.returns-in_err-base-clause-fault
 returns-in_err-base-clause-fault g c =
     let net : Network = arc_value c.args.roster in
     let known : Option (List ℕ) = g.S.Read.remaining c.args.steps.now in
     let e : RecordFault = c.in_err-base.field-0.0 in
-    from_err c.from_residual.result (NamesLine net known) e (None, known, consumes-none known, names-none net 1 known e c.in_err-base.ensures.fault) c.from_residual.ensures.1
+    from_err c.from_residual.result (NamesLine net known) e (None, known, Consumes-nil known, names-none net 1 known e c.in_err-base.ensures.fault) c.from_residual.ensures.1
 
 pub returns-clause-resumed : goal.returns-clause-resumed
 returns-clause-resumed g c =
     let base : Option Base = c.in_ok-base.base in
     let (earlier, skipped, long) = c.in_ok-skip_ups.ensures.bytes in
-    if_ok c.run_lines.result
+    IfOk-weaker c.run_lines.result _ _
     (λ r (text, there, all, ups_all, run). (
       head_text base ++ text,
       earlier ++ there,

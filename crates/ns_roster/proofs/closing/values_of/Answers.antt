@@ -1,5 +1,5 @@
-use Rattle.std.proofs.Common.{◌≡◌, List, [], ◌∷◌, ◌++◌, refl}
-use Rattle.ns_roster.proofs.ClosingLemmas.{AreValues, AreValues-next, AreValues-all}
+use Rattle.std.proofs.Common.{refl}
+use Rattle.ns_roster.proofs.ClosingLemmas.{AreValues-next, AreValues-all}
 use Rattle.ns_roster.proofs.closing.values_of.Goals as goal
 
 pub loop-place-init : goal.loop-place-init
@@ -11,8 +11,7 @@ loop-place-preserved c =
     (AreValues-next c.args.devices.now c.args.nonces.now c.loop-place.place _ _ c.loop-place.values.items c.in_ok-device_value.field-0 c.requires c.loop-place-test.true c.loop-place.invariant
     c.in_ok-device_value.ensures.value c.in_ok-device_value.ensures.spells)
 
-pub returns-clause-values : goal.returns-clause-values
-returns-clause-values c = (AreValues-all c.args.devices.now c.args.nonces.now c.loop-place.place c.loop-place.values.items c.requires c.loop-place-test.false c.loop-place.invariant).values
-
-pub returns-clause-spell : goal.returns-clause-spell
-returns-clause-spell c = (AreValues-all c.args.devices.now c.args.nonces.now c.loop-place.place c.loop-place.values.items c.requires c.loop-place-test.false c.loop-place.invariant).spell
+pub returns : goal.returns
+returns c =
+    let all = AreValues-all c.args.devices.now c.args.nonces.now c.loop-place.place c.loop-place.values.items c.requires c.loop-place-test.false c.loop-place.invariant in
+    record { values = all.values; spell = all.spell }

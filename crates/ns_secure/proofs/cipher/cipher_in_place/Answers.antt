@@ -15,11 +15,9 @@ loop-pair-preserved c =
     let at = 32 * c.loop-pair.pair in
     let before = c.loop-pair.payload in
     let between = put_mid at (length before - at) before c.xor_block.new.bytes in
-    let first_len : length c.encrypt_two.result.0 ≡ 16 = omega arith in
-    let second_len : length c.encrypt_two.result.1 ≡ 16 = omega arith in
-    let one = more_enciphered key c.args.dir c.args.addr.0 c.args.counter c.args.payload.now before (2 * c.loop-pair.pair) c.encrypt_two.result.0 _ c.xor_block.new.bytes at (length before - at) (2 * c.loop-pair.pair + 1) c.loop-pair.invariant (omega arith) refl (omega arith) first_len (c.encrypt_two.ensures.first ∙ ap (aes key) c.a.ensures) (omega arith) (between_to_end before at (length before) (omega arith)) c.xor_block.ensures in
+    let one = more_enciphered key c.args.dir c.args.addr.0 c.args.counter c.args.payload.now before (2 * c.loop-pair.pair) c.encrypt_two.result.0 _ c.xor_block.new.bytes at (length before - at) (2 * c.loop-pair.pair + 1) c.loop-pair.invariant (omega arith) refl (omega arith) (omega arith) (c.encrypt_two.ensures.first ∙ ap (aes key) c.a.ensures) (omega arith) (between_to_end before at (length before) (omega arith)) c.xor_block.ensures in
     let last : 2 * (c.loop-pair.pair + 1) ≡ 2 * c.loop-pair.pair + 1 + 1 = omega arith in
-    let two = more_enciphered key c.args.dir c.args.addr.0 c.args.counter c.args.payload.now between (2 * c.loop-pair.pair + 1) c.encrypt_two.result.1 _ c.xor_block-in-loop-pair.new.bytes (at + 16) (length between - (at + 16)) (2 * c.loop-pair.pair + 1 + 1) one (omega arith) refl (omega arith) second_len (c.encrypt_two.ensures.second ∙ ap (aes key) c.a-in-loop-pair.ensures) (omega arith) (between_to_end between (at + 16) (length between) (omega arith)) c.xor_block-in-loop-pair.ensures in
+    let two = more_enciphered key c.args.dir c.args.addr.0 c.args.counter c.args.payload.now between (2 * c.loop-pair.pair + 1) c.encrypt_two.result.1 _ c.xor_block-in-loop-pair.new.bytes (at + 16) (length between - (at + 16)) (2 * c.loop-pair.pair + 1 + 1) one (omega arith) refl (omega arith) (omega arith) (c.encrypt_two.ensures.second ∙ ap (aes key) c.a-in-loop-pair.ensures) (omega arith) (between_to_end between (at + 16) (length between) (omega arith)) c.xor_block-in-loop-pair.ensures in
     rw last two
 
 pub returns-then-count-eq1 : goal.returns-then-count-eq1
@@ -29,5 +27,4 @@ returns-then-count-eq1 c =
     let at = 16 * (blocks - 1) in
     let before = c.loop-pair.payload in
     let count : blocks ≡ (length c.args.payload.now + 15) / 16 = omega (arith, c.div_ceil-count.ensures) in
-    let last_len : length c.encrypt-last.result ≡ 16 = omega arith in
-    all_enciphered key c.args.dir c.args.addr.0 c.args.counter c.args.payload.now _ blocks (more_enciphered key c.args.dir c.args.addr.0 c.args.counter c.args.payload.now before (2 * c.loop-pair.pair) c.encrypt-last.result _ c.xor_block-then-count-eq1.new.bytes at (length before - at) blocks c.loop-pair.invariant (omega arith) (omega arith) (omega arith) last_len (c.encrypt-last.ensures ∙ ap (aes key) c.a-then-count-eq1.ensures) (omega arith) (between_to_end before at (length before) (omega arith)) c.xor_block-then-count-eq1.ensures) count ∙ ap (λ (k : List ℕ). cipher k c.args.dir c.args.addr.0 c.args.counter c.args.payload.now) c.new-aes.ensures
+    all_enciphered key c.args.dir c.args.addr.0 c.args.counter c.args.payload.now _ blocks (more_enciphered key c.args.dir c.args.addr.0 c.args.counter c.args.payload.now before (2 * c.loop-pair.pair) c.encrypt-last.result _ c.xor_block-then-count-eq1.new.bytes at (length before - at) blocks c.loop-pair.invariant (omega arith) (omega arith) (omega arith) (omega arith) (c.encrypt-last.ensures ∙ ap (aes key) c.a-then-count-eq1.ensures) (omega arith) (between_to_end before at (length before) (omega arith)) c.xor_block-then-count-eq1.ensures) count ∙ ap (λ (k : List ℕ). cipher k c.args.dir c.args.addr.0 c.args.counter c.args.payload.now) c.new-aes.ensures

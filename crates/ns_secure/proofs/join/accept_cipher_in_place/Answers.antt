@@ -1,4 +1,4 @@
-use Rattle.std.proofs.Common.{◌≡◌, ℕ, ◌+◌, ◌-◌, ◌*◌, ◌∙◌, List, length, ap, arith}
+use Rattle.std.proofs.Common.{ℕ, ◌+◌, ◌-◌, ◌*◌, ◌∙◌, List, length, ap, arith}
 use Rattle.ns_aes_cmac.specs.Aes.{unaes}
 use Rattle.ns_secure.specs.Cipher.{each_block}
 use Rattle.ns_secure.proofs.Blocks.{none_changed, more_changed, all_changed}
@@ -9,8 +9,7 @@ loop-i-init c = none_changed (unaes c.new-aes.result) c.args.plain.now
 
 pub loop-i-preserved : goal.loop-i-preserved
 loop-i-preserved c =
-    let block_len : length c.decrypt-block.result ≡ 16 = omega arith in
-    more_changed (unaes c.new-aes.result) c.args.plain.now c.loop-i.plain c.copy_from_slice.new.self c.block_at.result c.loop-i.i (16 * c.loop-i.i + 16 - 16 * c.loop-i.i) c.loop-i.invariant c.block_at.ensures (c.copy_from_slice.ensures.after ∙ c.decrypt-block.ensures) (ap length c.copy_from_slice.ensures.after ∙ block_len) (omega arith)
+    more_changed (unaes c.new-aes.result) c.args.plain.now c.loop-i.plain c.copy_from_slice.new.self c.block_at.result c.loop-i.i (16 * c.loop-i.i + 16 - 16 * c.loop-i.i) c.loop-i.invariant c.block_at.ensures (c.copy_from_slice.ensures.after ∙ c.decrypt-block.ensures) (omega (arith, ap length c.copy_from_slice.ensures.after)) (omega arith)
 
 pub returns : goal.returns
 returns c =

@@ -4,20 +4,17 @@ use Rattle.std.proofs.lemmas.Bool.Decides.{eqb_tells}
 use Rattle.ns_roster.specs.Network.{Network}
 use Rattle.ns_shard.specs.State.{State, no_entries}
 use Rattle.ns_shard.proofs.run.new_shards.Goals as goal
+use Rattle.ns_shard.proofs.Maps.{at-front}
 
 at_push : (xs : List State) (y : State) (k : ℕ) → k < length xs → slice_get (xs ++ y ∷ []) k ≡ slice_get xs k
 at_push [] y k h = absurd (omega arith)
 at_push (x ∷ xs) y zero h = refl
 at_push (x ∷ xs) y (suc k) h = at_push xs y k (omega (arith, h))
 
-at_end : (xs : List State) (y : State) → slice_get (xs ++ y ∷ []) (length xs) ≡ Some y
-at_end [] y = refl
-at_end (x ∷ xs) y = at_end xs y
-
 -- the list with the next shard
 more : (net : Network) (list : List State) (n : ℕ) → length list ≡ n → ((k : ℕ) → k < n → slice_get list k ≡ Some (no_entries net k)) → (k : ℕ) → k < n + 1 → slice_get (list ++ no_entries net n ∷ []) k ≡ Some (no_entries net k)
 more net list n is each k h = elim (eqb_tells k n) [
-  | inl same ↦ rw same.1 (subst (λ m. slice_get (list ++ no_entries net n ∷ []) m ≡ Some (no_entries net n)) is (at_end list (no_entries net n)))
+  | inl same ↦ rw same.1 (subst (λ m. slice_get (list ++ no_entries net n ∷ []) m ≡ Some (no_entries net n)) is (at-front list [] (no_entries net n)))
   | inr other ↦ at_push list (no_entries net n) k (omega (arith, is, h, other.1)) ∙ each k (omega (arith, h, other.1))
 ]
 

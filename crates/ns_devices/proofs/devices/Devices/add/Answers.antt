@@ -19,13 +19,11 @@ entries c =
 
 pub invariant_of-self-2 : goal.invariant_of-self-2
 invariant_of-self-2 c =
-    let es = c.self.inside.list.entries in
-    let unique = c.insert.ensures.unique in
     rw (entries c)
     record {
-      euis = euis-push es c.args.own c.self.invariant.euis;
-      apart = rw (entries c) at unique;
-      places = places-added es c.self.inside.places.entries c.add_place.new.places.entries c.args.own c.self.invariant (rw c.len-place.ensures.len at c.in_ok-add_place.ensures.ok);
+      euis = euis-push c.self.inside.list.entries c.args.own c.self.invariant.euis;
+      apart = rw (entries c) at c.insert.ensures.unique;
+      places = places-added c.self.inside.list.entries c.self.inside.places.entries c.add_place.new.places.entries c.args.own c.self.invariant (rw c.len-place.ensures.len at c.in_ok-add_place.ensures.ok);
     }
 
 pub returns-clause-ok : goal.returns-clause-ok

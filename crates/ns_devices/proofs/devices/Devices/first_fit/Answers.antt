@@ -1,11 +1,8 @@
-use Rattle.std.proofs.Common.{◌≡◌, position, slice_get, Option, Some, IfSome, sym, ap, subst, ◌∙◌}
+use Rattle.std.proofs.Common.{◌≡◌, position, slice_get, Some, ap, subst, ◌∙◌}
 use Rattle.std.specs.List.{IsDistinct}
 use Rattle.std.specs.Map.{values_of}
-use Rattle.ns_types.specs.declared.identity.DevEui.{DevEui}
 use Rattle.ns_calls.specs.Entries.{same_device}
-use Rattle.ns_sessions.specs.Record.{IsNewCounter, session_in}
-use Rattle.ns_devices.specs.declared.own.Own.{Own}
-use Rattle.ns_devices.specs.Devices.{is_own, own_of}
+use Rattle.ns_devices.specs.Devices.{is_own}
 use Rattle.ns_devices.proofs.Positions.{find-placed}
 use Rattle.ns_devices.proofs.Euis.{place-own}
 use Rattle.ns_devices.proofs.devices.Devices.first_fit.Goals as goal
@@ -16,11 +13,8 @@ stands c = ap (slice_get (values_of c.self.inside.list.entries)) c.in-Some.ensur
 
 place : (c : In-Some) → position (is_own c.in-Some.fit.eui) c.args.self.now ≡ Some c.in-Some.fit.place
 place c =
-    let os = values_of c.self.inside.list.entries in
-    let eui : c.in-Some.fit.eui ≡ c.index.result.now.device.eui = c.in-Some.ensures.eui in
     let apart = subst (IsDistinct same_device) c.self.invariant.euis c.self.invariant.apart in
-    rw (← c.self.view_is)
-    (subst (λ (e : DevEui). position (is_own e) os ≡ Some c.in-Some.fit.place) (sym eui) (place-own os c.in-Some.fit.place c.index.result.now apart (stands c)))
+    rw (← c.self.view_is, c.in-Some.ensures.eui) (place-own (values_of c.self.inside.list.entries) c.in-Some.fit.place c.index.result.now apart (stands c))
 
 pub returns-in-Some-clause-place : goal.returns-in-Some-clause-place
 returns-in-Some-clause-place c = place c
@@ -28,6 +22,5 @@ returns-in-Some-clause-place c = place c
 pub returns-in-Some-clause-new : goal.returns-in-Some-clause-new
 returns-in-Some-clause-new c =
     let f = c.in-Some.fit in
-    let os = values_of c.self.inside.list.entries in
-    let found : own_of f.eui c.args.self.now ≡ Some c.index.result.now = find-placed (is_own f.eui) c.args.self.now f.place c.index.result.now (place c) (rw (← c.self.view_is) (stands c)) in
-    λ above. subst (λ (o : Option Own). IfSome o (λ x. IsNewCounter (session_in x.state f.session) f.counter)) (sym found) (c.in-Some.ensures.new above)
+    let found = find-placed (is_own f.eui) c.args.self.now f.place c.index.result.now (place c) (rw c.self.view_is at (stands c)) in
+    λ above. rw found (c.in-Some.ensures.new above)

@@ -13,10 +13,8 @@ returns-in-Blank c = λ text at. elim c.in-Blank.is [
 pub returns-in-Code : goal.returns-in-Code
 returns-in-Code c = λ text at. elim c.in-Code.is [
   | inl e ↦ status_end lf text (code_status text (subst (λ p. EndsAt p text) e at))
-  | inr q ↦ elim q [
-    | inl e ↦ status_end lf text (reason_status text (subst (λ p. EndsAt p text) e at))
-    | inr e ↦ feed_behind IsStatus IsLines (status_end crlf) text (subst (λ p. EndsAt p text) e at)
-  ]
+  | inr (inl e) ↦ status_end lf text (reason_status text (subst (λ p. EndsAt p text) e at))
+  | inr (inr e) ↦ feed_behind IsStatus IsLines (status_end crlf) text (subst (λ p. EndsAt p text) e at)
 ]
 
 pub returns-in-Value : goal.returns-in-Value

@@ -1,6 +1,6 @@
-use Rattle.std.proofs.Common.{◌≡◌, ℕ, ◌<◌, ◌≤◌, nat_le, Bool, true, false, List, [], ◌++◌, length, Result, Ok, Err, subst, sym, ap, ◌∙◌, arith}
-use Rattle.std.proofs.lemmas.Bool.Decides.{nat_tests}
-use Rattle.std.specs.Prelude.{OnOk}
+use Rattle.std.proofs.Common.{◌≡◌, ℕ, List, [], ◌++◌, length, subst, sym, ap, ◌∙◌}
+use Rattle.std.proofs.lemmas.Bool.{leb-true, leb-false}
+use Rattle.std.proofs.lemmas.Result.{on_ok_weaker}
 use Rattle.std.specs.Option.{option_map_or}
 use Rattle.ns_roster.specs.Network.{Network}
 use Rattle.ns_calls.specs.declared.answer.Uplink.{Uplink}
@@ -26,37 +26,21 @@ returns-in_err-answer-clause-fault g c =
     (λ net before steps read run. refused-answer net steps c.args.line.now c.args.number c.args.self.now.shards.items c.in_ok-call.call.now e run.shards c.in_ok-call.ensures.call c.in_err-answer.ensures.fault)
     c.from_residual-in_err-answer.ensures.1
 
-on_ok : {A E P Q : Type 0} (r : Result A E) → (P → Q) → OnOk r P → OnOk r Q
-on_ok (Ok a) f p = f p
-on_ok (Err e) f p = p
-
-within : (before long : ℕ) (is_new : Bool) → is_new ≡ nat_le before long → is_new ≡ true → before ≤ long
-within before long is_new is new = by (sym is ∙ new)
-  where
-    by : nat_le before long ≡ true → before ≤ long
-    by h = grind (arith, nat_tests, h)
-
-first : (before long : ℕ) (is_new : Bool) → is_new ≡ nat_le before long → is_new ≡ false → long < before
-first before long is_new is new = by (sym is ∙ new)
-  where
-    by : nat_le before long ≡ false → long < before
-    by h = grind (arith, nat_tests, h)
-
 pub returns-then-not-is_new-clause-run : goal.returns-then-not-is_new-clause-run
 returns-then-not-is_new-clause-run g c = λ net before steps read run is.
     runs-on-first net before steps c.args.line.now read c.args.self.now c.answer.new.self c.in_ok-call.call.now c.in_ok-answer.ensures.answered.0 run c.in_ok-call.ensures.call c.in_ok-answer.ensures.answered.1
-    (g.U.Read.remaining c.args.ups.now) (first before (length steps) c.args.is_new is c.if-not-is_new.true) c.answer.ensures.ups
+    (g.U.Read.remaining c.args.ups.now) (leb-false before (length steps) (sym is ∙ c.if-not-is_new.true)) c.answer.ensures.ups
 
 pub returns-in-Some-clause-run : goal.returns-in-Some-clause-run
 returns-in-Some-clause-run g c =
     let text : c.as_bytes.result.now ≡ up_text c.in-Some.uplink = c.as_bytes.ensures.value ∙ (c.as_str.ensures.value ∙ (c.put_lent_uplink.ensures ∙ (ap (λ (b : List ℕ). b ++ up_text c.lend.result) c.clear.ensures ∙ ap up_text c.lend.ensures))) in
     let out : option_map_or (λ (u : Uplink). ended (up_text u)) c.in_ok-answer.ensures.answered.0.uplink [] ≡ ended c.as_bytes.result.now =
     ap (λ o. option_map_or (λ (u : Uplink). ended (up_text u)) o []) (sym c.in_ok-answer.ensures.answered.2 ∙ c.in-Some.is) ∙ ap ended (sym text) in
-    on_ok c.implied.result
+    on_ok_weaker c.implied.result
     (λ goes net before steps read run is.
     runs-on net before steps c.args.line.now read c.args.self.now
     (record (c.answer.new.self) { ups = c.implied.new.self; up = c.put_lent_uplink.new.line }) c.in_ok-call.call.now c.in_ok-answer.ensures.answered.0 run c.in_ok-call.ensures.call c.in_ok-answer.ensures.answered.1
-    (g.U.Read.remaining c.args.ups.now) (g.U.Read.remaining c.implied.new.source) (within before (length steps) c.args.is_new is c.if-not-is_new.false)
+    (g.U.Read.remaining c.args.ups.now) (g.U.Read.remaining c.implied.new.source) (leb-true before (length steps) (sym is ∙ c.if-not-is_new.false))
     (λ there ups are.
     subst (λ l. GoOn (g.U.Read.remaining c.args.ups.now) (g.U.Read.remaining c.implied.new.source) there (ups ++ l) c.implied.new.self) (sym out)
     (goes there ups (subst (λ (u : Ups). AreUps there ups u.missing.items u.torn) (sym c.answer.ensures.ups) are))))
@@ -65,7 +49,7 @@ returns-in-Some-clause-run g c =
 pub returns-in-None-clause-run : goal.returns-in-None-clause-run
 returns-in-None-clause-run g c = λ net before steps read run is.
     runs-on net before steps c.args.line.now read c.args.self.now c.answer.new.self c.in_ok-call.call.now c.in_ok-answer.ensures.answered.0 run c.in_ok-call.ensures.call c.in_ok-answer.ensures.answered.1
-    (g.U.Read.remaining c.args.ups.now) (g.U.Read.remaining c.args.ups.now) (within before (length steps) c.args.is_new is c.if-not-is_new.false)
+    (g.U.Read.remaining c.args.ups.now) (g.U.Read.remaining c.args.ups.now) (leb-true before (length steps) (sym is ∙ c.if-not-is_new.false))
     (λ there ups are.
     subst (λ o. GoOn (g.U.Read.remaining c.args.ups.now) (g.U.Read.remaining c.args.ups.now) there (ups ++ option_map_or (λ (u : Uplink). ended (up_text u)) o []) c.answer.new.self.ups) (sym (sym c.in_ok-answer.ensures.answered.2 ∙ c.in-None.is))
     (subst (GoOn (g.U.Read.remaining c.args.ups.now) (g.U.Read.remaining c.args.ups.now) there (ups ++ [])) (sym c.answer.ensures.ups)

@@ -1,11 +1,12 @@
 use Rattle.std.proofs.Common.{◌≡◌, ℕ, List, [], ◌∷◌, ◌++◌, length, subst, sym, ap, ◌∙◌, append-nil, arith}
+use Rattle.std.proofs.KnownBytes.{Consumes-nil}
 use Rattle.std.specs.Io.KnownBytes.{Consumes}
 use Rattle.ns_replay.specs.Output.{ended}
 use Rattle.ns_resume.specs.declared.ups.Ups.{Ups}
 use Rattle.ns_resume.specs.Resumed.{AreUps}
 use Rattle.ns_resume.specs.Private.Lines.{feed_of}
 use Rattle.ns_resume.proofs.Lines.{empty}
-use Rattle.ns_resume.proofs.UpLines.{consumes-none, ups-missing, ups-there, ups-torn}
+use Rattle.ns_resume.proofs.UpLines.{ups-missing, ups-there, ups-torn}
 use Rattle.ns_resume.proofs.ups.Ups.implied.Goals as goal
 use Rattle.ns_resume.proofs.ups.Ups.implied.Goals.{then-is_empty+in_ok-has+else-branch, else-is_empty}
 
@@ -23,8 +24,7 @@ returns-then-branch-clause-ups g c = λ there ups are.
     let now : AreUps (there ++ ended line) (ups ++ ended line) [] torn = ups-there there ups torn (subst (λ m. AreUps there ups m torn) none are) line in (
       ended line,
       read,
-      subst (λ m. AreUps (there ++ ended line) (ups ++ ended line) m c.has.new.self.torn) (sym (c.has.ensures.missing ∙ none))
-          (subst (AreUps (there ++ ended line) (ups ++ ended line) []) (sym c.has.ensures.torn) now),
+      rw (c.has.ensures.missing ∙ none, c.has.ensures.torn) now,
     )
 
 pub returns-clause-ups : goal.returns-clause-ups
@@ -43,18 +43,14 @@ returns-clause-ups g c = λ there ups are.
           let bytes : c.miss.new.self.torn ≡ length part = c.miss.ensures.torn ∙ (ap (λ (s : Ups). s.torn) w.self-is ∙ omega arith) in (
             part ++ [],
             subst (λ s. Consumes (g.U.Read.remaining c.args.source.now) (g.U.Read.remaining s) (part ++ [])) (sym w.source-is) read,
-            subst (λ m. AreUps (there ++ (part ++ [])) (ups ++ ended line) m c.miss.new.self.torn) (sym missing)
-                (subst (AreUps (there ++ (part ++ [])) (ups ++ ended line) (ended line)) (sym bytes)
-                (ups-torn there ups torn (subst (λ m. AreUps there ups m torn) none are) line part rest is)),
+            rw (missing, bytes) (ups-torn there ups torn (subst (λ m. AreUps there ups m torn) none are) line part rest is),
           ))
       | else-is_empty w ↦
           (let missing : c.miss.new.self.missing.items ≡ c.args.self.now.missing.items ++ ended line =
           c.in_ok-miss.ensures.missing ∙ ap (λ (s : Ups). s.missing.items ++ ended line) w.self-is in
           let bytes : c.miss.new.self.torn ≡ torn = c.miss.ensures.torn ∙ ap (λ (s : Ups). s.torn) w.self-is in (
             [],
-            subst (λ s. Consumes (g.U.Read.remaining c.args.source.now) (g.U.Read.remaining s) []) (sym w.source-is) (consumes-none (g.U.Read.remaining c.args.source.now)),
-            subst (λ m. AreUps (there ++ []) (ups ++ ended line) m c.miss.new.self.torn) (sym missing)
-                (subst (AreUps (there ++ []) (ups ++ ended line) (c.args.self.now.missing.items ++ ended line)) (sym bytes)
-                (ups-missing there ups c.args.self.now.missing.items line torn are)),
+            subst (λ s. Consumes (g.U.Read.remaining c.args.source.now) (g.U.Read.remaining s) []) (sym w.source-is) (Consumes-nil (g.U.Read.remaining c.args.source.now)),
+            rw (missing, bytes) (ups-missing there ups c.args.self.now.missing.items line torn are),
           ))
     ]

@@ -5,7 +5,7 @@ use Rattle.ns_shard.specs.State.{State, finds_open}
 use Rattle.ns_server.specs.Settled.{AreStates}
 use Rattle.ns_server.specs.Drain.{EachIsClosed}
 use Rattle.ns_server.proofs.Closing.{each_closed}
-use Rattle.ns_server.proofs.Draining.{states_set, state_after, drains_seen}
+use Rattle.ns_server.proofs.Draining.{states_set, state_after, drains}
 use Rattle.ns_server.proofs.settled.Settled.drain_next.Goals as goal
 
 pub returns-in_default-clause-closed : goal.returns-in_default-clause-closed
@@ -45,4 +45,4 @@ returns-clause-some g c =
     let shards = c.self.inside.shards in
     let found = slice_get-get_or shards c.in-Some.i c.index-self-i.result c.in-Some.ensures.some.0 in
     let done = c.close.ensures in
-    drains_seen _ _ shards c.in-Some.i c.in-Some.window _ _ c.close.result c.self.view_is c.self.invariant.2 found c.in-Some.ensures.some.1 done.done done.receipt
+    drains _ _ shards c.in-Some.i c.in-Some.window _ _ c.close.result c.self.view_is c.self.invariant.2 found c.in-Some.ensures.some.1 done.done done.receipt

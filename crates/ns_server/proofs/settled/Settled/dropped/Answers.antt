@@ -4,11 +4,7 @@ use Rattle.ns_server.proofs.Shards.{entries_fit, dropped_at}
 use Rattle.ns_server.proofs.settled.Settled.dropped.Goals as goal
 
 pub overflow_sub-result : goal.overflow_sub-result
-overflow_sub-result g c =
-    let fit = entries_fit _ c.made.ensures.state in
-    let made = c.made.ensures.made in
-    let entries = ap length c.entries.ensures.entries in
-    omega (arith, fit, made, entries)
+overflow_sub-result g c = omega (arith, entries_fit _ c.made.ensures.state, c.made.ensures.made, ap length c.entries.ensures.entries)
 
 pub returns : goal.returns
 returns g c =
@@ -16,6 +12,4 @@ returns g c =
     let below : c.from.result < length shards = omega (arith, c.requires, c.self.told, c.from.ensures) in
     let at = slice_get-get_or shards c.from.result c.index-self-from.result below in
     let fit = entries_fit _ c.made.ensures.state in
-    let made = c.made.ensures.made in
-    let entries = ap length c.entries.ensures.entries in
-    dropped_at c.args.self.now shards c.args.shard c.from.result _ _ c.self.view_is c.from.ensures at (omega (arith, fit, made, entries))
+    dropped_at c.args.self.now shards c.args.shard c.from.result _ _ c.self.view_is c.from.ensures at (omega (arith, fit, c.made.ensures.made, ap length c.entries.ensures.entries))

@@ -21,62 +21,26 @@ steps-preserved c =
           ∙ told-more net c.args.steps.now i x c.steps.taken.items _ c.in_ok-one.one c.steps-test.true c.step-item.is c.steps.invariant.told new;
     }
 
-pub returns-clause-sixteen : goal.returns-clause-sixteen
-returns-clause-sixteen c =
-    (after-all (arc_value c.args.roster) c.args.steps.now c.steps.step-index c.steps.shards c.steps-test.false c.steps.invariant.after).sixteen
-
-pub returns-clause-histories : goal.returns-clause-histories
-returns-clause-histories c =
+pub returns : goal.returns
+returns c =
     let net = arc_value c.args.roster in
-    histories-legal net c.args.steps.now c.steps.shards (after-all net c.args.steps.now c.steps.step-index c.steps.shards c.steps-test.false c.steps.invariant.after)
-
-pub returns-clause-calls : goal.returns-clause-calls
-returns-clause-calls c =
-    let net = arc_value c.args.roster in
-    histories-calls net c.args.steps.now c.steps.shards (after-all net c.args.steps.now c.steps.step-index c.steps.shards c.steps-test.false c.steps.invariant.after)
-
-pub returns-clause-nonces_rise : goal.returns-clause-nonces_rise
-returns-clause-nonces_rise c =
-    let net = arc_value c.args.roster in
-    histories-nonces net c.args.steps.now c.steps.shards (after-all net c.args.steps.now c.steps.step-index c.steps.shards c.steps-test.false c.steps.invariant.after)
-
-pub returns-clause-nonces_within : goal.returns-clause-nonces_within
-returns-clause-nonces_within c =
-    let net = arc_value c.args.roster in
-    histories-within net c.args.steps.now c.steps.shards (after-all net c.args.steps.now c.steps.step-index c.steps.shards c.steps-test.false c.steps.invariant.after)
-
-pub returns-clause-greatest : goal.returns-clause-greatest
-returns-clause-greatest c =
-    let net = arc_value c.args.roster in
-    greatest-after net c.args.steps.now c.steps.shards (after-all net c.args.steps.now c.steps.step-index c.steps.shards c.steps-test.false c.steps.invariant.after)
-
-pub returns-clause-counters_rise : goal.returns-clause-counters_rise
-returns-clause-counters_rise c =
-    let net = arc_value c.args.roster in
-    histories-counters net c.args.steps.now c.steps.shards (after-all net c.args.steps.now c.steps.step-index c.steps.shards c.steps-test.false c.steps.invariant.after)
-
-pub returns-clause-windows_open_once : goal.returns-clause-windows_open_once
-returns-clause-windows_open_once c =
-    let net = arc_value c.args.roster in
-    histories-windows net c.args.steps.now c.steps.shards (after-all net c.args.steps.now c.steps.step-index c.steps.shards c.steps-test.false c.steps.invariant.after)
-
-pub returns-clause-acks_rise : goal.returns-clause-acks_rise
-returns-clause-acks_rise c =
-    let net = arc_value c.args.roster in
-    histories-acks net c.args.steps.now c.steps.shards (after-all net c.args.steps.now c.steps.step-index c.steps.shards c.steps-test.false c.steps.invariant.after)
-
-pub returns-clause-uplinks : goal.returns-clause-uplinks
-returns-clause-uplinks c =
-    let net = arc_value c.args.roster in
-    subst (AllByRecursion HandsOut) (sym (told-all net c.args.steps.now c.steps.step-index c.steps.taken.items c.steps-test.false c.steps.invariant.told)) (all-hand_out net [] c.args.steps.now)
-
-pub returns-clause-copies : goal.returns-clause-copies
-returns-clause-copies c =
-    let net = arc_value c.args.roster in
-    let after = after-all net c.args.steps.now c.steps.step-index c.steps.shards c.steps-test.false c.steps.invariant.after in
-    subst (AllByRecursion (HasCopies c.steps.shards)) (sym (told-all net c.args.steps.now c.steps.step-index c.steps.taken.items c.steps-test.false c.steps.invariant.told)) (taken-copies net c.args.steps.now c.steps.shards after)
-
-pub returns-clause-handed_out_once : goal.returns-clause-handed_out_once
-returns-clause-handed_out_once c =
-    let net = arc_value c.args.roster in
-    subst AreHandedOutOnce (sym (told-all net c.args.steps.now c.steps.step-index c.steps.taken.items c.steps-test.false c.steps.invariant.told)) (taken-once net c.args.steps.now)
+    let steps = c.args.steps.now in
+    let shards = c.steps.shards in
+    let after = after-all net steps c.steps.step-index shards c.steps-test.false c.steps.invariant.after in
+    let told = told-all net steps c.steps.step-index c.steps.taken.items c.steps-test.false c.steps.invariant.told in
+    record {
+      taken = told;
+      shards = after;
+      sixteen = after.sixteen;
+      histories = histories-legal net steps shards after;
+      calls = histories-calls net steps shards after;
+      nonces_rise = histories-nonces net steps shards after;
+      counters_rise = histories-counters net steps shards after;
+      acks_rise = histories-acks net steps shards after;
+      uplinks = subst (AllByRecursion HandsOut) (sym told) (all-hand_out net [] steps);
+      windows_open_once = histories-windows net steps shards after;
+      nonces_within = histories-within net steps shards after;
+      greatest = greatest-after net steps shards after;
+      copies = subst (AllByRecursion (HasCopies shards)) (sym told) (taken-copies net steps shards after);
+      handed_out_once = subst AreHandedOutOnce (sym told) (taken-once net steps);
+    }

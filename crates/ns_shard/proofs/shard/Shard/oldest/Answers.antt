@@ -12,25 +12,16 @@ use Rattle.ns_shard.specs.Private.Parts.{state_of}
 use Rattle.ns_shard.proofs.Entries.{oldest-is, oldest-open}
 use Rattle.ns_shard.proofs.shard.Shard.oldest.Goals as goal
 
-pub returns-clause-oldest : goal.returns-clause-oldest
-returns-clause-oldest c =
-    let parts = c.self.inside.parts in
-    let are = c.self.invariant in
-    let is : c.oldest.result ≡ oldest are.history = search rules in
-    rw (← c.self.view_is) (is ∙ sym (oldest-is are.history (state_of parts) are.keeps))
-
-pub returns-clause-own : goal.returns-clause-own
-returns-clause-own c =
-    let parts = c.self.inside.parts in
-    let are = c.self.invariant in
-    let is : c.oldest.result ≡ oldest are.history = search rules in
-    rw (is, ← c.self.view_is) (oldest_own (arc_value parts.roster) are.agrees.valid parts.index are.history are.agrees.history)
-
-pub returns-clause-open : goal.returns-clause-open
-returns-clause-open c =
+pub returns : goal.returns
+returns c =
     let parts = c.self.inside.parts in
     let are = c.self.invariant in
     let is : c.oldest.result ≡ oldest are.history = search rules in
     let found : IfSome c.oldest.result (λ w. is_some (open_window are.history w) ≡ true) = rw is (oldest-open are.history) in
-    subst (λ (s : State). IfSome c.oldest.result (λ w. is_some (open_window (seen s) w) ≡ true)) c.self.view_is
-    (subst (λ os. IfSome c.oldest.result (λ w. is_some (find (λ (o : Opening). same_window o.window w) os) ≡ true)) (sym (leaves-alike (arc_value parts.roster) are.history (remains (state_of parts)) are.keeps.left).windows) found)
+    record {
+      oldest = rw (← c.self.view_is) (is ∙ sym (oldest-is are.history (state_of parts) are.keeps));
+      own = rw (is, ← c.self.view_is) (oldest_own (arc_value parts.roster) are.agrees.valid parts.index are.history are.agrees.history);
+      «open» =
+          subst (λ (s : State). IfSome c.oldest.result (λ w. is_some (open_window (seen s) w) ≡ true)) c.self.view_is
+          (subst (λ os. IfSome c.oldest.result (λ w. is_some (find (λ (o : Opening). same_window o.window w) os) ≡ true)) (sym (leaves-alike (arc_value parts.roster) are.history (remains (state_of parts)) are.keeps.left).windows) found);
+    }

@@ -2,7 +2,8 @@ use Rattle.std.proofs.Common.{◌≡◌, ◌-◌, ◌^◌, not, sym, ap, subst, 
 use Rattle.std.specs.Map.{values_of}
 use Rattle.ns_types.specs.contracts.identity.WindowNamePartialEq.TheImpl as name_eq
 use Rattle.ns_windows.specs.Windows.{is_named, window_named, without, entries_of, AreNamed, AreApart}
-use Rattle.ns_windows.proofs.Names.{apart-filter}
+use Rattle.ns_windows.proofs.Pairs.{NoTwo-filter}
+use Rattle.ns_windows.proofs.Names.{of_one_name}
 use Rattle.ns_windows.proofs.Named.{lookup-named, key_test, values-removed, named-removed}
 use Rattle.ns_windows.proofs.by_name.ByName.remove.Goals as goal
 use Rattle.ns_windows.proofs.by_name.ByName.remove.Goals.{After-pop_named}
@@ -23,7 +24,7 @@ invariant_of-self-2 c =
     let name = c.args.name.now in
     let es = c.in-Some.linked.entries in (
       subst (λ l. AreNamed l.entries) (sym c.pop_named.ensures.entries) (named-removed ((name_eq.ghosts).eq name) name (key_test name) es (invariant c).0),
-      subst AreApart (sym (left c)) (apart-filter (λ w. not (is_named name w)) (values_of es) (invariant c).1),
+      subst AreApart (sym (left c)) (NoTwo-filter of_one_name (λ w. not (is_named name w)) (values_of es) (invariant c).1),
       ap (λ l. l.cap) c.pop_named.ensures.entries ∙ (invariant c).2,
     )
 

@@ -1,10 +1,10 @@
 use Rattle.std.proofs.Common.{◌≡◌, cond, Some, option_map, sym, ap, ◌∙◌}
 use Rattle.ns_windows.specs.declared.window.Window.{Window}
 use Rattle.ns_windows.specs.Windows.{is_named, window_of_frame, addition, with_copy}
-use Rattle.ns_windows.proofs.Names.{copied-apart}
+use Rattle.ns_windows.proofs.Names.{copied-apart, keep_name}
 use Rattle.ns_windows.proofs.Framed.{framed-map, of_frames-map}
 use Rattle.ns_windows.proofs.Counted.{count-map}
-use Rattle.ns_windows.proofs.Copies.{keep_name, keep_frame}
+use Rattle.ns_windows.proofs.Copies.{keep_frame}
 use Rattle.ns_windows.proofs.Found.{agreed, copied-framed}
 use Rattle.ns_windows.proofs.windows.Windows.add_copy.Goals as goal
 use Rattle.ns_windows.proofs.windows.Windows.add_copy.Goals.{After-add_copy}

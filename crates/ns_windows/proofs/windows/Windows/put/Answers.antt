@@ -39,9 +39,7 @@ counted c eui =
     let ws = c.self.inside.names in
     let w = c.args.window in
     let raised : count_in c.raise.new.counts.entries eui ≡ count_in c.self.inside.counts.entries eui + one_of eui w = c.raise.ensures eui ∙ ap (λ (xs : List (DevEui × ℕ)). count_in xs eui + one_of eui w) c.reserve-2.ensures.entries in
-    let was : count_in c.self.inside.counts.entries eui ≡ count eui ws = c.self.invariant.1 eui in
-    let pushed : count eui (ws ++ w ∷ []) ≡ count eui ws + one_of eui w = count-push eui ws w in
-    omega (arith, raised, was, pushed)
+    omega (arith, raised, c.self.invariant.1 eui, count-push eui ws w)
 
 pub invariant_of-self-2 : goal.invariant_of-self-2
 invariant_of-self-2 c =

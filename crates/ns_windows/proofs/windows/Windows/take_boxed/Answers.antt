@@ -1,9 +1,10 @@
-use Rattle.std.proofs.Common.{◌≡◌, ℕ, List, ◌+◌, ◌-◌, arith, None, Some, bytes_eq, not, sym, ap, ◌∙◌}
+use Rattle.std.proofs.Common.{◌≡◌, ℕ, List, ◌+◌, ◌-◌, arith, None, bytes_eq, not, sym, ap, ◌∙◌}
 use Rattle.std.specs.Map.{lookup, KeepsOthers}
 use Rattle.ns_windows.specs.declared.window.Window.{Window}
-use Rattle.ns_windows.specs.Windows.{is_named, window_named, without, count, count_in, AreCounted}
-use Rattle.ns_windows.proofs.Names.{apart-filter}
-use Rattle.ns_windows.proofs.Framed.{frames-taken, of_frames-filter}
+use Rattle.ns_windows.specs.Windows.{is_named, without, count, count_in, AreCounted}
+use Rattle.ns_windows.proofs.Pairs.{NoTwo-filter}
+use Rattle.ns_windows.proofs.Names.{of_one_name}
+use Rattle.ns_windows.proofs.Framed.{frames-taken, of_one_frame}
 use Rattle.ns_windows.proofs.Counted.{one_of, count-taken}
 use Rattle.ns_windows.proofs.Places.{none_found, filter-none}
 use Rattle.ns_windows.proofs.windows.Windows.take_boxed.Goals as goal
@@ -17,9 +18,6 @@ stays c =
 
 pub invariant_of-self : goal.invariant_of-self
 invariant_of-self c = rw (stays c) c.self.invariant
-
-there : (c : After-lower) → Some c.in_ok-window.window ≡ window_named c.args.name.now c.self.inside.names
-there c = c.in_ok-window.ensures.result
 
 frame_of : (c : After-lower) → c.bytes.result.now ≡ c.in_ok-window.window.frame
 frame_of c = c.bytes.ensures.bytes ∙ ap (λ (w : Window). w.frame) c.as_ref-lent.ensures
@@ -35,9 +33,8 @@ counted c eui =
     let ws = c.self.inside.names in
     let w = c.in_ok-window.window in
     let lowered : count_in c.lower.new.counts.entries eui ≡ count_in c.self.inside.counts.entries eui - one_of eui w = rw c.as_ref-lent.ensures at (c.lower.ensures eui) in
-    let was : count_in c.self.inside.counts.entries eui ≡ count eui ws = c.self.invariant.1 eui in
-    let taken : count eui ws ≡ count eui (without c.args.name.now ws) + one_of eui w = count-taken eui c.args.name.now ws w c.self.invariant.0.0 (sym (there c)) in
-    omega (arith, lowered, was, taken)
+    let taken : count eui ws ≡ count eui (without c.args.name.now ws) + one_of eui w = count-taken eui c.args.name.now ws w c.self.invariant.0.0 (sym c.in_ok-window.ensures.result) in
+    omega (arith, lowered, c.self.invariant.1 eui, taken)
 
 pub invariant_of-self-2 : goal.invariant_of-self-2
 invariant_of-self-2 c =
@@ -46,9 +43,9 @@ invariant_of-self-2 c =
     let i = c.self.invariant.0 in
     rw c.remove.ensures.windows (
       (
-        apart-filter (λ w. not (is_named name w)) ws i.0,
-        of_frames-filter (λ w. not (is_named name w)) ws i.1,
-        (λ f. frames-taken (λ (k : List ℕ). k) c.self.inside.frames.entries c.swap_remove.new.self.entries name ws c.in_ok-window.window i.0 i.1 (sym (there c)) (keeps c) (gone c) f (i.2 f)),
+        NoTwo-filter of_one_name (λ w. not (is_named name w)) ws i.0,
+        NoTwo-filter of_one_frame (λ w. not (is_named name w)) ws i.1,
+        (λ f. frames-taken (λ (k : List ℕ). k) c.self.inside.frames.entries c.swap_remove.new.self.entries name ws c.in_ok-window.window i.0 i.1 (sym c.in_ok-window.ensures.result) (keeps c) (gone c) f (i.2 f)),
       ),
       counted c,
     )
