@@ -1,21 +1,18 @@
 //! The texts of faults and of times, how runs end, and the exit statuses.
 
+use crate::stand_in::StandIn;
 use crate::words::words_of;
 use log::sink::Discard;
-use log::{Level, Log, Logged};
 use ns_commands::{
-    End, Fault, answer, compact, concluded, ended, of_reading, of_replay, of_roster, of_serve,
-    read_roster, refused, run_replay, time_text,
+    End, Fault, compact, concluded, ended, of_reading, of_replay, of_roster, of_serve, read_roster,
+    refused, run_replay, time_text,
 };
-use ns_events::Output;
 use ns_replay::ReplayFault;
-use ns_roster::{Roster, RosterFault};
+use ns_roster::RosterFault;
 use ns_serve_parts::ServeFault;
-use ns_types::OverStd;
 use ns_words::{Asked, BadWords, read_words};
 use std::io::ErrorKind;
 use std::process::ExitCode;
-use std::sync::Arc;
 use std::test::Fail;
 use std::time::Duration;
 
@@ -82,16 +79,16 @@ fn statuses(rt: HostRuntime) {
 }
 
 // How the program ends with these words, whose roster is not there. A server is not begun.
-fn end_of<'a, L: Log>(rt: &HostRuntime, log: &L, words: &'a [String]) -> End<'a> {
+fn end_of<'a>(rt: &StandIn<HostRuntime>, words: &'a [String]) -> End<'a> {
     match read_words(rt.alloc(), words) {
         Ok(Asked::Replay(path, uplinks, closing)) => {
-            End::Ran(run_replay(rt, log, path, uplinks, closing))
+            End::Ran(run_replay(rt, &Discard, path, uplinks, closing))
         }
-        Ok(Asked::Serve(path, _, _)) => match read_roster(rt, log, path) {
+        Ok(Asked::Serve(path, _, _)) => match read_roster(rt, &Discard, path) {
             Ok(_) => End::Ran(Ok(())),
             Err(fault) => End::Ran(Err(fault)),
         },
-        Ok(Asked::Compact(path, folder)) => End::Ran(compact(rt, log, path, folder)),
+        Ok(Asked::Compact(path, folder)) => End::Ran(compact(rt, &Discard, path, folder)),
         Err(bad) => End::Refused(bad),
     }
 }
@@ -99,7 +96,7 @@ fn end_of<'a, L: Log>(rt: &HostRuntime, log: &L, words: &'a [String]) -> End<'a>
 // A run whose roster is not there ends with status 1, also one that is to serve, and one of bad words with 2.
 #[test]
 fn runs_that_fail(rt: HostRuntime) -> Result<(), Fail> {
-    let log = Logged::new(&rt, Level::Error, Discard);
+    let stand_in = StandIn::new(rt, rt.alloc(), "");
     for (text, status) in [
         ("lorawan_ns replay no/such/roster.json --closing", 1u8),
         (
@@ -110,38 +107,8 @@ fn runs_that_fail(rt: HostRuntime) -> Result<(), Fail> {
         ("lorawan_ns replay", 2u8),
     ] {
         let words = words_of(&rt, text)?;
-        let end = end_of(&rt, &log, words.as_slice());
-        assert!(rt; concluded(&rt, &log, &end) == ExitCode::from(status));
-    }
-    Ok(())
-}
-
-// What a run over a roster of one device prints for no steps, with and without the closing roster.
-#[test]
-fn closing_rosters(rt: HostRuntime) -> Result<(), Fail> {
-    let text =
-        "{\"devices\":[{\"dev_eui\":\"000000000000000d\",\"join_eui\":\"0102030401020304\",\"last_nonce\":7,\"slot\":1}],\"net_id\":\"000024\",\"rx1_offset\":0,\"rx_delay\":1,\"version\":2}";
-    for (closing, lines) in [(false, 0), (true, 1)] {
-        let roster = Arc::new(rt.alloc(), Roster::read(rt.alloc(), text.as_bytes())?)?;
-        let mut reader = OverStd::new(b"".as_slice());
-        let mut writer = OverStd::new(Vec::<u8>::new(rt.alloc()));
-        let outcome = answer(
-            &Discard,
-            rt.alloc(),
-            roster,
-            Output::Lines,
-            closing,
-            &mut reader,
-            &mut writer,
-        );
-        assert!(rt; outcome.is_ok());
-        let written = writer.into_inner();
-        assert!(rt; written.len() == lines * (text.len() + 1));
-        assert!(rt;
-            written
-                .as_slice()
-                .starts_with(if closing { text.as_bytes() } else { b"" })
-        );
+        let end = end_of(&stand_in, words.as_slice());
+        assert!(rt; concluded(&stand_in, &Discard, &end) == ExitCode::from(status));
     }
     Ok(())
 }

@@ -180,6 +180,29 @@ fn options_say_what_they_take(rt: HostRuntime) {
     }
 }
 
+// An option is printed by its name, which a contract gives `as_str`.
+#[test]
+fn options_are_printed_by_their_names(rt: HostRuntime) -> Result<(), Fail> {
+    for name in [
+        OptionName::Join,
+        OptionName::Host,
+        OptionName::Listen,
+        OptionName::Forwarders,
+        OptionName::Power,
+        OptionName::Status,
+        OptionName::Workers,
+        OptionName::JoinWorkers,
+        OptionName::Window,
+        OptionName::StopAfter,
+        OptionName::Trim,
+        OptionName::Record,
+        OptionName::Output,
+    ] {
+        assert!(rt; format!(in rt.alloc(); "{name}")?.as_str() == name.as_str());
+    }
+    Ok(())
+}
+
 // What `--help` and `--version` print.
 #[test]
 fn help_names_streams_and_statuses(rt: HostRuntime) -> Result<(), Fail> {

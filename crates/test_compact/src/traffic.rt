@@ -38,7 +38,7 @@ pub fn join(device: u32, nonce: u32, gateway: u32) -> Call {
     }
 }
 
-// The NwkSKey of the session of this nonce.
+// The NwkSKey of the session of this nonce, and its AppSKey where it has one.
 fn key(device: u32, nonce: u32) -> Key {
     let (eui, nonce) = (device.to_be_bytes(), nonce.to_be_bytes());
     Key([
@@ -47,14 +47,16 @@ fn key(device: u32, nonce: u32) -> Key {
     ])
 }
 
-/// The join server's answer to it: the join succeeded, or failed.
+/// The join server's answer to it: the join succeeded, or failed. For odd nonces it has an AppSKey, and the Join-Accept a list of channels.
 pub fn join_reply(device: u32, nonce: u32, is_success: bool) -> Call {
+    let nwk = key(device, nonce);
+    let (accept, app) = if nonce % 2 == 1 {
+        (JoinAccept::WithChannels([0x20; 33]), Some(nwk))
+    } else {
+        (JoinAccept::Plain([0x20; 17]), None)
+    };
     let outcome = if is_success {
-        Outcome::Success(JoinAns {
-            accept: JoinAccept::Plain([0x20; 17]),
-            nwk: key(device, nonce),
-            app: None,
-        })
+        Outcome::Success(JoinAns { accept, nwk, app })
     } else {
         Outcome::Failed
     };

@@ -1,5 +1,5 @@
-//! Tests of ns_forwarder and ns_forwarder_socket: messages as forwarders send them, what becomes of them over memory, and one gateway
-//! over sockets.
+//! Tests of ns_forwarder and ns_forwarder_socket: messages as forwarders send them, what becomes of them over memory, and two gateways
+//! over sockets: what each message comes to, the answers and the downlinks, and how often each thing is counted.
 //!
 //! They call what those crates give in public, and stand here so that no crate is proved once more for its tests.
 #![tactic(auto)]

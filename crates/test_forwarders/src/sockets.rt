@@ -1,7 +1,7 @@
 //! Messages as forwarders send them, over memory and over sockets.
 
 use ns_forwarder::{Clock, ForwarderFault, Outcome, read_message};
-use ns_forwarder_socket::{Event, Forwarders, Gateways, Pending, Route, Taken, take};
+use ns_forwarder_socket::{Event, Forwarders, Gateways, Pending, Route, Taken, outcome_name, take};
 use ns_types::{GatewayId, Target};
 use std::alloc::Global;
 use std::collections::hash_map::RandomState;
@@ -26,17 +26,50 @@ impl RandomSource for Noughts {
 
 // A push of gateway 9 with two frames, and an item without a CRC between them.
 const PUSH: &[u8] =
-    b"\x02\x07\x08\0\0\0\0\0\0\0\0\x09{\"rxpk\":[{\"tmst\":1000000,\"freq\":868.1,\"stat\":1,\"modu\":\"LORA\",\"datr\":\"SF7BW125\",\"rssi\":-95,\"lsnr\":7.5,\"data\":\"AQ==\"},{\"stat\":0},{\"tmst\":2000000,\"freq\":868.3,\"stat\":1,\"modu\":\"LORA\",\"datr\":\"SF9BW125\",\"rssi\":-100,\"lsnr\":-3,\"data\":\"AgM=\"}]}";
+    b"\x02\x07\x08\0\0\0\0\0\0\0\0\x09{\"rxpk\":[{\"tmst\":1000000,\"freq\":868.1,\"stat\":1,\"modu\":\"LORA\",\"datr\":\"SF7BW125\",\"rssi\":-95,\"lsnr\":7.5,\"data\":\"AQ==\"},{\"stat\":0},{\"tmst\":4294967290,\"freq\":868.3,\"stat\":1,\"modu\":\"LORA\",\"datr\":\"SF9BW125\",\"rssi\":-100,\"lsnr\":-3,\"data\":\"AgM=\"}]}";
 
 // A push of gateway 9 with another body.
 const OTHER: &[u8] = b"\x02\x07\x08\0\0\0\0\0\0\0\0\x09{";
 
+// A push of gateway 9 with a frame, whose counter has wrapped, and items that are left out.
+const LEFT_OUT: &[u8] =
+    b"\x02\x07\x08\0\0\0\0\0\0\0\0\x09{\"rxpk\":[{\"tmst\":4,\"freq\":868.1,\"stat\":1,\"modu\":\"LORA\",\"datr\":\"SF7BW125\",\"rssi\":-95,\"lsnr\":7.5,\"data\":\"AQ==\"},{\"stat\":-1},{\"stat\":-1},{\"stat\":1,\"freq\":868.1,\"modu\":\"x\"},{\"stat\":1,\"freq\":868.1,\"modu\":\"x\"},{\"stat\":1,\"freq\":868.1,\"modu\":\"x\"},7,7,7,7]}";
+
 const TOO_LATE: &[u8] =
     b"\x02\x07\x08\x05\0\0\0\0\0\0\0\x01{\"txpk_ack\":{\"error\":\"TOO_LATE\"}}";
 
-// A gateway asks for downlinks.
-fn pull(gateway: u8) -> [u8; 12] {
-    [2, 7, 8, 2, 0, 0, 0, 0, 0, 0, 0, gateway]
+// What is told of a downlink, by the protocol's word and by the name of its count.
+const TOLD: [(Outcome, &str, &str); 9] = [
+    (Outcome::Sent, "NONE", "tx_ok"),
+    (Outcome::TooLate, "TOO_LATE", "TOO_LATE"),
+    (Outcome::TooEarly, "TOO_EARLY", "TOO_EARLY"),
+    (
+        Outcome::CollisionPacket,
+        "COLLISION_PACKET",
+        "COLLISION_PACKET",
+    ),
+    (
+        Outcome::CollisionBeacon,
+        "COLLISION_BEACON",
+        "COLLISION_BEACON",
+    ),
+    (Outcome::TxFreq, "TX_FREQ", "TX_FREQ"),
+    (Outcome::TxPower, "TX_POWER", "TX_POWER"),
+    (Outcome::GpsUnlocked, "GPS_UNLOCKED", "GPS_UNLOCKED"),
+    (Outcome::Other, "made up", "tx_other"),
+];
+
+// A gateway asks for downlinks by messages of this version.
+fn pull(version: u8, gateway: u8) -> [u8; 12] {
+    [version, 7, 8, 2, 0, 0, 0, 0, 0, 0, 0, gateway]
+}
+
+// The push with items that are left out, and spaces behind it up to this length.
+fn spaced(alloc: Global, len: usize) -> Result<Vec<u8>, Fail> {
+    let mut bytes = Vec::new(alloc);
+    bytes.extend_from_slice(LEFT_OUT)?;
+    bytes.resize(len, b' ')?;
+    Ok(bytes)
 }
 
 // Takes a message that came from this address, and keeps what it tells of its gateway.
@@ -62,7 +95,7 @@ fn asked_by_three(alloc: Global) -> Result<Gateways, Fail> {
     let keys = RandomState::new(&Noughts)?;
     let mut gateways = Gateways::of(alloc, keys, NonZeroUsize::new(2).unwrap())?;
     for gateway in [1, 2, 9] {
-        hear(alloc, &mut gateways, &pull(gateway), at(1700))?;
+        hear(alloc, &mut gateways, &pull(2, gateway), at(1700))?;
     }
     Ok(gateways)
 }
@@ -89,7 +122,7 @@ fn what_is_known_of_gateways_is_kept(rt: HostRuntime) -> Result<(), Fail> {
     are_routed(&rt, &gateways);
     hear(rt.alloc(), &mut gateways, PUSH, at(9))?;
     are_routed(&rt, &gateways);
-    assert!(rt; latest(&gateways) == Some(2_000_000));
+    assert!(rt; latest(&gateways) == Some(4_294_967_290));
     Ok(())
 }
 
@@ -114,16 +147,19 @@ fn server(rt: &HostRuntime) -> Result<(Forwarders, SocketAddr), Fail> {
     let (keys, start) = (RandomState::new(&Noughts)?, Instant::now(rt)?);
     let socket = local(rt)?;
     let addr = socket.local_addr()?;
-    Ok((Forwarders::new(rt.alloc(), keys, socket, start, 14)?, addr))
+    Ok((Forwarders::new(rt.alloc(), keys, socket, start, 27)?, addr))
 }
 
-// How the datagram of the first frame begins, and the whole datagram of the second.
+// How the datagram of the first frame begins, the whole datagram of the second, and how that of the third begins, after a wrap of the
+// gateway's counter.
 const FIRST: [u8; 10] = [1, 1, 0, 0, 0, 0, 0, 0, 0, 9];
 
 const SECOND: [u8; 30] = [
-    1, 1, 0, 0, 0, 0, 0, 0, 0, 9, 0, 0, 0, 0, 0, 0x1e, 0x84, 0x80, 0x33, 0xc1, 0x34, 0xe0, 3, 0xfc,
-    0x18, 0xff, 0xe2, 2, 2, 3,
+    1, 1, 0, 0, 0, 0, 0, 0, 0, 9, 0, 0, 0, 0, 0xff, 0xff, 0xff, 0xfa, 0x33, 0xc1, 0x34, 0xe0, 3,
+    0xfc, 0x18, 0xff, 0xe2, 2, 2, 3,
 ];
+
+const THIRD: [u8; 18] = [1, 1, 0, 0, 0, 0, 0, 0, 0, 9, 0, 0, 0, 1, 0, 0, 0, 4];
 
 const TARGET: Target = Target {
     gateway: GatewayId(9),
@@ -132,11 +168,15 @@ const TARGET: Target = Target {
     dr: 5,
 };
 
-// How a byte 1 is sent there.
+// How a byte 1 is sent there, behind the head of the message.
 const DOWNLINK: &[u8] =
-    b"\x02\0\0\x03{\"txpk\":{\"codr\":\"4/5\",\"data\":\"AQ==\",\"datr\":\"SF7BW125\",\"freq\":868.1,\"imme\":false,\"ipol\":true,\"modu\":\"LORA\",\"ncrc\":true,\"powe\":14,\"rfch\":0,\"size\":1,\"tmst\":2000000}}";
+    b"{\"txpk\":{\"codr\":\"4/5\",\"data\":\"AQ==\",\"datr\":\"SF7BW125\",\"freq\":868.1,\"imme\":false,\"ipol\":true,\"modu\":\"LORA\",\"ncrc\":true,\"powe\":27,\"rfch\":0,\"size\":1,\"tmst\":2000000}}";
 
-// The server, and the socket of gateway 9.
+// What is counted once all of it has come.
+const COUNTS: &str =
+    " push 3 pull 2 tx_ack 45 acknowledged 5 frames 3 no_memory 0 F1 1 F2 0 F3 0 F4 0 F5 0 F6 1 F7 4 F8 2 F9 1 F10 3 F11 0 tx_ok 1 TOO_LATE 2 TOO_EARLY 3 COLLISION_PACKET 4 COLLISION_BEACON 5 TX_FREQ 6 TX_POWER 7 GPS_UNLOCKED 8 tx_other 9";
+
+// The server, and the socket of both gateways.
 #[derive(Drop)]
 struct Exchange<'a, R> {
     rt: &'a R,
@@ -158,11 +198,18 @@ impl<R: Abort + Wait + time::Clock> Exchange<'_, R> {
         Ok(())
     }
 
+    // A message comes from the gateway, and this is next.
+    fn is_taken(&self, pending: &mut Pending, message: &[u8], want: Event) -> Result<(), Fail> {
+        self.gateway.send_to(message, self.server)?;
+        self.is_next(pending, want, &[])
+    }
+
     // The gateway is answered by this.
-    fn is_answered(&self, answer: &[u8]) -> Result<(), Fail> {
+    fn is_answered(&self, head: [u8; 4], body: &[u8]) -> Result<(), Fail> {
         let mut buf = [0; 512];
         let n = self.gateway.recv(&mut buf)?;
-        assert!(self.rt; n == answer.len() && buf.starts_with(answer));
+        assert!(self.rt; n == body.len().saturating_add(4));
+        assert!(self.rt; buf.starts_with(&head) && buf[4..].starts_with(body));
         Ok(())
     }
 
@@ -170,49 +217,107 @@ impl<R: Abort + Wait + time::Clock> Exchange<'_, R> {
     fn pushes_are_heard(&self, pending: &mut Pending) -> Result<(), Fail> {
         self.gateway.send_to(PUSH, self.server)?;
         self.is_next(pending, Event::Datagram(29), &FIRST)?;
-        self.is_answered(&[2, 7, 8, 1])?;
+        self.is_answered([2, 7, 8, 1], &[])?;
         self.is_next(pending, Event::Datagram(30), &SECOND)?;
-        self.gateway.send_to(OTHER, self.server)?;
-        self.is_next(pending, Event::Refused(ForwarderFault::Body), &[])?;
-        self.is_answered(&[2, 7, 8, 1])
+        self.is_taken(pending, OTHER, Event::Refused(ForwarderFault::Body))?;
+        self.is_answered([2, 7, 8, 1], &[])
+    }
+
+    // A push of 16,384 bytes is heard, by the clock of the one before it; a longer one is not, nor is it acknowledged: the next answer is
+    // that to the message after it.
+    fn longest_push_is_heard(&self, pending: &mut Pending) -> Result<(), Fail> {
+        let longest = spaced(self.alloc, 16_384)?;
+        self.gateway.send_to(longest.as_slice(), self.server)?;
+        self.is_next(pending, Event::Datagram(29), &THIRD)?;
+        self.is_answered([2, 7, 8, 1], &[])?;
+        let longer = spaced(self.alloc, 16_385)?;
+        let refused = Event::Refused(ForwarderFault::TooLong);
+        self.is_taken(pending, longer.as_slice(), refused)
     }
 
     // A pull is acknowledged, and downlinks have a route from then on.
-    fn pull_is_heard(&self, pending: &mut Pending) -> Result<(), Fail> {
-        assert!(self.rt; self.forwarders.route(self.rt, GatewayId(9)).is_none());
-        self.gateway.send_to(&pull(9), self.server)?;
-        self.is_next(pending, Event::Message, &[])?;
-        self.is_answered(&[2, 7, 8, 4])
+    fn pull_is_heard(&self, pending: &mut Pending, version: u8, gateway: u8) -> Result<(), Fail> {
+        let number = GatewayId(u64::from(gateway));
+        assert!(self.rt; self.forwarders.route(self.rt, number).is_none());
+        self.is_taken(pending, &pull(version, gateway), Event::Message)?;
+        self.is_answered([version, 7, 8, 4], &[])
     }
 
-    // A downlink reaches the gateway.
-    fn downlink_is_sent(&self) -> Result<(), Fail> {
-        let route = self
-            .forwarders
-            .route(self.rt, GatewayId(9))
-            .ok_or("no route")?;
+    // Where downlinks for a gateway go.
+    fn route(&self, gateway: u64) -> Result<Route, Fail> {
+        let route = self.forwarders.route(self.rt, GatewayId(gateway));
+        Ok(route.ok_or("no route")?)
+    }
+
+    // A downlink reaches the gateway, with this head.
+    fn downlink_is_sent(&self, gateway: u64, head: [u8; 4]) -> Result<(), Fail> {
+        let route = self.route(gateway)?;
         assert!(self.rt; self.forwarders.send(self.alloc, route, &TARGET, &[1]));
-        self.is_answered(DOWNLINK)
+        self.is_answered(head, DOWNLINK)
     }
 
-    // The counts of the whole exchange begin so.
+    // No downlink is sent outside the band, or to port 0, which the system refuses.
+    fn others_are_not_sent(&self) -> Result<(), Fail> {
+        let (route, outside) = (self.route(9)?, Target { freq: 1, ..TARGET });
+        assert!(self.rt; !self.forwarders.send(self.alloc, route, &outside, &[1]));
+        let nowhere = Route {
+            addr: SocketAddr::new(self.server.ip(), 0),
+            version: 2,
+        };
+        assert!(self.rt; !self.forwarders.send(self.alloc, nowhere, &TARGET, &[1]));
+        Ok(())
+    }
+
+    // Each downlink has the next token, or none by version 1.
+    fn downlinks_are_sent(&self, pending: &mut Pending) -> Result<(), Fail> {
+        self.pull_is_heard(pending, 2, 9)?;
+        self.downlink_is_sent(9, [2, 0, 0, 3])?;
+        self.downlink_is_sent(9, [2, 0, 1, 3])?;
+        self.pull_is_heard(pending, 1, 10)?;
+        self.downlink_is_sent(10, [1, 0, 0, 3])?;
+        self.others_are_not_sent()
+    }
+
+    // Gateway 9 tells this of a downlink.
+    fn is_told(&self, pending: &mut Pending, word: &str, want: Outcome) -> Result<(), Fail> {
+        let message = format!(in self.alloc;
+            "\x02\x07\x08\x05\0\0\0\0\0\0\0\x09{{\"txpk_ack\":{{\"error\":\"{word}\"}}}}"
+        )?;
+        self.is_taken(pending, message.as_bytes(), Event::Told(GatewayId(9), want))
+    }
+
+    // It tells the first outcome once, the second twice, and so on.
+    fn outcomes_are_told(&self, pending: &mut Pending) -> Result<(), Fail> {
+        for (place, &(outcome, word, _)) in TOLD.iter().enumerate() {
+            for _ in 0..=place {
+                self.is_told(pending, word, outcome)?;
+            }
+        }
+        Ok(())
+    }
+
+    // The counts of the whole exchange.
     fn is_counted(&self) -> Result<(), Fail> {
         let counts = format!(in self.alloc; "{}", self.forwarders.counts())?;
-        assert!(self.rt;
-            counts
-                .as_str()
-                .starts_with(" push 2 pull 1 tx_ack 0 acknowledged 3 frames 2 ")
-        );
+        assert!(self.rt; counts.as_str() == COUNTS);
         Ok(())
     }
 
     // All of it, one after the other.
-    fn is_held(&self) -> Result<(), Fail> {
-        let mut pending = Pending::new(self.alloc)?;
-        self.pushes_are_heard(&mut pending)?;
-        self.pull_is_heard(&mut pending)?;
-        self.downlink_is_sent()?;
+    fn is_held(&self, pending: &mut Pending) -> Result<(), Fail> {
+        self.pushes_are_heard(pending)?;
+        self.longest_push_is_heard(pending)?;
+        self.downlinks_are_sent(pending)?;
+        self.outcomes_are_told(pending)?;
         self.is_counted()
+    }
+}
+
+/// Each outcome has the name by which it is counted.
+#[test]
+fn outcomes_have_names(rt: HostRuntime) {
+    for &(outcome, _, name) in &TOLD {
+        assert!(rt; outcome_name(outcome) == name);
     }
 }
 
@@ -227,5 +332,6 @@ fn a_forwarder_is_heard_and_answered(rt: HostRuntime) -> Result<(), Fail> {
         server,
         gateway: &gateway,
     };
-    exchange.is_held()
+    let mut pending = Pending::new(rt.alloc())?;
+    exchange.is_held(&mut pending)
 }

@@ -1,9 +1,9 @@
-// Files in memory whose calls fail from one on, of which the failing append takes a front.
+//! Files in memory whose calls fail from one on, of which the failing append takes a front.
 ghost use Rattle.std.specs.Prelude.{None};
 ghost use Rattle.std.specs.Option.{option_map};
 
 use ns_record_files::{Disk, LineText, RecordLines, RecordWriter, Recorder};
-use ns_types::Failed;
+use ns_types::{BLOCKS, Failed, take_all};
 use std::alloc::{AllocError, Global};
 
 #[derive(Drop)]
@@ -104,6 +104,7 @@ fn has(disk: &Memory, steps: &str, safe: usize, ups: &str) -> bool {
         && disk.ups.as_slice() == ups.as_bytes()
 }
 
+/// Where a call of the files fails, they have what was written before and a front of the rest, and each batch after it is refused.
 #[test]
 fn each_call_fails_in_turn(rt: HostRuntime) {
     for &(done, steps, safe, ups, told) in AFTER {
@@ -160,6 +161,7 @@ impl RecordLines for Told {
     }
 }
 
+/// A recorder writes each line once, in the order in which they were put, and calls the files only where lines are there.
 #[test]
 fn lines_are_written_once(rt: HostRuntime) -> Result<(), AllocError> {
     let writer = RecordWriter::new(Memory::new(rt.alloc(), 9));
@@ -176,5 +178,36 @@ fn lines_are_written_once(rt: HostRuntime) -> Result<(), AllocError> {
     assert!(rt; disk.calls == 6);
     assert!(rt; disk.steps.as_slice() == b"b\na\nc\nd\n".as_slice());
     assert!(rt; disk.ups.as_slice() == b"up a\nup c\n".as_slice());
+    Ok(())
+}
+
+/// After a failed write every further one fails, also where nothing was put since, and the files are not called again.
+#[test]
+fn failed_write_is_not_forgotten(rt: HostRuntime) -> Result<(), AllocError> {
+    let writer = RecordWriter::new(Memory::new(rt.alloc(), 0));
+    let recorder = Recorder::new(rt.alloc(), writer)?;
+    recorder.put(&rt, &Told::new("a", None));
+    assert!(rt; recorder.write(&rt).is_err());
+    assert!(rt; recorder.write(&rt).is_err());
+    assert!(rt; recorder.into_disk().calls == 1);
+    Ok(())
+}
+
+/// Where a line was put for which no memory was left, every write fails from then on, also once there is memory again, and no line of those
+/// that were kept is written.
+#[test]
+fn lost_line_is_not_forgotten(rt: HostRuntime) -> Result<(), AllocError> {
+    let alloc = rt.alloc();
+    let recorder = Recorder::new(alloc, RecordWriter::new(Memory::new(alloc, 9)))?;
+    let call = Told::new("close 000000000000000d 1 2", None);
+    let mut held = Vec::with_capacity(alloc, BLOCKS)?;
+    take_all(alloc, &mut held)?;
+    // Twice as many bytes as a recorder takes room for at first.
+    for _ in 0..10_000u32 {
+        recorder.put(&rt, &call);
+    }
+    held.clear();
+    assert!(rt; recorder.write(&rt).is_err());
+    assert!(rt; recorder.into_disk().calls == 0);
     Ok(())
 }

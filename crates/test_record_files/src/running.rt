@@ -1,4 +1,4 @@
-// Fewer steps take the place of those of a record while lines are put.
+//! Fewer steps take the place of those of a record while lines are put.
 
 use crate::failures::Told;
 use log::sink::Discard;
@@ -7,7 +7,9 @@ use ns_record_files::{
 };
 use std::fs;
 use std::fs::File;
-use std::io::{Read, Write};
+use std::io::{Read, Write, pipe};
+use std::os::fd::AsRawFd;
+use std::os::unix::fs::{PermissionsExt, symlink};
 use std::rt::Files;
 use std::sync::Wait;
 use std::test::*;
@@ -23,17 +25,22 @@ struct Folder<'a, R> {
 }
 
 impl<'a, R: Wait + Files<File = File> + AllocGlobal> Folder<'a, R> {
-    // A folder with the steps a and b, of which a is to stay, and b is put behind the part that was read.
-    fn new(rt: &'a R, path: &'static str) -> Result<Folder<'a, R>, Fail> {
+    // A folder with the steps a and b, of which a is to stay, and b is put behind the part that was read. There were fewer steps before that
+    // were given up.
+    fn new(rt: &'a R, path: &'static str, sync: bool) -> Result<Folder<'a, R>, Fail> {
         let alloc = rt.alloc();
         let _ = fs::remove_dir_all(rt, path);
         fs::create_dir(rt, path)?;
-        let files = RecordFiles::open(rt, &Discard, alloc, path, true)?;
+        let files = RecordFiles::open(rt, &Discard, alloc, path, sync)?;
         let recorder = Recorder::new(alloc, RecordWriter::new(files))?;
         put(rt, &recorder, "a")?;
         let Some(Lengths { steps: 2, ups: 5 }) = recorder.lengths(rt) else {
             return Err(Fail::new("not the lengths of one line"));
         };
+        let given_up = ShorterSteps::create(rt, &Discard, alloc, path)?;
+        given_up
+            .file()
+            .write_all(b"more bytes than those that take their place")?;
         let shorter = ShorterSteps::create(rt, &Discard, alloc, path)?;
         shorter.file().write_all(b"base\na\n")?;
         let steps = read_again(rt, &Discard, alloc, path, "steps")?;
@@ -64,7 +71,7 @@ impl<'a, R: Wait + Files<File = File> + AllocGlobal> Folder<'a, R> {
             .replace(self.rt, &Discard, &self.shorter, &mut self.later)
     }
 
-    // Whether its files have these bytes after one line more, whoever opens them again.
+    // Whether its files have these bytes after one line more, for their owner alone, whoever opens them again.
     fn ends_with(self, steps: &str, ups: &str) -> Result<bool, Fail> {
         let Folder {
             rt,
@@ -79,8 +86,9 @@ impl<'a, R: Wait + Files<File = File> + AllocGlobal> Folder<'a, R> {
         let _ = recorder.into_disk();
         let are_steps = has(rt, path, "steps", steps)?;
         let are_ups = has(rt, path, "up", ups)?;
+        let are_private = is_private(rt, path, "steps")? && is_private(rt, path, "up")?;
         fs::remove_dir_all(rt, path)?;
-        Ok(is_locked && are_steps && are_ups)
+        Ok(is_locked && are_steps && are_ups && are_private)
     }
 }
 
@@ -110,10 +118,21 @@ fn has<R: Files<File = File> + AllocGlobal>(
     Ok(bytes.as_slice() == text.as_bytes())
 }
 
-// Lines that were put before, while and after the fewer steps are prepared follow them, each once, and their file has the lock.
+// Whether nobody but its owner may read or write a file of a folder.
+fn is_private<R: Files<File = File> + AllocGlobal>(
+    rt: &R,
+    path: &str,
+    name: &str,
+) -> Result<bool, Fail> {
+    let file = read_again(rt, &Discard, rt.alloc(), path, name)?;
+    Ok(file.metadata()?.permissions().mode() & 0o077 == 0)
+}
+
+/// Lines that were put before, while and after the fewer steps are prepared follow them, each once; their file has the lock, and is for its
+/// owner alone.
 #[test]
 fn later_lines_follow(rt: HostRuntime) -> Result<(), Fail> {
-    let mut folder = Folder::new(&rt, "test_record_files_later")?;
+    let mut folder = Folder::new(&rt, "test_record_files_later", true)?;
     folder.follow()?;
     folder.put("c")?;
     folder.replace()?;
@@ -123,11 +142,11 @@ fn later_lines_follow(rt: HostRuntime) -> Result<(), Fail> {
     Ok(())
 }
 
-// Where the fewer steps are not there any more, or the server stops, it goes on with those that it has.
+/// Where the fewer steps are not there any more, or the server stops, it goes on with those that it has.
 #[test]
 fn what_cannot_be_replaced_goes_on(rt: HostRuntime) -> Result<(), Fail> {
     for stops in [false, true] {
-        let mut folder = Folder::new(&rt, "test_record_files_stays")?;
+        let mut folder = Folder::new(&rt, "test_record_files_stays", true)?;
         if stops {
             folder.recorder.rest();
         } else {
@@ -139,7 +158,45 @@ fn what_cannot_be_replaced_goes_on(rt: HostRuntime) -> Result<(), Fail> {
     Ok(())
 }
 
-// Zeros at the ends, which a crash of the machine may leave, are cut off.
+/// Where the fewer steps cannot be given the name of the others, since a folder has it, they keep their own, and it goes on with those that
+/// it has.
+#[test]
+fn what_cannot_be_renamed_goes_on(rt: HostRuntime) -> Result<(), Fail> {
+    let path = "test_record_files_named";
+    let (steps, aside) = (
+        "test_record_files_named/steps",
+        "test_record_files_named/aside",
+    );
+    let mut folder = Folder::new(&rt, path, true)?;
+    fs::rename(&rt, steps, aside)?;
+    fs::create_dir(&rt, steps)?;
+    assert!(rt; folder.replace().is_err());
+    fs::remove_dir(&rt, steps)?;
+    fs::rename(&rt, aside, steps)?;
+    assert!(rt; folder.ends_with("a\nb\nz\n", "up a\nup b\nup z\n")?);
+    Ok(())
+}
+
+/// With `sync`, and not without it, each write brings the steps to the disk, also once fewer took their place: these are a pipe here, which
+/// takes bytes but cannot be brought to a disk.
+#[test]
+fn steps_are_brought_to_the_disk_if_asked(rt: HostRuntime) -> Result<(), Fail> {
+    let path = "test_record_files_sync";
+    let (_reader, writer) = pipe(&rt)?;
+    let end = format!(in rt.alloc(); "/proc/self/fd/{}", writer.as_raw_fd())?;
+    for sync in [false, true] {
+        let mut folder = Folder::new(&rt, path, sync)?;
+        folder.shorter.remove(&rt);
+        symlink(&rt, end.as_str(), "test_record_files_sync/steps.new")?;
+        folder.replace()?;
+        folder.recorder.put(&rt, &Told::new("c", None));
+        assert!(rt; folder.recorder.write(&rt).is_err() == sync);
+    }
+    fs::remove_dir_all(&rt, path)?;
+    Ok(())
+}
+
+/// Zeros at the ends, which a crash of the machine may leave, are cut off.
 #[test]
 fn zeros_are_cut_off(rt: HostRuntime) -> Result<(), Fail> {
     let (alloc, path) = (rt.alloc(), "test_record_files_zeros");

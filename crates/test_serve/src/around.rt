@@ -1,8 +1,11 @@
-//! A runtime with a logger of its own, and with a clock that a test may hold.
+//! A runtime with a logger of its own, with a clock that a test may hold, and with short sleeps.
 
+use log::filter::{Builder, FilteredLog};
 use log::kv::Source;
+use log::sink::Locked;
 use log::span::Spans;
 use log::{Log, Metadata, Record};
+use std::alloc::{AllocError, Global};
 use std::fmt::Display;
 use std::io;
 use std::net::{Net, SocketAddr, UdpSocket};
@@ -10,6 +13,26 @@ use std::sync::Wait;
 use std::sync::atomic::{AtomicU64, Ordering};
 use std::thread::Threads;
 use std::time::{Clock, Duration};
+
+/// A log in memory.
+pub type Lines<'a, R> = FilteredLog<Locked<&'a R, Vec<u8>>>;
+
+/// A runtime that logs these lines into memory, of which there is room for 64 KB. Its clock stands at this time in milliseconds, or goes on
+/// where it is 0.
+pub fn logging<'a, R: Wait>(
+    rt: &'a R,
+    alloc: Global,
+    lines: &str,
+    stands_ms: u64,
+) -> Result<Around<&'a R, Lines<'a, R>>, AllocError> {
+    let filter = Builder::new(alloc).parse(lines)?.build();
+    let lines = Locked::new(rt, Vec::with_capacity(alloc, 65_536)?);
+    Ok(Around {
+        rt,
+        log: FilteredLog::new(lines, filter),
+        stands_ms: AtomicU64::new(stands_ms),
+    })
+}
 
 /// A runtime that logs by this logger. Its clock is the runtime's, or stands at a time.
 #[derive(Drop)]
@@ -21,15 +44,6 @@ pub struct Around<R, L> {
 }
 
 impl<R, L> Around<R, L> {
-    /// This runtime with this logger. The clock stands at this time in milliseconds, or goes on where it is 0.
-    pub fn new(rt: R, log: L, stands_ms: u64) -> Around<R, L> {
-        Around {
-            rt,
-            log,
-            stands_ms: AtomicU64::new(stands_ms),
-        }
-    }
-
     /// The clock stands at another time.
     pub fn stand_at(&self, ms: u64) {
         self.stands_ms.store(ms, Ordering::SeqCst);
@@ -64,8 +78,9 @@ impl<R: Clock, L> Clock for Around<R, L> {
         self.rt.since_1970()
     }
 
+    // A sleep ends after 10 ms at most: who sleeps looks again while a worker still waits for its socket.
     fn sleep(&self, duration: Duration) {
-        self.rt.sleep(duration)
+        self.rt.sleep(duration.min(Duration::from_millis(10)))
     }
 }
 

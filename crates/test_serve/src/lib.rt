@@ -1,6 +1,6 @@
-//! Tests of the server over sockets: servers over loopback with a join server, gateways, a packet forwarder and devices in threads of their own, what they log,
-//! also where memory is really gone, the table of addresses, trims of a running server, two
-//! lives of a record, and that what leaves stands in it before.
+//! Tests of the server over sockets: servers over loopback with a join server, gateways, packet forwarders and devices in threads of their
+//! own, what they write, also as JSON objects and events, and what they log, also where memory is really gone, the table of addresses,
+//! trims of a running server, lives of a record, also one that left a window open, and that what leaves stands in it before.
 //!
 //! They call what `ns_serve` gives in public, and stand here so that it is not proved once more for its tests.
 #![tactic(auto)]

@@ -1,14 +1,17 @@
-//! Lives of a record: what a second server knows of the first, what a crash would have left, and starts that are refused.
+//! Lives of a record: what a second server knows of the first, what a crash would have left, windows that it left open, and starts that are
+//! refused.
 
+use crate::around::logging;
 use crate::parties::{
-    ROSTER_A, ROSTER_B, asked, front, heard, join_server, joined, nap, sent, socket_to,
+    ROSTER_A, ROSTER_B, asked, join_server, joined, nap, sent, socket_to, uplink,
 };
-use crate::trial::{Trial, join_addr, roster_of, served_from};
+use crate::trial::{Looks, Trial, Writer, join_addr, roster_of, served_from, trial_at};
 use log::Log;
-use ns_record_files::{RecordFiles, Recorder, Upkeep};
+use log::sink::Discard;
+use ns_record_files::RecordFiles;
 use ns_resume::RecordFault;
 use ns_serve::Begun;
-use ns_types::{DevEui, OverStd};
+use ns_types::DevEui;
 use std::alloc::Global;
 use std::fs::File;
 use std::io::Read;
@@ -27,12 +30,17 @@ const FOLDER: &str = "test_serve_lives";
 
 const KILLED: &str = "test_serve_killed";
 
+// What a kill would have left of a record while a window was open.
+const OPEN: &str = "test_serve_open";
+
 // A folder for starts that are refused.
 const REFUSED: &str = "test_serve_refused";
 
-// Steps of a record, and its `up` line.
+// Steps of a record, its last one, and its `up` line.
 const STEPS: &str =
     "heard 010100000000000000a100000000000f424033be27a005fc4a004b170004030201040302010d00000000000000010001000000\nanswer 0004030201040302010d00000000000000010001000000 {\"AppSKey\":{\"AESKey\":\"ec925802ae430ca77fd3dd73cb2cc588\"},\"MessageType\":\"JoinAns\",\"NwkSKey\":{\"AESKey\":\"44024241ed4ce9a68c6a8bc055233fd3\"},\"PHYPayload\":\"20000102030405060708090a0b0c0d0e0f\",\"Result\":{\"ResultCode\":\"Success\"},\"TransactionID\":1}\nheard 010100000000000000a100000000000f424033be27a005fc4a004b1180f17dbe4900020001954378766723abef\nclose 000000000000000d 1 2\n";
+
+const CLOSE: &str = "close 000000000000000d 1 2\n";
 
 const UP: &str = "up 000000000000000d 1 2 1 plain - 74657374 1 00000000000000a1\n";
 
@@ -42,6 +50,10 @@ const TORN_STEPS: &str =
 
 const TORN_UP: &str = "up 000000000000000d 1 2 1 pl";
 
+// The `up` lines of a first life, with uplinks 0 and 1.
+const FIRST_UPS: &str =
+    "up 000000000000000d 1 0 1 plain - 74657374 1 00000000000000a1\nup 000000000000000d 1 1 1 plain - 74657374 1 00000000000000a1\n";
+
 // A roster without the device.
 const WITHOUT: &str = r#"{"version":1,"net_id":"000024","rx1_offset":0,"rx_delay":1,"devices":[]}"#;
 
@@ -50,18 +62,6 @@ const WITHOUT: &str = r#"{"version":1,"net_id":"000024","rx1_offset":0,"rx_delay
 struct Ended {
     lives: AtomicU64,
     looks: AtomicU64,
-}
-
-// Counts how often a record is looked after.
-#[derive(Drop)]
-struct Looks<'a> {
-    ended: &'a Ended,
-}
-
-impl<'a> Upkeep for Looks<'a> {
-    fn look_after(&mut self, _record: &Recorder<RecordFiles>) {
-        self.ended.looks.fetch_add(1, Ordering::SeqCst);
-    }
 }
 
 /// Makes a folder without files.
@@ -110,14 +110,10 @@ fn ups(alloc: Global, output: &[u8]) -> Result<String, Fail> {
 
 // A server of a folder's record. It ends by itself.
 fn live<
-    R: Threads
-        + Wait
-        + Clock
-        + Net<Listener = TcpListener, Stream = TcpStream>
-        + Files<File = File>
-        + Log
-        + Sync,
+    H: Files<File = File>,
+    R: Threads + Wait + Clock + Net<Listener = TcpListener, Stream = TcpStream> + Log + Sync,
 >(
+    host: &H,
     rt: &R,
     alloc: Global,
     trial: &Trial,
@@ -126,57 +122,60 @@ fn live<
     output: &mut Vec<u8>,
 ) -> Result<u128, Fail> {
     let roster = roster_of(alloc, trial)?;
-    let files = RecordFiles::open(rt, rt, alloc, folder, true)?;
-    let begun = Begun::resume(rt, alloc, &roster, files)?;
-    let looks = Looks { ended };
-    Ok(served_from(rt, alloc, trial, roster, begun, looks, OverStd::new(output))?)
+    let files = RecordFiles::open(host, &Discard, alloc, folder, true)?;
+    let begun = Begun::resume(&Discard, alloc, &roster, files)?;
+    let looks = Looks {
+        count: &ended.looks,
+    };
+    Ok(served_from(rt, alloc, trial, roster, begun, looks, Writer::new(output))?)
 }
 
 /// A trial of one device that ends after so many datagrams.
 pub fn trial_of(stop_after: u32) -> Trial {
     Trial {
-        roster: ROSTER_A,
-        port: 17041,
-        join_workers: 1,
         window_ms: 200,
-        stop_after: Some(stop_after),
-        joins: 1,
-        closing: false,
-        forwarders: false,
+        ..trial_at(17041, Some(stop_after))
     }
 }
 
 // A life of the record in this folder, which is counted when it has ended. What it wrote.
 fn counted<
-    R: Threads
-        + Wait
-        + Clock
-        + Net<Listener = TcpListener, Stream = TcpStream>
-        + Files<File = File>
-        + Log
-        + Sync,
->(rt: &R, alloc: Global, ended: &Ended, folder: &str, stop_after: u32) -> Result<Vec<u8>, Fail> {
+    H: Files<File = File>,
+    R: Threads + Wait + Clock + Net<Listener = TcpListener, Stream = TcpStream> + Log + Sync,
+>(
+    host: &H,
+    rt: &R,
+    alloc: Global,
+    ended: &Ended,
+    folder: &str,
+    stop_after: u32,
+) -> Result<Vec<u8>, Fail> {
     let mut output = Vec::new(alloc);
-    let outcome = live(rt, alloc, &trial_of(stop_after), ended, folder, &mut output);
+    let outcome = live(
+        host,
+        rt,
+        alloc,
+        &trial_of(stop_after),
+        ended,
+        folder,
+        &mut output,
+    );
     ended.lives.fetch_add(1, Ordering::SeqCst);
     outcome?;
     Ok(output)
 }
 
-// Three lives, one after the other: two of the record, and one of what a kill would have left of it. What each wrote.
+// Four lives, one after the other: two of the record, one of what a kill would have left of it, and one of a record with an open window.
+// What each wrote.
 fn lives<
-    R: Threads
-        + Wait
-        + Clock
-        + Net<Listener = TcpListener, Stream = TcpStream>
-        + Files<File = File>
-        + Log
-        + Sync,
->(rt: &R, alloc: Global, ended: &Ended) -> Result<[Vec<u8>; 3], Fail> {
-    let first = counted(rt, alloc, ended, FOLDER, 3)?;
-    let second = counted(rt, alloc, ended, FOLDER, 3)?;
-    let killed = counted(rt, alloc, ended, KILLED, 2)?;
-    Ok([first, second, killed])
+    H: Files<File = File>,
+    R: Threads + Wait + Clock + Net<Listener = TcpListener, Stream = TcpStream> + Log + Sync,
+>(host: &H, rt: &R, alloc: Global, ended: &Ended) -> Result<[Vec<u8>; 4], Fail> {
+    let first = counted(host, rt, alloc, ended, FOLDER, 3)?;
+    let second = counted(host, rt, alloc, ended, FOLDER, 3)?;
+    let killed = counted(host, rt, alloc, ended, KILLED, 2)?;
+    let open = counted(host, rt, alloc, ended, OPEN, 1)?;
+    Ok([first, second, killed, open])
 }
 
 // Waits until so many lives have ended, for ten seconds at most.
@@ -190,13 +189,16 @@ fn wait_for<R: Clock>(rt: &R, ended: &Ended, lives: u64) -> Option<()> {
     None
 }
 
-// The datagram of an uplink of this counter.
-fn uplink(alloc: Global, device: &TestDevice, counter: u32, confirmed: bool) -> Option<Vec<u8>> {
-    let mut room = [0u8; 64];
-    let frame = device
-        .uplink(counter, confirmed, Some(1), b"test", &mut room)
-        .ok()?;
-    heard(alloc, &front(0xa1), frame)
+// Waits until the record with the open window has an `up` line, for five seconds at most.
+fn wait_for_up<H: Files, R: Clock>(host: &H, rt: &R, alloc: Global) -> Option<()> {
+    let path = format!(in alloc; "{OPEN}/up").ok()?;
+    for _ in 0..500 {
+        if fs::metadata(host, path.as_str()).ok()?.len() > 0 {
+            return Some(());
+        }
+        nap(rt);
+    }
+    None
 }
 
 // Sends a Confirmed Data Up, and gives the low byte of the number of its acknowledgement: it stands behind MHDR, DevAddr and FCtrl.
@@ -213,9 +215,11 @@ fn acknowledged<R: Clock + Net>(
     Some(buf[34])
 }
 
-// A device through three lives, with the numbers of its three acknowledgements. Uplinks 0 and 1 are of the first life, and uplink 1 is
-// sent again in the second; the third is what a kill would have left after the first acknowledgement, and there uplink 0 is sent again.
-fn played<R: Clock + Net + Files>(
+// A device through three lives, with the numbers of its acknowledgements. Uplinks 0 and 1 are of the first life, and uplink 1 is
+// sent again in the second; the third is what a kill would have left after the first acknowledgement, and there uplink 0 is sent again. In
+// the fourth life it is waited for the `up` line of the open window.
+fn played<H: Files, R: Clock + Net>(
+    host: &H,
     rt: &R,
     alloc: Global,
     port: u16,
@@ -227,7 +231,7 @@ fn played<R: Clock + Net + Files>(
     for name in ["steps", "up"] {
         let from = format!(in alloc; "{FOLDER}/{name}").ok()?;
         let to = format!(in alloc; "{KILLED}/{name}").ok()?;
-        fs::copy(rt, from.as_str(), to.as_str()).ok()?;
+        fs::copy(host, from.as_str(), to.as_str()).ok()?;
     }
     let one = uplink(alloc, &device, 1, false)?;
     socket.send(one.as_slice()).ok()?;
@@ -238,16 +242,30 @@ fn played<R: Clock + Net + Files>(
     wait_for(rt, ended, 2)?;
     let third = acknowledged(rt, alloc, &socket, &device, 0)?;
     socket.send(&[0]).ok()?;
+    wait_for(rt, ended, 3)?;
+    let closed = wait_for_up(host, rt, alloc);
+    sent(rt, &socket, &[0])?;
+    closed?;
     Some([first, second, third])
 }
 
+// Makes the folders of the four lives. What a kill left while a window was open is the record without its last step.
+fn make_folders(rt: &HostRuntime, alloc: Global) -> Result<(), Fail> {
+    for folder in [FOLDER, KILLED, OPEN] {
+        emptied(rt, folder)?;
+    }
+    let steps = STEPS.strip_suffix(CLOSE).unwrap_or("");
+    write(rt, alloc, OPEN, "steps", steps)?;
+    write(rt, alloc, OPEN, "up", "")
+}
+
 /// A session lives on in the second life: an uplink goes out once over both, and acknowledgements are numbered on. What a kill would have
-/// left when the first acknowledgement was there has all that this rests on: the number is not used again.
+/// left when the first acknowledgement was there has all that this rests on: the number is not used again. A window that a kill would have
+/// left open is closed long before the next life ends.
 #[test]
 fn lives_are_one_run(rt: HostRuntime) -> Result<(), Fail> {
     let alloc: Global = rt.alloc();
-    emptied(&rt, FOLDER)?;
-    emptied(&rt, KILLED)?;
+    make_folders(&rt, alloc)?;
     let trial = trial_of(3);
     let Ok(listener) = TcpListener::bind(&rt, join_addr(&trial)) else {
         return Err(Fail::from("no listener"));
@@ -256,14 +274,15 @@ fn lives_are_one_run(rt: HostRuntime) -> Result<(), Fail> {
         lives: AtomicU64::new(0),
         looks: AtomicU64::new(0),
     };
+    let around = logging(&rt, alloc, "off", 0)?;
     let (outputs, (_, acks)) = thread::join(
-        &rt,
-        || lives(&rt, alloc, &ended),
+        &around,
+        || lives(&rt, &around, alloc, &ended),
         || {
             thread::join(
-                &rt,
-                || join_server(&rt, alloc, &listener, 1),
-                || played(&rt, alloc, trial.port, &ended),
+                &around,
+                || join_server(&around, alloc, &listener, 1),
+                || played(&rt, &around, alloc, trial.port, &ended),
             )
         },
     );
@@ -271,19 +290,16 @@ fn lives_are_one_run(rt: HostRuntime) -> Result<(), Fail> {
     assert!(rt; acks == Some([0, 1, 1]));
     assert!(rt; ended.looks.load(Ordering::SeqCst) >= 3);
     let mut of_both = ups(alloc, outputs[0].as_slice())?;
-    assert!(rt;
-        of_both.as_str()
-            == "up 000000000000000d 1 0 1 plain - 74657374 1 00000000000000a1\nup 000000000000000d 1 1 1 plain - 74657374 1 00000000000000a1\n"
-    );
+    assert!(rt; of_both.as_str() == FIRST_UPS);
     let second = ups(alloc, outputs[1].as_slice())?;
-    assert!(rt;
-        second.as_str() == "up 000000000000000d 1 2 1 plain - 74657374 1 00000000000000a1\n"
-    );
+    assert!(rt; second.as_str() == UP);
     of_both.push_str(second.as_str())?;
     assert!(rt; bytes_of(&rt, alloc, FOLDER, "up")?.as_slice() == of_both.as_bytes());
     assert!(rt; ups(alloc, outputs[2].as_slice())?.as_str() == "");
-    fs::remove_dir_all(&rt, FOLDER)?;
-    fs::remove_dir_all(&rt, KILLED)?;
+    assert!(rt; ups(alloc, outputs[3].as_slice())?.as_str() == UP);
+    for folder in [FOLDER, KILLED, OPEN] {
+        fs::remove_dir_all(&rt, folder)?;
+    }
     Ok(())
 }
 
@@ -299,8 +315,8 @@ fn refused(
     trial.roster = roster;
     write(rt, alloc, REFUSED, "steps", steps)?;
     write(rt, alloc, REFUSED, "up", up)?;
-    let files = RecordFiles::open(rt, rt, alloc, REFUSED, false)?;
-    let outcome = Begun::resume(rt, alloc, &roster_of(alloc, &trial)?, files);
+    let files = RecordFiles::open(rt, &Discard, alloc, REFUSED, false)?;
+    let outcome = Begun::resume(&Discard, alloc, &roster_of(alloc, &trial)?, files);
     Ok(outcome.err())
 }
 

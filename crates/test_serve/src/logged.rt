@@ -1,14 +1,12 @@
 //! What a server logs: the counts once a minute and at the end, and where memory was wanting before the first window.
 
-use crate::around::Around;
-use crate::parties::{ROSTER_A, device_of, front, heard, nap, sent, socket_to};
-use crate::trial::{Trial, roster_of, served};
+use crate::around::{Around, logging};
+use crate::parties::{contains, device_of, front, heard, nap, sent, socket_to};
+use crate::trial::{Writer, roster_of, served, trial_at};
 use log::Log;
-use log::filter::{Builder, FilteredLog};
-use log::sink::Locked;
 use ns_roster::Roster;
 use ns_serve::ServeFault;
-use ns_types::{BLOCKS, DevEui, DevNonce, OverStd, take_all};
+use ns_types::{BLOCKS, DevEui, DevNonce, take_all};
 use std::alloc::{AllocError, Global};
 use std::net::{Net, TcpListener, TcpStream};
 use std::sync::{Arc, Wait};
@@ -28,21 +26,6 @@ const UNKNOWN: [u8; 16] = [
 // A frame that says that it has more options than it has room for.
 const WITHOUT_OPTIONS: [u8; 12] = [0x40, 0xf1, 0x7d, 0xbe, 0x49, 0x0f, 2, 0, 0, 0, 0, 0];
 
-// A log in memory.
-type Lines<'a, R> = FilteredLog<Locked<&'a R, Vec<u8>>>;
-
-// A runtime that logs these lines into memory, of which there is room for 64 KB. Its clock stands at this time, or goes on where it is 0.
-fn logging<'a, R: Wait>(
-    rt: &'a R,
-    alloc: Global,
-    lines: &str,
-    stands_ms: u64,
-) -> Result<Around<&'a R, Lines<'a, R>>, AllocError> {
-    let filter = Builder::new(alloc).parse(lines)?.build();
-    let lines = Locked::new(rt, Vec::with_capacity(alloc, 65_536)?);
-    Ok(Around::new(rt, FilteredLog::new(lines, filter), stands_ms))
-}
-
 // The two lines of counts, with datagrams read and refused by G1, and with the replies `nosession` and `nodevice`.
 fn counts(
     alloc: Global,
@@ -54,20 +37,6 @@ fn counts(
     format!(in alloc;
         "[INFO  ns_serve_parts::counts] datagrams: read {read} dropped 0 late 0 failed receives 0 G1 {short} G2 0 G3 0 G4 0 G5 0 G6 0 V1 0 V2 0 V3 0 V4 0 V5 0 V6 0\n[INFO  ns_serve_parts::counts] replies: opened 0 copied 0 crowded 0 old 0 nosession {nosession} busy 0 ask 0 joincopied 0 joincrowded 0 nonceold 0 nodevice {nodevice} joinbusy 0 accepted 0 joinrefused 0 joinstale 0 noticket 0 closed 0 nowindow 0 again 0 unanswered 0 unsent 0 stale tickets 0\n"
     )
-}
-
-// A server of one device, which hears at this port.
-fn trial_at(port: u16, stop_after: u32) -> Trial {
-    Trial {
-        roster: ROSTER_A,
-        port,
-        join_workers: 1,
-        window_ms: 1000,
-        stop_after: Some(stop_after),
-        joins: 0,
-        closing: false,
-        forwarders: false,
-    }
 }
 
 // The clock stands at this time for a while, in which the server looks many times whether its counts are to be logged.
@@ -102,12 +71,12 @@ where
     R: Threads + Wait + Clock + Net<Listener = TcpListener, Stream = TcpStream> + Sync,
     L: Log + Sync,
 {
-    let trial = trial_at(17021, 5);
+    let trial = trial_at(17021, Some(5));
     let roster = roster_of(alloc, &trial)?;
     let mut output: Vec<u8> = Vec::new(alloc);
     let (total, _) = thread::join(
         rt,
-        || served(rt, alloc, &trial, roster, OverStd::new(&mut output)),
+        || served(rt, alloc, &trial, roster, Writer::new(&mut output)),
         || two_minutes(rt, alloc, trial.port),
     );
     Ok(total)
@@ -146,12 +115,12 @@ where
     R: Threads + Wait + Clock + Net<Listener = TcpListener, Stream = TcpStream> + Sync,
     L: Log + Sync,
 {
-    let trial = trial_at(17023, 4);
+    let trial = trial_at(17023, Some(4));
     let roster = roster_of(alloc, &trial)?;
     let mut output: Vec<u8> = Vec::new(alloc);
     let (total, _) = thread::join(
         rt,
-        || served(rt, alloc, &trial, roster, OverStd::new(&mut output)),
+        || served(rt, alloc, &trial, roster, Writer::new(&mut output)),
         || four_refused(rt, alloc, trial.port),
     );
     Ok(total)
@@ -168,16 +137,6 @@ fn refusals_are_counted(rt: HostRuntime) -> Result<(), Fail> {
         b"[INFO  ns_serve_parts::counts] datagrams: read 4 dropped 0 late 0 failed receives 0 G1 2 G2 0 G3 0 G4 0 G5 0 G6 1 V1 0 V2 0 V3 0 V4 1 V5 0 V6 0\n";
     assert!(rt; lines.as_slice().starts_with(want));
     Ok(())
-}
-
-// Whether a text has a line of level error.
-fn has_error(text: &[u8]) -> bool {
-    for i in 0..text.len() {
-        if text[i..].starts_with(b"[ERROR ") {
-            return true;
-        }
-    }
-    false
 }
 
 // Serves no datagram with no memory but so many blocks.
@@ -197,8 +156,8 @@ where
     for _ in 0..blocks {
         let _ = held.pop();
     }
-    let trial = trial_at(17025, 0);
-    let ended = served(rt, alloc, &trial, roster, OverStd::new(&mut output));
+    let trial = trial_at(17025, Some(0));
+    let ended = served(rt, alloc, &trial, roster, Writer::new(&mut output));
     held.clear();
     Ok(ended)
 }
@@ -208,14 +167,14 @@ where
 #[test]
 fn want_of_memory_is_logged(rt: HostRuntime) -> Result<(), Fail> {
     let alloc: Global = rt.alloc();
-    let trial = trial_at(17025, 0);
+    let trial = trial_at(17025, Some(0));
     let mut blocks = 0;
     for _ in 0..40 {
         let roster = roster_of(alloc, &trial)?;
         let around = logging(&rt, alloc, "error", 0)?;
         let ended = served_with(&around, alloc, roster, blocks)?;
         let lines = around.into_log().into_inner().into_inner();
-        let is_logged = has_error(lines.as_slice());
+        let is_logged = contains(lines.as_slice(), b"[ERROR ");
         if ended == Ok(0) {
             assert!(rt; !is_logged && blocks > 0);
             return Ok(());

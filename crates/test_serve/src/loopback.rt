@@ -1,13 +1,14 @@
-//! Servers over loopback: a join and an uplink, the longest datagram and line, a gateway that moves, windows drained at the end, two join
-//! workers, and an output that fails.
-ghost use Rattle.std.specs.Prelude.{None};
+//! Servers over loopback: a join and an uplink, the longest datagram and line, a gateway that moves, windows drained at the end, events and
+//! JSON objects, windows closed one after the other, two join workers, and an output that fails.
 
+use crate::around::logging;
 use crate::parties::{
-    ROSTER_A, ROSTER_B, asked, device_of, front, front_later, heard, joined, sent, socket_to,
+    ROSTER_B, asked, contains, device_of, front, front_later, heard, joined, nap, sent, socket_to,
+    uplink,
 };
-use crate::trial::{Play, Trial, tried};
+use crate::trial::{Play, Trial, Writer, trial_at, tried};
 use ns_serve::ServeFault;
-use ns_types::{DevEui, DevNonce, Failed, OverStd, Sink, Stream};
+use ns_types::{DevEui, DevNonce};
 use std::alloc::Global;
 use std::net::Net;
 use std::test::*;
@@ -43,17 +44,13 @@ impl<R: Clock + Net> Play<R> for OneDevice {
 fn one_device_over_loopback(rt: HostRuntime) -> Result<(), Fail> {
     let alloc: Global = rt.alloc();
     let trial = Trial {
-        roster: ROSTER_A,
-        port: 17001,
-        join_workers: 1,
         window_ms: 2000,
-        stop_after: Some(4),
-        joins: 1,
         closing: true,
-        forwarders: false,
+        ..trial_at(17001, Some(4))
     };
+    let around = logging(&rt, alloc, "off", 0)?;
     let mut output: Vec<u8> = Vec::new(alloc);
-    let (total, bytes) = tried(&rt, alloc, &trial, OverStd::new(&mut output), &OneDevice)?;
+    let (total, bytes) = tried(&around, alloc, &trial, Writer::new(&mut output), &OneDevice)?;
     assert!(rt; total == Ok(5) && bytes == Some(45));
     let want =
         b"listening 127.0.0.1:17001\nup 000000000000000d 1 0 1 plain - 74657374 2 00000000000000a1,00000000000000a2\nsettled 5\n{\"devices\":[{\"dev_eui\":\"000000000000000d\",\"join_eui\":\"0102030401020304\",\"last_nonce\":1,\"slot\":1998321}],\"net_id\":\"000024\",\"rx1_offset\":0,\"rx_delay\":1,\"version\":2}\n";
@@ -88,18 +85,10 @@ impl<R: Clock + Net> Play<R> for Longest {
 #[test]
 fn longest_datagram_and_line(rt: HostRuntime) -> Result<(), Fail> {
     let alloc: Global = rt.alloc();
-    let trial = Trial {
-        roster: ROSTER_A,
-        port: 17011,
-        join_workers: 1,
-        window_ms: 1000,
-        stop_after: Some(18),
-        joins: 1,
-        closing: false,
-        forwarders: false,
-    };
+    let trial = trial_at(17011, Some(18));
+    let around = logging(&rt, alloc, "off", 0)?;
     let mut output: Vec<u8> = Vec::new(alloc);
-    let (total, bytes) = tried(&rt, alloc, &trial, OverStd::new(&mut output), &Longest)?;
+    let (total, bytes) = tried(&around, alloc, &trial, Writer::new(&mut output), &Longest)?;
     assert!(rt; total == Ok(19) && bytes == Some(283));
     let mut want: Vec<u8> = Vec::new(alloc);
     want.extend_from_slice(b"listening 127.0.0.1:17011\nup 000000000000000d 1 65535 223 plain - ")?;
@@ -136,22 +125,81 @@ impl<R: Clock + Net> Play<R> for Moved {
 #[test]
 fn last_window_is_acknowledged(rt: HostRuntime) -> Result<(), Fail> {
     let alloc: Global = rt.alloc();
-    let trial = Trial {
-        roster: ROSTER_A,
-        port: 17013,
-        join_workers: 1,
-        window_ms: 1000,
-        stop_after: Some(2),
-        joins: 1,
-        closing: false,
-        forwarders: false,
-    };
+    let trial = trial_at(17013, Some(2));
+    let around = logging(&rt, alloc, "off", 0)?;
     let mut output: Vec<u8> = Vec::new(alloc);
-    let (total, bytes) = tried(&rt, alloc, &trial, OverStd::new(&mut output), &Moved)?;
+    let (total, bytes) = tried(&around, alloc, &trial, Writer::new(&mut output), &Moved)?;
     assert!(rt; total == Ok(4) && bytes == Some(40));
     let want =
         b"listening 127.0.0.1:17013\nup 000000000000000d 1 0 1 plain - 74657374 1 00000000000000a1\nsettled 4\n";
     assert!(rt; output.as_slice() == want.as_slice());
+    Ok(())
+}
+
+/// Where they are asked for, an acknowledgement is told with the device's address, and the uplink as a JSON object.
+#[test]
+fn events_and_objects_are_written(rt: HostRuntime) -> Result<(), Fail> {
+    let alloc: Global = rt.alloc();
+    let trial = Trial {
+        json: true,
+        ..trial_at(17019, Some(2))
+    };
+    let around = logging(&rt, alloc, "off", 0)?;
+    let mut output: Vec<u8> = Vec::new(alloc);
+    let (total, bytes) = tried(&around, alloc, &trial, Writer::new(&mut output), &Moved)?;
+    assert!(rt; total == Ok(4) && bytes == Some(40));
+    let text = output.as_slice();
+    assert!(rt; contains(text, b"\n{\"event\":\"ack\",\"time\":\""));
+    let ack =
+        b"\",\"devEui\":\"000000000000000d\",\"devAddr\":\"49be7df1\",\"session\":1,\"fCnt\":0,\"gatewayId\":\"00000000000000a1\"}\n";
+    assert!(rt; contains(text, ack));
+    let up =
+        b"\",\"devEui\":\"000000000000000d\",\"devAddr\":\"49be7df1\",\"session\":1,\"fCnt\":0,\"fPort\":1,\"confirmed\":true,";
+    assert!(rt; contains(text, up));
+    Ok(())
+}
+
+// A device sends uplink 0, and some 300 ms later the confirmed uplink 1; once that is acknowledged comes one byte. How many bytes the
+// acknowledgement has.
+#[derive(Clone, Copy)]
+struct TwoUplinks;
+
+impl<R: Clock + Net> Play<R> for TwoUplinks {
+    fn play(&self, rt: &R, alloc: Global, port: u16) -> Option<usize> {
+        let socket = socket_to(rt, port)?;
+        let device = joined(rt, alloc, &socket, DevEui(13), 0xa1)?;
+        for (counter, confirmed) in [(0, false), (1, true)] {
+            let datagram = uplink(alloc, &device, counter, confirmed)?;
+            socket.send(datagram.as_slice()).ok()?;
+            for _ in 0..30 {
+                nap(rt);
+            }
+        }
+        let mut buf = [0u8; 512];
+        let bytes = socket.recv(&mut buf).ok();
+        socket.send(&[0]).ok()?;
+        bytes
+    }
+}
+
+/// A window that is not due when the one before it is closed is closed when it is due, long before the server ends.
+#[test]
+fn window_behind_another_is_closed(rt: HostRuntime) -> Result<(), Fail> {
+    let alloc: Global = rt.alloc();
+    let trial = Trial {
+        window_ms: 600,
+        ..trial_at(17037, Some(4))
+    };
+    let around = logging(&rt, alloc, "off", 0)?;
+    let mut output: Vec<u8> = Vec::new(alloc);
+    let (total, bytes) = tried(
+        &around,
+        alloc,
+        &trial,
+        Writer::new(&mut output),
+        &TwoUplinks,
+    )?;
+    assert!(rt; total == Ok(6) && bytes == Some(40));
     Ok(())
 }
 
@@ -182,46 +230,16 @@ fn two_are_asked_about_at_a_time(rt: HostRuntime) -> Result<(), Fail> {
     let alloc: Global = rt.alloc();
     let trial = Trial {
         roster: ROSTER_B,
-        port: 17015,
         join_workers: 2,
         window_ms: 500,
-        stop_after: Some(3),
         joins: 2,
-        closing: false,
-        forwarders: false,
+        ..trial_at(17015, Some(3))
     };
+    let around = logging(&rt, alloc, "off", 0)?;
     let mut output: Vec<u8> = Vec::new(alloc);
-    let (total, bytes) = tried(&rt, alloc, &trial, OverStd::new(&mut output), &TwoJoins)?;
+    let (total, bytes) = tried(&around, alloc, &trial, Writer::new(&mut output), &TwoJoins)?;
     assert!(rt; total == Ok(4) && bytes == Some(90));
     Ok(())
-}
-
-// A writer that takes so many texts, and then fails.
-#[derive(Drop)]
-struct Failing {
-    texts: u32,
-    failed: bool,
-}
-
-impl Stream for Failing {
-    ghost has_failed = { λ s. s.failed };
-
-    fn failed(&self) -> bool {
-        self.failed
-    }
-}
-
-impl Sink for Failing {
-    ghost taken = { λ _. None };
-
-    fn write(&mut self, bytes: &[u8]) -> Result<usize, Failed> {
-        if self.texts == 0 || bytes.is_empty() {
-            self.failed = true;
-            return Err(Failed);
-        }
-        self.texts -= 1;
-        Ok(bytes.len())
-    }
 }
 
 // A device joins within 1,000 ms, which a longer window than that of 100 ms does not allow, and sends an uplink.
@@ -249,20 +267,18 @@ impl<R: Clock + Net> Play<R> for OneUplink {
 fn failed_output_ends_the_server(rt: HostRuntime) -> Result<(), Fail> {
     let alloc: Global = rt.alloc();
     let trial = Trial {
-        roster: ROSTER_A,
-        port: 17017,
-        join_workers: 1,
         window_ms: 100,
-        stop_after: None,
-        joins: 1,
-        closing: false,
-        forwarders: false,
+        ..trial_at(17017, None)
     };
-    let writer = Failing {
-        texts: 1,
-        failed: false,
-    };
-    let (total, bytes) = tried(&rt, alloc, &trial, writer, &OneUplink)?;
+    let around = logging(&rt, alloc, "off", 0)?;
+    let mut output: Vec<u8> = Vec::new(alloc);
+    let (total, bytes) = tried(
+        &around,
+        alloc,
+        &trial,
+        Writer::of(&mut output, 1),
+        &OneUplink,
+    )?;
     assert!(rt; total == Err(ServeFault::Io) && bytes == Some(45));
     Ok(())
 }

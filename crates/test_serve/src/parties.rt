@@ -19,6 +19,16 @@ pub const ROSTER_B: &str =
 /// The AppKey of both.
 const APP_KEY: Key = Key([7; 16]);
 
+/// Whether a text has this piece.
+pub fn contains(text: &[u8], piece: &[u8]) -> bool {
+    for i in 0..text.len() {
+        if text[i..].starts_with(piece) {
+            return true;
+        }
+    }
+    false
+}
+
 // How often a peer tries again, with a sleep of 10 ms before each time.
 const TRIES: u32 = 500;
 
@@ -138,6 +148,20 @@ pub fn heard(alloc: Global, head: &[u8; 27], frame: &[u8]) -> Option<Vec<u8>> {
     bytes.push(u8::try_from(frame.len()).unwrap_or(0)).ok()?;
     bytes.extend_from_slice(frame).ok()?;
     Some(bytes)
+}
+
+/// The datagram of an uplink of this counter.
+pub fn uplink(
+    alloc: Global,
+    device: &TestDevice,
+    counter: u32,
+    confirmed: bool,
+) -> Option<Vec<u8>> {
+    let mut room = [0u8; 64];
+    let frame = device
+        .uplink(counter, confirmed, Some(1), b"test", &mut room)
+        .ok()?;
+    heard(alloc, &front(0xa1), frame)
 }
 
 /// Sends a datagram until the server is there, and gives what comes back within five seconds.

@@ -1,7 +1,8 @@
 //! What leaves the server rests on steps that are written.
 
+use crate::around::logging;
 use crate::lives::{bytes_of, emptied, trial_of};
-use crate::trial::{options_of, roster_of};
+use crate::trial::{Writer, options_of, roster_of};
 use log::sink::Discard;
 use ns_calls::{Bytes, Call, Downlink, Reply};
 use ns_joinclient::HostName;
@@ -9,7 +10,7 @@ use ns_record_files::RecordFiles;
 use ns_serve::Begun;
 use ns_serve_state::{AfterRecord, State, ToSocket, record_call};
 use ns_server::Receipt;
-use ns_types::{DevEui, GatewayId, OverStd, Sink, Target, WindowName};
+use ns_types::{DevEui, GatewayId, Sink, Target, WindowName};
 use ns_workers::Downlinks;
 use std::alloc::Global;
 use std::fs;
@@ -66,8 +67,9 @@ fn steps_are_written_before(rt: HostRuntime) -> Result<(), Fail> {
         record,
     } = Begun::resume(&Discard, alloc, &roster, files)?;
     let options = options_of(&trial, host);
+    let around = logging(&rt, alloc, "off", 0)?;
     let state = State::new(
-        &rt,
+        &around,
         alloc,
         None,
         None,
@@ -77,14 +79,14 @@ fn steps_are_written_before(rt: HostRuntime) -> Result<(), Fail> {
         record,
         None,
     )?;
-    record_call(&rt, &state, &closed(0));
+    record_call(&around, &state, &closed(0));
     assert!(rt; bytes_of(&rt, alloc, FOLDER, "steps")?.as_slice() == b"".as_slice());
-    assert!(rt; !ToSocket { state: &state }.send(&rt, &downlink()));
+    assert!(rt; !ToSocket { state: &state }.send(&around, &downlink()));
     let first = b"close 000000000000000d 1 0\n".as_slice();
     assert!(rt; bytes_of(&rt, alloc, FOLDER, "steps")?.as_slice() == first);
-    record_call(&rt, &state, &closed(1));
+    record_call(&around, &state, &closed(1));
     let mut output: Vec<u8> = Vec::new(alloc);
-    let mut writer = AfterRecord::new(&rt, &state, OverStd::new(&mut output));
+    let mut writer = AfterRecord::new(&around, &state, Writer::new(&mut output));
     assert!(rt; writer.write(b"up\n").is_ok());
     let both = b"close 000000000000000d 1 0\nclose 000000000000000d 1 1\n".as_slice();
     assert!(rt; bytes_of(&rt, alloc, FOLDER, "steps")?.as_slice() == both);

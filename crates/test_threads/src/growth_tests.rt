@@ -5,8 +5,9 @@
 
 use crate::traffic::{closing, join, join_reply, uplink};
 use crate::trial::{Trial, is_made, on_server, settled_by, shared_roster};
+use crate::work::Told;
 use ns_calls::{Call, Reply};
-use ns_server::{Naming, Open, Pass, Server};
+use ns_server::{Gate, Naming, Open, Pass, Server};
 use ns_shard::TrimFault;
 use ns_types::{BLOCKS, take_all};
 use std::alloc::{AllocError, Global};
@@ -18,20 +19,21 @@ use std::test::*;
 const DEVICE: u32 = 13;
 
 // The reply to a call, where memory was not refused.
-fn reply_to<B: Naming, R: Wait>(
+fn reply_to<B: Naming, R: Wait, G: Gate<R>>(
     rt: &R,
     server: &Server<B>,
     pass: &mut Pass<B>,
     call: Call,
+    gate: &G,
 ) -> Option<Reply> {
-    match server.call(rt, pass, call, &Open) {
+    match server.call(rt, pass, call, gate) {
         Ok(receipt) => Some(receipt.entry.reply),
         Err(_) => None,
     }
 }
 
 // Makes a call until it is answered, with one block of memory more given back before each time. The reply, and whether memory was
-// refused before. None where a refused call was counted.
+// refused before. None where a refused call was counted, or told at the gate.
 fn until_answered<B: Naming, R: Wait>(
     rt: &R,
     server: &Server<B>,
@@ -39,12 +41,12 @@ fn until_answered<B: Naming, R: Wait>(
     call: &Call,
     held: &mut Vec<Vec<u8>>,
 ) -> Option<(Reply, bool)> {
-    let made = pass.made(13);
+    let (made, gate) = (pass.made(13), Told::new());
     for refusals in 0..BLOCKS {
-        if let Some(reply) = reply_to(rt, server, pass, *call) {
+        if let Some(reply) = reply_to(rt, server, pass, *call, &gate) {
             return Some((reply, refusals > 0));
         }
-        if pass.made(13) != made || held.pop().is_none() {
+        if pass.made(13) != made || gate.entries() > 0 || held.pop().is_none() {
             return None;
         }
     }
@@ -95,7 +97,7 @@ fn run_refused<B: Naming, R: Wait>(
     Ok(right)
 }
 
-/// A refused call leaves the pass as it was, and the sum counts only what succeeded.
+/// A refused call leaves the pass as it was and is not told at the gate, and the sum counts only what succeeded.
 #[test]
 fn calls_refused_until_memory_is_back(rt: HostRuntime) -> Result<(), Fail> {
     on_server(&rt, rt.alloc(), 16, 1, Trial::Refused)
@@ -169,7 +171,7 @@ fn done_of<B: Naming, R: Wait>(
     let mut done = 0u32;
     for place in first..end {
         if let Some(call) = opening_at(place) {
-            if let Some(reply) = reply_to(rt, server, pass, call) {
+            if let Some(reply) = reply_to(rt, server, pass, call, &Open) {
                 done = done.wrapping_add(u32::from(is_done(&call, &reply)));
             }
         }
@@ -184,7 +186,7 @@ fn until_refused<B: Naming, R: Wait>(
     pass: &mut Pass<B>,
 ) -> Option<u32> {
     for answered in 0..1_000_000u32 {
-        match reply_to(rt, server, pass, closing(DEVICE, 1, 0)) {
+        match reply_to(rt, server, pass, closing(DEVICE, 1, 0), &Open) {
             Some(Reply::NoWindow) => {}
             Some(_) => return None,
             None => return Some(answered),

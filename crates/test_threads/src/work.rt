@@ -6,25 +6,63 @@ use std::alloc::{AllocError, Global};
 use std::sync::Wait;
 use std::sync::atomic::{AtomicU64, Ordering};
 
-// Keeps the number of the last visit, and of the last entry that was told.
+// What a gate is told before a call's lock is taken, at the visit, and once the entry is made; and of how many entries.
 #[derive(Drop)]
-struct Numbered {
+pub(crate) struct Told {
+    before: AtomicU64,
+    shard: AtomicU64,
     number: AtomicU64,
     made: AtomicU64,
+    entries: AtomicU64,
 }
 
-impl<R> Gate<R> for Numbered {
-    fn visit(&self, _rt: &R, _shard: u8, number: u64) {
+impl Told {
+    // Nothing was told.
+    pub fn new() -> Told {
+        Told {
+            before: AtomicU64::new(u64::MAX),
+            shard: AtomicU64::new(u64::MAX),
+            number: AtomicU64::new(u64::MAX),
+            made: AtomicU64::new(u64::MAX),
+            entries: AtomicU64::new(0),
+        }
+    }
+
+    // Of how many entries it was told.
+    pub fn entries(&self) -> u64 {
+        self.entries.load(Ordering::SeqCst)
+    }
+
+    // Whether it was told of the entry of this receipt alone, and each time of its shard and its number: no other call of its shard came
+    // between.
+    pub fn is_of(&self, receipt: &Receipt) -> bool {
+        let (shard, number) = (u64::from(receipt.shard), receipt.entry.number);
+        self.before.load(Ordering::SeqCst) == shard
+            && self.shard.load(Ordering::SeqCst) == shard
+            && self.number.load(Ordering::SeqCst) == number
+            && self.made.load(Ordering::SeqCst) == number
+            && self.entries() == 1
+    }
+}
+
+impl<R> Gate<R> for Told {
+    fn before(&self, _rt: &R, shard: u8) {
+        self.before.store(u64::from(shard), Ordering::SeqCst);
+    }
+
+    fn visit(&self, _rt: &R, shard: u8, number: u64) {
+        self.shard.store(u64::from(shard), Ordering::SeqCst);
         self.number.store(number, Ordering::SeqCst);
     }
 
     fn made(&self, _rt: &R, receipt: &Receipt) {
         self.made.store(receipt.entry.number, Ordering::SeqCst);
+        self.entries.fetch_add(1, Ordering::SeqCst);
     }
 }
 
-/// Makes a call, and keeps its receipt where there is memory for it, and where its entry has the number that was told at the gate, before
-/// it was made and after: no other call of its shard came between.
+/// Makes a call, and keeps its receipt where there is memory for it, and where the gate was told of its shard and of its entry's number,
+/// before it was made and after.
 pub fn make<B: Naming, R: Wait>(
     rt: &R,
     server: &Server<B>,
@@ -32,13 +70,9 @@ pub fn make<B: Naming, R: Wait>(
     call: Call,
     receipts: &mut Vec<Receipt>,
 ) -> Result<(), AllocError> {
-    let gate = Numbered {
-        number: AtomicU64::new(u64::MAX),
-        made: AtomicU64::new(u64::MAX),
-    };
+    let gate = Told::new();
     let receipt = server.call(rt, pass, call, &gate)?;
-    let number = receipt.entry.number;
-    if gate.number.load(Ordering::SeqCst) != number || gate.made.load(Ordering::SeqCst) != number {
+    if !gate.is_of(&receipt) {
         return Err(AllocError);
     }
     receipts.push(receipt)?;

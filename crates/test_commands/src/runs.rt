@@ -1,0 +1,111 @@
+//! What runs write to standard output, and what the program's runtime hands on.
+
+use crate::stand_in::{LIMIT, SINCE_1970, SINCE_START, StandIn};
+use log::info;
+use log::sink::Discard;
+use ns_commands::{Logging, Timed, VARIABLE, compact, run_replay};
+use ns_events::Output;
+use std::io::ErrorKind;
+use std::net::{Net, SocketAddr};
+use std::test::Fail;
+use std::time::{Clock, Duration};
+use std::{fs, io};
+
+const ROSTER: &str =
+    r#"{"version":1,"net_id":"000024","rx1_offset":0,"rx_delay":1,"devices":[{"dev_eui":"000000000000000d","join_eui":"0102030401020304","slot":1998321}]}"#;
+
+// A join and an uplink, each with a copy. What follows is what `tools/model.py` says of them.
+const STEPS: &str =
+    r#"heard 010100000000000000a100000000000f424033be27a005fc4a004b170004030201040302010d00000000000000010001000000
+heard 010100000000000000a200000000000f462833be27a005fc180050170004030201040302010d00000000000000010001000000
+answer 0004030201040302010d00000000000000010001000000 {"AppSKey":{"AESKey":"ec925802ae430ca77fd3dd73cb2cc588","KEKLabel":""},"MessageType":"JoinAns","NwkSKey":{"AESKey":"44024241ed4ce9a68c6a8bc055233fd3","KEKLabel":""},"PHYPayload":"20000102030405060708090a0b0c0d0e0f","Result":{"ResultCode":"Success"},"TransactionID":1}
+heard 010100000000000000a100000000000f424033be27a005fc4a004b1140f17dbe4900020001954378762b11ff0d
+heard 010100000000000000a200000000000f462833be27a005fc1800501140f17dbe4900020001954378762b11ff0d
+close 000000000000000d 1 2
+"#;
+
+const ANSWERS: &str = r#"ask 0004030201040302010d00000000000000010001000000
+joincopied 2
+accepted 000000000000000d 1 49be7df1
+down 00000000000000a2 6001000 868100000 5 20000102030405060708090a0b0c0d0e0f
+opened 000000000000000d 1 2
+copied 000000000000000d 1 2 2
+closed 000000000000000d 1 2 -
+"#;
+
+const LINE: &str =
+    "up 000000000000000d 1 2 1 plain - 74657374 2 00000000000000a1,00000000000000a2\n";
+
+const OBJECT: &str =
+    r#"{"devEui":"000000000000000d","devAddr":"49be7df1","session":1,"fCnt":2,"fPort":1,"confirmed":false,"adr":false,"adrAckReq":false,"ack":false,"classB":false,"fOpts":"","sealed":false,"payload":"74657374","data":"dGVzdA==","rxInfo":[{"gatewayId":"00000000000000a1","moment":1000000,"frequency":868100000,"dr":5,"spreadingFactor":7,"bandwidth":125000,"rssi":-95.0,"snr":7.5},{"gatewayId":"00000000000000a2","moment":1001000,"frequency":868100000,"dr":5,"spreadingFactor":7,"bandwidth":125000,"rssi":-100.0,"snr":8.0}]}
+"#;
+
+const CLOSING: &str =
+    r#"{"devices":[{"dev_eui":"000000000000000d","join_eui":"0102030401020304","last_nonce":1,"slot":1998321}],"net_id":"000024","rx1_offset":0,"rx_delay":1,"version":2}
+"#;
+
+// What `replay` writes: uplinks as lines or as objects, and the closing roster only where it is asked for.
+#[test]
+fn closing_rosters(rt: HostRuntime) -> Result<(), Fail> {
+    let path = "test_commands_closing.json";
+    fs::write(&rt, path, ROSTER.as_bytes())?;
+    for (uplinks, closing, up, last) in [
+        (Output::Lines, false, LINE, ""),
+        (Output::Json, false, OBJECT, ""),
+        (Output::Lines, true, LINE, CLOSING),
+    ] {
+        let stand_in = StandIn::new(rt, rt.alloc(), STEPS);
+        let outcome = run_replay(&stand_in, &Discard, path, uplinks, closing);
+        assert!(rt; outcome.is_ok());
+        let wanted = format!(in rt.alloc(); "{ANSWERS}{up}{last}")?;
+        assert!(rt; stand_in.has_printed(wanted.as_str()), "{last}{up}");
+    }
+    fs::remove_file(&rt, path)?;
+    Ok(())
+}
+
+// What `compact` prints of these six lines, of which it leaves out the two copies.
+#[test]
+fn lines_before_and_after(rt: HostRuntime) -> Result<(), Fail> {
+    let (path, folder) = ("test_commands_compact.json", "test_commands_compact");
+    fs::write(&rt, path, ROSTER.as_bytes())?;
+    let _ = fs::remove_dir_all(&rt, folder);
+    fs::create_dir(&rt, folder)?;
+    fs::write(&rt, "test_commands_compact/steps", STEPS.as_bytes())?;
+    let stand_in = StandIn::new(rt, rt.alloc(), "");
+    assert!(rt; compact(&stand_in, &Discard, path, folder).is_ok());
+    assert!(rt; stand_in.has_printed("compacted 6 4\n"));
+    fs::remove_file(&rt, path)?;
+    fs::remove_dir_all(&rt, folder)?;
+    Ok(())
+}
+
+// How it was refused, if it was.
+fn refusal<T: Drop>(outcome: io::Result<T>) -> Option<ErrorKind> {
+    match outcome {
+        Ok(_) => None,
+        Err(error) => Some(error.kind()),
+    }
+}
+
+// The program's runtime hands on each call as it is, and writes a log line behind the time of day; the variable is that of OPERATOR.
+#[test]
+fn the_wrapper_hands_on(rt: HostRuntime) {
+    let stand_in = StandIn::new(rt, rt.alloc(), "");
+    let logging = Logging::new(&stand_in, Timed(&stand_in));
+    assert!(rt; logging.monotonic().ok() == Some(Duration::from_millis(SINCE_START)));
+    assert!(rt; logging.since_1970().ok() == Some(Duration::from_millis(SINCE_1970)));
+    let addr = SocketAddr::from(([127, 0, 0, 1], 9));
+    assert!(rt; refusal(logging.bind(addr)) == Some(ErrorKind::AddrInUse));
+    assert!(rt; refusal(logging.connect(addr)) == Some(ErrorKind::ConnectionRefused));
+    let late = logging.connect_timeout(addr, Duration::from_millis(LIMIT));
+    assert!(rt; refusal(late) == Some(ErrorKind::TimedOut));
+    assert!(rt; refusal(logging.bind_udp(addr)) == Some(ErrorKind::AddrNotAvailable));
+    let found = logging.lookup_host("localhost", 9, &mut [addr]);
+    assert!(rt; refusal(found) == Some(ErrorKind::NotFound));
+    info!(logging; "heard {}", 2);
+    assert!(rt;
+        stand_in.has_told("[2026-11-24T09:30:00.125Z INFO  test_commands::runs] heard 2\n")
+    );
+    assert!(rt; VARIABLE == "RUST_LOG");
+}

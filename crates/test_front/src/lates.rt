@@ -1,0 +1,82 @@
+//! Late copies of frames whose windows were closed, of all shards.
+
+use ns_front::{FrameName, Lates};
+use std::collections::hash_map::RandomState;
+use std::io;
+use std::random::RandomSource;
+use std::test::Fail;
+
+// Keys of a hash that are always the same.
+#[derive(Clone, Copy)]
+struct Zeros;
+
+impl RandomSource for Zeros {
+    fn fill_bytes(&self, buf: &mut [u8]) -> io::Result<()> {
+        buf.fill(0);
+        Ok(())
+    }
+}
+
+// No frame is noted, and a copy is late for 2 s.
+fn none(rt: &HostRuntime) -> Result<Lates, Fail> {
+    let keys = RandomState::new(&Zeros)?;
+    Ok(Lates::new(rt.alloc(), keys, 2000)?)
+}
+
+// The frame with this counter and MIC of a device of a shard.
+fn frame_of(shard: u8, fcnt: u16, mic: u32) -> FrameName {
+    FrameName {
+        addr: u32::from(shard).wrapping_mul(0x20_0000),
+        fcnt,
+        mic,
+    }
+}
+
+// When the window of a shard's frame is closed.
+fn due_of(shard: u8) -> u64 {
+    u64::from(shard).wrapping_add(5000)
+}
+
+/// A copy is late from the closing of its window on, for just as long as was asked for, in each of the sixteen shards.
+#[test]
+fn a_copy_is_late_for_2_s_in_each_shard(rt: HostRuntime) -> Result<(), Fail> {
+    let lates = none(&rt)?;
+    for shard in 0..16 {
+        lates.note(&rt, frame_of(shard, 7, 8), due_of(shard));
+    }
+    for shard in 0..16 {
+        let (frame, due) = (frame_of(shard, 7, 8), due_of(shard));
+        assert!(rt; lates.due(&rt, frame) == Some(due));
+        assert!(rt; !lates.is_late(&rt, frame, due.wrapping_sub(1)));
+        for (after, want) in [(0, true), (1999, true), (2000, false)] {
+            assert!(rt; lates.is_late(&rt, frame, due.wrapping_add(after)) == want);
+        }
+    }
+    Ok(())
+}
+
+/// A frame with the same MIC, but another counter or another address, is not late, nor is one with another MIC.
+#[test]
+fn another_frame_with_the_same_mic_is_not_late(rt: HostRuntime) -> Result<(), Fail> {
+    let lates = none(&rt)?;
+    lates.note(&rt, frame_of(3, 7, 8), 5000);
+    for other in [frame_of(3, 9, 8), frame_of(4, 7, 8), frame_of(3, 7, 9)] {
+        assert!(rt; !lates.is_late(&rt, other, 5000));
+        assert!(rt; lates.due(&rt, other).is_none());
+    }
+    Ok(())
+}
+
+/// Of one shard 4,096 frames are kept: with one more the first goes, and no other.
+#[test]
+fn a_shard_keeps_4096_frames(rt: HostRuntime) -> Result<(), Fail> {
+    let lates = none(&rt)?;
+    for fcnt in 0..4096 {
+        lates.note(&rt, frame_of(3, fcnt, u32::from(fcnt)), 5000);
+    }
+    assert!(rt; lates.is_late(&rt, frame_of(3, 0, 0), 5000));
+    lates.note(&rt, frame_of(3, 4096, 4096), 5000);
+    assert!(rt; !lates.is_late(&rt, frame_of(3, 0, 0), 5000));
+    assert!(rt; lates.is_late(&rt, frame_of(3, 1, 1), 5000));
+    Ok(())
+}

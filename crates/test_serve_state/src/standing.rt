@@ -1,0 +1,99 @@
+//! A runtime whose clock stands until a test sets it, and which logs into memory.
+
+ghost use Rattle.std.specs.Prelude.{Some, [], true};
+
+use log::kv::Source;
+use log::sink::Locked;
+use log::span::Spans;
+use log::{Log, Metadata, Record};
+use std::alloc::{AllocError, Global};
+use std::fmt::Display;
+use std::io;
+use std::net::{Net, SocketAddr, TcpListener, TcpStream};
+use std::sync::Wait;
+use std::sync::atomic::{AtomicU64, Ordering};
+use std::time::{Clock, Duration};
+
+/// What the wall clock tells always, in milliseconds since 1970: 2025-11-24 20:43:20.123.
+pub const WALL_MS: u64 = 1_764_017_000_123;
+
+/// The runtime of all tests, over the system's.
+#[derive(Drop)]
+pub struct Standing<'a, R: Wait> {
+    rt: &'a R,
+    log: Locked<&'a R, Vec<u8>>,
+    // What the clock tells, in milliseconds.
+    ms: AtomicU64,
+}
+
+impl<'a, R: Wait> Standing<'a, R> {
+    /// Its clock tells 1 s, and it has logged nothing.
+    pub fn new(rt: &'a R, alloc: Global) -> Result<Standing<'a, R>, AllocError> {
+        Ok(Standing {
+            rt,
+            log: Locked::new(rt, Vec::with_capacity(alloc, 4096)?),
+            ms: AtomicU64::new(1000),
+        })
+    }
+
+    /// The clock stands at so long after it stood first, in milliseconds.
+    pub fn stand_at(&self, ms: u64) {
+        self.ms.store(ms.saturating_add(1000), Ordering::SeqCst);
+    }
+
+    /// What was logged.
+    pub fn into_lines(self) -> Vec<u8> {
+        let Standing { rt: _, log, ms: _ } = self;
+        log.into_inner()
+    }
+}
+
+impl<'a, R: Wait> Wait for Standing<'a, R> {}
+
+impl<'a, R: Wait + Clock> Clock for Standing<'a, R> {
+    fn monotonic(&self) -> io::Result<Duration> {
+        Ok(Duration::from_millis(self.ms.load(Ordering::SeqCst)))
+    }
+
+    fn since_1970(&self) -> io::Result<Duration> {
+        Ok(Duration::from_millis(WALL_MS))
+    }
+
+    fn sleep(&self, _duration: Duration) {
+        self.rt.sleep(Duration::from_millis(1))
+    }
+}
+
+impl<'a, R: Wait + Net<Stream = TcpStream, Listener = TcpListener>> Net for Standing<'a, R> {
+    type Stream = TcpStream;
+
+    type Listener = TcpListener;
+
+    fn bind(&self, addr: SocketAddr) -> io::Result<TcpListener> {
+        self.rt.bind(addr)
+    }
+
+    fn connect(&self, addr: SocketAddr) -> io::Result<TcpStream> {
+        self.rt.connect(addr)
+    }
+}
+
+impl<'a, R: Wait> Log for Standing<'a, R> {
+    ghost enables = { λ _ _ _. Some true };
+
+    ghost target_of = { λ _. Some [] };
+
+    fn enabled(&self, _metadata: &Metadata<'_>) -> bool {
+        true
+    }
+
+    fn log<D: Display, K: Source, S: Spans>(&self, record: &Record<'_, D, K, S>) {
+        self.log.log(record);
+    }
+
+    fn flush(&self) {}
+
+    fn target(&self) -> &str {
+        ""
+    }
+}
