@@ -6,7 +6,7 @@ use std::alloc::{AllocError, Global};
 use std::sync::Wait;
 use std::sync::atomic::{AtomicU64, Ordering};
 
-// What a gate is told before a call's lock is taken, at the visit, and once the entry is made; and of how many entries.
+/// What a gate is told before a call's lock is taken, at the visit, and once the entry is made; and of how many entries.
 #[derive(Drop)]
 pub(crate) struct Told {
     before: AtomicU64,
@@ -17,7 +17,7 @@ pub(crate) struct Told {
 }
 
 impl Told {
-    // Nothing was told.
+    /// Nothing was told.
     pub fn new() -> Told {
         Told {
             before: AtomicU64::new(u64::MAX),
@@ -28,13 +28,13 @@ impl Told {
         }
     }
 
-    // Of how many entries it was told.
+    /// Of how many entries it was told.
     pub fn entries(&self) -> u64 {
         self.entries.load(Ordering::SeqCst)
     }
 
-    // Whether it was told of the entry of this receipt alone, and each time of its shard and its number: no other call of its shard came
-    // between.
+    /// Whether it was told of the entry of this receipt alone, and each time of its shard and its number: no other call of its shard came
+    /// between.
     pub fn is_of(&self, receipt: &Receipt) -> bool {
         let (shard, number) = (u64::from(receipt.shard), receipt.entry.number);
         self.before.load(Ordering::SeqCst) == shard
