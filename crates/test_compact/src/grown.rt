@@ -94,7 +94,7 @@ fn kept<R: Files<File = File> + Wait + AllocGlobal>(
     let path = path.as_str();
     for steps in grown.before {
         look(rt, path, steps, "", &mut keeper, &record)?;
-        if fs::metadata(rt, path)?.len() != steps.len() as u64 {
+        if bytes_of(rt, path)?.as_slice() != *steps {
             return Err(Fail::new("steps that did not stay"));
         }
     }
