@@ -1,103 +1,133 @@
 //! Frames whose windows were closed a while ago, so that a late copy is not taken for a repetition.
 
-ghost use Rattle.std.specs.Prelude.{◌≡◌, ℕ, [], false, IfOk, OnOk, OnErr};
-ghost use Rattle.std.specs.Option.{option_map_or};
-ghost use Rattle.std.specs.NonZero.{non_zero_usize_get};
-ghost use Rattle.ns_front.specs.Late.{is_within, is_late_after, is_late, after_noting};
+ghost use Rattle.std.specs.Prelude.{◌≡◌, ◌≢◌, ◌<◌, ℕ, Some, vec_len, IfOk};
+ghost use Rattle.ns_front.specs.Late.{row_of, row_at, no_row, is_within, due_at, due_in, due_of, with_closing, is_late};
 
 use crate::front::FrameName;
-use lru::LruCache;
 use ns_types::{DevAddr, SHARDS, shard_of_addr};
 use std::alloc::{AllocError, Global};
-use std::collections::hash_map::RandomState;
-use std::num::NonZeroUsize;
 use std::sync::{Mutex, Wait};
 
-// Of how many frames of a shard it is kept when their windows are closed.
-const MOST: usize = 4096;
+// How many rows a table has.
+const ROWS: usize = 1024;
 
 // Of which frame a window is closed, and when.
 #[derive(Clone, Copy)]
 struct Closing {
-    addr: u32,
-    fcnt: u16,
+    frame: FrameName,
     due: u64,
 }
 
-/// When the windows of frames are closed, of at most so many frames. When it is full, the one noted first goes. Frames are found by
-/// their MICs: of two with one MIC the one noted last is kept.
+// When the window of a frame is closed, if it is this one.
+fn due_at(closing: &Option<Closing>, frame: FrameName) -> Option<u64>
+    ensures { result ≡ due_at frame closing.now }
+{
+    match closing {
+        Some(closing) if closing.frame == frame => Some(closing.due),
+        _ => None,
+    }
+}
+
+// The four frames of a row that were noted last, the last one first.
+#[derive(Clone, Copy)]
+struct Row {
+    first: Option<Closing>,
+    second: Option<Closing>,
+    third: Option<Closing>,
+    fourth: Option<Closing>,
+}
+
+impl Row {
+    // No frame.
+    fn none() -> Row
+        ensures { result ≡ no_row }
+    {
+        Row {
+            first: None,
+            second: None,
+            third: None,
+            fourth: None,
+        }
+    }
+
+    // When the window of a frame is closed, where it is one of these: what was noted last.
+    fn due(&self, frame: FrameName) -> Option<u64>
+        ensures { result ≡ due_in frame self.now }
+    {
+        due_at(&self.first, frame)
+            .or(due_at(&self.second, frame))
+            .or(due_at(&self.third, frame))
+            .or(due_at(&self.fourth, frame))
+    }
+
+    // The row with one more, for which the fourth goes.
+    fn with(&self, closing: Closing) -> Row
+        ensures { result ≡ with_closing closing self.now }
+    {
+        Row {
+            first: Some(closing),
+            second: self.first,
+            third: self.second,
+            fourth: self.third,
+        }
+    }
+}
+
+/// When the windows of frames are closed: a table of 1,024 rows of at most four frames. A frame stands in the row of the last bits of its
+/// MIC; where that is full, the one that was noted there first goes.
 #[derive(Drop)]
 pub(crate) struct Late {
-    closings: LruCache<u32, Closing, RandomState>,
+    rows: Vec<Row>,
     span_ms: u64,
+    ghost whole: { vec_len rows ≡ 1024 },
 }
 
 impl Late {
-    /// Room for so many frames. A copy is late for so many milliseconds after the closing.
-    pub fn new(
-        alloc: Global,
-        keys: RandomState,
-        most: NonZeroUsize,
-        span_ms: u64,
-    ) -> Result<Late, AllocError>
-        ensures most { IfOk result (λ l. l.closings.cap ≡ non_zero_usize_get most) }
-        ensures none { IfOk result (λ l. l.closings.entries ≡ []) }
+    ghost use Rattle.std.specs.Prelude.{◌≡◌, vec_len};
+
+    /// No frame is noted. A copy is late for so many milliseconds after the closing.
+    pub fn new(alloc: Global, span_ms: u64) -> Result<Late, AllocError>
+        ensures none { IfOk result (λ l. (row : ℕ) → row_at l.rows.items row ≡ no_row) }
         ensures span { IfOk result (λ l. l.span_ms ≡ span_ms) }
     {
-        let mut closings = LruCache::unbounded_with_hasher(alloc, keys)?;
-        closings.resize(most);
-        Ok(Late { closings, span_ms })
+        let rows = vec![in alloc; Row::none(); ROWS]?;
+        Ok(Late { rows, span_ms })
     }
 
-    /// The window of a frame is closed at this time. Where a growth is refused, nothing has changed.
-    pub fn note(&mut self, frame: FrameName, due: u64) -> Result<(), AllocError>
-        ensures order { OnOk result (self.new.closings.entries ≡ after_noting self.old frame due) }
-        ensures late { OnOk result ((now : ℕ) → is_late self.new frame now ≡ is_within self.old.span_ms due now) }
-        ensures same { (self.new.closings.cap ≡ self.old.closings.cap) × (self.new.span_ms ≡ self.old.span_ms) }
-        ensures refused { OnErr result (self.new ≡ self.old) }
+    // The row of a frame.
+    fn row(&self, frame: FrameName) -> Row
+        ensures { result ≡ row_at self.now.rows.items (row_of frame) }
     {
-        let closing = Closing {
-            addr: frame.addr,
-            fcnt: frame.fcnt,
-            due,
-        };
-        match self.closings.put(frame.mic, closing) {
-            Ok(_) => Ok(()),
-            Err(_) => Err(AllocError),
-        }
+        self.rows[frame.mic as usize % ROWS]
+    }
+
+    /// The window of a frame is closed at this time.
+    pub fn note(&mut self, frame: FrameName, due: u64)
+        ensures row { row_at self.new.rows.items (row_of frame) ≡ with_closing (record { frame = frame; due = due }) (row_at self.old.rows.items (row_of frame)) }
+        ensures others { (row : ℕ) → row ≢ row_of frame → row_at self.new.rows.items row ≡ row_at self.old.rows.items row }
+        ensures late { (now : ℕ) → is_late self.new.span_ms self.new.rows.items frame now ≡ is_within self.old.span_ms due now }
+        ensures same { self.new.span_ms ≡ self.old.span_ms }
+    {
+        let row = self.row(frame).with(Closing { frame, due });
+        self.rows[frame.mic as usize % ROWS] = row;
     }
 
     /// When the window of a frame is closed, where that is noted: no copy of another frame is late, and none before then.
     pub fn due(&self, frame: FrameName) -> Option<u64>
-        ensures { (now : ℕ) → is_late self.now frame now ≡ option_map_or (λ due. is_within self.now.span_ms due now) result false }
+        ensures { result ≡ due_of self.now.rows.items frame }
     {
-        let closing = self.closings.peek(&frame.mic)?;
-        if closing.addr == frame.addr && closing.fcnt == frame.fcnt {
-            Some(closing.due)
-        } else {
-            None
-        }
+        self.row(frame).due(frame)
     }
 
     /// Whether a copy of a frame that comes at this time is late.
     pub fn is_late(&self, frame: FrameName, now: u64) -> bool
-        ensures { result ≡ is_late self.now frame now }
+        ensures { result ≡ is_late self.now.span_ms self.now.rows.items frame now }
     {
-        match self.closings.peek(&frame.mic) {
-            Some(closing) => is_late_after(closing, frame, now, self.span_ms),
+        match self.due(frame) {
+            Some(due) => now >= due && now - due < self.span_ms,
             None => false,
         }
     }
-}
-
-// Whether a copy of a frame comes so soon after this closing of its window.
-fn is_late_after(closing: &Closing, frame: FrameName, now: u64, span_ms: u64) -> bool
-    ensures { result ≡ is_late_after span_ms frame now closing.now }
-{
-    closing.addr == frame.addr
-        && closing.fcnt == frame.fcnt
-        && now >= closing.due
-        && now - closing.due < span_ms
 }
 
 /// The same for each shard of addresses, each behind its own lock.
@@ -108,11 +138,10 @@ pub struct Lates {
 
 impl Lates {
     /// No frame is noted.
-    pub fn new(alloc: Global, keys: RandomState, span_ms: u64) -> Result<Lates, AllocError> {
-        let most = NonZeroUsize::new(MOST).unwrap();
+    pub fn new(alloc: Global, span_ms: u64) -> Result<Lates, AllocError> {
         let mut shards = Vec::new(alloc);
         for _shard in 0..SHARDS {
-            let late = Late::new(alloc, keys, most, span_ms)?;
+            let late = Late::new(alloc, span_ms)?;
             shards.push(Mutex::new(late))?;
         }
         Ok(Lates { shards })
@@ -126,8 +155,7 @@ impl Lates {
     /// The window of a frame is closed at this time.
     pub fn note<R: Wait>(&self, rt: &R, frame: FrameName, due: u64) {
         if let Some(lock) = self.lock_of(frame.addr) {
-            let mut late = lock.lock(rt);
-            let _ = late.note(frame, due);
+            lock.lock(rt).note(frame, due);
         }
     }
 

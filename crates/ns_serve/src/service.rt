@@ -364,6 +364,46 @@ fn run_server<
     outcome
 }
 
+// A server with what all threads share, from its first lines to what it settled.
+fn serve_with<
+    R: Threads + Wait + Clock + Net<Listener = TcpListener, Stream = TcpStream> + Log + Sync,
+    S: Stop + Send + Drop + 'static,
+    U: Upkeep + Send + Drop,
+    W: Sink + Send + Drop,
+>(
+    rt: &R,
+    alloc: Global,
+    roster: Arc<Roster>,
+    options: &ServeOptions<'_>,
+    state: &State,
+    shards: Vec<Shard>,
+    windows: Vec<WindowName>,
+    tickets: Vec<Ticket>,
+    stop: S,
+    upkeep: U,
+    writer: W,
+) -> Result<u128, ServeFault>
+    requires workers { (0 < options.now.workers) × (options.now.workers ≤ 16) }
+    requires join_workers { (0 < options.now.join_workers) × (options.now.join_workers ≤ 16) }
+    requires sixteen { vec_len shards ≡ shard_count }
+    requires places { ArePlaced (arc_value roster) shards.items }
+{
+    let writer = AfterRecord::new(rt, state, writer);
+    let output = match first_lines(rt, alloc, state, writer) {
+        Ok(output) => output,
+        Err(why) => {
+            error!(rt; "the first line: {why}");
+            return Err(why);
+        }
+    };
+    watch_stop(rt, state, options, stop)?;
+    let count = options.workers as u64 + options.join_workers as u64 + 1;
+    let blanks = Blanks::new(count);
+    run_server::<Brand, _, _, _>(
+        rt, alloc, roster, blanks, state, output, options, shards, windows, tickets, upkeep,
+    )
+}
+
 /// Serves gateways over UDP, with a join server over TCP, until so many datagrams have come or `stop` says so, if the options ask
 /// for that. Writes `listening ADDR` and `forwarders ADDR` for the addresses at which gateways are heard, the uplinks as windows close,
 /// each on a line as the options say, those of the windows that are still open at the end, `settled T`, and the closing roster where the
@@ -399,19 +439,8 @@ pub fn serve<
     } = begun;
     let mut state = begin(rt, alloc, &roster, options, shards.as_slice(), record)?;
     log_start(rt, &roster, options);
-    let writer = AfterRecord::new(rt, &state, writer);
-    let output = match first_lines(rt, alloc, &state, writer) {
-        Ok(output) => output,
-        Err(why) => {
-            error!(rt; "the first line: {why}");
-            return Err(why);
-        }
-    };
-    watch_stop(rt, &state, options, stop)?;
-    let count = options.workers as u64 + options.join_workers as u64 + 1;
-    let blanks = Blanks::new(count);
-    let outcome = run_server::<Brand, _, _, _>(
-        rt, alloc, roster, blanks, &state, output, options, shards, windows, tickets, upkeep,
+    let outcome = serve_with(
+        rt, alloc, roster, options, &state, shards, windows, tickets, stop, upkeep, writer,
     );
     if has_failed(rt, state.record.take()) {
         return Err(ServeFault::Io);

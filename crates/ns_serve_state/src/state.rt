@@ -128,7 +128,7 @@ impl State {
             gateways: AtomicU64::new(0),
             addresses: Mutex::new(Addresses::new(Peers::new(alloc, keys)?)),
             address_changes: AtomicU64::new(0),
-            lates: Lates::new(alloc, keys, late_ms(roster))?,
+            lates: Lates::new(alloc, late_ms(roster))?,
             asks: AskQueue::new(alloc),
             askers: Mutex::new(Askers::new(alloc, keys)?),
             made: Made::of(shards),

@@ -7,7 +7,7 @@ ghost use Rattle.ns_types.specs.contracts.identity.WindowNamePartialEq.TheImpl a
 ghost use Rattle.ns_calls.specs.Queries.{first};
 ghost use Rattle.ns_windows.specs.Windows.{window_named, with_copy_in, addition, with_copy, entries_with_copy, without};
 
-use crate::window::{Addition, BoxedWindow, Window};
+use crate::window::{Addition, BoxedWindow};
 use lru::LruCache;
 use ns_types::{Heard, WindowName};
 use std::alloc::{AllocError, Global};
@@ -62,7 +62,7 @@ fn add_to_named(linked: &mut Linked, name: &WindowName, heard: &Heard) -> Option
 
 // Adds a window as the last one.
 #[inline(always)]
-fn add_last(alloc: Global, linked: &mut Linked, window: Window) -> Result<(), AllocError>
+fn add_last(linked: &mut Linked, window: BoxedWindow) -> Result<(), AllocError>
     requires new { lookup ((name_eq.ghosts).eq window.name) linked.old.entries ≡ None }
     requires cap { linked.old.cap ≡ 2 ^ 64 - 1 }
     ensures ok { OnOk result (linked.new.entries ≡ linked.old.entries ++ (window.name, window) ∷ []) }
@@ -72,9 +72,8 @@ fn add_last(alloc: Global, linked: &mut Linked, window: Window) -> Result<(), Al
 {
     // The length is what says that the map never is full.
     let _len = linked.len();
-    let name = window.name;
-    let boxed = BoxedWindow::new(alloc, window)?;
-    linked.put(name, boxed)?;
+    let name = window.as_ref().name;
+    linked.put(name, window)?;
     linked.demote(&name);
     Ok(())
 }
@@ -144,19 +143,18 @@ impl ByName {
 
     /// Adds a window at the end. Where the growth is refused, nothing has changed.
     #[inline(always)]
-    pub(crate) fn push(&mut self, window: Window) -> Result<(), AllocError>
+    pub(crate) fn push(&mut self, window: BoxedWindow) -> Result<(), AllocError>
         requires name { window_named window.name self.old ≡ None }
         ensures ok { OnOk result (self.new ≡ self.old ++ window ∷ []) }
         ensures err { OnErr result (self.new ≡ self.old) }
         ensures fits { length self.old < 2 ^ 63 }
     {
-        let alloc = self.alloc;
         if let Some(linked) = &mut self.linked {
-            add_last(alloc, linked, window)?;
+            add_last(linked, window)?;
             return Ok(());
         }
-        let mut linked = LruCache::unbounded(alloc)?;
-        add_last(alloc, &mut linked, window)?;
+        let mut linked = LruCache::unbounded(self.alloc)?;
+        add_last(&mut linked, window)?;
         self.linked = Some(linked);
         Ok(())
     }

@@ -97,6 +97,7 @@ impl Windows {
     {
         let name = window.name;
         let frame = FrameKey::of(self.alloc, window.frame.bytes())?;
+        let window = BoxedWindow::new(self.alloc, window)?;
         self.frames.reserve(1)?;
         self.counts.reserve(1)?;
         self.names.push(window)?;

@@ -3,6 +3,8 @@ use Rattle.std.proofs.Common.{◌≡◌, ◌≢◌, ℕ, ◌+◌, ◌^◌, ◌<�
 use Rattle.std.specs.Prelude.{is_some, count_by, flat_map}
 use Rattle.std.proofs.lemmas.List.Concat.{flat_map-append}
 use Rattle.ns_calls.specs.declared.call.Call.{Call}
+use Rattle.ns_calls.specs.declared.call.Reply.{Reply}
+use Rattle.ns_calls.specs.declared.call.Reply.TheVariants as reply
 use Rattle.ns_roster.specs.Network.{Network}
 use Rattle.ns_events.specs.declared.output.Output.{Output}
 use Rattle.ns_server.specs.declared.kept.Receipt.{Receipt}
@@ -17,7 +19,7 @@ use Rattle.ns_workers.specs.Datagrams.{TakesDatagram}
 use Rattle.ns_workers.specs.Effects.{Effects, Does}
 use Rattle.ns_workers.specs.Job.{job_of, call_at_once}
 use Rattle.ns_workers.specs.Notice.{Notice, datagram_refused, call_dropped}
-use Rattle.ns_workers.specs.Serving.{call_in, refused, dropped, called, nothing, put, done_itself, undone, Follows, IsTurn, Serves, ServesAll, none_served, undone_at, was_refused, was_dropped, left_undone, receipts_of, own_of, put_by, own_in, put_in}
+use Rattle.ns_workers.specs.Serving.{call_in, refused, dropped, called, nothing, put, done_itself, undone, Follows, IsDue, IsTurn, Serves, ServesAll, none_served, undone_at, was_refused, was_dropped, left_undone, receipts_of, own_of, put_by, own_in, put_in}
 use Rattle.ns_workers.proofs.Counting.{count_by_both}
 use Rattle.ns_workers.proofs.Doings.{zip_both, none_is_no_fault, does_none, does_both, does_with}
 use Rattle.ns_workers.proofs.Sources.{Holds, holds_none, holds_more, holds_same, gave_end, gave_full, gave_broken, gave_fault}
@@ -74,12 +76,23 @@ serves_dropped net out h t w s s' e bytes call counts none is told = record {
   does = does_none net out h s'.fault e;
 }
 
-pub serves_called : (net : Network) (out : Output) (h : Notice → Type 0) (t : ℕ → Type 0) (w : ℕ) (s s' : Served) (e f : Effects) (bytes : List ℕ) (r : Receipt) (now : ℕ)
-    → Counts s s' 0 0 → s'.fault ≡ None → call_in bytes ≡ Ok r.entry.call → t now → job_of r.entry.reply now w ≡ None
+-- a job follows a reply at each time or at none
+none_at_any : (reply : Reply) (w told : ℕ) → job_of reply told w ≡ None → (now : ℕ) → job_of reply now w ≡ None
+none_at_any (reply.Opened window) w told none now = absurd cc
+none_at_any (reply.Again window) w told none now = absurd cc
+none_at_any (reply.Ask ticket) w told none now = absurd cc
+none_at_any _ w told none now = none
+
+pub due_at_told : (t : ℕ → Type 0) (w : ℕ) (reply : Reply) (now : ℕ) (job : Option Job) → t now → job ≡ job_of reply now w → IsDue t w reply job
+due_at_told t w reply now None told is = none_at_any reply w now (sym is)
+due_at_told t w reply now (Some job) told is = (now, told, sym is)
+
+pub serves_called : (net : Network) (out : Output) (h : Notice → Type 0) (t : ℕ → Type 0) (w : ℕ) (s s' : Served) (e f : Effects) (bytes : List ℕ) (r : Receipt)
+    → Counts s s' 0 0 → s'.fault ≡ None → call_in bytes ≡ Ok r.entry.call → IsDue t w r.entry.reply None
     → Does net out h None e f (r ∷ []) [] [] → Serves net out h t w s s' e f (bytes ∷ [])
-serves_called net out h t w s s' e f bytes r now counts none is told job did = record {
-  turns = called r now nothing ∷ [];
-  each = ((is, told, job, tt), tt);
+serves_called net out h t w s s' e f bytes r counts none is due did = record {
+  turns = called r nothing ∷ [];
+  each = ((is, due, tt), tt);
   read = counts.0;
   refused = counts.1;
   dropped = counts.2;
@@ -87,16 +100,16 @@ serves_called net out h t w s s' e f bytes r now counts none is told job did = r
   does = does_with net out h s'.fault e f (r ∷ []) [] [] did;
 }
 
-pub serves_followed : (net : Network) (out : Output) (h : Notice → Type 0) (t : ℕ → Type 0) (w : ℕ) (s s' : Served) (e f g : Effects) (bytes : List ℕ) (r : Receipt) (now : ℕ) (job : Job)
-    → Counts s s' 0 0 → call_in bytes ≡ Ok r.entry.call → t now → job_of r.entry.reply now w ≡ Some job
+pub serves_followed : (net : Network) (out : Output) (h : Notice → Type 0) (t : ℕ → Type 0) (w : ℕ) (s s' : Served) (e f g : Effects) (bytes : List ℕ) (r : Receipt) (job : Job)
+    → Counts s s' 0 0 → call_in bytes ≡ Ok r.entry.call → IsDue t w r.entry.reply (Some job)
     → Does net out h None e f (r ∷ []) [] [] → Follows net out h job s'.fault f g → Serves net out h t w s s' e g (bytes ∷ [])
-serves_followed net out h t w s s' e f g bytes r now job counts is told job_is did follows =
+serves_followed net out h t w s s' e f g bytes r job counts is due did follows =
     let own = own_in follows.followed in
     let js = put_in follows.followed in
     let u = follows.undone in
     record {
-      turns = called r now follows.followed ∷ [];
-      each = ((is, told, job_is ∙ sym follows.job_is, follows.right), tt);
+      turns = called r follows.followed ∷ [];
+      each = ((is, subst (λ j. IsDue t w r.entry.reply j) (sym follows.job_is) due, follows.right), tt);
       read = counts.0;
       refused = counts.1;
       dropped = counts.2;

@@ -3,6 +3,7 @@ use Rattle.std.specs.Prelude.{ℕ, ◌≡◌, ◌+◌, ◌^◌, Bool, true, fals
 use Rattle.std.specs.List.{AllZip}
 use Rattle.ns_roster.specs.Network.{Network}
 use Rattle.ns_calls.specs.declared.call.Call.{Call}
+use Rattle.ns_calls.specs.declared.call.Reply.{Reply}
 use Rattle.ns_calls.specs.Steps.{Refusal, link, view, datagram_call}
 use Rattle.ns_events.specs.declared.output.Output.{Output}
 use Rattle.ns_server.specs.declared.kept.Receipt.{Receipt}
@@ -34,12 +35,11 @@ pub data Followed : Type 0 where
   done_itself : Job → Receipt → Followed
   undone : Job → Followed
 
--- what became of a datagram: it was refused, dropped for want of memory, or called, with its receipt, the time then, and
--- what followed
+-- what became of a datagram: it was refused, dropped for want of memory, or called, with its receipt and what followed
 pub data Turn : Type 0 where
   refused : Refused → Turn
   dropped : Turn
-  called : Receipt → ℕ → Followed → Turn
+  called : Receipt → Followed → Turn
 
 abbrev pub job_in : Followed → Option Job
 job_in nothing = None
@@ -65,15 +65,19 @@ abbrev pub was_undone : Followed → Bool
 was_undone (undone job) = true
 was_undone _ = false
 
--- a turn is right for its datagram: why it was refused; or the call was the datagram's, the time was told by the timer, and
--- what followed is the job of the reply at that time
+-- no job follows a reply at any time, or this one does at a time that the timer told
+abbrev pub IsDue : (ℕ → Type 0) → ℕ → Reply → Option Job → Type 0
+IsDue has_told window_ms reply None = (now : ℕ) → job_of reply now window_ms ≡ None
+IsDue has_told window_ms reply (Some job) = (now : ℕ) × has_told now × (job_of reply now window_ms ≡ Some job)
+
+-- a turn is right for its datagram: why it was refused; or the call was the datagram's, and what followed is the job of the
+-- reply
 abbrev pub IsTurn : (Notice → Type 0) → (ℕ → Type 0) → ℕ → List ℕ → Turn → Type 0
 IsTurn has_heard has_told window_ms bytes (refused why) =
     (call_in bytes ≡ Err why) × has_heard (datagram_refused why)
 IsTurn has_heard has_told window_ms bytes dropped = ((call : Call) × (call_in bytes ≡ Ok call)) × has_heard call_dropped
-IsTurn has_heard has_told window_ms bytes (called r now followed) =
-    (call_in bytes ≡ Ok r.entry.call) × has_told now
-    × (job_of r.entry.reply now window_ms ≡ job_in followed) × IsRight followed
+IsTurn has_heard has_told window_ms bytes (called r followed) =
+    (call_in bytes ≡ Ok r.entry.call) × IsDue has_told window_ms r.entry.reply (job_in followed) × IsRight followed
 
 abbrev pub was_refused : Turn → Bool
 was_refused (refused why) = true
@@ -84,20 +88,20 @@ was_dropped dropped = true
 was_dropped _ = false
 
 abbrev pub left_undone : Turn → Bool
-left_undone (called r now followed) = was_undone followed
+left_undone (called r followed) = was_undone followed
 left_undone _ = false
 
 -- the receipts of a turn's calls; those of the calls that did a job; and the jobs that were put
 abbrev pub receipts_of : Turn → List Receipt
-receipts_of (called r now followed) = r ∷ own_in followed
+receipts_of (called r followed) = r ∷ own_in followed
 receipts_of _ = []
 
 abbrev pub own_of : Turn → List Receipt
-own_of (called r now followed) = own_in followed
+own_of (called r followed) = own_in followed
 own_of _ = []
 
 abbrev pub put_by : Turn → List Job
-put_by (called r now followed) = put_in followed
+put_by (called r followed) = put_in followed
 put_by _ = []
 
 -- how many turns left a job undone: with K1 one, else none

@@ -1,5 +1,5 @@
 //! The call of a datagram.
-ghost use Rattle.std.specs.Prelude.{◌≡◌};
+ghost use Rattle.std.specs.Prelude.{◌≡◌, Ok, Err, IfErr, OnOk};
 ghost use Rattle.ns_workers.specs.Serving.{call_in};
 
 use ns_calls::{Call, DataFrame};
@@ -15,9 +15,10 @@ pub enum Refused {
     View(ViewFault),
 }
 
-// The call of a datagram, or why it makes none.
-pub(crate) fn call_of(bytes: &[u8]) -> Result<Call, Refused>
-    ensures { result ≡ call_in bytes.now }
+// Puts the call of a datagram in the place of another, or says why it makes none. A call is large: so none is moved.
+pub(crate) fn put_call(bytes: &[u8], call: &mut Call) -> Result<(), Refused>
+    ensures call { OnOk result (call_in bytes.now ≡ Ok call.new) }
+    ensures refused { IfErr result (λ why. call_in bytes.now ≡ Err why) }
 {
     let datagram = match read_datagram(bytes) {
         Ok(datagram) => datagram,
@@ -25,14 +26,19 @@ pub(crate) fn call_of(bytes: &[u8]) -> Result<Call, Refused>
     };
     let heard = datagram.heard();
     match view(datagram.frame()) {
-        Ok(PhyView::Join(frame)) => Ok(Call::Join {
-            ticket: frame.ticket(),
-            heard,
-        }),
-        Ok(PhyView::Frame(frame)) => Ok(Call::Uplink {
-            frame: DataFrame::of(&frame),
-            heard,
-        }),
-        Err(fault) => Err(Refused::View(fault)),
+        Ok(PhyView::Join(frame)) => {
+            *call = Call::Join {
+                ticket: frame.ticket(),
+                heard,
+            };
+        }
+        Ok(PhyView::Frame(frame)) => {
+            *call = Call::Uplink {
+                frame: DataFrame::of(&frame),
+                heard,
+            };
+        }
+        Err(fault) => return Err(Refused::View(fault)),
     }
+    Ok(())
 }

@@ -1,13 +1,14 @@
 //! Reads the datagrams of gateways, makes their calls and puts the jobs that follow.
 ghost use Rattle.std.specs.Prelude.{◌≡◌, ◌≢◌, ◌+◌, ◌^◌, ◌<◌, ◌≤◌, [], ◌∷◌, false, true, None, Some};
 ghost use Rattle.ns_workers.specs.Effects.{effects};
-ghost use Rattle.ns_workers.specs.Serving.{Follows, Serves, ServesAll};
+ghost use Rattle.ns_workers.specs.Serving.{Follows, IsDue, Serves, ServesAll};
 
 use crate::closer::hand_out;
 use crate::counted::make_call;
-use crate::datagram::call_of;
-use crate::job::{Job, call_at_once, job_of};
+use crate::datagram::put_call;
+use crate::job::{Job, call_at_once, job_of, leads_to_job};
 use crate::outside::{Datagrams, Downlinks, Jobs, Monitor, Received, Shared, Timer, WorkerFault};
+use ns_calls::{Call, Reply};
 use ns_server::{Gate, Naming, Pass, Receipt};
 use ns_types::Sink;
 use std::sync::Wait;
@@ -67,7 +68,17 @@ fn put_job<
     }
 }
 
-// Makes the call of a datagram that is not refused, and puts the job that follows, if one does. The receipt is room.
+// The job that follows a reply. The clock is asked only where one does.
+fn job_after<R, T: Timer<R>>(rt: &R, timer: &T, reply: &Reply, window_ms: u32) -> Option<Job>
+    ensures { IsDue (T.has_told timer.now) window_ms reply.now result }
+{
+    if !leads_to_job(reply) {
+        return None;
+    }
+    job_of(reply, timer.now(rt), window_ms)
+}
+
+// Makes the call of a datagram that is not refused, and puts the job that follows, if one does. The call and the receipt are room.
 #[tactic(auto, using(crate::proofs::Servings::serves_refused, crate::proofs::Servings::serves_dropped, crate::proofs::Servings::serves_called, crate::proofs::Servings::serves_followed, crate::proofs::Doings::does_call,))]
 fn serve_one<
     B: Naming,
@@ -86,6 +97,7 @@ fn serve_one<
     down: &mut D,
     sink: &mut W,
     window_ms: u32,
+    call: &mut Call,
     receipt: &mut Receipt,
     served: &mut Served,
     bytes: &[u8],
@@ -102,21 +114,17 @@ fn serve_one<
     ensures source { served.new.fault ≢ Some WorkerFault.SourceFailed }
 {
     served.read += 1;
-    let call = match call_of(bytes) {
-        Ok(call) => call,
-        Err(why) => {
-            shared.monitor.refused(shared.rt, why);
-            served.refused += 1;
-            return;
-        }
-    };
-    let Ok(()) = make_call(shared, pass, &call, receipt) else {
+    if let Err(why) = put_call(bytes, call) {
+        shared.monitor.refused(shared.rt, why);
+        served.refused += 1;
+        return;
+    }
+    let Ok(()) = make_call(shared, pass, call, receipt) else {
         shared.monitor.dropped(shared.rt);
         served.dropped += 1;
         return;
     };
-    let now = timer.now(shared.rt);
-    if let Some(job) = job_of(&receipt.entry.reply, now, window_ms) {
+    if let Some(job) = job_after(shared.rt, timer, &receipt.entry.reply, window_ms) {
         served.fault = put_job(shared, pass, timer, jobs, down, sink, receipt, job);
     }
 }
@@ -160,6 +168,7 @@ pub fn run_gateway<
     let rt = shared.rt;
     let mut buf = [0u8; 512];
     let mut receipt = Receipt::empty();
+    let mut call = Receipt::empty().entry.call;
     let mut served = Served {
         read: 0,
         refused: 0,
@@ -184,6 +193,7 @@ pub fn run_gateway<
             down,
             sink,
             window_ms,
+            &mut call,
             &mut receipt,
             &mut served,
             &buf[..n],

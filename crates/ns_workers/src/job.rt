@@ -1,5 +1,5 @@
 //! The jobs that follow replies.
-ghost use Rattle.std.specs.Prelude.{◌≡◌, ◌↔◌, IsTrue};
+ghost use Rattle.std.specs.Prelude.{◌≡◌, ◌↔◌, ℕ, false, None, IsTrue};
 ghost use Rattle.ns_workers.specs.Job.{due_at, job_of, call_at_once, IsTooOld};
 
 use ns_calls::{Call, Outcome, Reply};
@@ -60,6 +60,16 @@ pub fn job_of(reply: &Reply, now: u64, window_ms: u32) -> Option<Job>
             due: due_at(now, window_ms.min(COPIES_MS)),
         })),
         _ => None,
+    }
+}
+
+// Whether a job follows a reply, at whatever time.
+pub(crate) fn leads_to_job(reply: &Reply) -> bool
+    ensures { result ≡ false → (now window_ms : ℕ) → job_of reply.now now window_ms ≡ None }
+{
+    match reply {
+        Reply::Opened { .. } | Reply::Again { .. } | Reply::Ask { .. } => true,
+        _ => false,
     }
 }
 

@@ -48,4 +48,4 @@ invariant_of-self-2 c =
     let i = c.self.invariant.0 in
     let name : window_named w.name ws ≡ None = rw c.self.view_is c.requires.name in
     let frame : window_of_frame w.frame ws ≡ None = rw c.self.view_is c.requires.frame in
-    rw (c.in_ok-push.ensures.ok, new_frames c) ((apart-push ws w i.0 (none_found (is_named w.name) ws name), of_frames-push ws w i.1 (none_found (is_of w.frame) ws frame), (λ f. frames-push (λ (k : List ℕ). k) c.self.inside.frames.entries ws c.in_ok-frame.frame w f (key c) (i.2 f))), counted c)
+    rw (c.in_ok-push.ensures.ok, c.in_ok-window.ensures, new_frames c) ((apart-push ws w i.0 (none_found (is_named w.name) ws name), of_frames-push ws w i.1 (none_found (is_of w.frame) ws frame), (λ f. frames-push (λ (k : List ℕ). k) c.self.inside.frames.entries ws c.in_ok-frame.frame w f (key c) (i.2 f))), counted c)

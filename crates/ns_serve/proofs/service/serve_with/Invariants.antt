@@ -1,7 +1,7 @@
 use Rattle.std.specs.Prelude.{slice_index}
 use Rattle.std.specs.Arc.{arc_value}
 use Rattle.ns_server.specs.Begun.{states_at}
-use Rattle.ns_serve.proofs.service.serve.Given as goal
+use Rattle.ns_serve.proofs.service.serve_with.Given as goal
 
 abbrev pub ghosts-run_server-B-Naming : goal.ghosts-run_server-B-Naming
 ghosts-run_server-B-Naming g a = record { roster = arc_value a.roster; begun = states_at (arc_value a.roster) a.shards.items }

@@ -1,0 +1,14 @@
+use Rattle.std.proofs.Common.{◌≡◌, ℕ, zero, suc, refl, sym, subst}
+use Rattle.std.specs.Prelude.{replicate}
+use Rattle.ns_front.specs.Late.{row_at, no_row}
+use Rattle.ns_front.proofs.late.Late.new.Goals as goal
+
+-- each row of a table of rows without frames is one
+none_at : (n row : ℕ) → row_at (replicate n no_row) row ≡ no_row
+none_at zero row = refl
+none_at (suc n) zero = refl
+none_at (suc n) (suc row) = none_at n row
+
+pub returns-clause-none : goal.returns-clause-none
+returns-clause-none c = λ row.
+    rw (c.in_ok-rows.ensures.items_if_clones_equal (λ y same. same)) (subst (λ r. row_at (replicate 1024 r) row ≡ no_row) (sym c.none.ensures) (none_at 1024 row))
