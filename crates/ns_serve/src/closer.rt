@@ -34,6 +34,9 @@ pub(crate) fn room_for(output: Written) -> usize {
 // How long the closer waits at most before it looks whether the server stops and whether shards are to be trimmed.
 const NAP_MS: u64 = 100;
 
+// How long it sleeps at least where a window is not due, so that the windows of a few milliseconds are closed together.
+const LEAST_NAP_MS: u64 = 3;
+
 // Whether a time has come. Once no gateway worker is left every time has, since no copy can come then.
 fn has_come(due: u64, now: u64, is_deaf: bool) -> bool
     ensures { IsTrue result ↔ ((due ≤ now) ⊎ (is_deaf ≡ true)) }
@@ -117,7 +120,8 @@ impl<'a> Closings<'a> {
         if has_come(due, begun, self.state.is_deaf()) {
             return Some(begun);
         }
-        thread::sleep(rt, Duration::from_millis(nap_ms(due, begun)));
+        let nap = nap_ms(due, begun).max(LEAST_NAP_MS);
+        thread::sleep(rt, Duration::from_millis(nap));
         let now = now_ms(rt, self.state);
         if has_come(due, now, self.state.is_deaf()) {
             Some(now)
