@@ -1,4 +1,4 @@
-// AES-128 by four tables and AES-CMAC in plain Rust, timed in the same way as the crate bench_aes.
+// AES-128 by four tables and AES-CMAC in plain Rust, timed in the same way as `bench_parts aes`.
 use std::hint::black_box;
 use std::time::Instant;
 

@@ -18,16 +18,18 @@ void *realloc(void *p, size_t n) { static void *(*f)(void *, size_t); if (!f) f 
 void *aligned_alloc(size_t a, size_t n) { static void *(*f)(size_t, size_t); if (!f) f = dlsym(RTLD_NEXT, "aligned_alloc"); calls++; return f(a, n); }
 int posix_memalign(void **p, size_t a, size_t n) { static int (*f)(void **, size_t, size_t); if (!f) f = dlsym(RTLD_NEXT, "posix_memalign"); calls++; return f(p, a, n); }
 __attribute__((destructor)) static void told(void) { fprintf(stderr, "allocations %.1f\n", calls / 1800.0); }
+// A program that may start threads ends by _exit, which calls no destructor.
+void _exit(int status) { void (*f)(int) = dlsym(RTLD_NEXT, "_exit"); told(); f(status); __builtin_unreachable(); }
 END
 cc -O2 -shared -fPIC -o "$work/count.so" "$work/count.c" -ldl
-program="$here/../crates/bench_joinclient/out/bench_joinclient"
-(cd "$here/../crates/bench_joinclient" && rt run --jobs 2 > "$work/build" 2>&1) || { cat "$work/build"; exit 1; }
+program="$here/../crates/bench_parts/out/bench_parts"
+(cd "$here/../crates/bench_parts" && rt run --jobs 2 > "$work/build" 2>&1) || { cat "$work/build"; exit 1; }
 for _ in 1 2 3; do
-    "$program" > "$work/values" 2>> "$work/proved"
+    "$program" joinclient > "$work/values" 2>> "$work/proved"
     "$work/plain" > "$work/plain_values" 2>> "$work/rust"
 done
 cmp "$work/values" "$work/plain_values"
-LD_PRELOAD="$work/count.so" "$program" 2>&1 > "$work/values" | grep allocations >> "$work/proved"
+LD_PRELOAD="$work/count.so" "$program" joinclient 2>&1 > "$work/values" | grep allocations >> "$work/proved"
 LD_PRELOAD="$work/count.so" "$work/plain" 2>&1 > "$work/values" | grep allocations >> "$work/rust"
 least() { sort -k1,1 -k2,2n "$1" | awk '!seen[$1]++ {print $1, $2}' | sort -k1,1; }
 join -o 0,1.2,2.2 <(least "$work/proved") <(least "$work/rust") | awk '

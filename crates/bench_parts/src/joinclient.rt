@@ -2,16 +2,16 @@
 //! the times to standard error.
 //!
 //! With an argument, the address of an HTTP server, it makes one exchange over a TCP connection instead, and prints what came of it.
-#![tactic(auto)]
 
 ghost use Rattle.std.specs.Prelude.{◌<◌};
 
 use ns_joinclient::{HostName, ask};
 use ns_types::{Fuse, OverStd};
-use std::alloc::AllocError;
-use std::net::TcpStream;
-use std::time::{Duration, Instant};
-use std::{env, io};
+use std::alloc::{AllocError, Global};
+use std::env::Args;
+use std::io;
+use std::net::{Net, OpenStream, TcpStream};
+use std::time::{Clock, Duration, Instant};
 
 /// The measurements of each kind, of which the fastest counts.
 const ROUNDS: u32 = 300;
@@ -26,16 +26,16 @@ const JOIN_ANS: &str =
     r#"{"AppSKey":{"AESKey":"ec925802ae430ca77fd3dd73cb2cc588","KEKLabel":""},"MessageType":"JoinAns","NwkSKey":{"AESKey":"44024241ed4ce9a68c6a8bc055233fd3","KEKLabel":""},"PHYPayload":"20000102030405060708090a0b0c0d0e0f","Result":{"ResultCode":"Success"},"TransactionID":1}"#;
 
 /// A response with a JoinAns behind so many further headers, each with a value of so many letters.
-fn response(rt: &HostRuntime, headers: usize, letters: usize) -> Result<String, AllocError> {
-    let value = "v".repeat(rt.alloc(), letters)?;
-    let line = format!(in rt.alloc(); "Some: {value}\r\n")?;
-    let lines = line.as_str().repeat(rt.alloc(), headers)?;
-    format!(in rt.alloc(); "HTTP/1.1 200 OK\r\n{lines}Content-Length: 267\r\n\r\n{JOIN_ANS}")
+fn response(alloc: Global, headers: usize, letters: usize) -> Result<String, AllocError> {
+    let value = "v".repeat(alloc, letters)?;
+    let line = format!(in alloc; "Some: {value}\r\n")?;
+    let lines = line.as_str().repeat(alloc, headers)?;
+    format!(in alloc; "HTTP/1.1 200 OK\r\n{lines}Content-Length: 267\r\n\r\n{JOIN_ANS}")
 }
 
 /// Exchanges over memory, each read of at most so many bytes, and the nanoseconds of the fastest.
-fn measure(
-    rt: &HostRuntime,
+fn measure<R: Clock + Print + Eprint + AllocGlobal>(
+    rt: &R,
     name: &str,
     response: &str,
     host: HostName<'_>,
@@ -63,7 +63,11 @@ fn measure(
 }
 
 /// One exchange over a TCP connection.
-fn ask_at(rt: &HostRuntime, address: &str, host: HostName<'_>) -> io::Result<()> {
+fn ask_at<R: Net + Print + AllocGlobal>(
+    rt: &R,
+    address: &str,
+    host: HostName<'_>,
+) -> io::Result<()> {
     let stream = TcpStream::connect(rt, address)?;
     stream.set_read_timeout(Some(Duration::from_secs(PATIENCE)))?;
     stream.set_write_timeout(Some(Duration::from_secs(PATIENCE)))?;
@@ -74,21 +78,25 @@ fn ask_at(rt: &HostRuntime, address: &str, host: HostName<'_>) -> io::Result<()>
     }
 }
 
-fn main(rt: HostRuntime) -> io::Result<()> {
+/// Times each kind of exchange, or makes one.
+pub fn time<R: Net + Clock + Print + Eprint + AllocGlobal>(
+    rt: &R,
+    mut words: Args,
+) -> io::Result<()> {
     let Some(host) = HostName::new("js.local") else {
         return Ok(());
     };
-    if let Some(address) = env::args(&rt)?.nth(1) {
-        return ask_at(&rt, address.as_str(), host);
+    if let Some(address) = words.next() {
+        return ask_at(rt, address.as_str(), host);
     }
     for (name, one, headers, letters) in [
         ("short_head", "short_head_by_byte", 0, 0),
         ("long_header", "long_header_by_byte", 1, 4000),
         ("many_headers", "many_headers_by_byte", 31, 120),
     ] {
-        if let Ok(response) = response(&rt, headers, letters) {
-            measure(&rt, name, response.as_str(), host, 1 << 20)?;
-            measure(&rt, one, response.as_str(), host, 1)?;
+        if let Ok(response) = response(rt.alloc(), headers, letters) {
+            measure(rt, name, response.as_str(), host, 1 << 20)?;
+            measure(rt, one, response.as_str(), host, 1)?;
         }
     }
     Ok(())

@@ -7,19 +7,14 @@
 //!
 //! Arguments: how many devices, how many frames of each, how many rounds, and one way alone: `none` makes no call, `apply`, `server`,
 //! `trim`.
-#![tactic(auto)]
 
 ghost use Rattle.std.specs.Prelude.{◌<◌, ◌≤◌};
-
-mod load;
-mod served;
-mod trim;
 
 use crate::load::Load;
 use crate::served::{apply_all, serve_all};
 use crate::trim::time_trims;
 use std::alloc::Global;
-use std::env;
+use std::env::Args;
 use std::sync::{Arc, Wait};
 use std::thread::Threads;
 use std::time::Clock;
@@ -41,21 +36,19 @@ fn number(word: Option<String>, otherwise: u32) -> u32 {
     }
 }
 
-fn asked(rt: &HostRuntime) -> anyhow::Result<Plan> {
-    let mut words = env::args(rt)?;
-    let _program = words.next();
+fn asked(alloc: Global, mut words: Args) -> Plan {
     let devices = number(words.next(), 32);
     let frames = number(words.next(), 2);
     let rounds = number(words.next(), 1);
     let way = match words.next() {
         Some(way) => way,
-        None => String::new(rt.alloc()),
+        None => String::new(alloc),
     };
-    Ok(Plan {
+    Plan {
         load: Load { devices, frames },
         rounds,
         way,
-    })
+    }
 }
 
 // Makes the calls on one thread, or none of them, and prints how many entries there are and how long it took.
@@ -110,21 +103,25 @@ fn time_trim<R: Wait + Clock + Print + Eprint>(
     Ok(())
 }
 
-fn main(rt: HostRuntime) -> anyhow::Result<()> {
-    let alloc: Global = rt.alloc();
-    let plan = asked(&rt)?;
+/// Makes the calls by the ways that the words ask for.
+pub fn time<R: Threads + Wait + Clock + Print + Eprint + Sync>(
+    rt: &R,
+    alloc: Global,
+    words: Args,
+) -> anyhow::Result<()> {
+    let plan = asked(alloc, words);
     for _ in 0..plan.rounds {
         match plan.way.as_str() {
-            "none" => time_apply(&rt, alloc, plan.load, true)?,
-            "apply" => time_apply(&rt, alloc, plan.load, false)?,
-            "server" => time_server(&rt, alloc, plan.load, 1)?,
-            "trim" => time_trim(&rt, alloc, plan.load)?,
+            "none" => time_apply(rt, alloc, plan.load, true)?,
+            "apply" => time_apply(rt, alloc, plan.load, false)?,
+            "server" => time_server(rt, alloc, plan.load, 1)?,
+            "trim" => time_trim(rt, alloc, plan.load)?,
             _ => {
-                time_apply(&rt, alloc, plan.load, false)?;
-                time_server(&rt, alloc, plan.load, 1)?;
-                time_server(&rt, alloc, plan.load, 2)?;
-                time_server(&rt, alloc, plan.load, 4)?;
-                time_trim(&rt, alloc, plan.load)?;
+                time_apply(rt, alloc, plan.load, false)?;
+                time_server(rt, alloc, plan.load, 1)?;
+                time_server(rt, alloc, plan.load, 2)?;
+                time_server(rt, alloc, plan.load, 4)?;
+                time_trim(rt, alloc, plan.load)?;
             }
         }
     }

@@ -1,10 +1,9 @@
-//! Times AES-128 and AES-CMAC as another crate calls them. The values go to standard output, the times to standard error.
-#![tactic(auto)]
+//! Times AES-128 and AES-CMAC. The values go to standard output, the times to standard error.
 
 use ns_aes_cmac::{Aes128, Cmac};
 use ns_types::Key;
 use std::io;
-use std::time::Instant;
+use std::time::{Clock, Instant};
 
 /// The calls in one measurement.
 const CALLS: u32 = 2000;
@@ -22,7 +21,12 @@ const BLOCK: [u8; 16] = [
 const SIGNED: [u8; 47] = [7; 47];
 
 /// Prints a measurement: its last value, and the nanoseconds of a call in tenths.
-fn print(rt: &HostRuntime, name: &str, value: &[u8; 16], nanoseconds: u128) -> io::Result<()> {
+fn print<R: Print + Eprint>(
+    rt: &R,
+    name: &str,
+    value: &[u8; 16],
+    nanoseconds: u128,
+) -> io::Result<()> {
     println!(rt;
         "{name} {:02x}{:02x}{:02x}{:02x}",
         value[0], value[1], value[2], value[3]
@@ -32,7 +36,7 @@ fn print(rt: &HostRuntime, name: &str, value: &[u8; 16], nanoseconds: u128) -> i
 }
 
 /// A block after another, each in need of the one before.
-fn blocks(rt: &HostRuntime) -> io::Result<([u8; 16], u128)> {
+fn blocks(rt: &impl Clock) -> io::Result<([u8; 16], u128)> {
     let cipher = Aes128::new(&Key(KEY));
     let mut block = BLOCK;
     let start = Instant::now(rt)?;
@@ -44,7 +48,7 @@ fn blocks(rt: &HostRuntime) -> io::Result<([u8; 16], u128)> {
 }
 
 /// Two blocks side by side.
-fn pairs(rt: &HostRuntime) -> io::Result<([u8; 16], u128)> {
+fn pairs(rt: &impl Clock) -> io::Result<([u8; 16], u128)> {
     let cipher = Aes128::new(&Key(KEY));
     let mut first = BLOCK;
     let mut second = KEY;
@@ -59,7 +63,7 @@ fn pairs(rt: &HostRuntime) -> io::Result<([u8; 16], u128)> {
 }
 
 /// A block deciphered after another.
-fn blocks_back(rt: &HostRuntime) -> io::Result<([u8; 16], u128)> {
+fn blocks_back(rt: &impl Clock) -> io::Result<([u8; 16], u128)> {
     let cipher = Aes128::new(&Key(KEY));
     let mut block = BLOCK;
     let start = Instant::now(rt)?;
@@ -71,7 +75,7 @@ fn blocks_back(rt: &HostRuntime) -> io::Result<([u8; 16], u128)> {
 }
 
 /// A key schedule and one block under it.
-fn keys(rt: &HostRuntime) -> io::Result<([u8; 16], u128)> {
+fn keys(rt: &impl Clock) -> io::Result<([u8; 16], u128)> {
     let mut key = KEY;
     let start = Instant::now(rt)?;
     for _ in 0..CALLS {
@@ -82,7 +86,7 @@ fn keys(rt: &HostRuntime) -> io::Result<([u8; 16], u128)> {
 }
 
 /// The CMAC of a block and of the signed bytes of a frame, with its key schedule.
-fn codes(rt: &HostRuntime) -> io::Result<([u8; 16], u128)> {
+fn codes(rt: &impl Clock) -> io::Result<([u8; 16], u128)> {
     let mut key = KEY;
     let start = Instant::now(rt)?;
     for _ in 0..CALLS {
@@ -96,7 +100,7 @@ fn codes(rt: &HostRuntime) -> io::Result<([u8; 16], u128)> {
 }
 
 /// The same under a key that is expanded already.
-fn codes_with_cipher(rt: &HostRuntime) -> io::Result<([u8; 16], u128)> {
+fn codes_with_cipher(rt: &impl Clock) -> io::Result<([u8; 16], u128)> {
     let cipher = Aes128::new(&Key(KEY));
     let mut block = BLOCK;
     let start = Instant::now(rt)?;
@@ -114,25 +118,26 @@ fn lesser(a: u128, b: u128) -> u128 {
     if a < b { a } else { b }
 }
 
-fn main(rt: HostRuntime) -> io::Result<()> {
-    let (block, mut block_time) = blocks(&rt)?;
-    let (pair, mut pair_time) = pairs(&rt)?;
-    let (back, mut back_time) = blocks_back(&rt)?;
-    let (key, mut key_time) = keys(&rt)?;
-    let (code, mut code_time) = codes(&rt)?;
-    let (with, mut with_time) = codes_with_cipher(&rt)?;
+/// Times each kind of call.
+pub fn time<R: Clock + Print + Eprint>(rt: &R) -> io::Result<()> {
+    let (block, mut block_time) = blocks(rt)?;
+    let (pair, mut pair_time) = pairs(rt)?;
+    let (back, mut back_time) = blocks_back(rt)?;
+    let (key, mut key_time) = keys(rt)?;
+    let (code, mut code_time) = codes(rt)?;
+    let (with, mut with_time) = codes_with_cipher(rt)?;
     for _ in 1..ROUNDS {
-        block_time = lesser(block_time, blocks(&rt)?.1);
-        pair_time = lesser(pair_time, pairs(&rt)?.1);
-        back_time = lesser(back_time, blocks_back(&rt)?.1);
-        key_time = lesser(key_time, keys(&rt)?.1);
-        code_time = lesser(code_time, codes(&rt)?.1);
-        with_time = lesser(with_time, codes_with_cipher(&rt)?.1);
+        block_time = lesser(block_time, blocks(rt)?.1);
+        pair_time = lesser(pair_time, pairs(rt)?.1);
+        back_time = lesser(back_time, blocks_back(rt)?.1);
+        key_time = lesser(key_time, keys(rt)?.1);
+        code_time = lesser(code_time, codes(rt)?.1);
+        with_time = lesser(with_time, codes_with_cipher(rt)?.1);
     }
-    print(&rt, "block", &block, block_time)?;
-    print(&rt, "pair", &pair, pair_time)?;
-    print(&rt, "back", &back, back_time)?;
-    print(&rt, "key_and_block", &key, key_time)?;
-    print(&rt, "mic", &code, code_time)?;
-    print(&rt, "mic_expanded", &with, with_time)
+    print(rt, "block", &block, block_time)?;
+    print(rt, "pair", &pair, pair_time)?;
+    print(rt, "back", &back, back_time)?;
+    print(rt, "key_and_block", &key, key_time)?;
+    print(rt, "mic", &code, code_time)?;
+    print(rt, "mic_expanded", &with, with_time)
 }
