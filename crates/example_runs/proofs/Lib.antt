@@ -6,3 +6,4 @@ pub mod SharedAddress
 pub mod Legal
 pub mod JsonTexts
 pub mod Frames
+pub mod TrimmedRuns

@@ -9,3 +9,4 @@ pub mod FirstWindow
 pub mod Legal
 pub mod JsonTexts
 pub mod Frames
+pub mod TrimmedRuns

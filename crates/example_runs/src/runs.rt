@@ -1,4 +1,4 @@
-//! The runs, each as the contract of a function that does nothing.
+//! The runs without a trim, each as the contract of a function that does nothing.
 
 ghost use Rattle.std.specs.Prelude.{List};
 ghost use Rattle.ns_roster.specs.Network.{Network};

@@ -1,6 +1,6 @@
-//! The runs, each as the contract of a function that does nothing.
+//! The runs with a trim, each as the contract of a function that does nothing.
 
-ghost use Rattle.example_kept_runs.specs.TrimmedRuns.{LongRun, OpenRun, AcknowledgedRun, RunSentAgain};
+ghost use Rattle.example_runs.specs.TrimmedRuns.{LongRun, OpenRun, AcknowledgedRun, RunSentAgain};
 
 /// A run with two joins, trimmed when no window is open.
 pub fn long_run()

@@ -1,5 +1,0 @@
-use Rattle.example_kept_runs.proofs.TrimmedRuns.{acknowledged_run}
-use Rattle.example_kept_runs.proofs.runs.acknowledged_run.Goals as goal
-
-pub returns : goal.returns
-returns c = acknowledged_run

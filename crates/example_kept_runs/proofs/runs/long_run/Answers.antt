@@ -1,5 +1,0 @@
-use Rattle.example_kept_runs.proofs.TrimmedRuns.{long_run}
-use Rattle.example_kept_runs.proofs.runs.long_run.Goals as goal
-
-pub returns : goal.returns
-returns c = long_run

@@ -1,5 +1,0 @@
-use Rattle.example_kept_runs.proofs.TrimmedRuns.{run_sent_again}
-use Rattle.example_kept_runs.proofs.runs.run_sent_again.Goals as goal
-
-pub returns : goal.returns
-returns c = run_sent_again
