@@ -1,4 +1,5 @@
 //! A program that embeds the network server: it runs a few steps over a roster of one device, and takes one call to a shard of its own.
+//! Then threads share a server (`threads.rt`).
 //!
 //! It is the example of docs/EMBEDDING.md. Its comments say what an embedder may rely on at each call, as the contract of that call
 //! states it.
@@ -9,6 +10,8 @@ ghost use Rattle.std.specs.Arc.{arc_value};
 ghost use Rattle.ns_calls.specs.Out.{answer};
 
 mod steps;
+mod threads;
+mod workers;
 
 use ns_calls::{Answer, Call, lines, shard_of_call};
 use ns_kept::untrimmed_histories_read_as_they_are;
@@ -57,9 +60,8 @@ pub fn first_answer(alloc: Global, roster: Arc<Roster>, call: Call) -> Result<An
     shard.apply(call)
 }
 
-fn main(rt: HostRuntime) -> anyhow::Result<()> {
-    let alloc = rt.alloc();
-
+// Runs the steps, then makes the one call, all on one thread, and prints what came of them.
+fn one_thread(rt: &impl Print, alloc: Global) -> anyhow::Result<()> {
     // The roster is exactly what the text spells, and a valid one; otherwise the error is its first fault, O1 to O6, or no memory.
     let roster = Arc::new(alloc, Roster::read(alloc, ROSTER.as_bytes())?)?;
 
@@ -69,7 +71,7 @@ fn main(rt: HostRuntime) -> anyhow::Result<()> {
     let steps = steps::worked_steps(alloc)?;
     let run = Shards::run(alloc, roster.clone()?, steps.as_slice())?;
     for taken in run.taken.as_slice() {
-        print_taken(&rt, taken)?;
+        print_taken(rt, taken)?;
     }
 
     // An embedder that keeps its own shards makes its own calls, without bytes to read.
@@ -85,6 +87,12 @@ fn main(rt: HostRuntime) -> anyhow::Result<()> {
         },
     };
     let answer = first_answer(alloc, roster, call)?;
-    print_answer(&rt, shard_of_call(&call), 0, &answer)?;
+    print_answer(rt, shard_of_call(&call), 0, &answer)?;
     Ok(())
+}
+
+fn main(rt: HostRuntime) -> anyhow::Result<()> {
+    let alloc = rt.alloc();
+    one_thread(&rt, alloc)?;
+    threads::two_workers(&rt, alloc)
 }

@@ -1,17 +1,14 @@
-//! A program whose threads share one server: two workers hear the same uplinks, the server is trimmed, they hear the next
-//! ones, and then it is settled, checked and drained.
+//! Threads that share one server: two workers hear the same uplinks, the server is trimmed, they hear the next ones, and then it is
+//! settled, checked and drained.
 //!
 //! It is the second example of docs/EMBEDDING.md. Its comments say what an embedder may rely on at each call, as the contract of that
 //! call states it, or of `Kept`, which lies under the lock.
-#![tactic(auto)]
 
 ghost use Rattle.std.specs.Prelude.{◌≡◌, IfOk};
 ghost use Rattle.std.specs.Arc.{arc_value};
 ghost use Rattle.ns_shard.specs.State.{no_entries};
 ghost use Rattle.ns_tally.specs.Tally.{AreNamed};
 ghost use Rattle.ns_server.specs.Settled.{AreStates, MergesToLegal};
-
-mod workers;
 
 use crate::workers::{all_work, trim_all};
 use anyhow::anyhow;
@@ -25,8 +22,8 @@ use std::sync::{Arc, Wait};
 use std::thread::Threads;
 use test_threads::{parted, roster};
 
-// How many devices there are. Each worker hears two uplinks of each.
-const DEVICES: u32 = 3;
+/// How many devices there are. Each worker hears two uplinks of each.
+pub const DEVICES: u32 = 3;
 
 /// What a server of two workers has done when its threads have ended: its histories, and the receipts of all calls.
 ///
@@ -131,8 +128,8 @@ fn run<B: Naming + Send + Sync, R: Threads + Wait + Print + Sync>(
     report(rt, settled, receipts.as_slice())
 }
 
-fn main(rt: HostRuntime) -> anyhow::Result<()> {
-    let alloc: Global = rt.alloc();
+/// A server of two workers over a roster of three devices: runs it, and prints what was done.
+pub fn two_workers<R: Threads + Wait + Print + Sync>(rt: &R, alloc: Global) -> anyhow::Result<()> {
     let roster = Arc::new(alloc, roster(alloc, DEVICES)?)?;
-    run::<Brand, _>(&rt, alloc, roster, Blanks::new(2))
+    run::<Brand, R>(rt, alloc, roster, Blanks::new(2))
 }

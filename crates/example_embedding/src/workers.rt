@@ -1,6 +1,6 @@
 //! What each worker does: its devices join, and then it hears an uplink of each device. And what is done between two rounds of them: trims.
 
-use crate::DEVICES;
+use crate::threads::DEVICES;
 use ns_server::{Naming, Pass, Receipt, Server};
 use ns_shard::TrimFault;
 use std::alloc::{AllocError, Global};
