@@ -1,9 +1,9 @@
 #!/usr/bin/env python3
-"""Holds the model to the worked records that the program worked_records makes.
+"""Holds the model to the worked records that the program worked_texts makes.
 
-    check_worked_records.py [FILE]     of crates/worked_records/stdin, unless told otherwise
+    check_worked_records.py [FILE]     of crates/worked_texts/data/records.txt, unless told otherwise
 
-The form of the text stands at the top of crates/worked_records/src/main.rt. The server is that of `model.py`; what a record has and
+The form of the text stands at the top of crates/worked_texts/src/records.rt. The server is that of `model.py`; what a record has and
 what a start says is here, as FORMATS tells it: a line of `steps` for each answer that changes something, a line of `up` for each `up`
 line of these. Prints how many records and lines there were, and each line that differs; status 1 where one does.
 """
@@ -14,7 +14,7 @@ import sys
 import model
 
 HERE = os.path.dirname(os.path.abspath(__file__))
-FILE = os.path.join(os.path.dirname(HERE), 'crates', 'worked_records', 'stdin')
+FILE = os.path.join(os.path.dirname(HERE), 'crates', 'worked_texts', 'data', 'records.txt')
 
 # the first words of answers on which later ones rest
 CHANGES = ('opened', 'again', 'copied', 'ask', 'joincopied', 'accepted', 'joinrefused', 'joinstale', 'closed')

@@ -1,20 +1,35 @@
 #!/usr/bin/env python3
-"""Holds the model to the worked runs that the program worked_runs makes.
+"""Holds the model to the worked runs that the program worked_texts makes.
 
-    check_worked_runs.py [FILE..]     of all files of crates/worked_runs/data, unless told otherwise
+    check_worked_runs.py [FILE..]     of all runs that crates/worked_texts/args names, unless told otherwise
 
-The form of a file stands at the top of crates/worked_runs/src/main.rt. The program compares all lines of a run together;
+The form of a file stands at the top of crates/worked_texts/src/runs.rt. The program compares all lines of a run together;
 here the lines below each step are held to what the model prints for that step. Prints how many runs and steps there were, and
 each that differs; status 1 where one does.
 """
-import glob
 import os
 import sys
 
 import model
 
 HERE = os.path.dirname(os.path.abspath(__file__))
-FILES = os.path.join(os.path.dirname(HERE), 'crates', 'worked_runs', 'data', '*.txt')
+CRATE = os.path.join(os.path.dirname(HERE), 'crates', 'worked_texts')
+
+
+def texts(kind):
+    """The files of a kind, as the program's arguments name them."""
+    with open(os.path.join(CRATE, 'args'), encoding='utf-8') as file:
+        words = file.read().split()
+    last, files = '', []
+    for word in words:
+        if not word.endswith('.txt'):
+            last = word
+        elif last == kind:
+            files.append(os.path.join(CRATE, 'data', word))
+    return files
+
+
+FILES = texts('runs')
 
 
 class Run:
@@ -67,7 +82,7 @@ def runs(text):
 
 def main(names):
     count = steps = differing = 0
-    for name in names or sorted(glob.glob(FILES)):
+    for name in names or FILES:
         with open(name, 'rb') as file:
             text = file.read()
         for run in runs(text):

@@ -4,7 +4,7 @@
     hostile.py PROGRAM READER [--kind KIND] [--count N] [--seed S] [--size N] [--keep DIR] [--own-aes]
 
     PROGRAM         `lorawan_ns`, for datagrams, lines, answers and files
-    READER          `worked_joins`, for rosters and responses; with `--kind forwarders` it is `worked_forwarders`
+    READER          `worked_texts`, for rosters, responses and forwarders
     --kind KIND     one of datagrams, lines, answers (of join servers, in lines), rosters, responses (of join servers, with their
                     heads), files (rosters as the program reads them) and forwarders (messages of packet forwarders, whose model
                     is forwarder_bridge.py); default: each of them but the last
@@ -341,7 +341,7 @@ def text_batch(options, kind, seed, _, reached):
     for _, printed in texts:
         reached[word_of(kind, printed[0])] += 1
     try:
-        done = subprocess.run([options.reader], input=lines, capture_output=True, timeout=120)
+        done = subprocess.run([options.reader, 'joins', '-'], input=lines, capture_output=True, timeout=120)
     except subprocess.TimeoutExpired:
         return b'', lines, 'no end within 120 s'
     got = done.stdout.decode(errors='replace').split('\n')[:-1]
@@ -366,7 +366,7 @@ def forwarder_batch(options, seed, reached):
     for line in wanted:
         reached.update([hostile_forwarders.word_of(line)])
     try:
-        done = subprocess.run([options.reader], input=lines, capture_output=True, timeout=120)
+        done = subprocess.run([options.reader, 'forwarders', '-'], input=lines, capture_output=True, timeout=120)
     except subprocess.TimeoutExpired:
         return b'', lines, 'no end within 120 s'
     got = done.stdout.decode(errors='replace').split('\n')[:-1]

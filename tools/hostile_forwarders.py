@@ -1,4 +1,4 @@
-"""Messages of packet forwarders that mean harm, and what forwarder_bridge.py makes of each, in the words of `worked_forwarders`."""
+"""Messages of packet forwarders that mean harm, and what forwarder_bridge.py makes of each, in the words of `worked_texts`."""
 import base64
 import json
 import struct
@@ -128,7 +128,7 @@ class Model:
         self.read = bridge.up_datagram
 
     def line(self, now, message):
-        """What `worked_forwarders` prints for a message at a time in microseconds."""
+        """What `worked_texts` prints for a message at a time in microseconds."""
         sent, counts = [], self.bridge.counts
         self.forwarders.sent, self.server.sent = [], sent
         counts.clear()

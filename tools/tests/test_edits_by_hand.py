@@ -1,5 +1,5 @@
 """tools/edits_by_hand: what an edit changes, what is said of it, and that the repository stays as it is. A stand-in for `rt` proves what has
-no word WRONG, and its tests pass where the code has no word SLOW."""
+no word WRONG, and its tests pass where the code has no word SLOW; a program prints its arguments and the code."""
 import os
 import shutil
 import signal
@@ -17,6 +17,8 @@ if [ "$1" = check ]; then
     sed -n 's/.*WRONG_\([a-z]*\).*/fn low::\1: no proof: `search` did not prove `is`/p; s/.*LATER_\([a-z]*\).*/fn low::\1: no proof: it calls another/p' src/*
     if grep -q 'WRONG\|LATER' src/*; then echo "note: src/lib.rt:1:1: it is not proved"; echo logic=not-proved; exit 1; fi
     echo "crate: modules loaded"; echo logic=proved
+elif [ -f src/main.rt ]; then
+    echo "$*"; cat ../low/src/lib.rt; printf '\nrun=ended\n' >&2
 else
     if grep -q SLOW ../low/src/*; then echo "test it::is_fast ... FAILED"; else echo "test it::is_fast ... ok"; fi
     echo "test it::fails ... FAILED"; echo "test result: FAILED."
@@ -88,6 +90,16 @@ class Edits(unittest.TestCase):
         self.edit('a', 'one', 'SLOW', 'tests: high\n')
         self.edit('b', 'one', 'WRONG', 'tests: high\n')
         self.assertEqual(self.says(), (1, ['low/a: refused', 'low/b: ACCEPTED', '1 refused, 1 ACCEPTED, 0 NOT TRIED']))
+
+    def test_by_a_program(self):
+        self.put('crates.txt', 'low:\nmade: low\n')
+        for name, text in (('src/main.rt', ''), ('args', 'all\nof it\n'), ('data/a.txt', ''), ('stdout', 'try --data a.txt=data/a.txt -- one\none\ntwo two\n...\n')):
+            self.put('crates/made/' + name, text)
+        self.edit('a', 'one', 'three', 'tests: made one\n')
+        self.edit('b', 'one', 'three', 'tests: made\n')
+        self.assertEqual(self.says(), (1, ['low/a: refused', 'low: NOT TRIED: made is not well as it stands', '1 refused, 0 ACCEPTED, 1 NOT TRIED']))
+        self.put('crates/made/stdout', 'try --data a.txt=data/a.txt -- all of it\none\ntwo two\n')
+        self.assertEqual(self.says('low/b'), (0, ['low/b: refused', '1 refused, 0 ACCEPTED, 0 NOT TRIED']))
 
     def test_read(self):
         self.edit('a', 'one', 'WRONG')

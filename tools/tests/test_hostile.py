@@ -7,7 +7,7 @@ import unittest
 
 from live import HAS_PROGRAM, PROGRAM, TOOLS
 
-READER = os.environ.get('WORKED_JOINS', os.path.join(os.path.dirname(TOOLS), 'crates', 'worked_joins', 'out', 'worked_joins'))
+READER = os.environ.get('WORKED_TEXTS', os.path.join(os.path.dirname(TOOLS), 'crates', 'worked_texts', 'out', 'worked_texts'))
 
 
 def done(script, *words):

@@ -1,6 +1,5 @@
 """Uplinks as JSON: the schemas and their examples, the worked runs, a consumer, and what `replay` and `serve` write."""
 import contextlib
-import glob
 import io
 import json
 import os
@@ -23,7 +22,7 @@ STEPS = os.path.join(os.path.dirname(TOOLS), 'crates', 'lorawan_ns', 'stdin')
 
 def worked():
     """The JSON lines of the worked runs."""
-    for name in glob.glob(check_worked_runs.FILES):
+    for name in check_worked_runs.FILES:
         with open(name, encoding='utf-8') as file:
             yield from (line for line in file.read().split('\n') if line.startswith('{"devEui"'))
 

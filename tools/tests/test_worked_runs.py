@@ -1,17 +1,21 @@
 """The model beside the worked runs."""
-import glob
 import os
 import tempfile
 import unittest
 
 import check_worked_runs
 
-WINDOWS = os.path.join(os.path.dirname(check_worked_runs.FILES), 'windows.txt')
+DATA = os.path.join(check_worked_runs.CRATE, 'data')
+WINDOWS = os.path.join(DATA, 'windows.txt')
 
 
 class WorkedRuns(unittest.TestCase):
+    def test_each_text_is_named(self):
+        named = [name for kind in ('runs', 'records', 'forwarders', 'frames', 'joins') for name in check_worked_runs.texts(kind)]
+        self.assertEqual(sorted(map(os.path.basename, named)), sorted(os.listdir(DATA)))
+
     def test_all_files(self):
-        self.assertGreaterEqual(len(glob.glob(check_worked_runs.FILES)), 10)
+        self.assertGreaterEqual(len(check_worked_runs.FILES), 11)
         self.assertEqual(check_worked_runs.main([]), 0)
 
     def test_a_wrong_line(self):

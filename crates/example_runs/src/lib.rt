@@ -8,8 +8,8 @@
 //! it; `last_counter` and the last round of `sent_again` begin from entries that are given, and `first_window` is values of RX1.
 //! In `long_run`, `open_run`, `acknowledged_run` and `run_sent_again` the entries are trimmed, and what is kept answers the calls after.
 //!
-//! These are the runs to which the definitions are held without any program. All others stand as texts, which the program worked_runs
-//! makes (`crates/worked_runs/data`).
+//! These are the runs to which the definitions are held without any program. All others stand as texts, which the program worked_texts
+//! makes (`crates/worked_texts/data`).
 //!
 //! The crate has no code that an edit could spoil, and so no must-fail edits: each would compute all runs again.
 //!

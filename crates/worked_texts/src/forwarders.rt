@@ -1,0 +1,26 @@
+//! Reads messages of packet forwarders as the server does, and prints a line for each: what acknowledges it, and what it becomes.
+//!
+//! A line of the text is a time in microseconds and a message in hex, with a space between. The line for it is the fault of a
+//! message that is not acknowledged, as `F3`; else the acknowledgement in hex, or `-`, and behind it
+//!
+//! - of a PUSH_DATA, its datagrams in hex, with a space before each, and the numbers of the items left out;
+//! - of a PULL_DATA, ` asked` with the address of its gateway's downlinks and the version of their messages;
+//! - of a TX_ACK, what came of the downlink, as ` TooLate`;
+//! - the fault of a body, as ` F6`.
+//!
+//! The first messages come from the address 10.0.0.1:1700, and each from the port above that of the one before it.
+
+mod messages;
+
+use crate::forwarders::messages::Messages;
+use std::alloc::Global;
+
+/// Prints the line for each message of a text.
+pub fn print<R: Print>(rt: &R, alloc: Global, text: &str) -> anyhow::Result<()> {
+    let mut messages = Messages::new(alloc)?;
+    for line in text.strip_suffix("\n").unwrap_or(text).split("\n") {
+        let printed = messages.printed(alloc, line)?;
+        println!(rt; "{printed}")?;
+    }
+    Ok(())
+}

@@ -1,0 +1,63 @@
+//! Datagrams of gateways.
+
+use crate::frames::answers::Answers;
+use crate::frames::ask::Ask;
+use ns_link::{read_datagram, write_down, write_down_into};
+use ns_types::{GatewayId, Target};
+
+/// Puts `datagram` or the fault, and gives the parts: version and kind, gateway, moment, frequency, data rate, RSSI, SNR, length and frame.
+/// Where these are not the bytes, it puts `differs` too.
+pub fn put(bytes: &[u8], out: &mut Answers) -> Answers {
+    let mut parts = out.other();
+    match read_datagram(bytes) {
+        Ok(datagram) => {
+            out.word("datagram");
+            let heard = datagram.heard();
+            parts.hex(&[0x01, 0x01]);
+            parts.hex(&heard.gateway.0.to_be_bytes());
+            parts.hex(&heard.moment.to_be_bytes());
+            parts.hex(&heard.freq.to_be_bytes());
+            parts.hex(&[heard.dr]);
+            parts.hex(&heard.rssi.to_be_bytes());
+            parts.hex(&heard.snr.to_be_bytes());
+            let len = bytes.get(27).copied().unwrap_or(0);
+            parts.hex(&[len]);
+            parts.hex(datagram.frame());
+            if !parts.are(bytes) || usize::from(len) != datagram.frame().len() {
+                out.word("differs");
+            }
+        }
+        Err(fault) => out.fault("G", fault.number()),
+    }
+    parts
+}
+
+/// gateway, moment, freq, dr, frame, room: the datagram to a gateway, or the fault, and behind it the buffer, which had so many bytes
+/// ee. The same by `write_down_into`.
+pub fn send(ask: Ask, out: &mut Answers) {
+    let mut room = [0; 256];
+    let frame = ask.bytes("frame", &mut room);
+    if frame.len() > 255 {
+        return;
+    }
+    let target = Target {
+        gateway: GatewayId(u64::from_be_bytes(ask.array("gateway"))),
+        moment: ask.number("moment"),
+        freq: ask.number("freq"),
+        dr: ask.number("dr"),
+    };
+    let mut lent = [0; 256];
+    let lent = ask.bytes("room", &mut lent);
+    match write_down(&target, frame, lent) {
+        Ok(datagram) => out.hex(datagram),
+        Err(fault) => out.fault("G", fault.number()),
+    }
+    out.hex(lent);
+    let mut into = [0; 256];
+    let into = ask.bytes("room", &mut into);
+    match write_down_into(&target, frame, into) {
+        Ok(size) => out.number(size as u64),
+        Err(fault) => out.fault("G", fault.number()),
+    }
+    out.hex(into);
+}

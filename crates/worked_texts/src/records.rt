@@ -1,0 +1,36 @@
+//! Makes the lives of records that a text tells, and prints the title of each. Where a record, a server or a start says other
+//! lines than the text does, it prints what was said and what was wanted.
+//!
+//! What stands before the first title says what the text is about. `# TITLE` begins with empty files and no server, and of the lines
+//! behind it
+//!
+//! - `roster JSON` is the roster of the starts from here on; a title without one has that of the title before;
+//! - `$ start` ends the server, if one runs, and begins the next one with the files. It says how many entries its shards made, what is cut
+//!   off each file, the `up` lines that are added, and the windows and tickets that are open; or why it does not begin;
+//! - `> STEP` is a step line for the server, which puts it down where later answers rest on it. It says the answer's lines;
+//! - `$ show FILE` says the lines of `steps` or `up`;
+//! - `$ put FILE LINE` adds a line to a file, and `$ tear FILE PART` adds bytes without a line feed;
+//! - `$ drop FILE` takes the last line of a file away, with its line feed;
+//! - any other is a line that is to be said: what comes of a line stands right below it.
+//!
+//! Empty lines stand for nothing.
+
+mod life;
+mod lines;
+
+use crate::records::life::Life;
+use std::alloc::Global;
+
+/// Makes the records of a text.
+pub fn print<R: Print>(rt: &R, alloc: Global, text: &str) -> anyhow::Result<()> {
+    let mut life = Life::new(alloc);
+    for part in text.split("\n# ").skip(1) {
+        let (title, lines) = part.split_once("\n").unwrap_or((part, ""));
+        println!(rt; "{title}")?;
+        let (said, wanted) = life.told(lines)?;
+        if said.as_str() != wanted.as_str() {
+            println!(rt; "differs. Said:\n{said}Wanted:\n{wanted}")?;
+        }
+    }
+    Ok(())
+}
