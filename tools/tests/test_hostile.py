@@ -27,7 +27,7 @@ class Hostile(unittest.TestCase):
 
     @unittest.skipUnless(os.access(READER, os.X_OK), 'no program at ' + READER)
     def test_the_readers_of_texts(self):
-        for kind in ('rosters', 'responses'):
+        for kind in ('rosters', 'responses', 'forwarders'):
             self.is_alike(kind, 2000)
 
     def test_a_wrong_reader_is_told(self):

@@ -14,7 +14,7 @@ mod joins;
 mod records;
 mod runs;
 
-use anyhow::{Context, bail};
+use anyhow::bail;
 use std::rt::Files;
 use std::{env, fs, io};
 
@@ -74,9 +74,10 @@ fn main(rt: HostRuntime) -> anyhow::Result<()> {
     let mut kind = None;
     for word in env::args(&rt)?.skip(1) {
         let word = word.as_str();
-        match kind_of(word) {
-            Some(named) => kind = Some(named),
-            None => make(&rt, kind.context("a text without its kind")?, word)?,
+        match (kind_of(word), kind) {
+            (Some(named), _) => kind = Some(named),
+            (None, Some(kind)) => make(&rt, kind, word)?,
+            (None, None) => bail!("no kind of text: {word}"),
         }
     }
     Ok(())

@@ -113,7 +113,7 @@ impl Worked {
         }
     }
 
-    // What a question about a roster or a message comes to.
+    // What a question comes to, where the join server and the device for tests may change.
     fn answered(
         &mut self,
         alloc: Global,
@@ -121,20 +121,11 @@ impl Worked {
         text: &str,
         texts: &Texts,
     ) -> Result<String, AllocError> {
-        let (bytes, base) = (texts.bytes.as_slice(), texts.base.as_slice());
         match word {
-            "holds" => rosters::roster(alloc, bytes),
-            "find" => rosters::found(alloc, base, text),
-            "knows" => rosters::known(alloc, base, text),
-            "field" => rosters::field(alloc, base, text),
-            "question" => messages::question(alloc, base, &ticket(text)),
-            "answer" => messages::answer(alloc, bytes, self.transaction),
-            "fronts" => messages::fronts(alloc, base, self.transaction),
-            "words" => words(alloc),
-            "reply" => devices::reply(alloc, &mut self.server, bytes),
+            "reply" => devices::reply(alloc, &mut self.server, texts.bytes.as_slice()),
             "join_request" => devices::join_request(alloc, &self.device, text),
             "accept" => devices::accept(alloc, &mut self.device, text),
-            _ => exchanged(alloc, word, self.asked(), texts),
+            _ => read(alloc, word, text, self.asked(), texts),
         }
     }
 
@@ -164,6 +155,28 @@ struct Texts {
     bytes: Vec<u8>,
     base: Vec<u8>,
     response: Vec<u8>,
+}
+
+// What a question about a roster or a message comes to.
+fn read(
+    alloc: Global,
+    word: &str,
+    text: &str,
+    asked: Asked<'_>,
+    texts: &Texts,
+) -> Result<String, AllocError> {
+    let (bytes, base) = (texts.bytes.as_slice(), texts.base.as_slice());
+    match word {
+        "holds" => rosters::roster(alloc, bytes),
+        "find" => rosters::found(alloc, base, text),
+        "knows" => rosters::known(alloc, base, text),
+        "field" => rosters::field(alloc, base, text),
+        "question" => messages::question(alloc, base, &ticket(text)),
+        "answer" => messages::answer(alloc, bytes, asked.transaction),
+        "fronts" => messages::fronts(alloc, base, asked.transaction),
+        "words" => words(alloc),
+        _ => exchanged(alloc, word, asked, texts),
+    }
 }
 
 // What a question about an exchange comes to.
