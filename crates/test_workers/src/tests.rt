@@ -282,12 +282,12 @@ ask 0 4 3 2 1 4 3 2 1 14 0 0 0 1 0 0 0 80 195 254 0 0 255 0 0
     "",
 );
 
-// With memory enough no datagram is dropped, of 2,000.
+// With memory enough no datagram is dropped, of 2,000. No job follows, so the clock is not asked.
 const NO_DATAGRAM_IS_DROPPED: Case = (
     &[At(7, Serve(&[Frame(&JOIN_0F, 2_000)], 0), NONE)],
     "\
 served 2000 0 0 0
-told 0 2000 0 0 0 0 0 7 17 27
+told 0 2000 0 0 0 0 0 7 7 7
 ",
     "",
 );
