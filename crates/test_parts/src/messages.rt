@@ -1,4 +1,4 @@
-//! Messages as forwarders send them; expected values are those of the protocol's text and of tools/tests/test_forwarder_bridge.py.
+//! Messages as packet forwarders send them. What is wanted is by the protocol's text and by tools/tests/test_forwarder_bridge.py.
 
 use ns_forwarder::{
     Clock, ForwarderFault, Item, Kind, Outcome, hand_on, pull_resp, read_item, read_message,

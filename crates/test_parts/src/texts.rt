@@ -1,4 +1,4 @@
-//! The texts. What is wanted of each is written by hand from docs/FORMATS.md.
+//! The texts of the status, by the formats of JSON and Prometheus. What is wanted of each is written by hand from docs/FORMATS.md.
 
 use ns_status::{
     Content, Device, Gateway, HeardBy, Lists, Status, Totals, head_of, put_devices, put_end,

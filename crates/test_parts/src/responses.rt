@@ -1,4 +1,4 @@
-//! Responses read in pieces of every size. What is wanted of each is written by RFC 9112 and RFC 9110.
+//! HTTP responses read in pieces of every size. What is wanted of each is written by RFC 9112 and RFC 9110.
 
 ghost use Rattle.std.specs.Prelude.{◌<◌};
 

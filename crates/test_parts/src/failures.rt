@@ -1,4 +1,4 @@
-//! Files in memory whose calls fail from one on, of which the failing append takes a front.
+//! The files of a record in memory, whose calls fail from one on, of which the failing append takes a front.
 ghost use Rattle.std.specs.Prelude.{None};
 ghost use Rattle.std.specs.Option.{option_map};
 

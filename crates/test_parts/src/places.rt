@@ -1,4 +1,4 @@
-//! Texts with each fault, and the words for it. Faults and fields are by FORMATS, part 6.
+//! Rosters with each fault and its place, and the words for it. Faults and fields are by FORMATS, part 6.
 
 use ns_roster::RosterFault;
 use ns_roster_place::{DeviceField, OuterField, Place, first_fault};

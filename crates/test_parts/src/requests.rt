@@ -1,4 +1,4 @@
-//! Requests that come in pieces of each size. What is wanted of each is written by RFC 9112 and RFC 9110.
+//! Requests for the status that come in pieces of each size. What is wanted of each is written by RFC 9112 and RFC 9110.
 
 ghost use Rattle.std.specs.Prelude.{◌<◌};
 

@@ -1,28 +1,17 @@
-//! Messages as forwarders send them, over memory and over sockets.
+//! Messages as packet forwarders send them: what is known of their gateways, and two gateways over sockets, with the answers, the
+//! downlinks, and how often each thing is counted.
 
+use crate::keys::zero_keys;
 use ns_forwarder::{Clock, ForwarderFault, Outcome, read_message};
 use ns_forwarder_socket::{Event, Forwarders, Gateways, Pending, Route, Taken, outcome_name, take};
 use ns_types::{GatewayId, Target};
 use std::alloc::Global;
-use std::collections::hash_map::RandomState;
-use std::io;
 use std::net::{IpAddr, Ipv4Addr, SocketAddr, UdpSocket};
 use std::num::NonZeroUsize;
 use std::process::Abort;
-use std::random::RandomSource;
 use std::sync::Wait;
 use std::test::Fail;
 use std::time::{self, Duration, Instant};
-
-#[derive(Clone, Copy)]
-struct Noughts;
-
-impl RandomSource for Noughts {
-    fn fill_bytes(&self, buf: &mut [u8]) -> io::Result<()> {
-        buf.fill(0);
-        Ok(())
-    }
-}
 
 // A push of gateway 9 with two frames, and an item without a CRC between them.
 const PUSH: &[u8] =
@@ -92,8 +81,7 @@ fn at(port: u16) -> SocketAddr {
 
 // What is known of gateways, of which two are kept, once each of three has asked for downlinks.
 fn asked_by_three(alloc: Global) -> Result<Gateways, Fail> {
-    let keys = RandomState::new(&Noughts)?;
-    let mut gateways = Gateways::of(alloc, keys, NonZeroUsize::new(2).unwrap())?;
+    let mut gateways = Gateways::of(alloc, zero_keys()?, NonZeroUsize::new(2).unwrap())?;
     for gateway in [1, 2, 9] {
         hear(alloc, &mut gateways, &pull(2, gateway), at(1700))?;
     }
@@ -144,7 +132,7 @@ fn local(rt: &HostRuntime) -> Result<UdpSocket, Fail> {
 
 // The forwarders of a socket of this machine, and its address.
 fn server(rt: &HostRuntime) -> Result<(Forwarders, SocketAddr), Fail> {
-    let (keys, start) = (RandomState::new(&Noughts)?, Instant::now(rt)?);
+    let (keys, start) = (zero_keys()?, Instant::now(rt)?);
     let socket = local(rt)?;
     let addr = socket.local_addr()?;
     Ok((Forwarders::new(rt.alloc(), keys, socket, start, 27)?, addr))

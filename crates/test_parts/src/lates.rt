@@ -1,26 +1,12 @@
 //! Late copies of frames whose windows were closed, of all shards.
 
+use crate::keys::zero_keys;
 use ns_front::{FrameName, Lates};
-use std::collections::hash_map::RandomState;
-use std::io;
-use std::random::RandomSource;
 use std::test::Fail;
-
-// Keys of a hash that are always the same.
-#[derive(Clone, Copy)]
-struct Zeros;
-
-impl RandomSource for Zeros {
-    fn fill_bytes(&self, buf: &mut [u8]) -> io::Result<()> {
-        buf.fill(0);
-        Ok(())
-    }
-}
 
 // No frame is noted, and a copy is late for 2 s.
 fn none(rt: &HostRuntime) -> Result<Lates, Fail> {
-    let keys = RandomState::new(&Zeros)?;
-    Ok(Lates::new(rt.alloc(), keys, 2000)?)
+    Ok(Lates::new(rt.alloc(), zero_keys()?, 2000)?)
 }
 
 // The frame with this counter and MIC of a device of a shard.

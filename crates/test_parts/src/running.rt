@@ -1,4 +1,5 @@
-//! Fewer steps take the place of those of a record while lines are put.
+//! The files of a record in a folder: who may read them, when they are brought to the disk, and what goes on where fewer steps take the
+//! place of others while lines are put, or cannot.
 
 use crate::failures::Told;
 use log::sink::Discard;
@@ -25,7 +26,7 @@ struct Folder<'a, R> {
 }
 
 impl<'a, R: Wait + Files<File = File> + AllocGlobal> Folder<'a, R> {
-    // A folder with the steps a and b, of which a is to stay, and b is put behind the part that was read. There were fewer steps before that
+    // A folder with the steps a and b, of which a is to stay, and b is put behind the part that was read. Fewer steps that were there before
     // were given up.
     fn new(rt: &'a R, path: &'static str, sync: bool) -> Result<Folder<'a, R>, Fail> {
         let alloc = rt.alloc();
@@ -132,7 +133,7 @@ fn is_private<R: Files<File = File> + AllocGlobal>(
 /// owner alone.
 #[test]
 fn later_lines_follow(rt: HostRuntime) -> Result<(), Fail> {
-    let mut folder = Folder::new(&rt, "test_record_files_later", true)?;
+    let mut folder = Folder::new(&rt, "test_parts_later", true)?;
     folder.follow()?;
     folder.put("c")?;
     folder.replace()?;
@@ -146,7 +147,7 @@ fn later_lines_follow(rt: HostRuntime) -> Result<(), Fail> {
 #[test]
 fn what_cannot_be_replaced_goes_on(rt: HostRuntime) -> Result<(), Fail> {
     for stops in [false, true] {
-        let mut folder = Folder::new(&rt, "test_record_files_stays", true)?;
+        let mut folder = Folder::new(&rt, "test_parts_stays", true)?;
         if stops {
             folder.recorder.rest();
         } else {
@@ -162,11 +163,8 @@ fn what_cannot_be_replaced_goes_on(rt: HostRuntime) -> Result<(), Fail> {
 /// it has.
 #[test]
 fn what_cannot_be_renamed_goes_on(rt: HostRuntime) -> Result<(), Fail> {
-    let path = "test_record_files_named";
-    let (steps, aside) = (
-        "test_record_files_named/steps",
-        "test_record_files_named/aside",
-    );
+    let path = "test_parts_named";
+    let (steps, aside) = ("test_parts_named/steps", "test_parts_named/aside");
     let mut folder = Folder::new(&rt, path, true)?;
     fs::rename(&rt, steps, aside)?;
     fs::create_dir(&rt, steps)?;
@@ -181,13 +179,13 @@ fn what_cannot_be_renamed_goes_on(rt: HostRuntime) -> Result<(), Fail> {
 /// takes bytes but cannot be brought to a disk.
 #[test]
 fn steps_are_brought_to_the_disk_if_asked(rt: HostRuntime) -> Result<(), Fail> {
-    let path = "test_record_files_sync";
+    let path = "test_parts_sync";
     let (_reader, writer) = pipe(&rt)?;
     let end = format!(in rt.alloc(); "/proc/self/fd/{}", writer.as_raw_fd())?;
     for sync in [false, true] {
         let mut folder = Folder::new(&rt, path, sync)?;
         folder.shorter.remove(&rt);
-        symlink(&rt, end.as_str(), "test_record_files_sync/steps.new")?;
+        symlink(&rt, end.as_str(), "test_parts_sync/steps.new")?;
         folder.replace()?;
         folder.recorder.put(&rt, &Told::new("c", None));
         assert!(rt; folder.recorder.write(&rt).is_err() == sync);
@@ -199,15 +197,11 @@ fn steps_are_brought_to_the_disk_if_asked(rt: HostRuntime) -> Result<(), Fail> {
 /// Zeros at the ends, which a crash of the machine may leave, are cut off.
 #[test]
 fn zeros_are_cut_off(rt: HostRuntime) -> Result<(), Fail> {
-    let (alloc, path) = (rt.alloc(), "test_record_files_zeros");
+    let (alloc, path) = (rt.alloc(), "test_parts_zeros");
     let _ = fs::remove_dir_all(&rt, path);
     fs::create_dir(&rt, path)?;
-    fs::write(
-        &rt,
-        "test_record_files_zeros/steps",
-        b"a\nb\0\0\0".as_slice(),
-    )?;
-    fs::write(&rt, "test_record_files_zeros/up", b"\0\0".as_slice())?;
+    fs::write(&rt, "test_parts_zeros/steps", b"a\nb\0\0\0".as_slice())?;
+    fs::write(&rt, "test_parts_zeros/up", b"\0\0".as_slice())?;
     assert!(rt; RecordFiles::open(&rt, &Discard, alloc, path, true).is_ok());
     assert!(rt; has(&rt, path, "steps", "a\nb")? && has(&rt, path, "up", "")?);
     fs::remove_dir_all(&rt, path)?;

@@ -1,0 +1,27 @@
+//! Tests of the crates round the shards: late copies of frames (ns_front), what a server tells of itself over HTTP (ns_status), texts from
+//! outside, in pieces of every size and with each fault (ns_responses, ns_roster_place), the files of a record (ns_record_files), and
+//! packet forwarders, over memory and over sockets (ns_forwarder, ns_forwarder_socket).
+//!
+//! They call what those crates give in public, and stand here so that no crate is proved once more for its tests.
+#![tactic(auto)]
+
+#[cfg(test)]
+mod failures;
+#[cfg(test)]
+mod keys;
+#[cfg(test)]
+mod lates;
+#[cfg(test)]
+mod messages;
+#[cfg(test)]
+mod places;
+#[cfg(test)]
+mod requests;
+#[cfg(test)]
+mod responses;
+#[cfg(test)]
+mod running;
+#[cfg(test)]
+mod sockets;
+#[cfg(test)]
+mod texts;
