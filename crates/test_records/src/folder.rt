@@ -1,42 +1,15 @@
 //! The record of a folder with which no server goes on, made shorter.
 
+use crate::worked::{AGAIN, ASKED, BASE, CLOSED, JOIN, ROSTER, UP, roster_of};
 use log::sink::Writer;
 use ns_compact::{Compacted, Folder};
 use ns_record_files::RecordFiles;
 use ns_resume::RecordFault;
-use ns_roster::Roster;
 use std::fs;
 use std::fs::File;
 use std::io::Read;
 use std::rt::Files;
-use std::sync::Arc;
 use std::test::Fail;
-
-/// The roster of the one device of these lines.
-pub const ROSTER: &str =
-    "{\"version\":1,\"net_id\":\"000024\",\"rx1_offset\":0,\"rx_delay\":1,\"devices\":[{\"dev_eui\":\"000000000000000d\",\"join_eui\":\"0102030401020304\",\"slot\":1998321}]}";
-
-/// A join that is accepted, with an AppSKey.
-pub const JOIN: &str =
-    "heard 010100000000000000a100000000000f424033be27a005fc4a004b170004030201040302010d00000000000000010001000000\nanswer 0004030201040302010d00000000000000010001000000 {\"AppSKey\":{\"AESKey\":\"ec925802ae430ca77fd3dd73cb2cc588\"},\"MessageType\":\"JoinAns\",\"NwkSKey\":{\"AESKey\":\"44024241ed4ce9a68c6a8bc055233fd3\"},\"PHYPayload\":\"20000102030405060708090a0b0c0d0e0f\",\"Result\":{\"ResultCode\":\"Success\"},\"TransactionID\":1}\n";
-
-/// An uplink of its session, and the closing of its window.
-pub const CLOSED: &str =
-    "heard 010100000000000000a100000000000f424033be27a005fc4a004b1180f17dbe4900020001954378766723abef\nclose 000000000000000d 1 2\n";
-
-/// The same uplink once more.
-pub const AGAIN: &str =
-    "heard 010100000000000000a100000000000f424033be27a005fc4a004b1180f17dbe4900020001954378766723abef\n";
-
-/// The `up` line of the uplink, of 62 bytes.
-pub const UP: &str = "up 000000000000000d 1 2 1 plain - 74657374 1 00000000000000a1\n";
-
-/// The base of a record that has just the join and the uplink.
-pub const BASE: &str = "base 0000000000000004 000000000000003e\n";
-
-/// The Join-Request of a later nonce, and the front of the answer to it.
-pub const ASKED: &str =
-    "heard 010100000000000000a100000000000f424033be27a005fc4a004b170004030201040302010d00000000000000020001000000\nanswer 0004030201040302010d00000000000000020001000000 ";
 
 /// These lines as bytes.
 pub fn text_of<R: AllocGlobal>(rt: &R, parts: &[&str]) -> Result<Vec<u8>, Fail> {
@@ -77,7 +50,7 @@ fn compacted<R: Files<File = File> + AllocGlobal>(
 ) -> Result<Result<Compacted, RecordFault>, Fail> {
     let alloc = rt.alloc();
     let log = Writer::new(Vec::new(alloc));
-    let roster = Arc::new(alloc, Roster::read(alloc, ROSTER.as_bytes())?)?;
+    let roster = roster_of(alloc, ROSTER)?;
     let files = RecordFiles::open(rt, &log, alloc, path, true)?;
     let folder = Folder {
         rt,
@@ -112,7 +85,7 @@ fn has<R: Files<File = File> + AllocGlobal>(
 /// Lines that are not needed and torn ends are gone, the `up` line that was missing is there, and it is told how many lines there were.
 #[test]
 fn a_record_is_made_shorter(rt: HostRuntime) -> Result<(), Fail> {
-    let path = "test_compact_folder";
+    let path = "test_records_folder";
     let torn = &AGAIN[..40];
     make(&rt, path, &[JOIN, CLOSED, ASKED, "x\n", torn], &[&UP[..10]])?;
     let done = compacted(&rt, path)??;
@@ -125,7 +98,7 @@ fn a_record_is_made_shorter(rt: HostRuntime) -> Result<(), Fail> {
 /// A record whose `up` lines end, or go on, where its base tells of another number of bytes stays as it is.
 #[test]
 fn too_few_up_lines_are_told(rt: HostRuntime) -> Result<(), Fail> {
-    let path = "test_compact_up_shorter";
+    let path = "test_records_up_shorter";
     let steps = ["base 0000000000000004 0000000000000050\n", JOIN, CLOSED];
     for ups in [[UP, ""], [UP, UP]] {
         make(&rt, path, &steps, &ups)?;

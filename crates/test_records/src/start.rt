@@ -1,33 +1,18 @@
 //! The start over memory, on the steps of a worked run.
 
+use crate::worked::{AGAIN, CLOSED, JOIN, ROSTER, UP, roster_of};
 use ns_resume::{RecordFault, Resumed, run_record};
-use ns_roster::Roster;
 use ns_types::{DevEui, WindowName};
 use std::alloc::Global;
 use std::io::BufReader;
-use std::sync::Arc;
 
-const ROSTER: &str =
-    "{\"version\":1,\"net_id\":\"000024\",\"rx1_offset\":0,\"rx_delay\":1,\"devices\":[{\"dev_eui\":\"000000000000000d\",\"join_eui\":\"0102030401020304\",\"slot\":1998321}]}";
-
-// The same with one more device before it.
+// The roster of the run with one more device before its own.
 const ADDED: &str =
     "{\"version\":1,\"net_id\":\"000024\",\"rx1_offset\":0,\"rx_delay\":1,\"devices\":[{\"dev_eui\":\"000000000000000e\",\"join_eui\":\"0102030401020304\",\"slot\":5},{\"dev_eui\":\"000000000000000d\",\"join_eui\":\"0102030401020304\",\"slot\":1998321}]}";
 
-// Another device in its place.
+// One with another device in its place.
 const OTHER: &str =
     "{\"version\":1,\"net_id\":\"000024\",\"rx1_offset\":0,\"rx_delay\":1,\"devices\":[{\"dev_eui\":\"000000000000000e\",\"join_eui\":\"0102030401020304\",\"slot\":5}]}";
-
-const JOIN: &str =
-    "heard 010100000000000000a100000000000f424033be27a005fc4a004b170004030201040302010d00000000000000010001000000\nanswer 0004030201040302010d00000000000000010001000000 {\"AppSKey\":{\"AESKey\":\"ec925802ae430ca77fd3dd73cb2cc588\"},\"MessageType\":\"JoinAns\",\"NwkSKey\":{\"AESKey\":\"44024241ed4ce9a68c6a8bc055233fd3\"},\"PHYPayload\":\"20000102030405060708090a0b0c0d0e0f\",\"Result\":{\"ResultCode\":\"Success\"},\"TransactionID\":1}\n";
-
-const CLOSED: &str =
-    "heard 010100000000000000a100000000000f424033be27a005fc4a004b1180f17dbe4900020001954378766723abef\nclose 000000000000000d 1 2\n";
-
-const AGAIN: &str =
-    "heard 010100000000000000a100000000000f424033be27a005fc4a004b1180f17dbe4900020001954378766723abef\n";
-
-const UP: &str = "up 000000000000000d 1 2 1 plain - 74657374 1 00000000000000a1\n";
 
 // Runs these lines beside these `up` lines, read in pieces of so many bytes.
 fn run(
@@ -37,19 +22,13 @@ fn run(
     ups: &str,
     piece: usize,
 ) -> Result<Resumed, RecordFault> {
-    let Ok(roster) = Roster::read(alloc, roster.as_bytes()) else {
-        return Err(RecordFault::NoMemory);
-    };
     let mut text = Vec::new(alloc);
     for part in lines {
         text.extend_from_slice(part.as_bytes())?;
     }
-    let Ok(roster) = Arc::new(alloc, roster) else {
-        return Err(RecordFault::NoMemory);
-    };
     let mut steps = BufReader::with_capacity(alloc, piece, text.as_slice())?;
     let mut ups = BufReader::with_capacity(alloc, piece, ups.as_bytes())?;
-    run_record(alloc, roster, &mut steps, &mut ups)
+    run_record(alloc, roster_of(alloc, roster)?, &mut steps, &mut ups)
 }
 
 // The fault of such a run.

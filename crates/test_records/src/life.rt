@@ -1,5 +1,6 @@
 //! A server over memory, and its record.
 
+use crate::worked::roster_of;
 use ns_calls::{Call, Reply, lines, shard_of_call, up_line};
 use ns_compact::{Shortened, serves_as_well, shorten};
 use ns_record::{matters, step_line};
@@ -38,22 +39,12 @@ pub struct Fewer {
     pub lines: Vec<u8>,
 }
 
-fn roster(alloc: Global) -> Result<Arc<Roster>, RecordFault> {
-    let Ok(roster) = Roster::read(alloc, ROSTER.as_bytes()) else {
-        return Err(RecordFault::NoFit(0));
-    };
-    match Arc::new(alloc, roster) {
-        Ok(roster) => Ok(roster),
-        Err(_) => Err(RecordFault::NoMemory),
-    }
-}
-
 impl Life {
     /// A server with no entries.
     pub fn new(alloc: Global) -> Result<Life, RecordFault> {
         let mut life = Life {
             alloc,
-            roster: roster(alloc)?,
+            roster: roster_of(alloc, ROSTER)?,
             shards: Vec::new(alloc),
             steps: Vec::new(alloc),
             ups: Vec::new(alloc),

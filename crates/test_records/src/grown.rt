@@ -1,14 +1,14 @@
 //! The record of a server that runs: where its steps have grown much, fewer take their place.
 
-use crate::folder::{AGAIN, ASKED, BASE, CLOSED, JOIN, ROSTER, UP, bytes_of, make, text_of};
+use crate::folder::{bytes_of, make, text_of};
+use crate::worked::{AGAIN, ASKED, BASE, CLOSED, JOIN, ROSTER, UP, roster_of};
 use log::sink::Writer;
 use ns_compact::{Folder, Keeper};
 use ns_record_files::{RecordFiles, RecordWriter, Recorder, Upkeep};
-use ns_roster::Roster;
 use std::fs;
 use std::fs::File;
 use std::rt::Files;
-use std::sync::{Arc, Wait};
+use std::sync::Wait;
 use std::test::Fail;
 
 // What stands in an answer again and again: no JSON, so the join fails.
@@ -44,7 +44,8 @@ struct Left {
     log: Vec<u8>,
 }
 
-// Lines come behind the steps. The record still has the file without them, so its keeper reads no further, as where they come after it looked.
+// Lines come behind the steps. The record still has the file without them, so its keeper reads no further, as where they come after it
+// looked.
 fn come<R: Files<File = File> + AllocGlobal>(rt: &R, path: &str, later: &str) -> Result<(), Fail> {
     let mut steps = bytes_of(rt, path)?;
     steps.extend_from_slice(later.as_bytes())?;
@@ -77,7 +78,7 @@ fn kept<R: Files<File = File> + Wait + AllocGlobal>(
     grown: &Grown<'_>,
 ) -> Result<Vec<u8>, Fail> {
     let alloc = rt.alloc();
-    let roster = Arc::new(alloc, Roster::read(alloc, ROSTER.as_bytes())?)?;
+    let roster = roster_of(alloc, ROSTER)?;
     let path = format!(in alloc; "{}/steps", grown.path)?;
     let files = RecordFiles::open(rt, log, alloc, grown.path, false)?;
     let record = Recorder::new(alloc, RecordWriter::new(files))?;
@@ -139,8 +140,8 @@ fn front(bytes: &[u8], count: usize) -> &[u8] {
 #[test]
 fn others_stay(rt: HostRuntime) -> Result<(), Fail> {
     for (path, count, rests) in [
-        ("test_compact_small", 63usize, false),
-        ("test_compact_rests", 64, true),
+        ("test_records_small", 63usize, false),
+        ("test_records_rests", 64, true),
     ] {
         let steps = joins(&rt, "", count)?;
         assert!(rt; (steps.len() < MANY) != rests);
@@ -166,7 +167,7 @@ fn grown_records_become_small(rt: HostRuntime) -> Result<(), Fail> {
     let left = after(
         &rt,
         &Grown {
-            path: "test_compact_grown",
+            path: "test_records_grown",
             before: &[],
             steps: steps.as_slice(),
             later: AGAIN,
@@ -192,7 +193,7 @@ fn unfit_records_are_tried_again(rt: HostRuntime) -> Result<(), Fail> {
     let left = after(
         &rt,
         &Grown {
-            path: "test_compact_unfit",
+            path: "test_records_unfit",
             before: &[unfit.as_slice(), fewer],
             steps,
             later: "",

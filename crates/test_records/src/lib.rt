@@ -1,0 +1,25 @@
+//! Tests of records: the lines of calls (ns_record), a start from a record (ns_resume), and compactions (ns_compact): which lines stay,
+//! that a server goes on the same after them, that too few lines are told as such, what is left of the files of a folder, also where `up`
+//! lines are missing, and when the record of a server that runs is compacted, and tried again.
+//!
+//! They call what those crates give in public, and stand here so that no crate is proved once more for its tests.
+#![tactic(auto)]
+
+#[cfg(test)]
+mod chosen;
+#[cfg(test)]
+mod folder;
+#[cfg(test)]
+mod grown;
+#[cfg(test)]
+mod life;
+#[cfg(test)]
+mod lines;
+#[cfg(test)]
+mod random;
+#[cfg(test)]
+mod start;
+#[cfg(test)]
+mod traffic;
+#[cfg(test)]
+mod worked;
