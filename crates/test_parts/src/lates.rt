@@ -1,12 +1,11 @@
 //! Late copies of frames whose windows were closed, of all shards.
 
-use crate::keys::zero_keys;
 use ns_front::{FrameName, Lates};
 use std::test::Fail;
 
 // No frame is noted, and a copy is late for 2 s.
 fn none(rt: &HostRuntime) -> Result<Lates, Fail> {
-    Ok(Lates::new(rt.alloc(), zero_keys()?, 2000)?)
+    Ok(Lates::new(rt.alloc(), 2000)?)
 }
 
 // The frame with this counter and MIC of a device of a shard.
@@ -53,7 +52,7 @@ fn another_frame_with_the_same_mic_is_not_late(rt: HostRuntime) -> Result<(), Fa
     Ok(())
 }
 
-/// Of one shard 4,096 frames are kept: with one more the first goes, and no other.
+/// Of one shard 4,096 frames are kept where four stand in each row: with one more the first of its row goes, and no other.
 #[test]
 fn a_shard_keeps_4096_frames(rt: HostRuntime) -> Result<(), Fail> {
     let lates = none(&rt)?;
@@ -63,6 +62,8 @@ fn a_shard_keeps_4096_frames(rt: HostRuntime) -> Result<(), Fail> {
     assert!(rt; lates.is_late(&rt, frame_of(3, 0, 0), 5000));
     lates.note(&rt, frame_of(3, 4096, 4096), 5000);
     assert!(rt; !lates.is_late(&rt, frame_of(3, 0, 0), 5000));
-    assert!(rt; lates.is_late(&rt, frame_of(3, 1, 1), 5000));
+    for kept in [1, 1024, 2048, 3072, 4095] {
+        assert!(rt; lates.is_late(&rt, frame_of(3, kept, u32::from(kept)), 5000));
+    }
     Ok(())
 }
