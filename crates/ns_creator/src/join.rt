@@ -1,11 +1,11 @@
 //! The frames of a join (LoRaWAN L2 1.0.4, 6.2.5 and 6.2.6).
 
-ghost use Rattle.std.specs.Prelude.{◌≡◌, ◌≤◌, ◌<◌, ◌^◌, ◌+◌, length, IfOk, OnOk, OnErr};
+ghost use Rattle.std.specs.Prelude.{◌≡◌, ◌≤◌, ◌<◌, ◌^◌, ◌+◌, ◌++◌, length, IfOk, OnOk, OnErr};
 ghost use Rattle.std.specs.Result.{result_err};
 ghost use Rattle.ns_types.specs.Results.{or_fault};
 ghost use Rattle.ns_types.specs.Bytes.{AreBytes};
 ghost use Rattle.ns_views.specs.Grammar.{IsJoinRequest};
-ghost use Rattle.ns_creator.specs.JoinFrame.{request_before_mic, request_fields, join_request_frame, accept_fields, accept_mic, plain_accept, join_accept_frame, accept_size, IsJoinAccept, room_fault};
+ghost use Rattle.ns_creator.specs.JoinFrame.{request_before_mic, request_fields, join_request_frame, cflist_bytes, accept_fields, accept_mic, plain_accept, join_accept_frame, accept_size, IsJoinAccept, room_fault};
 ghost use Rattle.ns_creator.specs.Built.{with_front};
 
 use crate::{CreateFault, Keys};
@@ -173,16 +173,37 @@ impl JoinAcceptCreator {
         ensures join_nonce { length self.now.join_nonce ≡ 3 }
         ensures addr { self.now.addr.0 < 2 ^ 32 }
     {
-        let (join_nonce, rest) = out.split_at_mut(3);
-        join_nonce.copy_from_slice(&self.join_nonce);
-        let (net_id, rest) = rest.split_at_mut(3);
-        net_id.copy_from_slice(&self.net_id.0.to_le_bytes()[..3]);
-        let (addr, rest) = rest.split_at_mut(4);
-        addr.copy_from_slice(&self.addr.0.to_le_bytes());
-        let (settings, cflist) = rest.split_at_mut(2);
-        settings.copy_from_slice(&[self.dl_settings, self.rx_delay]);
+        let (fixed, cflist) = out.split_at_mut(12);
+        fixed.copy_from_slice(&self.fixed_fields());
         if let Some(bytes) = &self.cflist {
             cflist.copy_from_slice(bytes);
         }
+    }
+
+    /// The plain fields before the CFList.
+    #[tactic(auto, using(crate::proofs::Parts::three_are))]
+    fn fixed_fields(&self) -> [u8; 12]
+        requires net { self.now.net_id.0 < 2 ^ 24 }
+        ensures is { result ++ cflist_bytes self.now.cflist ≡ accept_fields self.now }
+        ensures join_nonce { length self.now.join_nonce ≡ 3 }
+        ensures addr { self.now.addr.0 < 2 ^ 32 }
+    {
+        let [j0, j1, j2] = self.join_nonce;
+        let [n0, n1, n2, _] = self.net_id.0.to_le_bytes();
+        let [a0, a1, a2, a3] = self.addr.0.to_le_bytes();
+        [
+            j0,
+            j1,
+            j2,
+            n0,
+            n1,
+            n2,
+            a0,
+            a1,
+            a2,
+            a3,
+            self.dl_settings,
+            self.rx_delay,
+        ]
     }
 }
