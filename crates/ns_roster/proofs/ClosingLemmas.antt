@@ -1,8 +1,6 @@
 -- The text of a roster with last nonces is read back.
-use Rattle.std.proofs.Common.{◌≡◌, ℕ, zero, suc, ◌<◌, ◌≤◌, ◌+◌, List, [], ◌∷◌, ◌++◌, false, Option, None, Some, IfSome, option_map, Ok, Err, OnOk, refl, subst, take, sym, ◌∙◌, ap, inr, arith, length, map, get_or}
-use Rattle.std.specs.Prelude.{Result}
+use Rattle.std.proofs.Common.{◌≡◌, ℕ, zero, suc, ◌<◌, ◌≤◌, ◌+◌, ◌^◌, List, [], ◌∷◌, ◌++◌, false, Option, None, Some, IfSome, Ok, refl, subst, take, sym, ◌∙◌, ap, inr, arith, length, map, get_or}
 use Rattle.std.specs.Str.{IsUtf8}
-use Rattle.std.specs.Int.{w64, from_be_bytes}
 use Rattle.std.proofs.lemmas.List.{map-append, take_more, take_all}
 use Rattle.serde_json.specs.declared.value.Value.{Value}
 use Rattle.serde_json.specs.Data.{Data, depth, items_depth}
@@ -11,29 +9,22 @@ use Rattle.serde_json.specs.View.{view, items_of}
 use Rattle.serde_json.specs.Written.{has_float, items_have_float}
 use Rattle.ns_types.specs.declared.identity.DevNonce.{DevNonce}
 use Rattle.ns_roster.specs.declared.Device.{Device}
-use Rattle.ns_roster.specs.Field.{hex_bytes, hex_number}
 use Rattle.ns_roster.specs.Network.{Network}
 use Rattle.ns_roster.specs.Text.{roster_of}
 use Rattle.ns_roster.specs.Valid.{max_nonce, AreDevices, IsRoster}
 use Rattle.ns_roster.specs.Spelled.{SpellsDevice, SpellDevices}
 use Rattle.ns_roster.specs.Closing.{device_value, network_value, devices_with, with_nonces}
 use Rattle.ns_roster.proofs.TextLemmas.{value_of-some, items_list_of_items}
-use Rattle.ns_roster.proofs.HexLemmas.{net_id-read}
+use Rattle.ns_roster.proofs.HexLemmas.{eui-read, net_id-read}
 use Rattle.ns_roster.proofs.SpelledLemmas.{accepted-from_spelled}
-
--- what holds holds where a call succeeded
-pub OnOk-always : {X E : Type 0} (r : Result X E) (P : Type 0) → P → OnOk r P
-OnOk-always (Ok x) P holds = holds
-OnOk-always (Err e) P holds = tt
 
 -- ---- one device
 
 -- the value of a device spells it
-pub device_value-spells : (d : Device) → option_map (from_be_bytes w64) (hex_bytes 8 (hex_number 8 d.eui.0)) ≡ Some d.eui.0
-    → option_map (from_be_bytes w64) (hex_bytes 8 (hex_number 8 d.join_eui.0)) ≡ Some d.join_eui.0 → IfSome d.last_nonce (λ n. n.0 ≤ max_nonce) → SpellsDevice 2 (device_value d) d
+pub device_value-spells : (d : Device) → d.eui.0 < 2 ^ 64 → d.join_eui.0 < 2 ^ 64 → IfSome d.last_nonce (λ n. n.0 ≤ max_nonce) → SpellsDevice 2 (device_value d) d
 device_value-spells d eui join_eui fits = elim d.last_nonce as (λ o. IfSome o (λ n. n.0 ≤ max_nonce) → let x = record d { last_nonce = o } in SpellsDevice 2 (device_value x) x) [
-  | None ↦ λ _. record { eui = eui; join_eui = join_eui; slot = refl; last_nonce = inr refl }
-  | Some n ↦ λ below. record { eui = eui; join_eui = join_eui; slot = refl; last_nonce = (refl, refl, below) }
+  | None ↦ λ _. record { eui = eui-read d.eui.0 eui; join_eui = eui-read d.join_eui.0 join_eui; slot = refl; last_nonce = inr refl }
+  | Some n ↦ λ below. record { eui = eui-read d.eui.0 eui; join_eui = eui-read d.join_eui.0 join_eui; slot = refl; last_nonce = (refl, refl, below) }
 ] fits
 
 -- it has no float, and nests once

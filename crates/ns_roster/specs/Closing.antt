@@ -26,14 +26,17 @@ device_with eui join_eui last_nonce slot =
 abbrev pub device_value : Device → Data
 device_value d = device_with (hex_number 8 d.eui.0) (hex_number 8 d.join_eui.0) d.last_nonce d.slot
 
--- a network with the values of its devices, its fields in the order of their names
-abbrev pub network_value : Network → Items → Data
-network_value net devices =
-    object (member (codes "devices") (array devices)
-    (member (codes "net_id") (string (hex_number 3 net.net_id.0))
+-- the members of a network behind those of its devices, in the order of their names
+abbrev pub network_members : Network → Members
+network_members net =
+    member (codes "net_id") (string (hex_number 3 net.net_id.0))
     (member (codes "rx1_offset") (number (unsigned net.rx1_offset))
     (member (codes "rx_delay") (number (unsigned net.rx_delay))
-    (member (codes "version") (number (unsigned 2)) no_members)))))
+    (member (codes "version") (number (unsigned 2)) no_members)))
+
+-- a network with the values of its devices, its fields in the order of their names
+abbrev pub network_value : Network → Items → Data
+network_value net devices = object (member (codes "devices") (array devices) (network_members net))
 
 -- the text of a network, with no space
 abbrev pub network_text : Network → List ℕ

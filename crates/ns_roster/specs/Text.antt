@@ -111,6 +111,10 @@ network_from outer =
     else if nat_lt max_devices (length outer.devices) then Err TooMany
     else (devices_from outer.version [] outer.devices >>= λ devices. Ok (network_of outer devices))
 
+-- the network of a value
+abbrev pub network_in : Data → Result Network RosterFault
+network_in d = outer_of d >>= network_from
+
 -- the roster of the bytes, or the first fault
 unfoldable pub roster_of : List ℕ → Result Network RosterFault
 roster_of bytes = do

@@ -1,54 +1,53 @@
 //! The text of a roster with last nonces, from which the next run begins.
 
-ghost use Rattle.std.specs.Prelude.{◌≡◌, ◌≤◌, Some, Ok, IfOk, OnOk, length, map, string_bytes};
-ghost use Rattle.serde_json.specs.View.{view, items_view};
-ghost use Rattle.ns_roster.specs.Closing.{device_with, device_value, network_value, network_text, devices_with, with_nonces};
+ghost use Rattle.std.specs.Prelude.{◌≡◌, ◌≤◌, ◌<◌, ◌^◌, Ok, IfOk, OnOk, length, map, string_bytes};
+ghost use Rattle.serde_json.specs.View.{view, items_view, members_view};
+ghost use Rattle.ns_roster.specs.Closing.{device_value, network_members, network_value, network_text, devices_with, with_nonces};
 ghost use Rattle.ns_roster.specs.Spelled.{SpellsDevice, SpellDevices};
 ghost use Rattle.ns_roster.specs.Text.{roster_of};
 ghost use Rattle.ns_roster.specs.Valid.{max_nonce};
+ghost use Rattle.ns_roster.specs.declared.object.Scalar.TheVariants as scalar;
 
-use crate::field::{eui_text, net_id_text};
+use crate::field::net_id_text;
+use crate::object::Scalar::{Eui, Text, Whole};
+use crate::object::{Scalar, members_of, object_of};
 use crate::{Device, Roster};
 use ns_types::DevNonce;
-use serde_json::{Value, json};
+use serde_json::{Map, Value};
 use std::alloc::{AllocError, Global};
 
 const VERSION: u64 = 2;
 
-// The value of a device with these texts of its EUIs, this last nonce and this slot.
-fn with_nonce(
-    alloc: Global,
-    eui: String,
-    join_eui: String,
-    nonce: u16,
-    slot: u32,
-) -> Result<Value, AllocError>
-    ensures value { IfOk result
-        (λ v. view v ≡ device_with (string_bytes eui) (string_bytes join_eui) (Some (record { 0 = nonce })) slot) }
+// The scalar of an EUI, which fits 64 bits.
+fn eui_scalar(eui: u64) -> Scalar<'static>
+    ensures is { result ≡ scalar.Eui eui }
+    ensures fits { eui < 2 ^ 64 }
+{
+    Eui(eui)
+}
+
+// The scalar of a last nonce, which fits 16 bits.
+fn nonce_scalar(nonce: u16) -> Scalar<'static>
+    ensures is { result ≡ scalar.Whole nonce }
     ensures fits { nonce ≤ max_nonce }
 {
-    json!(in alloc; {
-        "dev_eui": eui,
-        "join_eui": join_eui,
-        "last_nonce": nonce,
-        "slot": slot
-    })
+    Whole(nonce as u64)
 }
 
 // The value of a device, which spells it.
 fn device_value(alloc: Global, device: Device) -> Result<Value, AllocError>
     ensures value { IfOk result (λ v. view v ≡ device_value device) }
-    ensures spells { OnOk result (SpellsDevice 2 (device_value device) device) }
+    ensures spells { SpellsDevice 2 (device_value device) device }
 {
-    let eui = eui_text(alloc, device.eui.0)?;
-    let join_eui = eui_text(alloc, device.join_eui.0)?;
+    let dev_eui = ("dev_eui", eui_scalar(device.eui.0));
+    let join_eui = ("join_eui", eui_scalar(device.join_eui.0));
+    let slot = ("slot", Whole(device.slot as u64));
     match device.last_nonce {
-        Some(nonce) => with_nonce(alloc, eui, join_eui, nonce.0, device.slot),
-        None => json!(in alloc; {
-            "dev_eui": eui,
-            "join_eui": join_eui,
-            "slot": device.slot
-        }),
+        Some(nonce) => {
+            let last_nonce = ("last_nonce", nonce_scalar(nonce.0));
+            object_of(alloc, &[dev_eui, join_eui, last_nonce, slot])
+        }
+        None => object_of(alloc, &[dev_eui, join_eui, slot]),
     }
 }
 
@@ -75,18 +74,29 @@ fn values_of(
     Ok(values)
 }
 
+// The fields of a roster beside its devices.
+fn fields_of(alloc: Global, roster: &Roster) -> Result<Map<String, Value>, AllocError>
+    ensures { IfOk result (λ m. members_view m.entries ≡ network_members roster.now) }
+{
+    let net_id = net_id_text(alloc, roster.net_id())?;
+    members_of(
+        alloc,
+        &[
+            ("net_id", Text(net_id.as_str())),
+            ("rx1_offset", Whole(roster.rx1_offset() as u64)),
+            ("rx_delay", Whole(roster.rx_delay() as u64)),
+            ("version", Whole(VERSION)),
+        ],
+    )
+}
+
 // The value of a roster with the values of its devices.
 fn network_value(alloc: Global, roster: &Roster, devices: Vec<Value>) -> Result<Value, AllocError>
     ensures { IfOk result (λ v. view v ≡ network_value roster.now (items_view devices.items)) }
 {
-    let net_id = net_id_text(alloc, roster.net_id())?;
-    json!(in alloc; {
-        "devices": devices,
-        "net_id": net_id,
-        "rx1_offset": roster.rx1_offset(),
-        "rx_delay": roster.rx_delay(),
-        "version": VERSION
-    })
+    let mut members = fields_of(alloc, roster)?;
+    serde_json::put(&mut members, alloc, "devices", Value::Array(devices))?;
+    Ok(Value::Object(members))
 }
 
 impl Roster {

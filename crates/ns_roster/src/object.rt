@@ -1,9 +1,9 @@
 //! JSON objects whose fields have no parts.
 
 ghost use Rattle.std.specs.Prelude.{◌≡◌, IfOk, OnOk};
-ghost use Rattle.serde_json.specs.Data.{put};
+ghost use Rattle.serde_json.specs.Data.{no_members, put};
 ghost use Rattle.serde_json.specs.View.{view, members_view};
-ghost use Rattle.ns_roster.specs.Object.{scalar_data, object_of};
+ghost use Rattle.ns_roster.specs.Object.{scalar_data, with_fields, object_of};
 
 use crate::field::eui_text;
 use serde_json::{Map, Value};
@@ -34,8 +34,10 @@ fn scalar_value(alloc: Global, scalar: Scalar<'_>) -> Result<Value, AllocError>
         Scalar::Whole(number) => Ok(Value::from(number)),
         Scalar::Float(number) => Ok(Value::from(number)),
         Scalar::Eui(eui) => Ok(Value::String(eui_text(alloc, eui)?)),
-        Scalar::Word(text) => Ok(Value::String(String::from_str(alloc, text)?)),
-        Scalar::Text(text) => Ok(Value::String(String::from_str(alloc, text)?)),
+        Scalar::Word(text) | Scalar::Text(text) => {
+            let text = String::from_str(alloc, text)?;
+            Ok(Value::String(text))
+        }
     }
 }
 
@@ -53,14 +55,24 @@ fn put_field(
     serde_json::put(members, alloc, key, value)
 }
 
-/// The object with these fields; of equal keys the last counts. `json!` writes out two steps that may fail for each field, so a function
-/// that makes a large object by it takes long to prove.
-pub fn object_of(alloc: Global, fields: &[(&'static str, Scalar<'_>)]) -> Result<Value, AllocError>
-    ensures { IfOk result (λ v. view v ≡ object_of fields.now) }
+/// The members with these fields; of equal keys the last counts.
+pub(crate) fn members_of(
+    alloc: Global,
+    fields: &[(&'static str, Scalar<'_>)],
+) -> Result<Map<String, Value>, AllocError>
+    ensures { IfOk result (λ m. members_view m.entries ≡ with_fields fields.now no_members) }
 {
     let mut members = Map::new(alloc);
     for field in fields {
         put_field(alloc, &mut members, field.0, field.1)?;
     }
-    Ok(Value::Object(members))
+    Ok(members)
+}
+
+/// The object with these fields; of equal keys the last counts. `json!` writes out two steps that may fail for each field, so a function
+/// that makes a large object by it takes long to prove.
+pub fn object_of(alloc: Global, fields: &[(&'static str, Scalar<'_>)]) -> Result<Value, AllocError>
+    ensures { IfOk result (λ v. view v ≡ object_of fields.now) }
+{
+    Ok(Value::Object(members_of(alloc, fields)?))
 }

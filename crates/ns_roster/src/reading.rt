@@ -1,9 +1,10 @@
 //! The parts of a roster's text, as each reader of one takes them.
 
-ghost use Rattle.std.specs.Prelude.{◌≡◌, ◌+◌, ◌≤◌, length, map, [], OnOk, IfOk, option_map};
+ghost use Rattle.std.specs.Prelude.{◌≡◌, ◌+◌, ◌≤◌, length, map, [], OnOk, IfOk, IfSome, option_map};
+ghost use Rattle.std.specs.Option.{ok_or};
 ghost use Rattle.serde_json.specs.View.{view};
 ghost use Rattle.ns_types.specs.Results.{Gives, GivesExactly};
-ghost use Rattle.ns_roster.specs.declared.fault.RosterFault.TheVariants.{NoMemory};
+ghost use Rattle.ns_roster.specs.declared.fault.RosterFault.TheVariants.{Field, NoMemory};
 ghost use Rattle.ns_roster.specs.Text.{eui_at, net_id_at, outer_of, is_version, last_nonce_of, device_of, with_device, with_value, devices_from};
 ghost use Rattle.ns_roster.specs.Valid.{max_slot, AreDevices};
 ghost use Rattle.ns_roster.specs.Held.{Indexes, outer_view};
@@ -63,27 +64,35 @@ pub fn is_version(version: u64) -> bool
     version == VERSION_1 || version == VERSION_2
 }
 
-/// The outer fields of a value. It takes no memory.
+// The outer fields of a value, where each is there and in its range.
 #[tactic(auto, using(crate::proofs::TextLemmas::items_list_of_items), unfolding(crate::specs::Text::outer_of))]
-pub fn outer_of(root: &Value) -> Result<Outer<'_>, RosterFault>
-    ensures gives { GivesExactly outer_view result (outer_of (view root.now)) }
-    ensures within { IfOk result (λ o. (o.rx1_offset ≤ 5) × (o.rx_delay ≤ 15)) }
+fn outer_at(root: &Value) -> Option<Outer<'_>>
+    ensures gives { ok_or (option_map outer_view result) Field ≡ outer_of (view root.now) }
+    ensures within { IfSome result (λ o. (o.rx1_offset ≤ 5) × (o.rx_delay ≤ 15)) }
 {
-    let version = whole_at(root, "version").ok_or(RosterFault::Field)?;
-    let net_id = net_id_at(root, "net_id").ok_or(RosterFault::Field)?;
-    let rx1_offset = whole_at(root, "rx1_offset").ok_or(RosterFault::Field)?;
-    let rx_delay = whole_at(root, "rx_delay").ok_or(RosterFault::Field)?;
-    let devices = list_at(root, "devices").ok_or(RosterFault::Field)?;
+    let version = whole_at(root, "version")?;
+    let net_id = net_id_at(root, "net_id")?;
+    let rx1_offset = whole_at(root, "rx1_offset")?;
+    let rx_delay = whole_at(root, "rx_delay")?;
+    let devices = list_at(root, "devices")?;
     if !is_version(version) || rx1_offset > MAX_RX1_OFFSET || rx_delay > MAX_RX_DELAY {
-        return Err(RosterFault::Field);
+        return None;
     }
-    Ok(Outer {
+    Some(Outer {
         version,
         net_id: NetId(net_id),
         rx1_offset: rx1_offset as u8,
         rx_delay: rx_delay as u8,
         devices: devices.as_slice(),
     })
+}
+
+/// The outer fields of a value. It takes no memory.
+pub fn outer_of(root: &Value) -> Result<Outer<'_>, RosterFault>
+    ensures gives { GivesExactly outer_view result (outer_of (view root.now)) }
+    ensures within { IfOk result (λ o. (o.rx1_offset ≤ 5) × (o.rx_delay ≤ 15)) }
+{
+    outer_at(root).ok_or(RosterFault::Field)
 }
 
 // The last nonce that a device names, in a text of this version. It takes no memory.

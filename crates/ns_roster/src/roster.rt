@@ -1,11 +1,12 @@
 //! A roster and its readers.
 
 ghost use Rattle.std.specs.Prelude.{◌≡◌, Contains, IfOk, IfSome, option_map};
+ghost use Rattle.serde_json.specs.View.{view};
 ghost use Rattle.ns_types.specs.Results.{Gives};
 ghost use Rattle.ns_types.specs.Identity.{shard_of, shard_of_addr};
 ghost use Rattle.ns_roster.specs.declared.fault.RosterFault.TheVariants.{NoMemory};
 ghost use Rattle.ns_roster.specs.Network.{device, device_addr, has_join_eui, is_known};
-ghost use Rattle.ns_roster.specs.Text.{roster_of};
+ghost use Rattle.ns_roster.specs.Text.{roster_of, network_in};
 ghost use Rattle.ns_roster.specs.Valid.{AreInShards, IsRoster};
 
 use crate::Device;
@@ -13,6 +14,7 @@ use crate::fault::RosterFault;
 use crate::field::value_of;
 use crate::reading::{outer_of, read_devices};
 use ns_types::{DevAddr, DevEui, JoinEui, NetId, addr_of};
+use serde_json::Value;
 use std::alloc::Global;
 use std::collections::HashMap;
 use std::marker::Model;
@@ -45,6 +47,28 @@ impl Model for Roster {
     ghost invariant = { λ r. Indexes r.by_eui r.devices.items × IsRoster (record { net_id = r.net_id; rx1_offset = r.rx1_offset; rx_delay = r.rx_delay; devices = r.devices.items }) };
 }
 
+// The roster that a value spells, or its first fault.
+fn read_network(alloc: Global, root: &Value) -> Result<Roster, RosterFault>
+    ensures gives { Gives NoMemory (λ r. r) result (network_in (view root.now)) }
+    ensures valid { IfOk result IsRoster }
+{
+    let outer = outer_of(root)?;
+    if outer.net_id.0 > MAX_NET_ID {
+        return Err(RosterFault::NetId);
+    }
+    if outer.devices.len() > MAX_DEVICES {
+        return Err(RosterFault::TooMany);
+    }
+    let (devices, by_eui) = read_devices(alloc, outer.version, outer.devices)?;
+    Ok(Roster {
+        net_id: outer.net_id,
+        rx1_offset: outer.rx1_offset,
+        rx_delay: outer.rx_delay,
+        devices,
+        by_eui,
+    })
+}
+
 impl Roster {
     /// The roster that the bytes spell, or their first fault: O1; O2 of the outer fields; O4; O6; then of each device
     /// in turn O2, O5, O3. NoMemory where memory ran out before that was known.
@@ -54,21 +78,7 @@ impl Roster {
         ensures valid { IfOk result IsRoster }
     {
         let root = value_of(alloc, bytes)?.ok_or(RosterFault::NotJson)?;
-        let outer = outer_of(&root)?;
-        if outer.net_id.0 > MAX_NET_ID {
-            return Err(RosterFault::NetId);
-        }
-        if outer.devices.len() > MAX_DEVICES {
-            return Err(RosterFault::TooMany);
-        }
-        let (devices, by_eui) = read_devices(alloc, outer.version, outer.devices)?;
-        Ok(Roster {
-            net_id: outer.net_id,
-            rx1_offset: outer.rx1_offset,
-            rx_delay: outer.rx_delay,
-            devices,
-            by_eui,
-        })
+        read_network(alloc, &root)
     }
 
     /// The network's NetID, of type 0.
