@@ -271,18 +271,15 @@ impl<S: Source> Source for Responses<S> {
             ⊎ IfSome (whole_of S.left self.old) (λ whole. whole ≡ false) }
     {
         self.settle()?;
-        if self.held.is_ready() {
-            return Ok(self.held.give(buf));
-        }
-        let unread = self.held.unread().len();
-        match self.part {
-            Part::Unchanged if unread == 0 => self.stream.read(buf),
-            Part::Unchanged => {
-                self.held.release(unread);
-                Ok(self.held.give(buf))
+        if !self.held.is_ready() {
+            let unread = self.held.unread().len();
+            match self.part {
+                Part::Unchanged if unread == 0 => return self.stream.read(buf),
+                Part::Unchanged => self.held.release(unread),
+                _ => return Ok(0),
             }
-            _ => Ok(0),
         }
+        Ok(self.held.give(buf))
     }
 }
 
