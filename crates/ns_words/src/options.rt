@@ -273,19 +273,23 @@ fn with_addresses<'a>(alloc: Global, command: Command<'a>) -> Result<Command<'a>
         "ADDR",
         "The join server's address, as 127.0.0.1:8080",
     );
+    let command = command.arg(join.required(true))?;
     let host = option(alloc, "host", "NAME", "The host that requests to it name");
+    let command = command.arg(host.default_value("localhost"))?;
     let listen = option(
         alloc,
         "listen",
         "ADDR",
         "The address for the server's own datagrams; 127.0.0.1:1700 without --forwarders",
     );
+    let command = command.arg(listen)?;
     let forwarders = option(
         alloc,
         "forwarders",
         "ADDR",
         "The address at which packet forwarders are heard",
     );
+    let command = command.arg(forwarders)?;
     let power = number(
         alloc,
         "power",
@@ -293,12 +297,7 @@ fn with_addresses<'a>(alloc: Global, command: Command<'a>) -> Result<Command<'a>
         27,
         "The power of the downlinks that forwarders send, 1 to 27 dBm",
     );
-    command
-        .arg(join.required(true))?
-        .arg(host.default_value("localhost"))?
-        .arg(listen)?
-        .arg(forwarders)?
-        .arg(power.default_value("14"))
+    command.arg(power.default_value("14"))
 }
 
 // A command, and behind its arguments these: how many threads there are.
@@ -312,6 +311,7 @@ fn with_workers<'a>(alloc: Global, command: Command<'a>) -> Result<Command<'a>, 
         16,
         "How many threads hear gateways, 1 to 16",
     );
+    let command = command.arg(workers.default_value("4"))?;
     let join_workers = number(
         alloc,
         "join-workers",
@@ -319,9 +319,7 @@ fn with_workers<'a>(alloc: Global, command: Command<'a>) -> Result<Command<'a>, 
         16,
         "How many threads ask the join server, 1 to 16",
     );
-    command
-        .arg(workers.default_value("4"))?
-        .arg(join_workers.default_value("1"))
+    command.arg(join_workers.default_value("1"))
 }
 
 // A command, and behind its arguments these: when a window is closed, the server stops, and a shard is trimmed.
@@ -335,6 +333,7 @@ fn with_limits<'a>(alloc: Global, command: Command<'a>) -> Result<Command<'a>, A
         60_000,
         "How long copies are gathered, 1 to 60000 ms; those of a join 1000 at most",
     );
+    let command = command.arg(window.default_value("200"))?;
     let stop_after = number(
         alloc,
         "stop-after",
@@ -342,22 +341,20 @@ fn with_limits<'a>(alloc: Global, command: Command<'a>) -> Result<Command<'a>, A
         4_294_967_295,
         "After how many datagrams to stop, 1 to 4294967295; without it, never",
     );
+    let command = command.arg(stop_after)?;
     let stop_at_end = switch(
         alloc,
         "stop-at-end-of-input",
         "Stops at the end of standard input, of which nothing else is used",
     );
+    let command = command.arg(stop_at_end)?;
     let trim = option(
         alloc,
         "trim",
         "N",
         "After how many entries a shard is trimmed, 1 to 4294967295, or never",
     );
-    command
-        .arg(window.default_value("200"))?
-        .arg(stop_after)?
-        .arg(stop_at_end)?
-        .arg(trim.default_value(TRIM))
+    command.arg(trim.default_value(TRIM))
 }
 
 // A command, and behind its arguments these: what the calls of the server are put down in.
@@ -370,12 +367,13 @@ fn with_record<'a>(alloc: Global, command: Command<'a>) -> Result<Command<'a>, A
         "DIR",
         "A folder that is there, for the record with which the next run goes on; not with --closing",
     );
+    let command = command.arg(record)?;
     let sync = switch(
         alloc,
         "sync",
         "Brings the record to the disk before what rests on it leaves the server",
     );
-    command.arg(record)?.arg(sync)
+    command.arg(sync)
 }
 
 // A command, and behind its arguments this one: how uplinks are written.
@@ -428,15 +426,15 @@ fn compact_command<'a>(alloc: Global) -> Result<Command<'a>, AllocError>
 fn commands<'a>(alloc: Global) -> Result<Command<'a>, AllocError>
     ensures { IfOk result (λ c. app_of c ≡ program) }
 {
-    let serve = serve_command(alloc)?;
     let replay = replay_command(alloc)?;
-    let compact = compact_command(alloc)?;
-    command(alloc, "lorawan_ns", "A LoRaWAN network server")
+    let program = command(alloc, "lorawan_ns", "A LoRaWAN network server")
         .version(VERSION)
         .subcommand_required(true)
-        .subcommand(replay)?
-        .subcommand(compact)?
-        .subcommand(serve)
+        .subcommand(replay)?;
+    let compact = compact_command(alloc)?;
+    let program = program.subcommand(compact)?;
+    let serve = serve_command(alloc)?;
+    program.subcommand(serve)
 }
 
 // The host that the option names.

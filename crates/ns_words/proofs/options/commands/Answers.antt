@@ -8,6 +8,6 @@ pub returns : goal.returns
 unfolding program
 returns c =
     let start : IsCommand named_app c.subcommand_required.result = (search rules, search rules) in
-    let first = IsCommand-subcommand _ _ _ _ _ start c.in_ok-replay.ensures c.in_ok-subcommand.ensures in
-    let second = IsCommand-subcommand _ _ _ _ _ first c.in_ok-compact.ensures c.in_ok-subcommand-2.ensures in
+    let first = IsCommand-subcommand _ _ _ _ _ start c.in_ok-replay.ensures c.in_ok-program.ensures in
+    let second = IsCommand-subcommand _ _ _ _ _ first c.in_ok-compact.ensures c.in_ok-program-2.ensures in
     IfOk-weaker c.subcommand-3.result _ _ (λ new added. (IsCommand-subcommand _ _ _ _ new second c.in_ok-serve.ensures added).0) c.subcommand-3.ensures
