@@ -1,6 +1,7 @@
 -- The program's command line, as clap reads it: its commands, their options, and what stands where a word leaves an option out.
 use Rattle.std.specs.Prelude.{◌≡◌, ℕ, List, [], ◌∷◌, Some, true, false, codes, fold}
-use Rattle.clap.specs.Words.{App, Rule, Text, app_of, new_app, new_rule, with_rule, with_subcommand}
+use Rattle.clap.specs.Words.{App, Rule, Text, app_of, new_app, new_rule, rule_of, with_rule, with_subcommand}
+use Rattle.clap.specs.declared.builder.arg.Arg.{Arg}
 use Rattle.clap.specs.declared.builder.command.Command.{Command}
 use Rattle.clap.specs.declared.builder.command.Command.TheViews.{out-Command}
 use Rattle.clap.specs.declared.builder.action.ArgAction.TheVariants.{Set, SetTrue}
@@ -103,3 +104,12 @@ program = with_subcommand (with_subcommand (with_subcommand named_app replay_app
 -- the command is this one, with no argument that holds for the commands below it
 abbrev pub IsCommand : App → Command → Type 0
 IsCommand app c = (app_of c ≡ app) × ((out-Command c).has_globals ≡ false)
+
+-- the argument is read by this rule, in its own command alone
+abbrev pub IsArg : Rule → Arg → Type 0
+IsArg rule arg = (rule_of arg ≡ rule) × (arg.global ≡ false)
+
+-- the arguments, each in its own command alone, added in turn to the first command make the second
+abbrev pub AreAdded : App → List Arg → App → Type 0
+AreAdded old [] new = old ≡ new
+AreAdded old (arg ∷ args) new = (arg.global ≡ false) × AreAdded (with_rule old (rule_of arg)) args new

@@ -2,10 +2,10 @@
 
 ghost use Rattle.std.specs.Prelude.{◌≡◌, ◌<◌, ◌≤◌, codes, false, IfErr, IfOk, Some, map, string_bytes};
 ghost use Rattle.ns_joinclient.specs.Request.{host_text};
-ghost use Rattle.clap.specs.Words.{app_of, first_of, found_of, new_app, rows_of, rule_of};
+ghost use Rattle.clap.specs.Words.{app_of, first_of, found_of, new_app, rows_of, rule_of, with_rule};
 ghost use Rattle.ns_words.specs.Asked.{HasOptions, HasRecord, IsAddr, IsAddrIfGiven, IsAsked, IsAskedBy, IsDoable, IsFlag, IsNumber, IsNumberIfGiven, IsNumberOrNever, IsOutput, IsServed, command_of, name_of};
 ghost use Rattle.ns_words.specs.declared.options.BadWords.TheVariants as refusal;
-ghost use Rattle.ns_words.specs.Commands.{IsCommand, address_rules, closing_rule, compact_app, events_rule, folder_rule, limit_rules, number_rule, option_rule, output_rules, program, record_rules, replay_app, roster_rule, serve_app, status_rule, switch_rule, with_rules, worker_rules};
+ghost use Rattle.ns_words.specs.Commands.{AreAdded, IsArg, IsCommand, address_rules, closing_rule, compact_app, events_rule, folder_rule, limit_rules, number_rule, option_rule, output_rules, program, record_rules, replay_app, roster_rule, serve_app, status_rule, switch_rule, with_rules, worker_rules};
 ghost use Rattle.ns_words.specs.Refused.{HasNoAddr, HasNoCount, HasNoHost, IsNoOutput, IsNotNever, IsOfClap, IsRefusal, IsRefused, IsRefusedBehind, IsThere, IsTold};
 
 use clap::builder::ValueParser;
@@ -263,9 +263,18 @@ fn command<'a>(alloc: Global, name: &'a str, about: &'a str) -> Command<'a>
     Command::new(alloc, name).about(about).after_help(STREAMS)
 }
 
-// A command, and behind its arguments these: the join server and where gateways are heard.
-fn with_addresses<'a>(alloc: Global, command: Command<'a>) -> Result<Command<'a>, AllocError>
-    ensures { (app : _) → IsCommand app command.entry → IfOk result (IsCommand (with_rules app address_rules)) }
+// Adds an argument behind the others.
+fn add<'a>(args: &mut Vec<Arg<'a>>, arg: Arg<'a>) -> Result<(), AllocError>
+    ensures { (old app : _) (rule : _) → AreAdded old args.old.items app → IsArg rule arg.entry
+        → IfOk result (λ _. AreAdded old args.new.items (with_rule app rule)) }
+{
+    args.push(arg)?;
+    Ok(())
+}
+
+// Adds the arguments: the join server and where gateways are heard.
+fn add_addresses<'a>(alloc: Global, args: &mut Vec<Arg<'a>>) -> Result<(), AllocError>
+    ensures { (old app : _) → AreAdded old args.old.items app → IfOk result (λ _. AreAdded old args.new.items (with_rules app address_rules)) }
 {
     let join = option(
         alloc,
@@ -273,23 +282,23 @@ fn with_addresses<'a>(alloc: Global, command: Command<'a>) -> Result<Command<'a>
         "ADDR",
         "The join server's address, as 127.0.0.1:8080",
     );
-    let command = command.arg(join.required(true))?;
+    add(args, join.required(true))?;
     let host = option(alloc, "host", "NAME", "The host that requests to it name");
-    let command = command.arg(host.default_value("localhost"))?;
+    add(args, host.default_value("localhost"))?;
     let listen = option(
         alloc,
         "listen",
         "ADDR",
         "The address for the server's own datagrams; 127.0.0.1:1700 without --forwarders",
     );
-    let command = command.arg(listen)?;
+    add(args, listen)?;
     let forwarders = option(
         alloc,
         "forwarders",
         "ADDR",
         "The address at which packet forwarders are heard",
     );
-    let command = command.arg(forwarders)?;
+    add(args, forwarders)?;
     let power = number(
         alloc,
         "power",
@@ -297,12 +306,12 @@ fn with_addresses<'a>(alloc: Global, command: Command<'a>) -> Result<Command<'a>
         27,
         "The power of the downlinks that forwarders send, 1 to 27 dBm",
     );
-    command.arg(power.default_value("14"))
+    add(args, power.default_value("14"))
 }
 
-// A command, and behind its arguments these: how many threads there are.
-fn with_workers<'a>(alloc: Global, command: Command<'a>) -> Result<Command<'a>, AllocError>
-    ensures { (app : _) → IsCommand app command.entry → IfOk result (IsCommand (with_rules app worker_rules)) }
+// Adds the arguments: how many threads there are.
+fn add_workers<'a>(alloc: Global, args: &mut Vec<Arg<'a>>) -> Result<(), AllocError>
+    ensures { (old app : _) → AreAdded old args.old.items app → IfOk result (λ _. AreAdded old args.new.items (with_rules app worker_rules)) }
 {
     let workers = number(
         alloc,
@@ -311,7 +320,7 @@ fn with_workers<'a>(alloc: Global, command: Command<'a>) -> Result<Command<'a>, 
         16,
         "How many threads hear gateways, 1 to 16",
     );
-    let command = command.arg(workers.default_value("4"))?;
+    add(args, workers.default_value("4"))?;
     let join_workers = number(
         alloc,
         "join-workers",
@@ -319,12 +328,12 @@ fn with_workers<'a>(alloc: Global, command: Command<'a>) -> Result<Command<'a>, 
         16,
         "How many threads ask the join server, 1 to 16",
     );
-    command.arg(join_workers.default_value("1"))
+    add(args, join_workers.default_value("1"))
 }
 
-// A command, and behind its arguments these: when a window is closed, the server stops, and a shard is trimmed.
-fn with_limits<'a>(alloc: Global, command: Command<'a>) -> Result<Command<'a>, AllocError>
-    ensures { (app : _) → IsCommand app command.entry → IfOk result (IsCommand (with_rules app limit_rules)) }
+// Adds the arguments: when a window is closed, the server stops, and a shard is trimmed.
+fn add_limits<'a>(alloc: Global, args: &mut Vec<Arg<'a>>) -> Result<(), AllocError>
+    ensures { (old app : _) → AreAdded old args.old.items app → IfOk result (λ _. AreAdded old args.new.items (with_rules app limit_rules)) }
 {
     let window = number(
         alloc,
@@ -333,7 +342,7 @@ fn with_limits<'a>(alloc: Global, command: Command<'a>) -> Result<Command<'a>, A
         60_000,
         "How long copies are gathered, 1 to 60000 ms; those of a join 1000 at most",
     );
-    let command = command.arg(window.default_value("200"))?;
+    add(args, window.default_value("200"))?;
     let stop_after = number(
         alloc,
         "stop-after",
@@ -341,25 +350,25 @@ fn with_limits<'a>(alloc: Global, command: Command<'a>) -> Result<Command<'a>, A
         4_294_967_295,
         "After how many datagrams to stop, 1 to 4294967295; without it, never",
     );
-    let command = command.arg(stop_after)?;
+    add(args, stop_after)?;
     let stop_at_end = switch(
         alloc,
         "stop-at-end-of-input",
         "Stops at the end of standard input, of which nothing else is used",
     );
-    let command = command.arg(stop_at_end)?;
+    add(args, stop_at_end)?;
     let trim = option(
         alloc,
         "trim",
         "N",
         "After how many entries a shard is trimmed, 1 to 4294967295, or never",
     );
-    command.arg(trim.default_value(TRIM))
+    add(args, trim.default_value(TRIM))
 }
 
-// A command, and behind its arguments these: what the calls of the server are put down in.
-fn with_record<'a>(alloc: Global, command: Command<'a>) -> Result<Command<'a>, AllocError>
-    ensures { (app : _) → IsCommand app command.entry → IfOk result (IsCommand (with_rules app record_rules)) }
+// Adds the arguments: what the calls of the server are put down in.
+fn add_record<'a>(alloc: Global, args: &mut Vec<Arg<'a>>) -> Result<(), AllocError>
+    ensures { (old app : _) → AreAdded old args.old.items app → IfOk result (λ _. AreAdded old args.new.items (with_rules app record_rules)) }
 {
     let record = option(
         alloc,
@@ -367,18 +376,18 @@ fn with_record<'a>(alloc: Global, command: Command<'a>) -> Result<Command<'a>, A
         "DIR",
         "A folder that is there, for the record with which the next run goes on; not with --closing",
     );
-    let command = command.arg(record)?;
+    add(args, record)?;
     let sync = switch(
         alloc,
         "sync",
         "Brings the record to the disk before what rests on it leaves the server",
     );
-    command.arg(sync)
+    add(args, sync)
 }
 
-// A command, and behind its arguments this one: how uplinks are written.
-fn with_output<'a>(alloc: Global, command: Command<'a>) -> Result<Command<'a>, AllocError>
-    ensures { (app : _) → IsCommand app command.entry → IfOk result (IsCommand (with_rules app output_rules)) }
+// Adds the argument: how uplinks are written.
+fn add_output<'a>(alloc: Global, args: &mut Vec<Arg<'a>>) -> Result<(), AllocError>
+    ensures { (old app : _) → AreAdded old args.old.items app → IfOk result (λ _. AreAdded old args.new.items (with_rules app output_rules)) }
 {
     let output = option(
         alloc,
@@ -386,7 +395,22 @@ fn with_output<'a>(alloc: Global, command: Command<'a>) -> Result<Command<'a>, A
         "FORM",
         "How uplinks are written: lines, or json for JSON objects",
     );
-    command.arg(output.default_value("lines"))
+    add(args, output.default_value("lines"))
+}
+
+// Adds the arguments of the command that serves gateways.
+fn add_served<'a>(alloc: Global, args: &mut Vec<Arg<'a>>) -> Result<(), AllocError>
+    ensures { (old : _) → AreAdded old args.old.items (new_app (codes "serve")) → IfOk result (λ _. AreAdded old args.new.items serve_app) }
+{
+    add(args, roster(alloc))?;
+    add_addresses(alloc, args)?;
+    add_workers(alloc, args)?;
+    add_limits(alloc, args)?;
+    add_record(alloc, args)?;
+    add_output(alloc, args)?;
+    add(args, events(alloc))?;
+    add(args, status(alloc))?;
+    add(args, closing(alloc))
 }
 
 // The command that serves gateways.
@@ -394,14 +418,9 @@ fn serve_command<'a>(alloc: Global) -> Result<Command<'a>, AllocError>
     ensures { IfOk result (IsCommand serve_app) }
 {
     let about = "Serves gateways over UDP, with a join server over HTTP";
-    let serve = command(alloc, "serve", about).arg(roster(alloc))?;
-    let serve = with_addresses(alloc, serve)?;
-    let serve = with_workers(alloc, serve)?;
-    let serve = with_limits(alloc, serve)?;
-    let serve = with_record(alloc, serve)?;
-    let serve = with_output(alloc, serve)?.arg(events(alloc))?;
-    let serve = serve.arg(status(alloc))?;
-    serve.arg(closing(alloc))
+    let mut args = Vec::new(alloc);
+    add_served(alloc, &mut args)?;
+    command(alloc, "serve", about).args(args)
 }
 
 // The command that answers recorded steps.
@@ -409,8 +428,11 @@ fn replay_command<'a>(alloc: Global) -> Result<Command<'a>, AllocError>
     ensures { IfOk result (IsCommand replay_app) }
 {
     let about = "Answers the step lines of standard input";
-    let replay = command(alloc, "replay", about).arg(roster(alloc))?;
-    with_output(alloc, replay)?.arg(closing(alloc))
+    let mut args = Vec::new(alloc);
+    add(&mut args, roster(alloc))?;
+    add_output(alloc, &mut args)?;
+    add(&mut args, closing(alloc))?;
+    command(alloc, "replay", about).args(args)
 }
 
 // The command that compacts a record.
@@ -418,8 +440,10 @@ fn compact_command<'a>(alloc: Global) -> Result<Command<'a>, AllocError>
     ensures { IfOk result (IsCommand compact_app) }
 {
     let about = "Makes a record shorter that no server runs on; later answers are the same";
-    let compact = command(alloc, "compact", about).arg(roster(alloc))?;
-    compact.arg(folder(alloc))
+    let mut args = Vec::new(alloc);
+    add(&mut args, roster(alloc))?;
+    add(&mut args, folder(alloc))?;
+    command(alloc, "compact", about).args(args)
 }
 
 // The program's commands.

@@ -1,11 +1,15 @@
+use Rattle.std.proofs.Common.{codes, refl}
 use Rattle.std.proofs.lemmas.Result.{IfOk-weaker}
-use Rattle.ns_words.specs.Commands.{replay_app}
-use Rattle.ns_words.proofs.CommandLemmas.{IsCommand-arg}
+use Rattle.clap.specs.Words.{new_app}
+use Rattle.ns_words.specs.Commands.{AreAdded, replay_app}
+use Rattle.ns_words.proofs.CommandLemmas.{IsCommand-args}
 use Rattle.ns_words.proofs.options.replay_command.Goals as goal
 
 pub returns : goal.returns
 unfolding replay_app
 returns c =
-    let first = IsCommand-arg _ _ c.command.result c.in_ok-replay.replay c.roster.result c.command.ensures (c.roster.ensures.rule, c.roster.ensures.here) c.in_ok-replay.ensures in
-    let written = c.in_ok-with_output.ensures _ first in
-    IfOk-weaker c.arg-2.result _ _ (λ new added. IsCommand-arg _ _ c.in_ok-with_output.field-0 new c.closing.result written (c.closing.ensures.rule, c.closing.ensures.here) added) c.arg-2.ensures
+    let none : AreAdded (new_app (codes "replay")) c.new-args.result.items (new_app (codes "replay")) = rw c.new-args.ensures.items refl in
+    let first = c.in_ok-add.ensures _ _ _ none (c.roster.ensures.rule, c.roster.ensures.here) in
+    let written = c.in_ok-add_output.ensures _ _ first in
+    let added = c.in_ok-add-2.ensures _ _ _ written (c.closing.ensures.rule, c.closing.ensures.here) in
+    IfOk-weaker c.args-2.result _ _ (λ new turn. IsCommand-args _ _ c.command.result new _ c.command.ensures added turn) c.args-2.ensures
