@@ -15,8 +15,10 @@ use ns_events::Output;
 use ns_joinclient::HostName;
 use ns_serve_parts::ServeOptions;
 use std::alloc::{AllocError, Global};
+use std::error::Error;
+use std::fmt;
+use std::fmt::{Display, Formatter};
 use std::net::SocketAddr;
-use thiserror::Error;
 
 // What `--version` prints behind the program's name.
 const VERSION: &str = "0.1.0";
@@ -67,33 +69,20 @@ pub struct Recorded<'a> {
 }
 
 /// The options of `serve` with a value, printed as they are written behind `--`.
-#[derive(Clone, Copy, Debug, PartialEq, Eq, Error)]
+#[derive(Clone, Copy, Debug, PartialEq, Eq)]
 pub enum OptionName {
-    #[error("join")]
     Join,
-    #[error("host")]
     Host,
-    #[error("listen")]
     Listen,
-    #[error("forwarders")]
     Forwarders,
-    #[error("power")]
     Power,
-    #[error("status")]
     Status,
-    #[error("workers")]
     Workers,
-    #[error("join-workers")]
     JoinWorkers,
-    #[error("window")]
     Window,
-    #[error("stop-after")]
     StopAfter,
-    #[error("trim")]
     Trim,
-    #[error("record")]
     Record,
-    #[error("output")]
     Output,
 }
 
@@ -135,6 +124,14 @@ impl OptionName {
         }
     }
 }
+
+impl Display for OptionName {
+    fn fmt<W: fmt::Write>(&self, f: &mut Formatter<W>) -> fmt::Result {
+        f.write_str(self.as_str())
+    }
+}
+
+impl Error for OptionName {}
 
 // What an address is.
 const ADDR: &str = "an IP address and a port, as 127.0.0.1:8080; no name, and no http:// before it";
