@@ -1,6 +1,6 @@
 -- Lemmas on values that an option cannot have.
 use Rattle.std.proofs.Common.{◌≡◌, ◌<◌, ◌^◌, ℕ, List, [], true, Option, Some, None, Ok, Err, Result, option_map, is_some, refl, sym, ap, subst, ◌∙◌, arith, inl, inr}
-use Rattle.std.specs.Prelude.{IfErr, find}
+use Rattle.std.specs.Prelude.{IfErr, codes, find}
 use Rattle.std.specs.Result.{IsErrAnd}
 use Rattle.std.specs.Str.{bytes_eq}
 use Rattle.std.specs.Option.{ok_or}
@@ -16,8 +16,10 @@ use Rattle.clap.specs.Walk.{row_of}
 use Rattle.clap.proofs.WalkLemmas.{find_row, first_value-rows, one_text-rows}
 use Rattle.ns_words.specs.declared.options.BadWords.{BadWords}
 use Rattle.ns_words.specs.declared.options.BadWords.TheVariants.{NoMemory, NotText, BadValue, Shown}
+use Rattle.ns_words.specs.declared.options.OptionName.{OptionName}
+use Rattle.ns_words.specs.declared.options.OptionName.TheVariants.{Output}
 use Rattle.ns_words.specs.Asked.{IsNumber}
-use Rattle.ns_words.specs.Refused.{HasNoAddr, HasNoCount, IsOfClap, IsRefusal, IsRefusedBehind, IsThere}
+use Rattle.ns_words.specs.Refused.{HasBadValue, HasNoAddr, HasNoCount, IsNoOutput, IsOfClap, IsRefusal, IsRefused, IsRefusedBehind, IsThere}
 use Rattle.ns_words.specs.Commands.{program}
 
 -- no value was read: what the option's text says is none
@@ -92,6 +94,22 @@ made_err (Err x) P Q f is = f x is
 -- and one that it passes on
 pub from_err : {T E : Type 0} (r : Result T E) (P : E → Type 0) (e : E) → P e → IsErrAnd r (λ x. x ≡ e) → IfErr r P
 from_err r P e p is = made_err r P (λ x. x ≡ e) (λ x is. subst P (sym is) p) is
+
+-- an error that a `?` passes on, of a value that an option cannot have
+pub refused_for : {T : Type 0} (r : Result T BadWords) (rows : List Row) (name : OptionName) (bad : BadWords) → bad ≡ BadValue name → HasBadValue name rows
+    → IsErrAnd r (λ x. x ≡ bad) → IfErr r (IsRefused rows)
+refused_for r rows name bad is has made = from_err r (IsRefused rows) bad (subst (IsRefused rows) (sym is) has) made
+
+-- what is refused behind `serve`, and behind `replay`
+pub refused_serve : (name : Text) (rows : List Row) (bad : BadWords) → name ≡ codes "serve" → IsRefused rows bad → IsRefusedBehind name rows bad
+refused_serve name rows NoMemory named h = absurd h
+refused_serve name rows NotText named h = absurd h
+refused_serve name rows (BadValue option) named h = (inl named, h)
+refused_serve name rows (Shown error) named h = absurd h
+
+pub refused_replay : (name : Text) (rows : List Row) (bad : BadWords) → name ≡ codes "replay" → bad ≡ BadValue Output → IsNoOutput rows
+    → IsRefusedBehind name rows bad
+refused_replay name rows bad named is other = subst (IsRefusedBehind name rows) (sym is) (inr (named, refl), other)
 
 pub is_some-map : {A B : Type 0} (f : A → B) (o : Option A) → is_some (option_map f o) ≡ is_some o
 is_some-map f None = refl

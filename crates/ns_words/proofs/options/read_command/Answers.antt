@@ -1,8 +1,10 @@
 use Rattle.std.proofs.Common.{◌≡◌, ◌∙◌, true, false, inl, inr, sym, codes}
 use Rattle.std.proofs.lemmas.Slice.Eq.{bytes_eq-Decides}
-use Rattle.clap.specs.Words.{found_of}
+use Rattle.clap.specs.Words.{found_of, rows_of}
 use Rattle.clap.proofs.WalkLemmas.{first_value-rows}
+use Rattle.ns_words.specs.Refused.{IsRefusedBehind}
 use Rattle.ns_words.proofs.OptionLemmas.{first_of-got}
+use Rattle.ns_words.proofs.RefusedLemmas.{from_err, refused_replay, refused_serve}
 use Rattle.ns_words.proofs.options.read_command.Goals as goal
 
 pub returns-in_default-clause-refused : goal.returns-in_default-clause-refused
@@ -38,3 +40,27 @@ returns-in_ok-output-clause-asked c = (
   (bytes_eq-Decides c.args.name.now (codes "replay")).0 (sym c.if-eq-2.ensures),
   (first_of-got (found_of c.args.found.now) (codes "ROSTER") c.in-Some.path.now (sym c.in-Some.ensures), c.in_ok-output.ensures.output, c.flag.ensures),
 )
+
+pub returns-in_err-options-clause-refused : goal.returns-in_err-options-clause-refused
+returns-in_err-options-clause-refused c =
+    let rows = rows_of (found_of c.args.found.now) in
+    let bad = c.in_err-options.field-0.0 in
+    let named = (bytes_eq-Decides c.args.name.now (codes "serve")).0 (sym c.if-eq.ensures) in
+    from_err c.from_residual.result (IsRefusedBehind c.args.name.now rows) bad
+    (refused_serve c.args.name.now rows bad named c.in_err-options.ensures.refused) c.from_residual.ensures.1
+
+pub returns-in_err-record_options-clause-refused : goal.returns-in_err-record_options-clause-refused
+returns-in_err-record_options-clause-refused c =
+    let rows = rows_of (found_of c.args.found.now) in
+    let bad = c.in_err-record_options.field-0.0 in
+    let named = (bytes_eq-Decides c.args.name.now (codes "serve")).0 (sym c.if-eq.ensures) in
+    from_err c.from_residual-in_err-record_options.result (IsRefusedBehind c.args.name.now rows) bad
+    (refused_serve c.args.name.now rows bad named c.in_err-record_options.ensures.refused) c.from_residual-in_err-record_options.ensures.1
+
+pub returns-in_err-output-clause-refused : goal.returns-in_err-output-clause-refused
+returns-in_err-output-clause-refused c =
+    let rows = rows_of (found_of c.args.found.now) in
+    let bad = c.in_err-output.field-0.0 in
+    let named = (bytes_eq-Decides c.args.name.now (codes "replay")).0 (sym c.if-eq-2.ensures) in
+    from_err c.from_residual-in_err-output.result (IsRefusedBehind c.args.name.now rows) bad
+    (refused_replay c.args.name.now rows bad named c.in_err-output.ensures.refused.0 c.in_err-output.ensures.refused.1) c.from_residual-in_err-output.ensures.1
