@@ -3,7 +3,7 @@
 use crate::clock::{closing_of, now_ms};
 use crate::notices::note_event;
 use crate::state::State;
-use log::{Log, debug, info, warn};
+use log::{Level, Log, log};
 use ns_calls::{Call, Downlink, Reply};
 use ns_forwarder::{ForwarderFault, Outcome};
 use ns_forwarder_socket::{Event, outcome_name};
@@ -54,10 +54,12 @@ pub struct Events<'a> {
 impl<'a, R: Log + Clock + Wait> Monitor<R> for Events<'a> {
     fn refused(&self, rt: &R, why: Refused) {
         self.state.counts.refused(why);
-        match why {
-            Refused::Link(fault) => debug!(rt; "datagram refused: G{}", fault.number()),
-            Refused::View(fault) => debug!(rt; "datagram refused: V{}", fault.number()),
-        }
+        let (kind, number) = match why {
+            Refused::Link(fault) => ('G', fault.number()),
+            Refused::View(fault) => ('V', fault.number()),
+        };
+        let what = format_args!("datagram refused: {kind}{number}");
+        log_at(rt, Level::Debug, what);
     }
 
     fn replied(&self, rt: &R, receipt: &Receipt) {
@@ -74,7 +76,7 @@ impl<'a, R: Log + Clock + Wait> Monitor<R> for Events<'a> {
 
     fn dropped(&self, rt: &R) {
         more(&self.state.counts.dropped);
-        warn!(rt; "datagram dropped: no memory");
+        log_at(rt, Level::Warn, "datagram dropped: no memory");
     }
 
     fn unanswered(&self, rt: &R, ticket: &Ticket, why: &JoinFault) {
@@ -84,15 +86,21 @@ impl<'a, R: Log + Clock + Wait> Monitor<R> for Events<'a> {
         match why {
             // A device that the join server does not take is the device's matter.
             JoinFault::Exchange(AskFault::Answer(AnsFault::Refused(code))) => {
-                debug!(rt; "join of {eui:016x} refused: H7 A4 {code:?}, {words}");
+                let what = format_args!("join of {eui:016x} refused: H7 A4 {code:?}, {words}");
+                log_at(rt, Level::Debug, what);
             }
-            why => warn!(rt; "join of {eui:016x} not answered: {why}, {words}"),
+            why => {
+                let what = format_args!("join of {eui:016x} not answered: {why}, {words}");
+                log_at(rt, Level::Warn, what);
+            }
         }
     }
 
     fn stale(&self, rt: &R, ticket: &Ticket) {
         more(&self.state.counts.stale);
-        debug!(rt; "join of {:016x} not asked: the ticket is too old", ticket.dev_eui().0);
+        let eui = ticket.dev_eui().0;
+        let what = format_args!("join of {eui:016x} not asked: the ticket is too old");
+        log_at(rt, Level::Debug, what);
     }
 
     fn unsent(&self, rt: &R, downlink: &Downlink) {
@@ -103,7 +111,9 @@ impl<'a, R: Log + Clock + Wait> Monitor<R> for Events<'a> {
 /// Counts and logs a downlink that was not sent.
 pub fn log_unsent<R: Log>(rt: &R, state: &State, downlink: &Downlink) {
     more(&state.counts.unsent);
-    warn!(rt; "downlink to gateway {:016x} not sent", downlink.target.gateway.0);
+    let gateway = downlink.target.gateway.0;
+    let what = format_args!("downlink to gateway {gateway:016x} not sent");
+    log_at(rt, Level::Warn, what);
 }
 
 /// Logs the counts.
@@ -111,7 +121,8 @@ pub fn log_counts<R: Log>(rt: &R, state: &State) {
     let read = state.read.load(Ordering::SeqCst);
     state.counts.log_all(rt, read.min(state.most));
     if let Some((forwarders, _)) = &state.forwarders {
-        info!(rt; "forwarders:{}", forwarders.counts());
+        let what = format_args!("forwarders:{}", forwarders.counts());
+        log_at(rt, Level::Info, what);
     }
 }
 
@@ -119,16 +130,16 @@ pub fn log_counts<R: Log>(rt: &R, state: &State) {
 pub(crate) fn log_message<R: Log + Clock>(rt: &R, state: &State, event: Event) {
     match event {
         Event::Refused(ForwarderFault::NoMemory) => {
-            warn!(rt; "message of a forwarder dropped: no memory");
+            log_at(rt, Level::Warn, "message of a forwarder dropped: no memory");
         }
-        Event::Refused(fault) => debug!(rt; "message of a forwarder refused: {fault}"),
+        Event::Refused(fault) => {
+            let what = format_args!("message of a forwarder refused: {fault}");
+            log_at(rt, Level::Debug, what);
+        }
         Event::Told(gateway, outcome) if outcome != Outcome::Sent => {
             let (gateway, error) = (gateway.0, outcome_name(outcome));
             let what = format_args!("downlink not sent by gateway {gateway:016x}: {error}");
-            debug!(rt; "{what}");
-            if let Some(count) = state.seldoms.transmit.happened(now_ms(rt, state)) {
-                warn!(rt; "{what}, {count} since the line before");
-            }
+            log_seldom(rt, state, Level::Warn, &state.seldoms.transmit, what);
         }
         _ => {}
     }
@@ -171,23 +182,23 @@ fn log_reply<R: Log + Clock + Wait>(rt: &R, state: &State, receipt: &Receipt) {
         (Reply::NoSession, Call::Uplink { frame, heard }) => {
             let (addr, gateway) = (frame.view().dev_addr().0, heard.gateway.0);
             let who = format_args!("nosession address {addr:08x} gateway {gateway:016x}");
-            log_seldom(rt, state, &seldoms.nosession, who);
+            log_seldom(rt, state, Level::Info, &seldoms.nosession, who);
         }
         (Reply::NoDevice, Call::Join { ticket, heard }) => {
             let (eui, gateway) = (ticket.dev_eui().0, heard.gateway.0);
             let who = format_args!("nodevice {eui:016x} gateway {gateway:016x}");
-            log_seldom(rt, state, &seldoms.nodevice, who);
+            log_seldom(rt, state, Level::Info, &seldoms.nodevice, who);
         }
         (Reply::NonceOld { .. }, Call::Join { ticket, heard }) => {
             let (eui, gateway) = (ticket.dev_eui().0, heard.gateway.0);
             let who = format_args!("nonceold {eui:016x} gateway {gateway:016x}");
-            log_seldom(rt, state, &seldoms.nonceold, who);
+            log_seldom(rt, state, Level::Info, &seldoms.nonceold, who);
         }
         (Reply::JoinRefused, Call::JoinReply { ticket, .. }) => {
             let eui = ticket.dev_eui();
             let (device, gateway) = (eui.0, asker_of(rt, state, eui));
             let who = format_args!("joinrefused {device:016x} gateway {gateway:016x}");
-            log_seldom(rt, state, &seldoms.joinrefused, who);
+            log_seldom(rt, state, Level::Info, &seldoms.joinrefused, who);
         }
         _ => {}
     }
@@ -195,19 +206,33 @@ fn log_reply<R: Log + Clock + Wait>(rt: &R, state: &State, receipt: &Receipt) {
 
 // Logs a join.
 fn log_joined<R: Log>(rt: &R, eui: u64, session: u32, addr: u32, downlink: &Option<Downlink>) {
+    let joined = format_args!("joined {eui:016x} session {session} address {addr:08x}");
     match downlink {
         Some(downlink) => {
             let gateway = downlink.target.gateway.0;
-            info!(rt; "joined {eui:016x} session {session} address {addr:08x} gateway {gateway:016x}");
+            let what = format_args!("{joined} gateway {gateway:016x}");
+            log_at(rt, Level::Info, what);
         }
-        None => info!(rt; "joined {eui:016x} session {session} address {addr:08x}"),
+        None => log_at(rt, Level::Info, joined),
     }
 }
 
-// Logs a reply at the level debug, and at info where its line is due.
-fn log_seldom<R: Log + Clock, D: Display + Drop>(rt: &R, state: &State, seldom: &Seldom, who: D) {
-    debug!(rt; "{who}");
+// Logs a text at the level debug, and at this one where its line is due.
+fn log_seldom<R: Log + Clock, D: Display + Drop>(
+    rt: &R,
+    state: &State,
+    level: Level,
+    seldom: &Seldom,
+    text: D,
+) {
+    log_at(rt, Level::Debug, &text);
     if let Some(count) = seldom.happened(now_ms(rt, state)) {
-        info!(rt; "{who}, {count} since the line before");
+        let what = format_args!("{text}, {count} since the line before");
+        log_at(rt, level, what);
     }
+}
+
+// Logs a text at this level.
+fn log_at<R: Log, D: Display + Drop>(rt: &R, level: Level, text: D) {
+    log!(rt; level, "{text}");
 }
