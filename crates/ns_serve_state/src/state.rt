@@ -14,6 +14,7 @@ use ns_roster::Roster;
 use ns_serve_parts::{Askers, Counts, EventLines, Made, ServeFault, ServeOptions, keys};
 use ns_shard::Shard;
 use std::alloc::{AllocError, Global};
+use std::collections::hash_map::RandomState;
 use std::net::{SocketAddr, UdpSocket};
 use std::sync::atomic::{AtomicBool, AtomicU64, Ordering};
 use std::sync::{Arc, Mutex};
@@ -36,6 +37,71 @@ fn notices(alloc: Global, events: bool) -> Option<Mutex<EventLines>>
     } else {
         None
     }
+}
+
+// The parts of a state for which there may be no clock or no memory.
+#[derive(Drop)]
+struct Parts {
+    start: Instant,
+    forwarders: Option<(Forwarders, SocketAddr)>,
+    ended: Arc<AtomicBool>,
+    addresses: Mutex<Addresses>,
+    lates: Lates,
+    askers: Mutex<Askers>,
+}
+
+impl Parts {
+    // The parts of a server that begins now.
+    fn new<R: Clock>(
+        rt: &R,
+        alloc: Global,
+        forwarders: Option<(UdpSocket, SocketAddr)>,
+        roster: &Roster,
+        power: u8,
+    ) -> Result<Parts, ServeFault> {
+        let (Ok(start), Ok(keys)) = (Instant::now(rt), keys(rt)) else {
+            return Err(ServeFault::Io);
+        };
+        let forwarders = heard(alloc, keys, start, power, forwarders)?;
+        let Ok(ended) = Arc::new(alloc, AtomicBool::new(false)) else {
+            return Err(ServeFault::NoMemory);
+        };
+        let (addresses, lates, askers) = tables(alloc, keys, roster)?;
+        Ok(Parts {
+            start,
+            forwarders,
+            ended,
+            addresses,
+            lates,
+            askers,
+        })
+    }
+}
+
+// The forwarders that are heard by a socket, if there is one.
+fn heard(
+    alloc: Global,
+    keys: RandomState,
+    start: Instant,
+    power: u8,
+    socket: Option<(UdpSocket, SocketAddr)>,
+) -> Result<Option<(Forwarders, SocketAddr)>, AllocError> {
+    let Some((socket, addr)) = socket else {
+        return Ok(None);
+    };
+    Ok(Some((Forwarders::new(alloc, keys, socket, start, power)?, addr)))
+}
+
+// Where gateways were last heard, which frames are late, and by which gateways devices asked to join: nothing yet.
+fn tables(
+    alloc: Global,
+    keys: RandomState,
+    roster: &Roster,
+) -> Result<(Mutex<Addresses>, Lates, Mutex<Askers>), AllocError> {
+    let addresses = Mutex::new(Addresses::new(Peers::new(alloc, keys)?));
+    let lates = Lates::new(alloc, late_ms(roster))?;
+    let askers = Mutex::new(Askers::new(alloc, keys)?);
+    Ok((addresses, lates, askers))
 }
 
 /// What all threads share.
@@ -102,35 +168,23 @@ impl State {
         ensures window { IfOk result (λ s. s.window_ms ≡ options.now.window_ms) }
         ensures uplinks { IfOk result (λ s. s.uplinks ≡ options.now.output) }
     {
-        let (Ok(start), Ok(keys)) = (Instant::now(rt), keys(rt)) else {
-            return Err(ServeFault::Io);
-        };
-        let forwarders = match forwarders {
-            Some((socket, addr)) => {
-                let heard = Forwarders::new(alloc, keys, socket, start, options.power)?;
-                Some((heard, addr))
-            }
-            None => None,
-        };
-        let Ok(ended) = Arc::new(alloc, AtomicBool::new(false)) else {
-            return Err(ServeFault::NoMemory);
-        };
+        let parts = Parts::new(rt, alloc, forwarders, roster, options.power)?;
         Ok(State {
             alloc,
             own,
-            forwarders,
-            start,
+            forwarders: parts.forwarders,
+            start: parts.start,
             window_ms: options.window_ms,
             read: AtomicU64::new(0),
             most: options.stop_after.map_or(u64::MAX, u64::from),
             broken: AtomicBool::new(false),
-            ended,
+            ended: parts.ended,
             gateways: AtomicU64::new(0),
-            addresses: Mutex::new(Addresses::new(Peers::new(alloc, keys)?)),
+            addresses: parts.addresses,
             address_changes: AtomicU64::new(0),
-            lates: Lates::new(alloc, late_ms(roster))?,
+            lates: parts.lates,
             asks: AskQueue::new(alloc),
-            askers: Mutex::new(Askers::new(alloc, keys)?),
+            askers: parts.askers,
             made: Made::of(shards),
             counts: Counts::new(),
             seldoms: Seldoms::new(),
