@@ -197,6 +197,7 @@ fn put_comma(line: &mut Line, copy: &Heard)
 fn put_gateways(line: &mut Line, copies: &[Heard])
     requires { array_string_len line.old + 17 * length copies.now ≤ 1024 }
     ensures bytes { line.new.bytes ≡ line.old.bytes ++ gateways_text copies.now }
+    ensures len { array_string_len line.new ≤ array_string_len line.old + 17 * length copies.now }
 {
     if let Some((first, others)) = copies.split_first() {
         put_identity(line, first.gateway.0);
@@ -222,7 +223,8 @@ fn put_kind(line: &mut Line, uplink: &LentUplink)
 #[tactic(auto, unfolding(crate::specs::Text::up_text))]
 pub fn put_lent_uplink(line: &mut Line, uplink: &LentUplink)
     requires { array_string_len line.old + 922 ≤ 1024 }
-    ensures { line.new.bytes ≡ line.old.bytes ++ up_text uplink.now }
+    ensures bytes { line.new.bytes ≡ line.old.bytes ++ up_text uplink.now }
+    ensures len { array_string_len line.new ≤ array_string_len line.old + 922 }
 {
     put_named(line, "up", &uplink.window);
     put_optional(line, uplink.port.map(u32::from));
@@ -237,7 +239,8 @@ pub fn put_lent_uplink(line: &mut Line, uplink: &LentUplink)
 /// The same.
 pub fn put_uplink(line: &mut Line, uplink: &Uplink)
     requires { array_string_len line.old + 922 ≤ 1024 }
-    ensures { line.new.bytes ≡ line.old.bytes ++ up_text uplink.now }
+    ensures bytes { line.new.bytes ≡ line.old.bytes ++ up_text uplink.now }
+    ensures len { array_string_len line.new ≤ array_string_len line.old + 922 }
 {
     put_lent_uplink(line, &uplink.lend());
 }

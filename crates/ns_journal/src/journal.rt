@@ -82,11 +82,11 @@ impl Journal {
 
     /// Adds the entry of a call and its reply, and answers its number. It takes no memory.
     #[inline(always)]
-    pub fn push(&mut self, call: Call, reply: Reply) -> u64
+    pub fn push(&mut self, call: &Call, reply: Reply) -> u64
         requires { self.old.reserved < self.old.room }
         ensures number { result ≡ self.old.made }
         ensures made { self.new.made ≡ self.old.made + 1 }
-        ensures entries { self.new.entries ≡ self.old.entries ++ next_entry self.old call reply ∷ [] }
+        ensures entries { self.new.entries ≡ self.old.entries ++ next_entry self.old call.now reply ∷ [] }
         ensures reserved { self.new.reserved ≡ self.old.reserved }
         ensures room { self.old.room ≤ self.new.room + 1 }
     {
@@ -97,11 +97,11 @@ impl Journal {
 
     /// Adds an entry, and reserves room for one more. It takes no memory.
     #[inline(always)]
-    pub fn push_reserving(&mut self, call: Call, reply: Reply) -> u64
+    pub fn push_reserving(&mut self, call: &Call, reply: Reply) -> u64
         requires { self.old.reserved + 2 ≤ self.old.room }
         ensures number { result ≡ self.old.made }
         ensures made { self.new.made ≡ self.old.made + 1 }
-        ensures entries { self.new.entries ≡ self.old.entries ++ next_entry self.old call reply ∷ [] }
+        ensures entries { self.new.entries ≡ self.old.entries ++ next_entry self.old call.now reply ∷ [] }
         ensures reserved { self.new.reserved ≡ self.old.reserved + 1 }
         ensures room { self.old.room ≤ self.new.room + 1 }
     {
@@ -112,11 +112,11 @@ impl Journal {
 
     /// Adds an entry in the room of a reserved one. It takes no memory, and no other room is made before.
     #[inline(always)]
-    pub fn push_reserved(&mut self, call: Call, reply: Reply) -> u64
+    pub fn push_reserved(&mut self, call: &Call, reply: Reply) -> u64
         requires { 0 < self.old.reserved }
         ensures number { result ≡ self.old.made }
         ensures made { self.new.made ≡ self.old.made + 1 }
-        ensures entries { self.new.entries ≡ self.old.entries ++ next_entry self.old call reply ∷ [] }
+        ensures entries { self.new.entries ≡ self.old.entries ++ next_entry self.old call.now reply ∷ [] }
         ensures reserved { self.new.reserved + 1 ≡ self.old.reserved }
         ensures room { self.old.room ≤ self.new.room + 1 }
     {
@@ -142,33 +142,36 @@ impl Journal {
         Ok(kept)
     }
 
-    /// Cuts entries out in their place, and hands none out: those of these numbers stay, and the room of the others is free for later
-    /// ones (no clause: the room is no less). It takes no memory, and gives none back.
-    pub fn keep(&mut self, stay: &[u64])
+    /// Cuts entries out in their place, and answers how many, but hands none out: those of these numbers stay, and the room of the others
+    /// is free for later ones (no clause: the room is no less). It takes no memory, and gives none back.
+    pub fn keep(&mut self, stay: &[u64]) -> u64
         requires numbers { AreNumbersOf self.old.entries stay.now }
         requires fits { self.old.made ≤ 2 ^ 63 + length stay.now }
         ensures made { self.new.made ≡ self.old.made }
         ensures reserved { self.new.reserved ≡ self.old.reserved }
         ensures entries { self.new.entries ≡ with_numbers stay.now self.old.entries }
+        ensures count { result + length self.new.entries ≡ length self.old.entries }
         ensures room { self.old.room ≤ self.new.room }
     {
         let before = self.entries.len();
         gather(&mut self.entries, stay);
-        self.cut += (before - self.entries.len()) as u64;
+        let count = (before - self.entries.len()) as u64;
+        self.cut += count;
+        count
     }
 }
 
 // Adds an entry where there is room for it.
 #[inline(always)]
-fn add(entries: &mut Vec<Entry>, number: u64, call: Call, reply: Reply)
+fn add(entries: &mut Vec<Entry>, number: u64, call: &Call, reply: Reply)
     requires { vec_len entries.old < vec_capacity entries.old }
-    ensures items { entries.new.items ≡ entries.old.items ++ entry_of number call reply ∷ [] }
+    ensures items { entries.new.items ≡ entries.old.items ++ entry_of number call.now reply ∷ [] }
     ensures len { vec_len entries.new ≡ vec_len entries.old + 1 }
     ensures capacity { vec_capacity entries.old ≤ vec_capacity entries.new }
 {
     let _ = entries.push(Entry {
         number,
-        call,
+        call: *call,
         reply,
     });
 }
@@ -196,7 +199,7 @@ fn part(entries: &mut Vec<Entry>, kept: &mut Vec<Entry>, stay: &[u64])
     'entries: for place in 0..entries.len() {
         let entry = entries[place];
         if is_next(&entry, stay, next) {
-            add(kept, entry.number, entry.call, entry.reply);
+            add(kept, entry.number, &entry.call, entry.reply);
             next += 1;
         } else {
             entries[out] = entry;

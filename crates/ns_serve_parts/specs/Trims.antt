@@ -1,8 +1,8 @@
 -- When a shard of a running server is trimmed, and what becomes of it.
 use Rattle.std.specs.Prelude.{ℕ, ◌≡◌, ◌+◌, nat_le, Bool, true, false, List, slice_index}
 use Rattle.ns_roster.specs.Network.{Network}
-use Rattle.ns_shard.specs.declared.trim.Dropped.{Dropped}
-use Rattle.ns_server.specs.Trims.{IsTrimOf}
+use Rattle.ns_server.specs.declared.kept.Trim.{Trim}
+use Rattle.ns_server.specs.Trims.{IsTrimInPlaceOf}
 use Rattle.ns_serve_parts.specs.declared.trims.Trims.{Trims}
 use Rattle.ns_serve_parts.specs.declared.trims.Trimmed.{Trimmed}
 use Rattle.ns_serve_parts.specs.declared.trims.Trimmed.TheVariants.{NotDue, At, Refused}
@@ -14,7 +14,7 @@ is_due trims made shard = nat_le (slice_index trims.marks shard + trims.every) (
 -- what a trim of a shard told: its mark, or that it was refused
 abbrev pub IsToldBy : Network → ℕ → Trimmed → Type 0
 IsToldBy net shard NotDue = ⊥
-IsToldBy net shard (At told) = (d : Dropped) × IsTrimOf net shard d × (d.mark ≡ told)
+IsToldBy net shard (At told) = (t : Trim) × IsTrimInPlaceOf net shard t × (t.mark ≡ told)
 IsToldBy net shard (Refused fault) = Unit {0}
 
 -- the mark of a shard after what was told of it

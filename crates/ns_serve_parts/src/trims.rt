@@ -98,10 +98,10 @@ fn trim_shard<B: Naming, R: Wait + Log>(
     requires { shard < shard_count }
     ensures { IsToldBy B.roster shard result }
 {
-    match server.trim(rt, alloc, shard) {
-        Ok(dropped) => {
-            debug!(rt; "shard {shard} trimmed: {} entries dropped", dropped.entries.len());
-            Trimmed::At(dropped.mark)
+    match server.trim_in_place(rt, alloc, shard) {
+        Ok(trim) => {
+            debug!(rt; "shard {shard} trimmed: {} entries dropped", trim.dropped);
+            Trimmed::At(trim.mark)
         }
         Err(fault) => {
             warn!(rt; "shard {shard} not trimmed: {fault}");
@@ -139,7 +139,7 @@ fn mark_after(mark: u64, trimmed: Trimmed) -> u64
     }
 }
 
-/// Trims each shard that is due with so many entries made in each, under its lock, and drops what comes out. What became of each shard
+/// Trims each shard that is due with so many entries made in each, under its lock, in the memory of its entries. What became of each shard
 /// comes back, and the marks are those of the trims that were made. A refused trim is logged, and the shard stays due.
 pub fn trim_due<B: Naming, R: Wait + Log>(
     rt: &R,

@@ -8,7 +8,7 @@ ghost use Rattle.ns_shard.specs.State.{after_call, after_trim, dropped, finds_op
 ghost use Rattle.ns_shard.specs.declared.trim.TrimFault.TheVariants.{Full};
 ghost use Rattle.ns_server.specs.Receipts.{empty_receipt, receipt_of, receipt_for, HasHistory, AnswersFrom, RisesAt};
 ghost use Rattle.ns_server.specs.Kept.{IsStateOf};
-ghost use Rattle.ns_server.specs.Trims.{IsTrimOf};
+ghost use Rattle.ns_server.specs.Trims.{IsTrimOf, IsTrimInPlaceOf};
 
 use crate::names::Naming;
 use crate::pass::Pass;
@@ -77,6 +77,13 @@ pub(crate) fn receipt_of(shard: u8, number: u64, call: &Call, answer: Answer) ->
         uplink: answer.uplink,
         downlink: answer.downlink,
     }
+}
+
+/// What a trim in place tells: its mark, which is the number of the next entry, and how many entries it dropped.
+#[derive(Clone, Copy, Debug, PartialEq, Eq)]
+pub struct Trim {
+    pub mark: u64,
+    pub dropped: u64,
 }
 
 /// What lies under the lock of shard `K`: the shard, and the book that counts its entries since the server began. Contracts see the
@@ -151,6 +158,20 @@ impl<B: Naming, const K: usize> Kept<B, K> {
         ensures told { IfOk result (IsTrimOf B.roster K) }
     {
         self.shard.trim(alloc)
+    }
+
+    /// Trims as `trim` does, in the memory of the entries, and hands none out. Their room stays for later ones (no clause).
+    pub fn trim_in_place(&mut self, alloc: Global) -> Result<Trim, TrimFault>
+        ensures kept { OnOk result (self.new ≡ after_trim self.old) }
+        ensures mark { IfOk result (λ t. t.mark ≡ self.old.made) }
+        ensures full { result ≡ Err Full → 2 ^ 63 + length (after_trim self.old).entries < self.old.made }
+        ensures err { OnErr result (self.new ≡ self.old) }
+        ensures state { IsStateOf B.roster K self.new }
+        ensures told { IfOk result (IsTrimInPlaceOf B.roster K) }
+    {
+        let mark = self.shard.made();
+        let dropped = self.shard.trim_in_place(alloc)?;
+        Ok(Trim { mark, dropped })
     }
 
     /// Makes room for so many more entries. Where that is refused, there is as much room as before.

@@ -19,7 +19,7 @@ mod server;
 mod settled;
 
 pub use gate::{Gate, Open};
-pub use kept::{Kept, Receipt};
+pub use kept::{Kept, Receipt, Trim};
 pub use laws::{receipts_are_all, receipts_since_the_mark_are_all};
 pub use names::Naming;
 pub use pass::Pass;

@@ -7,13 +7,13 @@ ghost use Rattle.ns_calls.specs.Shards.{shard_of_call};
 ghost use Rattle.ns_shard.specs.State.{no_entries};
 ghost use Rattle.ns_tally.specs.Tally.{none_made, shard_of_book, total_of_book, AreNamed};
 ghost use Rattle.ns_server.specs.Receipts.{HasHistory, AnswersFrom, RisesAt};
-ghost use Rattle.ns_server.specs.Trims.{IsTrimOf};
+ghost use Rattle.ns_server.specs.Trims.{IsTrimOf, IsTrimInPlaceOf};
 ghost use Rattle.ns_server.specs.Begun.{BeganAs, ArePlaced, states_at};
 ghost use Rattle.ns_server.specs.Kept.{IsStateOf};
 ghost use Rattle.ns_server.specs.Rows.{new_states, AreRow, AreFirst};
 
 use crate::gate::Gate;
-use crate::kept::{Kept, Receipt};
+use crate::kept::{Kept, Receipt, Trim};
 use crate::names::Naming;
 use crate::pass::{PLACES, Pass};
 use ns_calls::{Call, shard_of_call};
@@ -123,6 +123,17 @@ fn trim_kept<B: Naming, const K: usize, R: Wait>(
     let count = dropped.entries.len();
     kept.reserve(count.saturating_add(count / 8));
     Ok(dropped)
+}
+
+// Takes the lock and trims in the memory of the entries.
+fn trim_kept_in_place<B: Naming, const K: usize, R: Wait>(
+    rt: &R,
+    lock: &Mutex<Kept<B, K>>,
+    alloc: Global,
+) -> Result<Trim, TrimFault>
+    ensures { IfOk result (IsTrimInPlaceOf B.roster K) }
+{
+    lock.lock(rt).trim_in_place(alloc)
 }
 
 /// The sixteen shards, with no entries.
@@ -370,6 +381,37 @@ impl<B: Naming> Server<B> {
             13 => trim_kept(rt, &self.k13, alloc),
             14 => trim_kept(rt, &self.k14, alloc),
             _ => trim_kept(rt, &self.k15, alloc),
+        }
+    }
+
+    /// Trims a shard as `trim` does, in the memory of its entries, and hands none out: it tells the mark and how many were dropped. Their
+    /// room stays for later ones (no clause).
+    pub fn trim_in_place<R: Wait>(
+        &self,
+        rt: &R,
+        alloc: Global,
+        shard: u8,
+    ) -> Result<Trim, TrimFault>
+        requires { shard < shard_count }
+        ensures told { IfOk result (IsTrimInPlaceOf B.roster shard) }
+    {
+        match shard {
+            0 => trim_kept_in_place(rt, &self.k0, alloc),
+            1 => trim_kept_in_place(rt, &self.k1, alloc),
+            2 => trim_kept_in_place(rt, &self.k2, alloc),
+            3 => trim_kept_in_place(rt, &self.k3, alloc),
+            4 => trim_kept_in_place(rt, &self.k4, alloc),
+            5 => trim_kept_in_place(rt, &self.k5, alloc),
+            6 => trim_kept_in_place(rt, &self.k6, alloc),
+            7 => trim_kept_in_place(rt, &self.k7, alloc),
+            8 => trim_kept_in_place(rt, &self.k8, alloc),
+            9 => trim_kept_in_place(rt, &self.k9, alloc),
+            10 => trim_kept_in_place(rt, &self.k10, alloc),
+            11 => trim_kept_in_place(rt, &self.k11, alloc),
+            12 => trim_kept_in_place(rt, &self.k12, alloc),
+            13 => trim_kept_in_place(rt, &self.k13, alloc),
+            14 => trim_kept_in_place(rt, &self.k14, alloc),
+            _ => trim_kept_in_place(rt, &self.k15, alloc),
         }
     }
 

@@ -44,6 +44,11 @@ impl BoxedUplink {
         })
     }
 
+    /// The closed window in whose memory the uplink lies.
+    pub(crate) fn into_window(self) -> BoxedWindow {
+        self.window
+    }
+
     /// Lends the uplink.
     pub fn lend(&self) -> LentUplink<'_>
         ensures { result ≡ self.now }

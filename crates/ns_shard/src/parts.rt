@@ -188,6 +188,17 @@ impl Parts {
         Ok(event.hand_out(&self.roster, uplink, downlink))
     }
 
+    /// Takes the memory of an uplink that went out, for a window that is opened later.
+    pub fn reuse(&mut self, sent: Option<BoxedUplink>)
+        requires { AreParts self.old }
+        ensures state { state_of self.new ≡ state_of self.old }
+        ensures agree { AreParts self.new }
+    {
+        if let Some(sent) = sent {
+            self.windows.reuse(sent.into_window());
+        }
+    }
+
     /// Answers a call, with a boxed answer. Where a growth is refused, the call may have been taken.
     pub fn apply_boxed(&mut self, alloc: Global, call: &Call) -> Result<BoxedAnswer, AllocError>
         requires own { shard_of_call call.now ≡ self.old.index }

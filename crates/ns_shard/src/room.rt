@@ -18,8 +18,8 @@ pub fn push(journal: &mut Journal, call: &Call, event: &Event)
     ensures reserved { journal.new.reserved ≡ reserved_after event.now journal.old.reserved }
 {
     match event {
-        Event::Quiet(reply) => journal.push(*call, *reply),
-        Event::Opened(reply) => journal.push_reserving(*call, *reply),
-        Event::Ended(ended) => journal.push_reserved(*call, ended.reply()),
+        Event::Quiet(reply) => journal.push(call, *reply),
+        Event::Opened(reply) => journal.push_reserving(call, *reply),
+        Event::Ended(ended) => journal.push_reserved(call, ended.reply()),
     };
 }

@@ -92,6 +92,7 @@ impl Shard {
         let mut sent = None;
         let reply = self.apply_lent(call, &mut sent, downlink)?;
         put_uplink(&sent, uplink);
+        self.parts.reuse(sent);
         Ok(reply)
     }
 
@@ -156,10 +157,11 @@ impl Shard {
         self.parts.trim(alloc)
     }
 
-    /// Trims the shard as `trim` does, in the memory of its entries: those that are dropped are handed out to nobody, and their room stays
-    /// for later ones (no clause).
-    pub fn trim_in_place(&mut self, alloc: Global) -> Result<(), TrimFault>
+    /// Trims the shard as `trim` does, in the memory of its entries, and answers how many it dropped: they are handed out to nobody, and
+    /// their room stays for later ones (no clause).
+    pub fn trim_in_place(&mut self, alloc: Global) -> Result<u64, TrimFault>
         ensures kept { OnOk result (self.new ≡ after_trim self.old) }
+        ensures count { IfOk result (λ n. n + length self.new.entries ≡ length self.old.entries) }
         ensures full { result ≡ Err Full → 2 ^ 63 + length (after_trim self.old).entries < self.old.made }
         ensures err { OnErr result (self.new ≡ self.old) }
         ensures state { IsState self.new }

@@ -108,18 +108,19 @@ impl Parts {
         Ok(Dropped { mark, entries })
     }
 
-    /// The same, in the memory of the entries: those that are dropped are handed out to nobody.
-    pub fn trim_in_place(&mut self, alloc: Global) -> Result<(), TrimFault>
+    /// The same, in the memory of the entries: those that are dropped are counted, and handed out to nobody.
+    pub fn trim_in_place(&mut self, alloc: Global) -> Result<u64, TrimFault>
         requires { AreParts self.old }
         ensures state { OnOk result (state_of self.new ≡ after_trim (state_of self.old)) }
+        ensures count { IfOk result (λ n. n + length (state_of self.new).entries ≡ length (state_of self.old).entries) }
         ensures full { result ≡ Err Full → 2 ^ 63 + length (after_trim (state_of self.old)).entries < (state_of self.old).made }
         ensures err { OnErr result (state_of self.new ≡ state_of self.old) }
         ensures agree { AreParts self.new }
     {
         let (named, stay) = self.staying(alloc)?;
-        self.journal.keep(stay.as_slice());
+        let count = self.journal.keep(stay.as_slice());
         self.mark = self.journal.made();
         self.named = named;
-        Ok(())
+        Ok(count)
     }
 }

@@ -10,15 +10,14 @@ ghost use Rattle.ns_windows.specs.Windows.{window_named, window_of_frame, count}
 ghost use Rattle.ns_devices.specs.Devices.{is_own, fit_at, IsNew, keys_in};
 ghost use Rattle.ns_shard.specs.Private.Sending.{reply_of};
 ghost use Rattle.ns_shard.specs.Private.Room.{opens, opening_event};
-ghost use Rattle.ns_shard.specs.Private.Reaction.{added_reply, new_window, with_window, open_reply, round_of, again_reply, uplink_reply, with_shard_uplink, with_copy_or_window, HasPlace, CanOpen};
+ghost use Rattle.ns_shard.specs.Private.Reaction.{added_reply, with_window, open_reply, round_of, again_reply, uplink_reply, with_shard_uplink, with_copy_or_window, HasPlace, CanOpen};
 
 use crate::event::Event;
-use arrayvec::ArrayVec;
 use ns_calls::{DataFrame, MOST_WINDOWS, Reply};
 use ns_devices::{Devices, Placed};
 use ns_sessions::Recovery;
-use ns_types::{DevEui, Heard, Key, WindowName};
-use ns_windows::{Addition, Window, Windows};
+use ns_types::{DevEui, Heard, WindowName};
+use ns_windows::{Addition, Windows};
 use std::alloc::AllocError;
 
 // The reply to one more copy of an open window.
@@ -28,28 +27,6 @@ fn copy_reply(addition: Addition) -> Reply
     match addition {
         Addition::Copied { window, place } => Reply::Copied { window, place },
         Addition::Crowded { window } => Reply::Crowded { window },
-    }
-}
-
-// A window with its first copy.
-#[inline(always)]
-fn new_window(
-    frame: &DataFrame,
-    heard: &Heard,
-    name: &WindowName,
-    nwk: Key,
-    app: Option<Key>,
-) -> Window
-    ensures { result ≡ new_window frame.now heard.now name.now (nwk, app) }
-{
-    let mut copies = ArrayVec::new();
-    copies.push(*heard);
-    Window {
-        name: *name,
-        frame: *frame,
-        copies,
-        nwk,
-        app,
     }
 }
 
@@ -73,7 +50,7 @@ fn put(
     let Some((nwk, app)) = devices.keys(place, name) else {
         unreachable!()
     };
-    windows.put(new_window(frame, heard, name, nwk, app))
+    windows.open(name, frame, heard, nwk, app)
 }
 
 // Whether a device has as many open windows as it may have.

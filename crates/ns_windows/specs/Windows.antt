@@ -6,6 +6,7 @@ use Rattle.std.specs.Map.{lookup, set_value}
 use Rattle.lru.specs.LruCache.{LruCache}
 use Rattle.ns_types.specs.declared.identity.DevEui.{DevEui}
 use Rattle.ns_types.specs.declared.identity.WindowName.{WindowName}
+use Rattle.ns_types.specs.declared.identity.Key.{Key}
 use Rattle.ns_types.specs.declared.heard.Heard.{Heard}
 use Rattle.ns_types.specs.Identity.{same_window}
 use Rattle.ns_calls.specs.Entries.{most_copies}
@@ -29,6 +30,10 @@ window_of_frame frame windows = find (is_of frame) windows
 -- how many windows are of a device
 abbrev pub count : DevEui → List Window → ℕ
 count eui windows = count_by (λ w. w.name.eui.0 == eui.0) windows
+
+-- a window with its first copy, and the keys of its session
+abbrev pub new_window : List ℕ → Heard → WindowName → Key × Option Key → Window
+new_window frame heard name keys = record { name = name; frame = frame; copies = record { items = heard ∷ [] }; nwk = keys.0; app = keys.1 }
 
 -- a window with one copy more, where it has room for it
 abbrev pub with_copy : Heard → Window → Window

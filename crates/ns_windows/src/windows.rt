@@ -2,16 +2,20 @@
 
 ghost use Rattle.std.specs.Prelude.{◌≡◌, [], ◌∷◌, ◌++◌, None, is_some, map, option_map, IfOk, OnOk, OnErr};
 ghost use Rattle.ns_calls.specs.Queries.{first};
-ghost use Rattle.ns_windows.specs.Windows.{window_named, window_of_frame, count, addition, with_copy_of, without};
+ghost use Rattle.ns_windows.specs.Windows.{window_named, window_of_frame, new_window, count, addition, with_copy_of, without};
 
 use crate::by_name::ByName;
 use crate::counts::{Counts, count_of, lower, raise};
 use crate::frame_key::{FrameKey, LentFrame};
 use crate::window::{Addition, BoxedWindow, Window};
 use indexmap::IndexMap;
-use ns_types::{DevEui, Heard, WindowName};
+use ns_calls::DataFrame;
+use ns_types::{DevEui, Heard, Key, WindowName};
 use std::alloc::{AllocError, Global};
 use std::marker::Model;
+
+// Of how many closed windows the memory is kept.
+const MOST_CLOSED: usize = 64;
 
 /// Open windows, in the order of their opening.
 #[derive(Drop)]
@@ -23,6 +27,8 @@ pub struct Windows {
     frames: IndexMap<FrameKey, WindowName>,
     /// How many windows each device has.
     counts: Counts,
+    /// Closed windows, in whose memory others are opened.
+    closed: Vec<BoxedWindow>,
 }
 
 impl Model for Windows {
@@ -47,6 +53,7 @@ impl Windows {
             names: ByName::new(alloc),
             frames: IndexMap::new(alloc),
             counts: IndexMap::new(alloc),
+            closed: Vec::new(alloc),
         }
     }
 
@@ -95,9 +102,53 @@ impl Windows {
         ensures ok { OnOk result (self.new ≡ self.old ++ window ∷ []) }
         ensures err { OnErr result (self.new ≡ self.old) }
     {
-        let name = window.name;
-        let frame = FrameKey::of(self.alloc, window.frame.bytes())?;
         let window = BoxedWindow::new(self.alloc, window)?;
+        self.put_boxed(window)
+    }
+
+    /// Adds a window with its first copy and the keys of its session at the end, in the memory of a closed one where there is one. Where the
+    /// growth is refused, nothing has changed.
+    pub fn open(
+        &mut self,
+        name: &WindowName,
+        frame: &DataFrame,
+        heard: &Heard,
+        nwk: Key,
+        app: Option<Key>,
+    ) -> Result<(), AllocError>
+        requires name { window_named name.now self.old ≡ None }
+        requires frame { window_of_frame frame.now self.old ≡ None }
+        ensures ok { OnOk result (self.new ≡ self.old ++ new_window frame.now heard.now name.now (nwk, app) ∷ []) }
+        ensures err { OnErr result (self.new ≡ self.old) }
+    {
+        let Some(mut window) = self.closed.pop() else {
+            self.closed.reserve(MOST_CLOSED)?;
+            let window = BoxedWindow::opened(self.alloc, name, frame, heard, nwk, app)?;
+            return self.put_boxed(window);
+        };
+        window.reopen(name, frame, heard, nwk, app);
+        self.put_boxed(window)
+    }
+
+    /// Takes the memory of a window that was closed, for one that is opened later, where there is room for it. It takes no memory.
+    pub fn reuse(&mut self, window: BoxedWindow)
+        ensures { self.new ≡ self.old }
+    {
+        if self.closed.len() < self.closed.capacity() {
+            self.closed.push_reserved(window);
+        }
+    }
+
+    // Adds a window at the end. Where the growth is refused, nothing has changed.
+    #[inline(always)]
+    fn put_boxed(&mut self, window: BoxedWindow) -> Result<(), AllocError>
+        requires name { window_named window.name self.old ≡ None }
+        requires frame { window_of_frame window.frame self.old ≡ None }
+        ensures ok { OnOk result (self.new ≡ self.old ++ window ∷ []) }
+        ensures err { OnErr result (self.new ≡ self.old) }
+    {
+        let name = window.as_ref().name;
+        let frame = FrameKey::of(self.alloc, window.as_ref().frame.bytes())?;
         self.frames.reserve(1)?;
         self.counts.reserve(1)?;
         self.names.push(window)?;

@@ -8,7 +8,7 @@ ghost use Rattle.ns_workers.specs.Lines.{AppendsLine, AppendsLineFront};
 
 use crate::outside::Timer;
 use arrayvec::ArrayString;
-use ns_calls::{Uplink, up_line};
+use ns_calls::{Line, Uplink, put_uplink};
 use ns_events::{Output, Times, uplink_json};
 use ns_types::{Failed, Sink, write_all};
 
@@ -20,10 +20,10 @@ fn write_up<W: Sink>(sink: &mut W, uplink: &Uplink) -> Result<(), Failed>
     ensures front { AppendsFront (W.taken sink.old) (W.taken sink.new) (up_text uplink.now ++ 10 ∷ []) }
     ensures failed { OnErr result (W.has_failed sink.new ≡ true) }
 {
-    let mut text: ArrayString<1025> = ArrayString::new();
-    text.push_str(up_line(uplink).as_str());
-    text.push('\n');
-    write_all(sink, text.as_str().as_bytes())
+    let mut line = Line::new();
+    put_uplink(&mut line, uplink);
+    line.push_str("\n");
+    write_all(sink, line.as_str().as_bytes())
 }
 
 // Writes the JSON object of an uplink with its line feed.

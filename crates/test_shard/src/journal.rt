@@ -22,7 +22,7 @@ fn closing(fcnt: u32) -> Call {
 // Adds the entry of the closing of a window, and gives its number.
 fn add(journal: &mut Journal, fcnt: u32) -> Result<u64, AllocError> {
     journal.room(1)?;
-    Ok(journal.push(closing(fcnt), Reply::NoWindow))
+    Ok(journal.push(&closing(fcnt), Reply::NoWindow))
 }
 
 // Room for more entries than there can be is refused, and what stands in the journal stays.
@@ -55,10 +55,10 @@ fn reserved_room_outlasts_a_refusal(rt: HostRuntime) -> Result<(), Fail> {
     for all in [false, true] {
         let mut journal = Journal::new(rt.alloc());
         journal.room(2)?;
-        assert!(rt; journal.push_reserving(closing(9), Reply::NoWindow) == 0);
+        assert!(rt; journal.push_reserving(&closing(9), Reply::NoWindow) == 0);
         assert!(rt; cut(&mut journal, rt.alloc(), all)? == usize::from(all));
         assert!(rt; journal.room(usize::MAX) == Err(AllocError));
-        assert!(rt; journal.push_reserved(closing(9), Reply::NoWindow) == 1);
+        assert!(rt; journal.push_reserved(&closing(9), Reply::NoWindow) == 1);
         assert!(rt; journal.made() == 2);
     }
     Ok(())

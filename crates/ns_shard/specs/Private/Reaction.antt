@@ -24,7 +24,7 @@ use Rattle.ns_sessions.specs.Laws.{join_decision_reply}
 use Rattle.ns_windows.specs.declared.window.Window.{Window}
 use Rattle.ns_windows.specs.declared.window.Addition.{Addition}
 use Rattle.ns_windows.specs.declared.window.Addition.TheVariants as addition
-use Rattle.ns_windows.specs.Windows.{with_copy_in, count, window_of_frame, window_named}
+use Rattle.ns_windows.specs.Windows.{new_window, with_copy_in, count, window_of_frame, window_named}
 use Rattle.ns_devices.specs.declared.own.Own.{Own}
 use Rattle.ns_shard.specs.declared.event.Ended.{Ended}
 use Rattle.ns_shard.specs.declared.event.Ended.TheVariants.{Answered, Closed}
@@ -82,10 +82,6 @@ with_closing (Some w) devices = with_shard_ack w devices
 abbrev pub added_reply : Addition → Reply
 added_reply (addition.Copied name place) = reply.Copied name place
 added_reply (addition.Crowded name) = reply.Crowded name
-
--- a window with its first copy, and the keys of its session
-abbrev pub new_window : List ℕ → Heard → WindowName → Key × Option Key → Window
-new_window frame heard name keys = record { name = name; frame = frame; copies = record { items = heard ∷ [] }; nwk = keys.0; app = keys.1 }
 
 -- the round in which an uplink is acknowledged again: the next one, where the window of the round before it is closed
 abbrev pub round_of : List Own → List Window → Fit → Option ℕ

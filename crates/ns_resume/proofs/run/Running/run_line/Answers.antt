@@ -33,7 +33,7 @@ returns-then-not-is_new-clause-run g c = λ net before steps read run is.
 
 pub returns-in-Some-clause-run : goal.returns-in-Some-clause-run
 returns-in-Some-clause-run g c =
-    let text : c.as_bytes.result.now ≡ up_text c.in-Some.uplink = c.as_bytes.ensures.value ∙ (c.as_str.ensures.value ∙ (c.put_lent_uplink.ensures ∙ (ap (λ (b : List ℕ). b ++ up_text c.lend.result) c.clear.ensures ∙ ap up_text c.lend.ensures))) in
+    let text : c.as_bytes.result.now ≡ up_text c.in-Some.uplink = c.as_bytes.ensures.value ∙ (c.as_str.ensures.value ∙ (c.put_lent_uplink.ensures.bytes ∙ (ap (λ (b : List ℕ). b ++ up_text c.lend.result) c.clear.ensures ∙ ap up_text c.lend.ensures))) in
     let out : option_map_or (λ (u : Uplink). ended (up_text u)) c.in_ok-answer.ensures.answered.0.uplink [] ≡ ended c.as_bytes.result.now =
     ap (λ o. option_map_or (λ (u : Uplink). ended (up_text u)) o []) (sym c.in_ok-answer.ensures.answered.2 ∙ c.in-Some.is) ∙ ap ended (sym text) in
     on_ok_weaker c.implied.result

@@ -9,11 +9,11 @@ use Rattle.ns_windows.proofs.Names.{apart-push}
 use Rattle.ns_windows.proofs.Framed.{frames-push, of_frames-push}
 use Rattle.ns_windows.proofs.Counted.{one_of, count-push}
 use Rattle.ns_windows.proofs.Places.{none_found}
-use Rattle.ns_windows.proofs.windows.Windows.put.Goals as goal
-use Rattle.ns_windows.proofs.windows.Windows.put.Goals.{After-raise}
+use Rattle.ns_windows.proofs.windows.Windows.put_boxed.Goals as goal
+use Rattle.ns_windows.proofs.windows.Windows.put_boxed.Goals.{After-raise}
 
 key : (c : After-raise) → c.in_ok-frame.frame ≡ c.args.window.frame
-key c = c.in_ok-frame.ensures ∙ c.bytes.ensures.bytes
+key c = c.in_ok-frame.ensures ∙ (c.bytes.ensures.bytes ∙ ap (λ (w : Window). w.frame) c.as_ref-2.ensures)
 
 new_frames : (c : After-raise) → c.insert.new.self.entries ≡ c.self.inside.frames.entries ++ (c.in_ok-frame.frame, c.args.window.name) ∷ []
 new_frames c =
@@ -24,12 +24,12 @@ new_frames c =
     let absent = ap (λ xs. lookup (λ k. bytes_eq c.in_ok-frame.frame k) xs) stays
     ∙ ap (λ f. lookup (λ k. bytes_eq f k) frames) (key c) ∙ c.self.invariant.0.2 w.frame ∙ ap (λ r. option_map (λ v. v.name) r) new in
     let inserted = rw c.unwrap.ensures at c.insert.ensures.entries in
-    inserted ∙ insert_entry-new _ c.reserve.new.self c.in_ok-frame.frame w.name absent ∙ ap (λ xs. xs ++ (c.in_ok-frame.frame, w.name) ∷ []) stays
+    inserted ∙ insert_entry-new _ c.reserve.new.self c.in_ok-frame.frame c.as_ref.result.now.name absent ∙ (ap (λ xs. xs ++ (c.in_ok-frame.frame, c.as_ref.result.now.name) ∷ []) stays ∙ ap (λ (v : Window). frames ++ (c.in_ok-frame.frame, v.name) ∷ []) c.as_ref.ensures)
 
 pub raise-requires-clause-fits : goal.raise-requires-clause-fits
 raise-requires-clause-fits c =
     let ws = c.self.inside.names in
-    let eui = c.args.window.name.eui in
+    let eui = c.as_ref.result.now.name.eui in
     let counts : count_in c.reserve-2.new.self.entries eui ≡ count eui ws = ap (λ (xs : List (DevEui × ℕ)). count_in xs eui) c.reserve-2.ensures.entries ∙ c.self.invariant.1 eui in
     let most : count eui ws ≤ length ws = count_by-le-length (λ (v : Window). v.name.eui.0 == eui.0) ws in
     omega (arith, counts, most, c.push.ensures.fits)
@@ -38,7 +38,8 @@ counted : (c : After-raise) → AreCounted c.raise.new.counts.entries (c.self.in
 counted c eui =
     let ws = c.self.inside.names in
     let w = c.args.window in
-    let raised : count_in c.raise.new.counts.entries eui ≡ count_in c.self.inside.counts.entries eui + one_of eui w = c.raise.ensures eui ∙ ap (λ (xs : List (DevEui × ℕ)). count_in xs eui + one_of eui w) c.reserve-2.ensures.entries in
+    let raised : count_in c.raise.new.counts.entries eui ≡ count_in c.self.inside.counts.entries eui + one_of eui w =
+    c.raise.ensures eui ∙ (ap (λ (xs : List (DevEui × ℕ)). count_in xs eui + one_of eui c.as_ref.result.now) c.reserve-2.ensures.entries ∙ ap (λ (v : Window). count_in c.self.inside.counts.entries eui + one_of eui v) c.as_ref.ensures) in
     omega (arith, raised, c.self.invariant.1 eui, count-push eui ws w)
 
 pub invariant_of-self-2 : goal.invariant_of-self-2
@@ -48,4 +49,4 @@ invariant_of-self-2 c =
     let i = c.self.invariant.0 in
     let name : window_named w.name ws ≡ None = rw c.self.view_is c.requires.name in
     let frame : window_of_frame w.frame ws ≡ None = rw c.self.view_is c.requires.frame in
-    rw (c.in_ok-push.ensures.ok, c.in_ok-window.ensures, new_frames c) ((apart-push ws w i.0 (none_found (is_named w.name) ws name), of_frames-push ws w i.1 (none_found (is_of w.frame) ws frame), (λ f. frames-push (λ (k : List ℕ). k) c.self.inside.frames.entries ws c.in_ok-frame.frame w f (key c) (i.2 f))), counted c)
+    rw (c.in_ok-push.ensures.ok, new_frames c) ((apart-push ws w i.0 (none_found (is_named w.name) ws name), of_frames-push ws w i.1 (none_found (is_of w.frame) ws frame), (λ f. frames-push (λ (k : List ℕ). k) c.self.inside.frames.entries ws c.in_ok-frame.frame w f (key c) (i.2 f))), counted c)
