@@ -3,7 +3,7 @@ use Rattle.std.specs.Prelude.{ℕ, ◌≡◌, ◌+◌, slice_index, List, [], �
 use Rattle.ns_tally.specs.declared.ShardBook.{ShardBook}
 use Rattle.ns_tally.specs.declared.ShardBook.TheVariants.{Q0, Q1, Q2, Q3}
 use Rattle.ns_tally.specs.declared.quarter.QuarterBook.{QuarterBook}
-use Rattle.ns_tally.specs.declared.quarter.QuarterBook.TheVariants.{P0, P1, P2, P3}
+use Rattle.ns_tally.specs.declared.quarter.QuarterBook.TheVariants.{First, Second, Third, Fourth}
 
 -- the parts that a share has of each ledger, and its amount in each
 pub record Held : Type 0 where
@@ -53,10 +53,10 @@ AreNamed ledger names = (k : ℕ) → slice_index names k ≡ ledger k
 
 -- the place of a book's shard in its quarter
 abbrev pub place_of_book : {B : Type 0} {Q : ℕ} → QuarterBook B Q → ℕ
-place_of_book (P0 b) = 0
-place_of_book (P1 b) = 1
-place_of_book (P2 b) = 2
-place_of_book (P3 b) = 3
+place_of_book (First b) = 0
+place_of_book (Second b) = 1
+place_of_book (Third b) = 2
+place_of_book (Fourth b) = 3
 
 -- the shard of a book
 abbrev pub shard_of_book : {B : Type 0} → ShardBook B → ℕ
@@ -67,10 +67,10 @@ shard_of_book (Q3 b) = 12 + place_of_book b
 
 -- how many entries a book of a quarter counts
 abbrev pub total_in_quarter : {B : Type 0} {Q : ℕ} → QuarterBook B Q → ℕ
-total_in_quarter (P0 b) = b.total
-total_in_quarter (P1 b) = b.total
-total_in_quarter (P2 b) = b.total
-total_in_quarter (P3 b) = b.total
+total_in_quarter (First b) = b.total
+total_in_quarter (Second b) = b.total
+total_in_quarter (Third b) = b.total
+total_in_quarter (Fourth b) = b.total
 
 -- how many entries a book counts
 abbrev pub total_of_book : {B : Type 0} → ShardBook B → ℕ

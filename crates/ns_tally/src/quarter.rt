@@ -21,10 +21,10 @@ impl<B: Ledgers, const Q: usize, const P: usize> Ledger for At<B, Q, P> {
 /// The book of the ledger of one of the four shards.
 #[derive(Drop)]
 pub enum QuarterBook<B: Ledgers, const Q: usize> {
-    P0(Book<At<B, Q, 0>>),
-    P1(Book<At<B, Q, 1>>),
-    P2(Book<At<B, Q, 2>>),
-    P3(Book<At<B, Q, 3>>),
+    First(Book<At<B, Q, 0>>),
+    Second(Book<At<B, Q, 1>>),
+    Third(Book<At<B, Q, 2>>),
+    Fourth(Book<At<B, Q, 3>>),
 }
 
 // Counts more in a book and in a share of it, and tells how the share's amount stood to the total.
@@ -54,10 +54,10 @@ impl<B: Ledgers, const Q: usize> QuarterBook<B, Q> {
         ensures whole { shares.old.parts ≡ B.workers → slice_index (quarter_amounts shares.old) (place_of_book self.old) ≡ total_in_quarter self.old }
     {
         match self {
-            QuarterBook::P0(book) => count_in(book, &mut shares.s0, more),
-            QuarterBook::P1(book) => count_in(book, &mut shares.s1, more),
-            QuarterBook::P2(book) => count_in(book, &mut shares.s2, more),
-            QuarterBook::P3(book) => count_in(book, &mut shares.s3, more),
+            QuarterBook::First(book) => count_in(book, &mut shares.s0, more),
+            QuarterBook::Second(book) => count_in(book, &mut shares.s1, more),
+            QuarterBook::Third(book) => count_in(book, &mut shares.s2, more),
+            QuarterBook::Fourth(book) => count_in(book, &mut shares.s3, more),
         }
     }
 }
@@ -182,10 +182,10 @@ impl QuarterBlanks {
         let (p3, s3) = b3.open::<At<B, Q, 3>>();
         (
             QuarterBooks {
-                p0: QuarterBook::P0(p0),
-                p1: QuarterBook::P1(p1),
-                p2: QuarterBook::P2(p2),
-                p3: QuarterBook::P3(p3),
+                p0: QuarterBook::First(p0),
+                p1: QuarterBook::Second(p1),
+                p2: QuarterBook::Third(p2),
+                p3: QuarterBook::Fourth(p3),
             },
             QuarterShares { s0, s1, s2, s3 },
         )
