@@ -2,7 +2,7 @@
 
 use crate::calls::{ANSWERED, JOIN, JOIN_2, call_of, roster};
 use ns_calls::shard_of_call;
-use ns_shard::Shard;
+use ns_shard::{Shard, new_shards};
 use std::alloc::Global;
 
 // Makes the call of a step line at the shard of its device.
@@ -21,28 +21,29 @@ fn is_joined(alloc: Global, shard: &mut Shard) -> bool {
     is_made(alloc, shard, JOIN) && is_made(alloc, shard, JOIN_2) && is_made(alloc, shard, ANSWERED)
 }
 
-// Whether a trim in place leaves of a join the one entry that a trim leaves.
-fn is_alike(alloc: Global, one: &mut Shard, other: &mut Shard) -> bool {
-    if !is_joined(alloc, one) || !is_joined(alloc, other) {
-        return false;
-    }
-    if one.trim_in_place(alloc).is_err() || other.trim(alloc).is_err() {
-        return false;
-    }
+// Makes the join at two shards, trims one in place, and trims the other.
+fn are_trimmed(alloc: Global, one: &mut Shard, other: &mut Shard) -> bool {
+    is_joined(alloc, one)
+        && is_joined(alloc, other)
+        && one.trim_in_place(alloc).is_ok()
+        && other.trim(alloc).is_ok()
+}
+
+// Whether two shards have the same entry alone.
+fn are_alike(one: &Shard, other: &Shard) -> bool {
     one.entries().len() == 1 && one.entries() == other.entries() && one.mark() == other.mark()
 }
 
-// A shard without entries.
-fn new_shard(alloc: Global) -> Option<Shard> {
-    Shard::new(alloc, roster(alloc)?, 13).ok()
+// Whether a trim in place leaves of a join the one entry that a trim leaves. None where there is no memory for the shards.
+fn leaves_alike(alloc: Global) -> Option<bool> {
+    let roster = roster(alloc)?;
+    let mut ones = new_shards(alloc, roster.clone().ok()?).ok()?;
+    let mut others = new_shards(alloc, roster).ok()?;
+    let (one, other) = (ones.get_mut(13)?, others.get_mut(13)?);
+    Some(are_trimmed(alloc, one, other) && are_alike(one, other))
 }
 
 #[test]
 fn a_trim_in_place_leaves_what_a_trim_leaves(rt: HostRuntime) {
-    let alloc = rt.alloc();
-    let is_right = match (new_shard(alloc), new_shard(alloc)) {
-        (Some(mut one), Some(mut other)) => is_alike(alloc, &mut one, &mut other),
-        _ => false,
-    };
-    assert!(rt; is_right);
+    assert!(rt; leaves_alike(rt.alloc()) == Some(true));
 }
