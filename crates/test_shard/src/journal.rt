@@ -6,7 +6,6 @@ use ns_calls::{Call, Entry, Reply};
 use ns_journal::Journal;
 use ns_types::{BLOCKS, DevEui, WindowName, take_all};
 use std::alloc::{AllocError, Global};
-use std::test::Fail;
 
 // The closing of the window of this counter.
 fn closing(fcnt: u32) -> Call {
@@ -25,16 +24,20 @@ fn add(journal: &mut Journal, fcnt: u32) -> Result<u64, AllocError> {
     Ok(journal.push(&closing(fcnt), Reply::NoWindow))
 }
 
-// Room for more entries than there can be is refused, and what stands in the journal stays.
+// Whether room for more entries than there can be is refused.
+fn are_too_many(journal: &mut Journal) -> bool {
+    journal.room(usize::MAX) == Err(AllocError)
+        && journal.room(usize::MAX / 2) == Err(AllocError)
+        && journal.room(1 << 46) == Err(AllocError)
+}
+
+// Room that is refused changes nothing: what stands in the journal stays.
 #[test]
-fn refused_room_changes_nothing(rt: HostRuntime) -> Result<(), Fail> {
+fn refused_room_changes_nothing(rt: HostRuntime) -> Result<(), AllocError> {
     let mut journal = Journal::new(rt.alloc());
     assert!(rt; add(&mut journal, 7)? == 0);
-    for n in [usize::MAX, usize::MAX / 2, 1 << 46] {
-        assert!(rt; journal.room(n) == Err(AllocError));
-    }
-    assert!(rt; journal.made() == 1);
-    assert!(rt; journal.entries().len() == 1);
+    assert!(rt; are_too_many(&mut journal));
+    assert!(rt; journal.made() == 1 && journal.entries().len() == 1);
     assert!(rt; add(&mut journal, 8)? == 1);
     Ok(())
 }
@@ -49,25 +52,27 @@ fn cut(journal: &mut Journal, alloc: Global, all: bool) -> Result<usize, AllocEr
     Ok(journal.cut(alloc, &[])?.len())
 }
 
-// What is reserved by one entry is there for another, where no more room is to be had, and after a cut too.
+// Whether what is reserved by one entry is there for another, where no more room is to be had, and after a cut too.
+fn is_reserved(alloc: Global, all: bool) -> Result<bool, AllocError> {
+    let mut journal = Journal::new(alloc);
+    journal.room(2)?;
+    let first = journal.push_reserving(&closing(9), Reply::NoWindow);
+    let count = cut(&mut journal, alloc, all)?;
+    let is_refused = journal.room(usize::MAX) == Err(AllocError);
+    let second = journal.push_reserved(&closing(9), Reply::NoWindow);
+    Ok(first == 0 && count == usize::from(all) && is_refused && second == 1 && journal.made() == 2)
+}
+
 #[test]
-fn reserved_room_outlasts_a_refusal(rt: HostRuntime) -> Result<(), Fail> {
-    for all in [false, true] {
-        let mut journal = Journal::new(rt.alloc());
-        journal.room(2)?;
-        assert!(rt; journal.push_reserving(&closing(9), Reply::NoWindow) == 0);
-        assert!(rt; cut(&mut journal, rt.alloc(), all)? == usize::from(all));
-        assert!(rt; journal.room(usize::MAX) == Err(AllocError));
-        assert!(rt; journal.push_reserved(&closing(9), Reply::NoWindow) == 1);
-        assert!(rt; journal.made() == 2);
-    }
-    Ok(())
+fn reserved_room_outlasts_a_refusal(rt: HostRuntime) {
+    assert!(rt; is_reserved(rt.alloc(), false) == Ok(true));
+    assert!(rt; is_reserved(rt.alloc(), true) == Ok(true));
 }
 
 // Of 65,536 entries, which fill their room: a growth is refused where all memory is gone, and is made where 64 MB are given back, which
 // has room for twice as many and not for eight times as many. A cut of which nothing stays takes no memory.
 #[test]
-fn growth_and_cut_take_no_more_than_they_need(rt: HostRuntime) -> Result<(), Fail> {
+fn growth_and_cut_take_no_more_than_they_need(rt: HostRuntime) -> Result<(), AllocError> {
     let mut journal = Journal::new(rt.alloc());
     for fcnt in 0..65_536u32 {
         add(&mut journal, fcnt)?;

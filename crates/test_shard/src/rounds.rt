@@ -4,8 +4,6 @@ use ns_calls::{JoinAccept, JoinAns, Outcome};
 use ns_sessions::{DeviceState, Recovery};
 use ns_types::{Heard, Key, Ticket};
 use ns_views::{PhyView, view};
-use std::process::Abort;
-use std::test::Fail;
 
 // An unconfirmed uplink with counter 2 under the NwkSKey below.
 const FRAME: [u8; 17] = [
@@ -16,29 +14,6 @@ const FRAME: [u8; 17] = [
 const NWK_S_KEY: Key = Key([
     0x44, 0x02, 0x42, 0x41, 0xed, 0x4c, 0xe9, 0xa6, 0x8c, 0x6a, 0x8b, 0xc0, 0x55, 0x23, 0x3f, 0xd3,
 ]);
-
-/// The uplink with a session's greatest counter has a next round until the last, and no other has one.
-#[test]
-fn rounds_of_the_greatest_counter(rt: HostRuntime) -> Result<(), Fail> {
-    let PhyView::Frame(frame) = view(&FRAME).map_err(|_| "refused")? else {
-        return Err("no data frame".into());
-    };
-    let mut state = joined();
-    are_next(&rt, &state, &[(1, 2, None)]);
-    let (session, counter) = state.fit(Recovery::Above, &frame).ok_or("no session")?;
-    state.open(session, counter);
-    assert!(rt; session == 1 && counter == 2);
-    are_next(&rt, &state, &[(1, 2, Some(2)), (1, 1, None), (2, 2, None)]);
-    for (round, next) in [
-        (2, Some(3)),
-        (0xffff_fffe, Some(0xffff_ffff)),
-        (0xffff_ffff, None),
-    ] {
-        state.open_again(1, round);
-        are_next(&rt, &state, &[(1, 2, next)]);
-    }
-    Ok(())
-}
 
 // A device that has joined, with no uplink yet.
 fn joined() -> DeviceState {
@@ -56,9 +31,50 @@ fn joined() -> DeviceState {
     state
 }
 
-// The next rounds of sessions' counters.
-fn are_next<R: Abort>(rt: &R, state: &DeviceState, rounds: &[(u32, u32, Option<u32>)]) {
+// Whether these are the next rounds of sessions' counters.
+fn are_next(state: &DeviceState, rounds: &[(u32, u32, Option<u32>)]) -> bool {
     for &(session, counter, round) in rounds {
-        assert!(rt; state.next_round(session, counter) == round);
+        if state.next_round(session, counter) != round {
+            return false;
+        }
     }
+    true
+}
+
+// Opens the window of the uplink. Its session and its counter.
+fn opened(state: &mut DeviceState) -> Option<(u32, u32)> {
+    let Ok(PhyView::Frame(frame)) = view(&FRAME) else {
+        return None;
+    };
+    let (session, counter) = state.fit(Recovery::Above, &frame)?;
+    state.open(session, counter);
+    Some((session, counter))
+}
+
+// Rounds, and the next round once each is opened.
+const ROUNDS: &[(u32, Option<u32>)] = &[
+    (2, Some(3)),
+    (0xffff_fffe, Some(0xffff_ffff)),
+    (0xffff_ffff, None),
+];
+
+// Whether each of them has its next round.
+fn rounds_follow(state: &mut DeviceState) -> bool {
+    for &(round, next) in ROUNDS {
+        state.open_again(1, round);
+        if !are_next(state, &[(1, 2, next)]) {
+            return false;
+        }
+    }
+    true
+}
+
+/// The uplink with a session's greatest counter has a next round until the last, and no other has one.
+#[test]
+fn rounds_of_the_greatest_counter(rt: HostRuntime) {
+    let mut state = joined();
+    assert!(rt; are_next(&state, &[(1, 2, None)]));
+    assert!(rt; opened(&mut state) == Some((1, 2)));
+    assert!(rt; are_next(&state, &[(1, 2, Some(2)), (1, 1, None), (2, 2, None)]));
+    assert!(rt; rounds_follow(&mut state));
 }

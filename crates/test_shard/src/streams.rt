@@ -184,15 +184,20 @@ fn refusals(
     None
 }
 
+// So many copies of a text.
+fn copies(alloc: Global, text: &str, count: u32) -> Option<Vec<Vec<u8>>> {
+    let mut copies = Vec::new(alloc);
+    for _ in 0..count {
+        let copy = Vec::from_slice(alloc, text.as_bytes()).ok()?;
+        copies.push(copy).ok()?;
+    }
+    Some(copies)
+}
+
 // How often a run of these steps is refused memory until it is made.
 fn refusals_of(alloc: Global, steps: &str) -> Option<u32> {
     let roster = roster(alloc)?;
-    let mut inputs = Vec::with_capacity(alloc, 4096).ok()?;
-    for _ in 0..4096u32 {
-        inputs
-            .push(Vec::from_slice(alloc, steps.as_bytes()).ok()?)
-            .ok()?;
-    }
+    let mut inputs = copies(alloc, steps, 4096)?;
     let mut held = Vec::with_capacity(alloc, BLOCKS).ok()?;
     take_all(alloc, &mut held).ok()?;
     refusals(alloc, &roster, &mut held, &mut inputs)

@@ -8,9 +8,12 @@ use std::test::*;
 #[test]
 fn faults_print_numbers_and_keys_no_bytes(rt: HostRuntime) -> Result<(), Fail> {
     let alloc = rt.alloc();
-    let faults = format!(in alloc; "{} {}", TrimFault::Full, TrimFault::NoMemory)?;
-    assert!(rt; faults.as_str() == "Z1 Z2");
-    let key = format!(in alloc; "{:?}", Key([7; 16]))?;
-    assert!(rt; key.as_str() == "Key(..)");
+    let text = format!(in alloc;
+        "{} {} {:?}",
+        TrimFault::Full,
+        TrimFault::NoMemory,
+        Key([7; 16])
+    )?;
+    assert!(rt; text.as_str() == "Z1 Z2 Key(..)");
     Ok(())
 }
