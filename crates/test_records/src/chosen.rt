@@ -5,7 +5,6 @@ use crate::traffic::{join, join_reply, uplink};
 use ns_calls::{Call, Reply};
 use ns_resume::RecordFault;
 use std::alloc::Global;
-use std::test::*;
 
 // A device's uplink is heard, and its window is closed.
 fn send(life: &mut Life, counter: u32, confirmed: bool) -> Result<(), RecordFault> {
@@ -19,16 +18,15 @@ fn send(life: &mut Life, counter: u32, confirmed: bool) -> Result<(), RecordFaul
 }
 
 // Of one session an uplink that was acknowledged and three that were not, and an asking for a further one.
-fn life(alloc: Global) -> Result<Life, RecordFault> {
-    let mut life = Life::new(alloc)?;
+fn live(life: &mut Life) -> Result<(), RecordFault> {
     life.make(join(1, 1, 0))?;
     life.make(join_reply(1, 1, true))?;
-    send(&mut life, 2, true)?;
+    send(life, 2, true)?;
     for counter in 3..6u32 {
-        send(&mut life, counter, false)?;
+        send(life, counter, false)?;
     }
     life.make(join(1, 2, 0))?;
-    Ok(life)
+    Ok(())
 }
 
 // The text without the lines of these numbers, of which the first is 0.
@@ -57,51 +55,79 @@ fn is_taken(
     life.take(fewer, text.as_str())
 }
 
-// These stay: the join, the uplink that was acknowledged, the last one, and the asking.
-#[test]
-fn too_few_lines_are_not_taken(rt: HostRuntime) -> Result<(), RecordFault> {
-    let mut life = life(rt.alloc())?;
-    let fewer = life.fewer()?;
-    assert!(rt; fewer.text().lines().count() == 7);
-    assert!(rt; fewer.saved() == 4);
-    let len = life.steps.len();
+// Lines of these numbers that are left out of the seven that stay: the join, the uplink that was acknowledged, the last one, and the
+// asking. Whether the others are then taken; None where they are refused.
+const LEFT_OUT: &[(usize, usize, Option<bool>)] = &[
     // The acknowledged uplink with its closing; the last one, whose counter is the greatest; the asking; both.
-    for (from, to) in [(2usize, 4usize), (4, 6), (6, 7), (4, 7)] {
-        assert!(rt;
-            !is_taken(&mut life, &fewer, rt.alloc(), from, to)?,
-            "{from} to {to}"
-        );
-        assert!(rt; life.steps.len() == len);
-    }
+    (2, 4, Some(false)),
+    (4, 6, Some(false)),
+    (6, 7, Some(false)),
+    (4, 7, Some(false)),
     // A line without which another does not fit.
-    for place in [0usize, 1, 2, 4] {
-        assert!(rt;
-            is_taken(&mut life, &fewer, rt.alloc(), place, place + 1).is_err(),
-            "{place}"
-        );
-        assert!(rt; life.steps.len() == len);
+    (0, 1, None),
+    (1, 2, None),
+    (2, 3, None),
+    (4, 5, None),
+    // None.
+    (7, 7, Some(true)),
+];
+
+// The first of these lines with which it is otherwise, or with which the record has not fewer bytes just where they are taken.
+fn wrong_row(life: &mut Life, fewer: &Fewer, alloc: Global) -> Option<usize> {
+    let len = life.steps.len();
+    for &(from, to, wanted) in LEFT_OUT {
+        let taken = is_taken(life, fewer, alloc, from, to).ok();
+        let is_right = match taken {
+            Some(true) => life.steps.len() < len,
+            _ => life.steps.len() == len,
+        };
+        if taken != wanted || !is_right {
+            return Some(from);
+        }
     }
-    assert!(rt; is_taken(&mut life, &fewer, rt.alloc(), 7, 7)?);
-    assert!(rt; life.steps.len() < len);
-    Ok(())
+    None
 }
 
-// The bound is that of FORMATS, for one join, two windows of confirmed uplinks and counters up to 400,000. The eighth is 65,537 behind the
-// first, which stays, so the seventh does too: without it the low 16 bits of the eighth would be read as 1.
+// The same of a life, of whose lines seven stay and four do not.
+fn wrong_row_of_life(alloc: Global) -> Result<Option<usize>, RecordFault> {
+    let mut life = Life::new(alloc)?;
+    live(&mut life)?;
+    let fewer = life.fewer()?;
+    if fewer.text().lines().count() != 7 || fewer.saved() != 4 {
+        return Ok(Some(usize::MAX));
+    }
+    Ok(wrong_row(&mut life, &fewer, alloc))
+}
+
 #[test]
-fn lines_of_a_device_at_rest_are_bounded(rt: HostRuntime) -> Result<(), RecordFault> {
-    let mut life = Life::new(rt.alloc())?;
+fn too_few_lines_are_not_taken(rt: HostRuntime) {
+    assert!(rt; wrong_row_of_life(rt.alloc()) == Ok(None));
+}
+
+// One join, two windows of confirmed uplinks and counters up to 400,000. The eighth is 65,537 behind the first, which stays, so the
+// seventh does too: without it the low 16 bits of the eighth would be read as 1.
+fn live_long(life: &mut Life) -> Result<(), RecordFault> {
     life.make(join(1, 1, 0))?;
     life.make(join_reply(1, 1, true))?;
     for place in 0..41u32 {
         if place == 7 {
-            send(&mut life, 65_537, false)?;
+            send(life, 65_537, false)?;
         }
-        send(&mut life, place.wrapping_mul(10_000), place % 20 == 10)?;
+        send(life, place.wrapping_mul(10_000), place % 20 == 10)?;
     }
+    Ok(())
+}
+
+// Whether the fewer lines of it are not more than the bound of FORMATS, and are taken.
+fn is_bounded(alloc: Global) -> Result<bool, RecordFault> {
+    let mut life = Life::new(alloc)?;
+    live_long(&mut life)?;
     let fewer = life.fewer()?;
     let count = fewer.text().lines().count();
-    assert!(rt; count <= 2 + 2 * 2 + 2 * (2 + 400_000 / 32_768), "{count}");
-    assert!(rt; life.take(&fewer, fewer.text())?);
-    Ok(())
+    Ok(count <= 2 + 2 * 2 + 2 * (2 + 400_000 / 32_768) && life.take(&fewer, fewer.text())?)
+}
+
+#[test]
+fn lines_of_a_device_at_rest_are_bounded(rt: HostRuntime) {
+    assert!(rt; is_bounded(rt.alloc()) == Ok(true));
 }

@@ -1,19 +1,41 @@
 //! The record of a folder with which no server goes on, made shorter.
 
-use crate::worked::{AGAIN, ASKED, BASE, CLOSED, JOIN, ROSTER, UP, roster_of};
+use crate::worked::{ASKED, BASE, CLOSED, JOIN, ROSTER, TORN, TORN_UP, UP, roster_of};
 use log::sink::Writer;
-use ns_compact::{Compacted, Folder};
+use ns_compact::Folder;
 use ns_record_files::RecordFiles;
 use ns_resume::RecordFault;
-use std::fs;
+use std::alloc::{AllocError, Global};
 use std::fs::File;
 use std::io::Read;
 use std::rt::Files;
-use std::test::Fail;
+use std::{fs, io};
+
+/// The folder of a record, and its files: steps, `up` lines, and fewer steps while they are written.
+#[derive(Clone, Copy)]
+pub struct Place {
+    pub folder: &'static str,
+    pub steps: &'static str,
+    pub up: &'static str,
+    pub new: &'static str,
+}
+
+/// The place of a folder of this name.
+#[macro_export]
+macro_rules! place {
+    ($name:literal) => {
+        $crate::folder::Place {
+            folder: $name,
+            steps: concat!($name, "/steps"),
+            up: concat!($name, "/up"),
+            new: concat!($name, "/steps.new"),
+        }
+    };
+}
 
 /// These lines as bytes.
-pub fn text_of<R: AllocGlobal>(rt: &R, parts: &[&str]) -> Result<Vec<u8>, Fail> {
-    let mut text = Vec::new(rt.alloc());
+pub fn text_of(alloc: Global, parts: &[&str]) -> Result<Vec<u8>, AllocError> {
+    let mut text = Vec::new(alloc);
     for part in parts {
         text.extend_from_slice(part.as_bytes())?;
     }
@@ -21,37 +43,77 @@ pub fn text_of<R: AllocGlobal>(rt: &R, parts: &[&str]) -> Result<Vec<u8>, Fail> 
 }
 
 /// The bytes of a file.
-pub fn bytes_of<R: Files<File = File> + AllocGlobal>(rt: &R, path: &str) -> Result<Vec<u8>, Fail> {
+pub fn bytes_of<R: Files<File = File> + AllocGlobal>(rt: &R, path: &str) -> io::Result<Vec<u8>> {
     let mut bytes = Vec::new(rt.alloc());
     File::open(rt, path)?.read_to_end(&mut bytes)?;
     Ok(bytes)
 }
 
+// Makes a file of these lines.
+fn put<R: Files<File = File> + AllocGlobal>(rt: &R, path: &str, parts: &[&str]) -> io::Result<()> {
+    let text = text_of(rt.alloc(), parts)?;
+    fs::write(rt, path, text.as_slice())
+}
+
 /// Makes a folder with a record of these lines.
 pub fn make<R: Files<File = File> + AllocGlobal>(
     rt: &R,
-    path: &str,
+    place: &Place,
     steps: &[&str],
     ups: &[&str],
-) -> Result<(), Fail> {
-    let _ = fs::remove_dir_all(rt, path);
-    fs::create_dir(rt, path)?;
-    for (name, lines) in [("steps", steps), ("up", ups)] {
-        let file = format!(in rt.alloc(); "{path}/{name}")?;
-        fs::write(rt, file.as_str(), text_of(rt, lines)?.as_slice())?;
-    }
-    Ok(())
+) -> io::Result<()> {
+    let _ = fs::remove_dir_all(rt, place.folder);
+    fs::create_dir(rt, place.folder)?;
+    put(rt, place.steps, steps)?;
+    put(rt, place.up, ups)
 }
 
-// Makes the record of a folder shorter.
+// Whether bytes are these lines.
+fn are_lines(bytes: &[u8], parts: &[&str]) -> bool {
+    let mut rest = bytes;
+    for part in parts {
+        match rest.strip_prefix(part.as_bytes()) {
+            Some(more) => rest = more,
+            None => return false,
+        }
+    }
+    rest.is_empty()
+}
+
+// Whether a file has these lines.
+fn has_lines<R: Files<File = File> + AllocGlobal>(
+    rt: &R,
+    path: &str,
+    parts: &[&str],
+) -> io::Result<bool> {
+    let bytes = bytes_of(rt, path)?;
+    Ok(are_lines(bytes.as_slice(), parts))
+}
+
+// Whether the files of a folder have these lines, and those of a compaction are gone. Then the folder is taken away.
+fn has<R: Files<File = File> + AllocGlobal>(
+    rt: &R,
+    place: &Place,
+    steps: &[&str],
+    ups: &[&str],
+) -> io::Result<bool> {
+    let is_so = has_lines(rt, place.steps, steps)? && has_lines(rt, place.up, ups)?;
+    let is_there = fs::exists(rt, place.new)?;
+    fs::remove_dir_all(rt, place.folder)?;
+    Ok(is_so && !is_there)
+}
+
+// Makes the record of a folder shorter. How many lines it had, and how many it has.
 fn compacted<R: Files<File = File> + AllocGlobal>(
     rt: &R,
     path: &str,
-) -> Result<Result<Compacted, RecordFault>, Fail> {
+) -> Result<(u64, u64), RecordFault> {
     let alloc = rt.alloc();
-    let log = Writer::new(Vec::new(alloc));
     let roster = roster_of(alloc, ROSTER)?;
-    let files = RecordFiles::open(rt, &log, alloc, path, true)?;
+    let log = Writer::new(Vec::new(alloc));
+    let Ok(files) = RecordFiles::open(rt, &log, alloc, path, true) else {
+        return Err(RecordFault::Io);
+    };
     let folder = Folder {
         rt,
         log: &log,
@@ -59,51 +121,61 @@ fn compacted<R: Files<File = File> + AllocGlobal>(
         path,
         roster: &roster,
     };
-    Ok(folder.compact(files))
+    let done = folder.compact(files)?;
+    Ok((done.before, done.after))
 }
 
-// Whether the files of a folder have these lines, and those of a compaction are gone. Then the folder is taken away.
-fn has<R: Files<File = File> + AllocGlobal>(
-    rt: &R,
-    path: &str,
-    steps: &[&str],
-    ups: &[&str],
-) -> Result<bool, Fail> {
-    for (name, lines) in [("steps", steps), ("up", ups)] {
-        let file = format!(in rt.alloc(); "{path}/{name}")?;
-        let bytes = bytes_of(rt, file.as_str())?;
-        if bytes.as_slice() != text_of(rt, lines)?.as_slice() {
-            return Ok(false);
-        }
-    }
-    let new = format!(in rt.alloc(); "{path}/steps.new")?;
-    let is_there = fs::exists(rt, new.as_str())?;
-    fs::remove_dir_all(rt, path)?;
-    Ok(!is_there)
+// A record's steps and `up` lines, what its compaction gives, and its steps and `up` lines then.
+type Row = (
+    &'static [&'static str],
+    &'static [&'static str],
+    Result<(u64, u64), RecordFault>,
+    &'static [&'static str],
+    &'static [&'static str],
+);
+
+// Steps behind a base that tells of 80 bytes of `up` lines.
+const OF_80: &[&str] = &["base 0000000000000004 0000000000000050\n", JOIN, CLOSED];
+
+const ROWS: &[Row] = &[
+    // Lines that are not needed and torn ends are gone, the `up` line that was missing is there, and it is told how many lines there were.
+    (
+        &[JOIN, CLOSED, ASKED, "x\n", TORN],
+        &[TORN_UP],
+        Ok((6, 4)),
+        &[BASE, JOIN, CLOSED],
+        &[UP],
+    ),
+    // A record whose `up` lines end, or go on, where its base tells of another number of bytes stays as it is.
+    (OF_80, &[UP], Err(RecordFault::UpShorter(80)), OF_80, &[UP]),
+    (
+        OF_80,
+        &[UP, UP],
+        Err(RecordFault::UpShorter(80)),
+        OF_80,
+        &[UP, UP],
+    ),
+];
+
+// Whether the compaction of a record does what its row says.
+fn is_so<R: Files<File = File> + AllocGlobal>(rt: &R, row: &Row) -> io::Result<bool> {
+    let place = place!("test_records_folder");
+    let (steps, ups, wanted, steps_then, ups_then) = *row;
+    make(rt, &place, steps, ups)?;
+    let done = compacted(rt, place.folder);
+    Ok(has(rt, &place, steps_then, ups_then)? && done == wanted)
 }
 
-/// Lines that are not needed and torn ends are gone, the `up` line that was missing is there, and it is told how many lines there were.
+/// A record is made shorter, or stays as it is, by the rows above.
 #[test]
-fn a_record_is_made_shorter(rt: HostRuntime) -> Result<(), Fail> {
-    let path = "test_records_folder";
-    let torn = &AGAIN[..40];
-    make(&rt, path, &[JOIN, CLOSED, ASKED, "x\n", torn], &[&UP[..10]])?;
-    let done = compacted(&rt, path)??;
-    assert!(rt; done.before == 6);
-    assert!(rt; done.after == 4);
-    assert!(rt; has(&rt, path, &[BASE, JOIN, CLOSED], &[UP])?);
-    Ok(())
-}
-
-/// A record whose `up` lines end, or go on, where its base tells of another number of bytes stays as it is.
-#[test]
-fn too_few_up_lines_are_told(rt: HostRuntime) -> Result<(), Fail> {
-    let path = "test_records_up_shorter";
-    let steps = ["base 0000000000000004 0000000000000050\n", JOIN, CLOSED];
-    for ups in [[UP, ""], [UP, UP]] {
-        make(&rt, path, &steps, &ups)?;
-        assert!(rt; compacted(&rt, path)?.err() == Some(RecordFault::UpShorter(80)));
-        assert!(rt; has(&rt, path, &steps, &ups)?);
+fn records_are_made_shorter(rt: HostRuntime) {
+    let mut number = 0u32;
+    for row in ROWS {
+        number = number.saturating_add(1);
+        let is_right = match is_so(&rt, row) {
+            Ok(is_right) => is_right,
+            Err(_) => false,
+        };
+        assert!(rt; is_right, "row {number}");
     }
-    Ok(())
 }

@@ -1,15 +1,16 @@
 //! The record of a server that runs: where its steps have grown much, fewer take their place.
 
-use crate::folder::{bytes_of, make, text_of};
+use crate::folder::{Place, bytes_of, make, text_of};
+use crate::place;
 use crate::worked::{AGAIN, ASKED, BASE, CLOSED, JOIN, ROSTER, UP, roster_of};
 use log::sink::Writer;
 use ns_compact::{Folder, Keeper};
 use ns_record_files::{RecordFiles, RecordWriter, Recorder, Upkeep};
-use std::fs;
+use std::alloc::{AllocError, Global};
 use std::fs::File;
 use std::rt::Files;
 use std::sync::Wait;
-use std::test::Fail;
+use std::{fs, io};
 
 // What stands in an answer again and again: no JSON, so the join fails.
 const TEXT: [u8; 1024] = [b'x'; 1024];
@@ -26,7 +27,7 @@ const JOIN_LEN: usize = ASKED.len() + 65_537;
 // A record whose keeper looks after it.
 #[derive(Clone, Copy)]
 struct Grown<'a> {
-    path: &'a str,
+    place: Place,
     // Steps that it has for a while, one after the other, and that are to stay as they are.
     before: &'a [&'a [u8]],
     // Those that it has then.
@@ -37,20 +38,13 @@ struct Grown<'a> {
     rests: bool,
 }
 
-// The steps that are left then, and what was logged.
-#[derive(Drop)]
-struct Left {
-    steps: Vec<u8>,
-    log: Vec<u8>,
-}
-
 // Lines come behind the steps. The record still has the file without them, so its keeper reads no further, as where they come after it
 // looked.
-fn come<R: Files<File = File> + AllocGlobal>(rt: &R, path: &str, later: &str) -> Result<(), Fail> {
+fn come<R: Files<File = File> + AllocGlobal>(rt: &R, path: &str, later: &str) -> io::Result<()> {
     let mut steps = bytes_of(rt, path)?;
     steps.extend_from_slice(later.as_bytes())?;
     fs::remove_file(rt, path)?;
-    Ok(fs::write(rt, path, steps.as_slice())?)
+    fs::write(rt, path, steps.as_slice())
 }
 
 // A keeper looks after these steps twice.
@@ -61,7 +55,7 @@ fn look<R: Files<File = File> + Wait + AllocGlobal>(
     later: &str,
     keeper: &mut Keeper<'_, R, Writer<Vec<u8>>>,
     record: &Recorder<RecordFiles>,
-) -> Result<(), Fail> {
+) -> io::Result<()> {
     fs::write(rt, path, steps)?;
     if !later.is_empty() {
         come(rt, path, later)?;
@@ -71,62 +65,99 @@ fn look<R: Files<File = File> + Wait + AllocGlobal>(
     Ok(())
 }
 
-// The steps of a record after its keeper has looked after all that it has.
-fn kept<R: Files<File = File> + Wait + AllocGlobal>(
+// Whether a file has these bytes.
+fn has_bytes<R: Files<File = File> + AllocGlobal>(
+    rt: &R,
+    path: &str,
+    bytes: &[u8],
+) -> io::Result<bool> {
+    let there = bytes_of(rt, path)?;
+    Ok(there.as_slice() == bytes)
+}
+
+// A keeper looks after all that a record has. Whether the steps that are to stay have stayed.
+fn look_at_all<R: Files<File = File> + Wait + AllocGlobal>(
+    rt: &R,
+    grown: &Grown<'_>,
+    keeper: &mut Keeper<'_, R, Writer<Vec<u8>>>,
+    record: &Recorder<RecordFiles>,
+) -> io::Result<bool> {
+    let path = grown.place.steps;
+    for steps in grown.before {
+        look(rt, path, steps, "", keeper, record)?;
+        if !has_bytes(rt, path, steps)? {
+            return Ok(false);
+        }
+    }
+    look(rt, path, grown.steps, grown.later, keeper, record)?;
+    Ok(true)
+}
+
+// The files of a record, to be added to, or at rest.
+fn recorder<R: Files<File = File> + Wait>(
     rt: &R,
     log: &Writer<Vec<u8>>,
+    alloc: Global,
     grown: &Grown<'_>,
-) -> Result<Vec<u8>, Fail> {
-    let alloc = rt.alloc();
-    let roster = roster_of(alloc, ROSTER)?;
-    let path = format!(in alloc; "{}/steps", grown.path)?;
-    let files = RecordFiles::open(rt, log, alloc, grown.path, false)?;
-    let record = Recorder::new(alloc, RecordWriter::new(files))?;
+) -> Option<Recorder<RecordFiles>> {
+    let files = RecordFiles::open(rt, log, alloc, grown.place.folder, false).ok()?;
+    let record = Recorder::new(alloc, RecordWriter::new(files)).ok()?;
     if grown.rests {
         record.rest();
     }
+    Some(record)
+}
+
+// A keeper looks after all that a record has. None where steps did not stay that were to.
+fn keep<R: Files<File = File> + Wait + AllocGlobal>(
+    rt: &R,
+    log: &Writer<Vec<u8>>,
+    grown: &Grown<'_>,
+) -> Option<()> {
+    let alloc = rt.alloc();
+    let roster = roster_of(alloc, ROSTER).ok()?;
+    let record = recorder(rt, log, alloc, grown)?;
     let mut keeper = Keeper::new(Folder {
         rt,
         log,
         alloc,
-        path: grown.path,
+        path: grown.place.folder,
         roster: &roster,
     });
-    let path = path.as_str();
-    for steps in grown.before {
-        look(rt, path, steps, "", &mut keeper, &record)?;
-        if bytes_of(rt, path)?.as_slice() != *steps {
-            return Err(Fail::new("steps that did not stay"));
-        }
+    match look_at_all(rt, grown, &mut keeper, &record) {
+        Ok(true) => Some(()),
+        _ => None,
     }
-    look(rt, path, grown.steps, grown.later, &mut keeper, &record)?;
-    bytes_of(rt, path)
 }
 
-// What the keeper of a record leaves.
-fn after<R: Files<File = File> + Wait + AllocGlobal>(
+// What was logged where the keeper of a record leaves these steps.
+fn log_of<R: Files<File = File> + Wait + AllocGlobal>(
     rt: &R,
     grown: &Grown<'_>,
-) -> Result<Left, Fail> {
-    make(rt, grown.path, &[], &[UP])?;
+    wanted: &[u8],
+) -> Option<Vec<u8>> {
+    make(rt, &grown.place, &[], &[UP]).ok()?;
     let log = Writer::new(Vec::new(rt.alloc()));
-    let steps = kept(rt, &log, grown)?;
-    fs::remove_dir_all(rt, grown.path)?;
-    Ok(Left {
-        steps,
-        log: log.into_inner(),
-    })
+    keep(rt, &log, grown)?;
+    let is_so = has_bytes(rt, grown.place.steps, wanted).ok()?;
+    fs::remove_dir_all(rt, grown.place.folder).ok()?;
+    if is_so { Some(log.into_inner()) } else { None }
 }
 
-// Steps of a join and an uplink, behind a base, and of so many joins that failed, each of a little more than 64 KiB.
-fn joins<R: AllocGlobal>(rt: &R, base: &str, count: usize) -> Result<Vec<u8>, Fail> {
-    let mut steps = text_of(rt, &[base, JOIN, CLOSED])?;
+// Adds a join that failed, of a little more than 64 KiB.
+fn put_join(steps: &mut Vec<u8>) -> Result<(), AllocError> {
+    steps.extend_from_slice(ASKED.as_bytes())?;
+    for _ in 0..64 {
+        steps.extend_from_slice(&TEXT)?;
+    }
+    steps.extend_from_slice(b"\n")
+}
+
+// Steps of a join and an uplink, behind a base, and of so many joins that failed.
+fn joins(alloc: Global, base: &str, count: usize) -> Result<Vec<u8>, AllocError> {
+    let mut steps = text_of(alloc, &[base, JOIN, CLOSED])?;
     for _ in 0..count {
-        steps.extend_from_slice(ASKED.as_bytes())?;
-        for _ in 0..64 {
-            steps.extend_from_slice(&TEXT)?;
-        }
-        steps.extend_from_slice(b"\n")?;
+        put_join(&mut steps)?;
     }
     Ok(steps)
 }
@@ -136,71 +167,90 @@ fn front(bytes: &[u8], count: usize) -> &[u8] {
     bytes.get(..count).unwrap_or(bytes)
 }
 
+// Whether a record of so many joins stays as it is, which is shorter than 4 MiB just where the server does not stop.
+fn stays<R: Files<File = File> + Wait + AllocGlobal>(
+    rt: &R,
+    place: Place,
+    count: usize,
+    rests: bool,
+) -> Option<bool> {
+    let steps = joins(rt.alloc(), "", count).ok()?;
+    let grown = Grown {
+        place,
+        before: &[],
+        steps: steps.as_slice(),
+        later: "",
+        rests,
+    };
+    let log = log_of(rt, &grown, steps.as_slice())?;
+    drop(log);
+    Some((steps.len() < MANY) != rests)
+}
+
 /// Steps of less than 4 MiB stay as they are, and those of a server that stops.
 #[test]
-fn others_stay(rt: HostRuntime) -> Result<(), Fail> {
-    for (path, count, rests) in [
-        ("test_records_small", 63usize, false),
-        ("test_records_rests", 64, true),
-    ] {
-        let steps = joins(&rt, "", count)?;
-        assert!(rt; (steps.len() < MANY) != rests);
-        let left = after(
-            &rt,
-            &Grown {
-                path,
-                before: &[],
-                steps: steps.as_slice(),
-                later: "",
-                rests,
-            },
-        )?;
-        assert!(rt; left.steps.as_slice() == steps.as_slice(), "{path}");
-    }
-    Ok(())
+fn others_stay(rt: HostRuntime) {
+    assert!(rt; stays(&rt, place!("test_records_small"), 63, false) == Some(true));
+    assert!(rt; stays(&rt, place!("test_records_rests"), 64, true) == Some(true));
+}
+
+// What was logged where a record that has grown becomes small.
+fn log_of_grown<R: Files<File = File> + Wait + AllocGlobal>(rt: &R) -> Option<Vec<u8>> {
+    let steps = joins(rt.alloc(), BASE, 64).ok()?;
+    let wanted = text_of(rt.alloc(), &[BASE, JOIN, CLOSED, AGAIN]).ok()?;
+    let grown = Grown {
+        place: place!("test_records_grown"),
+        before: &[],
+        steps: steps.as_slice(),
+        later: AGAIN,
+        rests: false,
+    };
+    log_of(rt, &grown, wanted.as_slice())
 }
 
 /// Those of 4 MiB behind what a compaction left become few, once, and lines that come in the meantime follow them.
 #[test]
-fn grown_records_become_small(rt: HostRuntime) -> Result<(), Fail> {
-    let steps = joins(&rt, BASE, 64)?;
-    let left = after(
-        &rt,
-        &Grown {
-            path: "test_records_grown",
-            before: &[],
-            steps: steps.as_slice(),
-            later: AGAIN,
-            rests: false,
-        },
-    )?;
-    let want = text_of(&rt, &[BASE, JOIN, CLOSED, AGAIN])?;
-    assert!(rt; left.steps.as_slice() == want.as_slice());
-    let log = b"[INFO  ns_compact::keeper] record: compacted 132 4\n";
-    assert!(rt; left.log.as_slice() == log.as_slice());
-    Ok(())
+fn grown_records_become_small(rt: HostRuntime) {
+    let wanted = b"[INFO  ns_compact::keeper] record: compacted 132 4\n";
+    let is_so = match log_of_grown(&rt) {
+        Some(log) => log.as_slice() == wanted.as_slice(),
+        None => false,
+    };
+    assert!(rt; is_so);
+}
+
+// A line that fits no record, and so many of these bytes.
+fn unfit(alloc: Global, steps: &[u8], count: usize) -> Result<Vec<u8>, AllocError> {
+    let mut unfit = text_of(alloc, &[UNFIT])?;
+    unfit.extend_from_slice(front(steps, count))?;
+    Ok(unfit)
+}
+
+// What was logged where a record stays as it is at first, and becomes small later.
+fn log_of_unfit<R: Files<File = File> + Wait + AllocGlobal>(
+    rt: &R,
+    steps: &[u8],
+) -> Option<Vec<u8>> {
+    // Without the last join: not twice what is unfit, which has half of these behind a line of 26 bytes.
+    let fewer = front(steps, steps.len().saturating_sub(JOIN_LEN));
+    let unfit = unfit(rt.alloc(), fewer, fewer.len() / 2).ok()?;
+    let wanted = text_of(rt.alloc(), &[BASE, JOIN, CLOSED]).ok()?;
+    let grown = Grown {
+        place: place!("test_records_unfit"),
+        before: &[unfit.as_slice(), fewer],
+        steps,
+        later: "",
+        rests: false,
+    };
+    log_of(rt, &grown, wanted.as_slice())
 }
 
 /// Where it cannot be done they stay as they are, and it is tried again once they have twice as many bytes.
 #[test]
-fn unfit_records_are_tried_again(rt: HostRuntime) -> Result<(), Fail> {
-    let steps = joins(&rt, "", 129)?;
-    let steps = steps.as_slice();
-    // Without the last join: not twice what is unfit, which has half of these behind a line of 26 bytes.
-    let fewer = front(steps, steps.len().saturating_sub(JOIN_LEN));
-    let mut unfit = text_of(&rt, &[UNFIT])?;
-    unfit.extend_from_slice(front(fewer, fewer.len() / 2))?;
-    let left = after(
-        &rt,
-        &Grown {
-            path: "test_records_unfit",
-            before: &[unfit.as_slice(), fewer],
-            steps,
-            later: "",
-            rests: false,
-        },
-    )?;
-    let want = text_of(&rt, &[BASE, JOIN, CLOSED])?;
-    assert!(rt; left.steps.as_slice() == want.as_slice());
-    Ok(())
+fn unfit_records_are_tried_again(rt: HostRuntime) {
+    let is_so = match joins(rt.alloc(), "", 129) {
+        Ok(steps) => log_of_unfit(&rt, steps.as_slice()).is_some(),
+        Err(_) => false,
+    };
+    assert!(rt; is_so);
 }

@@ -1,10 +1,10 @@
 //! A server over memory, and its record.
 
 use crate::worked::roster_of;
-use ns_calls::{Call, Reply, lines, shard_of_call, up_line};
+use ns_calls::{Answer, Call, Reply, lines, shard_of_call, up_line};
 use ns_compact::{Shortened, serves_as_well, shorten};
 use ns_record::{matters, step_line};
-use ns_resume::{Base, RecordFault, base_line, run_record};
+use ns_resume::{Base, RecordFault, Resumed, base_line, run_record};
 use ns_roster::Roster;
 use ns_shard::Shard;
 use std::alloc::Global;
@@ -39,6 +39,45 @@ pub struct Fewer {
     pub lines: Vec<u8>,
 }
 
+// The roster, and readers of the files of a record.
+#[derive(Drop)]
+struct Ready<'a> {
+    roster: Arc<Roster>,
+    steps: BufReader<&'a [u8]>,
+    ups: BufReader<&'a [u8]>,
+}
+
+// These from the beginning, in pieces of so many bytes.
+fn begin<'a>(
+    alloc: Global,
+    roster: &Arc<Roster>,
+    piece: usize,
+    steps: &'a [u8],
+    ups: &'a [u8],
+) -> Result<Ready<'a>, RecordFault> {
+    Ok(Ready {
+        roster: roster.clone()?,
+        steps: BufReader::with_capacity(alloc, piece, steps)?,
+        ups: BufReader::with_capacity(alloc, piece, ups)?,
+    })
+}
+
+/// What a start finds in these files, read in pieces of so many bytes.
+pub fn resumed(
+    alloc: Global,
+    roster: &Arc<Roster>,
+    piece: usize,
+    steps: &[u8],
+    ups: &[u8],
+) -> Result<Resumed, RecordFault> {
+    let Ready {
+        roster,
+        mut steps,
+        mut ups,
+    } = begin(alloc, roster, piece, steps, ups)?;
+    run_record(alloc, roster, &mut steps, &mut ups)
+}
+
 impl Life {
     /// A server with no entries.
     pub fn new(alloc: Global) -> Result<Life, RecordFault> {
@@ -56,9 +95,8 @@ impl Life {
 
     /// Goes on with the record.
     pub fn restart(&mut self) -> Result<(), RecordFault> {
-        let mut steps = BufReader::with_capacity(self.alloc, PIECE, self.steps.as_slice())?;
-        let mut ups = BufReader::with_capacity(self.alloc, PIECE, self.ups.as_slice())?;
-        self.shards = run_record(self.alloc, self.roster.clone()?, &mut steps, &mut ups)?.shards;
+        let (steps, ups) = (self.steps.as_slice(), self.ups.as_slice());
+        self.shards = resumed(self.alloc, &self.roster, PIECE, steps, ups)?.shards;
         Ok(())
     }
 
@@ -73,48 +111,53 @@ impl Life {
     pub fn make(&mut self, call: Call) -> Result<Reply, RecordFault> {
         let line = step_line(&call);
         let place = shard_of_call(&call);
-        let Some(shard) = self.shards.get_mut(usize::from(place)) else {
-            return Err(RecordFault::NoFit(0));
+        let answer = match self.shards.get_mut(usize::from(place)) {
+            Some(shard) if shard.index() == place => shard.apply(call)?,
+            _ => return Err(RecordFault::NoFit(0)),
         };
-        if shard.index() != place {
-            return Err(RecordFault::NoFit(0));
-        }
-        let answer = shard.apply(call)?;
-        for line in lines(&answer) {
-            self.said.push_str(line.as_str())?;
+        self.note(line.as_str(), &answer)?;
+        Ok(answer.reply)
+    }
+
+    // Says what an answer says, and puts down the line of its call where later answers rest on it.
+    fn note(&mut self, line: &str, answer: &Answer) -> Result<(), RecordFault> {
+        for said in lines(answer) {
+            self.said.push_str(said.as_str())?;
             self.said.push_str("\n")?;
         }
-        if matters(&answer.reply) {
-            Life::put(&mut self.steps, line.as_str())?;
-            if let Some(uplink) = &answer.uplink {
-                Life::put(&mut self.ups, up_line(uplink).as_str())?;
-            }
+        if !matters(&answer.reply) {
+            return Ok(());
         }
-        Ok(answer.reply)
+        Life::put(&mut self.steps, line)?;
+        match &answer.uplink {
+            Some(uplink) => Life::put(&mut self.ups, up_line(uplink).as_str()),
+            None => Ok(()),
+        }
     }
 
     /// Fewer lines that serve as well as those of the record.
     pub fn fewer(&self) -> Result<Fewer, RecordFault> {
-        let mut steps = BufReader::with_capacity(self.alloc, PIECE, self.steps.as_slice())?;
-        let mut ups = BufReader::with_capacity(self.alloc, PIECE, self.ups.as_slice())?;
-        let mut again = BufReader::with_capacity(self.alloc, PIECE, self.steps.as_slice())?;
         let mut lines = Vec::new(self.alloc);
-        let roster = self.roster.clone()?;
-        let left = shorten(
-            self.alloc, roster, &mut steps, &mut ups, &mut again, &mut lines,
-        )?;
+        let left = self.shortened(&mut lines)?;
         Ok(Fewer { left, lines })
+    }
+
+    // Writes the fewer lines.
+    fn shortened(&self, lines: &mut Vec<u8>) -> Result<Shortened, RecordFault> {
+        let (steps, ups) = (self.steps.as_slice(), self.ups.as_slice());
+        let mut again = BufReader::with_capacity(self.alloc, PIECE, steps)?;
+        let Ready {
+            roster,
+            mut steps,
+            mut ups,
+        } = begin(self.alloc, &self.roster, PIECE, steps, ups)?;
+        shorten(self.alloc, roster, &mut steps, &mut ups, &mut again, lines)
     }
 
     // The record that these lines begin, of which so many bytes are left out.
     fn text_of(&self, lines: &str) -> Result<Vec<u8>, RecordFault> {
-        let count = lines
-            .as_bytes()
-            .iter()
-            .filter(|byte| **byte == b'\n')
-            .count();
         let base = Base {
-            lines: count as u64,
+            lines: lines.lines().count() as u64,
             ups: self.ups.len() as u64,
         };
         let mut text = Vec::new(self.alloc);
@@ -126,15 +169,22 @@ impl Life {
     /// Whether these lines serve as well as those of the record, of which `fewer` is what is left. Where they do they are taken.
     pub fn take(&mut self, fewer: &Fewer, lines: &str) -> Result<bool, RecordFault> {
         let text = self.text_of(lines)?;
-        let mut steps = BufReader::with_capacity(self.alloc, PIECE, text.as_slice())?;
-        let mut ups = BufReader::with_capacity(self.alloc, PIECE, self.ups.as_slice())?;
-        let old = fewer.left.shards.as_slice();
-        if !serves_as_well(self.alloc, self.roster.clone()?, old, &mut steps, &mut ups)? {
+        if !self.serves(fewer, text.as_slice())? {
             return Ok(false);
         }
-        self.steps.clear();
-        self.steps.extend_from_slice(text.as_slice())?;
+        self.steps = text;
         Ok(true)
+    }
+
+    // Whether these steps serve as well.
+    fn serves(&self, fewer: &Fewer, steps: &[u8]) -> Result<bool, RecordFault> {
+        let Ready {
+            roster,
+            mut steps,
+            mut ups,
+        } = begin(self.alloc, &self.roster, PIECE, steps, self.ups.as_slice())?;
+        let old = fewer.left.shards.as_slice();
+        serves_as_well(self.alloc, roster, old, &mut steps, &mut ups)
     }
 }
 

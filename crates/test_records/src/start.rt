@@ -1,10 +1,12 @@
 //! The start over memory, on the steps of a worked run.
 
-use crate::worked::{AGAIN, CLOSED, JOIN, ROSTER, UP, roster_of};
-use ns_resume::{RecordFault, Resumed, run_record};
+use crate::folder::text_of;
+use crate::life::resumed;
+use crate::worked::{AGAIN, CLOSED, JOIN, ROSTER, TORN, TORN_UP, UP, roster_of};
+use ns_resume::RecordFault::{NoFit, NoStep, UpDiffers, UpLonger};
+use ns_resume::{RecordFault, Resumed};
 use ns_types::{DevEui, WindowName};
 use std::alloc::Global;
-use std::io::BufReader;
 
 // The roster of the run with one more device before its own.
 const ADDED: &str =
@@ -14,125 +16,181 @@ const ADDED: &str =
 const OTHER: &str =
     "{\"version\":1,\"net_id\":\"000024\",\"rx1_offset\":0,\"rx_delay\":1,\"devices\":[{\"dev_eui\":\"000000000000000e\",\"join_eui\":\"0102030401020304\",\"slot\":5}]}";
 
-// Runs these lines beside these `up` lines, read in pieces of so many bytes.
-fn run(
-    alloc: Global,
-    roster: &str,
-    lines: &[&str],
-    ups: &str,
-    piece: usize,
-) -> Result<Resumed, RecordFault> {
-    let mut text = Vec::new(alloc);
-    for part in lines {
-        text.extend_from_slice(part.as_bytes())?;
-    }
-    let mut steps = BufReader::with_capacity(alloc, piece, text.as_slice())?;
-    let mut ups = BufReader::with_capacity(alloc, piece, ups.as_bytes())?;
-    run_record(alloc, roster_of(alloc, roster)?, &mut steps, &mut ups)
-}
+// The Join-Request of the run.
+const ASKING: &str =
+    "heard 010100000000000000a100000000000f424033be27a005fc4a004b170004030201040302010d00000000000000010001000000\n";
 
-// The fault of such a run.
-fn fault(rt: &HostRuntime, roster: &str, lines: &[&str], ups: &str) -> Option<RecordFault> {
-    run(rt.alloc(), roster, lines, ups, 1_000).err()
-}
+// Its `up` line and a torn one.
+const UP_AND_TORN: &str = "up 000000000000000d 1 2 1 plain - 74657374 1 00000000000000a1\nu";
+
+// How many bytes of torn lines there are, and of torn `up` lines; 1 where just the `up` line is missing; how many tickets are open; 1
+// where just the window is open that the uplink opened again; how many entries shards 13 and 14 have made.
+type Told = [u64; 7];
+
+// A roster, lines beside `up` lines, read in pieces of so many bytes, and what a start finds in them, or its fault.
+type Row = (
+    &'static str,
+    &'static [&'static str],
+    &'static str,
+    usize,
+    Result<Told, RecordFault>,
+);
+
+// A record is run.
+const RUN: &[Row] = &[
+    (
+        ROSTER,
+        &[JOIN, CLOSED, AGAIN],
+        UP,
+        1,
+        Ok([0, 0, 0, 0, 1, 5, 0]),
+    ),
+    (
+        ROSTER,
+        &[JOIN, CLOSED, AGAIN],
+        UP,
+        7,
+        Ok([0, 0, 0, 0, 1, 5, 0]),
+    ),
+    (
+        ROSTER,
+        &[JOIN, CLOSED, AGAIN],
+        UP,
+        1_000_000,
+        Ok([0, 0, 0, 0, 1, 5, 0]),
+    ),
+    // A torn line and an open ticket are told.
+    (
+        ROSTER,
+        &[JOIN, CLOSED, TORN],
+        UP,
+        7,
+        Ok([40, 0, 0, 0, 0, 4, 0]),
+    ),
+    (ROSTER, &[ASKING], "", 7, Ok([0, 0, 0, 1, 0, 1, 0])),
+    // Missing `up` lines are given.
+    (ROSTER, &[JOIN, CLOSED], "", 7, Ok([0, 0, 1, 0, 0, 4, 0])),
+    (
+        ROSTER,
+        &[JOIN, CLOSED],
+        TORN_UP,
+        7,
+        Ok([0, 10, 1, 0, 0, 4, 0]),
+    ),
+    // A device may be added.
+    (
+        ADDED,
+        &[JOIN, CLOSED, AGAIN],
+        UP,
+        1_000,
+        Ok([0, 0, 0, 0, 1, 5, 0]),
+    ),
+];
+
+// A record is refused.
+const REFUSED: &[Row] = &[
+    // It does not fit the roster, or the lines before.
+    (OTHER, &[JOIN, CLOSED], UP, 1_000, Err(NoFit(1))),
+    (
+        ROSTER,
+        &[JOIN, CLOSED, "close 000000000000000d 1 2\n"],
+        UP,
+        1_000,
+        Err(NoFit(5)),
+    ),
+    (
+        ROSTER,
+        &[JOIN, "heard\n", CLOSED],
+        UP,
+        1_000,
+        Err(NoStep(3)),
+    ),
+    (ROSTER, &[JOIN, "heard 00\n"], UP, 1_000, Err(NoFit(3))),
+    (ROSTER, &[CLOSED], UP, 1_000, Err(NoFit(1))),
+    // The `up` lines are not of it.
+    (ROSTER, &[JOIN, CLOSED], "up 0\n", 1_000, Err(UpDiffers(1))),
+    (ROSTER, &[JOIN], UP, 1_000, Err(UpLonger(0))),
+    (
+        ROSTER,
+        &[JOIN, CLOSED],
+        UP_AND_TORN,
+        1_000,
+        Err(UpLonger(1)),
+    ),
+];
 
 // How many entries a shard has made.
-fn made(resumed: &Resumed, shard: usize) -> Option<u64> {
+fn made(resumed: &Resumed, shard: usize) -> u64 {
     match resumed.shards.as_slice().get(shard) {
-        Some(shard) => Some(shard.made()),
-        None => None,
+        Some(shard) => shard.made(),
+        None => u64::MAX,
     }
 }
 
-fn window(round: u32) -> WindowName {
-    WindowName {
+// Whether just the window is open that the uplink opened again.
+fn is_open_again(windows: &[WindowName]) -> bool {
+    let window = WindowName {
         eui: DevEui(13),
         session: 1,
         fcnt: 2,
-        round,
-    }
-}
-
-#[test]
-fn a_record_is_run(rt: HostRuntime) -> Result<(), RecordFault> {
-    for piece in [1usize, 7, 1_000_000] {
-        let resumed = run(rt.alloc(), ROSTER, &[JOIN, CLOSED, AGAIN], UP, piece)?;
-        assert!(rt; resumed.torn == 0);
-        assert!(rt; resumed.up_torn == 0);
-        assert!(rt; resumed.missing.is_empty());
-        assert!(rt; resumed.tickets.is_empty());
-        assert!(rt; resumed.windows.as_slice() == [window(2)].as_slice());
-        assert!(rt; made(&resumed, 13) == Some(5));
-    }
-    Ok(())
-}
-
-#[test]
-fn a_torn_line_is_told(rt: HostRuntime) -> Result<(), RecordFault> {
-    let torn = &AGAIN[..40];
-    let resumed = run(rt.alloc(), ROSTER, &[JOIN, CLOSED, torn], UP, 7)?;
-    assert!(rt; made(&resumed, 13) == Some(4));
-    assert!(rt; resumed.torn == 40);
-    assert!(rt; resumed.windows.is_empty());
-    Ok(())
-}
-
-#[test]
-fn an_open_ticket_is_told(rt: HostRuntime) -> Result<(), RecordFault> {
-    let asked = match JOIN.split_once("\n") {
-        Some((first, _)) => first,
-        None => "",
+        round: 2,
     };
-    let resumed = run(rt.alloc(), ROSTER, &[asked, "\n"], "", 7)?;
-    assert!(rt; resumed.tickets.len() == 1);
-    Ok(())
+    windows == [window].as_slice()
+}
+
+// 0 where there is nothing, 1 where there is what should be, and 2 otherwise.
+fn number(is_empty: bool, is_right: bool) -> u64 {
+    if is_empty {
+        0
+    } else if is_right {
+        1
+    } else {
+        2
+    }
+}
+
+fn told_of(resumed: &Resumed) -> Told {
+    let (missing, windows) = (resumed.missing.as_slice(), resumed.windows.as_slice());
+    [
+        resumed.torn as u64,
+        resumed.up_torn as u64,
+        number(missing.is_empty(), missing == UP.as_bytes()),
+        resumed.tickets.len() as u64,
+        number(windows.is_empty(), is_open_again(windows)),
+        made(resumed, 13),
+        made(resumed, 14),
+    ]
+}
+
+// What a start finds in these lines.
+fn told(alloc: Global, row: &Row) -> Result<Told, RecordFault> {
+    let (roster, lines, ups, piece, _) = *row;
+    let steps = text_of(alloc, lines)?;
+    let roster = roster_of(alloc, roster)?;
+    let resumed = resumed(alloc, &roster, piece, steps.as_slice(), ups.as_bytes())?;
+    Ok(told_of(&resumed))
+}
+
+// The number of the first row of which something else is told.
+fn wrong_row(alloc: Global, rows: &[Row]) -> usize {
+    let mut number = 0usize;
+    for row in rows {
+        number = number.saturating_add(1);
+        if told(alloc, row) != row.4 {
+            return number;
+        }
+    }
+    0
 }
 
 #[test]
-fn missing_up_lines_are_given(rt: HostRuntime) -> Result<(), RecordFault> {
-    let none = run(rt.alloc(), ROSTER, &[JOIN, CLOSED], "", 7)?;
-    assert!(rt; none.up_torn == 0);
-    assert!(rt; none.missing.as_slice() == UP.as_bytes());
-    let torn = run(rt.alloc(), ROSTER, &[JOIN, CLOSED], &UP[..10], 7)?;
-    assert!(rt; torn.up_torn == 10);
-    assert!(rt; torn.missing.as_slice() == UP.as_bytes());
-    Ok(())
+fn records_are_run(rt: HostRuntime) {
+    let row = wrong_row(rt.alloc(), RUN);
+    assert!(rt; row == 0, "{row}");
 }
 
 #[test]
-fn a_record_that_does_not_fit_is_refused(rt: HostRuntime) {
-    assert!(rt; fault(&rt, OTHER, &[JOIN, CLOSED], UP) == Some(RecordFault::NoFit(1)));
-    assert!(rt;
-        fault(
-            &rt,
-            ROSTER,
-            &[JOIN, CLOSED, "close 000000000000000d 1 2\n"],
-            UP
-        ) == Some(RecordFault::NoFit(5))
-    );
-    assert!(rt; fault(&rt, ROSTER, &[JOIN, "heard\n", CLOSED], UP) == Some(RecordFault::NoStep(3)));
-    assert!(rt; fault(&rt, ROSTER, &[JOIN, "heard 00\n"], UP) == Some(RecordFault::NoFit(3)));
-    assert!(rt; fault(&rt, ROSTER, &[CLOSED], UP) == Some(RecordFault::NoFit(1)));
-}
-
-#[test]
-fn up_lines_that_are_not_of_the_record_are_refused(rt: HostRuntime) {
-    assert!(rt; fault(&rt, ROSTER, &[JOIN, CLOSED], "up 0\n") == Some(RecordFault::UpDiffers(1)));
-    assert!(rt; fault(&rt, ROSTER, &[JOIN], UP) == Some(RecordFault::UpLonger(0)));
-    assert!(rt;
-        fault(
-            &rt,
-            ROSTER,
-            &[JOIN, CLOSED],
-            "up 000000000000000d 1 2 1 plain - 74657374 1 00000000000000a1\nu"
-        ) == Some(RecordFault::UpLonger(1))
-    );
-}
-
-#[test]
-fn a_device_may_be_added(rt: HostRuntime) -> Result<(), RecordFault> {
-    let resumed = run(rt.alloc(), ADDED, &[JOIN, CLOSED, AGAIN], UP, 1_000)?;
-    assert!(rt; made(&resumed, 13) == Some(5));
-    assert!(rt; made(&resumed, 14) == Some(0));
-    Ok(())
+fn records_are_refused(rt: HostRuntime) {
+    let row = wrong_row(rt.alloc(), REFUSED);
+    assert!(rt; row == 0, "{row}");
 }

@@ -91,12 +91,17 @@ pub fn uplink(
         root: nwk,
     };
     let mut room = [0; 32];
-    let frame = creator.build_into(&keys, &mut room).ok()?;
+    let frame = seen(creator.build_into(&keys, &mut room).ok()?)?;
+    Some(Call::Uplink {
+        frame,
+        heard: heard(gateway),
+    })
+}
+
+// A data frame as a gateway sees it.
+fn seen(frame: &[u8]) -> Option<DataFrame> {
     match view(frame) {
-        Ok(PhyView::Frame(data)) => Some(Call::Uplink {
-            frame: DataFrame::of(&data),
-            heard: heard(gateway),
-        }),
+        Ok(PhyView::Frame(data)) => Some(DataFrame::of(&data)),
         _ => None,
     }
 }

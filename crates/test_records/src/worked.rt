@@ -21,8 +21,14 @@ pub const CLOSED: &str =
 pub const AGAIN: &str =
     "heard 010100000000000000a100000000000f424033be27a005fc4a004b1180f17dbe4900020001954378766723abef\n";
 
+/// The first 40 bytes of it.
+pub const TORN: &str = "heard 010100000000000000a100000000000f42";
+
 /// The `up` line of the uplink, of 62 bytes.
 pub const UP: &str = "up 000000000000000d 1 2 1 plain - 74657374 1 00000000000000a1\n";
+
+/// The first 10 bytes of it.
+pub const TORN_UP: &str = "up 0000000";
 
 /// The base of a record that has just the join and the uplink.
 pub const BASE: &str = "base 0000000000000004 000000000000003e\n";
