@@ -1,5 +1,5 @@
 //! The threads: each worker from its start to its end.
-ghost use Rattle.std.specs.Prelude.{◌≡◌, ◌+◌, ◌≤◌, ◌⊎◌, ◌++◌, ◌∷◌, [], true, All, vec_len, Some, IsNone, IfOk, IfSome};
+ghost use Rattle.std.specs.Prelude.{◌≡◌, ◌+◌, ◌≤◌, ◌⊎◌, ◌++◌, ◌∷◌, ◌<◌, ◌^◌, [], true, false, All, vec_len, Some, IsNone, IfOk, IfSome};
 ghost use Rattle.std.specs.Duration.{as_nanos};
 ghost use Rattle.std.specs.Option.{option_map};
 ghost use Rattle.ns_joinclient.specs.Request.{host_text};
@@ -18,7 +18,7 @@ use ns_record_files::Upkeep;
 use ns_responses::Responses;
 use ns_roster::Roster;
 use ns_serve_parts::{
-    Held, Lines, Output, ServeFault, ServeOptions, ToJoinServer, Within, trim_due, trims_of,
+    Held, Lines, Output, ServeFault, ServeOptions, ToJoinServer, Trims, Within, trim_due, trims_of,
 };
 use ns_serve_state::{
     Events, FromQueue, FromSocket, IntoQueues, Later, Recording, SinceStart, State, ToSocket,
@@ -37,16 +37,16 @@ use std::time::Clock;
 
 // What the threads see. One reference to it goes into each.
 #[derive(Drop)]
-struct Around<'a, B: Naming, R, W> {
-    rt: &'a R,
-    alloc: Global,
-    server: &'a Server<B>,
-    roster: &'a Roster,
-    host: HostName<'a>,
-    join: SocketAddr,
-    state: &'a State,
-    output: &'a Mutex<Output<W>>,
-    trim: Option<u32>,
+pub(crate) struct Around<'a, B: Naming, R, W> {
+    pub rt: &'a R,
+    pub alloc: Global,
+    pub server: &'a Server<B>,
+    pub roster: &'a Roster,
+    pub host: HostName<'a>,
+    pub join: SocketAddr,
+    pub state: &'a State,
+    pub output: &'a Mutex<Output<W>>,
+    pub trim: Option<u32>,
 }
 
 impl<'a, B: Naming, R, W> Around<'a, B, R, W> {
@@ -210,14 +210,36 @@ fn join_helpers<R: Threads + Wait>(rt: &R, helpers: Vec<JoinHandle<()>>) {
     }
 }
 
-// Starts all join workers, all gateway workers and, where the status is told, who tells it, and says whether all were made. What those
-// take along that were not made is dropped: a sender among it would keep the closer's channel open.
+// The threads that were made, by what they bring back.
+#[derive(Drop)]
+struct Handles<O> {
+    gateways: Vec<JoinHandle<O>>,
+    joiners: Vec<JoinHandle<O>>,
+    helpers: Vec<JoinHandle<()>>,
+}
+
+impl<O: Drop> Handles<O> {
+    // None, with room for so many workers.
+    fn room(alloc: Global, gateways: usize, joiners: usize) -> Result<Handles<O>, AllocError> {
+        let gateways = Vec::with_capacity(alloc, gateways)?;
+        Ok(Handles {
+            gateways,
+            joiners: Vec::with_capacity(alloc, joiners)?,
+            helpers: Vec::new(alloc),
+        })
+    }
+}
+
+// Starts all join workers, all gateway workers, who tells the status where it is told and who looks after the record where there is one,
+// and says whether all were made. What those take along that were not made is dropped: a sender among it would keep the closer's channel
+// open.
 fn start_threads<
     's,
     E,
-    A: Work<J, O> + Work<G, O> + Work<TellerKit, ()> + Sync,
+    A: Work<J, O> + Work<G, O> + Work<TellerKit, ()> + Work<K, ()> + Sync,
     J: Send + Drop + 's,
     G: Send + Drop + 's,
+    K: Send + Drop + 's,
     O: Send + Drop + 's,
 >(
     scope: &Scope<'s, E>,
@@ -225,16 +247,17 @@ fn start_threads<
     join_kits: Vec<J>,
     gateway_kits: Vec<G>,
     is_told: bool,
-    joiners: &mut Vec<JoinHandle<O>>,
-    gateways: &mut Vec<JoinHandle<O>>,
-    helpers: &mut Vec<JoinHandle<()>>,
+    keeper: K,
+    is_kept: bool,
+    handles: &mut Handles<O>,
 ) -> bool
-    ensures joiners { result ≡ true → vec_len joiners.new ≡ vec_len joiners.old + vec_len join_kits }
-    ensures gateways { result ≡ true → vec_len gateways.new ≡ vec_len gateways.old + vec_len gateway_kits }
+    ensures joiners { result ≡ true → vec_len handles.new.joiners ≡ vec_len handles.old.joiners + vec_len join_kits }
+    ensures gateways { result ≡ true → vec_len handles.new.gateways ≡ vec_len handles.old.gateways + vec_len gateway_kits }
 {
-    start_all(scope, around, join_kits, joiners)
-        && start_all(scope, around, gateway_kits, gateways)
-        && start_helper(scope, around, TellerKit, is_told, helpers)
+    start_all(scope, around, join_kits, &mut handles.joiners)
+        && start_all(scope, around, gateway_kits, &mut handles.gateways)
+        && start_helper(scope, around, TellerKit, is_told, &mut handles.helpers)
+        && start_helper(scope, around, keeper, is_kept, &mut handles.helpers)
 }
 
 // The fault of a worker. Where there is one, it is logged, and all others are to stop.
@@ -341,6 +364,76 @@ fn closer_thread<B: Naming, R: Wait + Clock + Log, W: Sink>(
     Back { pass, fault }
 }
 
+// Room for the lines of one turn of the closer, and for its downlinks.
+fn rooms(alloc: Global, state: &State) -> Result<(Held, Later<'_>), AllocError>
+    ensures { IfOk result (λ r. r.0.failed ≡ false) }
+{
+    let held = Held::new(alloc, room_for(state.uplinks))?;
+    Ok((held, Later::new(alloc, state, AT_A_TIME)?))
+}
+
+// Closes the windows that are due and writes what was told meanwhile: whether the server goes on, or the fault that ends it.
+#[tactic(auto, using(crate::proofs::ReceiptLemmas::receipts_none))]
+fn close_turn<B: Naming, R: Wait + Clock + Log, W: Sink>(
+    around: &Around<'_, B, R, W>,
+    shared: &Shared<'_, B, R, Recording<'_>, Events<'_>>,
+    pass: &mut Pass<B>,
+    closings: &mut Closings<'_>,
+    later: &mut Later<'_>,
+    held: &mut Held,
+) -> Result<bool, ServeFault>
+    requires { held.old.failed ≡ false }
+    ensures sound { held.new.failed ≡ false }
+    ensures receipts { HasReceipts B.roster pass.old pass.new }
+{
+    let (rt, state) = (around.rt, around.state);
+    match closings.next(rt, around.alloc) {
+        Ok(Turn::Close(jobs)) => {
+            let fault = close_and_write(
+                around.alloc,
+                shared,
+                pass,
+                state,
+                around.output,
+                jobs,
+                later,
+                held,
+            );
+            ended(fault)?;
+        }
+        Ok(Turn::Idle) => {}
+        Ok(Turn::End) => return Ok(false),
+        Err(_) => return Err(no_room(rt, "its jobs")),
+    }
+    ended(write_notices(rt, state, around.output))?;
+    Ok(true)
+}
+
+// The fault, if there is one.
+fn ended(fault: Option<ServeFault>) -> Result<(), ServeFault> {
+    match fault {
+        Some(fault) => Err(fault),
+        None => Ok(()),
+    }
+}
+
+// Logs what the closer had no memory for, and gives the fault.
+fn no_room<R: Log>(rt: &R, what: &str) -> ServeFault {
+    error!(rt; "closer: no memory for {what}");
+    ServeFault::NoMemory
+}
+
+// Trims the shards that are due, where trims are asked for.
+fn trim_shards<B: Naming, R: Wait + Log, W>(
+    around: &Around<'_, B, R, W>,
+    trims: &mut Option<Trims>,
+) {
+    if let Some(trims) = trims {
+        let made = around.state.made.all();
+        let _told = trim_due(around.rt, around.alloc, around.server, trims, &made);
+    }
+}
+
 // Closes windows until the server stops, and trims the shards that are due.
 #[tactic(auto, using(crate::proofs::ReceiptLemmas::receipts_none, crate::proofs::ReceiptLemmas::receipts_both))]
 fn close_to_end<B: Naming, R: Wait + Clock + Log, W: Sink>(
@@ -350,47 +443,19 @@ fn close_to_end<B: Naming, R: Wait + Clock + Log, W: Sink>(
 ) -> Option<ServeFault>
     ensures { HasReceipts B.roster pass.old pass.new }
 {
-    let (rt, state, alloc) = (around.rt, around.state, around.alloc);
+    let state = around.state;
+    let Ok((mut held, mut later)) = rooms(around.alloc, state) else {
+        return Some(no_room(around.rt, "lines"));
+    };
     let mut closings = Closings::new(state, closes);
     let mut trims = trims_of(around.trim, around.roster.devices().len());
     let (gate, events) = (Recording { state }, Events { state });
     let shared = around.shared(&gate, &events);
-    let (Ok(mut held), Ok(mut later)) = (
-        Held::new(alloc, room_for(state.uplinks)),
-        Later::new(alloc, state, AT_A_TIME),
-    ) else {
-        error!(rt; "closer: no memory for lines");
-        return Some(ServeFault::NoMemory);
-    };
-    for _turn in rt.forever() {
-        match closings.next(rt, alloc) {
-            Ok(Turn::Close(jobs)) => {
-                let fault = close_and_write(
-                    alloc,
-                    &shared,
-                    pass,
-                    state,
-                    around.output,
-                    jobs,
-                    &mut later,
-                    &mut held,
-                );
-                if fault.is_some() {
-                    return fault;
-                }
-            }
-            Ok(Turn::Idle) => {}
-            Ok(Turn::End) => return None,
-            Err(_) => {
-                error!(rt; "closer: no memory for its jobs");
-                return Some(ServeFault::NoMemory);
-            }
-        }
-        if let Some(fault) = write_notices(rt, state, around.output) {
-            return Some(fault);
-        }
-        if let Some(trims) = &mut trims {
-            let _told = trim_due(rt, alloc, around.server, trims, &state.made.all());
+    for _turn in around.rt.forever() {
+        match close_turn(around, &shared, pass, &mut closings, &mut later, &mut held) {
+            Ok(true) => trim_shards(around, &mut trims),
+            Ok(false) => return None,
+            Err(fault) => return Some(fault),
         }
     }
     unreachable!()
@@ -452,14 +517,17 @@ fn join_threads<B: Naming, R: Threads + Wait>(
     rt: &R,
     ends: &mut Ends<B>,
     closer: Back<B>,
-    gateways: Vec<JoinHandle<Back<B>>>,
-    joiners: Vec<JoinHandle<Back<B>>>,
-    helpers: Vec<JoinHandle<()>>,
+    handles: Handles<Back<B>>,
 )
     ensures none { IsNone ends.new.fault → IsNone ends.old.fault × IsNone closer.fault }
     ensures memory { ends.old.fault ≡ Some ServeFault.NoMemory → ends.new.fault ≡ Some ServeFault.NoMemory }
-    ensures kept { IsNone ends.new.fault → vec_len ends.new.passes ≡ vec_len ends.old.passes + 1 + vec_len gateways + vec_len joiners }
+    ensures kept { IsNone ends.new.fault → vec_len ends.new.passes ≡ vec_len ends.old.passes + 1 + vec_len handles.gateways + vec_len handles.joiners }
 {
+    let Handles {
+        gateways,
+        joiners,
+        helpers,
+    } = handles;
     keep(ends, closer);
     join_all(rt, ends, gateways);
     join_all(rt, ends, joiners);
@@ -491,7 +559,7 @@ fn join_kits<B: Naming>(
 fn gateway_kits<B: Naming>(
     alloc: Global,
     mut passes: Vec<Pass<B>>,
-    closes: Sender<CloseJob>,
+    closes: &Sender<CloseJob>,
     state: &State,
 ) -> Result<Vec<GatewayKit<B>>, AllocError>
     requires { All (λ p. p ≡ none_made) passes.items }
@@ -512,7 +580,7 @@ fn gateway_kits<B: Naming>(
 fn kits_of<B: Naming>(
     alloc: Global,
     mut passes: Vec<Pass<B>>,
-    closes: Sender<CloseJob>,
+    closes: &Sender<CloseJob>,
     state: &State,
     options: &ServeOptions<'_>,
 ) -> Result<Kits<B>, AllocError>
@@ -534,6 +602,42 @@ fn kits_of<B: Naming>(
     })
 }
 
+// The channel of the windows that are to be closed, with those that are open already; the open tickets are put where join workers take them.
+fn channel_of<R: Wait + Clock>(
+    rt: &R,
+    state: &State,
+    windows: Vec<WindowName>,
+    tickets: Vec<Ticket>,
+) -> Result<(Sender<CloseJob>, Receiver<CloseJob>), AllocError> {
+    let (close_sender, close_receiver) = unbounded::<CloseJob, Global>(state.alloc)?;
+    hand_on(rt, state, windows, tickets, &close_sender)?;
+    Ok((close_sender, close_receiver))
+}
+
+// Room for what the threads bring back, before any is made.
+#[derive(Drop)]
+struct Room<B: Naming> {
+    handles: Handles<Back<B>>,
+    ends: Ends<B>,
+}
+
+// Room for so many workers of each kind, and for the closer.
+fn room_for_workers<B: Naming>(
+    alloc: Global,
+    gateways: usize,
+    joiners: usize,
+) -> Result<Room<B>, AllocError>
+    requires { gateways + joiners < 2 ^ 63 }
+{
+    let handles = Handles::room(alloc, gateways, joiners)?;
+    let passes = Vec::with_capacity(alloc, gateways + joiners + 1)?;
+    let ends = Ends {
+        passes,
+        fault: None,
+    };
+    Ok(Room { handles, ends })
+}
+
 /// Runs all workers to their ends. The closer runs in the thread of the caller.
 pub(crate) fn run_all<
     B: Naming + Send + Sync,
@@ -541,13 +645,8 @@ pub(crate) fn run_all<
     W: Sink + Send,
     U: Upkeep + Send + Drop,
 >(
-    rt: &R,
-    alloc: Global,
-    server: &Server<B>,
+    around: &Around<'_, B, R, W>,
     passes: Vec<Pass<B>>,
-    roster: &Roster,
-    state: &State,
-    output: &Mutex<Output<W>>,
     options: &ServeOptions<'_>,
     windows: Vec<WindowName>,
     tickets: Vec<Ticket>,
@@ -557,62 +656,65 @@ pub(crate) fn run_all<
     requires unused { All (λ p. p ≡ none_made) passes.items }
     ensures { IfOk result (λ ends. All (λ p. ∥ HasReceipts B.roster none_made p ∥₁) ends.passes.items) }
 {
-    let (close_sender, close_receiver) = unbounded::<CloseJob, Global>(alloc)?;
+    let (alloc, state) = (around.alloc, around.state);
+    // Their number says that the counts of workers fit.
+    let _count = passes.len();
+    let room = room_for_workers(alloc, options.workers, options.join_workers)?;
+    let (close_sender, close_receiver) = channel_of(around.rt, state, windows, tickets)?;
+    let kits = kits_of(alloc, passes, &close_sender, state, options)?;
+    drop(close_sender);
     // The channel stays open until the last gateway worker has ended.
     let _close_open = close_receiver.clone()?;
-    hand_on(rt, state, windows, tickets, &close_sender)?;
-    let kits = kits_of(alloc, passes, close_sender, state, options)?;
-    let (heard_by, asked_by) = (kits.gateways.len(), kits.joins.len());
-    let gateways: Vec<JoinHandle<Back<B>>> = Vec::with_capacity(alloc, heard_by)?;
-    let joiners: Vec<JoinHandle<Back<B>>> = Vec::with_capacity(alloc, asked_by)?;
-    let ends = Ends {
-        passes: Vec::with_capacity(alloc, options.workers + options.join_workers + 1)?,
-        fault: None,
-    };
-    let around = Around {
-        rt,
-        alloc,
-        server,
-        roster,
-        host: options.host,
-        join: options.join,
-        state,
-        output,
-        trim: options.trim,
-    };
-    let around = &around;
-    state.gateways.store(heard_by as u64, Ordering::SeqCst);
-    let ends = thread::scope(thread::scope_env(), rt, |scope| {
-        let (mut ends, mut gateways, mut joiners) = (ends, gateways, joiners);
-        let mut helpers = Vec::new(alloc);
+    Ok(run_kits(around, kits, close_receiver, room, upkeep))
+}
+
+// Runs the workers of these kits to their ends.
+fn run_kits<
+    B: Naming + Send + Sync,
+    R: Threads + Wait + Clock + Net<Listener = TcpListener, Stream = TcpStream> + Log + Sync,
+    W: Sink + Send,
+    U: Upkeep + Send + Drop,
+>(
+    around: &Around<'_, B, R, W>,
+    kits: Kits<B>,
+    close_receiver: Receiver<CloseJob>,
+    room: Room<B>,
+    upkeep: U,
+) -> Ends<B>
+    ensures { All (λ p. ∥ HasReceipts B.roster none_made p ∥₁) result.passes.items }
+{
+    let (rt, state) = (around.rt, around.state);
+    state
+        .gateways
+        .store(kits.gateways.len() as u64, Ordering::SeqCst);
+    thread::scope(thread::scope_env(), rt, |scope| {
+        let Room {
+            mut handles,
+            mut ends,
+        } = room;
         let Kits {
             closer,
             joins,
-            gateways: hearers,
+            gateways,
         } = kits;
-        let is_told = state.status.is_some();
         let is_whole = start_threads(
             scope,
             around,
             joins,
-            hearers,
-            is_told,
-            &mut joiners,
-            &mut gateways,
-            &mut helpers,
+            gateways,
+            state.status.is_some(),
+            KeeperKit { upkeep },
+            state.record.is_some(),
+            &mut handles,
         );
-        let is_kept = is_whole && state.record.is_some();
-        let keeper = KeeperKit { upkeep };
-        let has_keeper = start_helper(scope, around, keeper, is_kept, &mut helpers);
-        if !is_whole || !has_keeper {
+        if !is_whole {
             error!(rt; "a thread could not be made");
             ends.fault = Some(ServeFault::NoMemory);
             state.break_off();
         }
         let back = closer_thread(around, closer, close_receiver);
         rest_record(state);
-        join_threads(rt, &mut ends, back, gateways, joiners, helpers);
+        join_threads(rt, &mut ends, back, handles);
         ends
-    });
-    Ok(ends)
+    })
 }

@@ -1,18 +1,18 @@
 //! A server from its start to what it settled.
-ghost use Rattle.std.specs.Prelude.{◌≡◌, Some, ◌+◌, ◌≤◌, ◌<◌, ◌⊎◌, [], false, true, sum_by, vec_len, IfOk, IfSome, IsErr, OnOk, OnErr};
+ghost use Rattle.std.specs.Prelude.{◌≡◌, Some, ◌+◌, ◌≤◌, ◌<◌, ◌⊎◌, [], false, true, sum_by, All, vec_len, IfOk, IfSome, IsErr, OnOk, OnErr};
 ghost use Rattle.std.specs.Io.KnownBytes.{Appends, append_known};
 ghost use Rattle.std.specs.Arc.{arc_value};
 ghost use Rattle.ns_types.specs.Identity.{shard_count};
 ghost use Rattle.ns_server.specs.Begun.{ArePlaced, states_at};
 ghost use Rattle.ns_serve_state.specs.Begun.{IsBegun};
-ghost use Rattle.ns_tally.specs.Tally.{AreNamed};
+ghost use Rattle.ns_tally.specs.Tally.{AreNamed, none_made};
 ghost use Rattle.ns_server.specs.Drain.{NoneOpen, EachIsClosed};
 ghost use Rattle.ns_workers.specs.Lines.{AppendsLine};
 ghost use Rattle.ns_serve_parts.specs.Closing.{last_lines};
 ghost use Rattle.ns_serve_parts.specs.Output.{Grows, EndsIn, Sends};
 
 use crate::ending::{Stop, mark_stop};
-use crate::run::{Ends, run_all};
+use crate::run::{Around, Ends, run_all};
 use log::{Log, error, info};
 use ns_calls::{Uplink, up_line};
 use ns_events::{Output as Written, uplink_json};
@@ -23,7 +23,7 @@ use ns_serve_state::{
     AfterRecord, Begun, State, Status, ToSocket, has_failed, log_counts, log_unsent, note_event,
     now_ms, record_call, take_notices, times_of, write_record,
 };
-use ns_server::{Naming, Receipt, Server, Settled};
+use ns_server::{Naming, Pass, Receipt, Server, Settled};
 use ns_shard::Shard;
 use ns_tally::Blanks;
 use ns_types::{Sink, Ticket, WindowName};
@@ -313,6 +313,45 @@ fn written<R: Log, W: Sink>(
     outcome
 }
 
+// Runs the workers of a server to their ends.
+fn run_workers<
+    B: Naming + Send + Sync,
+    R: Threads + Wait + Clock + Net<Listener = TcpListener, Stream = TcpStream> + Log + Sync,
+    W: Sink + Send,
+    U: Upkeep + Send + Drop,
+>(
+    rt: &R,
+    alloc: Global,
+    server: &Server<B>,
+    passes: Vec<Pass<B>>,
+    roster: &Roster,
+    state: &State,
+    output: &Mutex<Output<W>>,
+    options: &ServeOptions<'_>,
+    windows: Vec<WindowName>,
+    tickets: Vec<Ticket>,
+    upkeep: U,
+) -> Result<Ends<B>, ServeFault>
+    requires count { vec_len passes ≡ options.now.workers + options.now.join_workers + 1 }
+    requires unused { All (λ p. p ≡ none_made) passes.items }
+{
+    let around = Around {
+        rt,
+        alloc,
+        server,
+        roster,
+        host: options.host,
+        join: options.join,
+        state,
+        output,
+        trim: options.trim,
+    };
+    match run_all(&around, passes, options, windows, tickets, upkeep) {
+        Ok(ends) => Ok(ends),
+        Err(_) => Err(no_memory(rt, "the workers")),
+    }
+}
+
 // A server of this many workers, from its start to what it settled.
 fn run_server<
     B: Naming + Send + Sync,
@@ -327,9 +366,7 @@ fn run_server<
     state: &State,
     output: Output<W>,
     options: &ServeOptions<'_>,
-    shards: Vec<Shard>,
-    windows: Vec<WindowName>,
-    tickets: Vec<Ticket>,
+    begun: Begun,
     upkeep: U,
 ) -> Result<u128, ServeFault>
     requires workers { (0 < options.now.workers) × (options.now.workers ≤ 16) }
@@ -338,23 +375,27 @@ fn run_server<
     requires parts { blanks.parts ≡ options.now.workers + options.now.join_workers + 1 }
     requires passes { B.workers ≡ options.now.workers + options.now.join_workers + 1 }
     requires roster { arc_value roster ≡ B.roster }
-    requires sixteen { vec_len shards ≡ shard_count }
-    requires places { ArePlaced B.roster shards.items }
-    requires begun { B.begun ≡ states_at B.roster shards.items }
+    requires sixteen { vec_len begun.shards ≡ shard_count }
+    requires places { ArePlaced B.roster begun.shards.items }
+    requires begun { B.begun ≡ states_at B.roster begun.shards.items }
 {
     let Ok(known) = roster.clone() else {
         return Err(no_memory(rt, "the roster"));
     };
+    let Begun {
+        shards,
+        windows,
+        tickets,
+        record: _,
+    } = begun;
     let count = options.workers + options.join_workers + 1;
     let Ok((server, passes)) = Server::<B>::resume(alloc, roster, count, blanks, shards) else {
         return Err(no_memory(rt, "the shards"));
     };
     let output = Mutex::new(output);
-    let Ok(ends) = run_all(
+    let ends = run_workers(
         rt, alloc, &server, passes, &known, state, &output, options, windows, tickets, upkeep,
-    ) else {
-        return Err(no_memory(rt, "the workers"));
-    };
+    )?;
     let mut output = output.into_inner();
     let closing = options.closing;
     let outcome = settled_of(rt, alloc, &known, state, server, ends, &mut output, closing);
@@ -376,17 +417,15 @@ fn serve_with<
     roster: Arc<Roster>,
     options: &ServeOptions<'_>,
     state: &State,
-    shards: Vec<Shard>,
-    windows: Vec<WindowName>,
-    tickets: Vec<Ticket>,
+    begun: Begun,
     stop: S,
     upkeep: U,
     writer: W,
 ) -> Result<u128, ServeFault>
     requires workers { (0 < options.now.workers) × (options.now.workers ≤ 16) }
     requires join_workers { (0 < options.now.join_workers) × (options.now.join_workers ≤ 16) }
-    requires sixteen { vec_len shards ≡ shard_count }
-    requires places { ArePlaced (arc_value roster) shards.items }
+    requires sixteen { vec_len begun.shards ≡ shard_count }
+    requires places { ArePlaced (arc_value roster) begun.shards.items }
 {
     let writer = AfterRecord::new(rt, state, writer);
     let output = match first_lines(rt, alloc, state, writer) {
@@ -400,8 +439,20 @@ fn serve_with<
     let count = options.workers as u64 + options.join_workers as u64 + 1;
     let blanks = Blanks::new(count);
     run_server::<Brand, _, _, _>(
-        rt, alloc, roster, blanks, state, output, options, shards, windows, tickets, upkeep,
+        rt, alloc, roster, blanks, state, output, options, begun, upkeep,
     )
+}
+
+// The outcome with which a server ends: a fault of its record is told before all else.
+fn end_of<R: Log>(
+    rt: &R,
+    mut state: State,
+    outcome: Result<u128, ServeFault>,
+) -> Result<u128, ServeFault> {
+    if has_failed(rt, state.record.take()) {
+        return Err(ServeFault::Io);
+    }
+    outcome
 }
 
 /// Serves gateways over UDP, with a join server over TCP, until so many datagrams have come or `stop` says so, if the options ask
@@ -431,19 +482,12 @@ pub fn serve<
     requires join_workers { (0 < options.now.join_workers) × (options.now.join_workers ≤ 16) }
     requires begun { IsBegun (arc_value roster) begun }
 {
-    let Begun {
-        shards,
-        windows,
-        tickets,
-        record,
-    } = begun;
-    let mut state = begin(rt, alloc, &roster, options, shards.as_slice(), record)?;
+    let mut begun = begun;
+    let record = begun.record.take();
+    let state = begin(rt, alloc, &roster, options, begun.shards.as_slice(), record)?;
     log_start(rt, &roster, options);
     let outcome = serve_with(
-        rt, alloc, roster, options, &state, shards, windows, tickets, stop, upkeep, writer,
+        rt, alloc, roster, options, &state, begun, stop, upkeep, writer,
     );
-    if has_failed(rt, state.record.take()) {
-        return Err(ServeFault::Io);
-    }
-    outcome
+    end_of(rt, state, outcome)
 }

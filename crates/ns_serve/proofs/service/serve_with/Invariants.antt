@@ -4,7 +4,7 @@ use Rattle.ns_server.specs.Begun.{states_at}
 use Rattle.ns_serve.proofs.service.serve_with.Given as goal
 
 abbrev pub ghosts-run_server-B-Naming : goal.ghosts-run_server-B-Naming
-ghosts-run_server-B-Naming g a = record { roster = arc_value a.roster; begun = states_at (arc_value a.roster) a.shards.items }
+ghosts-run_server-B-Naming g a = record { roster = arc_value a.roster; begun = states_at (arc_value a.roster) a.begun.shards.items }
 
 abbrev pub ghosts-run_server-B-Ledgers : goal.ghosts-run_server-B-Ledgers
 ghosts-run_server-B-Ledgers g a = record { ledger = λ k. slice_index a.blanks.names k; workers = a.blanks.parts }
