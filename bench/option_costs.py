@@ -1,7 +1,7 @@
 #!/usr/bin/env python3
 """Counts the instructions of a datagram in `lorawan_ns serve`, by callgrind: without options, with a record, with one that is synced, with
-the status, with uplinks as JSON, and with these and events; and, where the plain server of bench/plain_server is given, in its `serve`, and
-where it receives and does no more.
+the status, with uplinks as JSON, and with these and events; and, where the plain server of bench/plain_server is given, in its `serve`, in
+this where it does what the interface of the proved server asks for (`--asked`), and where it receives and does no more.
 
     python3 bench/option_costs.py PROGRAM [--plain PLAIN] [--ways WAY,..] [--devices N] [--copies N] [--frames FEW,MANY] [--confirmed SHARE]
                                   [--rate N] [--folder DIR] [--keep FILE]
@@ -29,7 +29,7 @@ from network.servers import Joins, Serve  # noqa: E402
 
 WAYS = (('none', []), ('record', ['--record']), ('synced', ['--record', '--sync']), ('status', ['--status', '127.0.0.1:0']),
         ('json', ['--output', 'json']), ('events', ['--output', 'json', '--events']))
-PLAIN_WAYS = ('plain', 'receive')     # the plain server's commands are `serve` and `receive`
+PLAIN_WAYS = ('plain', 'asked', 'receive')     # the plain server's commands are `serve`, with `--asked` too, and `receive`
 LONGEST = 600       # seconds of a run
 
 
@@ -49,7 +49,8 @@ class Run:
         self.lines = open(os.path.join(folder, 'lines'), 'wb')
         program = [options.plain if way in PLAIN_WAYS else options.program] + (['serve', path] if self.joined else ['receive'])
         self.server = Serve(['valgrind', '--tool=callgrind', '--callgrind-out-file=' + self.out, *program, '--join',
-                             '%s:%d' % self.joins.where, '--listen', '127.0.0.1:0', '--window', '500', '--stop-after', str(self.count), *words],
+                             '%s:%d' % self.joins.where, '--listen', '127.0.0.1:0', '--window', '500', '--stop-after', str(self.count),
+                             *(['--asked'] if way == 'asked' else words)],
                             self.lines)
         self.gateways = [Gateway(number, self.server.where) for number in range(options.copies)]
 

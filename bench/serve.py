@@ -1,6 +1,7 @@
 #!/usr/bin/env python3
-"""Measures `lorawan_ns serve` over loopback, beside the same server in plain Rust and a program that only receives (both
-bench/plain_server), with 1, 2 and 4 workers that hear gateways; and with gateways that are packet forwarders.
+"""Measures `lorawan_ns serve` over loopback, beside the same server in plain Rust, the same that does also what the interface of the proved
+one asks for (`--asked`), and a program that only receives (all bench/plain_server), with 1, 2 and 4 workers that hear gateways; and with
+gateways that are packet forwarders.
 
     rustc -O --edition 2021 -o PLAIN bench/plain_server/main.rs
     python3 bench/serve.py PROGRAM PLAIN [--workers N,..] [--devices N] [--copies N] [--frames N] [--confirmed SHARE] [--window MS]
@@ -124,13 +125,14 @@ def main():
                     ('proved, packet forwarders', [options.program, 'serve', roster] + [
                         '--forwarders' if word == '--listen' else word for word in serves], True),
                     ('plain', [options.plain, 'serve', roster] + serves, True),
+                    ('plain, asked', [options.plain, 'serve', roster] + serves + ['--asked'], True),
                     ('receives only', [options.plain, 'receive'] + more, False)):
                 top, right = Measured(name, words, answers, options, folder).rows(workers)
                 is_right = is_right and right
                 found.append(top.cost())
-            print('\n%s workers: proved to plain %.2f, proved to a bare receiver %.2f, plain to it %.2f, packet forwarders to own datagrams '
-                  '%.2f (processor time a datagram at %s)\n' % (
-                      workers, found[0] / found[2], found[0] / found[3], found[2] / found[3], found[1] / found[0],
+            print('\n%s workers: proved to plain %.2f, to plain that is asked for the same %.2f, this to plain %.2f, plain to a bare receiver %.2f, '
+                  'packet forwarders to own datagrams %.2f (processor time a datagram at %s)\n' % (
+                      workers, found[0] / found[2], found[0] / found[3], found[3] / found[2], found[2] / found[4], found[1] / found[0],
                       'that rate' if options.rate else 'the top rate'), flush=True)
         print('at rest: %s' % at_rest(options.program, folder))
     joins.close()

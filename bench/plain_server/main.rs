@@ -2,8 +2,8 @@
 //!
 //!     rustc -O --edition 2021 -o plain_server bench/plain_server/main.rs
 //!     plain_server replay ROSTER < STEPS     prints what `lorawan_ns replay ROSTER` prints
-//!     plain_server serve ROSTER --join ADDR [--listen ADDR] [--workers N] [--join-workers N] [--window MS] [--stop-after N]
-//!                                            does what `lorawan_ns serve` does
+//!     plain_server serve ROSTER --join ADDR [--listen ADDR] [--workers N] [--join-workers N] [--window MS] [--stop-after N] [--asked]
+//!                                            does what `lorawan_ns serve` does; with --asked also what its interface asks for (asked.rs)
 //!     plain_server receive [--listen ADDR] [--workers N]     receives datagrams by the same calls and does nothing with them
 //!     plain_server sizes                     prints the sizes of its types in bytes
 //!
@@ -22,6 +22,7 @@ use std::ops::Range;
 use std::process::ExitCode;
 
 mod aes;
+mod asked;
 mod json;
 mod lines;
 mod serve;
@@ -61,6 +62,7 @@ struct WindowName { eui: u64, session: u32, fcnt: u32, round: u32 }
 struct JoinAns { len: u8, accept: [u8; 33], nwk: Key, app: Option<Key> }
 
 #[allow(dead_code)] // The journal keeps more than is read again.
+#[derive(Clone, Copy)]
 enum Call {
     Uplink { frame: Frame, heard: Heard },
     Join { ticket: Ticket, heard: Heard },

@@ -4,6 +4,7 @@
 //! each; one `recv_from` a datagram, with a limit of 100 ms; the address of each gateway in a map; lines gathered and written before the
 //! closer waits.
 
+use crate::asked::Asked;
 use crate::*;
 use std::io::Read;
 use std::net::{SocketAddr, TcpStream, UdpSocket};
@@ -16,13 +17,24 @@ use std::time::{Duration, Instant};
 const EXCHANGE: Duration = Duration::from_secs(4);
 const LISTEN: Duration = Duration::from_millis(100);
 
-struct Options { join: SocketAddr, listen: SocketAddr, workers: u64, join_workers: u64, window: Duration, stop_after: u64 }
+pub struct Options {
+    join: SocketAddr,
+    listen: SocketAddr,
+    workers: u64,
+    join_workers: u64,
+    pub window: Duration,
+    pub stop_after: u64,
+    /// Whether all is done that the interface of the proved server asks for (`asked.rs`).
+    asked: bool,
+}
 
 impl Options {
     fn read(words: &[&str]) -> Result<Options, String> {
         let addr = SocketAddr::from(([127, 0, 0, 1], 0));
         let window = Duration::from_millis(200);
-        let mut found = Options { join: addr, listen: addr, workers: 4, join_workers: 1, window, stop_after: u64::MAX };
+        let asked = words.contains(&"--asked");
+        let words: Vec<&str> = words.iter().copied().filter(|word| *word != "--asked").collect();
+        let mut found = Options { join: addr, listen: addr, workers: 4, join_workers: 1, window, stop_after: u64::MAX, asked };
         for pair in words.chunks(2) {
             let value = *pair.get(1).ok_or("an option without its value")?;
             let bad = |_| format!("bad value: {value}");
@@ -42,18 +54,18 @@ impl Options {
 }
 
 /// What all threads share.
-struct Live<'a> {
-    roster: &'a Roster,
-    options: Options,
-    socket: UdpSocket,
+pub struct Live<'a> {
+    pub roster: &'a Roster,
+    pub options: Options,
+    pub socket: UdpSocket,
     shards: Vec<Mutex<Shard>>,
-    peers: Mutex<Map<SocketAddr>>,
-    read: AtomicU64,
-    listening: AtomicU64, // how many workers hear gateways
-    output: Mutex<Text>,
+    pub peers: Mutex<Map<SocketAddr>>,
+    pub read: AtomicU64,
+    pub listening: AtomicU64, // how many workers hear gateways
+    pub output: Mutex<Text>,
 }
 
-struct CloseJob { window: WindowName, due: Instant }
+pub struct CloseJob { pub window: WindowName, pub due: Instant }
 
 fn listen(options: &Options) -> Result<UdpSocket, String> {
     let socket = UdpSocket::bind(options.listen).map_err(|_| "io")?;
@@ -87,7 +99,11 @@ pub fn serve(roster: &Roster, words: &[&str]) -> Result<(), String> {
     let options = Options::read(words)?;
     let socket = listen(&options)?;
     let (workers, join_workers) = (options.workers, options.join_workers);
-    let shards = shards_of(roster).into_iter().map(Mutex::new).collect();
+    let (shards, asked) = match options.asked {
+        false => (shards_of(roster), None),
+        true => (Vec::new(), Some(Asked::new(shards_of(roster)))),
+    };
+    let shards = shards.into_iter().map(Mutex::new).collect();
     let (peers, read, listening, output) = Default::default();
     let output: Mutex<Vec<u8>> = output;
     let output = Mutex::new(Text(output.into_inner().unwrap()));
@@ -98,20 +114,30 @@ pub fn serve(roster: &Roster, words: &[&str]) -> Result<(), String> {
     let ask_jobs = Arc::new(Mutex::new(ask_jobs));
     thread::scope(|scope| {
         for _ in 0..workers {
-            let (live, closes, asks) = (&live, closes.clone(), asks.clone());
-            scope.spawn(move || live.hear(&closes, &asks));
+            let (live, asked, closes, asks) = (&live, &asked, closes.clone(), asks.clone());
+            scope.spawn(move || match asked {
+                None => live.hear(&closes, &asks),
+                Some(asked) => live.hear_asked(asked, &closes, &asks),
+            });
         }
         for _ in 0..join_workers {
-            let (live, jobs) = (&live, ask_jobs.clone());
-            scope.spawn(move || live.ask_all(&jobs));
+            let (live, asked, jobs) = (&live, &asked, ask_jobs.clone());
+            scope.spawn(move || match asked {
+                None => live.ask_all(&jobs),
+                Some(asked) => live.ask_all_asked(asked, &jobs),
+            });
         }
         drop((closes, asks));
-        live.close_all(&close_jobs);
+        match &asked {
+            None => live.close_all(&close_jobs),
+            Some(asked) => live.close_all_asked(asked, &close_jobs),
+        }
     });
-    let total: usize = live.shards.iter().map(|shard| shard.lock().unwrap().entries.len()).sum();
-    live.output.lock().unwrap().line("settled").number(total as u64).end();
+    let own = live.shards.iter().map(|shard| shard.lock().unwrap().entries.len() as u64).sum::<u64>();
+    let total = own + asked.as_ref().map_or(0, Asked::total);
+    live.output.lock().unwrap().line("settled").number(total).end();
     live.flush();
-    std::mem::forget(live);
+    std::mem::forget((live, asked));
     Ok(())
 }
 
@@ -189,7 +215,7 @@ impl Live<'_> {
         }
     }
 
-    fn flush(&self) {
+    pub fn flush(&self) {
         let mut output = self.output.lock().unwrap();
         if io::stdout().write_all(&output.0).is_err() || io::stdout().flush().is_err() {
             std::process::exit(1);
@@ -221,7 +247,7 @@ impl Live<'_> {
     }
 
     /// Sends a downlink to where its gateway was heard last.
-    fn send(&self, best: &Heard, offset: u8, delay: u64, frame: &[u8]) {
+    pub fn send(&self, best: &Heard, offset: u8, delay: u64, frame: &[u8]) {
         let Some(peer) = self.peers.lock().unwrap().get(&best.gateway).copied() else { return };
         let mut datagram = vec![1, 0x81];
         datagram.extend_from_slice(&best.gateway.to_be_bytes());
@@ -250,7 +276,7 @@ impl Live<'_> {
     }
 
     /// The body of the join server's answer.
-    fn ask(&self, ticket: &Ticket) -> Option<Vec<u8>> {
+    pub fn ask(&self, ticket: &Ticket) -> Option<Vec<u8>> {
         let eui = dev_eui(ticket);
         let device = self.roster.devices.iter().find(|d| d.eui == eui)?;
         let mut phy = Text(Vec::new());
