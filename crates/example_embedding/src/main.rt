@@ -74,7 +74,11 @@ fn one_thread(rt: &impl Print, alloc: Global) -> anyhow::Result<()> {
         print_taken(rt, taken)?;
     }
 
-    // An embedder that keeps its own shards makes its own calls, without bytes to read.
+    own_shard(rt, alloc, roster)
+}
+
+// An embedder that keeps its own shards makes its own calls, without bytes to read.
+fn own_shard(rt: &impl Print, alloc: Global, roster: Arc<Roster>) -> anyhow::Result<()> {
     let call = Call::Join {
         ticket: steps::TICKET,
         heard: Heard {

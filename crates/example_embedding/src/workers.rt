@@ -7,21 +7,23 @@ use std::alloc::{AllocError, Global};
 use std::sync::Wait;
 use std::thread;
 use std::thread::Threads;
-use test_threads::{join, join_reply, make, uplink};
+use test_threads::{join, join_reply, make, parted, uplink};
 
-/// Lends the server to a thread for each pass, and waits for all of them.
-pub fn all_work<B: Naming + Send + Sync, R: Threads + Wait + Sync>(
+/// Lends the server to a thread for each pass, and waits for all of them. The passes come back; the receipts go behind the others.
+pub fn round<B: Naming + Send + Sync, R: Threads + Wait + Sync>(
     rt: &R,
     alloc: Global,
     server: &Server<B>,
     passes: Vec<Pass<B>>,
     counter: u32,
-) -> Result<Vec<(Pass<B>, Vec<Receipt>)>, AllocError> {
-    thread::map_vec(
+    receipts: &mut Vec<Receipt>,
+) -> Result<Vec<Pass<B>>, AllocError> {
+    let done = thread::map_vec(
         rt,
         passes,
         &|pass| { work(rt, alloc, server, pass, counter) },
-    )
+    )?;
+    parted(alloc, done, receipts)
 }
 
 /// Trims one shard after the other: how many entries came out. Each is dropped here; a caller that wants to keep them writes them down.
