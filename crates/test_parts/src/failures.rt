@@ -5,6 +5,7 @@ ghost use Rattle.std.specs.Option.{option_map};
 use ns_record_files::{Disk, LineText, RecordLines, RecordWriter, Recorder};
 use ns_types::{BLOCKS, Failed, take_all};
 use std::alloc::{AllocError, Global};
+use std::sync::Wait;
 
 #[derive(Drop)]
 struct Memory {
@@ -104,16 +105,19 @@ fn has(disk: &Memory, steps: &str, safe: usize, ups: &str) -> bool {
         && disk.ups.as_slice() == ups.as_bytes()
 }
 
+// Whether three batches leave these bytes where so many calls are done, and so many batches are told as written.
+fn leaves(alloc: Global, done: u32, steps: &str, safe: usize, ups: &str, told: u32) -> bool {
+    let mut writer = RecordWriter::new(Memory::new(alloc, done));
+    let is_told = write_three(&mut writer) == told && writer.has_failed() == (done < 9);
+    is_told && has(&writer.into_disk(), steps, safe, ups)
+}
+
 /// Where a call of the files fails, they have what was written before and a front of the rest, and each batch after it is refused.
 #[test]
 fn each_call_fails_in_turn(rt: HostRuntime) {
     for &(done, steps, safe, ups, told) in AFTER {
-        let mut writer = RecordWriter::new(Memory::new(rt.alloc(), done));
-        let told_now = write_three(&mut writer);
-        let has_failed = writer.has_failed();
-        let is_right = has(&writer.into_disk(), steps, safe, ups);
         assert!(rt;
-            is_right && told_now == told && has_failed == (done < 9),
+            leaves(rt.alloc(), done, steps, safe, ups, told),
             "after {done} calls"
         );
     }
@@ -161,35 +165,69 @@ impl RecordLines for Told {
     }
 }
 
+/// Puts a step line and, if there is one, its `up` line, and writes them. Whether they were written.
+pub(crate) fn put<R: Wait, D: Disk + Drop>(
+    rt: &R,
+    recorder: &Recorder<D>,
+    step: &str,
+    up: Option<&str>,
+) -> bool {
+    recorder.put(rt, &Told::new(step, up));
+    recorder.write(rt).is_ok()
+}
+
+// A recorder over files in memory of whose calls so many are done.
+fn over_memory(alloc: Global, done: u32) -> Result<Recorder<Memory>, AllocError> {
+    Recorder::new(alloc, RecordWriter::new(Memory::new(alloc, done)))
+}
+
+// Lines that are put before they are written together.
+const LINES: &[(&str, Option<&str>)] = &[("b", None), ("a", Some("up a")), ("c", Some("up c"))];
+
+// Whether lines are written: these, none, and one more.
+fn are_written<R: Wait>(rt: &R, recorder: &Recorder<Memory>) -> bool {
+    for &(step, up) in LINES {
+        recorder.put(rt, &Told::new(step, up));
+    }
+    !recorder.is_due()
+        && recorder.write(rt).is_ok()
+        && recorder.write(rt).is_ok()
+        && put(rt, recorder, "d", None)
+}
+
 /// A recorder writes each line once, in the order in which they were put, and calls the files only where lines are there.
 #[test]
 fn lines_are_written_once(rt: HostRuntime) -> Result<(), AllocError> {
-    let writer = RecordWriter::new(Memory::new(rt.alloc(), 9));
-    let recorder = Recorder::new(rt.alloc(), writer)?;
-    recorder.put(&rt, &Told::new("b", None));
-    recorder.put(&rt, &Told::new("a", Some("up a")));
-    recorder.put(&rt, &Told::new("c", Some("up c")));
-    assert!(rt; !recorder.is_due());
-    assert!(rt; recorder.write(&rt).is_ok());
-    assert!(rt; recorder.write(&rt).is_ok());
-    recorder.put(&rt, &Told::new("d", None));
-    assert!(rt; recorder.write(&rt).is_ok());
+    let recorder = over_memory(rt.alloc(), 9)?;
+    assert!(rt; are_written(&rt, &recorder));
     let disk = recorder.into_disk();
     assert!(rt; disk.calls == 6);
-    assert!(rt; disk.steps.as_slice() == b"b\na\nc\nd\n".as_slice());
-    assert!(rt; disk.ups.as_slice() == b"up a\nup c\n".as_slice());
+    assert!(rt; has(&disk, "b\na\nc\nd\n", 8, "up a\nup c\n"));
     Ok(())
 }
 
 /// After a failed write every further one fails, also where nothing was put since, and the files are not called again.
 #[test]
 fn failed_write_is_not_forgotten(rt: HostRuntime) -> Result<(), AllocError> {
-    let writer = RecordWriter::new(Memory::new(rt.alloc(), 0));
-    let recorder = Recorder::new(rt.alloc(), writer)?;
-    recorder.put(&rt, &Told::new("a", None));
-    assert!(rt; recorder.write(&rt).is_err());
+    let recorder = over_memory(rt.alloc(), 0)?;
+    assert!(rt; !put(&rt, &recorder, "a", None));
     assert!(rt; recorder.write(&rt).is_err());
     assert!(rt; recorder.into_disk().calls == 1);
+    Ok(())
+}
+
+// Puts lines while there is no memory, of twice as many bytes as a recorder takes room for at first.
+fn put_without_memory<R: Wait>(
+    rt: &R,
+    alloc: Global,
+    recorder: &Recorder<Memory>,
+) -> Result<(), AllocError> {
+    let call = Told::new("close 000000000000000d 1 2", None);
+    let mut held = Vec::with_capacity(alloc, BLOCKS)?;
+    take_all(alloc, &mut held)?;
+    for _ in 0..10_000u32 {
+        recorder.put(rt, &call);
+    }
     Ok(())
 }
 
@@ -197,16 +235,8 @@ fn failed_write_is_not_forgotten(rt: HostRuntime) -> Result<(), AllocError> {
 /// that were kept is written.
 #[test]
 fn lost_line_is_not_forgotten(rt: HostRuntime) -> Result<(), AllocError> {
-    let alloc = rt.alloc();
-    let recorder = Recorder::new(alloc, RecordWriter::new(Memory::new(alloc, 9)))?;
-    let call = Told::new("close 000000000000000d 1 2", None);
-    let mut held = Vec::with_capacity(alloc, BLOCKS)?;
-    take_all(alloc, &mut held)?;
-    // Twice as many bytes as a recorder takes room for at first.
-    for _ in 0..10_000u32 {
-        recorder.put(&rt, &call);
-    }
-    held.clear();
+    let recorder = over_memory(rt.alloc(), 9)?;
+    put_without_memory(&rt, rt.alloc(), &recorder)?;
     assert!(rt; recorder.write(&rt).is_err());
     assert!(rt; recorder.into_disk().calls == 0);
     Ok(())

@@ -1,6 +1,7 @@
 //! Late copies of frames whose windows were closed, of all shards.
 
 use ns_front::{FrameName, Lates};
+use std::sync::Wait;
 use std::test::Fail;
 
 // No frame is noted, and a copy is late for 2 s.
@@ -22,6 +23,16 @@ fn due_of(shard: u8) -> u64 {
     u64::from(shard).wrapping_add(5000)
 }
 
+// Whether a copy of a shard's frame is late from the closing of its window on, for 2 s.
+fn is_late_for_2_s<R: Wait>(rt: &R, lates: &Lates, shard: u8) -> bool {
+    let (frame, due) = (frame_of(shard, 7, 8), due_of(shard));
+    lates.due(rt, frame) == Some(due)
+        && !lates.is_late(rt, frame, due.wrapping_sub(1))
+        && lates.is_late(rt, frame, due)
+        && lates.is_late(rt, frame, due.wrapping_add(1999))
+        && !lates.is_late(rt, frame, due.wrapping_add(2000))
+}
+
 /// A copy is late from the closing of its window on, for just as long as was asked for, in each of the sixteen shards.
 #[test]
 fn a_copy_is_late_for_2_s_in_each_shard(rt: HostRuntime) -> Result<(), Fail> {
@@ -30,12 +41,7 @@ fn a_copy_is_late_for_2_s_in_each_shard(rt: HostRuntime) -> Result<(), Fail> {
         lates.note(&rt, frame_of(shard, 7, 8), due_of(shard));
     }
     for shard in 0..16 {
-        let (frame, due) = (frame_of(shard, 7, 8), due_of(shard));
-        assert!(rt; lates.due(&rt, frame) == Some(due));
-        assert!(rt; !lates.is_late(&rt, frame, due.wrapping_sub(1)));
-        for (after, want) in [(0, true), (1999, true), (2000, false)] {
-            assert!(rt; lates.is_late(&rt, frame, due.wrapping_add(after)) == want);
-        }
+        assert!(rt; is_late_for_2_s(&rt, &lates, shard));
     }
     Ok(())
 }

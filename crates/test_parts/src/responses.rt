@@ -4,7 +4,7 @@ ghost use Rattle.std.specs.Prelude.{◌<◌};
 
 use ns_responses::Responses;
 use ns_types::{Fuse, ReadFault, read_all};
-use std::test::Fail;
+use std::alloc::{AllocError, Global};
 
 const PLAIN: &str = "HTTP/1.1 200 OK\r\nServer: a\r\nContent-Length: 2\r\n\r\nhi";
 
@@ -83,39 +83,47 @@ const UNLAWFUL: &[&str] = &[
     "2 x\r\nhi\r\n0\r\n\r\n",
 ];
 
-// All that is given of a response that comes in pieces of at most so many bytes.
-fn given(rt: &HostRuntime, response: &[u8], most: usize) -> Result<Option<Vec<u8>>, Fail>
+// Whether this is given of a response that comes in pieces of at most so many bytes.
+fn is_given(alloc: Global, response: &str, wanted: Option<&str>, most: usize) -> bool
     requires { 0 < most }
 {
-    let input = Vec::from_slice(rt.alloc(), response)?;
-    let mut responses = Responses::new(Fuse::new(rt.alloc(), input, most, None, None));
-    match read_all(rt.alloc(), &mut responses) {
-        Ok(bytes) => Ok(Some(bytes)),
-        Err(ReadFault::Io) => Ok(None),
-        Err(ReadFault::NoMemory) => Err("no memory".into()),
+    let Ok(input) = Vec::from_slice(alloc, response.as_bytes()) else {
+        return false;
+    };
+    let mut responses = Responses::new(Fuse::new(alloc, input, most, None, None));
+    match (read_all(alloc, &mut responses), wanted) {
+        (Ok(bytes), Some(text)) => bytes.as_slice() == text.as_bytes(),
+        (Err(ReadFault::Io), None) => true,
+        _ => false,
     }
 }
 
+// Whether this is given of a response in pieces of each size.
+fn is_given_in_pieces(alloc: Global, response: &str, wanted: Option<&str>) -> bool {
+    for less in 0..=response.len() {
+        if !is_given(alloc, response, wanted, less + 1) {
+            return false;
+        }
+    }
+    true
+}
+
+// Whether a response with this body in chunks is refused.
+fn is_refused(alloc: Global, body: &str) -> Result<bool, AllocError> {
+    let mut response = String::from_str(alloc, CHUNKED)?;
+    response.push_str(body)?;
+    Ok(is_given_in_pieces(alloc, response.as_str(), None))
+}
+
 #[test]
-fn responses_are_given_in_their_plain_form(rt: HostRuntime) -> Result<(), Fail> {
-    for (response, wanted) in RESPONSES {
-        for less in 0..=response.len() {
-            let given = given(&rt, response.as_bytes(), less + 1)?;
-            assert_eq!(rt;
-                given.as_deref(),
-                wanted.map(|text| text.as_bytes()),
-                "{response}"
-            );
-        }
+fn responses_are_given_in_their_plain_form(rt: HostRuntime) {
+    for &(response, wanted) in RESPONSES {
+        assert!(rt;
+            is_given_in_pieces(rt.alloc(), response, wanted),
+            "{response}"
+        );
     }
-    for body in UNLAWFUL {
-        let response = format!(in rt.alloc(); "{CHUNKED}{body}")?;
-        for less in 0..=response.len() {
-            assert!(rt;
-                given(&rt, response.as_bytes(), less + 1)?.is_none(),
-                "{body}"
-            );
-        }
+    for &body in UNLAWFUL {
+        assert!(rt; is_refused(rt.alloc(), body) == Ok(true), "{body}");
     }
-    Ok(())
 }

@@ -1,7 +1,7 @@
 //! The files of a record in a folder: who may read them, when they are brought to the disk, and what goes on where fewer steps take the
 //! place of others while lines are put, or cannot.
 
-use crate::failures::Told;
+use crate::failures::put;
 use log::sink::Discard;
 use ns_record_files::{
     FilesFault, LaterLines, Lengths, RecordFiles, RecordWriter, Recorder, ShorterSteps, read_again,
@@ -13,197 +13,321 @@ use std::os::fd::AsRawFd;
 use std::os::unix::fs::{PermissionsExt, symlink};
 use std::rt::Files;
 use std::sync::Wait;
-use std::test::*;
+use std::test::Fail;
 
-// A folder of a record, and fewer steps for it.
+// A record that goes on, and fewer steps for it.
 #[derive(Drop)]
-struct Folder<'a, R> {
-    rt: &'a R,
-    path: &'static str,
+struct Running {
     recorder: Recorder<RecordFiles>,
     shorter: ShorterSteps,
     later: LaterLines,
 }
 
-impl<'a, R: Wait + Files<File = File> + AllocGlobal> Folder<'a, R> {
-    // A folder with the steps a and b, of which a is to stay, and b is put behind the part that was read. Fewer steps that were there before
-    // were given up.
-    fn new(rt: &'a R, path: &'static str, sync: bool) -> Result<Folder<'a, R>, Fail> {
-        let alloc = rt.alloc();
-        let _ = fs::remove_dir_all(rt, path);
-        fs::create_dir(rt, path)?;
-        let files = RecordFiles::open(rt, &Discard, alloc, path, sync)?;
-        let recorder = Recorder::new(alloc, RecordWriter::new(files))?;
-        put(rt, &recorder, "a")?;
-        let Some(Lengths { steps: 2, ups: 5 }) = recorder.lengths(rt) else {
-            return Err(Fail::new("not the lengths of one line"));
-        };
-        let given_up = ShorterSteps::create(rt, &Discard, alloc, path)?;
-        given_up
-            .file()
-            .write_all(b"more bytes than those that take their place")?;
-        let shorter = ShorterSteps::create(rt, &Discard, alloc, path)?;
-        shorter.file().write_all(b"base\na\n")?;
-        let steps = read_again(rt, &Discard, alloc, path, "steps")?;
-        let later = LaterLines::new(alloc, steps, 2)?;
-        put(rt, &recorder, "b")?;
-        Ok(Folder {
-            rt,
-            path,
-            recorder,
-            shorter,
-            later,
+// What is done to a record.
+#[derive(Clone, Copy)]
+enum Deed {
+    // A line of steps is put with its `up` line, and written.
+    Put(&'static str, &'static str),
+    // The later lines follow the fewer steps.
+    Follow,
+    // The fewer steps take the place of the others.
+    Replace,
+    // They do not.
+    Keep,
+    // The server stops.
+    Rest,
+    // The fewer steps are taken away.
+    Remove,
+    // A folder has the name of the steps.
+    Hide,
+    // The steps have their name again.
+    Show,
+}
+
+// The folder of all runs, its steps, and their name while a folder has theirs.
+const PATH: &str = "test_parts_running";
+
+const STEPS: &str = "test_parts_running/steps";
+
+const ASIDE: &str = "test_parts_running/aside";
+
+const B: Deed = Deed::Put("b", "up b");
+
+const Z: Deed = Deed::Put("z", "up z");
+
+// What is done to a record whose step a is to stay, and the steps and `up` lines that it has then.
+const RUNS: &[(&[Deed], &str, &str)] = &[
+    // Lines that were put before, while and after the fewer steps are prepared follow them, each once.
+    (
+        &[
+            B,
+            Deed::Follow,
+            Deed::Put("c", "up c"),
+            Deed::Replace,
+            Deed::Put("d", "up d"),
+            Z,
+        ],
+        "base\na\nb\nc\nd\nz\n",
+        "up a\nup b\nup c\nup d\nup z\n",
+    ),
+    // Where the fewer steps are not there any more, or the server stops, it goes on with those that it has.
+    (
+        &[B, Deed::Remove, Deed::Keep, Z],
+        "a\nb\nz\n",
+        "up a\nup b\nup z\n",
+    ),
+    (
+        &[B, Deed::Rest, Deed::Keep, Z],
+        "a\nb\nz\n",
+        "up a\nup b\nup z\n",
+    ),
+    // Where the fewer steps cannot be given the name of the others, since a folder has it, they keep their own, and it goes on with those
+    // that it has.
+    (
+        &[B, Deed::Hide, Deed::Keep, Deed::Show, Z],
+        "a\nb\nz\n",
+        "up a\nup b\nup z\n",
+    ),
+];
+
+// The folder of a record.
+#[derive(Drop)]
+struct Folder<'a, R> {
+    rt: &'a R,
+    path: &'static str,
+}
+
+impl<R: Wait + Files<File = File> + AllocGlobal> Folder<'_, R> {
+    // Makes it without files, in the place of one that may be there.
+    fn is_made(&self) -> bool {
+        let _ = fs::remove_dir_all(self.rt, self.path);
+        fs::create_dir(self.rt, self.path).is_ok()
+    }
+
+    // Opens the files of the record.
+    fn opened(&self, sync: bool) -> Result<RecordFiles, FilesFault> {
+        RecordFiles::open(self.rt, &Discard, self.rt.alloc(), self.path, sync)
+    }
+
+    // Opens one of the files to be read.
+    fn read_again(&self, name: &str) -> Result<File, FilesFault> {
+        read_again(self.rt, &Discard, self.rt.alloc(), self.path, name)
+    }
+
+    // Whether a record with the step a alone has the lengths of its lines.
+    fn is_begun(&self, recorder: &Recorder<RecordFiles>) -> bool {
+        let is_put = put(self.rt, recorder, "a", Some("up a"));
+        let lengths = recorder.lengths(self.rt);
+        is_put && matches!(lengths, Some(Lengths { steps: 2, ups: 5 }))
+    }
+
+    // The record of the folder made anew, with the step a.
+    fn begun(&self, sync: bool) -> Option<Recorder<RecordFiles>> {
+        let writer = RecordWriter::new(self.opened(sync).ok()?);
+        let recorder = Recorder::new(self.rt.alloc(), writer).ok()?;
+        if self.is_begun(&recorder) {
+            Some(recorder)
+        } else {
+            None
+        }
+    }
+
+    // Fewer steps with these bytes.
+    fn shorter_of(&self, bytes: &[u8]) -> Option<ShorterSteps> {
+        let steps = ShorterSteps::create(self.rt, &Discard, self.rt.alloc(), self.path).ok()?;
+        steps.file().write_all(bytes).ok()?;
+        Some(steps)
+    }
+
+    // Fewer steps that have the step a, where others were given up before.
+    fn shorter(&self) -> Option<ShorterSteps> {
+        let _given_up = self.shorter_of(b"more bytes than those that take their place")?;
+        self.shorter_of(b"base\na\n")
+    }
+
+    // The lines behind the step a.
+    fn later(&self) -> Option<LaterLines> {
+        let steps = self.read_again("steps").ok()?;
+        LaterLines::new(self.rt.alloc(), steps, 2).ok()
+    }
+
+    // The record of the folder made anew, with the step a, and fewer steps, which have it too.
+    fn running(&self, sync: bool) -> Option<Running> {
+        if !self.is_made() {
+            return None;
+        }
+        Some(Running {
+            recorder: self.begun(sync)?,
+            shorter: self.shorter()?,
+            later: self.later()?,
         })
     }
 
-    // Puts a line of steps, and its `up` line.
-    fn put(&self, text: &str) -> Result<(), Fail> {
-        put(self.rt, &self.recorder, text)
-    }
-
-    // Lets the later lines follow the fewer steps.
-    fn follow(&mut self) -> Result<(), FilesFault> {
-        self.later.follow(&Discard, &self.shorter)
-    }
-
     // Puts the fewer steps in the place of the others.
-    fn replace(&mut self) -> Result<(), FilesFault> {
-        self.recorder
-            .replace(self.rt, &Discard, &self.shorter, &mut self.later)
+    fn is_replaced(&self, running: &mut Running) -> bool {
+        let (shorter, later) = (&running.shorter, &mut running.later);
+        let replaced = running.recorder.replace(self.rt, &Discard, shorter, later);
+        replaced.is_ok()
     }
 
-    // Whether its files have these bytes after one line more, for their owner alone, whoever opens them again.
-    fn ends_with(self, steps: &str, ups: &str) -> Result<bool, Fail> {
-        let Folder {
-            rt,
-            path,
+    // Whether this was done.
+    fn is_done(&self, running: &mut Running, deed: Deed) -> bool {
+        match deed {
+            Deed::Put(step, up) => return put(self.rt, &running.recorder, step, Some(up)),
+            Deed::Follow => return running.later.follow(&Discard, &running.shorter).is_ok(),
+            Deed::Replace => return self.is_replaced(running),
+            Deed::Keep => return !self.is_replaced(running),
+            Deed::Hide => return self.is_hidden(),
+            Deed::Show => return self.is_shown(),
+            Deed::Rest => running.recorder.rest(),
+            Deed::Remove => running.shorter.remove(self.rt),
+        }
+        true
+    }
+
+    // Gives the name of the steps to a folder.
+    fn is_hidden(&self) -> bool {
+        fs::rename(self.rt, STEPS, ASIDE).is_ok() && fs::create_dir(self.rt, STEPS).is_ok()
+    }
+
+    // Gives their name back to the steps.
+    fn is_shown(&self) -> bool {
+        fs::remove_dir(self.rt, STEPS).is_ok() && fs::rename(self.rt, ASIDE, STEPS).is_ok()
+    }
+
+    // Whether all of it was done, with nobody else able to open the files.
+    fn are_done(&self, running: &mut Running, deeds: &[Deed]) -> bool {
+        for &deed in deeds {
+            if !self.is_done(running, deed) {
+                return false;
+            }
+        }
+        matches!(self.opened(true), Err(FilesFault::InUse))
+    }
+
+    // The same of the record made anew, whose files are closed then.
+    fn are_done_anew(&self, deeds: &[Deed]) -> Option<bool> {
+        let mut running = self.running(true)?;
+        let are_done = self.are_done(&mut running, deeds);
+        let Running {
             recorder,
             shorter: _,
             later: _,
-        } = self;
-        put(rt, &recorder, "z")?;
-        let again = RecordFiles::open(rt, &Discard, rt.alloc(), path, true);
-        let is_locked = matches!(again, Err(FilesFault::InUse));
+        } = running;
         let _ = recorder.into_disk();
-        let are_steps = has(rt, path, "steps", steps)?;
-        let are_ups = has(rt, path, "up", ups)?;
-        let are_private = is_private(rt, path, "steps")? && is_private(rt, path, "up")?;
-        fs::remove_dir_all(rt, path)?;
-        Ok(is_locked && are_steps && are_ups && are_private)
+        Some(are_done)
     }
-}
 
-// Puts a line with its `up` line, and writes it.
-fn put<R: Wait + AllocGlobal>(
-    rt: &R,
-    recorder: &Recorder<RecordFiles>,
-    text: &str,
-) -> Result<(), Fail> {
-    let up = format!(in rt.alloc(); "up {text}")?;
-    recorder.put(rt, &Told::new(text, Some(up.as_str())));
-    match recorder.write(rt) {
-        Ok(()) => Ok(()),
-        Err(_) => Err(Fail::new("not written")),
+    // Whether a file has these bytes.
+    fn has(&self, name: &str, text: &str) -> Option<bool> {
+        let mut bytes = Vec::new(self.rt.alloc());
+        let mut file = self.read_again(name).ok()?;
+        file.read_to_end(&mut bytes).ok()?;
+        Some(bytes.as_slice() == text.as_bytes())
     }
-}
 
-// Whether a file of a folder has these bytes.
-fn has<R: Files<File = File> + AllocGlobal>(
-    rt: &R,
-    path: &str,
-    name: &str,
-    text: &str,
-) -> Result<bool, Fail> {
-    let mut bytes = Vec::new(rt.alloc());
-    read_again(rt, &Discard, rt.alloc(), path, name)?.read_to_end(&mut bytes)?;
-    Ok(bytes.as_slice() == text.as_bytes())
-}
+    // Whether the two files have these bytes.
+    fn has_both(&self, steps: &str, ups: &str) -> bool {
+        self.has("steps", steps) == Some(true) && self.has("up", ups) == Some(true)
+    }
 
-// Whether nobody but its owner may read or write a file of a folder.
-fn is_private<R: Files<File = File> + AllocGlobal>(
-    rt: &R,
-    path: &str,
-    name: &str,
-) -> Result<bool, Fail> {
-    let file = read_again(rt, &Discard, rt.alloc(), path, name)?;
-    Ok(file.metadata()?.permissions().mode() & 0o077 == 0)
-}
+    // Whether nobody but its owner may read or write a file.
+    fn is_private(&self, name: &str) -> Option<bool> {
+        let metadata = self.read_again(name).ok()?.metadata().ok()?;
+        Some(metadata.permissions().mode() & 0o077 == 0)
+    }
 
-/// Lines that were put before, while and after the fewer steps are prepared follow them, each once; their file has the lock, and is for its
-/// owner alone.
-#[test]
-fn later_lines_follow(rt: HostRuntime) -> Result<(), Fail> {
-    let mut folder = Folder::new(&rt, "test_parts_later", true)?;
-    folder.follow()?;
-    folder.put("c")?;
-    folder.replace()?;
-    folder.put("d")?;
-    let is_right = folder.ends_with("base\na\nb\nc\nd\nz\n", "up a\nup b\nup c\nup d\nup z\n")?;
-    assert!(rt; is_right);
-    Ok(())
-}
+    // Whether both are for their owner alone.
+    fn are_private(&self) -> bool {
+        self.is_private("steps") == Some(true) && self.is_private("up") == Some(true)
+    }
 
-/// Where the fewer steps are not there any more, or the server stops, it goes on with those that it has.
-#[test]
-fn what_cannot_be_replaced_goes_on(rt: HostRuntime) -> Result<(), Fail> {
-    for stops in [false, true] {
-        let mut folder = Folder::new(&rt, "test_parts_stays", true)?;
-        if stops {
-            folder.recorder.rest();
+    // Takes it away.
+    fn is_removed(&self) -> bool {
+        fs::remove_dir_all(self.rt, self.path).is_ok()
+    }
+
+    // Gives the name of the fewer steps to this file, and puts it in the place of the others.
+    fn is_replaced_by(&self, running: &mut Running, file: &str) -> bool {
+        running.shorter.remove(self.rt);
+        symlink(self.rt, file, "test_parts_sync/steps.new").is_ok()
+            && self.is_done(running, B)
+            && self.is_replaced(running)
+    }
+
+    // Whether a write fails once this file took the place of the steps. None where it could not.
+    fn fails_over(&self, file: &str, sync: bool) -> Option<bool> {
+        let mut running = self.running(sync)?;
+        if self.is_replaced_by(&mut running, file) {
+            Some(!put(self.rt, &running.recorder, "c", None))
         } else {
-            folder.shorter.remove(&rt);
+            None
         }
-        assert!(rt; folder.replace().is_err());
-        assert!(rt; folder.ends_with("a\nb\nz\n", "up a\nup b\nup z\n")?);
     }
-    Ok(())
+
+    // Whether it fails over this file, which takes bytes but cannot be brought to a disk, with `sync` alone.
+    fn is_brought_if_asked(&self, file: &str) -> bool {
+        self.fails_over(file, false) == Some(false)
+            && self.fails_over(file, true) == Some(true)
+            && self.is_removed()
+    }
+
+    // Whether all of it is done to the record made anew, and leaves these bytes in files for their owner alone.
+    fn leaves(&self, deeds: &[Deed], steps: &str, ups: &str) -> bool {
+        self.are_done_anew(deeds) == Some(true)
+            && self.has_both(steps, ups)
+            && self.are_private()
+            && self.is_removed()
+    }
+
+    // Makes it with files that end in zeros.
+    fn is_left_with_zeros(&self) -> bool {
+        self.is_made()
+            && fs::write(self.rt, "test_parts_zeros/steps", b"a\nb\0\0\0".as_slice()).is_ok()
+            && fs::write(self.rt, "test_parts_zeros/up", b"\0\0".as_slice()).is_ok()
+    }
+
+    // Whether the zeros are cut off.
+    fn is_without_zeros(&self) -> bool {
+        self.is_left_with_zeros()
+            && self.opened(true).is_ok()
+            && self.has_both("a\nb", "")
+            && self.is_removed()
+    }
 }
 
-/// Where the fewer steps cannot be given the name of the others, since a folder has it, they keep their own, and it goes on with those that
-/// it has.
+/// Fewer steps take the place of others, or these stay; the files have the lock, and are for their owner alone.
 #[test]
-fn what_cannot_be_renamed_goes_on(rt: HostRuntime) -> Result<(), Fail> {
-    let path = "test_parts_named";
-    let (steps, aside) = ("test_parts_named/steps", "test_parts_named/aside");
-    let mut folder = Folder::new(&rt, path, true)?;
-    fs::rename(&rt, steps, aside)?;
-    fs::create_dir(&rt, steps)?;
-    assert!(rt; folder.replace().is_err());
-    fs::remove_dir(&rt, steps)?;
-    fs::rename(&rt, aside, steps)?;
-    assert!(rt; folder.ends_with("a\nb\nz\n", "up a\nup b\nup z\n")?);
-    Ok(())
+fn lines_follow_the_steps_that_go_on(rt: HostRuntime) {
+    let folder = Folder {
+        rt: &rt,
+        path: PATH,
+    };
+    for &(deeds, steps, ups) in RUNS {
+        assert!(rt; folder.leaves(deeds, steps, ups));
+    }
 }
 
 /// With `sync`, and not without it, each write brings the steps to the disk, also once fewer took their place: these are a pipe here, which
 /// takes bytes but cannot be brought to a disk.
 #[test]
 fn steps_are_brought_to_the_disk_if_asked(rt: HostRuntime) -> Result<(), Fail> {
-    let path = "test_parts_sync";
     let (_reader, writer) = pipe(&rt)?;
     let end = format!(in rt.alloc(); "/proc/self/fd/{}", writer.as_raw_fd())?;
-    for sync in [false, true] {
-        let mut folder = Folder::new(&rt, path, sync)?;
-        folder.shorter.remove(&rt);
-        symlink(&rt, end.as_str(), "test_parts_sync/steps.new")?;
-        folder.replace()?;
-        folder.recorder.put(&rt, &Told::new("c", None));
-        assert!(rt; folder.recorder.write(&rt).is_err() == sync);
-    }
-    fs::remove_dir_all(&rt, path)?;
+    let folder = Folder {
+        rt: &rt,
+        path: "test_parts_sync",
+    };
+    assert!(rt; folder.is_brought_if_asked(end.as_str()));
     Ok(())
 }
 
 /// Zeros at the ends, which a crash of the machine may leave, are cut off.
 #[test]
-fn zeros_are_cut_off(rt: HostRuntime) -> Result<(), Fail> {
-    let (alloc, path) = (rt.alloc(), "test_parts_zeros");
-    let _ = fs::remove_dir_all(&rt, path);
-    fs::create_dir(&rt, path)?;
-    fs::write(&rt, "test_parts_zeros/steps", b"a\nb\0\0\0".as_slice())?;
-    fs::write(&rt, "test_parts_zeros/up", b"\0\0".as_slice())?;
-    assert!(rt; RecordFiles::open(&rt, &Discard, alloc, path, true).is_ok());
-    assert!(rt; has(&rt, path, "steps", "a\nb")? && has(&rt, path, "up", "")?);
-    fs::remove_dir_all(&rt, path)?;
-    Ok(())
+fn zeros_are_cut_off(rt: HostRuntime) {
+    let folder = Folder {
+        rt: &rt,
+        path: "test_parts_zeros",
+    };
+    assert!(rt; folder.is_without_zeros());
 }

@@ -5,7 +5,8 @@ use crate::keys::zero_keys;
 use ns_forwarder::{Clock, ForwarderFault, Outcome, read_message};
 use ns_forwarder_socket::{Event, Forwarders, Gateways, Pending, Route, Taken, outcome_name, take};
 use ns_types::{GatewayId, Target};
-use std::alloc::Global;
+use std::alloc::{AllocError, Global};
+use std::io;
 use std::net::{IpAddr, Ipv4Addr, SocketAddr, UdpSocket};
 use std::num::NonZeroUsize;
 use std::process::Abort;
@@ -54,7 +55,7 @@ fn pull(version: u8, gateway: u8) -> [u8; 12] {
 }
 
 // The push with items that are left out, and spaces behind it up to this length.
-fn spaced(alloc: Global, len: usize) -> Result<Vec<u8>, Fail> {
+fn spaced(alloc: Global, len: usize) -> Result<Vec<u8>, AllocError> {
     let mut bytes = Vec::new(alloc);
     bytes.extend_from_slice(LEFT_OUT)?;
     bytes.resize(len, b' ')?;
@@ -123,7 +124,7 @@ fn a_tx_ack_is_told(rt: HostRuntime) -> Result<(), Fail> {
 }
 
 // A socket of this machine, whose receives wait 5 s.
-fn local(rt: &HostRuntime) -> Result<UdpSocket, Fail> {
+fn local(rt: &HostRuntime) -> io::Result<UdpSocket> {
     let addr = SocketAddr::new(IpAddr::V4(Ipv4Addr::new(127, 0, 0, 1)), 0);
     let socket = UdpSocket::bind(rt, addr)?;
     socket.set_read_timeout(Some(Duration::from_secs(5)))?;
@@ -174,130 +175,156 @@ struct Exchange<'a, R> {
     gateway: &'a UdpSocket,
 }
 
-impl<R: Abort + Wait + time::Clock> Exchange<'_, R> {
-    // What comes next to the server is this, with these bytes at the front of the buffer.
-    fn is_next(&self, pending: &mut Pending, want: Event, datagram: &[u8]) -> Result<(), Fail> {
+impl<R: Wait + time::Clock> Exchange<'_, R> {
+    // Whether what comes next to the server is this, with these bytes at the front of the buffer.
+    fn is_next(&self, pending: &mut Pending, want: Event, datagram: &[u8]) -> bool {
         let mut buf = [0; 512];
-        let event = self
-            .forwarders
-            .next(self.rt, self.alloc, pending, &mut buf)?;
-        assert!(self.rt; event == want);
-        assert!(self.rt; buf.starts_with(datagram));
-        Ok(())
+        match self.forwarders.next(self.rt, self.alloc, pending, &mut buf) {
+            Ok(event) => event == want && buf.starts_with(datagram),
+            Err(_) => false,
+        }
     }
 
-    // A message comes from the gateway, and this is next.
-    fn is_taken(&self, pending: &mut Pending, message: &[u8], want: Event) -> Result<(), Fail> {
-        self.gateway.send_to(message, self.server)?;
-        self.is_next(pending, want, &[])
+    // Sends a message of the gateway.
+    fn is_sent(&self, message: &[u8]) -> bool {
+        self.gateway.send_to(message, self.server).is_ok()
     }
 
-    // The gateway is answered by this.
-    fn is_answered(&self, head: [u8; 4], body: &[u8]) -> Result<(), Fail> {
+    // Whether this comes of a message of the gateway.
+    fn is_taken(&self, pending: &mut Pending, message: &[u8], want: Event) -> bool {
+        self.is_sent(message) && self.is_next(pending, want, &[])
+    }
+
+    // Whether the gateway is answered by this.
+    fn is_answered(&self, head: [u8; 4], body: &[u8]) -> bool {
         let mut buf = [0; 512];
-        let n = self.gateway.recv(&mut buf)?;
-        assert!(self.rt; n == body.len().saturating_add(4));
-        assert!(self.rt; buf.starts_with(&head) && buf[4..].starts_with(body));
-        Ok(())
+        match self.gateway.recv(&mut buf) {
+            Ok(n) => {
+                n == body.len().saturating_add(4)
+                    && buf.starts_with(&head)
+                    && buf[4..].starts_with(body)
+            }
+            Err(_) => false,
+        }
     }
 
-    // The frames of a push become datagrams one after the other, and each push is acknowledged, also one of another body.
-    fn pushes_are_heard(&self, pending: &mut Pending) -> Result<(), Fail> {
-        self.gateway.send_to(PUSH, self.server)?;
-        self.is_next(pending, Event::Datagram(29), &FIRST)?;
-        self.is_answered([2, 7, 8, 1], &[])?;
-        self.is_next(pending, Event::Datagram(30), &SECOND)?;
-        self.is_taken(pending, OTHER, Event::Refused(ForwarderFault::Body))?;
+    // Whether a push of the gateway is acknowledged.
+    fn is_acknowledged(&self) -> bool {
         self.is_answered([2, 7, 8, 1], &[])
     }
 
-    // A push of 16,384 bytes is heard, by the clock of the one before it; a longer one is not, nor is it acknowledged: the next answer is
-    // that to the message after it.
-    fn longest_push_is_heard(&self, pending: &mut Pending) -> Result<(), Fail> {
+    // The frames of a push become datagrams one after the other, and each push is acknowledged, also one of another body.
+    fn pushes_are_heard(&self, pending: &mut Pending) -> bool {
+        self.is_sent(PUSH)
+            && self.is_next(pending, Event::Datagram(29), &FIRST)
+            && self.is_acknowledged()
+            && self.is_next(pending, Event::Datagram(30), &SECOND)
+            && self.is_taken(pending, OTHER, Event::Refused(ForwarderFault::Body))
+            && self.is_acknowledged()
+    }
+
+    // A push of 16,384 bytes is heard, by the clock of the one before it.
+    fn longest_push_is_heard(&self, pending: &mut Pending) -> Result<bool, AllocError> {
         let longest = spaced(self.alloc, 16_384)?;
-        self.gateway.send_to(longest.as_slice(), self.server)?;
-        self.is_next(pending, Event::Datagram(29), &THIRD)?;
-        self.is_answered([2, 7, 8, 1], &[])?;
+        Ok(
+            self.is_sent(longest.as_slice())
+                && self.is_next(pending, Event::Datagram(29), &THIRD)
+                && self.is_acknowledged(),
+        )
+    }
+
+    // A longer one is not heard, nor is it acknowledged: the next answer is that to the message after it.
+    fn longer_push_is_refused(&self, pending: &mut Pending) -> Result<bool, AllocError> {
         let longer = spaced(self.alloc, 16_385)?;
         let refused = Event::Refused(ForwarderFault::TooLong);
-        self.is_taken(pending, longer.as_slice(), refused)
+        Ok(self.is_taken(pending, longer.as_slice(), refused))
     }
 
-    // A pull is acknowledged, and downlinks have a route from then on.
-    fn pull_is_heard(&self, pending: &mut Pending, version: u8, gateway: u8) -> Result<(), Fail> {
+    // A pull is acknowledged, and downlinks had no route before.
+    fn pull_is_heard(&self, pending: &mut Pending, version: u8, gateway: u8) -> bool {
         let number = GatewayId(u64::from(gateway));
-        assert!(self.rt; self.forwarders.route(self.rt, number).is_none());
-        self.is_taken(pending, &pull(version, gateway), Event::Message)?;
-        self.is_answered([version, 7, 8, 4], &[])
-    }
-
-    // Where downlinks for a gateway go.
-    fn route(&self, gateway: u64) -> Result<Route, Fail> {
-        let route = self.forwarders.route(self.rt, GatewayId(gateway));
-        Ok(route.ok_or("no route")?)
+        self.forwarders.route(self.rt, number).is_none()
+            && self.is_taken(pending, &pull(version, gateway), Event::Message)
+            && self.is_answered([version, 7, 8, 4], &[])
     }
 
     // A downlink reaches the gateway, with this head.
-    fn downlink_is_sent(&self, gateway: u64, head: [u8; 4]) -> Result<(), Fail> {
-        let route = self.route(gateway)?;
-        assert!(self.rt; self.forwarders.send(self.alloc, route, &TARGET, &[1]));
-        self.is_answered(head, DOWNLINK)
+    fn downlink_is_sent(&self, gateway: u64, head: [u8; 4]) -> bool {
+        match self.forwarders.route(self.rt, GatewayId(gateway)) {
+            Some(route) => {
+                self.forwarders.send(self.alloc, route, &TARGET, &[1])
+                    && self.is_answered(head, DOWNLINK)
+            }
+            None => false,
+        }
     }
 
     // No downlink is sent outside the band, or to port 0, which the system refuses.
-    fn others_are_not_sent(&self) -> Result<(), Fail> {
-        let (route, outside) = (self.route(9)?, Target { freq: 1, ..TARGET });
-        assert!(self.rt; !self.forwarders.send(self.alloc, route, &outside, &[1]));
+    fn others_are_not_sent(&self) -> bool {
+        let Some(route) = self.forwarders.route(self.rt, GatewayId(9)) else {
+            return false;
+        };
+        let outside = Target { freq: 1, ..TARGET };
         let nowhere = Route {
             addr: SocketAddr::new(self.server.ip(), 0),
             version: 2,
         };
-        assert!(self.rt; !self.forwarders.send(self.alloc, nowhere, &TARGET, &[1]));
-        Ok(())
+        !self.forwarders.send(self.alloc, route, &outside, &[1])
+            && !self.forwarders.send(self.alloc, nowhere, &TARGET, &[1])
     }
 
     // Each downlink has the next token, or none by version 1.
-    fn downlinks_are_sent(&self, pending: &mut Pending) -> Result<(), Fail> {
-        self.pull_is_heard(pending, 2, 9)?;
-        self.downlink_is_sent(9, [2, 0, 0, 3])?;
-        self.downlink_is_sent(9, [2, 0, 1, 3])?;
-        self.pull_is_heard(pending, 1, 10)?;
-        self.downlink_is_sent(10, [1, 0, 0, 3])?;
-        self.others_are_not_sent()
+    fn downlinks_are_sent(&self, pending: &mut Pending) -> bool {
+        self.pull_is_heard(pending, 2, 9)
+            && self.downlink_is_sent(9, [2, 0, 0, 3])
+            && self.downlink_is_sent(9, [2, 0, 1, 3])
+            && self.pull_is_heard(pending, 1, 10)
+            && self.downlink_is_sent(10, [1, 0, 0, 3])
+            && self.others_are_not_sent()
     }
 
     // Gateway 9 tells this of a downlink.
-    fn is_told(&self, pending: &mut Pending, word: &str, want: Outcome) -> Result<(), Fail> {
-        let message = format!(in self.alloc;
+    fn is_told(&self, pending: &mut Pending, word: &str, want: Outcome) -> bool {
+        match format!(in self.alloc;
             "\x02\x07\x08\x05\0\0\0\0\0\0\0\x09{{\"txpk_ack\":{{\"error\":\"{word}\"}}}}"
-        )?;
-        self.is_taken(pending, message.as_bytes(), Event::Told(GatewayId(9), want))
+        ) {
+            Ok(message) => {
+                self.is_taken(pending, message.as_bytes(), Event::Told(GatewayId(9), want))
+            }
+            Err(_) => false,
+        }
     }
 
     // It tells the first outcome once, the second twice, and so on.
-    fn outcomes_are_told(&self, pending: &mut Pending) -> Result<(), Fail> {
+    fn outcomes_are_told(&self, pending: &mut Pending) -> bool {
         for (place, &(outcome, word, _)) in TOLD.iter().enumerate() {
             for _ in 0..=place {
-                self.is_told(pending, word, outcome)?;
+                if !self.is_told(pending, word, outcome) {
+                    return false;
+                }
             }
         }
-        Ok(())
+        true
     }
 
     // The counts of the whole exchange.
-    fn is_counted(&self) -> Result<(), Fail> {
-        let counts = format!(in self.alloc; "{}", self.forwarders.counts())?;
-        assert!(self.rt; counts.as_str() == COUNTS);
-        Ok(())
+    fn is_counted(&self) -> bool {
+        match format!(in self.alloc; "{}", self.forwarders.counts()) {
+            Ok(counts) => counts.as_str() == COUNTS,
+            Err(_) => false,
+        }
     }
 
     // All of it, one after the other.
-    fn is_held(&self, pending: &mut Pending) -> Result<(), Fail> {
-        self.pushes_are_heard(pending)?;
-        self.longest_push_is_heard(pending)?;
-        self.downlinks_are_sent(pending)?;
-        self.outcomes_are_told(pending)?;
-        self.is_counted()
+    fn is_held(&self, pending: &mut Pending) -> Result<bool, AllocError> {
+        Ok(
+            self.pushes_are_heard(pending)
+                && self.longest_push_is_heard(pending)?
+                && self.longer_push_is_refused(pending)?
+                && self.downlinks_are_sent(pending)
+                && self.outcomes_are_told(pending)
+                && self.is_counted(),
+        )
     }
 }
 
@@ -309,17 +336,29 @@ fn outcomes_have_names(rt: HostRuntime) {
     }
 }
 
+// All of it, between a gateway and the forwarders of the server.
+fn is_held<R: Wait + time::Clock>(
+    rt: &R,
+    alloc: Global,
+    gateway: &UdpSocket,
+    forwarders: &Forwarders,
+    server: SocketAddr,
+) -> Result<bool, AllocError> {
+    let exchange = Exchange {
+        rt,
+        alloc,
+        forwarders,
+        server,
+        gateway,
+    };
+    let mut pending = Pending::new(alloc)?;
+    exchange.is_held(&mut pending)
+}
+
 #[test]
 fn a_forwarder_is_heard_and_answered(rt: HostRuntime) -> Result<(), Fail> {
     let gateway = local(&rt)?;
     let (forwarders, server) = server(&rt)?;
-    let exchange = Exchange {
-        rt: &rt,
-        alloc: rt.alloc(),
-        forwarders: &forwarders,
-        server,
-        gateway: &gateway,
-    };
-    let mut pending = Pending::new(rt.alloc())?;
-    exchange.is_held(&mut pending)
+    assert!(rt; is_held(&rt, rt.alloc(), &gateway, &forwarders, server) == Ok(true));
+    Ok(())
 }

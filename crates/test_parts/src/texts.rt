@@ -5,90 +5,106 @@ use ns_status::{
     put_front, put_gateways, put_metrics,
 };
 use ns_types::{DevAddr, DevEui, GatewayId};
-use std::test::Fail;
+use std::alloc::{AllocError, Global};
 
-#[test]
-fn lists(rt: HostRuntime) -> Result<(), Fail> {
-    let alloc = rt.alloc();
-    let silent = Device {
-        session: 1,
-        addr: DevAddr(0x49be_7df1),
-        since_ms: 1500,
-        counters: 0,
-        fcnt: None,
-        heard: None,
-    };
-    let heard = Device {
-        session: 2,
-        counters: 3,
-        fcnt: Some(9),
-        heard: Some(HeardBy {
-            at_ms: 60_000,
-            gateway: GatewayId(0xa1),
-        }),
-        ..silent
-    };
+// A device of which nothing was heard, and one that was heard since.
+const SILENT: Device = Device {
+    session: 1,
+    addr: DevAddr(0x49be_7df1),
+    since_ms: 1500,
+    counters: 0,
+    fcnt: None,
+    heard: None,
+};
+
+const HEARD: Device = Device {
+    session: 2,
+    addr: DevAddr(0x49be_7df1),
+    since_ms: 1500,
+    counters: 3,
+    fcnt: Some(9),
+    heard: Some(HeardBy {
+        at_ms: 60_000,
+        gateway: GatewayId(0xa1),
+    }),
+};
+
+// The text of a list of both.
+fn devices(alloc: Global) -> Result<String, AllocError> {
     let mut text = String::new(alloc);
     put_front(&mut text, "devices", 61_000, 1_764_017_000_123)?;
-    put_devices(alloc, &mut text, true, &[(DevEui(13), silent)])?;
-    put_devices(alloc, &mut text, false, &[(DevEui(14), heard)])?;
+    put_devices(alloc, &mut text, true, &[(DevEui(13), SILENT)])?;
+    put_devices(alloc, &mut text, false, &[(DevEui(14), HEARD)])?;
     put_end(&mut text)?;
+    Ok(text)
+}
+
+const DEVICES: &str =
+    "{\"nowMs\":61000,\"startMs\":1764017000123,\"devices\":[\n{\"devAddr\":\"49be7df1\",\"devEui\":\"000000000000000d\",\"fCnt\":null,\"gatewayId\":null,\"heardMs\":null,\"missed\":0,\"session\":1,\"sinceMs\":1500},\n{\"devAddr\":\"49be7df1\",\"devEui\":\"000000000000000e\",\"fCnt\":9,\"gatewayId\":\"00000000000000a1\",\"heardMs\":60000,\"missed\":7,\"session\":2,\"sinceMs\":1500}\n]}\n";
+
+const GATEWAY: Gateway = Gateway {
+    frames: 5,
+    at_ms: 60_000,
+};
+
+// The text of a row of a gateway.
+fn gateways(alloc: Global) -> Result<String, AllocError> {
+    let mut text = String::new(alloc);
+    put_gateways(alloc, &mut text, true, &[(GatewayId(0xa1), GATEWAY)])?;
+    Ok(text)
+}
+
+#[test]
+fn lists(rt: HostRuntime) -> Result<(), AllocError> {
+    assert!(rt; devices(rt.alloc())?.as_str() == DEVICES);
     assert!(rt;
-        text.as_str()
-            == "{\"nowMs\":61000,\"startMs\":1764017000123,\"devices\":[\n{\"devAddr\":\"49be7df1\",\"devEui\":\"000000000000000d\",\"fCnt\":null,\"gatewayId\":null,\"heardMs\":null,\"missed\":0,\"session\":1,\"sinceMs\":1500},\n{\"devAddr\":\"49be7df1\",\"devEui\":\"000000000000000e\",\"fCnt\":9,\"gatewayId\":\"00000000000000a1\",\"heardMs\":60000,\"missed\":7,\"session\":2,\"sinceMs\":1500}\n]}\n"
-    );
-    let gateway = Gateway {
-        frames: 5,
-        at_ms: 60_000,
-    };
-    text.clear();
-    put_gateways(alloc, &mut text, true, &[(GatewayId(0xa1), gateway)])?;
-    assert!(rt;
-        text.as_str() == "\n{\"frames\":5,\"gatewayId\":\"00000000000000a1\",\"heardMs\":60000}"
+        gateways(rt.alloc())?.as_str()
+            == "\n{\"frames\":5,\"gatewayId\":\"00000000000000a1\",\"heardMs\":60000}"
     );
     Ok(())
 }
 
+const TOTALS: Totals = Totals {
+    start_seconds: 1_764_017_000,
+    read: 1,
+    dropped: 2,
+    late: 3,
+    unreceived: 4,
+    unanswered: 5,
+    stale: 6,
+    unsent: 7,
+    windows: 8,
+    tickets: 9,
+    devices: 10,
+    sessions: 11,
+    gateways: 12,
+};
+
+const LISTS: Lists<'static> = Lists {
+    refusals: &[("G1", 13)],
+    replies: &[("opened", 14), ("copied", 15)],
+    entries: &[16, 17],
+};
+
+const START: &str =
+    "# HELP lorawan_ns_start_time_seconds When the server began, since 1970.\n# TYPE lorawan_ns_start_time_seconds gauge\nlorawan_ns_start_time_seconds 1764017000\n";
+
+const REPLIES: &str =
+    "\n# TYPE lorawan_ns_replies_total counter\nlorawan_ns_replies_total{reply=\"opened\"} 14\nlorawan_ns_replies_total{reply=\"copied\"} 15\n# HELP";
+
+const ENTRIES: &str =
+    "\nlorawan_ns_entries_total{shard=\"0\"} 16\nlorawan_ns_entries_total{shard=\"1\"} 17\n";
+
+// Whether the text of metrics has these parts.
+fn has_parts(text: &str) -> bool {
+    text.starts_with(START) && text.contains(REPLIES) && text.ends_with(ENTRIES)
+}
+
 #[test]
-fn metrics(rt: HostRuntime) -> Result<(), Fail> {
-    let totals = Totals {
-        start_seconds: 1_764_017_000,
-        read: 1,
-        dropped: 2,
-        late: 3,
-        unreceived: 4,
-        unanswered: 5,
-        stale: 6,
-        unsent: 7,
-        windows: 8,
-        tickets: 9,
-        devices: 10,
-        sessions: 11,
-        gateways: 12,
-    };
-    let lists = Lists {
-        refusals: &[("G1", 13)],
-        replies: &[("opened", 14), ("copied", 15)],
-        entries: &[16, 17],
-    };
+fn metrics(rt: HostRuntime) -> Result<(), AllocError> {
     let mut text = String::new(rt.alloc());
-    put_metrics(&mut text, &totals, lists)?;
-    let text = text.as_str();
-    assert!(rt;
-        text.starts_with(
-            "# HELP lorawan_ns_start_time_seconds When the server began, since 1970.\n# TYPE lorawan_ns_start_time_seconds gauge\nlorawan_ns_start_time_seconds 1764017000\n"
-        )
-    );
-    assert!(rt;
-        text.contains(
-            "\n# TYPE lorawan_ns_replies_total counter\nlorawan_ns_replies_total{reply=\"opened\"} 14\nlorawan_ns_replies_total{reply=\"copied\"} 15\n# HELP"
-        )
-    );
-    assert!(rt;
-        text.ends_with(
-            "\nlorawan_ns_entries_total{shard=\"0\"} 16\nlorawan_ns_entries_total{shard=\"1\"} 17\n"
-        )
-    );
+    put_metrics(&mut text, &TOTALS, LISTS)?;
+    assert!(rt; has_parts(text.as_str()));
     Ok(())
 }
 
