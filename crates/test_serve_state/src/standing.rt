@@ -36,6 +36,11 @@ impl<'a, R: Wait> Standing<'a, R> {
         })
     }
 
+    /// The runtime that it stands over.
+    pub fn host(&self) -> &'a R {
+        self.rt
+    }
+
     /// The clock stands at so long after it stood first, in milliseconds.
     pub fn stand_at(&self, ms: u64) {
         self.ms.store(ms.saturating_add(1000), Ordering::SeqCst);

@@ -11,7 +11,6 @@ use ns_types::{GatewayId, Target, Ticket};
 use std::alloc::{AllocError, Global};
 use std::net::{SocketAddr, UdpSocket};
 use std::sync::Wait;
-use std::test::Fail;
 use std::time::Clock;
 
 /// A Join-Request of the device 13.
@@ -28,11 +27,9 @@ pub fn local(port: u16) -> SocketAddr {
 }
 
 /// Options with neither an address for gateways nor one for forwarders, a window of 2 s, and a stop after 1,000 datagrams.
-pub fn options() -> Result<ServeOptions<'static>, Fail> {
-    let Some(host) = HostName::new("js.local") else {
-        return Err(Fail::from("no host name"));
-    };
-    Ok(ServeOptions {
+pub fn options() -> Option<ServeOptions<'static>> {
+    let host = HostName::new("js.local")?;
+    Some(ServeOptions {
         join: local(17092),
         host,
         listen: None,
@@ -69,30 +66,21 @@ fn roster_text(alloc: Global) -> Result<String, AllocError> {
 }
 
 /// The roster.
-pub fn roster(alloc: Global) -> Result<Roster, Fail> {
-    Ok(Roster::read(alloc, roster_text(alloc)?.as_str().as_bytes())?)
+pub fn roster(alloc: Global) -> Option<Roster> {
+    let text = roster_text(alloc).ok()?;
+    Roster::read(alloc, text.as_str().as_bytes()).ok()
 }
 
 /// A state without a record, with this socket of its own and this status.
 pub fn state_with<R: Wait + Clock>(
     rt: &Standing<'_, R>,
     alloc: Global,
-    own: Option<UdpSocket>,
+    own: Option<(UdpSocket, SocketAddr)>,
     status: Option<Status>,
-) -> Result<State, Fail> {
+) -> Option<State> {
+    let options = options()?;
     let roster = roster(alloc)?;
-    let own = own.map(|socket| (socket, local(0)));
-    Ok(State::new(
-        rt,
-        alloc,
-        own,
-        None,
-        &roster,
-        &options()?,
-        &[],
-        None,
-        status,
-    )?)
+    State::new(rt, alloc, own, None, &roster, &options, &[], None, status).ok()
 }
 
 /// A downlink of the gateway 161 with this frame.
