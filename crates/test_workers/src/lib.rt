@@ -8,6 +8,8 @@
 #[cfg(test)]
 mod around;
 #[cfg(test)]
+mod beside;
+#[cfg(test)]
 mod frames;
 #[cfg(test)]
 mod runs;
@@ -15,7 +17,5 @@ mod runs;
 mod served;
 #[cfg(test)]
 mod tests;
-#[cfg(test)]
-mod threads_tests;
 #[cfg(test)]
 mod told;

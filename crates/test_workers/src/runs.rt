@@ -1,13 +1,14 @@
 //! Runs of workers, and the text that tells all that came of them.
 
 use crate::around::{Around, Asked, Faults, NONE, Put, Scarce, Sent};
+use crate::beside::Until;
 use crate::frames::heard;
 use crate::told::{fault_number, tell, tell_jobs, tell_out, tell_window};
 use ns_calls::Call;
 use ns_events::Output;
 use ns_joinclient::HostName;
 use ns_roster::Roster;
-use ns_server::{Gate, Naming, Open, Pass, Server};
+use ns_server::{Naming, Pass, Server};
 use ns_types::{BLOCKS, DevEui, Fuse, Ticket, WindowName, take_rest};
 use ns_workers::{
     AskJob, CloseJob, Ended, Joined, ListedDatagrams, ListedJobs, Served, Shared, run_closer,
@@ -15,6 +16,7 @@ use ns_workers::{
 };
 use std::alloc::Global;
 use std::sync::Wait;
+use std::time::Clock;
 
 /// What a gateway worker reads.
 #[derive(Clone, Copy)]
@@ -69,6 +71,7 @@ pub struct Bench<'a, B: Naming, R> {
     pub rt: &'a R,
     pub alloc: Global,
     pub server: &'a Server<B>,
+    pub gate: &'a Until,
     pub known: &'a Roster,
 }
 
@@ -102,8 +105,8 @@ fn datagrams(alloc: Global, list: &[Reads]) -> Option<Vec<Vec<u8>>> {
     Some(all)
 }
 
-/// The jobs that close windows.
-pub fn closings(alloc: Global, windows: &[Due]) -> Option<Vec<CloseJob>> {
+// The jobs that close windows.
+fn closings(alloc: Global, windows: &[Due]) -> Option<Vec<CloseJob>> {
     let mut jobs = Vec::new(alloc);
     for &(eui, fcnt, due, times) in windows {
         let name = WindowName {
@@ -120,9 +123,9 @@ pub fn closings(alloc: Global, windows: &[Due]) -> Option<Vec<CloseJob>> {
 }
 
 // Runs a gateway worker.
-fn serve<B: Naming, R: Wait>(
+fn serve<B: Naming, R: Wait + Clock>(
     alloc: Global,
-    shared: &Shared<'_, B, R, Open, Around>,
+    shared: &Shared<'_, B, R, Until, Around>,
     pass: &mut Pass<B>,
     log: &mut String,
     down: &mut Sent,
@@ -177,9 +180,9 @@ fn askings(alloc: Global, asks: &[Asked]) -> Option<Vec<AskJob>> {
 }
 
 // Runs a join worker.
-fn answer<B: Naming, R: Wait>(
+fn answer<B: Naming, R: Wait + Clock>(
     alloc: Global,
-    shared: &Shared<'_, B, R, Open, Around>,
+    shared: &Shared<'_, B, R, Until, Around>,
     pass: &mut Pass<B>,
     known: &Roster,
     log: &mut String,
@@ -205,16 +208,16 @@ fn tell_joined(log: &mut String, joined: Joined, down: &Sent, around: &Around) -
     tell_out(log, &[], down, around, 0)
 }
 
-/// Runs a closer. Its first three receipts are told by their calls. How many it has.
-pub fn close<B: Naming, R: Wait, G: Gate<R>>(
+// Runs a closer. Its first three receipts are told by their calls.
+fn close<B: Naming, R: Wait + Clock>(
     alloc: Global,
-    shared: &Shared<'_, B, R, G, Around>,
+    shared: &Shared<'_, B, R, Until, Around>,
     pass: &mut Pass<B>,
     log: &mut String,
     jobs: &mut Scarce<ListedJobs<CloseJob>>,
     limit: u32,
     writes: Option<u64>,
-) -> Option<usize> {
+) -> Option<()> {
     let around = shared.monitor;
     let most = if writes.is_some() { 2000 } else { 7 };
     let mut down = Sent::new(alloc, true)?;
@@ -226,28 +229,27 @@ pub fn close<B: Naming, R: Wait, G: Gate<R>>(
     tell_closed(log, &ended, &sink, &down, around)
 }
 
-// Tells the first three receipts of a closer, how it ended, and what went out. How many receipts it has.
+// Tells the first three receipts of a closer, how it ended, and what went out.
 fn tell_closed(
     log: &mut String,
     ended: &Ended,
     sink: &Fuse,
     down: &Sent,
     around: &Around,
-) -> Option<usize> {
+) -> Option<()> {
     for receipt in ended.receipts.iter().take(3) {
         if let Call::Close { window } = &receipt.entry.call {
             tell_window(log, "close", window, 0)?;
         }
     }
     tell(log, "ended", &[fault_number(ended.fault)])?;
-    tell_out(log, sink.written(), down, around, 7)?;
-    Some(ended.receipts.len())
+    tell_out(log, sink.written(), down, around, 7)
 }
 
 // Runs closers over one source.
-fn close_all<B: Naming, R: Wait>(
+fn close_all<B: Naming, R: Wait + Clock>(
     alloc: Global,
-    shared: &Shared<'_, B, R, Open, Around>,
+    shared: &Shared<'_, B, R, Until, Around>,
     pass: &mut Pass<B>,
     log: &mut String,
     windows: &[Due],
@@ -263,7 +265,7 @@ fn close_all<B: Naming, R: Wait>(
 }
 
 // Runs a worker from a time on. How many downlinks a gateway worker or a join worker sent.
-fn run_one<B: Naming, R: Wait>(
+fn run_one<B: Naming, R: Wait + Clock>(
     bench: &Bench<'_, B, R>,
     pass: &mut Pass<B>,
     log: &mut String,
@@ -280,7 +282,7 @@ fn run_one<B: Naming, R: Wait>(
         output: Output::Lines,
         rt: bench.rt,
         server: bench.server,
-        gate: &Open,
+        gate: bench.gate,
         monitor: &around,
     };
     let ran = match work {
@@ -299,7 +301,7 @@ fn take_most(alloc: Global, held: &mut Vec<Vec<u8>>) -> Option<()> {
 }
 
 // Has a ticket answered until it is accepted, which takes more than one block of memory.
-fn until_accepted<B: Naming, R: Wait>(
+fn until_accepted<B: Naming, R: Wait + Clock>(
     bench: &Bench<'_, B, R>,
     pass: &mut Pass<B>,
     log: &mut String,
@@ -317,7 +319,7 @@ fn until_accepted<B: Naming, R: Wait>(
 }
 
 // Has a ticket answered once, with so many blocks of memory. Whether it is accepted; None where the calls are not two.
-fn is_accepted<B: Naming, R: Wait>(
+fn is_accepted<B: Naming, R: Wait + Clock>(
     bench: &Bench<'_, B, R>,
     pass: &mut Pass<B>,
     log: &mut String,
@@ -342,7 +344,7 @@ fn is_accepted<B: Naming, R: Wait>(
 }
 
 /// Runs workers in order.
-pub fn run_all<B: Naming, R: Wait>(
+pub fn run_all<B: Naming, R: Wait + Clock>(
     bench: &Bench<'_, B, R>,
     pass: &mut Pass<B>,
     log: &mut String,

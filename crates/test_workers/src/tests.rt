@@ -17,8 +17,11 @@ use ns_calls::Reply;
 use ns_types::{DevEui, Ticket, WindowName, use_stack};
 use ns_workers::{AskJob, CloseJob, Job, MOST_AGE_MS, job_of};
 use std::alloc::Global;
+use std::process::Abort;
 use std::sync::Wait;
 use std::test::*;
+use std::thread::Threads;
+use std::time::Clock;
 
 // The second device, whose DevEUI is over 2^32.
 const SECOND: u64 = 0x1_0000_000e;
@@ -501,10 +504,33 @@ const WITHOUT_MEMORY: &[Case] = &[
     EACH_GROWTH_OF_A_JOIN_REFUSED,
 ];
 
-// What the first case tells that tells otherwise than it should.
-fn other_text<R: Wait>(rt: &R, alloc: Global, cases: &[Case]) -> Option<String> {
+// The first closer, held on shard 0, has ended after the one on shard 13.
+const ONE_SHARD_HOLDS_UP_NO_OTHER: Case = (
+    &[
+        At(0, Close(&[(16, 0, 0, 1)], &[4]), NONE),
+        At(0, Close(&[(13, 0, 0, 1)], &[4]), NONE),
+    ],
+    "\
+close 16 1 0 1 0
+ended 0
+told 0 0 0 0 0 0 0 0 0 0
+close 13 1 0 1 0
+ended 0
+told 0 0 0 0 0 0 0 0 0 0
+late 0
+",
+    "",
+);
+
+// What the first case tells that tells otherwise than it should, on a server of so many workers.
+fn other_text<R: Threads + Wait + Clock + Sync>(
+    rt: &R,
+    alloc: Global,
+    workers: usize,
+    cases: &[Case],
+) -> Option<String> {
     for &(runs, front, back) in cases {
-        let text = told(rt, alloc, runs);
+        let text = told(rt, alloc, workers, runs);
         if text.as_str().strip_prefix(front) != Some(back) {
             return Some(text);
         }
@@ -512,33 +538,46 @@ fn other_text<R: Wait>(rt: &R, alloc: Global, cases: &[Case]) -> Option<String> 
     None
 }
 
+// Each case tells what it should.
+fn tell_so<R: Abort + Threads + Wait + Clock + Sync>(
+    rt: &R,
+    alloc: Global,
+    workers: usize,
+    cases: &[Case],
+) {
+    let other = other_text(rt, alloc, workers, cases);
+    assert!(rt; other.is_none(), "{other:?}");
+}
+
 /// What gateway workers do, by the cases above.
 #[test]
 fn runs_of_gateway_workers(rt: HostRuntime) {
-    let other = other_text(&rt, rt.alloc(), OF_GATEWAY_WORKERS);
-    assert!(rt; other.is_none(), "{other:?}");
+    tell_so(&rt, rt.alloc(), 1, OF_GATEWAY_WORKERS);
 }
 
 /// What join workers do, by the cases above.
 #[test]
 fn runs_of_join_workers(rt: HostRuntime) {
-    let other = other_text(&rt, rt.alloc(), OF_JOIN_WORKERS);
-    assert!(rt; other.is_none(), "{other:?}");
+    tell_so(&rt, rt.alloc(), 1, OF_JOIN_WORKERS);
 }
 
 /// What closers do, by the cases above.
 #[test]
 fn runs_of_closers(rt: HostRuntime) {
-    let other = other_text(&rt, rt.alloc(), OF_CLOSERS);
-    assert!(rt; other.is_none(), "{other:?}");
+    tell_so(&rt, rt.alloc(), 1, OF_CLOSERS);
 }
 
 /// What workers do without memory, by the cases above.
 #[test]
 fn runs_without_memory(rt: HostRuntime) {
     assert!(rt; use_stack());
-    let other = other_text(&rt, rt.alloc(), WITHOUT_MEMORY);
-    assert!(rt; other.is_none(), "{other:?}");
+    tell_so(&rt, rt.alloc(), 1, WITHOUT_MEMORY);
+}
+
+/// A closer that is held at its gate on shard 0 holds up none on shard 13.
+#[test]
+fn closers_on_two_shards(rt: HostRuntime) {
+    tell_so(&rt, rt.alloc(), 2, &[ONE_SHARD_HOLDS_UP_NO_OTHER]);
 }
 
 /// The job of a reply: a window's after the time of its copies, a ticket's after at most a second, whatever the name and the time.

@@ -1,0 +1,92 @@
+//! Workers on two threads, of which one is held at its gate.
+
+use crate::runs::{Bench, Run, run_all};
+use crate::told::tell;
+use ns_server::{Gate, Naming, Pass};
+use std::sync::Wait;
+use std::sync::atomic::{AtomicU64, Ordering};
+use std::thread;
+use std::thread::Threads;
+use std::time::{Clock, Duration};
+
+/// Holds a call at its gate until the flag is up, for ten seconds at most.
+#[derive(Drop)]
+pub struct Until {
+    flag: AtomicU64,
+    late: AtomicU64,
+}
+
+impl Until {
+    /// A gate whose flag is up where this is 1.
+    pub fn new(flag: u64) -> Until {
+        Until {
+            flag: AtomicU64::new(flag),
+            late: AtomicU64::new(0),
+        }
+    }
+}
+
+impl<R: Clock> Gate<R> for Until {
+    fn visit(&self, rt: &R, _shard: u8, _number: u64) {
+        for _ in 0..10_000 {
+            if self.flag.load(Ordering::SeqCst) == 1 {
+                return;
+            }
+            let _ = thread::sleep(rt, Duration::from_millis(1));
+        }
+        self.late.store(1, Ordering::SeqCst);
+    }
+}
+
+// Tells what another thread told, and whether a call was held at a gate too long.
+fn tell_other(log: &mut String, other: &str, gate: &Until) -> Option<()> {
+    log.push_str(other).ok()?;
+    tell(log, "late", &[gate.late.load(Ordering::SeqCst)])
+}
+
+/// The first run is held at its gate until the others, on another thread, have ended. Tells what the first tells, what the others do, and
+/// whether the first was held too long.
+pub fn run_beside<B: Naming + Send + Sync, R: Threads + Wait + Clock + Sync>(
+    bench: &Bench<'_, B, R>,
+    one: &mut Pass<B>,
+    two: &mut Pass<B>,
+    log: &mut String,
+    runs: &[Run],
+) -> Option<()> {
+    let (first, others) = runs.split_at_checked(1)?;
+    let gate = Until::new(0);
+    let held = Bench {
+        rt: bench.rt,
+        alloc: bench.alloc,
+        server: bench.server,
+        gate: &gate,
+        known: bench.known,
+    };
+    let mut other = String::new(bench.alloc);
+    let ran = run_both(&held, bench, one, two, log, &mut other, first, others);
+    let told = tell_other(log, other.as_str(), &gate);
+    ran.and(told)
+}
+
+// The first runs are held until the others have ended.
+fn run_both<B: Naming + Send + Sync, R: Threads + Wait + Clock + Sync>(
+    held: &Bench<'_, B, R>,
+    free: &Bench<'_, B, R>,
+    one: &mut Pass<B>,
+    two: &mut Pass<B>,
+    log: &mut String,
+    other: &mut String,
+    first: &[Run],
+    others: &[Run],
+) -> Option<()> {
+    let (ran, other_ran) = thread::join(
+        held.rt,
+        || run_all(held, one, log, first),
+        || {
+            let ran = run_all(free, two, other, others);
+            held.gate.flag.store(1, Ordering::SeqCst);
+            ran
+        },
+    );
+    ran.and(other_ran)
+}
