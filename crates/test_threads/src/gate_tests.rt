@@ -1,25 +1,31 @@
 //! Gates: a call of one shard held while all other shards answer, and two calls of one shard in turn.
 
+use crate::served::Work;
 use crate::traffic;
-use crate::trial::{Trial, on_server};
+use crate::trial::{Trial, with_workers};
 use ns_server::{Gate, Naming, Open, Pass, Receipt, Server};
-use std::process::Abort;
+use std::alloc::AllocError;
 use std::rt::Clock;
 use std::sync::Wait;
 use std::sync::atomic::{AtomicU64, Ordering};
 use std::test::*;
 use std::thread;
-use std::thread::Threads;
 use std::time::Duration;
 
+/// A call of one shard is held while all other shards answer.
 #[test]
 fn two_shards_at_once(rt: HostRuntime) -> Result<(), Fail> {
-    on_server(&rt, rt.alloc(), 16, 2, Trial::AtOnce)
+    let gate = Until::new();
+    let work = Work::AtOnce(&gate);
+    with_workers(&rt, rt.alloc(), 16, 2, Trial::InThreads(work))
 }
 
+/// Two calls of one shard come one after the other.
 #[test]
 fn one_shard_in_turn(rt: HostRuntime) -> Result<(), Fail> {
-    on_server(&rt, rt.alloc(), 16, 2, Trial::InTurn)
+    let gate = Turns::new();
+    let work = Work::InTurn(&gate);
+    with_workers(&rt, rt.alloc(), 16, 2, Trial::InThreads(work))
 }
 
 // Waits until a number is another than this one, for ten seconds at most. Whether it is.
@@ -33,9 +39,10 @@ fn is_past<R: Clock>(rt: &R, number: &AtomicU64, first: u64) -> bool {
     false
 }
 
-// Holds a call at its gate until the flag is up, for ten seconds at most, and keeps the number of its visit.
+/// Holds a call at its gate until the flag is up, for ten seconds at most, and keeps the number of its visit.
 #[derive(Drop)]
-struct Until {
+pub struct Until {
+    workers: AtomicU64,
     flag: AtomicU64,
     late: AtomicU64,
     number: AtomicU64,
@@ -44,18 +51,39 @@ struct Until {
 impl Until {
     fn new() -> Until {
         Until {
+            workers: AtomicU64::new(0),
             flag: AtomicU64::new(0),
             late: AtomicU64::new(0),
             number: AtomicU64::new(77),
         }
     }
 
-    // Whether the flag came too late, and the number of the visit.
-    fn saw(&self) -> [u64; 2] {
-        [
-            self.late.load(Ordering::SeqCst),
-            self.number.load(Ordering::SeqCst),
-        ]
+    /// What one of two workers does: the first one's call on shard 0 is held until the other's, one on each of the fifteen others, are
+    /// answered.
+    pub fn work<B: Naming, R: Wait + Clock>(
+        &self,
+        rt: &R,
+        server: &Server<B>,
+        pass: &mut Pass<B>,
+        receipts: &mut Vec<Receipt>,
+    ) -> Result<(), AllocError> {
+        if self.workers.fetch_add(1, Ordering::SeqCst) == 0 {
+            return one_call(rt, server, pass, 0, self, receipts);
+        }
+        let _ = is_past(rt, &self.number, 77);
+        for device in 1..16u32 {
+            one_call(rt, server, pass, device, &Open, receipts)?;
+        }
+        self.flag.store(1, Ordering::SeqCst);
+        Ok(())
+    }
+
+    /// Whether the flag came in time, for the first entry of shard 0; and each of sixteen receipts is of the first entry of its shard.
+    pub fn is_right(&self, receipts: &[Receipt]) -> bool {
+        receipts.len() == 16
+            && receipts.iter().all(|receipt| receipt.entry.number == 0)
+            && self.late.load(Ordering::SeqCst) == 0
+            && self.number.load(Ordering::SeqCst) == 0
     }
 }
 
@@ -68,10 +96,11 @@ impl<R: Clock> Gate<R> for Until {
     }
 }
 
-// The first visit lasts for 100 turns, and the first entry is told for as long: another call may come to the gate meanwhile, and may not
-// visit it. Keeps the numbers of both.
+/// The first visit lasts for 100 turns, and the first entry is told for as long: another call may come to the gate meanwhile, and may not
+/// visit it. Keeps the numbers of both.
 #[derive(Drop)]
-struct Turns {
+pub struct Turns {
+    workers: AtomicU64,
     waiting: AtomicU64,
     visits: AtomicU64,
     early: AtomicU64,
@@ -82,6 +111,7 @@ struct Turns {
 impl Turns {
     fn new() -> Turns {
         Turns {
+            workers: AtomicU64::new(0),
             waiting: AtomicU64::new(0),
             visits: AtomicU64::new(0),
             early: AtomicU64::new(0),
@@ -90,14 +120,34 @@ impl Turns {
         }
     }
 
-    // Whether a call came too early, how many visits there were, and the numbers of the first two.
-    fn saw(&self) -> [u64; 4] {
-        [
-            self.early.load(Ordering::SeqCst),
-            self.visits.load(Ordering::SeqCst),
-            self.first.load(Ordering::SeqCst),
-            self.second.load(Ordering::SeqCst),
-        ]
+    /// What one of two workers does: each makes a call on shard 0, the second once the first visits the gate. Its receipt is kept where it
+    /// is that of the second entry of the shard, or of the third.
+    pub fn work<B: Naming, R: Wait + Clock>(
+        &self,
+        rt: &R,
+        server: &Server<B>,
+        pass: &mut Pass<B>,
+        receipts: &mut Vec<Receipt>,
+    ) -> Result<(), AllocError> {
+        let place = self.workers.fetch_add(1, Ordering::SeqCst);
+        if place > 0 {
+            let _ = is_past(rt, &self.visits, 0);
+        }
+        one_call(rt, server, pass, 0, self, receipts)?;
+        let number = receipts.last().map_or(0, |receipt| receipt.entry.number);
+        if number != place.wrapping_add(1) {
+            receipts.truncate(0);
+        }
+        Ok(())
+    }
+
+    /// Whether no call came too early, there were two visits, by the second entry and the third, and each call has its receipt.
+    pub fn is_right(&self, receipts: &[Receipt]) -> bool {
+        receipts.len() == 3
+            && self.early.load(Ordering::SeqCst) == 0
+            && self.visits.load(Ordering::SeqCst) == 2
+            && self.first.load(Ordering::SeqCst) == 1
+            && self.second.load(Ordering::SeqCst) == 2
     }
 
     // Waits for 100 turns, and sees whether a second visit came.
@@ -136,116 +186,16 @@ impl<R: Clock> Gate<R> for Turns {
     }
 }
 
-// The number of the entry of a device's Join-Request, and 1000 where there was no memory.
+// Makes a device's Join-Request, and keeps its receipt.
 fn one_call<B: Naming, R: Wait, G: Gate<R>>(
     rt: &R,
     server: &Server<B>,
     pass: &mut Pass<B>,
     device: u32,
     gate: &G,
-) -> u64 {
-    match server.call(rt, pass, traffic::join(device, 1), gate) {
-        Ok(receipt) => receipt.entry.number,
-        Err(_) => 1000,
-    }
-}
-
-// The same with a pass that is given up.
-fn last_call<B: Naming, R: Wait, G: Gate<R>>(
-    rt: &R,
-    server: &Server<B>,
-    pass: Pass<B>,
-    device: u32,
-    gate: &G,
-) -> u64 {
-    let mut pass = pass;
-    one_call(rt, server, &mut pass, device, gate)
-}
-
-// The passes of two workers.
-fn two_of<B: Naming>(mut passes: Vec<Pass<B>>) -> Result<(Pass<B>, Pass<B>), Fail> {
-    match (passes.pop(), passes.pop()) {
-        (Some(one), Some(two)) => Ok((one, two)),
-        _ => Err(Fail::from("a pass is missing")),
-    }
-}
-
-/// A call of one shard is held while all other shards answer.
-pub fn at_once<B: Naming + Send + Sync, R: Threads + Wait + Abort + Clock + Sync>(
-    rt: &R,
-    server: Server<B>,
-    passes: Vec<Pass<B>>,
-) -> Result<(), Fail> {
-    let (one, two) = two_of(passes)?;
-    let gate = Until::new();
-    let answered = held(rt, &server, one, two, &gate);
-    assert!(rt; answered == (0, 15));
-    assert!(rt; gate.saw() == [0, 0]);
+    receipts: &mut Vec<Receipt>,
+) -> Result<(), AllocError> {
+    let receipt = server.call(rt, pass, traffic::join(device, 1), gate)?;
+    receipts.push(receipt)?;
     Ok(())
-}
-
-// A call on shard 0 is held until one on each of the fifteen others is answered. The number of its entry, and how many of the others were
-// answered by the first entry of their shard.
-fn held<B: Naming + Send + Sync, R: Threads + Wait + Clock + Sync>(
-    rt: &R,
-    server: &Server<B>,
-    one: Pass<B>,
-    two: Pass<B>,
-    gate: &Until,
-) -> (u64, u32) {
-    thread::join(
-        rt,
-        || last_call(rt, server, one, 0, gate),
-        || {
-            let _ = is_past(rt, &gate.number, 77);
-            let answered = fifteen_calls(rt, server, two);
-            gate.flag.store(1, Ordering::SeqCst);
-            answered
-        },
-    )
-}
-
-// A call on each shard but 0.
-fn fifteen_calls<B: Naming, R: Wait>(rt: &R, server: &Server<B>, pass: Pass<B>) -> u32 {
-    let mut pass = pass;
-    let mut answered = 0u32;
-    for device in 1..16u32 {
-        if one_call(rt, server, &mut pass, device, &Open) == 0 {
-            answered = answered.wrapping_add(1);
-        }
-    }
-    answered
-}
-
-/// Two calls of one shard come one after the other.
-pub fn one_after_the_other<B: Naming + Send + Sync, R: Threads + Wait + Abort + Clock + Sync>(
-    rt: &R,
-    server: Server<B>,
-    passes: Vec<Pass<B>>,
-) -> Result<(), Fail> {
-    let (mut one, two) = two_of(passes)?;
-    assert!(rt; one_call(rt, &server, &mut one, 0, &Open) == 0);
-    let gate = Turns::new();
-    let numbers = in_turn(rt, &server, one, two, &gate);
-    assert!(rt; numbers == (1, 2));
-    assert!(rt; gate.saw() == [0, 2, 1, 2]);
-    Ok(())
-}
-
-// A second call on shard 0 begins once the first visits the gate.
-fn in_turn<B: Naming + Send + Sync, R: Threads + Wait + Clock + Sync>(
-    rt: &R,
-    server: &Server<B>,
-    one: Pass<B>,
-    two: Pass<B>,
-    gate: &Turns,
-) -> (u64, u64) {
-    thread::join(
-        rt,
-        || last_call(rt, server, one, 0, gate),
-        || {
-            let _ = is_past(rt, &gate.visits, 0);
-            last_call(rt, server, two, 0, gate)
-        },
-    )
 }

@@ -1,15 +1,14 @@
 //! A long run with trims at random places, beside the same run without.
 
-use crate::traffic::{closing, join, join_reply, uplink};
-use crate::trial::{Trial, on_server, settled_by, shared_roster};
+use crate::caller::Caller;
+use crate::traffic::{closing, join, join_reply, roster, uplink};
+use crate::trial::{Left, Trial, on_server};
 use ns_calls::{Answer, Call, Reply, shard_of_call};
-use ns_roster::Roster;
-use ns_server::{Naming, Open, Pass, Receipt, Server, Settled};
+use ns_server::Receipt;
 use ns_shard::Shard;
 use ns_types::WindowName;
 use std::alloc::{AllocError, Global};
-use std::process::Abort;
-use std::sync::{Arc, Wait};
+use std::sync::Arc;
 use std::test::*;
 
 // How many calls are made.
@@ -84,12 +83,14 @@ struct Both {
 }
 
 // Sixteen shards with no entries.
-fn shards(alloc: Global, roster: &Arc<Roster>) -> Result<Vec<Shard>, AllocError> {
+fn shards(alloc: Global) -> Option<Vec<Shard>> {
+    let roster = Arc::new(alloc, roster(alloc, DEVICES).ok()?).ok()?;
     let mut shards = Vec::new(alloc);
     for index in 0..16u8 {
-        shards.push(Shard::new(alloc, roster.clone()?, index)?)?;
+        let shard = Shard::new(alloc, roster.clone().ok()?, index).ok()?;
+        shards.push(shard).ok()?;
     }
-    Ok(shards)
+    Some(shards)
 }
 
 // The call at a place of the run. Windows that are open are known from what was answered before.
@@ -129,9 +130,9 @@ fn is_told(receipt: &Receipt, answer: &Answer) -> bool {
 
 impl Both {
     // Nothing was made yet.
-    fn new(alloc: Global, roster: &Arc<Roster>) -> Result<Both, AllocError> {
-        Ok(Both {
-            shards: shards(alloc, roster)?,
+    fn new(alloc: Global) -> Option<Both> {
+        Some(Both {
+            shards: shards(alloc)?,
             open: Vec::new(alloc),
             dropped: [0; 16],
             counts: Counts {
@@ -144,18 +145,6 @@ impl Both {
                 trims: 0,
             },
         })
-    }
-
-    // Makes a call on both. Whether it is answered alike.
-    fn call<B: Naming, R: Wait>(
-        &mut self,
-        rt: &R,
-        server: &Server<B>,
-        pass: &mut Pass<B>,
-        call: Call,
-    ) -> Result<bool, AllocError> {
-        let receipt = server.call(rt, pass, call, &Open)?;
-        self.is_answered(&receipt, &call)
     }
 
     // Whether a call that the server answered by this receipt is answered alike by its shard.
@@ -177,102 +166,54 @@ impl Both {
     }
 
     // Trims a shard of the server. Whether the mark is how many entries were made, and 208 of each device are left at most.
-    fn trim<B: Naming, R: Wait>(
-        &mut self,
-        rt: &R,
-        alloc: Global,
-        server: &Server<B>,
-        index: u8,
-    ) -> bool {
-        if index >= 16 {
-            return false;
-        }
-        let Ok(trimmed) = server.trim(rt, alloc, index) else {
-            return false;
-        };
-        let place = usize::from(index);
+    fn trim<C: Caller>(&mut self, caller: &mut C, index: u8) -> Option<bool> {
+        let place = usize::from(index % 16);
+        let trimmed = caller.trim(index).ok()?;
         let count = trimmed.entries.len() as u64;
+        let made = self.shards.get(place)?.made();
         self.dropped[place] = self.dropped[place].wrapping_add(count);
         self.counts.trims = self.counts.trims.wrapping_add(1);
-        match self.shards.get(place) {
-            Some(shard) => {
-                trimmed.mark == shard.made()
-                    && shard.made().wrapping_sub(self.dropped[place]) <= 624
-            }
-            None => false,
-        }
+        Some(trimmed.mark == made && made.wrapping_sub(self.dropped[place]) <= 624)
     }
 
-    // Whether what is left has what the trims did not drop.
-    fn are_left<B: Naming>(&self, settled: &Settled<B>) -> bool {
-        for index in 0..16u8 {
-            let Some(shard) = self.shards.get(usize::from(index)) else {
-                return false;
-            };
-            let dropped = self.dropped[usize::from(index)];
-            if settled.dropped(index) != dropped
-                || shard.made().wrapping_sub(dropped) != settled.history(index).len() as u64
-            {
-                return false;
+    // Makes a call at a place on both, and now and then a trim. Whether it is answered alike.
+    fn step<C: Caller>(&mut self, caller: &mut C, random: &mut Random, place: u32) -> Option<bool> {
+        if let Some(call) = call_at(random, &mut self.open, place) {
+            let receipt = caller.call(call)?;
+            if self.is_answered(&receipt, &call) != Ok(true) {
+                return None;
             }
         }
-        true
+        if random.below(61) == 0 {
+            return self.trim(caller, (random.below(16) % 16) as u8);
+        }
+        Some(true)
     }
-}
 
-// Makes the calls. Whether all are answered alike.
-fn run_alike<B: Naming, R: Wait>(
-    rt: &R,
-    alloc: Global,
-    server: &Server<B>,
-    pass: &mut Pass<B>,
-    both: &mut Both,
-) -> Result<bool, AllocError> {
-    let mut random = Random { state: 0x2545_f491 };
-    for place in 0..CALLS {
-        if let Some(call) = call_at(&mut random, &mut both.open, place) {
-            if !both.call(rt, server, pass, call)? {
-                return Ok(false);
-            }
-        }
-        if random.below(61) == 0 && !both.trim(rt, alloc, server, (random.below(16) % 16) as u8) {
-            return Ok(false);
+    // How many entries the trims dropped of each shard, and how many they left.
+    fn put_left(&self, left: &mut Left) {
+        for place in 0..16usize {
+            let made = self.shards.get(place).map_or(0, |shard| shard.made());
+            left.dropped[place] = self.dropped[place];
+            left.has[place] = made.wrapping_sub(self.dropped[place]);
         }
     }
-    Ok(true)
 }
 
 #[test]
 fn a_long_run_with_trims(rt: HostRuntime) -> Result<(), Fail> {
-    on_server(&rt, rt.alloc(), DEVICES, 1, Trial::LongRun)
+    on_server(&rt, rt.alloc(), DEVICES, Trial::LongRun)
 }
 
-/// The calls, with trims, beside the same calls without.
-pub fn long_run<B: Naming, R: Wait + Abort>(
-    rt: &R,
-    alloc: Global,
-    server: Server<B>,
-    passes: Vec<Pass<B>>,
-) -> Result<(), Fail> {
-    let roster = shared_roster(alloc, DEVICES)?;
-    let mut both = Both::new(alloc, &roster)?;
-    let settled = settled_alike(rt, alloc, server, passes, &mut both)?;
-    assert!(rt; both.are_left(&settled));
-    assert!(rt; settled.total() == u128::from(CALLS));
-    assert!(rt; both.counts.are_many());
-    Ok(())
-}
-
-// Makes the calls, which are answered alike, and settles the server.
-fn settled_alike<B: Naming, R: Wait + Abort>(
-    rt: &R,
-    alloc: Global,
-    server: Server<B>,
-    mut passes: Vec<Pass<B>>,
-    both: &mut Both,
-) -> Result<Settled<B>, Fail> {
-    let pass = passes.last_mut().ok_or("no pass")?;
-    let alike = run_alike(rt, alloc, &server, pass, both)?;
-    assert!(rt; alike);
-    settled_by(server, passes)
+/// The calls, with trims, beside the same calls without. How many entries were made, and what is to be left.
+pub fn long_run<C: Caller>(alloc: Global, caller: &mut C, left: &mut Left) -> Option<u64> {
+    let mut both = Both::new(alloc)?;
+    let mut random = Random { state: 0x2545_f491 };
+    for place in 0..CALLS {
+        if both.step(caller, &mut random, place) != Some(true) {
+            return None;
+        }
+    }
+    both.put_left(left);
+    both.counts.are_many().then_some(u64::from(CALLS))
 }

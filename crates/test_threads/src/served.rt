@@ -1,11 +1,13 @@
 //! What the workers of a server do, each in a thread of its own.
 
+use crate::gate_tests::{Turns, Until};
 use crate::traffic;
 use crate::trial::settled_by;
 use crate::work::{make, parted};
 use ns_calls::Call;
 use ns_server::{Naming, Pass, Receipt, Server, Settled};
 use std::alloc::{AllocError, Global};
+use std::rt::Clock;
 use std::sync::Wait;
 use std::test::Fail;
 use std::thread;
@@ -13,22 +15,27 @@ use std::thread::Threads;
 
 /// What a worker does.
 #[derive(Clone, Copy)]
-pub enum Work {
+pub enum Work<'a> {
     /// Lets 100 devices join.
     Join,
     /// Hears the first frame of each of 100 devices, which have joined before.
     Hear,
-    /// Makes 40 calls of 48 devices at random.
-    Wander,
+    /// Makes 40 calls of 48 devices at random, so many by all workers together.
+    Wander(usize),
+    /// Is held at the gate while another calls on all other shards, or is that other.
+    AtOnce(&'a Until),
+    /// Makes one of two calls of one shard, of which the second comes while the first is at the gate.
+    InTurn(&'a Turns),
 }
 
-impl Work {
+impl<'a> Work<'a> {
     // How many calls it makes at most.
     fn calls(self) -> u32 {
         match self {
             Work::Join => 200,
             Work::Hear => 100,
-            Work::Wander => 40,
+            Work::Wander(_) => 40,
+            _ => 0,
         }
     }
 
@@ -38,7 +45,8 @@ impl Work {
             Work::Join if place % 2 == 0 => Some(traffic::join(place / 2, 1)),
             Work::Join => Some(traffic::join_reply(place / 2, 1)),
             Work::Hear => traffic::uplink(place, 0, true, 1),
-            Work::Wander => at_random(random),
+            Work::Wander(_) => at_random(random),
+            _ => None,
         }
     }
 }
@@ -56,38 +64,61 @@ fn at_random(random: u32) -> Option<Call> {
 }
 
 /// The histories of a server whose workers have ended, and the receipts of all calls.
-pub fn served<B: Naming + Send + Sync, R: Threads + Wait + Sync>(
+pub fn served<B: Naming + Send + Sync, R: Threads + Wait + Clock + Sync>(
     rt: &R,
     alloc: Global,
     server: Server<B>,
     passes: Vec<Pass<B>>,
     work: Work,
 ) -> Result<(Settled<B>, Vec<Receipt>), Fail> {
-    let (passes, receipts) = all_work(rt, alloc, &server, passes, work)?;
+    let mut receipts = Vec::new(alloc);
+    let passes = worked(rt, alloc, &server, passes, work, &mut receipts)?;
     Ok((settled_by(server, passes)?, receipts))
 }
 
-// Lends the server to a thread for each pass. Where devices are to have joined, they do so before.
-fn all_work<B: Naming + Send + Sync, R: Threads + Wait + Sync>(
+// The passes when the workers have ended.
+fn worked<B: Naming + Send + Sync, R: Threads + Wait + Clock + Sync>(
     rt: &R,
     alloc: Global,
     server: &Server<B>,
     mut passes: Vec<Pass<B>>,
     work: Work,
-) -> Result<(Vec<Pass<B>>, Vec<Receipt>), AllocError> {
-    let mut receipts = Vec::new(alloc);
-    if let Work::Hear = work {
-        if let Some(first) = passes.last_mut() {
-            make_all(rt, server, first, Work::Join, &mut receipts)?;
-        }
+    receipts: &mut Vec<Receipt>,
+) -> Result<Vec<Pass<B>>, AllocError> {
+    if let Some(first) = passes.last_mut() {
+        make_first(rt, server, first, work, receipts)?;
     }
-    let done = thread::map_vec(rt, passes, &|pass| work_one(rt, alloc, server, pass, work))?;
-    let passes = parted(alloc, done, &mut receipts)?;
-    Ok((passes, receipts))
+    parted(alloc, all_work(rt, alloc, server, passes, work)?, receipts)
+}
+
+// What is made before the threads begin: where devices are to have joined, they do so, and where a shard is to have an entry, it gets one.
+fn make_first<B: Naming, R: Wait>(
+    rt: &R,
+    server: &Server<B>,
+    pass: &mut Pass<B>,
+    work: Work,
+    receipts: &mut Vec<Receipt>,
+) -> Result<(), AllocError> {
+    match work {
+        Work::Hear => make_all(rt, server, pass, Work::Join, receipts),
+        Work::InTurn(_) => make(rt, server, pass, traffic::join(0, 1), receipts),
+        _ => Ok(()),
+    }
+}
+
+// Lends the server to a thread for each pass.
+fn all_work<B: Naming + Send + Sync, R: Threads + Wait + Clock + Sync>(
+    rt: &R,
+    alloc: Global,
+    server: &Server<B>,
+    passes: Vec<Pass<B>>,
+    work: Work,
+) -> Result<Vec<(Pass<B>, Vec<Receipt>)>, AllocError> {
+    thread::map_vec(rt, passes, &|pass| work_one(rt, alloc, server, pass, work))
 }
 
 // What one worker does with its pass. Where there is no memory, its receipts end there.
-fn work_one<B: Naming, R: Wait>(
+fn work_one<B: Naming, R: Wait + Clock>(
     rt: &R,
     alloc: Global,
     server: &Server<B>,
@@ -96,7 +127,11 @@ fn work_one<B: Naming, R: Wait>(
 ) -> (Pass<B>, Vec<Receipt>) {
     let mut pass = pass;
     let mut receipts = Vec::new(alloc);
-    let _ = make_all(rt, server, &mut pass, work, &mut receipts);
+    let _ = match work {
+        Work::AtOnce(gate) => gate.work(rt, server, &mut pass, &mut receipts),
+        Work::InTurn(gate) => gate.work(rt, server, &mut pass, &mut receipts),
+        _ => make_all(rt, server, &mut pass, work, &mut receipts),
+    };
     (pass, receipts)
 }
 

@@ -1,39 +1,61 @@
 //! Workers in threads of their own: their receipts, the sum, the drain, and a pass that is missing.
 
-use crate::served::{Work, served};
+use crate::caller::{Caller, Worker};
+use crate::served::Work;
 use crate::traffic;
-use crate::trial::{Trial, on_server, settled_by};
+use crate::trial::{Trial, settled_by, with_workers};
 use ns_calls::Reply;
-use ns_server::{Naming, Open, Pass, Receipt, Server, SettleFault, Settled};
+use ns_server::{Naming, Pass, Receipt, Server, SettleFault, Settled};
 use std::alloc::{AllocError, Global};
-use std::process::Abort;
+use std::mem;
 use std::sync::Wait;
 use std::test::*;
-use std::thread::Threads;
-
-#[test]
-fn four_workers(rt: HostRuntime) -> Result<(), Fail> {
-    on_server(&rt, rt.alloc(), 100, 4, Trial::Day)
-}
 
 /// 100 devices join, and each of four workers hears one frame of each.
-pub fn day<B: Naming + Send + Sync, R: Threads + Wait + Abort + Sync>(
-    rt: &R,
-    alloc: Global,
-    server: Server<B>,
-    passes: Vec<Pass<B>>,
-) -> Result<(), Fail> {
-    let (mut settled, mut receipts) = served(rt, alloc, server, passes, Work::Hear)?;
-    assert!(rt; (settled.total(), receipts.len()) == (600, 600));
-    counted(rt, receipts.as_slice());
-    changed_is_found(rt, &settled, &mut receipts);
-    again_is_found(rt, &settled, &mut receipts)?;
-    drained_pass(rt, &mut settled, &mut receipts)?;
+#[test]
+fn four_workers(rt: HostRuntime) -> Result<(), Fail> {
+    with_workers(&rt, rt.alloc(), 100, 4, Trial::InThreads(Work::Hear))
+}
+
+/// Each worker makes 40 calls at random, so many together.
+#[test]
+fn random_calls(rt: HostRuntime) -> Result<(), Fail> {
+    for (workers, calls) in [(1usize, 40usize), (2, 80), (16, 640), (64, 2560)] {
+        if workers > 0 && workers <= 64 {
+            let trial = Trial::InThreads(Work::Wander(calls));
+            with_workers(&rt, rt.alloc(), 48, workers, trial)?;
+        }
+    }
     Ok(())
 }
 
+/// Whether what workers have done is as it is to be.
+pub fn are_right<B: Naming>(
+    settled: &mut Settled<B>,
+    receipts: &mut Vec<Receipt>,
+    work: Work,
+) -> Option<bool> {
+    match work {
+        Work::Hear => day(settled, receipts),
+        Work::Wander(calls) => random_run(settled, receipts, calls),
+        Work::AtOnce(gate) => Some(gate.is_right(receipts.as_slice())),
+        Work::InTurn(gate) => Some(gate.is_right(receipts.as_slice())),
+        Work::Join => None,
+    }
+}
+
+// The receipts of a day, also with one that is wrong.
+fn day<B: Naming>(settled: &mut Settled<B>, receipts: &mut Vec<Receipt>) -> Option<bool> {
+    let is_right = (settled.total(), receipts.len()) == (600, 600)
+        && are_counted(receipts.as_slice())
+        && changed_is_found(settled, receipts)?
+        && again_is_found(settled, receipts)?
+        && drained_pass(settled, receipts)?;
+    Some(is_right)
+}
+
 // How many receipts have which reply.
-fn counted<R: Abort>(rt: &R, receipts: &[Receipt]) {
+fn are_counted(receipts: &[Receipt]) -> bool {
     let mut counts = [0u32; 4];
     for receipt in receipts {
         let place = match receipt.entry.reply {
@@ -45,7 +67,7 @@ fn counted<R: Abort>(rt: &R, receipts: &[Receipt]) {
         };
         counts[place] = counts[place].wrapping_add(1);
     }
-    assert!(rt; counts == [100, 100, 100, 300]);
+    counts == [100, 100, 100, 300]
 }
 
 // A receipt of the same entry with which nothing goes out.
@@ -58,57 +80,45 @@ fn bare(receipt: &Receipt) -> Receipt {
     }
 }
 
-// What a check of receipts finds.
-fn is_found<B: Naming, R: Abort>(
-    rt: &R,
+// Whether a check of receipts finds this.
+fn is_found<B: Naming>(
     settled: &Settled<B>,
     receipts: &[Receipt],
     want: Result<(), usize>,
-) {
-    assert!(rt; settled.check(receipts) == want);
+) -> bool {
+    settled.check(receipts) == want
 }
 
-// All receipts pass; one whose reply is changed is found at its place.
-fn changed_is_found<B: Naming, R: Abort>(
-    rt: &R,
-    settled: &Settled<B>,
-    receipts: &mut Vec<Receipt>,
-) {
-    assert!(rt; receipts.len() == 600);
-    is_found(rt, settled, receipts.as_slice(), Ok(()));
-    let reply = receipts[250].entry.reply;
-    receipts[250].entry.reply = Reply::JoinBusy;
-    is_found(rt, settled, receipts.as_slice(), Err(250));
-    receipts[250].entry.reply = reply;
+// Changes the reply of the receipt at place 250. The reply before.
+fn change(receipts: &mut Vec<Receipt>, reply: Reply) -> Option<Reply> {
+    Some(mem::replace(&mut receipts.get_mut(250)?.entry.reply, reply))
 }
 
-// A receipt put again is found at the end.
-fn again_is_found<B: Naming, R: Abort>(
-    rt: &R,
-    settled: &Settled<B>,
-    receipts: &mut Vec<Receipt>,
-) -> Result<(), AllocError> {
-    assert!(rt; receipts.len() == 600);
-    let again = bare(&receipts[250]);
-    receipts.push(again)?;
-    is_found(rt, settled, receipts.as_slice(), Err(600));
+// Whether all receipts pass, and one whose reply is changed is found at its place.
+fn changed_is_found<B: Naming>(settled: &Settled<B>, receipts: &mut Vec<Receipt>) -> Option<bool> {
+    let is_right = is_found(settled, receipts.as_slice(), Ok(()));
+    let reply = change(receipts, Reply::JoinBusy)?;
+    let is_wrong = is_found(settled, receipts.as_slice(), Err(250));
+    let _ = change(receipts, reply)?;
+    Some(is_right && is_wrong)
+}
+
+// Whether a receipt put again is found at the end.
+fn again_is_found<B: Naming>(settled: &Settled<B>, receipts: &mut Vec<Receipt>) -> Option<bool> {
+    let again = bare(receipts.get(250)?);
+    receipts.push(again).ok()?;
+    let is_wrong = is_found(settled, receipts.as_slice(), Err(600));
     let _ = receipts.pop();
-    Ok(())
+    Some(is_wrong)
 }
 
-// What is open is closed, and all receipts pass; one that has lost its downlink is found.
-fn drained_pass<B: Naming, R: Abort>(
-    rt: &R,
-    settled: &mut Settled<B>,
-    receipts: &mut Vec<Receipt>,
-) -> Result<(), AllocError> {
-    drained(settled, receipts)?;
-    assert!(rt; receipts.len() == 700);
-    assert!(rt; settled.total() == 700);
-    is_found(rt, settled, receipts.as_slice(), Ok(()));
-    receipts[699].downlink = None;
-    is_found(rt, settled, receipts.as_slice(), Err(699));
-    Ok(())
+// Closes what is open, and all receipts pass; one that has lost its downlink is found.
+fn drained_pass<B: Naming>(settled: &mut Settled<B>, receipts: &mut Vec<Receipt>) -> Option<bool> {
+    drained(settled, receipts).ok()?;
+    let is_right = (settled.total(), receipts.len()) == (700, 700)
+        && is_found(settled, receipts.as_slice(), Ok(()));
+    receipts.get_mut(699)?.downlink = None;
+    Some(is_right && is_found(settled, receipts.as_slice(), Err(699)))
 }
 
 // Closes what is open, with a receipt of each.
@@ -125,68 +135,77 @@ fn drained<B: Naming>(
     Ok(())
 }
 
-#[test]
-fn a_pass_is_missing(rt: HostRuntime) -> Result<(), Fail> {
-    on_server(&rt, rt.alloc(), 1, 2, Trial::HeldBack)
+// There are so many receipts of calls at random, and all pass, before the drain and after it.
+fn random_run<B: Naming>(
+    settled: &mut Settled<B>,
+    receipts: &mut Vec<Receipt>,
+    calls: usize,
+) -> Option<bool> {
+    let is_right = receipts.len() == calls && is_found(settled, receipts.as_slice(), Ok(()));
+    drained(settled, receipts).ok()?;
+    let is_counted = settled.total() == receipts.len() as u128;
+    Some(is_right && is_counted && is_found(settled, receipts.as_slice(), Ok(())))
 }
 
 /// One of two passes is not given back at first.
-pub fn held_back<B: Naming, R: Wait + Abort>(
-    rt: &R,
-    server: Server<B>,
-    mut passes: Vec<Pass<B>>,
-) -> Result<(), Fail> {
-    let Some(mut one) = passes.pop() else {
-        return Err(Fail::from("no pass"));
-    };
-    makes_one(rt, &server, &mut one);
-    match server.settle(passes) {
-        Ok(_) => Err(Fail::from("a pass was missing")),
-        Err(fault) => given_back(rt, fault, one),
-    }
-}
-
-// One call by a pass.
-fn makes_one<B: Naming, R: Wait + Abort>(rt: &R, server: &Server<B>, one: &mut Pass<B>) {
-    let made = server.call(rt, one, traffic::join(0, 1), &Open).is_ok();
-    assert!(rt; (made, one.made(0)) == (true, 1));
-}
-
-// The pass that was missing is given back, and the server settled.
-fn given_back<B: Naming, R: Abort>(
-    rt: &R,
-    fault: SettleFault<B>,
-    one: Pass<B>,
-) -> Result<(), Fail> {
-    let SettleFault { server, mut passes } = fault;
-    let pushed = passes.push(one).is_ok();
-    let settled = settled_by(server, passes)?;
-    assert!(rt; (pushed, settled.total()) == (true, 1));
-    assert!(rt; (settled.history(0).len(), settled.history(1).len()) == (1, 0));
-    Ok(())
-}
-
 #[test]
-fn random_calls(rt: HostRuntime) -> Result<(), Fail> {
-    on_server(&rt, rt.alloc(), 48, 1, Trial::Random(40))?;
-    on_server(&rt, rt.alloc(), 48, 2, Trial::Random(80))?;
-    on_server(&rt, rt.alloc(), 48, 16, Trial::Random(640))?;
-    on_server(&rt, rt.alloc(), 48, 64, Trial::Random(2560))
+fn a_pass_is_missing(rt: HostRuntime) -> Result<(), Fail> {
+    with_workers(&rt, rt.alloc(), 1, 2, Trial::HeldBack)
 }
 
-/// Each worker makes 40 calls at random, so many together, and all receipts pass.
-pub fn random_run<B: Naming + Send + Sync, R: Threads + Wait + Abort + Sync>(
+/// Whether a server that lacks a pass gives all back, and is settled with it.
+pub fn held_back<B: Naming, R: Wait>(
     rt: &R,
     alloc: Global,
     server: Server<B>,
+    mut passes: Vec<Pass<B>>,
+) -> Result<bool, Fail> {
+    match passes.pop() {
+        Some(mut one) => {
+            let is_made = makes_one(rt, alloc, &server, &mut one);
+            Ok(is_made && has_one(&lacking(server, passes, one)?))
+        }
+        None => Ok(false),
+    }
+}
+
+// Settles a server, which fails without this pass, and then with it.
+fn lacking<B: Naming>(
+    server: Server<B>,
     passes: Vec<Pass<B>>,
-    calls: usize,
-) -> Result<(), Fail> {
-    let (mut settled, mut receipts) = served(rt, alloc, server, passes, Work::Wander)?;
-    assert!(rt; receipts.len() == calls);
-    is_found(rt, &settled, receipts.as_slice(), Ok(()));
-    drained(&mut settled, &mut receipts)?;
-    assert!(rt; settled.total() == receipts.len() as u128);
-    is_found(rt, &settled, receipts.as_slice(), Ok(()));
-    Ok(())
+    one: Pass<B>,
+) -> Result<Settled<B>, Fail> {
+    match server.settle(passes) {
+        Ok(_) => Err(Fail::from("a pass was missing")),
+        Err(fault) => given_back(fault, one),
+    }
+}
+
+// Makes one call by a pass.
+fn makes_one<B: Naming, R: Wait>(
+    rt: &R,
+    alloc: Global,
+    server: &Server<B>,
+    pass: &mut Pass<B>,
+) -> bool {
+    let mut worker = Worker {
+        rt,
+        alloc,
+        server,
+        pass,
+    };
+    let is_made = worker.call(traffic::join(0, 1)).is_some();
+    is_made && pass.made(0) == 1
+}
+
+// Gives back the pass that was missing, and settles the server.
+fn given_back<B: Naming>(fault: SettleFault<B>, one: Pass<B>) -> Result<Settled<B>, Fail> {
+    let SettleFault { server, mut passes } = fault;
+    let _ = passes.push(one).is_ok();
+    settled_by(server, passes)
+}
+
+// Whether one entry was made, in shard 0.
+fn has_one<B: Naming>(settled: &Settled<B>) -> bool {
+    settled.total() == 1 && settled.history(0).len() == 1 && settled.history(1).len() == 0
 }

@@ -8,7 +8,7 @@ use ns_roster::{Roster, RosterFault};
 use ns_secure::Dir;
 use ns_types::{DevEui, GatewayId, Heard, Key, NetId, Ticket, WindowName, addr_of};
 use ns_views::{PhyView, view};
-use std::alloc::Global;
+use std::alloc::{AllocError, Global};
 
 const NWK: Key = Key([
     0x44, 0x02, 0x42, 0x41, 0xed, 0x4c, 0xe9, 0xa6, 0x8c, 0x6a, 0x8b, 0xc0, 0x55, 0x23, 0x3f, 0xd3,
@@ -22,19 +22,39 @@ const NET: NetId = NetId(0x24);
 
 /// A roster of this many devices, with the numbers from 0.
 pub fn roster(alloc: Global, devices: u32) -> Result<Roster, RosterFault> {
+    roster_of(alloc, 0, 1, devices)
+}
+
+/// A roster of this many devices, with the numbers from a first one on, by steps.
+pub(crate) fn roster_of(
+    alloc: Global,
+    first: u32,
+    step: u32,
+    devices: u32,
+) -> Result<Roster, RosterFault> {
+    let text = roster_text(alloc, first, step, devices)?;
+    Roster::read(alloc, text.as_bytes())
+}
+
+fn roster_text(alloc: Global, first: u32, step: u32, devices: u32) -> Result<String, AllocError> {
     let mut text = String::new(alloc);
     text.push_str(r#"{"version":1,"net_id":"000024","rx1_offset":0,"rx_delay":1,"devices":["#)?;
-    for device in 0..devices {
-        if device > 0 {
-            text.push_str(",")?;
-        }
-        let line = format!(in alloc;
-            r#"{{"dev_eui":"{device:016x}","join_eui":"0102030401020304","slot":{device}}}"#
-        )?;
-        text.push_str(line.as_str())?;
+    let (mut device, mut comma) = (first, "");
+    for _ in 0..devices {
+        text.push_str(comma)?;
+        text.push_str(device_text(alloc, device)?.as_str())?;
+        device = device.wrapping_add(step);
+        comma = ",";
     }
     text.push_str("]}")?;
-    Roster::read(alloc, text.as_bytes())
+    Ok(text)
+}
+
+// A device of a roster.
+fn device_text(alloc: Global, device: u32) -> Result<String, AllocError> {
+    format!(in alloc;
+        r#"{{"dev_eui":"{device:016x}","join_eui":"0102030401020304","slot":{device}}}"#
+    )
 }
 
 // How gateway 1 to 16 heard a frame.
@@ -57,6 +77,15 @@ fn ticket(device: u32, nonce: u16) -> Ticket {
         0, 4, 3, 2, 1, 4, 3, 2, 1, eui[0], eui[1], eui[2], eui[3], 0, 0, 0, 0, nonce[0], nonce[1],
         1, 0, 0, 0,
     ])
+}
+
+/// The keys of all sessions.
+pub(crate) fn keys() -> Keys {
+    Keys {
+        nwk: NWK,
+        app: APP,
+        root: APP,
+    }
 }
 
 /// The Join-Request of a device with this nonce.
@@ -96,13 +125,8 @@ pub fn uplink(device: u32, counter: u32, confirmed: bool, gateway: u8) -> Option
             0x55, 0x56, 0x57, 0x58, 0x59, 0x5a, 0x5b, 0x5c, 0x5d, 0x5e, 0x5f, 0x60,
         ],
     };
-    let keys = Keys {
-        nwk: NWK,
-        app: APP,
-        root: APP,
-    };
     let mut room = [0; 32];
-    let frame = creator.build_into(&keys, &mut room).ok()?;
+    let frame = creator.build_into(&keys(), &mut room).ok()?;
     match view(frame) {
         Ok(PhyView::Frame(data)) => Some(Call::Uplink {
             frame: DataFrame::of(&data),

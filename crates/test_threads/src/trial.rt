@@ -5,12 +5,14 @@ ghost use Rattle.std.specs.Arc.{arc_value};
 ghost use Rattle.ns_shard.specs.State.{no_entries};
 ghost use Rattle.ns_tally.specs.Tally.{AreNamed};
 
-use crate::gate_tests::{at_once, one_after_the_other};
+use crate::caller::{Caller, Worker};
 use crate::growth_tests::{calls_refused, closed_without, trim_refused};
+use crate::large_tests::{is_half_open, long_trims, many_windows};
 use crate::long_tests::long_run;
-use crate::tests::{day, held_back, random_run};
+use crate::served::{Work, served};
+use crate::tests::{are_right, held_back};
 use crate::traffic;
-use crate::trim_tests::{Run, trimmed};
+use crate::trim_tests::Run;
 use ns_roster::Roster;
 use ns_server::{Naming, Pass, Server, Settled};
 use ns_tally::Blanks;
@@ -25,40 +27,129 @@ use std::thread::Threads;
 /// What a test does with a new server and the passes of its workers.
 #[derive(Clone, Copy)]
 pub enum Trial<'a> {
-    Day,
+    // Each worker does this work in a thread of its own.
+    InThreads(Work<'a>),
     HeldBack,
-    // All workers together make so many calls.
-    Random(usize),
-    AtOnce,
-    InTurn,
     Refused,
     Closings,
     TrimRefused,
     LongRun,
     Trimmed(&'a Run),
+    LongTrims,
+    ManyWindows,
     Unused,
 }
 
-// Makes the trial.
+/// Of each shard, how many entries are to be dropped in the end, and how many it is to have.
+#[derive(Clone, Copy)]
+pub struct Left {
+    pub dropped: [u64; 16],
+    pub has: [u64; 16],
+}
+
+impl Left {
+    // Whether a server's histories are so.
+    fn is_of<B: Naming>(&self, settled: &Settled<B>) -> bool {
+        for shard in 0..16u8 {
+            let place = usize::from(shard);
+            if settled.dropped(shard) != self.dropped[place]
+                || settled.history(shard).len() as u64 != self.has[place]
+            {
+                return false;
+            }
+        }
+        true
+    }
+}
+
+// Makes the trial by one worker. How many entries were made, where all is as it is to be, and of a long run what is to be left.
+fn made_by<C: Caller>(alloc: Global, caller: &mut C, trial: Trial, left: &mut Left) -> Option<u64> {
+    match trial {
+        Trial::Refused => calls_refused(alloc, caller),
+        Trial::Closings => closed_without(alloc, caller),
+        Trial::TrimRefused => trim_refused(alloc, caller),
+        Trial::LongRun => long_run(alloc, caller, left),
+        Trial::Trimmed(run) => run.make(alloc, caller),
+        Trial::LongTrims => long_trims(caller),
+        Trial::ManyWindows => many_windows(caller),
+        _ => Some(0),
+    }
+}
+
+// Whether the server's histories are as such a trial is to leave them.
+fn is_left<B: Naming>(settled: &mut Settled<B>, trial: Trial, left: &Left) -> bool {
+    match trial {
+        Trial::TrimRefused => (settled.mark(13), settled.dropped(13)) == (14, 1),
+        Trial::LongRun => left.is_of(settled),
+        Trial::Trimmed(run) => run.is_left(settled),
+        Trial::LongTrims => settled.drain_next().is_none(),
+        Trial::ManyWindows => is_half_open(settled),
+        _ => true,
+    }
+}
+
+// Makes the trial by the last of the workers.
+fn by_last<B: Naming, R: Wait>(
+    rt: &R,
+    alloc: Global,
+    server: &Server<B>,
+    passes: &mut Vec<Pass<B>>,
+    trial: Trial,
+    left: &mut Left,
+) -> Option<u64> {
+    let pass = passes.last_mut()?;
+    let mut worker = Worker {
+        rt,
+        alloc,
+        server,
+        pass,
+    };
+    made_by(alloc, &mut worker, trial, left)
+}
+
+// Whether a server has made so many entries, and its histories are as the trial is to leave them.
+fn has_made<B: Naming>(
+    settled: &mut Settled<B>,
+    trial: Trial,
+    made: Option<u64>,
+    left: &Left,
+) -> bool {
+    let total = settled.total();
+    made.map(u128::from) == Some(total) && is_left(settled, trial, left)
+}
+
+// Makes a trial that one worker makes.
+fn by_one<B: Naming, R: Wait>(
+    rt: &R,
+    alloc: Global,
+    server: Server<B>,
+    mut passes: Vec<Pass<B>>,
+    trial: Trial,
+) -> Result<bool, Fail> {
+    let mut left = Left {
+        dropped: [0; 16],
+        has: [0; 16],
+    };
+    let made = by_last(rt, alloc, &server, &mut passes, trial, &mut left);
+    let mut settled = settled_by(server, passes)?;
+    Ok(has_made(&mut settled, trial, made, &left))
+}
+
+// Makes the trial. Whether all is as it is to be.
 fn made<B: Naming + Send + Sync, R: Threads + Wait + Abort + Clock + Sync>(
     rt: &R,
     alloc: Global,
     server: Server<B>,
     passes: Vec<Pass<B>>,
     trial: Trial,
-) -> Result<(), Fail> {
+) -> Result<bool, Fail> {
     match trial {
-        Trial::Day => day(rt, alloc, server, passes),
-        Trial::HeldBack => held_back(rt, server, passes),
-        Trial::Random(calls) => random_run(rt, alloc, server, passes, calls),
-        Trial::AtOnce => at_once(rt, server, passes),
-        Trial::InTurn => one_after_the_other(rt, server, passes),
-        Trial::Refused => calls_refused(rt, alloc, server, passes),
-        Trial::Closings => closed_without(rt, alloc, server, passes),
-        Trial::TrimRefused => trim_refused(rt, alloc, server, passes),
-        Trial::LongRun => long_run(rt, alloc, server, passes),
-        Trial::Trimmed(run) => trimmed(rt, alloc, server, passes, run),
-        Trial::Unused => Ok(()),
+        Trial::InThreads(work) => {
+            let (mut settled, mut receipts) = served(rt, alloc, server, passes, work)?;
+            Ok(are_right(&mut settled, &mut receipts, work) == Some(true))
+        }
+        Trial::HeldBack => held_back(rt, alloc, server, passes),
+        _ => by_one(rt, alloc, server, passes, trial),
     }
 }
 
@@ -68,8 +159,18 @@ pub fn shared_roster(alloc: Global, devices: u32) -> Result<Arc<Roster>, Fail> {
     Ok(Arc::new(alloc, roster)?)
 }
 
-/// Makes a trial on a new server of so many devices and workers.
+/// Makes a trial on a new server of so many devices, by one worker.
 pub fn on_server<R: Threads + Wait + Abort + Clock + Sync>(
+    rt: &R,
+    alloc: Global,
+    devices: u32,
+    trial: Trial,
+) -> Result<(), Fail> {
+    with_workers(rt, alloc, devices, 1, trial)
+}
+
+/// The same by so many workers.
+pub fn with_workers<R: Threads + Wait + Abort + Clock + Sync>(
     rt: &R,
     alloc: Global,
     devices: u32,
@@ -121,7 +222,8 @@ fn named<B: Naming + Send + Sync, R: Threads + Wait + Abort + Clock + Sync>(
 {
     match Server::<B>::new(alloc, roster, workers, blanks) {
         Ok((server, passes)) => {
-            made(rt, alloc, server, passes, trial)?;
+            let is_right = made(rt, alloc, server, passes, trial)?;
+            assert!(rt; is_right);
             Ok(true)
         }
         Err(AllocError) => Ok(false),

@@ -2,18 +2,15 @@
 
 use self::Left::*;
 use self::Step::*;
+use crate::caller::Caller;
+use crate::series::DEVICE;
 use crate::traffic::{join, join_reply, uplink};
-use crate::trial::{Trial, on_server, settled_by};
+use crate::trial::{Trial, on_server};
 use ns_calls::{Answer, Call, Entry, JoinAccept, JoinAns, Outcome, lines};
-use ns_server::{Naming, Open, Pass, Server, Settled};
+use ns_server::{Naming, Receipt, Settled};
 use ns_types::{DevEui, Key, WindowName};
 use std::alloc::Global;
-use std::process::Abort;
-use std::sync::Wait;
 use std::test::*;
-
-// The device of these tests, which is its shard too.
-const DEVICE: u32 = 13;
 
 // A step of a run: calls of the device, each from gateway 1 where nothing else is said.
 #[derive(Clone, Copy)]
@@ -99,24 +96,26 @@ fn join_ends(nonce: u16, other_keys: bool) -> Option<Call> {
     Some(Call::JoinReply { ticket, outcome })
 }
 
-// Makes the calls of a step, whose answers' lines are put to a text. None where there is no such call, or no memory.
-fn tell<B: Naming, R: Wait>(
-    rt: &R,
-    server: &Server<B>,
-    pass: &mut Pass<B>,
-    step: Step,
-    text: &mut String,
-) -> Option<()> {
-    for place in 0..step.calls() {
-        let receipt = server.call(rt, pass, step.call_at(place)?, &Open).ok()?;
-        let answer = Answer {
-            reply: receipt.entry.reply,
-            uplink: receipt.uplink,
-            downlink: receipt.downlink,
-        };
-        for line in lines(&answer) {
-            text.push_str(line.as_str()).ok()?;
-            text.push_str("\n").ok()?;
+// Puts the lines of what a call's receipt tells.
+fn put_lines(receipt: Receipt, text: &mut String) -> Option<()> {
+    let answer = Answer {
+        reply: receipt.entry.reply,
+        uplink: receipt.uplink,
+        downlink: receipt.downlink,
+    };
+    for line in lines(&answer) {
+        text.push_str(line.as_str()).ok()?;
+        text.push_str("\n").ok()?;
+    }
+    Some(())
+}
+
+// Makes the calls of steps, whose answers' lines are put to a text. None where there is no such call, or no memory.
+fn tell<C: Caller>(caller: &mut C, steps: &[Step], text: &mut String) -> Option<()> {
+    for step in steps {
+        for place in 0..step.calls() {
+            let receipt = caller.call(step.call_at(place)?)?;
+            put_lines(receipt, text)?;
         }
     }
     Some(())
@@ -132,14 +131,8 @@ fn are_numbered(entries: &[Entry], numbers: &[u64]) -> bool {
 }
 
 // Whether a trim of the device's shard has this mark and hands out the entries of these numbers.
-fn trims_out<B: Naming, R: Wait>(
-    rt: &R,
-    alloc: Global,
-    server: &Server<B>,
-    mark: u64,
-    out: &[u64],
-) -> bool {
-    match server.trim(rt, alloc, 13) {
+fn trims_out<C: Caller>(caller: &mut C, mark: u64, out: &[u64]) -> bool {
+    match caller.trim(13) {
         Ok(dropped) => dropped.mark == mark && are_numbered(dropped.entries.as_slice(), out),
         Err(_) => false,
     }
@@ -312,40 +305,56 @@ const NINE_SESSIONS: Run = Run {
     left: Counts(203, 8),
 };
 
+const RUNS: &[Run] = &[
+    CLOSED,
+    OPENED,
+    TWO_ROUNDS,
+    THREE_ROUNDS,
+    ACKNOWLEDGED,
+    ASKED_AGAIN,
+    ONE_SESSION,
+    NINE_SESSIONS,
+];
+
 impl Run {
-    // Whether the trim is so, and what comes after it.
-    fn is_made<B: Naming, R: Wait>(
-        &self,
-        rt: &R,
-        alloc: Global,
-        server: &Server<B>,
-        pass: &mut Pass<B>,
-    ) -> Option<bool> {
-        let mut text = String::new(alloc);
-        for step in self.before {
-            tell(rt, server, pass, *step, &mut text)?;
-        }
-        text.clear();
-        let trims = trims_out(rt, alloc, server, self.mark, self.out);
-        for step in self.after {
-            tell(rt, server, pass, *step, &mut text)?;
-        }
-        let is_told = !self.is_whole || text.len() == self.lines.len();
-        Some(trims && is_told && text.as_str().starts_with(self.lines))
+    // How many entries are made.
+    fn made(&self) -> u64 {
+        self.mark.saturating_add(self.after.len() as u64)
     }
 
-    // Whether what is left is what is to be kept, and what was made since.
-    fn is_left<B: Naming>(&self, settled: &mut Settled<B>) -> bool {
-        let made = self.mark.saturating_add(self.after.len() as u64);
+    // Whether a text is what is to be told after the trim.
+    fn is_told(&self, text: &String) -> bool {
+        let is_long = !self.is_whole || text.len() == self.lines.len();
+        is_long && text.as_str().starts_with(self.lines)
+    }
+
+    /// Makes what is before the trim, the trim, and what comes after it. How many entries were made, where all is as it is to be.
+    pub fn make<C: Caller>(&self, alloc: Global, caller: &mut C) -> Option<u64> {
+        let mut text = String::new(alloc);
+        tell(caller, self.before, &mut text)?;
+        text.clear();
+        let trims = trims_out(caller, self.mark, self.out);
+        tell(caller, self.after, &mut text)?;
+        (trims && self.is_told(&text)).then_some(self.made())
+    }
+
+    /// Whether what is left is what is to be kept, and what was made since.
+    pub fn is_left<B: Naming>(&self, settled: &mut Settled<B>) -> bool {
         match self.left {
             Numbers(numbers) => {
-                has_left(settled, numbers.len(), made, self.mark)
-                    && are_numbered(settled.history(13), numbers)
+                self.has_left(settled, numbers.len()) && are_numbered(settled.history(13), numbers)
             }
-            Counts(left, windows) => {
-                has_left(settled, left, made, self.mark) && drains(settled, windows)
-            }
+            Counts(left, windows) => self.has_left(settled, left) && drains(settled, windows),
         }
+    }
+
+    // Whether the history has so many entries, with this mark.
+    fn has_left<B: Naming>(&self, settled: &Settled<B>, left: usize) -> bool {
+        settled.history(13).len() == left
+            && settled.mark(13) == self.mark
+            && settled.dropped(13) == self.made().saturating_sub(left as u64)
+            && settled.mark(12) == 0
+            && settled.dropped(12) == 0
     }
 }
 
@@ -363,46 +372,10 @@ fn drains<B: Naming>(settled: &mut Settled<B>, windows: u32) -> bool {
     full == windows && settled.drain_next().is_none()
 }
 
-// Whether the history has so many entries, of so many that were made, with this mark.
-fn has_left<B: Naming>(settled: &Settled<B>, left: usize, made: u64, mark: u64) -> bool {
-    settled.history(13).len() == left
-        && settled.total() == u128::from(made)
-        && settled.mark(13) == mark
-        && settled.dropped(13) == made.saturating_sub(left as u64)
-        && settled.mark(12) == 0
-        && settled.dropped(12) == 0
-}
-
-pub fn trimmed<B: Naming, R: Wait + Abort>(
-    rt: &R,
-    alloc: Global,
-    server: Server<B>,
-    mut passes: Vec<Pass<B>>,
-    run: &Run,
-) -> Result<(), Fail> {
-    let right = match passes.last_mut() {
-        Some(pass) => run.is_made(rt, alloc, &server, pass),
-        None => None,
-    };
-    assert!(rt; right == Some(true));
-    let mut settled = settled_by(server, passes)?;
-    assert!(rt; run.is_left(&mut settled));
-    Ok(())
-}
-
 #[test]
 fn trims_of_worked_runs(rt: HostRuntime) -> Result<(), Fail> {
-    for run in [
-        &CLOSED,
-        &OPENED,
-        &TWO_ROUNDS,
-        &THREE_ROUNDS,
-        &ACKNOWLEDGED,
-        &ASKED_AGAIN,
-        &ONE_SESSION,
-        &NINE_SESSIONS,
-    ] {
-        on_server(&rt, rt.alloc(), 16, 1, Trial::Trimmed(run))?;
+    for run in RUNS {
+        on_server(&rt, rt.alloc(), 16, Trial::Trimmed(run))?;
     }
     Ok(())
 }

@@ -1,0 +1,89 @@
+//! Runs of step lines, and what `replay` is to write of them.
+
+ghost use Rattle.std.specs.Prelude.{◌<◌};
+
+use ns_events::Output;
+use ns_replay::replay;
+use ns_roster::Roster;
+use ns_types::Fuse;
+use std::alloc::{AllocError, Global};
+use std::sync::Arc;
+
+/// The roster of one device.
+pub const ONE_DEVICE: &str =
+    r#"{"version":1,"net_id":"000024","rx1_offset":0,"rx_delay":1,"devices":[{"dev_eui":"000000000000000d","join_eui":"0102030401020304","slot":1998321}]}"#;
+
+/// Whether a run of these steps, of which a read gives at most so many bytes, writes these lines. None where there is no memory.
+pub fn is_written(
+    alloc: Global,
+    roster: &str,
+    closing: bool,
+    steps: &[u8],
+    most: usize,
+    lines: &[u8],
+) -> Option<bool>
+    requires { 0 < most }
+{
+    let roster = Roster::read(alloc, roster.as_bytes()).ok()?;
+    let roster = Arc::new(alloc, roster).ok()?;
+    let steps = Vec::from_slice(alloc, steps).ok()?;
+    let mut reader = Fuse::new(alloc, steps, most, None, None);
+    let mut writer = Fuse::new(alloc, Vec::new(alloc), 1 << 20, None, None);
+    replay(
+        alloc,
+        roster,
+        Output::Lines,
+        closing,
+        &mut reader,
+        &mut writer,
+    )
+    .ok()?;
+    Some(writer.written() == lines)
+}
+
+/// A run of one device: its steps, and the lines that are to be written.
+#[derive(Drop)]
+pub struct Run {
+    steps: Vec<u8>,
+    lines: Vec<u8>,
+}
+
+impl Run {
+    /// A run that begins with these steps and lines.
+    pub fn new(alloc: Global, steps: &str, lines: &str) -> Result<Run, AllocError> {
+        Ok(Run {
+            steps: Vec::from_slice(alloc, steps.as_bytes())?,
+            lines: Vec::from_slice(alloc, lines.as_bytes())?,
+        })
+    }
+
+    /// A step line of these parts.
+    pub fn step(&mut self, parts: &[&[u8]]) -> Result<(), AllocError> {
+        for part in parts {
+            self.steps.extend_from_slice(part)?;
+        }
+        self.steps.push(b'\n')?;
+        Ok(())
+    }
+
+    /// A line of these parts that is to be written.
+    pub fn line(&mut self, parts: &[&str]) -> Result<(), AllocError> {
+        for part in parts {
+            self.lines.extend_from_slice(part.as_bytes())?;
+        }
+        self.lines.push(b'\n')?;
+        Ok(())
+    }
+
+    /// Whether it writes just these lines.
+    pub fn is_right(&self, alloc: Global) -> Option<bool> {
+        is_written(
+            alloc,
+            ONE_DEVICE,
+            false,
+            self.steps.as_slice(),
+            1 << 20,
+            self.lines.as_slice(),
+        )
+    }
+}
