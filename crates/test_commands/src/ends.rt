@@ -11,38 +11,58 @@ use ns_replay::ReplayFault;
 use ns_roster::RosterFault;
 use ns_serve_parts::ServeFault;
 use ns_words::{Asked, BadWords, read_words};
+use std::alloc::Global;
 use std::io::ErrorKind;
 use std::process::ExitCode;
-use std::test::Fail;
 use std::time::Duration;
 
+// Whether a fault is printed so.
+fn is_printed(alloc: Global, fault: &Fault<'_>, text: &str) -> bool {
+    match format!(in alloc; "{fault}") {
+        Ok(printed) => printed.as_str() == text,
+        Err(_) => false,
+    }
+}
+
+// Whether this is a fault that is printed so.
+fn fails_so(alloc: Global, outcome: &Result<(), Fault<'_>>, text: &str) -> bool {
+    match outcome {
+        Ok(()) => false,
+        Err(fault) => is_printed(alloc, fault, text),
+    }
+}
+
 #[test]
-fn faults_are_printed(rt: HostRuntime) -> Result<(), Fail> {
-    for (fault, text) in [
-        (of_roster(RosterFault::NotJson), "roster: O1"),
-        (of_roster(RosterFault::TooMany), "roster: O6"),
-        (of_roster(RosterFault::NoMemory), "no memory"),
-        (
-            of_reading(ErrorKind::NotFound, "a/b.json"),
-            "cannot read a/b.json",
-        ),
-        (of_reading(ErrorKind::OutOfMemory, "a/b.json"), "no memory"),
-    ] {
-        assert!(rt; format!(in rt.alloc(); "{fault}")?.as_str() == text);
-    }
-    for (outcome, text) in [
-        (of_replay(Err(ReplayFault::NoMemory)), "no memory"),
-        (of_replay(Err(ReplayFault::Io)), "io"),
-        (of_serve(Err(ServeFault::NoMemory)), "no memory"),
-        (of_serve(Err(ServeFault::Io)), "io"),
-    ] {
-        let Err(fault) = outcome else {
-            return Err(Fail::new("no fault"));
-        };
-        assert!(rt; format!(in rt.alloc(); "{fault}")?.as_str() == text);
-    }
+fn faults_are_printed(rt: HostRuntime) {
+    let alloc = rt.alloc();
+    let path = "a/b.json";
+    assert!(rt; is_printed(alloc, &of_roster(RosterFault::NotJson), "roster: O1"));
+    assert!(rt; is_printed(alloc, &of_roster(RosterFault::TooMany), "roster: O6"));
+    assert!(rt; is_printed(alloc, &of_roster(RosterFault::NoMemory), "no memory"));
+    assert!(rt;
+        is_printed(
+            alloc,
+            &of_reading(ErrorKind::NotFound, path),
+            "cannot read a/b.json"
+        )
+    );
+    assert!(rt;
+        is_printed(
+            alloc,
+            &of_reading(ErrorKind::OutOfMemory, path),
+            "no memory"
+        )
+    );
+}
+
+#[test]
+fn faults_of_runs_are_printed(rt: HostRuntime) {
+    let alloc = rt.alloc();
+    assert!(rt; fails_so(alloc, &of_replay(Err(ReplayFault::NoMemory)), "no memory"));
+    assert!(rt; fails_so(alloc, &of_replay(Err(ReplayFault::Io)), "io"));
+    assert!(rt; fails_so(alloc, &of_serve(Err(ServeFault::NoMemory)), "no memory"));
+    assert!(rt; fails_so(alloc, &of_serve(Err(ServeFault::Io)), "io"));
     assert!(rt; of_replay(Ok(())).is_ok() && of_serve(Ok(0)).is_ok());
-    Ok(())
 }
 
 // The expected texts are those of `date -u --iso-8601` at these seconds.
@@ -93,22 +113,28 @@ fn end_of<'a>(rt: &StandIn<HostRuntime>, words: &'a [String]) -> End<'a> {
     }
 }
 
+// The status with which the program ends with the words of a text.
+fn status_of(rt: &StandIn<HostRuntime>, text: &str) -> Option<ExitCode> {
+    let words = words_of(rt.alloc(), text, &[]).ok()?;
+    let end = end_of(rt, words.as_slice());
+    Some(concluded(rt, &Discard, &end))
+}
+
 // A run whose roster is not there ends with status 1, also one that is to serve, and one of bad words with 2.
+const STATUSES: [(&str, u8); 4] = [
+    ("lorawan_ns replay no/such/roster.json --closing", 1),
+    ("lorawan_ns serve no/such/roster.json --join 127.0.0.1:9", 1),
+    ("lorawan_ns compact no/such/roster.json no/such", 1),
+    ("lorawan_ns replay", 2),
+];
+
 #[test]
-fn runs_that_fail(rt: HostRuntime) -> Result<(), Fail> {
+fn runs_that_fail(rt: HostRuntime) {
     let stand_in = StandIn::new(rt, rt.alloc(), "");
-    for (text, status) in [
-        ("lorawan_ns replay no/such/roster.json --closing", 1u8),
-        (
-            "lorawan_ns serve no/such/roster.json --join 127.0.0.1:9",
-            1u8,
-        ),
-        ("lorawan_ns compact no/such/roster.json no/such", 1u8),
-        ("lorawan_ns replay", 2u8),
-    ] {
-        let words = words_of(&rt, text)?;
-        let end = end_of(&stand_in, words.as_slice());
-        assert!(rt; concluded(&stand_in, &Discard, &end) == ExitCode::from(status));
+    for (text, status) in STATUSES {
+        assert!(rt;
+            status_of(&stand_in, text) == Some(ExitCode::from(status)),
+            "{text}"
+        );
     }
-    Ok(())
 }

@@ -7,7 +7,6 @@ use ns_commands::{Logging, Timed, VARIABLE, compact, run_replay};
 use ns_events::Output;
 use std::io::ErrorKind;
 use std::net::{Net, SocketAddr};
-use std::test::Fail;
 use std::time::{Clock, Duration};
 use std::{fs, io};
 
@@ -44,40 +43,64 @@ const CLOSING: &str =
     r#"{"devices":[{"dev_eui":"000000000000000d","join_eui":"0102030401020304","last_nonce":1,"slot":1998321}],"net_id":"000024","rx1_offset":0,"rx_delay":1,"version":2}
 "#;
 
+// Uplinks as lines or as objects, whether the closing roster is asked for, and what `replay` writes behind the answers.
+const REPLAYS: [(Output, bool, &str, &str); 3] = [
+    (Output::Lines, false, LINE, ""),
+    (Output::Json, false, OBJECT, ""),
+    (Output::Lines, true, LINE, CLOSING),
+];
+
+// Whether `replay` writes the answers to the steps and then these texts.
+fn writes(stand_in: &StandIn<HostRuntime>, row: (Output, bool, &str, &str)) -> bool {
+    let (uplinks, closing, up, last) = row;
+    let outcome = run_replay(
+        stand_in,
+        &Discard,
+        "test_commands_closing.json",
+        uplinks,
+        closing,
+    );
+    outcome.is_ok() && stand_in.has_printed(&[ANSWERS, up, last])
+}
+
 // What `replay` writes: uplinks as lines or as objects, and the closing roster only where it is asked for.
 #[test]
-fn closing_rosters(rt: HostRuntime) -> Result<(), Fail> {
+fn closing_rosters(rt: HostRuntime) {
     let path = "test_commands_closing.json";
-    fs::write(&rt, path, ROSTER.as_bytes())?;
-    for (uplinks, closing, up, last) in [
-        (Output::Lines, false, LINE, ""),
-        (Output::Json, false, OBJECT, ""),
-        (Output::Lines, true, LINE, CLOSING),
-    ] {
-        let stand_in = StandIn::new(rt, rt.alloc(), STEPS);
-        let outcome = run_replay(&stand_in, &Discard, path, uplinks, closing);
-        assert!(rt; outcome.is_ok());
-        let wanted = format!(in rt.alloc(); "{ANSWERS}{up}{last}")?;
-        assert!(rt; stand_in.has_printed(wanted.as_str()), "{last}{up}");
+    assert!(rt; fs::write(&rt, path, ROSTER.as_bytes()).is_ok());
+    for row in REPLAYS {
+        assert!(rt;
+            writes(&StandIn::new(rt, rt.alloc(), STEPS), row),
+            "{}",
+            row.2
+        );
     }
-    fs::remove_file(&rt, path)?;
-    Ok(())
+    assert!(rt; fs::remove_file(&rt, path).is_ok());
+}
+
+// Makes a roster's file and a folder with the six lines.
+fn make(rt: &HostRuntime, path: &str, folder: &str, steps: &str) -> io::Result<()> {
+    fs::write(rt, path, ROSTER.as_bytes())?;
+    let _ = fs::remove_dir_all(rt, folder);
+    fs::create_dir(rt, folder)?;
+    fs::write(rt, steps, STEPS.as_bytes())
+}
+
+// Takes both away.
+fn take_away(rt: &HostRuntime, path: &str, folder: &str) -> io::Result<()> {
+    fs::remove_file(rt, path)?;
+    fs::remove_dir_all(rt, folder)
 }
 
 // What `compact` prints of these six lines, of which it leaves out the two copies.
 #[test]
-fn lines_before_and_after(rt: HostRuntime) -> Result<(), Fail> {
+fn lines_before_and_after(rt: HostRuntime) {
     let (path, folder) = ("test_commands_compact.json", "test_commands_compact");
-    fs::write(&rt, path, ROSTER.as_bytes())?;
-    let _ = fs::remove_dir_all(&rt, folder);
-    fs::create_dir(&rt, folder)?;
-    fs::write(&rt, "test_commands_compact/steps", STEPS.as_bytes())?;
+    assert!(rt; make(&rt, path, folder, "test_commands_compact/steps").is_ok());
     let stand_in = StandIn::new(rt, rt.alloc(), "");
-    assert!(rt; compact(&stand_in, &Discard, path, folder).is_ok());
-    assert!(rt; stand_in.has_printed("compacted 6 4\n"));
-    fs::remove_file(&rt, path)?;
-    fs::remove_dir_all(&rt, folder)?;
-    Ok(())
+    let done = compact(&stand_in, &Discard, path, folder).is_ok();
+    assert!(rt; done && stand_in.has_printed(&["compacted 6 4\n"]));
+    assert!(rt; take_away(&rt, path, folder).is_ok());
 }
 
 // How it was refused, if it was.
@@ -88,21 +111,38 @@ fn refusal<T: Drop>(outcome: io::Result<T>) -> Option<ErrorKind> {
     }
 }
 
+// How the calls of a network are refused.
+fn refusals<N: Net>(net: &N) -> [Option<ErrorKind>; 5] {
+    let addr = SocketAddr::from(([127, 0, 0, 1], 9));
+    [
+        refusal(net.bind(addr)),
+        refusal(net.connect(addr)),
+        refusal(net.connect_timeout(addr, Duration::from_millis(LIMIT))),
+        refusal(net.bind_udp(addr)),
+        refusal(net.lookup_host("localhost", 9, &mut [addr])),
+    ]
+}
+
+// Whether a clock tells the times of the stand-in.
+fn is_at_the_times<C: Clock>(clock: &C) -> bool {
+    clock.monotonic().ok() == Some(Duration::from_millis(SINCE_START))
+        && clock.since_1970().ok() == Some(Duration::from_millis(SINCE_1970))
+}
+
 // The program's runtime hands on each call as it is, and writes a log line behind the time of day; the variable is that of OPERATOR.
 #[test]
 fn the_wrapper_hands_on(rt: HostRuntime) {
     let stand_in = StandIn::new(rt, rt.alloc(), "");
     let logging = Logging::new(&stand_in, Timed(&stand_in));
-    assert!(rt; logging.monotonic().ok() == Some(Duration::from_millis(SINCE_START)));
-    assert!(rt; logging.since_1970().ok() == Some(Duration::from_millis(SINCE_1970)));
-    let addr = SocketAddr::from(([127, 0, 0, 1], 9));
-    assert!(rt; refusal(logging.bind(addr)) == Some(ErrorKind::AddrInUse));
-    assert!(rt; refusal(logging.connect(addr)) == Some(ErrorKind::ConnectionRefused));
-    let late = logging.connect_timeout(addr, Duration::from_millis(LIMIT));
-    assert!(rt; refusal(late) == Some(ErrorKind::TimedOut));
-    assert!(rt; refusal(logging.bind_udp(addr)) == Some(ErrorKind::AddrNotAvailable));
-    let found = logging.lookup_host("localhost", 9, &mut [addr]);
-    assert!(rt; refusal(found) == Some(ErrorKind::NotFound));
+    assert!(rt; is_at_the_times(&logging));
+    let wanted = [
+        Some(ErrorKind::AddrInUse),
+        Some(ErrorKind::ConnectionRefused),
+        Some(ErrorKind::TimedOut),
+        Some(ErrorKind::AddrNotAvailable),
+        Some(ErrorKind::NotFound),
+    ];
+    assert!(rt; refusals(&logging) == wanted);
     info!(logging; "heard {}", 2);
     assert!(rt;
         stand_in.has_told("[2026-11-24T09:30:00.125Z INFO  test_commands::runs] heard 2\n")

@@ -39,22 +39,34 @@ impl<R> StandIn<R> {
         }
     }
 
-    /// Whether this is what was written to standard output.
-    pub fn has_printed(&self, text: &str) -> bool {
-        holds(&self.printed, text)
+    /// Whether these texts, one behind the other, are what was written to standard output.
+    pub fn has_printed(&self, texts: &[&str]) -> bool {
+        holds(&self.printed, texts)
     }
 
     /// Whether this is what was written to standard error.
     pub fn has_told(&self, text: &str) -> bool {
-        holds(&self.told, text)
+        holds(&self.told, &[text])
     }
 }
 
-fn holds(stream: &RefCell<Vec<u8>>, text: &str) -> bool {
+fn holds(stream: &RefCell<Vec<u8>>, texts: &[&str]) -> bool {
     match stream.try_borrow() {
-        Ok(bytes) => bytes.as_slice() == text.as_bytes(),
+        Ok(bytes) => are_texts(bytes.as_slice(), texts),
         Err(_) => false,
     }
+}
+
+// Whether bytes are these texts, one behind the other.
+fn are_texts(bytes: &[u8], texts: &[&str]) -> bool {
+    let mut rest = bytes;
+    for text in texts {
+        match rest.strip_prefix(text.as_bytes()) {
+            Some(more) => rest = more,
+            None => return false,
+        }
+    }
+    rest.is_empty()
 }
 
 // Puts a text into a stream.

@@ -5,9 +5,9 @@ use ns_commands::refused;
 use ns_events::Output;
 use ns_serve_parts::ServeOptions;
 use ns_words::{Asked, BadWords, OptionName, read_words};
+use std::alloc::{AllocError, Global};
 use std::net::SocketAddr;
 use std::process::ExitCode;
-use std::test::Fail;
 
 // Whether the options are those that stand where no word names them.
 fn are_usual(options: &ServeOptions<'_>) -> bool {
@@ -28,199 +28,258 @@ fn are_usual(options: &ServeOptions<'_>) -> bool {
         && !options.closing
 }
 
-/// The words of a text, with one space between them.
-pub(crate) fn words_of(rt: &HostRuntime, text: &str) -> Result<Vec<String>, Fail> {
-    let mut words = Vec::new(rt.alloc());
+// Whether each option's value went into the field of its name, and no other.
+fn each_option_is_its_field(options: &ServeOptions<'_>) -> bool {
+    options.join == SocketAddr::from(([127, 0, 0, 3], 8081))
+        && options.host.as_str() == "js"
+        && options.listen == Some(SocketAddr::from(([127, 0, 0, 2], 1711)))
+        && options.forwarders == Some(SocketAddr::from(([127, 0, 0, 4], 1712)))
+        && options.power == 9
+        && options.status == Some(SocketAddr::from(([127, 0, 0, 5], 1713)))
+        && options.workers == 3
+        && options.join_workers == 5
+        && options.window_ms == 77
+        && options.stop_after == Some(11)
+        && options.stop_at_end
+        && options.trim == Some(13)
+        && options.output == Output::Json
+        && options.events
+        && options.closing
+}
+
+// One word more.
+fn put_word(words: &mut Vec<String>, alloc: Global, word: &str) -> Result<(), AllocError> {
+    words.push(String::from_str(alloc, word)?)?;
+    Ok(())
+}
+
+/// The words of a text, with one space between them, and further ones.
+pub(crate) fn words_of(
+    alloc: Global,
+    text: &str,
+    further: &[&str],
+) -> Result<Vec<String>, AllocError> {
+    let mut words = Vec::new(alloc);
     for word in text.split(" ") {
-        words.push(String::from_str(rt.alloc(), word)?)?;
+        put_word(&mut words, alloc, word)?;
+    }
+    for word in further {
+        put_word(&mut words, alloc, word)?;
     }
     Ok(words)
 }
 
 // What some words ask for: R to replay, J to replay with uplinks as JSON, C to replay with the closing roster, K to compact, U to serve with
-// the usual options, D to serve with the closing roster, S to serve with others, T a text that was asked for; V is a value that an option
-// cannot have, E another error. Beside it the exit status where nothing is to be done.
-fn asked(rt: &HostRuntime, words: &[String]) -> (char, ExitCode) {
-    let letter = match read_words(rt.alloc(), words) {
+// the usual options, D to serve with the closing roster, S to serve with others, O to serve with an own value of each option, T a text that
+// was asked for; V is a value that an option cannot have, E another error.
+fn asked(rt: &HostRuntime, words: &[String]) -> char {
+    match read_words(rt.alloc(), words) {
         Ok(Asked::Replay("roster.json", Output::Lines, false)) => 'R',
         Ok(Asked::Replay("roster.json", Output::Json, false)) => 'J',
         Ok(Asked::Replay("roster.json", Output::Lines, true)) => 'C',
         Ok(Asked::Compact("roster.json", "dir")) => 'K',
-        Ok(Asked::Serve("roster.json", options, _)) if are_usual(&options) => 'U',
-        Ok(Asked::Serve("roster.json", options, _)) if options.closing => 'D',
-        Ok(Asked::Serve("roster.json", _, _)) => 'S',
+        Ok(Asked::Serve(path, options, _)) => letter_of_serving(path, &options),
         Ok(_) => '?',
-        Err(bad) => return (letter(&bad), refused(rt, &Discard, &bad)),
-    };
-    (letter, ExitCode::SUCCESS)
+        Err(bad) => letter(rt, &bad),
+    }
 }
 
-fn letter(bad: &BadWords) -> char {
-    match bad {
-        BadWords::Shown(error) if error.use_stderr() => 'E',
-        BadWords::Shown(_) => 'T',
-        BadWords::BadValue(_) => 'V',
+fn letter_of_serving(path: &str, options: &ServeOptions<'_>) -> char {
+    match path {
+        "roster.json" if are_usual(options) => 'U',
+        "roster.json" if options.closing => 'D',
+        "roster.json" => 'S',
+        "r.json" if each_option_is_its_field(options) => 'O',
         _ => '?',
     }
 }
 
-#[test]
-fn words_of_the_command_line(rt: HostRuntime) -> Result<(), Fail> {
-    let (done, bad) = (ExitCode::SUCCESS, ExitCode::from(2));
-    for (text, wanted) in [
-        ("lorawan_ns replay roster.json", ('R', done)),
-        ("lorawan_ns replay roster.json --closing", ('C', done)),
-        ("lorawan_ns replay roster.json --output lines", ('R', done)),
-        ("lorawan_ns replay roster.json --output json", ('J', done)),
-        ("lorawan_ns replay roster.json --output JSON", ('V', bad)),
-        ("lorawan_ns replay roster.json --output ", ('V', bad)),
-        ("lorawan_ns compact roster.json dir", ('K', done)),
-        ("lorawan_ns compact roster.json", ('E', bad)),
-        ("lorawan_ns --help", ('T', done)),
-        ("lorawan_ns replay --help", ('T', done)),
-        ("lorawan_ns --version", ('T', done)),
-        ("lorawan_ns", ('E', bad)),
-        ("lorawan_ns replay", ('E', bad)),
-        ("lorawan_ns replay roster.json more", ('E', bad)),
-        ("lorawan_ns serve roster.json", ('E', bad)),
-        (
-            "lorawan_ns serve roster.json --join 127.0.0.1:8080 --closing",
-            ('D', done),
-        ),
-    ] {
-        let words = words_of(&rt, text)?;
-        assert_eq!(rt; asked(&rt, words.as_slice()), wanted, "{text}");
-    }
-    Ok(())
-}
-
-#[test]
-fn words_of_serving(rt: HostRuntime) -> Result<(), Fail> {
-    let (done, bad) = (ExitCode::SUCCESS, ExitCode::from(2));
-    for (name, value, wanted) in [
-        ("--host", "localhost", ('U', done)),
-        ("--host", "js.local", ('S', done)),
-        ("--host", "a b", ('V', bad)),
-        ("--listen", "127.0.0.1:1701", ('S', done)),
-        ("--listen", "localhost", ('V', bad)),
-        ("--forwarders", "127.0.0.1:1700", ('S', done)),
-        ("--forwarders", "localhost", ('V', bad)),
-        ("--power", "27", ('S', done)),
-        ("--power", "14", ('U', done)),
-        ("--power", "0", ('E', bad)),
-        ("--power", "28", ('E', bad)),
-        ("--workers", "16", ('S', done)),
-        ("--workers", "0", ('E', bad)),
-        ("--workers", "17", ('E', bad)),
-        ("--join-workers", "16", ('S', done)),
-        ("--join-workers", "17", ('E', bad)),
-        ("--window", "60000", ('S', done)),
-        ("--window", "60001", ('E', bad)),
-        ("--stop-after", "4294967295", ('S', done)),
-        ("--stop-after", "4294967296", ('E', bad)),
-        ("--trim", "1", ('S', done)),
-        ("--trim", "4294967295", ('S', done)),
-        ("--trim", "10000", ('U', done)),
-        ("--trim", "never", ('S', done)),
-        ("--trim", "0", ('V', bad)),
-        ("--trim", "4294967296", ('V', bad)),
-        ("--trim", "Never", ('V', bad)),
-        ("--output", "lines", ('U', done)),
-        ("--output", "json", ('S', done)),
-        ("--output", "xml", ('V', bad)),
-    ] {
-        let mut words = words_of(&rt, "lorawan_ns serve roster.json --join 127.0.0.1:8080")?;
-        words.push(String::from_str(rt.alloc(), name)?)?;
-        words.push(String::from_str(rt.alloc(), value)?)?;
-        assert_eq!(rt; asked(&rt, words.as_slice()), wanted, "{name} {value}");
-    }
-    Ok(())
-}
-
-// Each option's value goes into the field of its name, and no other.
-#[test]
-fn each_option_is_its_field(rt: HostRuntime) -> Result<(), Fail> {
-    let words = words_of(
-        &rt,
-        "lorawan_ns serve r.json --join 127.0.0.3:8081 --host js --listen 127.0.0.2:1711 --forwarders 127.0.0.4:1712 --power 9 --status 127.0.0.5:1713 --workers 3 --join-workers 5 --window 77 --stop-after 11 --stop-at-end-of-input --trim 13 --output json --events --closing",
-    )?;
-    let Ok(Asked::Serve("r.json", options, _)) = read_words(rt.alloc(), words.as_slice()) else {
-        return Err(Fail::new("not asked to serve"));
+// The letter where nothing is to be done, if the exit status is that of it.
+fn letter(rt: &HostRuntime, bad: &BadWords) -> char {
+    let (letter, status) = match bad {
+        BadWords::Shown(error) if error.use_stderr() => ('E', 2u8),
+        BadWords::Shown(_) => ('T', 0),
+        BadWords::BadValue(_) => ('V', 2),
+        _ => return '?',
     };
-    assert!(rt; options.join == SocketAddr::from(([127, 0, 0, 3], 8081)));
-    assert!(rt; options.host.as_str() == "js");
-    assert!(rt; options.listen == Some(SocketAddr::from(([127, 0, 0, 2], 1711))));
-    assert!(rt; options.forwarders == Some(SocketAddr::from(([127, 0, 0, 4], 1712))));
-    assert!(rt; options.power == 9);
-    assert!(rt; options.status == Some(SocketAddr::from(([127, 0, 0, 5], 1713))));
-    assert!(rt; options.workers == 3 && options.join_workers == 5);
-    assert!(rt; options.window_ms == 77 && options.stop_after == Some(11));
-    assert!(rt; options.stop_at_end);
-    assert!(rt; options.trim == Some(13));
-    assert!(rt; options.output == Output::Json && options.events && options.closing);
-    Ok(())
+    if refused(rt, &Discard, bad) == ExitCode::from(status) {
+        letter
+    } else {
+        '!'
+    }
+}
+
+// What the words of a text and further ones ask for.
+fn asked_by(rt: &HostRuntime, text: &str, further: &[&str]) -> char {
+    match words_of(rt.alloc(), text, further) {
+        Ok(words) => asked(rt, words.as_slice()),
+        Err(_) => '?',
+    }
+}
+
+// Command lines, and what they ask for.
+const LINES: &[(&str, char)] = &[
+    ("lorawan_ns replay roster.json", 'R'),
+    ("lorawan_ns replay roster.json --closing", 'C'),
+    ("lorawan_ns replay roster.json --output lines", 'R'),
+    ("lorawan_ns replay roster.json --output json", 'J'),
+    ("lorawan_ns replay roster.json --output JSON", 'V'),
+    ("lorawan_ns replay roster.json --output ", 'V'),
+    ("lorawan_ns compact roster.json dir", 'K'),
+    ("lorawan_ns compact roster.json", 'E'),
+    ("lorawan_ns --help", 'T'),
+    ("lorawan_ns replay --help", 'T'),
+    ("lorawan_ns --version", 'T'),
+    ("lorawan_ns", 'E'),
+    ("lorawan_ns replay", 'E'),
+    ("lorawan_ns replay roster.json more", 'E'),
+    ("lorawan_ns serve roster.json", 'E'),
+    (
+        "lorawan_ns serve roster.json --join 127.0.0.1:8080 --closing",
+        'D',
+    ),
+    // Each option's value goes into the field of its name, and no other.
+    (
+        "lorawan_ns serve r.json --join 127.0.0.3:8081 --host js --listen 127.0.0.2:1711 --forwarders 127.0.0.4:1712 --power 9 --status 127.0.0.5:1713 --workers 3 --join-workers 5 --window 77 --stop-after 11 --stop-at-end-of-input --trim 13 --output json --events --closing",
+        'O',
+    ),
+];
+
+#[test]
+fn words_of_the_command_line(rt: HostRuntime) {
+    for &(text, wanted) in LINES {
+        assert!(rt; asked_by(&rt, text, &[]) == wanted, "{text}");
+    }
+}
+
+// Options of `serve` with a value, and what is asked for with them.
+const SERVING: &[(&str, &str, char)] = &[
+    ("--host", "localhost", 'U'),
+    ("--host", "js.local", 'S'),
+    ("--host", "a b", 'V'),
+    ("--listen", "127.0.0.1:1701", 'S'),
+    ("--listen", "localhost", 'V'),
+    ("--forwarders", "127.0.0.1:1700", 'S'),
+    ("--forwarders", "localhost", 'V'),
+    ("--power", "27", 'S'),
+    ("--power", "14", 'U'),
+    ("--power", "0", 'E'),
+    ("--power", "28", 'E'),
+    ("--workers", "16", 'S'),
+    ("--workers", "0", 'E'),
+    ("--workers", "17", 'E'),
+    ("--join-workers", "16", 'S'),
+    ("--join-workers", "17", 'E'),
+    ("--window", "60000", 'S'),
+    ("--window", "60001", 'E'),
+    ("--stop-after", "4294967295", 'S'),
+    ("--stop-after", "4294967296", 'E'),
+    ("--trim", "1", 'S'),
+    ("--trim", "4294967295", 'S'),
+    ("--trim", "10000", 'U'),
+    ("--trim", "never", 'S'),
+    ("--trim", "0", 'V'),
+    ("--trim", "4294967296", 'V'),
+    ("--trim", "Never", 'V'),
+    ("--output", "lines", 'U'),
+    ("--output", "json", 'S'),
+    ("--output", "xml", 'V'),
+];
+
+#[test]
+fn words_of_serving(rt: HostRuntime) {
+    let text = "lorawan_ns serve roster.json --join 127.0.0.1:8080";
+    for &(name, value, wanted) in SERVING {
+        assert!(rt;
+            asked_by(&rt, text, &[name, value]) == wanted,
+            "{name} {value}"
+        );
+    }
 }
 
 // What is said of an option whose value it cannot have.
+const TAKES: &[(OptionName, &str)] = &[
+    (OptionName::Join, "IP address and a port"),
+    (OptionName::Join, "no name"),
+    (OptionName::Join, "no http://"),
+    (OptionName::Listen, "IP address and a port"),
+    (OptionName::Host, "name"),
+    (OptionName::Trim, "never"),
+    (OptionName::Output, "json"),
+    (OptionName::StopAfter, "1 to 4294967295"),
+    (OptionName::Workers, "1 to 16"),
+    (OptionName::Window, "1 to 60000"),
+];
+
 #[test]
 fn options_say_what_they_take(rt: HostRuntime) {
-    for (name, wanted) in [
-        (OptionName::Join, "IP address and a port"),
-        (OptionName::Join, "no name"),
-        (OptionName::Join, "no http://"),
-        (OptionName::Listen, "IP address and a port"),
-        (OptionName::Host, "name"),
-        (OptionName::Trim, "never"),
-        (OptionName::Output, "json"),
-        (OptionName::StopAfter, "1 to 4294967295"),
-        (OptionName::Workers, "1 to 16"),
-        (OptionName::Window, "1 to 60000"),
-    ] {
-        assert!(rt; name.takes().contains(wanted), "{name}");
+    for (name, wanted) in TAKES {
+        assert!(rt; name.takes().contains(*wanted), "{wanted}");
     }
 }
 
-// An option is printed by its name, which a contract gives `as_str`.
-#[test]
-fn options_are_printed_by_their_names(rt: HostRuntime) -> Result<(), Fail> {
-    for name in [
-        OptionName::Join,
-        OptionName::Host,
-        OptionName::Listen,
-        OptionName::Forwarders,
-        OptionName::Power,
-        OptionName::Status,
-        OptionName::Workers,
-        OptionName::JoinWorkers,
-        OptionName::Window,
-        OptionName::StopAfter,
-        OptionName::Trim,
-        OptionName::Record,
-        OptionName::Output,
-    ] {
-        assert!(rt; format!(in rt.alloc(); "{name}")?.as_str() == name.as_str());
+const NAMES: &[OptionName] = &[
+    OptionName::Join,
+    OptionName::Host,
+    OptionName::Listen,
+    OptionName::Forwarders,
+    OptionName::Power,
+    OptionName::Status,
+    OptionName::Workers,
+    OptionName::JoinWorkers,
+    OptionName::Window,
+    OptionName::StopAfter,
+    OptionName::Trim,
+    OptionName::Record,
+    OptionName::Output,
+];
+
+// Whether an option is printed by its name, which a contract gives `as_str`.
+fn is_printed(alloc: Global, name: &OptionName) -> bool {
+    match format!(in alloc; "{name}") {
+        Ok(text) => text.as_str() == name.as_str(),
+        Err(_) => false,
     }
-    Ok(())
+}
+
+#[test]
+fn options_are_printed_by_their_names(rt: HostRuntime) {
+    for name in NAMES {
+        assert!(rt; is_printed(rt.alloc(), name));
+    }
+}
+
+// The text that some words ask for.
+fn text_by(alloc: Global, words: &[String]) -> Option<String> {
+    match read_words(alloc, words) {
+        Err(BadWords::Shown(error)) => format!(in alloc; "{error}").ok(),
+        _ => None,
+    }
+}
+
+// Whether the text that a word asks for has this in it.
+fn says(alloc: Global, word: &str, wanted: &str) -> Option<bool> {
+    let words = words_of(alloc, "lorawan_ns", &[word]).ok()?;
+    let text = text_by(alloc, words.as_slice())?;
+    Some(text.as_str().contains(wanted))
 }
 
 // What `--help` and `--version` print.
+const SHOWN: &[(&str, &str)] = &[
+    ("--help", "Standard input"),
+    ("--help", "Standard output"),
+    ("--help", "Status"),
+    ("--help", "docs/FORMATS.md"),
+    ("--help", "log lines"),
+    ("--version", "lorawan_ns 0.1.0"),
+];
+
 #[test]
-fn help_names_streams_and_statuses(rt: HostRuntime) -> Result<(), Fail> {
-    for (word, wanted) in [
-        ("--help", "Standard input"),
-        ("--help", "Standard output"),
-        ("--help", "Status"),
-        ("--help", "docs/FORMATS.md"),
-        ("--help", "log lines"),
-        ("--version", "lorawan_ns 0.1.0"),
-    ] {
-        let mut words = words_of(&rt, "lorawan_ns")?;
-        words.push(String::from_str(rt.alloc(), word)?)?;
-        let Err(BadWords::Shown(error)) = read_words(rt.alloc(), words.as_slice()) else {
-            return Err(Fail::new("no text"));
-        };
-        let text = format!(in rt.alloc(); "{error}")?;
-        assert!(rt; text.as_str().contains(wanted), "{word}");
+fn help_names_streams_and_statuses(rt: HostRuntime) {
+    for &(word, wanted) in SHOWN {
+        assert!(rt;
+            says(rt.alloc(), word, wanted) == Some(true),
+            "{word} {wanted}"
+        );
     }
-    Ok(())
 }
