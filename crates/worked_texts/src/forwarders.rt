@@ -1,4 +1,4 @@
-//! Reads messages of packet forwarders as the server does, and prints a line for each: what acknowledges it, and what it becomes.
+//! Reads messages of packet forwarders as the server does, and puts a line for each: what acknowledges it, and what it becomes.
 //!
 //! A line of the text is a time in microseconds and a message in hex, with a space between. The line for it is the fault of a
 //! message that is not acknowledged, as `F3`; else the acknowledgement in hex, or `-`, and behind it
@@ -13,14 +13,17 @@
 mod messages;
 
 use crate::forwarders::messages::Messages;
+use crate::put::put_line;
 use std::alloc::Global;
 
-/// Prints the line for each message of a text.
-pub fn print<R: Print>(rt: &R, alloc: Global, text: &str) -> anyhow::Result<()> {
-    let mut messages = Messages::new(alloc)?;
-    for line in text.strip_suffix("\n").unwrap_or(text).split("\n") {
-        let printed = messages.printed(alloc, line)?;
-        println!(rt; "{printed}")?;
+/// Puts the line for each message of a text.
+pub fn make(alloc: Global, text: &str, out: &mut String) {
+    match Messages::new(alloc) {
+        Ok(mut messages) => {
+            for line in text.strip_suffix("\n").unwrap_or(text).split("\n") {
+                messages.put(alloc, line, out);
+            }
+        }
+        Err(_) => put_line(out, "no memory"),
     }
-    Ok(())
 }

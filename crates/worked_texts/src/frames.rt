@@ -1,5 +1,5 @@
-//! Asks what a text asks of the crates for frames, from AES to the device for tests, and prints the title of each case. Where the answers
-//! are not those of the text, it prints both.
+//! Asks what a text asks of the crates for frames, from AES to the device for tests, and puts the title of each case. Where the answers are
+//! not those of the text, it puts both.
 //!
 //! `# TITLE` begins a case, and of the lines behind it
 //!
@@ -26,46 +26,46 @@ mod views;
 
 use crate::frames::answers::Answers;
 use crate::frames::ask::Ask;
+use crate::put::put_line;
 use ns_types::Heard;
 use std::alloc::Global;
 use test_device::TestDevice;
 
-// Puts the answer to a line that asks.
+// Puts the answer to a line that asks, where a device and copies of a frame may change.
 fn answer(ask: Ask, device: &mut TestDevice, copies: &mut Vec<Heard>, out: &mut Answers) {
     match ask.what() {
+        "device" => devices::new(ask, device, out),
+        "accept" => devices::accept(ask, device, out),
+        "uplink" => devices::uplink(ask, device, out),
+        "copy" => names::copy(ask, copies, out),
+        what => answer_to(what, ask, out),
+    }
+}
+
+// Puts the answer to a line that asks this.
+fn answer_to(what: &str, ask: Ask, out: &mut Answers) {
+    match what {
         "aes" => ciphers::aes(ask, out),
         "cmac" => ciphers::cmac(ask, out),
         "read" => variants::read(ask, out),
         "parts" => views::parts(ask, out),
         "fronts" => variants::fronts(ask, out),
         "changes" => variants::changes(ask, out),
-        "mic" => mics::mic(ask, out),
-        "fits" => mics::fits(ask, out),
-        "cipher" => mics::cipher(ask, out),
-        "decipher" => mics::decipher(ask, out),
-        "session_keys" => mics::session(ask, out),
-        "join_mic" => mics::join_mic(ask, out),
-        "accept_cipher" => mics::accept_cipher(ask, out),
-        "counter" => mics::counter(ask, out),
         "data" => created::data(ask, out),
         "acknowledgement" => created::acknowledgement(ask, out),
         "each_length" => created::each_length(ask, out),
         "join_request" => created::join_request(ask, out),
         "join_accept" => created::join_accept(ask, out),
-        "device" => devices::new(ask, device, out),
-        "accept" => devices::accept(ask, device, out),
-        "uplink" => devices::uplink(ask, device, out),
         "send" => datagrams::send(ask, out),
         "address" => names::address(ask, out),
         "window" => names::window(ask, out),
         "ticket" => names::ticket(ask, out),
         "rx1" => names::first_window(ask, out),
-        "copy" => names::copy(ask, copies, out),
         "source" => streams::read(ask, out),
         "sink" => streams::write(ask, out),
         "std" => streams::over_std(ask, out),
         "std_fails" => streams::fails(ask, out),
-        _ => out.word("?"),
+        _ => mics::answer(what, ask, out),
     }
 }
 
@@ -102,7 +102,7 @@ impl Case {
         } else if line.starts_with("=") {
             self.wanted.begin(line);
         } else if line.starts_with("with ") {
-            self.given = self.report.other();
+            self.given.clear();
             self.given.begin(line);
         } else if let Some(title) = line.strip_prefix("# ") {
             self.end();
@@ -118,21 +118,20 @@ impl Case {
             self.report.begin("Wanted:");
             self.report.words_of(&self.wanted);
         }
-        self.given = self.report.other();
+        self.given.clear();
         self.device = devices::device(Ask::new("", ""));
         self.copies.clear();
-        self.found = self.report.other();
-        self.wanted = self.report.other();
+        self.found.clear();
+        self.wanted.clear();
     }
 }
 
-/// Prints the titles of a text's cases.
-pub fn print<R: Print>(rt: &R, alloc: Global, text: &str) -> anyhow::Result<()> {
+/// Puts the titles of a text's cases.
+pub fn make(alloc: Global, text: &str, out: &mut String) {
     let mut case = Case::new(alloc);
     for line in text.split("\n") {
         case.add(line);
     }
     case.end();
-    rt.println(case.report.text())?;
-    Ok(())
+    put_line(out, case.report.text());
 }

@@ -1,4 +1,4 @@
-//! Reads the texts of joins as the server does, and prints what each comes to. Each line of the text is printed again, and what it
+//! Reads the texts of joins as the server does, and puts what each comes to. Each line of the text is put again, and what it
 //! comes to below it:
 //!
 //! - `> WORD TEXT` is a step: it asks, or says what the questions behind it are about (`worked.rt`). In its text `\r`, `\n`, `\t` and
@@ -23,12 +23,10 @@ mod worked;
 use crate::joins::worked::Worked;
 use std::alloc::Global;
 
-/// Prints what each line of a text comes to.
-pub fn print<R: Print>(rt: &R, alloc: Global, text: &str) -> anyhow::Result<()> {
+/// Puts what each line of a text comes to.
+pub fn make(alloc: Global, text: &str, out: &mut String) {
     let mut worked = Worked::new(alloc);
     for line in text.strip_suffix("\n").unwrap_or(text).split("\n") {
-        let printed = worked.printed(alloc, line)?;
-        println!(rt; "{printed}")?;
+        worked.put(alloc, line, out);
     }
-    Ok(())
 }

@@ -11,10 +11,12 @@
 mod forwarders;
 mod frames;
 mod joins;
+mod put;
 mod records;
 mod runs;
 
 use anyhow::bail;
+use std::alloc::Global;
 use std::rt::Files;
 use std::{env, fs, io};
 
@@ -53,21 +55,29 @@ fn text_of<R: Files + Input + AllocGlobal>(rt: &R, name: &str) -> anyhow::Result
     }
 }
 
-// Makes the text of this name.
+// What is printed of a text of this kind and name.
+fn printed(alloc: Global, kind: Kind, name: &str, text: &str) -> String {
+    let mut out = String::new(alloc);
+    match kind {
+        Kind::Runs => runs::make(alloc, name, text, &mut out),
+        Kind::Records => records::make(alloc, text, &mut out),
+        Kind::Forwarders => forwarders::make(alloc, text, &mut out),
+        Kind::Frames => frames::make(alloc, text, &mut out),
+        Kind::Joins => joins::make(alloc, text, &mut out),
+    }
+    out
+}
+
+// Makes the text of this name, and prints what comes of it.
 fn make<R: Files + Input + Print + AllocGlobal>(
     rt: &R,
     kind: Kind,
     name: &str,
 ) -> anyhow::Result<()> {
     let text = text_of(rt, name)?;
-    let text = text.as_str();
-    match kind {
-        Kind::Runs => runs::print(rt, rt.alloc(), name, text),
-        Kind::Records => records::print(rt, rt.alloc(), text),
-        Kind::Forwarders => forwarders::print(rt, rt.alloc(), text),
-        Kind::Frames => frames::print(rt, rt.alloc(), text),
-        Kind::Joins => joins::print(rt, rt.alloc(), text),
-    }
+    let printed = printed(rt.alloc(), kind, name, text.as_str());
+    rt.print(printed.as_str())?;
+    Ok(())
 }
 
 fn main(rt: HostRuntime) -> anyhow::Result<()> {

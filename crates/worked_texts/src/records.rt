@@ -1,5 +1,5 @@
-//! Makes the lives of records that a text tells, and prints the title of each. Where a record, a server or a start says other
-//! lines than the text does, it prints what was said and what was wanted.
+//! Makes the lives of records that a text tells, and puts the title of each. Where a record, a server or a start says other
+//! lines than the text does, it puts what was said and what was wanted.
 //!
 //! What stands before the first title says what the text is about. `# TITLE` begins with empty files and no server, and of the lines
 //! behind it
@@ -18,19 +18,17 @@
 mod life;
 mod lines;
 
+use crate::put::put_line;
 use crate::records::life::Life;
 use std::alloc::Global;
 
 /// Makes the records of a text.
-pub fn print<R: Print>(rt: &R, alloc: Global, text: &str) -> anyhow::Result<()> {
+pub fn make(alloc: Global, text: &str, out: &mut String) {
     let mut life = Life::new(alloc);
     for part in text.split("\n# ").skip(1) {
         let (title, lines) = part.split_once("\n").unwrap_or((part, ""));
-        println!(rt; "{title}")?;
-        let (said, wanted) = life.told(lines)?;
-        if said.as_str() != wanted.as_str() {
-            println!(rt; "differs. Said:\n{said}Wanted:\n{wanted}")?;
-        }
+        put_line(out, title);
+        life.take(lines);
+        life.put_difference(out);
     }
-    Ok(())
 }

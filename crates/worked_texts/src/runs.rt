@@ -1,5 +1,5 @@
-//! Makes the worked runs of a text by `replay`, and prints its name and the title of each run. Where a run writes other lines than the
-//! text says, it prints what was written and what was wanted.
+//! Makes the worked runs of a text by `replay`, and puts its name and the title of each run. Where a run writes other lines than the
+//! text says, it puts what was written and what was wanted.
 //!
 //! What stands before the first title says what the text is about. `# TITLE` begins a run, and of the lines behind it
 //!
@@ -14,11 +14,12 @@
 
 ghost use Rattle.std.specs.Prelude.{◌<◌};
 
+use crate::put::{put, put_line, put_made, show};
 use ns_events::Output;
 use ns_replay::{ReplayFault, replay};
 use ns_roster::Roster;
 use ns_types::Fuse;
-use std::alloc::{AllocError, Global};
+use std::alloc::Global;
 use std::sync::Arc;
 
 // A run as its text tells it: its steps, and the lines that are to be written.
@@ -44,45 +45,56 @@ impl Worked {
     }
 
     // The run of these lines, in place of the one before. Where they name no roster, that one's stays.
-    fn read(&mut self, lines: &str) -> Result<(), AllocError> {
+    fn read(&mut self, lines: &str) {
         self.uplinks = Output::Lines;
         self.closing = false;
         self.steps.clear();
         self.lines.clear();
         for line in lines.split("\n") {
-            self.add(line)?;
+            self.add(line);
         }
-        Ok(())
     }
 
     // Adds a line of the text.
-    fn add(&mut self, line: &str) -> Result<(), AllocError> {
+    fn add(&mut self, line: &str) {
         if let Some(roster) = line.strip_prefix("roster ") {
             self.roster.clear();
-            self.roster.push_str(roster)?;
+            put(&mut self.roster, roster);
         } else if line == "closing" {
             self.closing = true;
         } else if line == "json" {
             self.uplinks = Output::Json;
         } else if let Some(step) = line.strip_prefix(">") {
-            self.steps.push_str(step.strip_prefix(" ").unwrap_or(step))?;
-            self.steps.push_str("\n")?;
+            put_line(&mut self.steps, step.strip_prefix(" ").unwrap_or(step));
         } else if !line.is_empty() {
-            self.lines.push_str(line)?;
-            self.lines.push_str("\n")?;
+            put_line(&mut self.lines, line);
         }
-        Ok(())
     }
 
-    // What the run writes where at most so many bytes are read or written at once.
-    fn written(&self, alloc: Global, most: usize) -> Result<String, AllocError>
+    // Puts what the run writes where at most so many bytes are read or written at once.
+    fn put_written(&self, alloc: Global, most: usize, out: &mut String)
         requires { 0 < most }
     {
-        let roster = match Roster::read(alloc, self.roster.as_bytes()) {
-            Ok(roster) => Arc::new(alloc, roster)?,
-            Err(fault) => return format!(in alloc; "roster: {fault}\n"),
+        match Roster::read(alloc, self.roster.as_bytes()) {
+            Ok(roster) => match Arc::new(alloc, roster) {
+                Ok(roster) => self.replay(alloc, roster, most, out),
+                Err(_) => put(out, "no memory\n"),
+            },
+            Err(fault) => {
+                put(out, "roster: ");
+                show(out, fault);
+                put(out, "\n");
+            }
+        }
+    }
+
+    // Puts what the run writes with its roster.
+    fn replay(&self, alloc: Global, roster: Arc<Roster>, most: usize, out: &mut String)
+        requires { 0 < most }
+    {
+        let Ok(input) = Vec::from_slice(alloc, self.steps.as_bytes()) else {
+            return;
         };
-        let input = Vec::from_slice(alloc, self.steps.as_bytes())?;
         let mut reader = Fuse::new(alloc, input, most, None, None);
         let mut writer = Fuse::new(alloc, Vec::new(alloc), most, None, None);
         match replay(
@@ -93,36 +105,38 @@ impl Worked {
             &mut reader,
             &mut writer,
         ) {
-            Ok(()) => String::from_utf8_lossy(alloc, writer.written()),
-            Err(ReplayFault::NoMemory) => Err(AllocError),
-            Err(ReplayFault::Io) => String::from_str(alloc, "io\n"),
+            Ok(()) => put_made(out, String::from_utf8_lossy(alloc, writer.written())),
+            Err(ReplayFault::NoMemory) => put(out, "no memory\n"),
+            Err(ReplayFault::Io) => put(out, "io\n"),
         }
     }
-}
 
-// Makes a run, and prints its title.
-fn make<R: Print>(rt: &R, alloc: Global, title: &str, run: &Worked) -> anyhow::Result<()> {
-    println!(rt; "  {title}")?;
-    for most in [1usize, 7, 1_000_000] {
-        let written = run.written(alloc, most)?;
-        if written.as_str() != run.lines.as_str() {
-            println!(rt;
-                "differs, in pieces of {most} bytes. Written:\n{written}Wanted:\n{}",
-                run.lines
-            )?;
+    // Puts the run's title, and what is written in place of its lines.
+    fn make(&self, alloc: Global, title: &str, out: &mut String) {
+        put(out, "  ");
+        put_line(out, title);
+        for most in [1usize, 7, 1_000_000] {
+            let mut written = String::new(alloc);
+            self.put_written(alloc, most, &mut written);
+            if written.as_str() != self.lines.as_str() {
+                put(out, "differs, in pieces of ");
+                show(out, most);
+                put(out, " bytes. Written:\n");
+                put(out, written.as_str());
+                put(out, "Wanted:\n");
+                put_line(out, self.lines.as_str());
+            }
         }
     }
-    Ok(())
 }
 
 /// Makes the runs of the text of this name.
-pub fn print<R: Print>(rt: &R, alloc: Global, name: &str, text: &str) -> anyhow::Result<()> {
+pub fn make(alloc: Global, name: &str, text: &str, out: &mut String) {
     let mut run = Worked::new(alloc);
-    println!(rt; "{name}")?;
+    put_line(out, name);
     for part in text.split("\n# ").skip(1) {
         let (title, lines) = part.split_once("\n").unwrap_or((part, ""));
-        run.read(lines)?;
-        make(rt, alloc, title, &run)?;
+        run.read(lines);
+        run.make(alloc, title, out);
     }
-    Ok(())
 }

@@ -20,6 +20,12 @@ impl Answers {
         }
     }
 
+    /// Takes all lines away.
+    pub fn clear(&mut self) {
+        self.text.clear();
+        self.bytes.clear();
+    }
+
     /// What it allocates from.
     pub fn alloc(&self) -> Global {
         self.alloc

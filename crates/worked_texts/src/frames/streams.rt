@@ -45,14 +45,19 @@ pub fn write(ask: Ask, out: &mut Answers) {
     out.hex(sink.written());
 }
 
+// Puts whether all is written to a `Vec` of std, and what it has then.
+fn put_in_vec(bytes: &[u8], out: &mut Answers) {
+    let mut sink = OverStd::new(Vec::new(out.alloc()));
+    put_written(&mut sink, bytes, out);
+    out.hex(sink.into_inner().as_slice());
+}
+
 /// bytes, room: the bytes read from a slice of std, written to its `Vec`, and written to a slice of so much room.
 pub fn over_std(ask: Ask, out: &mut Answers) {
     let (mut bytes, mut room) = ([0; 256], [0; 256]);
     let bytes: &[u8] = ask.bytes("bytes", &mut bytes);
     put_read(&mut OverStd::new(bytes), out);
-    let mut sink = OverStd::new(Vec::new(out.alloc()));
-    put_written(&mut sink, bytes, out);
-    out.hex(sink.into_inner().as_slice());
+    put_in_vec(bytes, out);
     put_written(&mut OverStd::new(ask.bytes("room", &mut room)), bytes, out);
 }
 
@@ -106,23 +111,35 @@ fn fails_at(ask: Ask) -> OverStd<FailsAt> {
     })
 }
 
-/// at, by: of nine reads over a stream of std that moves a byte a call and fails at one, how many move a byte, and how many calls reach it;
-/// the same of nine writes; and what comes of reading and of writing all.
-pub fn fails(ask: Ask, out: &mut Answers) {
-    let (mut source, mut sink) = (fails_at(ask), fails_at(ask));
-    let (mut read, mut written) = (0u8, 0u8);
+// Puts how many of nine reads move a byte, and how many calls reach the stream.
+fn put_nine_reads(mut source: OverStd<FailsAt>, out: &mut Answers) {
+    let mut read = 0u8;
     for _ in 0..9 {
         if !source.failed() && source.read(&mut [0; 3]).is_ok() {
             read = read.wrapping_add(1);
         }
+    }
+    out.number(u64::from(read));
+    out.number(u64::from(source.into_inner().calls));
+}
+
+// Puts how many of nine writes move a byte, and how many calls reach the stream.
+fn put_nine_writes(mut sink: OverStd<FailsAt>, out: &mut Answers) {
+    let mut written = 0u8;
+    for _ in 0..9 {
         if !sink.failed() && sink.write(&[0; 10]).is_ok() {
             written = written.wrapping_add(1);
         }
     }
-    out.number(u64::from(read));
-    out.number(u64::from(source.into_inner().calls));
     out.number(u64::from(written));
     out.number(u64::from(sink.into_inner().calls));
+}
+
+/// at, by: of nine reads over a stream of std that moves a byte a call and fails at one, how many move a byte, and how many calls reach it;
+/// the same of nine writes; and what comes of reading and of writing all.
+pub fn fails(ask: Ask, out: &mut Answers) {
+    put_nine_reads(fails_at(ask), out);
+    put_nine_writes(fails_at(ask), out);
     put_read(&mut fails_at(ask), out);
     put_written(&mut fails_at(ask), &[0; 10], out);
 }

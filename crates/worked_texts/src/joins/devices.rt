@@ -1,9 +1,10 @@
 //! The device and the join server for tests.
 
 use crate::joins::text::eui;
+use crate::put::{put, put_hex, show};
 use ns_roster::field::hex_bytes;
 use ns_types::{DevEui, DevNonce, JoinEui, Key};
-use std::alloc::{AllocError, Global};
+use std::alloc::Global;
 use test_device::{TestDevice, TestJoinServer};
 
 // The greatest JoinNonce.
@@ -32,44 +33,48 @@ pub fn server(alloc: Global, nonce: &str) -> TestJoinServer {
 }
 
 /// Makes a device known to a join server: its DevEUI and AppKey.
-pub fn add(server: &mut TestJoinServer, text: &str) -> Result<(), AllocError> {
+pub fn add(server: &mut TestJoinServer, text: &str) {
     let (dev_eui, app_key) = text.split_once(" ").unwrap_or((text, ""));
-    server.add(DevEui(eui(dev_eui)), key(app_key))
+    let _ = server.add(DevEui(eui(dev_eui)), key(app_key));
 }
 
-/// What a join server answers to a text.
-pub fn reply(
-    alloc: Global,
-    server: &mut TestJoinServer,
-    text: &[u8],
-) -> Result<String, AllocError> {
+/// Puts what a join server answers to a text.
+pub fn reply(alloc: Global, server: &mut TestJoinServer, text: &[u8], out: &mut String) {
     match server.reply(alloc, text) {
-        Ok(reply) => Ok(reply),
-        Err(fault) => format!(in alloc; "{fault}"),
+        Ok(reply) => put(out, reply.as_str()),
+        Err(fault) => show(out, fault),
     }
 }
 
-/// A device's Join-Request of a nonce.
-pub fn join_request(alloc: Global, device: &TestDevice, nonce: &str) -> Result<String, AllocError> {
+/// Puts a device's Join-Request of a nonce.
+pub fn join_request(alloc: Global, device: &TestDevice, nonce: &str, out: &mut String) {
     let nonce = DevNonce(nonce.parse::<u16>().unwrap_or(0));
-    hex::encode(alloc, device.join_request(nonce).as_slice())
+    put_hex(alloc, out, &device.join_request(nonce));
 }
 
-/// What comes of a Join-Accept that answers the Join-Request of a nonce: the session's address, NwkSKey and AppSKey.
-pub fn accept(alloc: Global, device: &mut TestDevice, text: &str) -> Result<String, AllocError> {
+/// Puts what comes of a Join-Accept that answers the Join-Request of a nonce: the session's address, NwkSKey and AppSKey.
+pub fn accept(alloc: Global, device: &mut TestDevice, text: &str, out: &mut String) {
     let (nonce, frame) = text.split_once(" ").unwrap_or((text, ""));
     let nonce = DevNonce(nonce.parse::<u16>().unwrap_or(0));
-    let Some(frame) = hex_bytes::<17>(frame) else {
-        return String::from_str(alloc, "no frame");
-    };
-    if let Err(fault) = device.accept(nonce, frame.as_slice()) {
-        return format!(in alloc; "{fault}");
+    match hex_bytes::<17>(frame) {
+        Some(frame) => match device.accept(nonce, &frame) {
+            Ok(()) => session(alloc, device, out),
+            Err(fault) => show(out, fault),
+        },
+        None => put(out, "no frame"),
     }
-    let Some(session) = device.session() else {
-        return String::from_str(alloc, "no session");
-    };
-    let addr = hex::encode(alloc, session.addr.0.to_be_bytes())?;
-    let nwk = hex::encode(alloc, session.nwk.0)?;
-    let app = hex::encode(alloc, session.app.0)?;
-    format!(in alloc; "{addr} {nwk} {app}")
+}
+
+// Puts the session of a device: its address, NwkSKey and AppSKey.
+fn session(alloc: Global, device: &TestDevice, out: &mut String) {
+    match device.session() {
+        Some(session) => {
+            put_hex(alloc, out, &session.addr.0.to_be_bytes());
+            put(out, " ");
+            put_hex(alloc, out, &session.nwk.0);
+            put(out, " ");
+            put_hex(alloc, out, &session.app.0);
+        }
+        None => put(out, "no session"),
+    }
 }

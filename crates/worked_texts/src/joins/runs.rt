@@ -1,7 +1,7 @@
 //! What several tries came to, one after the other.
 
-use std::alloc::{AllocError, Global};
-use std::fmt::Write;
+use crate::put::{put, show};
+use std::alloc::Global;
 
 /// Outcomes in order, as lines: how many stand together, and what they are.
 #[derive(Drop)]
@@ -22,28 +22,29 @@ impl Runs {
     }
 
     /// Adds an outcome.
-    pub fn add(&mut self, outcome: String) -> Result<(), AllocError> {
-        if self.count > 0 && self.last.as_str() != outcome.as_str() {
-            self.end()?;
+    pub fn add(&mut self, outcome: String) {
+        if self.last.as_str() != outcome.as_str() {
+            self.end();
         }
         self.last = outcome;
         self.count = self.count.wrapping_add(1);
-        Ok(())
     }
 
-    // Writes the line of the outcomes that stand together last.
-    fn end(&mut self) -> Result<(), AllocError> {
-        let end = if self.lines.is_empty() { "" } else { "\n" };
-        write!(self.lines, "{end}{} {}", self.count, self.last)?;
-        self.count = 0;
-        Ok(())
-    }
-
-    /// The lines.
-    pub fn lines(mut self) -> Result<String, AllocError> {
+    /// Ends the line of the outcomes that stand together last, if there is any.
+    pub fn end(&mut self) {
         if self.count > 0 {
-            self.end()?;
+            if !self.lines.is_empty() {
+                put(&mut self.lines, "\n");
+            }
+            show(&mut self.lines, self.count);
+            put(&mut self.lines, " ");
+            put(&mut self.lines, self.last.as_str());
+            self.count = 0;
         }
-        Ok(self.lines)
+    }
+
+    /// The lines that are ended.
+    pub fn lines(&self) -> &str {
+        self.lines.as_str()
     }
 }

@@ -6,13 +6,14 @@
 ghost use Rattle.std.specs.Prelude.{false, None};
 
 use crate::joins::messages::parts;
-use crate::joins::rosters::lines_of;
+use crate::joins::rosters::put_roster;
+use crate::put::put;
 use ns_calls::JoinAns;
 use ns_joinclient::{AskFault, HostName, ask};
 use ns_joinwire::{AnsFault, join_ans, join_req};
 use ns_roster::{Roster, RosterFault};
 use ns_types::{BLOCKS, DevNonce, Failed, Sink, Source, Stream, Ticket, take_all};
-use std::alloc::{AllocError, Global};
+use std::alloc::Global;
 use test_device::{ReplyFault, TestJoinServer};
 
 /// What is tried.
@@ -147,42 +148,32 @@ fn behind_blocks(
 }
 
 // Tries until it is not refused memory. None where it was not refused before, or is to the end.
-fn until_done(
-    alloc: Global,
-    server: &mut TestJoinServer,
-    tried: Try<'_>,
-) -> Result<Option<Done>, AllocError> {
-    let mut held: Vec<Vec<u8>> = Vec::with_capacity(alloc, BLOCKS)?;
-    take_all(alloc, &mut held)?;
+fn until_done(alloc: Global, server: &mut TestJoinServer, tried: Try<'_>) -> Option<Done> {
+    let mut held: Vec<Vec<u8>> = Vec::with_capacity(alloc, BLOCKS).ok()?;
+    take_all(alloc, &mut held).ok()?;
     if try_once(alloc, server, tried).is_some() {
-        return Ok(None);
+        return None;
     }
-    Ok(behind_blocks(alloc, server, tried, &mut held))
+    behind_blocks(alloc, server, tried, &mut held)
 }
 
-impl Done {
-    // What came, as text.
-    fn text(self, alloc: Global) -> Result<String, AllocError> {
-        match self {
-            Done::Roster(roster) => lines_of(alloc, &roster),
-            Done::Answer(answer) => parts(alloc, &answer),
-            Done::Text(text) => Ok(text),
-            Done::Fault => String::from_str(alloc, "a fault"),
-        }
+// Puts what came.
+fn put_done(alloc: Global, done: &Done, out: &mut String) {
+    match done {
+        Done::Roster(roster) => put_roster(alloc, roster, out),
+        Done::Answer(answer) => parts(alloc, answer, out),
+        Done::Text(text) => put(out, text.as_str()),
+        Done::Fault => put(out, "a fault"),
     }
 }
 
-/// What comes of a try in the end, where it was refused memory before.
-pub fn outcome(
-    alloc: Global,
-    server: &mut TestJoinServer,
-    tried: Try<'_>,
-) -> Result<String, AllocError> {
-    match until_done(alloc, server, tried)? {
+/// Puts what comes of a try in the end, where it was refused memory before.
+pub fn outcome(alloc: Global, server: &mut TestJoinServer, tried: Try<'_>, out: &mut String) {
+    match until_done(alloc, server, tried) {
         Some(done) => {
-            let text = done.text(alloc)?;
-            format!(in alloc; "refused, then {text}")
+            put(out, "refused, then ");
+            put_done(alloc, &done, out);
         }
-        None => String::from_str(alloc, "not refused"),
+        None => put(out, "not refused"),
     }
 }

@@ -1,7 +1,7 @@
 //! Texts and numbers as they stand in a file.
 
 use ns_roster::field::hex_bytes;
-use std::alloc::{AllocError, Global};
+use std::alloc::Global;
 
 // What stands behind a backslash for a byte.
 const ESCAPES: &[(&str, u8)] = &[("r", b'\r'), ("n", b'\n'), ("t", b'\t')];
@@ -18,45 +18,50 @@ fn escaped(part: &str) -> (u8, &str) {
     (byte.unwrap_or([b'?'])[0], behind)
 }
 
+// Adds bytes.
+fn put_bytes(bytes: &mut Vec<u8>, more: &[u8]) {
+    let _ = bytes.extend_from_slice(more);
+}
+
 // Adds the bytes of a text in which `\r`, `\n`, `\t` and `\xHH;` are a byte.
-fn add(bytes: &mut Vec<u8>, text: &str) -> Result<(), AllocError> {
-    let mut parts = text.split("\\");
-    bytes.extend_from_slice(parts.next().unwrap_or("").as_bytes())?;
-    for part in parts {
-        let (byte, behind) = escaped(part);
-        bytes.push(byte)?;
-        bytes.extend_from_slice(behind.as_bytes())?;
+fn add(bytes: &mut Vec<u8>, text: &str) {
+    let (front, parts) = text.split_once("\\").unwrap_or((text, ""));
+    put_bytes(bytes, front.as_bytes());
+    if front.len() < text.len() {
+        for part in parts.split("\\") {
+            let (byte, behind) = escaped(part);
+            put_bytes(bytes, &[byte]);
+            put_bytes(bytes, behind.as_bytes());
+        }
     }
-    Ok(())
 }
 
 // Adds a piece so many times, and what stands behind it: the text behind `\(`.
-fn add_repeated(bytes: &mut Vec<u8>, part: &str) -> Result<(), AllocError> {
+fn add_repeated(bytes: &mut Vec<u8>, part: &str) {
     let (count, rest) = part.split_once(" ").unwrap_or(("0", part));
     let (piece, behind) = rest.split_once(")").unwrap_or((rest, ""));
     for _ in 0..count.parse::<u32>().unwrap_or(0) {
-        add(bytes, piece)?;
+        add(bytes, piece);
     }
-    add(bytes, behind)
+    add(bytes, behind);
 }
 
 // Adds the bytes of a text in which `\(N PIECE)` is a piece so many times.
-fn add_all(bytes: &mut Vec<u8>, text: &str) -> Result<(), AllocError> {
+fn add_all(bytes: &mut Vec<u8>, text: &str) {
     let (front, parts) = text.split_once("\\(").unwrap_or((text, ""));
-    add(bytes, front)?;
+    add(bytes, front);
     for part in parts.split("\\(") {
-        add_repeated(bytes, part)?;
+        add_repeated(bytes, part);
     }
-    Ok(())
 }
 
-/// The bytes of texts, one behind the other, in which `\r`, `\n`, `\t` and `\xHH;` are a byte, and `\(N PIECE)` is a piece so many times.
-pub fn bytes_of(alloc: Global, texts: &[&str]) -> Result<Vec<u8>, AllocError> {
+/// The bytes of two texts, one behind the other, in which `\r`, `\n`, `\t` and `\xHH;` are a byte, and `\(N PIECE)` is a piece so many
+/// times.
+pub fn bytes_of(alloc: Global, first: &str, second: &str) -> Vec<u8> {
     let mut bytes = Vec::new(alloc);
-    for text in texts {
-        add_all(&mut bytes, text)?;
-    }
-    Ok(bytes)
+    add_all(&mut bytes, first);
+    add_all(&mut bytes, second);
+    bytes
 }
 
 /// The EUI of 16 hex digits.

@@ -4,13 +4,13 @@ use crate::joins::exchanges::Asked;
 use crate::joins::scarce::Try;
 use crate::joins::text::bytes_of;
 use crate::joins::{devices, exchanges, messages, rosters, scarce};
-use anyhow::Context;
+use crate::put::{put, show};
 use ns_joinclient::AskFault;
 use ns_joinwire::AnsFault;
 use ns_roster::field::hex_bytes;
 use ns_roster::{Roster, RosterFault};
 use ns_types::Ticket;
-use std::alloc::{AllocError, Global};
+use std::alloc::Global;
 use test_device::{TestDevice, TestJoinServer};
 
 /// What the questions are about.
@@ -35,74 +35,75 @@ impl Worked {
         }
     }
 
-    /// What is printed for a line.
-    pub fn printed(&mut self, alloc: Global, line: &str) -> anyhow::Result<String> {
+    /// Puts what is printed for a line.
+    pub fn put(&mut self, alloc: Global, line: &str, out: &mut String) {
         if let Some(digits) = line.strip_prefix("roster ") {
-            let bytes = hex::decode(alloc, digits)?;
-            return Ok(rosters::closing(alloc, bytes.as_slice())?);
+            rosters::closing(alloc, decoded(alloc, digits).as_slice(), out);
+        } else if let Some(digits) = line.strip_prefix("response ") {
+            exchanges::twice(alloc, decoded(alloc, digits).as_slice(), out);
+        } else {
+            put(out, line);
+            if let Some(step) = line.strip_prefix("> ") {
+                self.step(alloc, step, out);
+            }
         }
-        if let Some(digits) = line.strip_prefix("response ") {
-            let bytes = hex::decode(alloc, digits)?;
-            return Ok(exchanges::twice(alloc, bytes.as_slice())?);
-        }
-        let Some(step) = line.strip_prefix("> ") else {
-            return Ok(String::from_str(alloc, line)?);
-        };
+        put(out, "\n");
+    }
+
+    // Takes a step: changes what questions are about, or puts what a question comes to, on a line of its own.
+    fn step(&mut self, alloc: Global, step: &str, out: &mut String) {
         let (word, text) = halves(step);
-        if self.set(alloc, word, text)? {
-            return Ok(String::from_str(alloc, line)?);
+        if !self.set(alloc, word, text) {
+            put(out, "\n");
+            self.answer(alloc, step, out);
         }
-        let answer = self.answer(alloc, step)?;
-        Ok(format!(in alloc; "{line}\n{answer}")?)
     }
 
     // Changes what questions are about. Whether a word does so.
-    fn set(&mut self, alloc: Global, word: &str, text: &str) -> Result<bool, AllocError> {
+    fn set(&mut self, alloc: Global, word: &str, text: &str) -> bool {
         match word {
-            "text" => self.text = String::from_str(alloc, text)?,
-            "message" => self.message = String::from_str(alloc, text)?,
+            "text" => replace(&mut self.text, text),
+            "message" => replace(&mut self.message, text),
             "transaction" => self.transaction = text.parse::<u32>().unwrap_or(0),
             "device" => self.device = devices::device(text),
             "server" => self.server = devices::server(alloc, text),
-            "add" => devices::add(&mut self.server, text)?,
-            _ => return Ok(false),
+            "add" => devices::add(&mut self.server, text),
+            _ => return false,
         }
-        Ok(true)
+        true
     }
 
-    // The bytes of a text. `OLD => NEW` is the text that questions are about with the first OLD replaced.
-    fn bytes(&self, alloc: Global, text: &str) -> anyhow::Result<Vec<u8>> {
+    // The bytes of a text. `OLD => NEW` is the text that questions are about with the first OLD replaced; None where it has none.
+    fn bytes(&self, alloc: Global, text: &str) -> Option<Vec<u8>> {
         let Some((old, new)) = text.split_once(" => ") else {
-            return Ok(bytes_of(alloc, &[text])?);
+            return Some(bytes_of(alloc, text, ""));
         };
-        let (before, behind) = self
-            .text
-            .split_once(old)
-            .context("the old text is not there")?;
-        let text = format!(in alloc; "{before}{new}{behind}")?;
-        Ok(bytes_of(alloc, &[text.as_str()])?)
+        let (before, behind) = self.text.split_once(old)?;
+        let mut replaced = String::new(alloc);
+        put(&mut replaced, before);
+        put(&mut replaced, new);
+        put(&mut replaced, behind);
+        Some(bytes_of(alloc, replaced.as_str(), ""))
     }
 
-    // The texts of a question.
-    fn texts(&self, alloc: Global, text: &str) -> anyhow::Result<Texts> {
-        Ok(Texts {
-            bytes: self.bytes(alloc, text)?,
-            base: bytes_of(alloc, &[self.text.as_str()])?,
-            response: bytes_of(alloc, &[text, self.text.as_str()])?,
-        })
-    }
-
-    // What a question comes to.
-    fn answer(&mut self, alloc: Global, step: &str) -> anyhow::Result<String> {
+    // Puts what a question comes to.
+    fn answer(&mut self, alloc: Global, step: &str, out: &mut String) {
         let scarce = step.strip_prefix("scarce ");
         let (word, text) = halves(scarce.unwrap_or(step));
-        let texts = self.texts(alloc, text)?;
-        let answer = if scarce.is_some() {
-            self.scarce(alloc, word, text, &texts)
-        } else {
-            self.answered(alloc, word, text, &texts)
+        let Some(bytes) = self.bytes(alloc, text) else {
+            put(out, "the old text is not there");
+            return;
         };
-        Ok(answer?)
+        let texts = Texts {
+            bytes,
+            base: bytes_of(alloc, self.text.as_str(), ""),
+            response: bytes_of(alloc, text, self.text.as_str()),
+        };
+        if scarce.is_some() {
+            self.scarce(alloc, word, text, &texts, out);
+        } else {
+            self.answered(alloc, word, text, &texts, out);
+        }
     }
 
     // What is asked of join servers.
@@ -113,38 +114,26 @@ impl Worked {
         }
     }
 
-    // What a question comes to, where the join server and the device for tests may change.
-    fn answered(
-        &mut self,
-        alloc: Global,
-        word: &str,
-        text: &str,
-        texts: &Texts,
-    ) -> Result<String, AllocError> {
+    // Puts what a question comes to, where the join server and the device for tests may change.
+    fn answered(&mut self, alloc: Global, word: &str, text: &str, texts: &Texts, out: &mut String) {
         match word {
-            "reply" => devices::reply(alloc, &mut self.server, texts.bytes.as_slice()),
-            "join_request" => devices::join_request(alloc, &self.device, text),
-            "accept" => devices::accept(alloc, &mut self.device, text),
-            _ => read(alloc, word, text, self.asked(), texts),
+            "reply" => devices::reply(alloc, &mut self.server, texts.bytes.as_slice(), out),
+            "join_request" => devices::join_request(alloc, &self.device, text, out),
+            "accept" => devices::accept(alloc, &mut self.device, text, out),
+            _ => read(alloc, word, text, self.asked(), texts, out),
         }
     }
 
-    // What a question comes to without memory.
-    fn scarce(
-        &mut self,
-        alloc: Global,
-        word: &str,
-        text: &str,
-        texts: &Texts,
-    ) -> Result<String, AllocError> {
+    // Puts what a question comes to without memory.
+    fn scarce(&mut self, alloc: Global, word: &str, text: &str, texts: &Texts, out: &mut String) {
         let roster = Roster::read(alloc, texts.base.as_slice()).ok();
         let asked = Asked {
             message: self.message.as_str(),
             transaction: self.transaction,
         };
         match tried(word, asked, ticket(text), texts, roster.as_ref()) {
-            Some(tried) => scarce::outcome(alloc, &mut self.server, tried),
-            None => String::from_str(alloc, "no question"),
+            Some(tried) => scarce::outcome(alloc, &mut self.server, tried, out),
+            None => put(out, "no question"),
         }
     }
 }
@@ -157,50 +146,48 @@ struct Texts {
     response: Vec<u8>,
 }
 
-// What a question about a roster or a message comes to.
-fn read(
-    alloc: Global,
-    word: &str,
-    text: &str,
-    asked: Asked<'_>,
-    texts: &Texts,
-) -> Result<String, AllocError> {
-    let (bytes, base) = (texts.bytes.as_slice(), texts.base.as_slice());
-    match word {
-        "holds" => rosters::roster(alloc, bytes),
-        "find" => rosters::found(alloc, base, text),
-        "knows" => rosters::known(alloc, base, text),
-        "field" => rosters::field(alloc, base, text),
-        "question" => messages::question(alloc, base, &ticket(text)),
-        "answer" => messages::answer(alloc, bytes, asked.transaction),
-        "fronts" => messages::fronts(alloc, base, asked.transaction),
-        "words" => words(alloc),
-        _ => exchanged(alloc, word, asked, texts),
+// Puts another text in the place of one.
+fn replace(text: &mut String, with: &str) {
+    text.clear();
+    put(text, with);
+}
+
+// The bytes of hex digits; none where they are not that.
+fn decoded(alloc: Global, digits: &str) -> Vec<u8> {
+    match hex::decode(alloc, digits) {
+        Ok(bytes) => bytes,
+        Err(_) => Vec::new(alloc),
     }
 }
 
-// What a question about an exchange comes to.
-fn exchanged(
-    alloc: Global,
-    word: &str,
-    asked: Asked<'_>,
-    texts: &Texts,
-) -> Result<String, AllocError> {
+// Puts what a question about a roster or a message comes to.
+fn read(alloc: Global, word: &str, text: &str, asked: Asked<'_>, texts: &Texts, out: &mut String) {
+    let (bytes, base) = (texts.bytes.as_slice(), texts.base.as_slice());
+    match word {
+        "holds" => rosters::roster(alloc, bytes, out),
+        "find" => rosters::found(alloc, base, text, out),
+        "knows" => rosters::known(alloc, base, text, out),
+        "field" => rosters::field(alloc, base, text, out),
+        "question" => messages::question(alloc, base, &ticket(text), out),
+        "answer" => messages::answer(alloc, bytes, asked.transaction, out),
+        "fronts" => messages::fronts(alloc, base, asked.transaction, out),
+        "words" => words(out),
+        _ => exchanged(alloc, word, asked, texts, out),
+    }
+}
+
+// Puts what a question about an exchange comes to.
+fn exchanged(alloc: Global, word: &str, asked: Asked<'_>, texts: &Texts, out: &mut String) {
     let response = texts.response.as_slice();
     match word {
-        "host" => exchanges::host(alloc, texts.bytes.as_slice()),
-        "exchange" => exchanges::response(alloc, asked, response),
-        "written" => exchanges::written(alloc, asked, response),
-        "ends" => exchanges::ends(alloc, asked, response),
-        "failed_reads" => exchanges::failed_reads(alloc, asked, response),
-        "failed_writes" => exchanges::failed_writes(alloc, asked, response),
-        "decided" => exchanges::decided(
-            alloc,
-            asked,
-            texts.bytes.as_slice(),
-            texts.base.as_slice(),
-        ),
-        _ => String::from_str(alloc, "no question"),
+        "host" => exchanges::host(texts.bytes.as_slice(), out),
+        "exchange" => exchanges::response(alloc, asked, response, out),
+        "written" => exchanges::written(alloc, asked, response, out),
+        "ends" => exchanges::ends(alloc, asked, response, out),
+        "failed_reads" => exchanges::failed_reads(alloc, asked, response, out),
+        "failed_writes" => exchanges::failed_writes(alloc, asked, response, out),
+        "decided" => exchanges::decided(alloc, asked, response, texts.bytes.len(), out),
+        _ => put(out, "no question"),
     }
 }
 
@@ -237,12 +224,11 @@ fn tried<'a>(
     }
 }
 
-// How want of memory is printed, of a roster, an answer and an exchange.
-fn words(alloc: Global) -> Result<String, AllocError> {
-    let (roster, answer, exchange) = (
-        RosterFault::NoMemory,
-        AnsFault::NoMemory,
-        AskFault::NoMemory,
-    );
-    format!(in alloc; "{roster}, {answer}, {exchange}")
+// Puts how want of memory is printed, of a roster, an answer and an exchange.
+fn words(out: &mut String) {
+    show(out, RosterFault::NoMemory);
+    put(out, ", ");
+    show(out, AnsFault::NoMemory);
+    put(out, ", ");
+    show(out, AskFault::NoMemory);
 }

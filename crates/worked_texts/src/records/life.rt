@@ -1,17 +1,16 @@
 //! A record, and the server that writes it.
 
-use crate::records::lines::{put, without_end, without_last};
-use anyhow::bail;
-use ns_calls::{Answer, Line, lines, put_window, shard_of_call, up_line};
+use crate::put::{put, put_hex, put_line, show};
+use crate::records::lines::{without_end, without_last};
+use ns_calls::{Answer, Call, Line, lines, put_window, shard_of_call, up_line};
 use ns_record::{matters, step_line};
 use ns_replay::step;
 use ns_resume::{RecordFault, Resumed, run_record};
 use ns_roster::Roster;
 use ns_shard::{Shard, call_of};
-use std::alloc::{AllocError, Global};
-use std::fmt::Write;
+use std::alloc::Global;
+use std::fmt::Display;
 use std::io::BufReader;
-use std::mem;
 use std::sync::Arc;
 
 // How many bytes of a file are read at once: few, so that lines stand in several pieces.
@@ -45,80 +44,81 @@ impl Life {
         }
     }
 
-    /// What is said and what is wanted in these lines, which begin with empty files and no server.
-    pub fn told(&mut self, lines: &str) -> anyhow::Result<(String, String)> {
+    /// Takes these lines, which begin with empty files and no server.
+    pub fn take(&mut self, lines: &str) {
         self.steps.clear();
         self.up.clear();
         self.shards.clear();
+        self.said.clear();
+        self.wanted.clear();
         for line in lines.split("\n") {
-            self.add(line)?;
+            self.add(line);
         }
-        let said = mem::replace(&mut self.said, String::new(self.alloc));
-        let wanted = mem::replace(&mut self.wanted, String::new(self.alloc));
-        Ok((said, wanted))
+    }
+
+    /// Puts what was said and what was wanted, where these differ.
+    pub fn put_difference(&self, out: &mut String) {
+        if self.said.as_str() != self.wanted.as_str() {
+            put(out, "differs. Said:\n");
+            put(out, self.said.as_str());
+            put(out, "Wanted:\n");
+            put_line(out, self.wanted.as_str());
+        }
     }
 
     // Does what a line says.
-    fn add(&mut self, line: &str) -> anyhow::Result<()> {
+    fn add(&mut self, line: &str) {
         if let Some(roster) = line.strip_prefix("roster ") {
-            self.roster = String::from_str(self.alloc, roster)?;
+            self.roster.clear();
+            put(&mut self.roster, roster);
         } else if let Some(text) = line.strip_prefix("> ") {
-            self.step(text)?;
+            self.step(text);
         } else if let Some(order) = line.strip_prefix("$ ") {
-            self.follow(order)?;
+            self.follow(order);
         } else if !line.is_empty() {
-            put(&mut self.wanted, line)?;
+            put_line(&mut self.wanted, line);
         }
-        Ok(())
     }
 
     // Does what is to be done to the record.
-    fn follow(&mut self, order: &str) -> anyhow::Result<()> {
+    fn follow(&mut self, order: &str) {
         let (word, rest) = order.split_once(" ").unwrap_or((order, ""));
         let (name, text) = rest.split_once(" ").unwrap_or((rest, ""));
-        match (word, name) {
-            ("start", _) => self.start()?,
-            ("show", "steps") => self.said.push_str(self.steps.as_str())?,
-            ("show", "up") => self.said.push_str(self.up.as_str())?,
-            (_, "steps") => change(self.alloc, &mut self.steps, word, text)?,
-            (_, "up") => change(self.alloc, &mut self.up, word, text)?,
-            _ => bail!("no file: {name}"),
+        match name {
+            "" if word == "start" => self.start(),
+            "steps" => change(self.alloc, &mut self.steps, word, text, &mut self.said),
+            "up" => change(self.alloc, &mut self.up, word, text, &mut self.said),
+            _ => say(&mut self.said, "no file: ", name),
         }
-        Ok(())
     }
 
     // Makes the call of a step at its shard, and puts it down where later answers rest on it.
-    fn step(&mut self, text: &str) -> anyhow::Result<()> {
-        let Some(act) = step(self.alloc, text.as_bytes())? else {
-            bail!("no step: {text}");
-        };
-        let Some(call) = call_of(self.alloc, &act)? else {
-            bail!("no call: {text}");
-        };
-        let place = shard_of_call(&call);
-        let Some(shard) = self.shards.get_mut(usize::from(place)) else {
-            bail!("no server runs");
-        };
-        if shard.index() != place {
-            bail!("a shard in another's place");
+    fn step(&mut self, text: &str) {
+        match call_of_step(self.alloc, text) {
+            Some(call) => self.make(call),
+            None => say(&mut self.said, "no call: ", text),
         }
-        let line = step_line(&call);
-        let answer = shard.apply(call)?;
-        if matters(&answer.reply) {
-            put(&mut self.steps, line.as_str())?;
-            self.put_up(&answer)?;
-        }
-        for line in lines(&answer) {
-            put(&mut self.said, line.as_str())?;
-        }
-        Ok(())
     }
 
-    // Puts down the `up` line of an answer.
-    fn put_up(&mut self, answer: &Answer) -> Result<(), AllocError> {
-        match &answer.uplink {
-            Some(uplink) => put(&mut self.up, up_line(uplink).as_str()),
-            None => Ok(()),
+    // Makes a call at its shard.
+    fn make(&mut self, call: Call) {
+        let line = step_line(&call);
+        match answer_of(&mut self.shards, call) {
+            Some(answer) => self.put_answer(line.as_str(), &answer),
+            None => put_line(&mut self.said, "no server runs"),
+        }
+    }
+
+    // Says the answer to the call of this step line, and puts both down where later answers rest on it.
+    fn put_answer(&mut self, line: &str, answer: &Answer) {
+        if matters(&answer.reply) {
+            put_line(&mut self.steps, line);
+            if let Some(uplink) = &answer.uplink {
+                put_line(&mut self.up, up_line(uplink).as_str());
+            }
+        }
+        for line in lines(answer) {
+            put_line(&mut self.said, line.as_str());
         }
     }
 
@@ -130,76 +130,117 @@ impl Life {
     }
 
     // Begins a server with the files.
-    fn start(&mut self) -> anyhow::Result<()> {
+    fn start(&mut self) {
         self.shards.clear();
-        let roster = match Roster::read(self.alloc, self.roster.as_bytes()) {
-            Ok(roster) => Arc::new(self.alloc, roster)?,
-            Err(fault) => bail!("roster: {fault}"),
-        };
-        match self.resumed(roster) {
-            Ok(resumed) => {
-                self.go_on(&resumed)?;
-                self.shards = resumed.shards;
-                Ok(())
-            }
-            Err(fault) => Ok(writeln!(self.said, "{fault}")?),
+        match Roster::read(self.alloc, self.roster.as_bytes()) {
+            Ok(roster) => match Arc::new(self.alloc, roster) {
+                Ok(roster) => self.start_with(roster),
+                Err(_) => put_line(&mut self.said, "no memory"),
+            },
+            Err(fault) => say(&mut self.said, "roster: ", fault),
         }
     }
 
-    // Goes on with what the files leave: their torn lines are cut off, and `up` lines that are missing are added.
-    fn go_on(&mut self, resumed: &Resumed) -> anyhow::Result<()> {
-        let made = resumed
-            .shards
-            .iter()
-            .fold(0u64, |sum, shard| sum.wrapping_add(shard.made()));
-        writeln!(self.said, "made {made}")?;
-        self.cut(resumed.torn, resumed.up_torn)?;
-        self.add_missing(resumed.missing.as_slice())?;
-        for window in &resumed.windows {
-            let mut name = Line::new();
-            put_window(&mut name, window);
-            writeln!(self.said, "open{}", name.as_str())?;
+    // Begins a server of this roster with the files.
+    fn start_with(&mut self, roster: Arc<Roster>) {
+        match self.resumed(roster) {
+            Ok(resumed) => {
+                self.cut(resumed.shards.as_slice(), resumed.torn, resumed.up_torn);
+                self.add_missing(resumed.missing.as_slice());
+                put_open(self.alloc, &resumed, &mut self.said);
+                self.shards = resumed.shards;
+            }
+            Err(fault) => say(&mut self.said, "", fault),
         }
-        for ticket in &resumed.tickets {
-            let digits = hex::encode(self.alloc, ticket.0)?;
-            writeln!(self.said, "asked {digits}")?;
+    }
+
+    // Says how many entries shards have made, and cuts torn lines of so many bytes off the files.
+    fn cut(&mut self, shards: &[Shard], steps: usize, up: usize) {
+        say(&mut self.said, "made ", made(shards));
+        if steps > 0 {
+            say(&mut self.said, "cut steps ", steps);
+            let whole = without_end(self.steps.as_str(), steps);
+            self.steps = text_of(self.alloc, whole);
         }
-        Ok(())
+        if up > 0 {
+            say(&mut self.said, "cut up ", up);
+            let whole = without_end(self.up.as_str(), up);
+            self.up = text_of(self.alloc, whole);
+        }
     }
 
     // Adds `up` lines that are missing.
-    fn add_missing(&mut self, bytes: &[u8]) -> anyhow::Result<()> {
-        let Ok(missing) = str::from_utf8(bytes) else {
-            bail!("`up` lines that are no text");
-        };
-        self.up.push_str(missing)?;
+    fn add_missing(&mut self, bytes: &[u8]) {
+        let missing = str::from_utf8(bytes).unwrap_or("no text\n");
+        put(&mut self.up, missing);
         for line in missing.lines() {
-            writeln!(self.said, "added {line}")?;
+            say(&mut self.said, "added ", line);
         }
-        Ok(())
-    }
-
-    // Cuts torn lines of so many bytes off the files.
-    fn cut(&mut self, steps: usize, up: usize) -> anyhow::Result<()> {
-        if steps > 0 {
-            writeln!(self.said, "cut steps {steps}")?;
-            self.steps = String::from_str(self.alloc, without_end(self.steps.as_str(), steps))?;
-        }
-        if up > 0 {
-            writeln!(self.said, "cut up {up}")?;
-            self.up = String::from_str(self.alloc, without_end(self.up.as_str(), up))?;
-        }
-        Ok(())
     }
 }
 
-// Changes a file by a line, a text without a line feed, or the loss of its last line.
-fn change(alloc: Global, file: &mut String, word: &str, text: &str) -> anyhow::Result<()> {
-    match word {
-        "put" => put(file, text)?,
-        "tear" => file.push_str(text)?,
-        "drop" => *file = String::from_str(alloc, without_last(file.as_str()))?,
-        _ => bail!("nothing to be done: {word}"),
+// Says a word and a value.
+fn say<D: Display + Drop>(said: &mut String, word: &str, value: D) {
+    put(said, word);
+    show(said, value);
+    put(said, "\n");
+}
+
+// A text of its own.
+fn text_of(alloc: Global, text: &str) -> String {
+    let mut copy = String::new(alloc);
+    put(&mut copy, text);
+    copy
+}
+
+// The call of a step line.
+fn call_of_step(alloc: Global, text: &str) -> Option<Call> {
+    match step(alloc, text.as_bytes()) {
+        Ok(Some(act)) => call_of(alloc, &act).unwrap_or(None),
+        _ => None,
     }
-    Ok(())
+}
+
+// The answer to a call at its shard; None where no server runs.
+fn answer_of(shards: &mut Vec<Shard>, call: Call) -> Option<Answer> {
+    let place = shard_of_call(&call);
+    let shard = shards.get_mut(usize::from(place))?;
+    if shard.index() != place {
+        return None;
+    }
+    shard.apply(call).ok()
+}
+
+// How many entries shards have made.
+fn made(shards: &[Shard]) -> u64 {
+    let mut made = 0u64;
+    for shard in shards {
+        made = made.wrapping_add(shard.made());
+    }
+    made
+}
+
+// Says which windows and tickets are open.
+fn put_open(alloc: Global, resumed: &Resumed, said: &mut String) {
+    for window in &resumed.windows {
+        let mut name = Line::new();
+        put_window(&mut name, window);
+        say(said, "open", name.as_str());
+    }
+    for ticket in &resumed.tickets {
+        put(said, "asked ");
+        put_hex(alloc, said, &ticket.0);
+        put(said, "\n");
+    }
+}
+
+// Says a file, or changes it by a line, a text without a line feed, or the loss of its last line.
+fn change(alloc: Global, file: &mut String, word: &str, text: &str, said: &mut String) {
+    match word {
+        "show" => put(said, file.as_str()),
+        "put" => put_line(file, text),
+        "tear" => put(file, text),
+        "drop" => *file = text_of(alloc, without_last(file.as_str())),
+        _ => say(said, "nothing to be done: ", word),
+    }
 }

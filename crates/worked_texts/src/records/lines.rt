@@ -1,13 +1,5 @@
 //! Texts of lines.
 
-use std::alloc::AllocError;
-
-/// Adds a line, with its line feed.
-pub fn put(text: &mut String, line: &str) -> Result<(), AllocError> {
-    text.push_str(line)?;
-    text.push_str("\n")
-}
-
 /// The text without its last line.
 pub fn without_last(text: &str) -> &str {
     let whole = text.strip_suffix("\n").unwrap_or(text);

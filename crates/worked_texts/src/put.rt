@@ -1,0 +1,32 @@
+//! Adding to a text. Where memory runs out, what was to be added is lost, and then text is missing.
+
+use std::alloc::{AllocError, Global};
+use std::fmt::{Display, Write};
+
+/// Adds a text.
+pub fn put(out: &mut String, text: &str) {
+    let _ = out.push_str(text);
+}
+
+/// Adds a line, with its line feed.
+pub fn put_line(out: &mut String, line: &str) {
+    put(out, line);
+    put(out, "\n");
+}
+
+/// Adds a text that may have been refused memory.
+pub fn put_made(out: &mut String, made: Result<String, AllocError>) {
+    if let Ok(text) = made {
+        put(out, text.as_str());
+    }
+}
+
+/// Adds what is shown of a value.
+pub fn show<D: Display + Drop>(out: &mut String, shown: D) {
+    let _ = write!(out, "{shown}");
+}
+
+/// Adds bytes in hex.
+pub fn put_hex(alloc: Global, out: &mut String, bytes: &[u8]) {
+    put_made(out, hex::encode(alloc, bytes));
+}
