@@ -1,5 +1,6 @@
 //! Times AES-128 and AES-CMAC. The values go to standard output, the times to standard error.
 
+use crate::print_time;
 use ns_aes_cmac::{Aes128, Cmac};
 use ns_types::Key;
 use std::io;
@@ -11,6 +12,16 @@ const CALLS: u32 = 2000;
 /// The measurements of each kind, of which the fastest counts.
 const ROUNDS: u32 = 300;
 
+/// What is measured.
+const KINDS: [&str; 6] = [
+    "block",
+    "pair",
+    "back",
+    "key_and_block",
+    "mic",
+    "mic_expanded",
+];
+
 const KEY: [u8; 16] = [0, 1, 2, 3, 4, 5, 6, 7, 8, 9, 10, 11, 12, 13, 14, 15];
 
 const BLOCK: [u8; 16] = [
@@ -19,21 +30,6 @@ const BLOCK: [u8; 16] = [
 
 /// The bytes that a MIC covers of a frame of 51 bytes.
 const SIGNED: [u8; 47] = [7; 47];
-
-/// Prints a measurement: its last value, and the nanoseconds of a call in tenths.
-fn print<R: Print + Eprint>(
-    rt: &R,
-    name: &str,
-    value: &[u8; 16],
-    nanoseconds: u128,
-) -> io::Result<()> {
-    println!(rt;
-        "{name} {:02x}{:02x}{:02x}{:02x}",
-        value[0], value[1], value[2], value[3]
-    )?;
-    let tenths = nanoseconds / (CALLS / 10) as u128;
-    eprintln!(rt; "{name} {} ns", tenths / 10)
-}
 
 /// A block after another, each in need of the one before.
 fn blocks(rt: &impl Clock) -> io::Result<([u8; 16], u128)> {
@@ -114,30 +110,34 @@ fn codes_with_cipher(rt: &impl Clock) -> io::Result<([u8; 16], u128)> {
     Ok((block, took.as_nanos()))
 }
 
-fn lesser(a: u128, b: u128) -> u128 {
-    if a < b { a } else { b }
+/// A measurement of a kind.
+fn measure(rt: &impl Clock, kind: usize) -> io::Result<([u8; 16], u128)> {
+    match kind {
+        0 => blocks(rt),
+        1 => pairs(rt),
+        2 => blocks_back(rt),
+        3 => keys(rt),
+        4 => codes(rt),
+        _ => codes_with_cipher(rt),
+    }
 }
 
-/// Times each kind of call.
-pub fn time<R: Clock + Print + Eprint>(rt: &R) -> io::Result<()> {
-    let (block, mut block_time) = blocks(rt)?;
-    let (pair, mut pair_time) = pairs(rt)?;
-    let (back, mut back_time) = blocks_back(rt)?;
-    let (key, mut key_time) = keys(rt)?;
-    let (code, mut code_time) = codes(rt)?;
-    let (with, mut with_time) = codes_with_cipher(rt)?;
+/// The last value of a kind, as a number, and the nanoseconds of its fastest measurement.
+fn fastest(rt: &impl Clock, kind: usize) -> io::Result<(u32, u128)> {
+    let (value, mut least) = measure(rt, kind)?;
     for _ in 1..ROUNDS {
-        block_time = lesser(block_time, blocks(rt)?.1);
-        pair_time = lesser(pair_time, pairs(rt)?.1);
-        back_time = lesser(back_time, blocks_back(rt)?.1);
-        key_time = lesser(key_time, keys(rt)?.1);
-        code_time = lesser(code_time, codes(rt)?.1);
-        with_time = lesser(with_time, codes_with_cipher(rt)?.1);
+        least = least.min(measure(rt, kind)?.1);
     }
-    print(rt, "block", &block, block_time)?;
-    print(rt, "pair", &pair, pair_time)?;
-    print(rt, "back", &back, back_time)?;
-    print(rt, "key_and_block", &key, key_time)?;
-    print(rt, "mic", &code, code_time)?;
-    print(rt, "mic_expanded", &with, with_time)
+    let value = u32::from_be_bytes([value[0], value[1], value[2], value[3]]);
+    Ok((value, least))
+}
+
+/// Times each kind of call: prints the first four bytes of its last value, and the nanoseconds of a call.
+pub fn time<R: Clock + Print + Eprint>(rt: &R) -> io::Result<()> {
+    for (kind, name) in KINDS.iter().enumerate() {
+        let (value, least) = fastest(rt, kind)?;
+        println!(rt; "{name} {value:08x}")?;
+        print_time(rt, name, least / u128::from(CALLS))?;
+    }
+    Ok(())
 }

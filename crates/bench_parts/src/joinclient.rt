@@ -5,10 +5,10 @@
 
 ghost use Rattle.std.specs.Prelude.{◌<◌};
 
+use crate::print_time;
 use ns_joinclient::{HostName, ask};
 use ns_types::{Fuse, OverStd};
 use std::alloc::{AllocError, Global};
-use std::env::Args;
 use std::io;
 use std::net::{Net, OpenStream, TcpStream};
 use std::time::{Clock, Duration, Instant};
@@ -25,6 +25,14 @@ const JOIN_REQ: &str =
 const JOIN_ANS: &str =
     r#"{"AppSKey":{"AESKey":"ec925802ae430ca77fd3dd73cb2cc588","KEKLabel":""},"MessageType":"JoinAns","NwkSKey":{"AESKey":"44024241ed4ce9a68c6a8bc055233fd3","KEKLabel":""},"PHYPayload":"20000102030405060708090a0b0c0d0e0f","Result":{"ResultCode":"Success"},"TransactionID":1}"#;
 
+/// What is measured: its name, that of the same with one byte a read, and how many further headers there are, each with a value of how
+/// many letters.
+const KINDS: [(&str, &str, usize, usize); 3] = [
+    ("short_head", "short_head_by_byte", 0, 0),
+    ("long_header", "long_header_by_byte", 1, 4000),
+    ("many_headers", "many_headers_by_byte", 31, 120),
+];
+
 /// A response with a JoinAns behind so many further headers, each with a value of so many letters.
 fn response(alloc: Global, headers: usize, letters: usize) -> Result<String, AllocError> {
     let value = "v".repeat(alloc, letters)?;
@@ -33,7 +41,48 @@ fn response(alloc: Global, headers: usize, letters: usize) -> Result<String, All
     format!(in alloc; "HTTP/1.1 200 OK\r\n{lines}Content-Length: 267\r\n\r\n{JOIN_ANS}")
 }
 
-/// Exchanges over memory, each read of at most so many bytes, and the nanoseconds of the fastest.
+/// An exchange over memory, each read of at most so many bytes: whether it was answered, and its nanoseconds. None where there is no
+/// memory.
+fn exchange<R: Clock>(
+    rt: &R,
+    alloc: Global,
+    response: &str,
+    host: HostName<'_>,
+    most: usize,
+) -> io::Result<Option<(bool, u128)>>
+    requires { 0 < most }
+{
+    let Ok(input) = Vec::from_slice(alloc, response.as_bytes()) else {
+        return Ok(None);
+    };
+    let mut stream = Fuse::new(alloc, input, most, None, None);
+    let start = Instant::now(rt)?;
+    let is_ok = ask(alloc, &mut stream, host, JOIN_REQ, 1).is_ok();
+    Ok(Some((is_ok, start.elapsed(rt)?.as_nanos())))
+}
+
+/// How many of some exchanges were answered, and the nanoseconds of the fastest.
+fn fastest<R: Clock>(
+    rt: &R,
+    alloc: Global,
+    response: &str,
+    host: HostName<'_>,
+    most: usize,
+) -> io::Result<(u32, u128)>
+    requires { 0 < most }
+{
+    let mut least = u128::MAX;
+    let mut answered = 0u32;
+    for _ in 0..ROUNDS {
+        if let Some((is_ok, took)) = exchange(rt, alloc, response, host, most)? {
+            answered = answered.wrapping_add(u32::from(is_ok));
+            least = least.min(took);
+        }
+    }
+    Ok((answered, least))
+}
+
+/// Prints what `fastest` finds.
 fn measure<R: Clock + Print + Eprint + AllocGlobal>(
     rt: &R,
     name: &str,
@@ -43,23 +92,17 @@ fn measure<R: Clock + Print + Eprint + AllocGlobal>(
 ) -> io::Result<()>
     requires { 0 < most }
 {
-    let mut least = u128::MAX;
-    let mut answered = 0u32;
-    for _ in 0..ROUNDS {
-        let Ok(input) = Vec::from_slice(rt.alloc(), response.as_bytes()) else {
-            continue;
-        };
-        let mut stream = Fuse::new(rt.alloc(), input, most, None, None);
-        let start = Instant::now(rt)?;
-        let result = ask(rt.alloc(), &mut stream, host, JOIN_REQ, 1);
-        let took = start.elapsed(rt)?.as_nanos();
-        if result.is_ok() {
-            answered = answered.wrapping_add(1);
-        }
-        least = least.min(took);
-    }
+    let (answered, least) = fastest(rt, rt.alloc(), response, host, most)?;
     println!(rt; "{name} {answered}")?;
-    eprintln!(rt; "{name} {least} ns")
+    print_time(rt, name, least)
+}
+
+/// A connection to an HTTP server.
+fn connect<R: Net>(rt: &R, address: &str) -> io::Result<R::Stream> {
+    let stream = TcpStream::connect(rt, address)?;
+    stream.set_read_timeout(Some(Duration::from_secs(PATIENCE)))?;
+    stream.set_write_timeout(Some(Duration::from_secs(PATIENCE)))?;
+    Ok(stream)
 }
 
 /// One exchange over a TCP connection.
@@ -68,33 +111,26 @@ fn ask_at<R: Net + Print + AllocGlobal>(
     address: &str,
     host: HostName<'_>,
 ) -> io::Result<()> {
-    let stream = TcpStream::connect(rt, address)?;
-    stream.set_read_timeout(Some(Duration::from_secs(PATIENCE)))?;
-    stream.set_write_timeout(Some(Duration::from_secs(PATIENCE)))?;
-    let mut stream = OverStd::new(stream);
+    let mut stream = OverStd::new(connect(rt, address)?);
     match ask(rt.alloc(), &mut stream, host, JOIN_REQ, 1) {
         Ok(answer) => println!(rt; "answer {:02x}{:02x}", answer.nwk.0[0], answer.nwk.0[1]),
         Err(fault) => println!(rt; "{fault}"),
     }
 }
 
-/// Times each kind of exchange, or makes one.
+/// Times each kind of exchange, or makes one with the server at an address.
 pub fn time<R: Net + Clock + Print + Eprint + AllocGlobal>(
     rt: &R,
-    mut words: Args,
+    address: Option<&str>,
 ) -> io::Result<()> {
     let Some(host) = HostName::new("js.local") else {
         return Ok(());
     };
-    if let Some(address) = words.next() {
-        return ask_at(rt, address.as_str(), host);
+    if let Some(address) = address {
+        return ask_at(rt, address, host);
     }
-    for (name, one, headers, letters) in [
-        ("short_head", "short_head_by_byte", 0, 0),
-        ("long_header", "long_header_by_byte", 1, 4000),
-        ("many_headers", "many_headers_by_byte", 31, 120),
-    ] {
-        if let Ok(response) = response(rt.alloc(), headers, letters) {
+    for (name, one, headers, letters) in &KINDS {
+        if let Ok(response) = response(rt.alloc(), *headers, *letters) {
             measure(rt, name, response.as_str(), host, 1 << 20)?;
             measure(rt, one, response.as_str(), host, 1)?;
         }

@@ -53,83 +53,77 @@ fn apply_each(shards: &mut [Shard], calls: &[Call]) -> Result<u64, AllocError> {
     Ok(seen)
 }
 
+// How many entries were made in all shards.
+fn entries_of(shards: &[Shard]) -> u128 {
+    let mut entries = 0u128;
+    for shard in shards {
+        entries = entries.wrapping_add(u128::from(shard.made()));
+    }
+    entries
+}
+
 /// Makes the calls by `Shard::apply`: how many entries there are then, and the nanoseconds of all calls.
 pub fn apply_all<R: Clock>(
     rt: &R,
     alloc: Global,
-    roster: Arc<Roster>,
+    roster: &Arc<Roster>,
     calls: &[Call],
 ) -> anyhow::Result<(u128, u128)> {
-    let mut shards = shards(alloc, &roster)?;
+    let mut shards = shards(alloc, roster)?;
     let start = Instant::now(rt)?;
     let _seen = apply_each(shards.as_mut_slice(), calls)?;
     let took = start.elapsed(rt)?.as_nanos();
-    let mut entries = 0u128;
-    for shard in &shards {
-        entries = entries.wrapping_add(u128::from(shard.made()));
-    }
-    Ok((entries, took))
-}
-
-// What one thread does.
-#[derive(Drop)]
-struct Job<B: Naming> {
-    pass: Pass<B>,
-    calls: Vec<Call>,
+    Ok((entries_of(shards.as_slice()), took))
 }
 
 // Makes a thread's calls.
-fn call_each<B: Naming, R: Wait>(rt: &R, server: &Server<B>, job: Job<B>) -> Job<B> {
-    let Job { mut pass, calls } = job;
+fn call_each<B: Naming, R: Wait>(rt: &R, server: &Server<B>, job: (Pass<B>, &[Call])) -> Pass<B> {
+    let (mut pass, calls) = job;
     let mut seen = 0u64;
-    for call in &calls {
+    for call in calls {
         if let Ok(receipt) = server.call(rt, &mut pass, *call, &Open) {
             seen = seen.wrapping_add(u64::from(sees_receipt(&receipt)));
         }
     }
-    Job { pass, calls }
+    pass
 }
 
 // A pass for each thread's calls.
-fn jobs<B: Naming>(
+fn jobs<'a, B: Naming>(
     alloc: Global,
     mut passes: Vec<Pass<B>>,
-    mut parts: Vec<Vec<Call>>,
-) -> Result<Vec<Job<B>>, AllocError> {
+    parts: &'a [Vec<Call>],
+) -> Result<Vec<(Pass<B>, &'a [Call])>, AllocError> {
     let mut jobs = Vec::new(alloc);
-    while let Some(pass) = passes.pop() {
-        let calls = match parts.pop() {
-            Some(calls) => calls,
-            None => Vec::new(alloc),
-        };
-        jobs.push(Job { pass, calls })?;
+    for calls in parts {
+        if let Some(pass) = passes.pop() {
+            jobs.push((pass, calls.as_slice()))?;
+        }
     }
     Ok(jobs)
 }
 
-// The passes of jobs that are done.
-fn passes_of<B: Naming>(alloc: Global, mut done: Vec<Job<B>>) -> Result<Vec<Pass<B>>, AllocError> {
-    let mut passes = Vec::new(alloc);
-    while let Some(job) = done.pop() {
-        let Job { pass, calls: _ } = job;
-        passes.push(pass)?;
-    }
-    Ok(passes)
+// Lends the server to a thread for each part of the calls.
+fn all_call<B: Naming + Send + Sync, R: Threads + Wait + Sync>(
+    rt: &R,
+    server: &Server<B>,
+    jobs: Vec<(Pass<B>, &[Call])>,
+) -> Result<Vec<Pass<B>>, AllocError> {
+    thread::map_vec(rt, jobs, &|job| call_each(rt, server, job))
 }
 
-// Lends the server to a thread for each part of the calls. The passes, and the nanoseconds of all calls.
-fn all_call<B: Naming + Send + Sync, R: Threads + Wait + Clock + Sync>(
+// The passes, and the nanoseconds of all calls.
+fn time_calls<B: Naming + Send + Sync, R: Threads + Wait + Clock + Sync>(
     rt: &R,
     alloc: Global,
     server: &Server<B>,
     passes: Vec<Pass<B>>,
-    parts: Vec<Vec<Call>>,
+    parts: &[Vec<Call>],
 ) -> anyhow::Result<(Vec<Pass<B>>, u128)> {
     let jobs = jobs(alloc, passes, parts)?;
     let start = Instant::now(rt)?;
-    let done = thread::map_vec(rt, jobs, &|job| call_each(rt, server, job))?;
-    let took = start.elapsed(rt)?.as_nanos();
-    Ok((passes_of(alloc, done)?, took))
+    let passes = all_call(rt, server, jobs)?;
+    Ok((passes, start.elapsed(rt)?.as_nanos()))
 }
 
 fn serve<B: Naming + Send + Sync, R: Threads + Wait + Clock + Sync>(
@@ -146,7 +140,7 @@ fn serve<B: Naming + Send + Sync, R: Threads + Wait + Clock + Sync>(
     requires begun { B.begun ≡ no_entries B.roster }
 {
     let (server, passes) = Server::<B>::new(alloc, roster, parts.len(), blanks)?;
-    let (passes, took) = all_call(rt, alloc, &server, passes, parts)?;
+    let (passes, took) = time_calls(rt, alloc, &server, passes, parts.as_slice())?;
     match server.settle(passes) {
         Ok(settled) => Ok((settled.total(), took)),
         Err(_) => Err(anyhow!("a pass is missing")),

@@ -13,45 +13,74 @@ ghost use Rattle.std.specs.Prelude.{◌<◌, ◌≤◌};
 use crate::load::Load;
 use crate::served::{apply_all, serve_all};
 use crate::trim::time_trims;
+use ns_roster::Roster;
 use std::alloc::Global;
-use std::env::Args;
+use std::io;
 use std::sync::{Arc, Wait};
 use std::thread::Threads;
 use std::time::Clock;
 use test_threads::roster;
 
-// What to make, in arguments.
-#[derive(Drop)]
-struct Plan {
-    load: Load,
-    rounds: u32,
-    way: String,
+// The ways by which calls are made.
+#[derive(Clone, Copy)]
+enum Way {
+    All,
+    None,
+    Apply,
+    Server,
+    Trim,
 }
 
-// An argument that is a number.
-fn number(word: Option<String>, otherwise: u32) -> u32 {
-    match word {
+/// What to make, in arguments.
+#[derive(Clone, Copy)]
+pub struct Plan {
+    load: Load,
+    rounds: u32,
+    way: Way,
+}
+
+// The argument at a place, which is a number.
+fn number(words: &[String], place: usize, otherwise: u32) -> u32 {
+    match words.get(place) {
         Some(word) => word.as_str().parse().unwrap_or(otherwise),
         None => otherwise,
     }
 }
 
-fn asked(alloc: Global, mut words: Args) -> Plan {
-    let devices = number(words.next(), 32);
-    let frames = number(words.next(), 2);
-    let rounds = number(words.next(), 1);
-    let way = match words.next() {
-        Some(way) => way,
-        None => String::new(alloc),
-    };
-    Plan {
-        load: Load { devices, frames },
-        rounds,
-        way,
+fn asked_way(words: &[String]) -> Way {
+    match words.get(3).map(String::as_str) {
+        Some("none") => Way::None,
+        Some("apply") => Way::Apply,
+        Some("server") => Way::Server,
+        Some("trim") => Way::Trim,
+        _ => Way::All,
     }
 }
 
-// Makes the calls on one thread, or none of them, and prints how many entries there are and how long it took.
+/// What the arguments ask for.
+pub fn asked(words: &[String]) -> Plan {
+    Plan {
+        load: Load {
+            devices: number(words, 0, 32),
+            frames: number(words, 1, 2),
+        },
+        rounds: number(words, 2, 1),
+        way: asked_way(words),
+    }
+}
+
+// A roster of so many devices.
+fn shared(alloc: Global, devices: u32) -> anyhow::Result<Arc<Roster>> {
+    Ok(Arc::new(alloc, roster(alloc, devices)?)?)
+}
+
+// Prints how many entries there are and how long it took.
+fn print<R: Print + Eprint>(rt: &R, line: &str, name: &str, made: (u128, u128)) -> io::Result<()> {
+    println!(rt; "{line}: {} entries", made.0)?;
+    eprintln!(rt; "{name} {} {}", made.0, made.1)
+}
+
+// Makes the calls on one thread, or none of them.
 fn time_apply<R: Clock + Print + Eprint>(
     rt: &R,
     alloc: Global,
@@ -63,10 +92,9 @@ fn time_apply<R: Clock + Print + Eprint>(
         println!(rt; "{} calls", calls.len())?;
         calls.truncate(0);
     }
-    let roster = Arc::new(alloc, roster(alloc, load.devices)?)?;
-    let (entries, took) = apply_all(rt, alloc, roster, calls.as_slice())?;
-    println!(rt; "apply: {entries} entries")?;
-    eprintln!(rt; "apply {entries} {took}")?;
+    let roster = shared(alloc, load.devices)?;
+    let made = apply_all(rt, alloc, &roster, calls.as_slice())?;
+    print(rt, "apply", "apply", made)?;
     Ok(())
 }
 
@@ -76,14 +104,15 @@ fn time_server<R: Threads + Wait + Clock + Print + Eprint + Sync>(
     alloc: Global,
     load: Load,
     threads: u32,
+    line: &str,
+    name: &str,
 ) -> anyhow::Result<()>
     requires { (0 < threads) × (threads ≤ 64) }
 {
+    let roster = shared(alloc, load.devices)?;
     let parts = load.parts(alloc, threads)?;
-    let roster = Arc::new(alloc, roster(alloc, load.devices)?)?;
-    let (entries, took) = serve_all(rt, alloc, roster, parts)?;
-    println!(rt; "server by {threads}: {entries} entries")?;
-    eprintln!(rt; "server_{threads} {entries} {took}")?;
+    let made = serve_all(rt, alloc, roster, parts)?;
+    print(rt, line, name, made)?;
     Ok(())
 }
 
@@ -93,7 +122,7 @@ fn time_trim<R: Wait + Clock + Print + Eprint>(
     alloc: Global,
     load: Load,
 ) -> anyhow::Result<()> {
-    let roster = Arc::new(alloc, roster(alloc, load.devices.wrapping_mul(16))?)?;
+    let roster = shared(alloc, load.devices.wrapping_mul(16))?;
     let trims = time_trims(rt, alloc, roster, load)?;
     println!(rt;
         "trim: {} entries, {} handed out, then {}",
@@ -103,26 +132,32 @@ fn time_trim<R: Wait + Clock + Print + Eprint>(
     Ok(())
 }
 
-/// Makes the calls by the ways that the words ask for.
+// Makes the calls by each way.
+fn time_each<R: Threads + Wait + Clock + Print + Eprint + Sync>(
+    rt: &R,
+    alloc: Global,
+    load: Load,
+) -> anyhow::Result<()> {
+    time_apply(rt, alloc, load, false)?;
+    time_server(rt, alloc, load, 1, "server by 1", "server_1")?;
+    time_server(rt, alloc, load, 2, "server by 2", "server_2")?;
+    time_server(rt, alloc, load, 4, "server by 4", "server_4")?;
+    time_trim(rt, alloc, load)
+}
+
+/// Makes the calls by the ways that are asked for.
 pub fn time<R: Threads + Wait + Clock + Print + Eprint + Sync>(
     rt: &R,
     alloc: Global,
-    words: Args,
+    plan: Plan,
 ) -> anyhow::Result<()> {
-    let plan = asked(alloc, words);
     for _ in 0..plan.rounds {
-        match plan.way.as_str() {
-            "none" => time_apply(rt, alloc, plan.load, true)?,
-            "apply" => time_apply(rt, alloc, plan.load, false)?,
-            "server" => time_server(rt, alloc, plan.load, 1)?,
-            "trim" => time_trim(rt, alloc, plan.load)?,
-            _ => {
-                time_apply(rt, alloc, plan.load, false)?;
-                time_server(rt, alloc, plan.load, 1)?;
-                time_server(rt, alloc, plan.load, 2)?;
-                time_server(rt, alloc, plan.load, 4)?;
-                time_trim(rt, alloc, plan.load)?;
-            }
+        match plan.way {
+            Way::All => time_each(rt, alloc, plan.load)?,
+            Way::None => time_apply(rt, alloc, plan.load, true)?,
+            Way::Apply => time_apply(rt, alloc, plan.load, false)?,
+            Way::Server => time_server(rt, alloc, plan.load, 1, "server by 1", "server_1")?,
+            Way::Trim => time_trim(rt, alloc, plan.load)?,
         }
     }
     Ok(())

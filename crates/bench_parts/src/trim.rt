@@ -7,7 +7,6 @@ ghost use Rattle.ns_tally.specs.Tally.{AreNamed};
 
 use crate::load::Load;
 use anyhow::anyhow;
-use ns_calls::Call;
 use ns_roster::Roster;
 use ns_server::{Naming, Open, Pass, Server};
 use ns_tally::Blanks;
@@ -15,7 +14,6 @@ use std::alloc::{AllocError, Global};
 use std::marker::Brand;
 use std::sync::{Arc, Wait};
 use std::time::{Clock, Instant};
-use test_threads::{closing, join, join_reply, uplink};
 
 /// What two trims of shard 0 did, one after the other: how many entries were made before, how many each handed out, and its nanoseconds.
 #[derive(Clone, Copy)]
@@ -25,33 +23,6 @@ pub struct Trims {
     pub second: (usize, u128),
 }
 
-// Makes a call on the server.
-fn make<B: Naming, R: Wait>(
-    rt: &R,
-    server: &Server<B>,
-    pass: &mut Pass<B>,
-    call: Call,
-) -> Result<(), AllocError> {
-    let _receipt = server.call(rt, pass, call, &Open)?;
-    Ok(())
-}
-
-// A frame as three gateways hear it, and the closing of its window. Every second frame is to be acknowledged.
-fn make_frame<B: Naming, R: Wait>(
-    rt: &R,
-    server: &Server<B>,
-    pass: &mut Pass<B>,
-    device: u32,
-    frame: u32,
-) -> Result<(), AllocError> {
-    for gateway in 1..4u8 {
-        if let Some(call) = uplink(device, frame, frame % 2 == 1, gateway) {
-            make(rt, server, pass, call)?;
-        }
-    }
-    make(rt, server, pass, closing(device, 1, frame))
-}
-
 // All devices join, and each of their frames is heard.
 fn make_all<B: Naming, R: Wait>(
     rt: &R,
@@ -59,14 +30,9 @@ fn make_all<B: Naming, R: Wait>(
     pass: &mut Pass<B>,
     load: Load,
 ) -> Result<(), AllocError> {
-    for number in 0..load.devices {
-        let device = number.wrapping_mul(16);
-        make(rt, server, pass, join(device, 1))?;
-        make(rt, server, pass, join_reply(device, 1))?;
-    }
-    for frame in 0..load.frames {
-        for number in 0..load.devices {
-            make_frame(rt, server, pass, number.wrapping_mul(16), frame)?;
+    for place in 0..load.count() {
+        if let Some(call) = load.call_at(place, 16) {
+            let _ = server.call(rt, pass, call, &Open)?;
         }
     }
     Ok(())
@@ -79,12 +45,9 @@ fn trim<B: Naming, R: Wait + Clock>(
     server: &Server<B>,
 ) -> anyhow::Result<(usize, u128)> {
     let start = Instant::now(rt)?;
-    let trimmed = server.trim(rt, alloc, 0);
+    let dropped = server.trim(rt, alloc, 0)?;
     let took = start.elapsed(rt)?.as_nanos();
-    match trimmed {
-        Ok(dropped) => Ok((dropped.entries.len(), took)),
-        Err(_) => Err(anyhow!("a trim was refused")),
-    }
+    Ok((dropped.entries.len(), took))
 }
 
 fn trim_twice<B: Naming, R: Wait + Clock>(
@@ -100,17 +63,25 @@ fn trim_twice<B: Naming, R: Wait + Clock>(
     requires begun { B.begun ≡ no_entries B.roster }
 {
     let (server, mut passes) = Server::<B>::new(alloc, roster, 1, blanks)?;
-    let Some(pass) = passes.last_mut() else {
-        return Err(anyhow!("no pass"));
-    };
-    make_all(rt, &server, pass, load)?;
-    let made = pass.made(0);
-    let first = trim(rt, alloc, &server)?;
-    let second = trim(rt, alloc, &server)?;
+    match passes.last_mut() {
+        Some(pass) => make_trims(rt, alloc, &server, pass, load),
+        None => Err(anyhow!("no pass")),
+    }
+}
+
+// The calls, and the trims.
+fn make_trims<B: Naming, R: Wait + Clock>(
+    rt: &R,
+    alloc: Global,
+    server: &Server<B>,
+    pass: &mut Pass<B>,
+    load: Load,
+) -> anyhow::Result<Trims> {
+    make_all(rt, server, pass, load)?;
     Ok(Trims {
-        made,
-        first,
-        second,
+        made: pass.made(0),
+        first: trim(rt, alloc, server)?,
+        second: trim(rt, alloc, server)?,
     })
 }
 
