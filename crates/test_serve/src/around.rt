@@ -24,7 +24,7 @@ pub fn logging<'a, R: Wait>(
     alloc: Global,
     lines: &str,
     stands_ms: u64,
-) -> Result<Around<&'a R, Lines<'a, R>>, AllocError> {
+) -> Result<Around<'a, R, Lines<'a, R>>, AllocError> {
     let filter = Builder::new(alloc).parse(lines)?.build();
     let lines = Locked::new(rt, Vec::with_capacity(alloc, 65_536)?);
     Ok(Around {
@@ -36,21 +36,19 @@ pub fn logging<'a, R: Wait>(
 
 /// A runtime that logs by this logger. Its clock is the runtime's, or stands at a time.
 #[derive(Drop)]
-pub struct Around<R, L> {
-    rt: R,
+pub struct Around<'a, R, L> {
+    rt: &'a R,
     log: L,
     // The time at which the clock stands, in milliseconds; 0 where it goes on.
     stands_ms: AtomicU64,
 }
 
-impl<R, L> Around<R, L> {
+impl<'a, R, L> Around<'a, R, L> {
     /// The clock stands at another time.
     pub fn stand_at(&self, ms: u64) {
         self.stands_ms.store(ms, Ordering::SeqCst);
     }
-}
 
-impl<R: Drop, L> Around<R, L> {
     /// The logger again.
     pub fn into_log(self) -> L {
         let Around {
@@ -62,11 +60,11 @@ impl<R: Drop, L> Around<R, L> {
     }
 }
 
-impl<R: Wait, L> Wait for Around<R, L> {}
+impl<'a, R: Wait, L> Wait for Around<'a, R, L> {}
 
-impl<R: Threads, L> Threads for Around<R, L> {}
+impl<'a, R: Threads, L> Threads for Around<'a, R, L> {}
 
-impl<R: Clock, L> Clock for Around<R, L> {
+impl<'a, R: Clock, L> Clock for Around<'a, R, L> {
     fn monotonic(&self) -> io::Result<Duration> {
         match self.stands_ms.load(Ordering::SeqCst) {
             0 => self.rt.monotonic(),
@@ -84,7 +82,7 @@ impl<R: Clock, L> Clock for Around<R, L> {
     }
 }
 
-impl<R: Net, L> Net for Around<R, L> {
+impl<'a, R: Net, L> Net for Around<'a, R, L> {
     type Stream = R::Stream;
 
     type Listener = R::Listener;
@@ -106,7 +104,7 @@ impl<R: Net, L> Net for Around<R, L> {
     }
 }
 
-impl<R, L: Log> Log for Around<R, L> {
+impl<'a, R, L: Log> Log for Around<'a, R, L> {
     ghost enables = { λ s level target. L.enables s.log level target };
 
     ghost target_of = { λ s. L.target_of s.log };

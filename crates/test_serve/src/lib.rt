@@ -2,7 +2,8 @@
 //! own, what they write, also as JSON objects and events, and what they log, also where memory is really gone, the table of addresses,
 //! trims of a running server, lives of a record, also one that left a window open, and that what leaves stands in it before.
 //!
-//! They call what `ns_serve` gives in public, and stand here so that it is not proved once more for its tests.
+//! A trial is a table: what is asked of servers, the steps of those around them, and the text that they write and log. They call what
+//! `ns_serve` gives in public, and stand here so that it is not proved once more for its tests.
 #![tactic(auto)]
 
 #[cfg(test)]
@@ -19,6 +20,8 @@ mod logged;
 mod loopback;
 #[cfg(test)]
 mod parties;
+#[cfg(test)]
+mod play;
 #[cfg(test)]
 mod trial;
 #[cfg(test)]

@@ -1,29 +1,30 @@
 //! Lives of a record: what a second server knows of the first, what a crash would have left, windows that it left open, and starts that are
 //! refused.
 
-use crate::around::logging;
-use crate::parties::{
-    ROSTER_A, ROSTER_B, asked, join_server, joined, nap, sent, socket_to, uplink,
+ghost use Rattle.std.specs.Prelude.{IfSome};
+ghost use Rattle.std.specs.Arc.{arc_value};
+ghost use Rattle.ns_serve_state.specs.Begun.{IsBegun};
+
+use crate::parties::{ROSTER_A, ROSTER_B, nap};
+use crate::play::Side::Near;
+use crate::play::Step::{
+    Acknowledged, Again, Byte, Closed, Ended as LivesEnded, First, Join, KeepKilled, Uplink,
 };
-use crate::trial::{Looks, Trial, Writer, join_addr, roster_of, served_from, trial_at};
-use log::Log;
+use crate::trial::{Asked, Life, Told, Trial, USUAL, Want, roster_of, tried};
 use log::sink::Discard;
 use ns_record_files::RecordFiles;
 use ns_resume::RecordFault;
+use ns_roster::Roster;
 use ns_serve::Begun;
-use ns_types::DevEui;
-use std::alloc::Global;
+use std::alloc::{Alloc, Global};
+use std::fs;
 use std::fs::File;
 use std::io::Read;
-use std::net::{Net, TcpListener, TcpStream, UdpSocket};
 use std::rt::Files;
-use std::sync::Wait;
+use std::sync::Arc;
 use std::sync::atomic::{AtomicU64, Ordering};
 use std::test::*;
-use std::thread::Threads;
 use std::time::Clock;
-use std::{fs, thread};
-use test_device::TestDevice;
 
 // The folder of the record, and what a kill would have left of it after the first acknowledgement.
 const FOLDER: &str = "test_serve_lives";
@@ -32,6 +33,14 @@ const KILLED: &str = "test_serve_killed";
 
 // What a kill would have left of a record while a window was open.
 const OPEN: &str = "test_serve_open";
+
+const OPEN_UP: &str = "test_serve_open/up";
+
+// The files of the record, and those that keep what a kill would have left of them.
+const KEPT: [(&str, &str); 2] = [
+    ("test_serve_lives/steps", "test_serve_killed/steps"),
+    ("test_serve_lives/up", "test_serve_killed/up"),
+];
 
 // A folder for starts that are refused.
 const REFUSED: &str = "test_serve_refused";
@@ -57,206 +66,188 @@ const FIRST_UPS: &str =
 // A roster without the device.
 const WITHOUT: &str = r#"{"version":1,"net_id":"000024","rx1_offset":0,"rx_delay":1,"devices":[]}"#;
 
-// How many lives have ended, and how often the record of one was looked after.
+/// How many lives have ended, and how often the record of one was looked after.
 #[derive(Drop)]
-struct Ended {
-    lives: AtomicU64,
-    looks: AtomicU64,
+pub struct Ended {
+    pub lives: AtomicU64,
+    pub looks: AtomicU64,
+}
+
+impl Ended {
+    /// None has ended.
+    pub fn new() -> Ended {
+        Ended {
+            lives: AtomicU64::new(0),
+            looks: AtomicU64::new(0),
+        }
+    }
+
+    /// Waits until so many lives have ended, for ten seconds at most.
+    pub fn wait_for<R: Clock>(&self, rt: &R, lives: u64) -> Option<()> {
+        for _ in 0..1_000 {
+            if self.lives.load(Ordering::SeqCst) >= lives {
+                return Some(());
+            }
+            nap(rt);
+        }
+        None
+    }
+}
+
+/// What a life begins with: the record in its folder, or nothing.
+pub fn begun_of<H: Files<File = File>>(
+    host: &H,
+    alloc: Global,
+    roster: &Arc<Roster>,
+    folder: Option<&str>,
+) -> Option<Begun>
+    ensures { IfSome result (IsBegun (arc_value roster.now)) }
+{
+    let Some(folder) = folder else {
+        return match Begun::new(alloc, roster) {
+            Ok(begun) => Some(begun),
+            Err(_) => None,
+        };
+    };
+    let files = RecordFiles::open(host, &Discard, alloc, folder, true).ok()?;
+    match Begun::resume(&Discard, alloc, roster, files) {
+        Ok(begun) => Some(begun),
+        Err(_) => None,
+    }
+}
+
+/// Keeps what a kill would have left of the record now.
+pub fn keep_killed<H: Files>(host: &H) -> Option<()> {
+    for (from, to) in KEPT {
+        fs::copy(host, from, to).ok()?;
+    }
+    Some(())
+}
+
+/// Waits until the record with the open window has an `up` line, for five seconds at most.
+pub fn wait_for_up<H: Files, R: Clock>(host: &H, rt: &R) -> Option<()> {
+    for _ in 0..500 {
+        if fs::metadata(host, OPEN_UP).ok()?.len() > 0 {
+            return Some(());
+        }
+        nap(rt);
+    }
+    None
 }
 
 /// Makes a folder without files.
-pub fn emptied(rt: &HostRuntime, folder: &str) -> Result<(), Fail> {
-    let _ = fs::remove_dir_all(rt, folder);
-    Ok(fs::create_dir(rt, folder)?)
+pub fn emptied<H: Files + Alloc>(host: &H, folder: &str) -> Option<()> {
+    let _ = fs::remove_dir_all(host, folder);
+    fs::create_dir(host, folder).ok()
 }
 
 /// The bytes of a file of a folder.
-pub fn bytes_of(
-    rt: &HostRuntime,
+pub fn bytes_of<H: Files<File = File>>(
+    host: &H,
     alloc: Global,
     folder: &str,
     name: &str,
-) -> Result<Vec<u8>, Fail> {
-    let path = format!(in alloc; "{folder}/{name}")?;
+) -> Option<Vec<u8>> {
+    let path = format!(in alloc; "{folder}/{name}").ok()?;
     let mut bytes = Vec::new(alloc);
-    File::open(rt, path.as_str())?.read_to_end(&mut bytes)?;
-    Ok(bytes)
+    File::open(host, path.as_str())
+        .ok()?
+        .read_to_end(&mut bytes)
+        .ok()?;
+    Some(bytes)
 }
 
-// Writes a file of a folder.
-fn write(
-    rt: &HostRuntime,
-    alloc: Global,
-    folder: &str,
-    name: &str,
-    text: &str,
-) -> Result<(), Fail> {
-    let path = format!(in alloc; "{folder}/{name}")?;
-    Ok(fs::write(rt, path.as_str(), text.as_bytes())?)
-}
-
-// The `up` lines of an output, with their line feeds.
-fn ups(alloc: Global, output: &[u8]) -> Result<String, Fail> {
-    let text = String::from_utf8_lossy(alloc, output)?;
-    let mut lines = String::new(alloc);
-    for line in text.as_str().lines() {
-        if line.starts_with("up ") {
-            lines.push_str(line)?;
-            lines.push_str("\n")?;
-        }
+// Writes the files of a folder.
+fn write<H: Files>(host: &H, alloc: Global, folder: &str, steps: &str, up: &str) -> Option<()> {
+    for (name, text) in [("steps", steps), ("up", up)] {
+        let path = format!(in alloc; "{folder}/{name}").ok()?;
+        fs::write(host, path.as_str(), text.as_bytes()).ok()?;
     }
-    Ok(lines)
+    Some(())
 }
 
-// A server of a folder's record. It ends by itself.
-fn live<
-    H: Files<File = File>,
-    R: Threads + Wait + Clock + Net<Listener = TcpListener, Stream = TcpStream> + Log + Sync,
->(
-    host: &H,
-    rt: &R,
-    alloc: Global,
-    trial: &Trial,
-    ended: &Ended,
-    folder: &str,
-    output: &mut Vec<u8>,
-) -> Result<u128, Fail> {
-    let roster = roster_of(alloc, trial)?;
-    let files = RecordFiles::open(host, &Discard, alloc, folder, true)?;
-    let begun = Begun::resume(&Discard, alloc, &roster, files)?;
-    let looks = Looks {
-        count: &ended.looks,
-    };
-    Ok(served_from(rt, alloc, trial, roster, begun, looks, Writer::new(output))?)
-}
+/// What is asked of a server of one device: windows stay open for 200 ms.
+pub const SHORT: Asked = Asked {
+    port: 17041,
+    window_ms: 200,
+    ..USUAL
+};
 
-/// A trial of one device that ends after so many datagrams.
-pub fn trial_of(stop_after: u32) -> Trial {
-    Trial {
-        window_ms: 200,
-        ..trial_at(17041, Some(stop_after))
-    }
-}
-
-// A life of the record in this folder, which is counted when it has ended. What it wrote.
-fn counted<
-    H: Files<File = File>,
-    R: Threads + Wait + Clock + Net<Listener = TcpListener, Stream = TcpStream> + Log + Sync,
->(
-    host: &H,
-    rt: &R,
-    alloc: Global,
-    ended: &Ended,
-    folder: &str,
-    stop_after: u32,
-) -> Result<Vec<u8>, Fail> {
-    let mut output = Vec::new(alloc);
-    let outcome = live(
-        host,
-        rt,
-        alloc,
-        &trial_of(stop_after),
-        ended,
-        folder,
-        &mut output,
-    );
-    ended.lives.fetch_add(1, Ordering::SeqCst);
-    outcome?;
-    Ok(output)
-}
-
-// Four lives, one after the other: two of the record, one of what a kill would have left of it, and one of a record with an open window.
-// What each wrote.
-fn lives<
-    H: Files<File = File>,
-    R: Threads + Wait + Clock + Net<Listener = TcpListener, Stream = TcpStream> + Log + Sync,
->(host: &H, rt: &R, alloc: Global, ended: &Ended) -> Result<[Vec<u8>; 4], Fail> {
-    let first = counted(host, rt, alloc, ended, FOLDER, 3)?;
-    let second = counted(host, rt, alloc, ended, FOLDER, 3)?;
-    let killed = counted(host, rt, alloc, ended, KILLED, 2)?;
-    let open = counted(host, rt, alloc, ended, OPEN, 1)?;
-    Ok([first, second, killed, open])
-}
-
-// Waits until so many lives have ended, for ten seconds at most.
-fn wait_for<R: Clock>(rt: &R, ended: &Ended, lives: u64) -> Option<()> {
-    for _ in 0..1_000 {
-        if ended.lives.load(Ordering::SeqCst) >= lives {
-            return Some(());
-        }
-        nap(rt);
-    }
-    None
-}
-
-// Waits until the record with the open window has an `up` line, for five seconds at most.
-fn wait_for_up<H: Files, R: Clock>(host: &H, rt: &R, alloc: Global) -> Option<()> {
-    let path = format!(in alloc; "{OPEN}/up").ok()?;
-    for _ in 0..500 {
-        if fs::metadata(host, path.as_str()).ok()?.len() > 0 {
-            return Some(());
-        }
-        nap(rt);
-    }
-    None
-}
-
-// Sends a Confirmed Data Up, and gives the low byte of the number of its acknowledgement: it stands behind MHDR, DevAddr and FCtrl.
-fn acknowledged<R: Clock + Net>(
-    rt: &R,
-    alloc: Global,
-    socket: &UdpSocket,
-    device: &TestDevice,
-    counter: u32,
-) -> Option<u8> {
-    let datagram = uplink(alloc, device, counter, true)?;
-    let mut buf = [0u8; 512];
-    asked(rt, socket, datagram.as_slice(), &mut buf)?;
-    Some(buf[34])
-}
-
-// A device through three lives, with the numbers of its acknowledgements. Uplinks 0 and 1 are of the first life, and uplink 1 is
-// sent again in the second; the third is what a kill would have left after the first acknowledgement, and there uplink 0 is sent again. In
-// the fourth life it is waited for the `up` line of the open window.
-fn played<H: Files, R: Clock + Net>(
-    host: &H,
-    rt: &R,
-    alloc: Global,
-    port: u16,
-    ended: &Ended,
-) -> Option<[u8; 3]> {
-    let socket = socket_to(rt, port)?;
-    let device = joined(rt, alloc, &socket, DevEui(13), 0xa1)?;
-    let first = acknowledged(rt, alloc, &socket, &device, 0)?;
-    for name in ["steps", "up"] {
-        let from = format!(in alloc; "{FOLDER}/{name}").ok()?;
-        let to = format!(in alloc; "{KILLED}/{name}").ok()?;
-        fs::copy(host, from.as_str(), to.as_str()).ok()?;
-    }
-    let one = uplink(alloc, &device, 1, false)?;
-    socket.send(one.as_slice()).ok()?;
-    wait_for(rt, ended, 1)?;
-    sent(rt, &socket, one.as_slice())?;
-    let second = acknowledged(rt, alloc, &socket, &device, 2)?;
-    socket.send(&[0]).ok()?;
-    wait_for(rt, ended, 2)?;
-    let third = acknowledged(rt, alloc, &socket, &device, 0)?;
-    socket.send(&[0]).ok()?;
-    wait_for(rt, ended, 3)?;
-    let closed = wait_for_up(host, rt, alloc);
-    sent(rt, &socket, &[0])?;
-    closed?;
-    Some([first, second, third])
-}
+// A device through four lives, one after the other: two of the record, one of what a kill would have left of it, and one of a record with
+// an open window. Uplinks 0 and 1 are of the first life, and uplink 1 is sent again in the second; the third is what a kill would have left
+// after the first acknowledgement, and there uplink 0 is sent again. In the fourth life it is waited for the `up` line of the open window.
+const LIVES: Trial = Trial {
+    asked: SHORT,
+    levels: "off",
+    stands_ms: 0,
+    lives: &[
+        Life {
+            folder: Some(FOLDER),
+            stop_after: Some(3),
+        },
+        Life {
+            folder: Some(FOLDER),
+            stop_after: Some(3),
+        },
+        Life {
+            folder: Some(KILLED),
+            stop_after: Some(2),
+        },
+        Life {
+            folder: Some(OPEN),
+            stop_after: Some(1),
+        },
+    ],
+    joins: 1,
+    steps: &[
+        Join(0xa1),
+        Acknowledged(0, 0),
+        KeepKilled,
+        Uplink(Near, 1, false, 0xa1),
+        LivesEnded(1),
+        Again(1),
+        Acknowledged(2, 1),
+        Byte,
+        LivesEnded(2),
+        Acknowledged(0, 1),
+        Byte,
+        LivesEnded(3),
+        Closed,
+        First,
+    ],
+    told: Told {
+        ended: Ok(4),
+        output: Want::Is(&[
+            "listening 127.0.0.1:17041\n",
+            FIRST_UPS,
+            "settled 6\n",
+            "listening 127.0.0.1:17041\n",
+            UP,
+            "settled 9\n",
+            "listening 127.0.0.1:17041\n",
+            "settled 6\n",
+            "listening 127.0.0.1:17041\n",
+            UP,
+            "settled 4\n",
+        ]),
+        log: Want::Is(&[]),
+    },
+};
 
 // Makes the folders of the four lives. What a kill left while a window was open is the record without its last step.
-fn make_folders(rt: &HostRuntime, alloc: Global) -> Result<(), Fail> {
+fn make_folders<H: Files + Alloc>(host: &H, alloc: Global) -> Option<()> {
     for folder in [FOLDER, KILLED, OPEN] {
-        emptied(rt, folder)?;
+        emptied(host, folder)?;
     }
-    let steps = STEPS.strip_suffix(CLOSE).unwrap_or("");
-    write(rt, alloc, OPEN, "steps", steps)?;
-    write(rt, alloc, OPEN, "up", "")
+    write(host, alloc, OPEN, STEPS.strip_suffix(CLOSE)?, "")
+}
+
+// Whether the file of `up` lines of the record has those of both lives.
+fn has_both<H: Files<File = File>>(host: &H, alloc: Global) -> bool {
+    match bytes_of(host, alloc, FOLDER, "up") {
+        Some(lines) => Want::Is(&[FIRST_UPS, UP]).fits(lines.as_slice()),
+        None => false,
+    }
 }
 
 /// A session lives on in the second life: an uplink goes out once over both, and acknowledgements are numbered on. What a kill would have
@@ -265,81 +256,80 @@ fn make_folders(rt: &HostRuntime, alloc: Global) -> Result<(), Fail> {
 #[test]
 fn lives_are_one_run(rt: HostRuntime) -> Result<(), Fail> {
     let alloc: Global = rt.alloc();
-    make_folders(&rt, alloc)?;
-    let trial = trial_of(3);
-    let Ok(listener) = TcpListener::bind(&rt, join_addr(&trial)) else {
-        return Err(Fail::from("no listener"));
-    };
-    let ended = Ended {
-        lives: AtomicU64::new(0),
-        looks: AtomicU64::new(0),
-    };
-    let around = logging(&rt, alloc, "off", 0)?;
-    let (outputs, (_, acks)) = thread::join(
-        &around,
-        || lives(&rt, &around, alloc, &ended),
-        || {
-            thread::join(
-                &around,
-                || join_server(&around, alloc, &listener, 1),
-                || played(&rt, &around, alloc, trial.port, &ended),
-            )
-        },
-    );
-    let outputs = outputs?;
-    assert!(rt; acks == Some([0, 1, 1]));
-    assert!(rt; ended.looks.load(Ordering::SeqCst) >= 3);
-    let mut of_both = ups(alloc, outputs[0].as_slice())?;
-    assert!(rt; of_both.as_str() == FIRST_UPS);
-    let second = ups(alloc, outputs[1].as_slice())?;
-    assert!(rt; second.as_str() == UP);
-    of_both.push_str(second.as_str())?;
-    assert!(rt; bytes_of(&rt, alloc, FOLDER, "up")?.as_slice() == of_both.as_bytes());
-    assert!(rt; ups(alloc, outputs[2].as_slice())?.as_str() == "");
-    assert!(rt; ups(alloc, outputs[3].as_slice())?.as_str() == UP);
+    assert!(rt; make_folders(&rt, alloc).is_some());
+    assert!(rt; tried(&rt, &rt, alloc, &LIVES).is_some_and(|looks| looks >= 3));
+    assert!(rt; has_both(&rt, alloc));
     for folder in [FOLDER, KILLED, OPEN] {
         fs::remove_dir_all(&rt, folder)?;
     }
     Ok(())
 }
 
-// Why a start with these files and this roster is refused, if it is.
-fn refused(
-    rt: &HostRuntime,
+// A start with a record: its roster and files, why it is refused, if it is, and what it leaves of the files.
+struct Start {
     roster: &'static str,
-    steps: &str,
-    up: &str,
-) -> Result<Option<RecordFault>, Fail> {
-    let alloc: Global = rt.alloc();
-    let mut trial = trial_of(1);
-    trial.roster = roster;
-    write(rt, alloc, REFUSED, "steps", steps)?;
-    write(rt, alloc, REFUSED, "up", up)?;
-    let files = RecordFiles::open(rt, &Discard, alloc, REFUSED, false)?;
-    let outcome = Begun::resume(&Discard, alloc, &roster_of(alloc, &trial)?, files);
-    Ok(outcome.err())
+    before: [&'static str; 2],
+    why: Option<RecordFault>,
+    behind: [&'static str; 2],
 }
 
-// Whether the files are still these.
-fn are_still(rt: &HostRuntime, steps: &str, up: &str) -> Result<bool, Fail> {
-    let alloc: Global = rt.alloc();
-    let are_steps = bytes_of(rt, alloc, REFUSED, "steps")?.as_slice() == steps.as_bytes();
-    Ok(are_steps && bytes_of(rt, alloc, REFUSED, "up")?.as_slice() == up.as_bytes())
+const STARTS: [Start; 3] = [
+    Start {
+        roster: WITHOUT,
+        before: [TORN_STEPS, TORN_UP],
+        why: Some(RecordFault::NoFit(1)),
+        behind: [TORN_STEPS, TORN_UP],
+    },
+    Start {
+        roster: ROSTER_A,
+        before: [TORN_STEPS, "up 1"],
+        why: Some(RecordFault::UpDiffers(1)),
+        behind: [TORN_STEPS, "up 1"],
+    },
+    Start {
+        roster: ROSTER_B,
+        before: [TORN_STEPS, TORN_UP],
+        why: None,
+        behind: [STEPS, UP],
+    },
+];
+
+// Why a start is refused, if it is.
+fn refused<H: Files<File = File>>(
+    host: &H,
+    alloc: Global,
+    roster: &str,
+) -> Option<Option<RecordFault>> {
+    let roster = roster_of(alloc, roster)?;
+    let files = RecordFiles::open(host, &Discard, alloc, REFUSED, false).ok()?;
+    Some(Begun::resume(&Discard, alloc, &roster, files).err())
+}
+
+// Whether the files are these.
+fn are_these<H: Files<File = File>>(host: &H, alloc: Global, files: &[&str; 2]) -> Option<bool> {
+    let steps = bytes_of(host, alloc, REFUSED, "steps")?;
+    let ups = bytes_of(host, alloc, REFUSED, "up")?;
+    Some(steps.as_slice() == files[0].as_bytes() && ups.as_slice() == files[1].as_bytes())
+}
+
+// Whether a start comes to what it says.
+fn starts_so<H: Files<File = File>>(host: &H, alloc: Global, start: &Start) -> Option<bool> {
+    write(host, alloc, REFUSED, start.before[0], start.before[1])?;
+    let why = refused(host, alloc, start.roster)?;
+    Some(why == start.why && are_these(host, alloc, &start.behind)?)
 }
 
 /// A start that is refused changes no byte of the files, and one that is not mends them.
 #[test]
-fn refused_starts_change_nothing(rt: HostRuntime) -> Result<(), Fail> {
-    emptied(&rt, REFUSED)?;
-    let why = refused(&rt, WITHOUT, TORN_STEPS, TORN_UP)?;
-    assert!(rt; why == Some(RecordFault::NoFit(1)));
-    assert!(rt; are_still(&rt, TORN_STEPS, TORN_UP)?);
-    let why = refused(&rt, ROSTER_A, TORN_STEPS, "up 1")?;
-    assert!(rt; why == Some(RecordFault::UpDiffers(1)));
-    assert!(rt; are_still(&rt, TORN_STEPS, "up 1")?);
-    let why = refused(&rt, ROSTER_B, TORN_STEPS, TORN_UP)?;
-    assert!(rt; why.is_none());
-    assert!(rt; are_still(&rt, STEPS, UP)?);
-    fs::remove_dir_all(&rt, REFUSED)?;
-    Ok(())
+fn refused_starts_change_nothing(rt: HostRuntime) {
+    let alloc: Global = rt.alloc();
+    assert!(rt; emptied(&rt, REFUSED).is_some());
+    for start in &STARTS {
+        assert!(rt;
+            starts_so(&rt, alloc, start) == Some(true),
+            "{}",
+            start.behind[1]
+        );
+    }
+    assert!(rt; fs::remove_dir_all(&rt, REFUSED).is_ok());
 }

@@ -1,6 +1,6 @@
 //! Those around a server over loopback: gateways, devices and a join server.
 
-use ns_types::{DevEui, DevNonce, JoinEui, Key};
+use ns_types::{DevEui, JoinEui, Key};
 use std::alloc::Global;
 use std::io::{ErrorKind, Read, Write};
 use std::net::{Net, SocketAddr, TcpListener, TcpStream, UdpSocket};
@@ -19,14 +19,19 @@ pub const ROSTER_B: &str =
 /// The AppKey of both.
 const APP_KEY: Key = Key([7; 16]);
 
-/// Whether a text has this piece.
-pub fn contains(text: &[u8], piece: &[u8]) -> bool {
+// Where a text has this piece first.
+fn place_of(text: &[u8], piece: &[u8]) -> Option<usize> {
     for i in 0..text.len() {
         if text[i..].starts_with(piece) {
-            return true;
+            return Some(i);
         }
     }
-    false
+    None
+}
+
+/// Whether a text has this piece.
+pub fn contains(text: &[u8], piece: &[u8]) -> bool {
+    place_of(text, piece).is_some()
 }
 
 // How often a peer tries again, with a sleep of 10 ms before each time.
@@ -84,41 +89,63 @@ fn accepted<R: Clock>(rt: &R, listener: &TcpListener) -> Option<TcpStream> {
     None
 }
 
-// Where the body of a request begins.
-fn body_start(bytes: &[u8]) -> Option<usize> {
-    for i in 0..bytes.len() {
-        if bytes[i..].starts_with(b"\r\n\r\n") {
-            return Some(i + 4);
-        }
+// The body of a request, as far as it has come.
+fn body(bytes: &[u8]) -> &[u8] {
+    match place_of(bytes, b"\r\n\r\n") {
+        Some(end) => bytes.get(end.saturating_add(4)..).unwrap_or(&[]),
+        None => &[],
     }
-    None
 }
 
-// Reads a JoinReq of 281 bytes behind its head, and answers it.
-fn answer(alloc: Global, stream: &TcpStream, server: &mut TestJoinServer) -> Option<()> {
+// Reads a JoinReq of 281 bytes with its head.
+fn request(alloc: Global, stream: &TcpStream) -> Option<Vec<u8>> {
     let mut bytes: Vec<u8> = Vec::new(alloc);
     let mut buf = [0u8; 1024];
     for _ in 0..TRIES {
         let n = { stream }.read(&mut buf).ok()?;
         bytes.extend_from_slice(&buf[..n]).ok()?;
-        let Some(start) = body_start(bytes.as_slice()) else {
-            continue;
-        };
-        let Some(body) = bytes.as_slice().get(start..) else {
-            continue;
-        };
-        if body.len() >= 281 {
-            let text = server.reply(alloc, body).ok()?;
-            let head = format!(in alloc;
-                "HTTP/1.1 200 OK\r\nContent-Length: {}\r\n\r\n",
-                text.len()
-            ).ok()?;
-            { stream }.write_all(head.as_bytes()).ok()?;
-            { stream }.write_all(text.as_bytes()).ok()?;
-            return Some(());
+        if body(bytes.as_slice()).len() >= 281 {
+            return Some(bytes);
         }
     }
     None
+}
+
+// Answers with this text.
+fn respond(alloc: Global, stream: &TcpStream, text: &str) -> Option<()> {
+    let head = format!(in alloc; "HTTP/1.1 200 OK\r\nContent-Length: {}\r\n\r\n", text.len()).ok()?;
+    { stream }.write_all(head.as_bytes()).ok()?;
+    { stream }.write_all(text.as_bytes()).ok()
+}
+
+// Reads a JoinReq and answers it.
+fn answer(alloc: Global, stream: &TcpStream, server: &mut TestJoinServer) -> Option<()> {
+    let request = request(alloc, stream)?;
+    let text = server.reply(alloc, body(request.as_slice())).ok()?;
+    respond(alloc, stream, text.as_str())
+}
+
+// So many connections, once all of them have come.
+fn connections<R: Clock>(
+    rt: &R,
+    alloc: Global,
+    listener: &TcpListener,
+    count: usize,
+) -> Option<Vec<TcpStream>> {
+    listener.set_nonblocking(true).ok()?;
+    let mut streams: Vec<TcpStream> = Vec::new(alloc);
+    for _connection in 0..count {
+        streams.push(accepted(rt, listener)?).ok()?;
+    }
+    Some(streams)
+}
+
+// A join server with both devices.
+fn with_devices(alloc: Global) -> Option<TestJoinServer> {
+    let mut server = TestJoinServer::new(alloc);
+    server.add(DevEui(13), APP_KEY).ok()?;
+    server.add(DevEui(14), APP_KEY).ok()?;
+    Some(server)
 }
 
 /// A join server that answers so many connections once all of them have come.
@@ -128,14 +155,8 @@ pub fn join_server<R: Clock>(
     listener: &TcpListener,
     count: usize,
 ) -> Option<()> {
-    listener.set_nonblocking(true).ok()?;
-    let mut server = TestJoinServer::new(alloc);
-    server.add(DevEui(13), APP_KEY).ok()?;
-    server.add(DevEui(14), APP_KEY).ok()?;
-    let mut streams: Vec<TcpStream> = Vec::new(alloc);
-    for _connection in 0..count {
-        streams.push(accepted(rt, listener)?).ok()?;
-    }
+    let streams = connections(rt, alloc, listener, count)?;
+    let mut server = with_devices(alloc)?;
     for stream in &streams {
         answer(alloc, stream, &mut server)?;
     }
@@ -148,20 +169,6 @@ pub fn heard(alloc: Global, head: &[u8; 27], frame: &[u8]) -> Option<Vec<u8>> {
     bytes.push(u8::try_from(frame.len()).unwrap_or(0)).ok()?;
     bytes.extend_from_slice(frame).ok()?;
     Some(bytes)
-}
-
-/// The datagram of an uplink of this counter.
-pub fn uplink(
-    alloc: Global,
-    device: &TestDevice,
-    counter: u32,
-    confirmed: bool,
-) -> Option<Vec<u8>> {
-    let mut room = [0u8; 64];
-    let frame = device
-        .uplink(counter, confirmed, Some(1), b"test", &mut room)
-        .ok()?;
-    heard(alloc, &front(0xa1), frame)
 }
 
 /// Sends a datagram until the server is there, and gives what comes back within five seconds.
@@ -187,22 +194,6 @@ pub fn asked<R: Clock>(
         nap(rt);
     }
     None
-}
-
-/// A device that has joined by this gateway.
-pub fn joined<R: Clock>(
-    rt: &R,
-    alloc: Global,
-    socket: &UdpSocket,
-    eui: DevEui,
-    gateway: u8,
-) -> Option<TestDevice> {
-    let mut device = device_of(eui);
-    let request = heard(alloc, &front(gateway), &device.join_request(DevNonce(1)))?;
-    let mut buf = [0u8; 512];
-    let n = asked(rt, socket, request.as_slice(), &mut buf)?;
-    device.accept(DevNonce(1), buf.get(28..n)?).ok()?;
-    Some(device)
 }
 
 /// Sends a datagram until the server is there to take it.

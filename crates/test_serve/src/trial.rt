@@ -1,12 +1,12 @@
-//! A server of one gateway worker, or one for each of two sockets, with those around it. Each trial has the same types: a server of others
-//! would be compiled once more.
+//! A server of one gateway worker, or one for each of two sockets, with those around it, or several such servers one after the other. Each
+//! has the same types: a server of others would be compiled once more.
 
-ghost use Rattle.std.specs.Prelude.{◌≡◌, ◌<◌, ◌≤◌, None};
-ghost use Rattle.std.specs.Arc.{arc_value};
-ghost use Rattle.ns_serve_state.specs.Begun.{IsBegun};
+ghost use Rattle.std.specs.Prelude.{◌≡◌, ◌<◌, ◌≤◌, None, IfSome};
 
-use crate::around::Around;
-use crate::parties::{ROSTER_A, join_server, local};
+use crate::around::{Around, logging};
+use crate::lives::{Ended, begun_of};
+use crate::parties::{ROSTER_A, contains, join_server, local};
+use crate::play::{Party, Step};
 use log::{Log, error};
 use ns_events::Output;
 use ns_joinclient::HostName;
@@ -16,6 +16,7 @@ use ns_serve::{Begun, ServeFault, ServeOptions, Stop, serve};
 use ns_types::{Failed, Sink, Stream};
 use std::alloc::Global;
 use std::net::{Net, SocketAddr, TcpListener, TcpStream};
+use std::process::Abort;
 use std::sync::atomic::{AtomicU64, Ordering};
 use std::sync::{Arc, Wait};
 use std::test::*;
@@ -53,17 +54,12 @@ pub struct Writer<'a> {
 
 impl<'a> Writer<'a> {
     /// A writer behind these bytes, which takes so many texts.
-    pub fn of(bytes: &'a mut Vec<u8>, texts: u32) -> Writer<'a> {
+    pub fn new(bytes: &'a mut Vec<u8>, texts: u32) -> Writer<'a> {
         Writer {
             bytes,
             texts,
             failed: false,
         }
-    }
-
-    /// A writer behind these bytes, which takes more texts than come.
-    pub fn new(bytes: &'a mut Vec<u8>) -> Writer<'a> {
-        Writer::of(bytes, u32::MAX)
     }
 }
 
@@ -89,7 +85,7 @@ impl<'a> Sink for Writer<'a> {
 }
 
 /// By which sockets gateways are heard, each by a worker of its own.
-#[derive(Clone, Copy)]
+#[derive(Drop)]
 pub enum Sockets {
     /// One of the server's own datagrams.
     Own,
@@ -100,158 +96,334 @@ pub enum Sockets {
 }
 
 /// What a server and the join server do.
-#[derive(Clone, Copy)]
-pub struct Trial {
+#[derive(Drop)]
+pub struct Asked {
     pub roster: &'static str,
     /// The gateways' port.
     pub port: u16,
     pub sockets: Sockets,
     pub join_workers: usize,
     pub window_ms: u32,
-    pub stop_after: Option<u32>,
-    /// How many devices ask to join at a time.
-    pub joins: usize,
     pub closing: bool,
     /// Whether uplinks are written as JSON objects, and joins and acknowledgements too.
     pub json: bool,
+    /// Of how many texts the output takes.
+    pub texts: u32,
 }
 
-/// A trial of one device at this port that ends after so many datagrams, if it does: own datagrams are heard, windows stay open for 1 s,
-/// and lines are written.
-pub fn trial_at(port: u16, stop_after: Option<u32>) -> Trial {
-    Trial {
-        roster: ROSTER_A,
-        port,
-        sockets: Sockets::Own,
-        join_workers: 1,
-        window_ms: 1000,
-        stop_after,
-        joins: 1,
-        closing: false,
-        json: false,
+/// Own datagrams of one device are heard, windows stay open for 1 s, and lines are written.
+pub const USUAL: Asked = Asked {
+    roster: ROSTER_A,
+    port: 17001,
+    sockets: Sockets::Own,
+    join_workers: 1,
+    window_ms: 1000,
+    closing: false,
+    json: false,
+    texts: u32::MAX,
+};
+
+/// One server of a trial.
+pub struct Life {
+    /// The folder of its record, if it has one.
+    pub folder: Option<&'static str>,
+    /// After how many datagrams it ends, if it does.
+    pub stop_after: Option<u32>,
+}
+
+/// A text that is wanted.
+pub enum Want {
+    /// These pieces, one behind the other.
+    Is(&'static [&'static str]),
+    /// One that has each of these pieces.
+    Has(&'static [&'static str]),
+}
+
+/// What becomes of servers, the last one's outcome among it.
+pub struct Told {
+    pub ended: Result<u128, ServeFault>,
+    pub output: Want,
+    pub log: Want,
+}
+
+/// Servers one after the other, and what those around them do.
+pub struct Trial {
+    pub asked: Asked,
+    /// What is logged.
+    pub levels: &'static str,
+    /// The time at which the clock stands first, in milliseconds, or 0.
+    pub stands_ms: u64,
+    pub lives: &'static [Life],
+    /// How many devices ask to join at a time.
+    pub joins: usize,
+    pub steps: &'static [Step],
+    pub told: Told,
+}
+
+// Whether a text is made of these pieces.
+fn is_made_of(text: &[u8], pieces: &[&str]) -> bool {
+    let mut rest = text;
+    for piece in pieces {
+        if !rest.starts_with(piece.as_bytes()) {
+            return false;
+        }
+        rest = rest.get(piece.len()..).unwrap_or(&[]);
+    }
+    rest.is_empty()
+}
+
+// Whether a text has each of these pieces.
+fn has_each(text: &[u8], pieces: &[&str]) -> bool {
+    for piece in pieces {
+        if !contains(text, piece.as_bytes()) {
+            return false;
+        }
+    }
+    true
+}
+
+impl Want {
+    /// Whether this text is wanted.
+    pub fn fits(&self, text: &[u8]) -> bool {
+        match self {
+            Want::Is(pieces) => is_made_of(text, pieces),
+            Want::Has(pieces) => has_each(text, pieces),
+        }
     }
 }
 
-/// The forwarders' port beside this one of the gateways.
-pub fn beside(port: u16) -> u16 {
+impl Asked {
+    // The gateways' ports.
+    fn ports(&self) -> (u16, u16) {
+        match self.sockets {
+            Sockets::Both => (self.port, beside(self.port)),
+            _ => (self.port, self.port),
+        }
+    }
+
+    // Where the join server listens: behind the gateways' port.
+    fn join_addr(&self) -> SocketAddr {
+        local(self.port.saturating_add(1))
+    }
+
+    /// Its roster.
+    pub fn roster(&self, alloc: Global) -> Option<Arc<Roster>> {
+        roster_of(alloc, self.roster)
+    }
+
+    /// What is asked for of a server that ends after so many datagrams, with one gateway worker for each socket.
+    pub fn options(&self, stop_after: Option<u32>) -> Option<ServeOptions<'static>>
+        ensures workers { IfSome result (λ o. (0 < o.workers) × (o.workers ≤ 2)) }
+        ensures join_workers { IfSome result (λ o. (0 < o.join_workers) × (o.join_workers ≤ 16)) }
+    {
+        let host = HostName::new("js.local")?;
+        let heard = Some(local(self.port));
+        let (listen, forwarders, workers) = match self.sockets {
+            Sockets::Own => (heard, None, 1),
+            Sockets::Forwarders => (None, heard, 1),
+            Sockets::Both => (heard, Some(local(beside(self.port))), 2),
+        };
+        Some(ServeOptions {
+            join: self.join_addr(),
+            host,
+            listen,
+            forwarders,
+            power: 16,
+            status: None,
+            workers,
+            join_workers: self.join_workers.max(1).min(16),
+            window_ms: self.window_ms,
+            stop_after,
+            stop_at_end: false,
+            trim: Some(1),
+            output: if self.json {
+                Output::Json
+            } else {
+                Output::Lines
+            },
+            events: self.json,
+            closing: self.closing,
+        })
+    }
+}
+
+/// The roster of this text.
+pub fn roster_of(alloc: Global, text: &str) -> Option<Arc<Roster>> {
+    let roster = Roster::read(alloc, text.as_bytes()).ok()?;
+    Arc::new(alloc, roster).ok()
+}
+
+// The forwarders' port beside this one of the gateways.
+fn beside(port: u16) -> u16 {
     port.saturating_add(2)
 }
 
-/// Where the join server of a trial listens: behind the gateways' port.
-pub fn join_addr(trial: &Trial) -> SocketAddr {
-    local(trial.port.saturating_add(1))
-}
-
-/// The roster of a trial.
-pub fn roster_of(alloc: Global, trial: &Trial) -> Result<Arc<Roster>, Fail> {
-    Ok(Arc::new(alloc, Roster::read(alloc, trial.roster.as_bytes())?)?)
-}
-
-/// Serves a trial with this writer.
-pub fn served<
-    R: Threads + Wait + Clock + Net<Listener = TcpListener, Stream = TcpStream> + Log + Sync,
->(
-    rt: &R,
+/// Serves what is asked for from the start.
+pub fn served<R, L>(
+    rt: &Around<'_, R, L>,
     alloc: Global,
-    trial: &Trial,
+    options: &ServeOptions<'_>,
     roster: Arc<Roster>,
     writer: Writer<'_>,
-) -> Result<u128, ServeFault> {
+) -> Result<u128, ServeFault>
+where
+    R: Threads + Wait + Clock + Net<Listener = TcpListener, Stream = TcpStream> + Sync,
+    L: Log + Sync,
+    requires workers { (0 < options.now.workers) × (options.now.workers ≤ 2) }
+    requires join_workers { (0 < options.now.join_workers) × (options.now.join_workers ≤ 16) }
+{
     let Ok(begun) = Begun::new(alloc, &roster) else {
         error!(rt; "no memory for the shards");
         return Err(ServeFault::NoMemory);
     };
     let count = AtomicU64::new(0);
     let looks = Looks { count: &count };
-    served_from(rt, alloc, trial, roster, begun, looks, writer)
+    serve(rt, alloc, roster, options, begun, Unused, looks, writer)
 }
 
-/// The same, where the server begins so.
-pub fn served_from<
-    R: Threads + Wait + Clock + Net<Listener = TcpListener, Stream = TcpStream> + Log + Sync,
->(
-    rt: &R,
+// One server of a trial, from where its record left it. Its outcome, if it began.
+fn live<R, L>(
+    rt: &Around<'_, R, L>,
+    host: &HostRuntime,
+    alloc: Global,
+    asked: &Asked,
+    life: &Life,
+    ended: &Ended,
+    output: &mut Vec<u8>,
+) -> Option<Result<u128, ServeFault>>
+where
+    R: Threads + Wait + Clock + Net<Listener = TcpListener, Stream = TcpStream> + Sync,
+    L: Log + Sync,
+{
+    let options = asked.options(life.stop_after)?;
+    let roster = asked.roster(alloc)?;
+    let begun = begun_of(host, alloc, &roster, life.folder)?;
+    let looks = Looks {
+        count: &ended.looks,
+    };
+    let writer = Writer::new(output, asked.texts);
+    Some(serve(rt, alloc, roster, &options, begun, Unused, looks, writer))
+}
+
+// The servers of a trial, one after the other as long as none ends with a fault. The outcome of the last one.
+fn live_all<R, L>(
+    rt: &Around<'_, R, L>,
+    host: &HostRuntime,
     alloc: Global,
     trial: &Trial,
-    roster: Arc<Roster>,
-    begun: Begun,
-    looks: Looks<'_>,
-    writer: Writer<'_>,
-) -> Result<u128, ServeFault>
-    requires { IsBegun (arc_value roster) begun }
+    ended: &Ended,
+    output: &mut Vec<u8>,
+) -> Option<Result<u128, ServeFault>>
+where
+    R: Threads + Wait + Clock + Net<Listener = TcpListener, Stream = TcpStream> + Sync,
+    L: Log + Sync,
 {
-    let Some(host) = HostName::new("js.local") else {
-        return Err(ServeFault::Io);
-    };
-    let options = options_of(trial, host);
-    serve(rt, alloc, roster, &options, begun, Unused, looks, writer)
+    let mut last = None;
+    for life in trial.lives {
+        let outcome = live(rt, host, alloc, &trial.asked, life, ended, output)?;
+        ended.lives.fetch_add(1, Ordering::SeqCst);
+        last = Some(outcome);
+        if outcome.is_err() {
+            break;
+        }
+    }
+    last
 }
 
-/// What a trial asks for, with one gateway worker for each socket.
-pub fn options_of<'a>(trial: &Trial, host: HostName<'a>) -> ServeOptions<'a>
-    ensures workers { (0 < result.workers) × (result.workers ≤ 2) }
-    ensures join_workers { (0 < result.join_workers) × (result.join_workers ≤ 16) }
+// What gateways and devices do. Whether each step came to what it says.
+fn play<R, L>(
+    rt: &Around<'_, R, L>,
+    host: &HostRuntime,
+    alloc: Global,
+    trial: &Trial,
+    ended: &Ended,
+) -> bool
+where
+    R: Clock + Net,
 {
-    let heard = Some(local(trial.port));
-    let (listen, forwarders, workers) = match trial.sockets {
-        Sockets::Own => (heard, None, 1),
-        Sockets::Forwarders => (None, heard, 1),
-        Sockets::Both => (heard, Some(local(beside(trial.port))), 2),
-    };
-    ServeOptions {
-        join: join_addr(trial),
-        host,
-        listen,
-        forwarders,
-        power: 16,
-        status: None,
-        workers,
-        join_workers: trial.join_workers.max(1).min(16),
-        window_ms: trial.window_ms,
-        stop_after: trial.stop_after,
-        stop_at_end: false,
-        trim: Some(1),
-        output: if trial.json {
-            Output::Json
-        } else {
-            Output::Lines
-        },
-        events: trial.json,
-        closing: trial.closing,
+    let (near, far) = trial.asked.ports();
+    match Party::new(rt, host, alloc, ended, near, far) {
+        Some(mut party) => party.play(trial.steps),
+        None => false,
     }
 }
 
-/// What gateways and devices do while a server runs, at this port. How many bytes came of it.
-pub trait Play<R> {
-    fn play(&self, rt: &R, alloc: Global, port: u16) -> Option<usize>;
-}
+// The outcome of the last server of a trial, and whether each step came to what it says.
+type Ran = Option<(Option<Result<u128, ServeFault>>, bool)>;
 
-/// Runs a trial, with a join server and these gateways beside the server.
-pub fn tried<
-    R: Threads + Wait + Clock + Net<Listener = TcpListener, Stream = TcpStream> + Sync,
-    L: Log + Sync,
-    P: Play<Around<R, L>> + Sync,
->(
-    rt: &Around<R, L>,
+// Runs a trial, with a join server and gateways beside the servers.
+fn run<R, L>(
+    rt: &Around<'_, R, L>,
+    host: &HostRuntime,
     alloc: Global,
     trial: &Trial,
-    writer: Writer<'_>,
-    play: &P,
-) -> Result<(Result<u128, ServeFault>, Option<usize>), Fail> {
-    let roster = roster_of(alloc, trial)?;
-    let Ok(listener) = TcpListener::bind(rt, join_addr(trial)) else {
-        return Err(Fail::from("no listener"));
-    };
-    let (total, (_, bytes)) = thread::join(
+    ended: &Ended,
+    output: &mut Vec<u8>,
+) -> Ran
+where
+    R: Threads + Wait + Clock + Net<Listener = TcpListener, Stream = TcpStream> + Sync,
+    L: Log + Sync,
+{
+    let listener = TcpListener::bind(rt, trial.asked.join_addr()).ok()?;
+    let (outcome, (_, is_played)) = thread::join(
         rt,
-        || served(rt, alloc, trial, roster, writer),
+        || live_all(rt, host, alloc, trial, ended, output),
         || {
             thread::join(
                 rt,
                 || join_server(rt, alloc, &listener, trial.joins),
-                || play.play(rt, alloc, trial.port),
+                || play(rt, host, alloc, trial, ended),
             )
         },
     );
-    Ok((total, bytes))
+    Some((outcome, is_played))
+}
+
+// Asserts that a text is as wanted.
+fn assert_told<R: Abort>(rt: &R, want: &Want, text: &[u8]) {
+    assert!(rt;
+        want.fits(text),
+        "{}",
+        str::from_utf8(text).unwrap_or("no text")
+    );
+}
+
+// Asserts that a trial ended as it is told.
+fn assert_all<R: Abort>(rt: &R, told: &Told, ran: Ran, output: &[u8], log: &[u8]) {
+    let is_ended = match ran {
+        Some((Some(outcome), is_played)) => is_played && outcome == told.ended,
+        _ => false,
+    };
+    assert_told(rt, &told.output, output);
+    assert_told(rt, &told.log, log);
+    assert!(rt; is_ended);
+}
+
+// What is logged in a trial, and what comes of it.
+fn logged<R>(
+    rt: &R,
+    host: &HostRuntime,
+    alloc: Global,
+    trial: &Trial,
+    ended: &Ended,
+    output: &mut Vec<u8>,
+) -> Option<(Vec<u8>, Ran)>
+where
+    R: Threads + Wait + Clock + Net<Listener = TcpListener, Stream = TcpStream> + Sync,
+{
+    let around = logging(rt, alloc, trial.levels, trial.stands_ms).ok()?;
+    let ran = run(&around, host, alloc, trial, ended, output);
+    Some((around.into_log().into_inner().into_inner(), ran))
+}
+
+/// Runs a trial. How often its record was looked after.
+pub fn tried<R>(rt: &R, host: &HostRuntime, alloc: Global, trial: &Trial) -> Option<u64>
+where
+    R: Threads + Wait + Clock + Net<Listener = TcpListener, Stream = TcpStream> + Abort + Sync,
+{
+    let ended = Ended::new();
+    let mut output: Vec<u8> = Vec::new(alloc);
+    let (log, ran) = logged(rt, host, alloc, trial, &ended, &mut output)?;
+    assert_all(rt, &trial.told, ran, output.as_slice(), log.as_slice());
+    Some(ended.looks.load(Ordering::SeqCst))
 }

@@ -5,23 +5,18 @@ ghost use Rattle.std.specs.Arc.{arc_value};
 ghost use Rattle.ns_shard.specs.State.{no_entries};
 ghost use Rattle.ns_tally.specs.Tally.{AreNamed};
 
-use crate::parties::ROSTER_A;
+use crate::trial::USUAL;
 use log::Log;
 use ns_calls::Call;
 use ns_roster::Roster;
 use ns_serve::{PLACES, Trims, trim_due};
-use ns_server::{Naming, Open, Pass, Receipt, Server};
+use ns_server::{Naming, Open, Pass, Receipt, Server, Settled};
 use ns_tally::Blanks;
 use ns_types::{BLOCKS, DevEui, GatewayId, Heard, Ticket, WindowName, take_all};
 use std::alloc::{AllocError, Global};
 use std::marker::Brand;
-use std::process::Abort;
 use std::sync::{Arc, Wait};
 use std::test::*;
-
-fn roster_a(alloc: Global) -> Result<Arc<Roster>, Fail> {
-    Ok(Arc::new(alloc, Roster::read(alloc, ROSTER_A.as_bytes())?)?)
-}
 
 // One entry more in a shard.
 fn add_one(made: &mut [u64; PLACES], shard: u8) {
@@ -68,39 +63,6 @@ fn trim_by_turns<B: Naming, R: Wait + Log>(
     Ok(())
 }
 
-/// A shard is trimmed once so many entries were made since its last trim, not one entry earlier or later, and no other shard with it.
-/// All entries are counted.
-#[test]
-fn shard_is_trimmed(rt: HostRuntime) -> Result<(), Fail> {
-    let alloc: Global = rt.alloc();
-    trimmed_when_due::<Brand, _>(&rt, alloc, roster_a(alloc)?, Blanks::new(1))
-}
-
-fn trimmed_when_due<B: Naming, R: Wait + Log + Abort>(
-    rt: &R,
-    alloc: Global,
-    roster: Arc<Roster>,
-    blanks: Blanks,
-) -> Result<(), Fail>
-    requires names { AreNamed B.ledger blanks.names }
-    requires parts { (blanks.parts ≡ 1) × (B.workers ≡ 1) }
-    requires roster { arc_value roster ≡ B.roster }
-    requires begun { B.begun ≡ no_entries B.roster }
-{
-    let (server, mut passes) = Server::<B>::new(alloc, roster, 1, blanks)?;
-    if let Some(pass) = passes.last_mut() {
-        trim_by_turns(rt, alloc, &server, pass)?;
-    }
-    let Ok(settled) = server.settle(passes) else {
-        return Err(Fail::from("a pass is missing"));
-    };
-    assert!(rt; settled.mark(13) == 4 && settled.dropped(13) == 4);
-    assert!(rt; settled.mark(12) == 0 && settled.dropped(12) == 0);
-    assert!(rt; settled.history(13).len() == 3);
-    assert!(rt; settled.total() == 10);
-    Ok(())
-}
-
 // Has the device ask to join: its ticket is open from then on, and its entry stays.
 fn ask<B: Naming, R: Wait>(
     rt: &R,
@@ -144,40 +106,83 @@ fn trim_without_memory<B: Naming, R: Wait + Log>(
     Ok(())
 }
 
-/// A trim that is refused memory drops nothing.
-#[test]
-fn refused_trim_drops_nothing(rt: HostRuntime) -> Result<(), Fail> {
-    let alloc: Global = rt.alloc();
-    trimmed_later::<Brand, _>(&rt, alloc, roster_a(alloc)?, Blanks::new(1), 0, 0)
+// When it is looked whether a trim is due.
+#[derive(Clone, Copy)]
+enum Turns {
+    // After entries of two shards by turns.
+    ByTurns,
+    // While there is no memory, and then so many times with it.
+    WithoutMemory(u32),
 }
 
-/// A trim that was refused memory comes when it is looked for next.
-#[test]
-fn refused_trim_comes_later(rt: HostRuntime) -> Result<(), Fail> {
-    let alloc: Global = rt.alloc();
-    trimmed_later::<Brand, _>(&rt, alloc, roster_a(alloc)?, Blanks::new(1), 1, 3)
+// Of shard 13: its mark, how many entries trims dropped, how many there are; the first two of shard 12; and how many were made.
+type Numbers = ([u64; 2], usize, [u64; 2], u128);
+
+fn numbers_of<B: Naming>(settled: &Settled<B>) -> Numbers {
+    let length = settled.history(13).len();
+    let of_13 = [settled.mark(13), settled.dropped(13)];
+    let of_12 = [settled.mark(12), settled.dropped(12)];
+    (of_13, length, of_12, settled.total())
 }
 
-fn trimmed_later<B: Naming, R: Wait + Log + Abort>(
+fn trim<B: Naming, R: Wait + Log>(
+    rt: &R,
+    alloc: Global,
+    server: &Server<B>,
+    passes: &mut Vec<Pass<B>>,
+    turns: Turns,
+) -> Option<()> {
+    let pass = passes.last_mut()?;
+    match turns {
+        Turns::ByTurns => trim_by_turns(rt, alloc, server, pass).ok(),
+        Turns::WithoutMemory(times) => trim_without_memory(rt, alloc, server, pass, times).ok(),
+    }
+}
+
+fn trimmed_by<B: Naming, R: Wait + Log>(
     rt: &R,
     alloc: Global,
     roster: Arc<Roster>,
     blanks: Blanks,
-    times: u32,
-    dropped: u64,
-) -> Result<(), Fail>
+    turns: Turns,
+) -> Option<Numbers>
     requires names { AreNamed B.ledger blanks.names }
     requires parts { (blanks.parts ≡ 1) × (B.workers ≡ 1) }
     requires roster { arc_value roster ≡ B.roster }
     requires begun { B.begun ≡ no_entries B.roster }
 {
-    let (server, mut passes) = Server::<B>::new(alloc, roster, 1, blanks)?;
-    if let Some(pass) = passes.last_mut() {
-        trim_without_memory(rt, alloc, &server, pass, times)?;
+    let (server, mut passes) = Server::<B>::new(alloc, roster, 1, blanks).ok()?;
+    let is_made = trim(rt, alloc, &server, &mut passes, turns).is_some();
+    match server.settle(passes) {
+        Ok(settled) if is_made => Some(numbers_of(&settled)),
+        _ => None,
     }
-    let Ok(settled) = server.settle(passes) else {
-        return Err(Fail::from("a pass is missing"));
-    };
-    assert!(rt; settled.dropped(13) == dropped && settled.total() == 4);
-    Ok(())
+}
+
+// What trims leave of a server of one device.
+fn trimmed<R: Wait + Log>(rt: &R, alloc: Global, turns: Turns) -> Option<Numbers> {
+    let roster = USUAL.roster(alloc)?;
+    trimmed_by::<Brand, _>(rt, alloc, roster, Blanks::new(1), turns)
+}
+
+/// A shard is trimmed once so many entries were made since its last trim, not one entry earlier or later, and no other shard with it.
+/// All entries are counted.
+#[test]
+fn shard_is_trimmed(rt: HostRuntime) {
+    let numbers = trimmed(&rt, rt.alloc(), Turns::ByTurns);
+    assert!(rt; numbers == Some(([4, 4], 3, [0, 0], 10)));
+}
+
+/// A trim that is refused memory drops nothing.
+#[test]
+fn refused_trim_drops_nothing(rt: HostRuntime) {
+    let numbers = trimmed(&rt, rt.alloc(), Turns::WithoutMemory(0));
+    assert!(rt; numbers == Some(([0, 0], 4, [0, 0], 4)));
+}
+
+/// A trim that was refused memory comes when it is looked for next.
+#[test]
+fn refused_trim_comes_later(rt: HostRuntime) {
+    let numbers = trimmed(&rt, rt.alloc(), Turns::WithoutMemory(1));
+    assert!(rt; numbers == Some(([4, 3], 1, [0, 0], 4)));
 }

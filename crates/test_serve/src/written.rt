@@ -1,11 +1,10 @@
 //! What leaves the server rests on steps that are written.
 
-use crate::around::logging;
-use crate::lives::{bytes_of, emptied, trial_of};
-use crate::trial::{Writer, options_of, roster_of};
+use crate::lives::{SHORT, bytes_of, emptied};
+use crate::trial::Writer;
+use log::Log;
 use log::sink::Discard;
 use ns_calls::{Bytes, Call, Downlink, Reply};
-use ns_joinclient::HostName;
 use ns_record_files::RecordFiles;
 use ns_serve::Begun;
 use ns_serve_state::{AfterRecord, State, ToSocket, record_call};
@@ -14,7 +13,13 @@ use ns_types::{DevEui, GatewayId, Sink, Target, WindowName};
 use ns_workers::Downlinks;
 use std::alloc::Global;
 use std::fs;
+use std::fs::File;
+use std::net::Net;
+use std::process::Abort;
+use std::rt::Files;
+use std::sync::Wait;
 use std::test::*;
+use std::time::Clock;
 
 // The folder of the record.
 const FOLDER: &str = "test_serve_written";
@@ -49,47 +54,69 @@ fn downlink() -> Downlink {
     }
 }
 
-/// Before a downlink is sent, and before bytes go to standard output, the steps that were put down are in the file.
-#[test]
-fn steps_are_written_before(rt: HostRuntime) -> Result<(), Fail> {
-    let alloc: Global = rt.alloc();
-    emptied(&rt, FOLDER)?;
-    let trial = trial_of(1);
-    let roster = roster_of(alloc, &trial)?;
-    let Some(host) = HostName::new("js.local") else {
-        return Err(Fail::from("no host name"));
-    };
-    let files = RecordFiles::open(&rt, &Discard, alloc, FOLDER, false)?;
+// The state of a server with the record in the folder.
+fn state_of<R: Files<File = File> + Clock>(rt: &R, alloc: Global) -> Option<State> {
+    let roster = SHORT.roster(alloc)?;
+    let options = SHORT.options(Some(1))?;
+    let files = RecordFiles::open(rt, &Discard, alloc, FOLDER, false).ok()?;
     let Begun {
         shards,
         windows: _,
         tickets: _,
         record,
-    } = Begun::resume(&Discard, alloc, &roster, files)?;
-    let options = options_of(&trial, host);
-    let around = logging(&rt, alloc, "off", 0)?;
-    let state = State::new(
-        &around,
-        alloc,
-        None,
-        None,
-        &roster,
-        &options,
-        shards.as_slice(),
-        record,
-        None,
-    )?;
-    record_call(&around, &state, &closed(0));
-    assert!(rt; bytes_of(&rt, alloc, FOLDER, "steps")?.as_slice() == b"".as_slice());
-    assert!(rt; !ToSocket { state: &state }.send(&around, &downlink()));
-    let first = b"close 000000000000000d 1 0\n".as_slice();
-    assert!(rt; bytes_of(&rt, alloc, FOLDER, "steps")?.as_slice() == first);
-    record_call(&around, &state, &closed(1));
+    } = Begun::resume(&Discard, alloc, &roster, files).ok()?;
+    let shards = shards.as_slice();
+    State::new(
+        rt, alloc, None, None, &roster, &options, shards, record, None,
+    )
+    .ok()
+}
+
+// Asserts that these are the steps in the file.
+fn assert_steps<R: Files<File = File> + Abort>(rt: &R, alloc: Global, steps: &[u8]) {
+    let are_these = match bytes_of(rt, alloc, FOLDER, "steps") {
+        Some(bytes) => bytes.as_slice() == steps,
+        None => false,
+    };
+    assert!(rt; are_these);
+}
+
+// Writes a line behind what was put down of a state. Whether it was written.
+fn is_written<R: Wait + Log>(rt: &R, alloc: Global, state: &State) -> bool {
     let mut output: Vec<u8> = Vec::new(alloc);
-    let mut writer = AfterRecord::new(&around, &state, Writer::new(&mut output));
-    assert!(rt; writer.write(b"up\n").is_ok());
-    let both = b"close 000000000000000d 1 0\nclose 000000000000000d 1 1\n".as_slice();
-    assert!(rt; bytes_of(&rt, alloc, FOLDER, "steps")?.as_slice() == both);
-    fs::remove_dir_all(&rt, FOLDER)?;
-    Ok(())
+    let mut writer = AfterRecord::new(rt, state, Writer::new(&mut output, u32::MAX));
+    writer.write(b"up\n").is_ok()
+}
+
+fn write_two<R: Files<File = File> + Abort + Wait + Clock + Log + Net>(
+    rt: &R,
+    alloc: Global,
+    state: &State,
+) {
+    record_call(rt, state, &closed(0));
+    assert_steps(rt, alloc, b"");
+    assert!(rt; !ToSocket { state }.send(rt, &downlink()));
+    assert_steps(rt, alloc, b"close 000000000000000d 1 0\n");
+    record_call(rt, state, &closed(1));
+    assert!(rt; is_written(rt, alloc, state));
+    let both = b"close 000000000000000d 1 0\nclose 000000000000000d 1 1\n";
+    assert_steps(rt, alloc, both);
+}
+
+// Writes two steps of a new state, if there is one.
+fn write_anew<R: Files<File = File> + Abort + Wait + Clock + Log + Net>(
+    rt: &R,
+    alloc: Global,
+) -> Option<()> {
+    let state = state_of(rt, alloc)?;
+    write_two(rt, alloc, &state);
+    Some(())
+}
+
+/// Before a downlink is sent, and before bytes go to standard output, the steps that were put down are in the file.
+#[test]
+fn steps_are_written_before(rt: HostRuntime) {
+    assert!(rt; emptied(&rt, FOLDER).is_some());
+    assert!(rt; write_anew(&rt, rt.alloc()).is_some());
+    assert!(rt; fs::remove_dir_all(&rt, FOLDER).is_ok());
 }
