@@ -6,6 +6,8 @@
 #   server.sh --trim [DEVICES FRAMES ROUNDS]
 #                                        how long a trim of one shard takes, for which calls on the shard wait: all devices are of that
 #                                        shard, and the calls are made before
+#   server.sh --processes [ROUNDS]       Shard::apply in 1, 2 and 4 processes at once, which share nothing: what the machine itself gives to
+#                                        more threads. Of each process the round in the middle counts
 # The receipt of each call is looked at and dropped.
 set -euo pipefail
 here=$(cd "$(dirname "$0")" && pwd)
@@ -19,6 +21,18 @@ if [ "${1:-}" = --instructions ]; then
     none=$(count none) apply=$(count apply) server=$(count server)
     awk -v n="$calls" -v none="$none" -v apply="$apply" -v server="$server" 'BEGIN {
         printf "%d calls: %.0f instructions each by apply, %.0f by the server, ratio %.2f\n", n, (apply - none) / n, (server - none) / n, (server - none) / (apply - none) }'
+    exit
+fi
+if [ "${1:-}" = --processes ]; then
+    for count in 1 2 4; do
+        for process in $(seq "$count"); do
+            "$program" server 64 64 "${2:-200}" apply > "$work/lines.$process" 2> "$work/apply.$process" &
+        done
+        wait
+        for process in $(seq "$count"); do
+            awk '$1 == "apply" { print $2 / $3 }' "$work/apply.$process" | sort -n | awk '{ all[NR] = $1 } END { print all[int((NR + 1) / 2)] }'
+        done | awk -v count="$count" '{ sum += $1 } END { printf "%d processes: %.0f calls a second together\n", count, sum * 1e9 }'
+    done
     exit
 fi
 if [ "${1:-}" = --trim ]; then
