@@ -43,6 +43,7 @@ fn handed_on<R: Wait + Clock>(
     receiver.try_recv(rt).ok()
 }
 
+/// Tries `Case::LeftOpen`.
 pub fn left_open<R: Wait + Clock + Abort>(
     standing: &Standing<'_, R>,
     alloc: Global,
@@ -82,6 +83,7 @@ fn sent_twice<R: Wait + Clock>(rt: &Standing<'_, R>, alloc: Global, state: &Stat
     Some(is_taken)
 }
 
+/// Tries `Case::WaitingDownlink`.
 pub fn waiting_downlink<R: Wait + Clock + Abort>(
     standing: &Standing<'_, R>,
     alloc: Global,
@@ -98,6 +100,7 @@ fn line_tells_when_it_was_heard(rt: HostRuntime) {
     assert!(rt; Case::LineTimes.tried(&rt, rt.alloc()).is_some());
 }
 
+/// Tries `Case::LineTimes`.
 pub fn line_times<R: Wait + Clock + Abort>(
     standing: &Standing<'_, R>,
     state: &State,

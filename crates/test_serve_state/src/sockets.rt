@@ -98,6 +98,7 @@ fn copies<R: Wait + Clock>(
     Some(None)
 }
 
+/// Tries `Case::LateCopies`.
 pub fn late_copies<R>(standing: &Standing<'_, R>, state: &State) -> Option<()>
 where
     R: Wait + Clock + Net<Listener = TcpListener, Stream = TcpStream> + Abort,
@@ -131,6 +132,7 @@ where
     gateway.recv(&mut buf).ok()
 }
 
+/// Tries `Case::LongestDownlink`.
 pub fn longest_downlink<R>(standing: &Standing<'_, R>, state: &State) -> Option<()>
 where
     R: Wait + Clock + Net<Listener = TcpListener, Stream = TcpStream> + Abort,
@@ -186,6 +188,7 @@ where
     copy_at(rt, from, &gateway, 0)
 }
 
+/// Tries `Case::Failures`.
 pub fn failures<R>(standing: &Standing<'_, R>, state: &State) -> Option<()>
 where
     R: Wait + Clock + Net<Listener = TcpListener, Stream = TcpStream> + Abort,

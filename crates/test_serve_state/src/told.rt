@@ -30,6 +30,7 @@ fn counts_are_logged(rt: HostRuntime) {
     assert!(rt; lines.is_some_and(|lines| lines.as_slice() == want.as_slice()));
 }
 
+/// Tries `Case::Logged`.
 pub fn logged<R: Wait + Clock>(rt: &Standing<'_, R>, state: &State) -> Option<()> {
     count_all(state);
     log_counts(rt, state);
@@ -111,6 +112,7 @@ fn have_joined<R: Wait + Clock>(rt: &Standing<'_, R>, status: &Status) {
     }
 }
 
+/// Tries `Case::Told`.
 pub fn told<R>(standing: &Standing<'_, R>, alloc: Global, state: &State) -> Option<()>
 where
     R: Threads + Wait + Clock + Net<Listener = TcpListener, Stream = TcpStream> + Abort + Sync,
