@@ -6,7 +6,7 @@ ghost use Rattle.serde_json.specs.Written.{compact_text};
 ghost use Rattle.ns_joinwire.specs.JoinAns.{joinans};
 ghost use Rattle.test_device.specs.Joins.{BeginsAccept, GrantReadsBack, HexReadsBack, ReadsBack, read_of};
 ghost use Rattle.serde_json.specs.View.{view};
-ghost use Rattle.test_device.specs.Reply.{failed, handed_over, is_success, joined, message};
+ghost use Rattle.test_device.specs.Reply.{failed, handed_over, is_success, joined, message, plain_key, result_code};
 
 use ns_types::Key;
 use serde_json::{Value, json};
@@ -33,13 +33,27 @@ pub enum Answer {
     Other,
 }
 
+// The object of a ResultCode.
+fn result_code(alloc: Global, code: &str) -> Result<Value, AllocError>
+    ensures { IfOk result (λ v. view v ≡ result_code code.now) }
+{
+    json!(in alloc; {"ResultCode": code})
+}
+
+// The object of a key in hex that none wraps.
+fn plain_key(alloc: Global, key: &str) -> Result<Value, AllocError>
+    ensures { IfOk result (λ v. view v ≡ plain_key key.now) }
+{
+    json!(in alloc; {"AESKey": key, "KEKLabel": ""})
+}
+
 // The message of a join that failed.
 fn failed(alloc: Global, code: &str, transaction: u32) -> Result<Value, AllocError>
     ensures { IfOk result (λ v. view v ≡ failed code.now transaction) }
 {
     json!(in alloc; {
         "MessageType": "JoinAns",
-        "Result": {"ResultCode": code},
+        "Result": result_code(alloc, code)?,
         "TransactionID": transaction
     })
 }
@@ -55,11 +69,11 @@ fn joined(
     ensures { IfOk result (λ v. view v ≡ joined accept.now nwk.now app.now transaction) }
 {
     json!(in alloc; {
-        "AppSKey": {"AESKey": app, "KEKLabel": ""},
+        "AppSKey": plain_key(alloc, app)?,
         "MessageType": "JoinAns",
-        "NwkSKey": {"AESKey": nwk, "KEKLabel": ""},
+        "NwkSKey": plain_key(alloc, nwk)?,
         "PHYPayload": accept,
-        "Result": {"ResultCode": "Success"},
+        "Result": result_code(alloc, "Success")?,
         "TransactionID": transaction
     })
 }
