@@ -31,15 +31,20 @@ fn are_too_many(journal: &mut Journal) -> bool {
         && journal.room(1 << 46) == Err(AllocError)
 }
 
+// Whether entries have their numbers, before and after room was refused, which leaves what stands in the journal.
+fn are_numbered(alloc: Global) -> bool {
+    let mut journal = Journal::new(alloc);
+    add(&mut journal, 7) == Ok(0)
+        && are_too_many(&mut journal)
+        && journal.made() == 1
+        && journal.entries().len() == 1
+        && add(&mut journal, 8) == Ok(1)
+}
+
 // Room that is refused changes nothing: what stands in the journal stays.
 #[test]
-fn refused_room_changes_nothing(rt: HostRuntime) -> Result<(), AllocError> {
-    let mut journal = Journal::new(rt.alloc());
-    assert!(rt; add(&mut journal, 7)? == 0);
-    assert!(rt; are_too_many(&mut journal));
-    assert!(rt; journal.made() == 1 && journal.entries().len() == 1);
-    assert!(rt; add(&mut journal, 8)? == 1);
-    Ok(())
+fn refused_room_changes_nothing(rt: HostRuntime) {
+    assert!(rt; are_numbered(rt.alloc()));
 }
 
 // Cuts all entries out where that is asked for and fewer than 2^63 were made. How many it cut.
@@ -69,17 +74,13 @@ fn reserved_room_outlasts_a_refusal(rt: HostRuntime) {
     assert!(rt; is_reserved(rt.alloc(), true) == Ok(true));
 }
 
-// Of 65,536 entries, which fill their room: a growth is refused where all memory is gone, and is made where 64 MB are given back, which
-// has room for twice as many and not for eight times as many. A cut of which nothing stays takes no memory.
-#[test]
-fn growth_and_cut_take_no_more_than_they_need(rt: HostRuntime) -> Result<(), AllocError> {
-    let mut journal = Journal::new(rt.alloc());
+// A journal of 65,536 entries, which fill their room.
+fn filled(alloc: Global) -> Result<Journal, AllocError> {
+    let mut journal = Journal::new(alloc);
     for fcnt in 0..65_536u32 {
         add(&mut journal, fcnt)?;
     }
-    let grown = grown_and_cut(&mut journal, rt.alloc())?;
-    assert!(rt; grown == (true, true, true));
-    Ok(())
+    Ok(journal)
 }
 
 // Whether a growth is refused where all memory is gone, whether it is made with 64 MB more, and whether a cut of all is made with none.
@@ -93,4 +94,17 @@ fn grown_and_cut(journal: &mut Journal, alloc: Global) -> Result<(bool, bool, bo
     take_all(alloc, &mut held)?;
     let is_cut = cut(journal, alloc, true) == Ok(65_536);
     Ok((is_refused, is_grown, is_cut))
+}
+
+// The same of a journal that is filled.
+fn grown_and_cut_anew(alloc: Global) -> Result<(bool, bool, bool), AllocError> {
+    let mut journal = filled(alloc)?;
+    grown_and_cut(&mut journal, alloc)
+}
+
+// Of entries that fill their room: a growth is refused where all memory is gone, and is made where 64 MB are given back, which has room
+// for twice as many and not for eight times as many. A cut of which nothing stays takes no memory.
+#[test]
+fn growth_and_cut_take_no_more_than_they_need(rt: HostRuntime) {
+    assert!(rt; grown_and_cut_anew(rt.alloc()) == Ok((true, true, true)));
 }

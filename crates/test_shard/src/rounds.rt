@@ -69,12 +69,16 @@ fn rounds_follow(state: &mut DeviceState) -> bool {
     true
 }
 
+// Whether a device has these next rounds before and after the window of its first uplink is opened.
+fn are_followed(state: &mut DeviceState) -> bool {
+    are_next(state, &[(1, 2, None)])
+        && opened(state) == Some((1, 2))
+        && are_next(state, &[(1, 2, Some(2)), (1, 1, None), (2, 2, None)])
+        && rounds_follow(state)
+}
+
 /// The uplink with a session's greatest counter has a next round until the last, and no other has one.
 #[test]
 fn rounds_of_the_greatest_counter(rt: HostRuntime) {
-    let mut state = joined();
-    assert!(rt; are_next(&state, &[(1, 2, None)]));
-    assert!(rt; opened(&mut state) == Some((1, 2)));
-    assert!(rt; are_next(&state, &[(1, 2, Some(2)), (1, 1, None), (2, 2, None)]));
-    assert!(rt; rounds_follow(&mut state));
+    assert!(rt; are_followed(&mut joined()));
 }
