@@ -2,6 +2,7 @@
 ghost use Rattle.std.specs.Prelude.{None};
 ghost use Rattle.std.specs.Option.{option_map};
 
+use crate::rows::holds;
 use ns_record_files::{Disk, LineText, RecordLines, RecordWriter, Recorder};
 use ns_types::{BLOCKS, Failed, take_all};
 use std::alloc::{AllocError, Global};
@@ -115,11 +116,10 @@ fn leaves(alloc: Global, done: u32, steps: &str, safe: usize, ups: &str, told: u
 /// Where a call of the files fails, they have what was written before and a front of the rest, and each batch after it is refused.
 #[test]
 fn each_call_fails_in_turn(rt: HostRuntime) {
+    let mut number = 1;
     for &(done, steps, safe, ups, told) in AFTER {
-        assert!(rt;
-            leaves(rt.alloc(), done, steps, safe, ups, told),
-            "after {done} calls"
-        );
+        let is_so = leaves(rt.alloc(), done, steps, safe, ups, told);
+        number = holds(&rt, is_so, number);
     }
 }
 
@@ -195,27 +195,6 @@ fn are_written<R: Wait>(rt: &R, recorder: &Recorder<Memory>) -> bool {
         && put(rt, recorder, "d", None)
 }
 
-/// A recorder writes each line once, in the order in which they were put, and calls the files only where lines are there.
-#[test]
-fn lines_are_written_once(rt: HostRuntime) -> Result<(), AllocError> {
-    let recorder = over_memory(rt.alloc(), 9)?;
-    assert!(rt; are_written(&rt, &recorder));
-    let disk = recorder.into_disk();
-    assert!(rt; disk.calls == 6);
-    assert!(rt; has(&disk, "b\na\nc\nd\n", 8, "up a\nup c\n"));
-    Ok(())
-}
-
-/// After a failed write every further one fails, also where nothing was put since, and the files are not called again.
-#[test]
-fn failed_write_is_not_forgotten(rt: HostRuntime) -> Result<(), AllocError> {
-    let recorder = over_memory(rt.alloc(), 0)?;
-    assert!(rt; !put(&rt, &recorder, "a", None));
-    assert!(rt; recorder.write(&rt).is_err());
-    assert!(rt; recorder.into_disk().calls == 1);
-    Ok(())
-}
-
 // Puts lines while there is no memory, of twice as many bytes as a recorder takes room for at first.
 fn put_without_memory<R: Wait>(
     rt: &R,
@@ -231,13 +210,54 @@ fn put_without_memory<R: Wait>(
     Ok(())
 }
 
-/// Where a line was put for which no memory was left, every write fails from then on, also once there is memory again, and no line of those
-/// that were kept is written.
+// What is done to a recorder.
+#[derive(Clone, Copy)]
+enum Act {
+    // The lines are written.
+    Write,
+    // A write fails, and the one after it, where nothing was put since.
+    Fail,
+    // Lines are put without memory, and a write fails once there is memory again.
+    Lose,
+}
+
+// Whether this is done.
+fn is_done<R: Wait>(rt: &R, alloc: Global, recorder: &Recorder<Memory>, act: Act) -> bool {
+    match act {
+        Act::Write => are_written(rt, recorder),
+        Act::Fail => !put(rt, recorder, "a", None) && recorder.write(rt).is_err(),
+        Act::Lose => {
+            put_without_memory(rt, alloc, recorder).is_ok() && recorder.write(rt).is_err()
+        }
+    }
+}
+
+// How many calls of the files are done, what is done to a recorder over them, how many calls there are, and what the files have then.
+type Row = (u32, Act, u32, &'static str, usize, &'static str);
+
+const ACTS: &[Row] = &[
+    // A recorder writes each line once, in the order in which they were put, and calls the files only where lines are there.
+    (9, Act::Write, 6, "b\na\nc\nd\n", 8, "up a\nup c\n"),
+    // After a failed write every further one fails, also where nothing was put since, and the files are not called again.
+    (0, Act::Fail, 1, "a", 0, ""),
+    // Where a line was put for which no memory was left, every write fails from then on, also once there is memory again, and no line of
+    // those that were kept is written.
+    (9, Act::Lose, 0, "", 0, ""),
+];
+
+// Whether the files are so then.
+fn is_left<R: Wait>(rt: &R, alloc: Global, row: &Row) -> Result<bool, AllocError> {
+    let &(done, act, calls, steps, safe, ups) = row;
+    let recorder = over_memory(alloc, done)?;
+    let is_done = is_done(rt, alloc, &recorder, act);
+    let disk = recorder.into_disk();
+    Ok(is_done && disk.calls == calls && has(&disk, steps, safe, ups))
+}
+
 #[test]
-fn lost_line_is_not_forgotten(rt: HostRuntime) -> Result<(), AllocError> {
-    let recorder = over_memory(rt.alloc(), 9)?;
-    put_without_memory(&rt, rt.alloc(), &recorder)?;
-    assert!(rt; recorder.write(&rt).is_err());
-    assert!(rt; recorder.into_disk().calls == 0);
-    Ok(())
+fn recorders_write_once_and_forget_no_failure(rt: HostRuntime) {
+    let mut number = 1;
+    for row in ACTS {
+        number = holds(&rt, is_left(&rt, rt.alloc(), row) == Ok(true), number);
+    }
 }

@@ -3,7 +3,6 @@
 use std::collections::hash_map::RandomState;
 use std::io;
 use std::random::RandomSource;
-use std::test::Fail;
 
 #[derive(Clone, Copy)]
 struct Zeros;
@@ -16,6 +15,6 @@ impl RandomSource for Zeros {
 }
 
 /// Keys that are all zeros.
-pub fn zero_keys() -> Result<RandomState, Fail> {
-    Ok(RandomState::new(&Zeros)?)
+pub fn zero_keys() -> Option<RandomState> {
+    RandomState::new(&Zeros).ok()
 }

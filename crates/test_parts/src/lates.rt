@@ -1,12 +1,12 @@
 //! Late copies of frames whose windows were closed, of all shards.
 
 use ns_front::{FrameName, Lates};
+use std::alloc::Global;
 use std::sync::Wait;
-use std::test::Fail;
 
 // No frame is noted, and a copy is late for 2 s.
-fn none(rt: &HostRuntime) -> Result<Lates, Fail> {
-    Ok(Lates::new(rt.alloc(), 2000)?)
+fn none(alloc: Global) -> Option<Lates> {
+    Lates::new(alloc, 2000).ok()
 }
 
 // The frame with this counter and MIC of a device of a shard.
@@ -33,43 +33,72 @@ fn is_late_for_2_s<R: Wait>(rt: &R, lates: &Lates, shard: u8) -> bool {
         && !lates.is_late(rt, frame, due.wrapping_add(2000))
 }
 
-/// A copy is late from the closing of its window on, for just as long as was asked for, in each of the sixteen shards.
-#[test]
-fn a_copy_is_late_for_2_s_in_each_shard(rt: HostRuntime) -> Result<(), Fail> {
-    let lates = none(&rt)?;
+// Whether that is so of a frame of each shard.
+fn are_late_for_2_s<R: Wait>(rt: &R, lates: &Lates) -> bool {
     for shard in 0..16 {
-        lates.note(&rt, frame_of(shard, 7, 8), due_of(shard));
+        lates.note(rt, frame_of(shard, 7, 8), due_of(shard));
     }
     for shard in 0..16 {
-        assert!(rt; is_late_for_2_s(&rt, &lates, shard));
+        if !is_late_for_2_s(rt, lates, shard) {
+            return false;
+        }
     }
-    Ok(())
+    true
 }
 
-/// A frame with the same MIC, but another counter or another address, is not late, nor is one with another MIC.
-#[test]
-fn another_frame_with_the_same_mic_is_not_late(rt: HostRuntime) -> Result<(), Fail> {
-    let lates = none(&rt)?;
-    lates.note(&rt, frame_of(3, 7, 8), 5000);
+// Whether no frame is late that differs in its counter, its address or its MIC from the one that is noted.
+fn are_others_in_time<R: Wait>(rt: &R, lates: &Lates) -> bool {
+    lates.note(rt, frame_of(3, 7, 8), 5000);
     for other in [frame_of(3, 9, 8), frame_of(4, 7, 8), frame_of(3, 7, 9)] {
-        assert!(rt; !lates.is_late(&rt, other, 5000));
-        assert!(rt; lates.due(&rt, other).is_none());
+        if lates.is_late(rt, other, 5000) || lates.due(rt, other).is_some() {
+            return false;
+        }
     }
-    Ok(())
+    true
 }
 
-/// Of one shard 4,096 frames are kept where four stand in each row: with one more the first of its row goes, and no other.
-#[test]
-fn a_shard_keeps_4096_frames(rt: HostRuntime) -> Result<(), Fail> {
-    let lates = none(&rt)?;
+// Whether the frame of shard 3 with this counter, which is its MIC too, is late.
+fn is_late<R: Wait>(rt: &R, lates: &Lates, fcnt: u16) -> bool {
+    lates.is_late(rt, frame_of(3, fcnt, u32::from(fcnt)), 5000)
+}
+
+// Notes 4,096 such frames. Whether the first is late.
+fn is_first_of_4096_late<R: Wait>(rt: &R, lates: &Lates) -> bool {
     for fcnt in 0..4096 {
-        lates.note(&rt, frame_of(3, fcnt, u32::from(fcnt)), 5000);
+        lates.note(rt, frame_of(3, fcnt, u32::from(fcnt)), 5000);
     }
-    assert!(rt; lates.is_late(&rt, frame_of(3, 0, 0), 5000));
-    lates.note(&rt, frame_of(3, 4096, 4096), 5000);
-    assert!(rt; !lates.is_late(&rt, frame_of(3, 0, 0), 5000));
+    is_late(rt, lates, 0)
+}
+
+// Notes one more. Whether the first alone is not late any more.
+fn goes_first_alone<R: Wait>(rt: &R, lates: &Lates) -> bool {
+    lates.note(rt, frame_of(3, 4096, 4096), 5000);
     for kept in [1, 1024, 2048, 3072, 4095] {
-        assert!(rt; lates.is_late(&rt, frame_of(3, kept, u32::from(kept)), 5000));
+        if !is_late(rt, lates, kept) {
+            return false;
+        }
     }
-    Ok(())
+    !is_late(rt, lates, 0)
+}
+
+// Whether 4,096 frames of a shard are kept, and no more.
+fn are_kept<R: Wait>(rt: &R, lates: &Lates) -> bool {
+    is_first_of_4096_late(rt, lates) && goes_first_alone(rt, lates)
+}
+
+// Whether each of these is so where no frame was noted.
+fn is_so<R: Wait>(rt: &R, alloc: Global) -> Option<[bool; 3]> {
+    Some([
+        are_late_for_2_s(rt, &none(alloc)?),
+        are_others_in_time(rt, &none(alloc)?),
+        are_kept(rt, &none(alloc)?),
+    ])
+}
+
+/// A copy is late from the closing of its window on, for just as long as was asked for, in each of the sixteen shards; a frame with the
+/// same MIC, but another counter or another address, is not, nor is one with another MIC; and of one shard 4,096 frames are kept where
+/// four stand in each row: with one more the first of its row goes, and no other.
+#[test]
+fn copies_are_late(rt: HostRuntime) {
+    assert!(rt; is_so(&rt, rt.alloc()) == Some([true; 3]));
 }

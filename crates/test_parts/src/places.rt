@@ -1,9 +1,9 @@
 //! Rosters with each fault and its place, and the words for it. Faults and fields are by FORMATS, part 6.
 
+use crate::rows::{holds, joined};
 use ns_roster::RosterFault;
-use ns_roster_place::{DeviceField, OuterField, Place, first_fault};
+use ns_roster_place::{DeviceField, OuterField, Place, PlacedFault, first_fault};
 use std::alloc::{AllocError, Global};
-use std::test::Fail;
 
 // Outer fields that are right, and the front of the list of devices.
 const OUTER: &str =
@@ -84,68 +84,77 @@ const DEVICES: &[(&str, &str)] = &[
     ),
 ];
 
-// The first fault of a text, in words.
-fn words(alloc: Global, text: &str) -> Result<String, Fail> {
-    match first_fault(alloc, text.as_bytes())? {
-        Some(placed) => Ok(format!(in alloc; "{placed}: {}", placed.fault)?),
-        None => Ok(String::new(alloc)),
+// Whether the first fault of a text is told in these words.
+fn is_told(alloc: Global, text: &str, wanted: &str) -> bool {
+    match first_fault(alloc, text.as_bytes()) {
+        Ok(Some(placed)) => is_printed(alloc, &placed, wanted),
+        Ok(None) => wanted.is_empty(),
+        Err(_) => false,
     }
 }
 
-// The text of a roster with this list of devices behind the outer fields.
-fn roster_of(alloc: Global, devices: &[&str]) -> Result<String, AllocError> {
-    let mut text = String::from_str(alloc, OUTER)?;
-    for device in devices {
-        text.push_str(device)?;
+// Whether a fault and its place are printed so.
+fn is_printed(alloc: Global, placed: &PlacedFault, wanted: &str) -> bool {
+    match format!(in alloc; "{placed}: {}", placed.fault) {
+        Ok(text) => text.as_str() == wanted,
+        Err(_) => false,
     }
-    text.push_str("]}")?;
-    Ok(text)
 }
 
 #[test]
-fn outer_fields(rt: HostRuntime) -> Result<(), Fail> {
+fn outer_fields(rt: HostRuntime) {
+    let mut number = 1;
     for &(text, wanted) in TEXTS {
-        assert!(rt; words(rt.alloc(), text)?.as_str() == wanted);
+        number = holds(&rt, is_told(rt.alloc(), text, wanted), number);
     }
-    Ok(())
+}
+
+// The end of the list of devices.
+const END: &str = "]}";
+
+// Whether the first fault of a roster with this third device is told in these words.
+fn is_told_of(alloc: Global, device: &str, wanted: &str) -> bool {
+    match joined(alloc, &[OUTER, TWO, device, END]) {
+        Ok(text) => is_told(alloc, text.as_str(), wanted),
+        Err(_) => false,
+    }
 }
 
 #[test]
-fn third_device(rt: HostRuntime) -> Result<(), Fail> {
+fn third_device(rt: HostRuntime) {
+    let mut number = 1;
     for &(device, wanted) in DEVICES {
-        let text = roster_of(rt.alloc(), &[TWO, device])?;
-        assert!(rt; words(rt.alloc(), text.as_str())?.as_str() == wanted);
+        number = holds(&rt, is_told_of(rt.alloc(), device, wanted), number);
     }
-    Ok(())
 }
 
-// Whether the first fault of a roster with this list of devices is this one, at this place, with no `dev_eui` to show.
-fn is_first(
-    alloc: Global,
-    devices: &[&str],
-    fault: RosterFault,
-    place: Place,
-) -> Result<bool, AllocError> {
-    let text = roster_of(alloc, devices)?;
-    match first_fault(alloc, text.as_str().as_bytes())? {
-        Some(placed) => Ok(placed.fault == fault && placed.place == place && placed.eui.is_none()),
-        None => Ok(false),
+// Whether the first fault of a text is this one, at this place, with no `dev_eui` to show.
+fn is_first(alloc: Global, text: &str, fault: RosterFault, place: Place) -> bool {
+    match first_fault(alloc, text.as_bytes()) {
+        Ok(Some(placed)) => {
+            placed.fault == fault && placed.place == place && placed.eui.is_none()
+        }
+        _ => false,
     }
+}
+
+// Whether a third device that is a number is the first fault.
+fn is_no_device(alloc: Global) -> Result<bool, AllocError> {
+    let text = joined(alloc, &[OUTER, TWO, "3", END])?;
+    let third = Place::Device(3, DeviceField::DevEui);
+    Ok(is_first(alloc, text.as_str(), RosterFault::Field, third))
+}
+
+// Whether a list of one device too many is.
+fn is_too_long(alloc: Global) -> Result<bool, AllocError> {
+    let many = "0,".repeat(alloc, 65_536)?;
+    let text = joined(alloc, &[OUTER, many.as_str(), "0", END])?;
+    let list = Place::Outer(OuterField::Devices);
+    Ok(is_first(alloc, text.as_str(), RosterFault::TooMany, list))
 }
 
 #[test]
-fn fault_and_place(rt: HostRuntime) -> Result<(), AllocError> {
-    let third = Place::Device(3, DeviceField::DevEui);
-    assert!(rt; is_first(rt.alloc(), &[TWO, "3"], RosterFault::Field, third)?);
-    let many = "0,".repeat(rt.alloc(), 65_536)?;
-    let list = Place::Outer(OuterField::Devices);
-    assert!(rt;
-        is_first(
-            rt.alloc(),
-            &[many.as_str(), "0"],
-            RosterFault::TooMany,
-            list
-        )?
-    );
-    Ok(())
+fn fault_and_place(rt: HostRuntime) {
+    assert!(rt; is_no_device(rt.alloc()) == Ok(true));
+    assert!(rt; is_too_long(rt.alloc()) == Ok(true));
 }

@@ -2,6 +2,7 @@
 
 ghost use Rattle.std.specs.Prelude.{◌<◌};
 
+use crate::rows::{holds, joined};
 use ns_status::{Request, RequestFault, Route, Status, read_request};
 use ns_types::Fuse;
 use std::alloc::{AllocError, Global};
@@ -54,33 +55,47 @@ fn is_asked(
     Ok(read_request(&mut stream) == wanted)
 }
 
-#[test]
-fn requests_in_pieces(rt: HostRuntime) -> Result<(), AllocError> {
-    for &(text, wanted) in REQUESTS {
-        for most in 1..40 {
-            assert!(rt; is_asked(rt.alloc(), text, most, wanted)?);
+// Whether this is asked for by a text in pieces of each size.
+fn is_asked_in_pieces(alloc: Global, text: &str, wanted: Result<Request, RequestFault>) -> bool {
+    for most in 1..40 {
+        if is_asked(alloc, text, most, wanted) != Ok(true) {
+            return false;
         }
     }
-    Ok(())
+    true
+}
+
+#[test]
+fn requests_in_pieces(rt: HostRuntime) {
+    let mut number = 1;
+    for &(text, wanted) in REQUESTS {
+        number = holds(&rt, is_asked_in_pieces(rt.alloc(), text, wanted), number);
+    }
 }
 
 // A head with so many bytes in its last line.
 fn head_of(alloc: Global, fill: usize) -> Result<String, AllocError> {
-    let mut text = String::from_str(alloc, "GET /devices HTTP/1.1\r\nA: ")?;
-    for _ in 0..fill {
-        text.push_str("a")?;
-    }
-    text.push_str("\r\n\r\n")?;
-    Ok(text)
+    let line = "a".repeat(alloc, fill)?;
+    joined(
+        alloc,
+        &["GET /devices HTTP/1.1\r\nA: ", line.as_str(), "\r\n\r\n"],
+    )
+}
+
+// Whether this is asked for by a head with so many bytes in its last line.
+fn is_asked_by(
+    alloc: Global,
+    fill: usize,
+    wanted: Result<Request, RequestFault>,
+) -> Result<bool, AllocError> {
+    let text = head_of(alloc, fill)?;
+    is_asked(alloc, text.as_str(), 1000, wanted)
 }
 
 /// A head of 4,096 bytes is read, and one of a byte more is not.
 #[test]
-fn longest_heads(rt: HostRuntime) -> Result<(), AllocError> {
+fn longest_heads(rt: HostRuntime) {
     let too_long = Err(RequestFault::Refused(Status::TooLong));
-    for (fill, wanted) in [(4066, DEVICES), (4067, too_long)] {
-        let text = head_of(rt.alloc(), fill)?;
-        assert!(rt; is_asked(rt.alloc(), text.as_str(), 1000, wanted)?);
-    }
-    Ok(())
+    assert!(rt; is_asked_by(rt.alloc(), 4066, DEVICES) == Ok(true));
+    assert!(rt; is_asked_by(rt.alloc(), 4067, too_long) == Ok(true));
 }

@@ -2,9 +2,10 @@
 
 ghost use Rattle.std.specs.Prelude.{◌<◌};
 
+use crate::rows::{holds, joined};
 use ns_responses::Responses;
 use ns_types::{Fuse, ReadFault, read_all};
-use std::alloc::{AllocError, Global};
+use std::alloc::Global;
 
 const PLAIN: &str = "HTTP/1.1 200 OK\r\nServer: a\r\nContent-Length: 2\r\n\r\nhi";
 
@@ -83,18 +84,30 @@ const UNLAWFUL: &[&str] = &[
     "2 x\r\nhi\r\n0\r\n\r\n",
 ];
 
+// What is given of a response that comes in pieces of at most so many bytes.
+fn given(alloc: Global, input: Vec<u8>, most: usize) -> Result<Vec<u8>, ReadFault>
+    requires { 0 < most }
+{
+    let mut responses = Responses::new(Fuse::new(alloc, input, most, None, None));
+    read_all(alloc, &mut responses)
+}
+
+// Whether it is this text, or is refused.
+fn is_text(given: &Result<Vec<u8>, ReadFault>, wanted: Option<&str>) -> bool {
+    match given {
+        Ok(bytes) => wanted.map(str::as_bytes) == Some(bytes.as_slice()),
+        Err(ReadFault::Io) => wanted.is_none(),
+        Err(_) => false,
+    }
+}
+
 // Whether this is given of a response that comes in pieces of at most so many bytes.
 fn is_given(alloc: Global, response: &str, wanted: Option<&str>, most: usize) -> bool
     requires { 0 < most }
 {
-    let Ok(input) = Vec::from_slice(alloc, response.as_bytes()) else {
-        return false;
-    };
-    let mut responses = Responses::new(Fuse::new(alloc, input, most, None, None));
-    match (read_all(alloc, &mut responses), wanted) {
-        (Ok(bytes), Some(text)) => bytes.as_slice() == text.as_bytes(),
-        (Err(ReadFault::Io), None) => true,
-        _ => false,
+    match Vec::from_slice(alloc, response.as_bytes()) {
+        Ok(input) => is_text(&given(alloc, input, most), wanted),
+        Err(_) => false,
     }
 }
 
@@ -109,21 +122,26 @@ fn is_given_in_pieces(alloc: Global, response: &str, wanted: Option<&str>) -> bo
 }
 
 // Whether a response with this body in chunks is refused.
-fn is_refused(alloc: Global, body: &str) -> Result<bool, AllocError> {
-    let mut response = String::from_str(alloc, CHUNKED)?;
-    response.push_str(body)?;
-    Ok(is_given_in_pieces(alloc, response.as_str(), None))
+fn is_refused(alloc: Global, body: &str) -> bool {
+    match joined(alloc, &[CHUNKED, body]) {
+        Ok(response) => is_given_in_pieces(alloc, response.as_str(), None),
+        Err(_) => false,
+    }
 }
 
 #[test]
 fn responses_are_given_in_their_plain_form(rt: HostRuntime) {
+    let mut number = 1;
     for &(response, wanted) in RESPONSES {
-        assert!(rt;
-            is_given_in_pieces(rt.alloc(), response, wanted),
-            "{response}"
-        );
+        let is_so = is_given_in_pieces(rt.alloc(), response, wanted);
+        number = holds(&rt, is_so, number);
     }
-    for &body in UNLAWFUL {
-        assert!(rt; is_refused(rt.alloc(), body) == Ok(true), "{body}");
+}
+
+#[test]
+fn unlawful_responses_are_refused(rt: HostRuntime) {
+    let mut number = 1;
+    for body in UNLAWFUL {
+        number = holds(&rt, is_refused(rt.alloc(), body), number);
     }
 }

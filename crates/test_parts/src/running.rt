@@ -2,18 +2,19 @@
 //! place of others while lines are put, or cannot.
 
 use crate::failures::put;
+use crate::rows::holds;
 use log::sink::Discard;
 use ns_record_files::{
     FilesFault, LaterLines, Lengths, RecordFiles, RecordWriter, Recorder, ShorterSteps, read_again,
 };
+use std::alloc::Global;
 use std::fs;
 use std::fs::File;
-use std::io::{Read, Write, pipe};
+use std::io::{PipeWriter, Read, Write, pipe};
 use std::os::fd::AsRawFd;
 use std::os::unix::fs::{PermissionsExt, symlink};
 use std::rt::Files;
 use std::sync::Wait;
-use std::test::Fail;
 
 // A record that goes on, and fewer steps for it.
 #[derive(Drop)]
@@ -42,6 +43,12 @@ enum Deed {
     Hide,
     // The steps have their name again.
     Show,
+    // Nobody else is able to open the files.
+    Lock,
+    // The pipe has the name of the fewer steps.
+    Link,
+    // A line of steps cannot be written.
+    Fail(&'static str),
 }
 
 // The folder of all runs, its steps, and their name while a folder has theirs.
@@ -50,6 +57,9 @@ const PATH: &str = "test_parts_running";
 const STEPS: &str = "test_parts_running/steps";
 
 const ASIDE: &str = "test_parts_running/aside";
+
+// The name of the fewer steps of the folder with the pipe.
+const LINK: &str = "test_parts_sync/steps.new";
 
 const B: Deed = Deed::Put("b", "up b");
 
@@ -66,35 +76,51 @@ const RUNS: &[(&[Deed], &str, &str)] = &[
             Deed::Replace,
             Deed::Put("d", "up d"),
             Z,
+            Deed::Lock,
         ],
         "base\na\nb\nc\nd\nz\n",
         "up a\nup b\nup c\nup d\nup z\n",
     ),
     // Where the fewer steps are not there any more, or the server stops, it goes on with those that it has.
     (
-        &[B, Deed::Remove, Deed::Keep, Z],
+        &[B, Deed::Remove, Deed::Keep, Z, Deed::Lock],
         "a\nb\nz\n",
         "up a\nup b\nup z\n",
     ),
     (
-        &[B, Deed::Rest, Deed::Keep, Z],
+        &[B, Deed::Rest, Deed::Keep, Z, Deed::Lock],
         "a\nb\nz\n",
         "up a\nup b\nup z\n",
     ),
     // Where the fewer steps cannot be given the name of the others, since a folder has it, they keep their own, and it goes on with those
     // that it has.
     (
-        &[B, Deed::Hide, Deed::Keep, Deed::Show, Z],
+        &[B, Deed::Hide, Deed::Keep, Deed::Show, Z, Deed::Lock],
         "a\nb\nz\n",
         "up a\nup b\nup z\n",
     ),
 ];
 
-// The folder of a record.
+// What is done where fewer steps are a pipe, which takes bytes but cannot be brought to a disk: without `sync` a line is written then, and
+// with it it is not.
+const UNSYNCED: &[Deed] = &[Deed::Remove, Deed::Link, B, Deed::Replace, Z];
+
+const SYNCED: &[Deed] = &[Deed::Remove, Deed::Link, B, Deed::Replace, Deed::Fail("z")];
+
+// Whether nobody but its owner may read or write a file.
+fn is_private(file: &File) -> bool {
+    match file.metadata() {
+        Ok(metadata) => metadata.permissions().mode() & 0o077 == 0,
+        Err(_) => false,
+    }
+}
+
+// The folder of a record, and the name of a pipe.
 #[derive(Drop)]
 struct Folder<'a, R> {
     rt: &'a R,
     path: &'static str,
+    pipe: &'a str,
 }
 
 impl<R: Wait + Files<File = File> + AllocGlobal> Folder<'_, R> {
@@ -179,6 +205,9 @@ impl<R: Wait + Files<File = File> + AllocGlobal> Folder<'_, R> {
             Deed::Keep => return !self.is_replaced(running),
             Deed::Hide => return self.is_hidden(),
             Deed::Show => return self.is_shown(),
+            Deed::Lock => return matches!(self.opened(true), Err(FilesFault::InUse)),
+            Deed::Link => return symlink(self.rt, self.pipe, LINK).is_ok(),
+            Deed::Fail(step) => return !put(self.rt, &running.recorder, step, None),
             Deed::Rest => running.recorder.rest(),
             Deed::Remove => running.shorter.remove(self.rt),
         }
@@ -195,19 +224,19 @@ impl<R: Wait + Files<File = File> + AllocGlobal> Folder<'_, R> {
         fs::remove_dir(self.rt, STEPS).is_ok() && fs::rename(self.rt, ASIDE, STEPS).is_ok()
     }
 
-    // Whether all of it was done, with nobody else able to open the files.
+    // Whether all of it was done.
     fn are_done(&self, running: &mut Running, deeds: &[Deed]) -> bool {
         for &deed in deeds {
             if !self.is_done(running, deed) {
                 return false;
             }
         }
-        matches!(self.opened(true), Err(FilesFault::InUse))
+        true
     }
 
     // The same of the record made anew, whose files are closed then.
-    fn are_done_anew(&self, deeds: &[Deed]) -> Option<bool> {
-        let mut running = self.running(true)?;
+    fn are_done_anew(&self, sync: bool, deeds: &[Deed]) -> Option<bool> {
+        let mut running = self.running(sync)?;
         let are_done = self.are_done(&mut running, deeds);
         let Running {
             recorder,
@@ -218,28 +247,29 @@ impl<R: Wait + Files<File = File> + AllocGlobal> Folder<'_, R> {
         Some(are_done)
     }
 
-    // Whether a file has these bytes.
-    fn has(&self, name: &str, text: &str) -> Option<bool> {
-        let mut bytes = Vec::new(self.rt.alloc());
-        let mut file = self.read_again(name).ok()?;
-        file.read_to_end(&mut bytes).ok()?;
-        Some(bytes.as_slice() == text.as_bytes())
+    // Whether a file has these bytes, of which there are fewer than 64.
+    fn has(&self, name: &str, text: &str) -> bool {
+        let mut buf = [0; 64];
+        let Ok(mut file) = self.read_again(name) else {
+            return false;
+        };
+        match file.read(&mut buf) {
+            Ok(count) => count == text.len() && buf.starts_with(text.as_bytes()),
+            Err(_) => false,
+        }
     }
 
     // Whether the two files have these bytes.
     fn has_both(&self, steps: &str, ups: &str) -> bool {
-        self.has("steps", steps) == Some(true) && self.has("up", ups) == Some(true)
+        self.has("steps", steps) && self.has("up", ups)
     }
 
     // Whether nobody but its owner may read or write a file.
-    fn is_private(&self, name: &str) -> Option<bool> {
-        let metadata = self.read_again(name).ok()?.metadata().ok()?;
-        Some(metadata.permissions().mode() & 0o077 == 0)
-    }
-
-    // Whether both are for their owner alone.
-    fn are_private(&self) -> bool {
-        self.is_private("steps") == Some(true) && self.is_private("up") == Some(true)
+    fn is_private(&self, name: &str) -> bool {
+        match self.read_again(name) {
+            Ok(file) => is_private(&file),
+            Err(_) => false,
+        }
     }
 
     // Takes it away.
@@ -247,36 +277,19 @@ impl<R: Wait + Files<File = File> + AllocGlobal> Folder<'_, R> {
         fs::remove_dir_all(self.rt, self.path).is_ok()
     }
 
-    // Gives the name of the fewer steps to this file, and puts it in the place of the others.
-    fn is_replaced_by(&self, running: &mut Running, file: &str) -> bool {
-        running.shorter.remove(self.rt);
-        symlink(self.rt, file, "test_parts_sync/steps.new").is_ok()
-            && self.is_done(running, B)
-            && self.is_replaced(running)
-    }
-
-    // Whether a write fails once this file took the place of the steps. None where it could not.
-    fn fails_over(&self, file: &str, sync: bool) -> Option<bool> {
-        let mut running = self.running(sync)?;
-        if self.is_replaced_by(&mut running, file) {
-            Some(!put(self.rt, &running.recorder, "c", None))
-        } else {
-            None
-        }
-    }
-
-    // Whether it fails over this file, which takes bytes but cannot be brought to a disk, with `sync` alone.
-    fn is_brought_if_asked(&self, file: &str) -> bool {
-        self.fails_over(file, false) == Some(false)
-            && self.fails_over(file, true) == Some(true)
+    // Whether each write brings the steps to the disk with `sync` alone.
+    fn is_brought_if_asked(&self) -> bool {
+        self.are_done_anew(false, UNSYNCED) == Some(true)
+            && self.are_done_anew(true, SYNCED) == Some(true)
             && self.is_removed()
     }
 
     // Whether all of it is done to the record made anew, and leaves these bytes in files for their owner alone.
     fn leaves(&self, deeds: &[Deed], steps: &str, ups: &str) -> bool {
-        self.are_done_anew(deeds) == Some(true)
+        self.are_done_anew(true, deeds) == Some(true)
             && self.has_both(steps, ups)
-            && self.are_private()
+            && self.is_private("steps")
+            && self.is_private("up")
             && self.is_removed()
     }
 
@@ -302,24 +315,36 @@ fn lines_follow_the_steps_that_go_on(rt: HostRuntime) {
     let folder = Folder {
         rt: &rt,
         path: PATH,
+        pipe: "",
     };
+    let mut number = 1;
     for &(deeds, steps, ups) in RUNS {
-        assert!(rt; folder.leaves(deeds, steps, ups));
+        number = holds(&rt, folder.leaves(deeds, steps, ups), number);
     }
+}
+
+// The name of this end of a pipe.
+fn name_of(alloc: Global, writer: &PipeWriter) -> Option<String> {
+    format!(in alloc; "/proc/self/fd/{}", writer.as_raw_fd()).ok()
+}
+
+// Whether each write brings the steps to the disk if asked, where these are a pipe.
+fn are_brought_if_asked<R: Wait + Files<File = File> + AllocGlobal>(rt: &R) -> Option<bool> {
+    let (_reader, writer) = pipe(rt).ok()?;
+    let end = name_of(rt.alloc(), &writer)?;
+    let folder = Folder {
+        rt,
+        path: "test_parts_sync",
+        pipe: end.as_str(),
+    };
+    Some(folder.is_brought_if_asked())
 }
 
 /// With `sync`, and not without it, each write brings the steps to the disk, also once fewer took their place: these are a pipe here, which
 /// takes bytes but cannot be brought to a disk.
 #[test]
-fn steps_are_brought_to_the_disk_if_asked(rt: HostRuntime) -> Result<(), Fail> {
-    let (_reader, writer) = pipe(&rt)?;
-    let end = format!(in rt.alloc(); "/proc/self/fd/{}", writer.as_raw_fd())?;
-    let folder = Folder {
-        rt: &rt,
-        path: "test_parts_sync",
-    };
-    assert!(rt; folder.is_brought_if_asked(end.as_str()));
-    Ok(())
+fn steps_are_brought_to_the_disk_if_asked(rt: HostRuntime) {
+    assert!(rt; are_brought_if_asked(&rt) == Some(true));
 }
 
 /// Zeros at the ends, which a crash of the machine may leave, are cut off.
@@ -328,6 +353,7 @@ fn zeros_are_cut_off(rt: HostRuntime) {
     let folder = Folder {
         rt: &rt,
         path: "test_parts_zeros",
+        pipe: "",
     };
     assert!(rt; folder.is_without_zeros());
 }

@@ -2,16 +2,14 @@
 //! downlinks, and how often each thing is counted.
 
 use crate::keys::zero_keys;
+use crate::rows::{holds, joined};
 use ns_forwarder::{Clock, ForwarderFault, Outcome, read_message};
 use ns_forwarder_socket::{Event, Forwarders, Gateways, Pending, Route, Taken, outcome_name, take};
 use ns_types::{GatewayId, Target};
 use std::alloc::{AllocError, Global};
-use std::io;
-use std::net::{IpAddr, Ipv4Addr, SocketAddr, UdpSocket};
+use std::net::{IpAddr, Ipv4Addr, Net, SocketAddr, UdpSocket};
 use std::num::NonZeroUsize;
-use std::process::Abort;
 use std::sync::Wait;
-use std::test::Fail;
 use std::time::{self, Duration, Instant};
 
 // A push of gateway 9 with two frames, and an item without a CRC between them.
@@ -63,16 +61,14 @@ fn spaced(alloc: Global, len: usize) -> Result<Vec<u8>, AllocError> {
 }
 
 // Takes a message that came from this address, and keeps what it tells of its gateway.
-fn hear(
-    alloc: Global,
-    gateways: &mut Gateways,
-    bytes: &[u8],
-    peer: SocketAddr,
-) -> Result<(), Fail> {
-    let read = read_message(bytes)?;
-    let taken = take(alloc, &read, Clock::default(), 5)?;
-    gateways.note(&read.head(), &taken, peer)?;
-    Ok(())
+fn hear(alloc: Global, gateways: &mut Gateways, bytes: &[u8], peer: SocketAddr) -> bool {
+    let Ok(read) = read_message(bytes) else {
+        return false;
+    };
+    match take(alloc, &read, Clock::default(), 5) {
+        Ok(taken) => gateways.note(&read.head(), &taken, peer).is_ok(),
+        Err(_) => false,
+    }
 }
 
 // The address of this port.
@@ -80,24 +76,33 @@ fn at(port: u16) -> SocketAddr {
     SocketAddr::new(IpAddr::V4(Ipv4Addr::new(10, 0, 0, 1)), port)
 }
 
-// What is known of gateways, of which two are kept, once each of three has asked for downlinks.
-fn asked_by_three(alloc: Global) -> Result<Gateways, Fail> {
-    let mut gateways = Gateways::of(alloc, zero_keys()?, NonZeroUsize::new(2).unwrap())?;
-    for gateway in [1, 2, 9] {
-        hear(alloc, &mut gateways, &pull(2, gateway), at(1700))?;
-    }
-    Ok(gateways)
+// Nothing is known of gateways, of which two are kept.
+fn none(alloc: Global) -> Option<Gateways> {
+    Gateways::of(alloc, zero_keys()?, NonZeroUsize::new(2)?).ok()
 }
 
-// The last two gateways that asked have a route.
-fn are_routed<R: Abort>(rt: &R, gateways: &Gateways) {
+// Whether each of three gateways asks for downlinks.
+fn have_asked(alloc: Global, gateways: &mut Gateways) -> bool {
+    for gateway in [1, 2, 9] {
+        if !hear(alloc, gateways, &pull(2, gateway), at(1700)) {
+            return false;
+        }
+    }
+    true
+}
+
+// Whether the last two gateways that asked have a route.
+fn are_routed(gateways: &Gateways) -> bool {
     let route = Some(Route {
         addr: at(1700),
         version: 2,
     });
     for (gateway, want) in [(1, None), (2, route), (9, route)] {
-        assert!(rt; gateways.gateway(GatewayId(gateway)).route == want);
+        if gateways.gateway(GatewayId(gateway)).route != want {
+            return false;
+        }
     }
+    true
 }
 
 // The moment of the last reading of gateway 9.
@@ -105,38 +110,52 @@ fn latest(gateways: &Gateways) -> Option<u64> {
     Some(gateways.gateway(GatewayId(9)).clock.latest?.moment)
 }
 
-#[test]
-fn what_is_known_of_gateways_is_kept(rt: HostRuntime) -> Result<(), Fail> {
-    let mut gateways = asked_by_three(rt.alloc())?;
-    are_routed(&rt, &gateways);
-    hear(rt.alloc(), &mut gateways, PUSH, at(9))?;
-    are_routed(&rt, &gateways);
-    assert!(rt; latest(&gateways) == Some(4_294_967_290));
-    Ok(())
+// Whether routes and readings are kept.
+fn are_kept(alloc: Global, gateways: &mut Gateways) -> bool {
+    have_asked(alloc, gateways)
+        && are_routed(gateways)
+        && hear(alloc, gateways, PUSH, at(9))
+        && are_routed(gateways)
+        && latest(gateways) == Some(4_294_967_290)
 }
 
 #[test]
-fn a_tx_ack_is_told(rt: HostRuntime) -> Result<(), Fail> {
-    let read = read_message(TOO_LATE)?;
-    let taken = take(rt.alloc(), &read, Clock::default(), 5)?;
-    assert!(rt; matches!(&taken, Taken::Told(Outcome::TooLate)));
-    Ok(())
+fn what_is_known_of_gateways_is_kept(rt: HostRuntime) {
+    let are_kept = match none(rt.alloc()) {
+        Some(mut gateways) => are_kept(rt.alloc(), &mut gateways),
+        None => false,
+    };
+    assert!(rt; are_kept);
+}
+
+// Whether a message tells that a downlink was too late.
+fn is_too_late(alloc: Global, bytes: &[u8]) -> bool {
+    match read_message(bytes) {
+        Ok(read) => matches!(
+            take(alloc, &read, Clock::default(), 5),
+            Ok(Taken::Told(Outcome::TooLate))
+        ),
+        Err(_) => false,
+    }
+}
+
+#[test]
+fn a_tx_ack_is_told(rt: HostRuntime) {
+    assert!(rt; is_too_late(rt.alloc(), TOO_LATE));
 }
 
 // A socket of this machine, whose receives wait 5 s.
-fn local(rt: &HostRuntime) -> io::Result<UdpSocket> {
+fn local<R: Net>(rt: &R) -> Option<UdpSocket> {
     let addr = SocketAddr::new(IpAddr::V4(Ipv4Addr::new(127, 0, 0, 1)), 0);
-    let socket = UdpSocket::bind(rt, addr)?;
-    socket.set_read_timeout(Some(Duration::from_secs(5)))?;
-    Ok(socket)
+    let socket = UdpSocket::bind(rt, addr).ok()?;
+    socket.set_read_timeout(Some(Duration::from_secs(5))).ok()?;
+    Some(socket)
 }
 
-// The forwarders of a socket of this machine, and its address.
-fn server(rt: &HostRuntime) -> Result<(Forwarders, SocketAddr), Fail> {
-    let (keys, start) = (zero_keys()?, Instant::now(rt)?);
-    let socket = local(rt)?;
-    let addr = socket.local_addr()?;
-    Ok((Forwarders::new(rt.alloc(), keys, socket, start, 27)?, addr))
+// The forwarders of a socket of this machine.
+fn server<R: time::Clock>(rt: &R, alloc: Global, socket: UdpSocket) -> Option<Forwarders> {
+    let (keys, start) = (zero_keys()?, Instant::now(rt).ok()?);
+    Forwarders::new(alloc, keys, socket, start, 27).ok()
 }
 
 // How the datagram of the first frame begins, the whole datagram of the second, and how that of the third begins, after a wrap of the
@@ -160,6 +179,9 @@ const TARGET: Target = Target {
 // How a byte 1 is sent there, behind the head of the message.
 const DOWNLINK: &[u8] =
     b"{\"txpk\":{\"codr\":\"4/5\",\"data\":\"AQ==\",\"datr\":\"SF7BW125\",\"freq\":868.1,\"imme\":false,\"ipol\":true,\"modu\":\"LORA\",\"ncrc\":true,\"powe\":27,\"rfch\":0,\"size\":1,\"tmst\":2000000}}";
+
+// The front of what gateway 9 tells of a downlink, up to the protocol's word.
+const FRONT: &str = "\x02\x07\x08\x05\0\0\0\0\0\0\0\x09{\"txpk_ack\":{\"error\":\"";
 
 // What is counted once all of it has come.
 const COUNTS: &str =
@@ -224,20 +246,18 @@ impl<R: Wait + time::Clock> Exchange<'_, R> {
     }
 
     // A push of 16,384 bytes is heard, by the clock of the one before it.
-    fn longest_push_is_heard(&self, pending: &mut Pending) -> Result<bool, AllocError> {
-        let longest = spaced(self.alloc, 16_384)?;
-        Ok(
-            self.is_sent(longest.as_slice())
-                && self.is_next(pending, Event::Datagram(29), &THIRD)
-                && self.is_acknowledged(),
-        )
+    fn longest_push_is_heard(&self, pending: &mut Pending, longer: &[u8]) -> bool {
+        let Some(longest) = longer.get(..16_384) else {
+            return false;
+        };
+        self.is_sent(longest)
+            && self.is_next(pending, Event::Datagram(29), &THIRD)
+            && self.is_acknowledged()
     }
 
     // A longer one is not heard, nor is it acknowledged: the next answer is that to the message after it.
-    fn longer_push_is_refused(&self, pending: &mut Pending) -> Result<bool, AllocError> {
-        let longer = spaced(self.alloc, 16_385)?;
-        let refused = Event::Refused(ForwarderFault::TooLong);
-        Ok(self.is_taken(pending, longer.as_slice(), refused))
+    fn longer_push_is_refused(&self, pending: &mut Pending, longer: &[u8]) -> bool {
+        self.is_taken(pending, longer, Event::Refused(ForwarderFault::TooLong))
     }
 
     // A pull is acknowledged, and downlinks had no route before.
@@ -285,11 +305,10 @@ impl<R: Wait + time::Clock> Exchange<'_, R> {
 
     // Gateway 9 tells this of a downlink.
     fn is_told(&self, pending: &mut Pending, word: &str, want: Outcome) -> bool {
-        match format!(in self.alloc;
-            "\x02\x07\x08\x05\0\0\0\0\0\0\0\x09{{\"txpk_ack\":{{\"error\":\"{word}\"}}}}"
-        ) {
+        match joined(self.alloc, &[FRONT, word, "\"}}"]) {
             Ok(message) => {
-                self.is_taken(pending, message.as_bytes(), Event::Told(GatewayId(9), want))
+                let told = Event::Told(GatewayId(9), want);
+                self.is_taken(pending, message.as_str().as_bytes(), told)
             }
             Err(_) => false,
         }
@@ -315,24 +334,23 @@ impl<R: Wait + time::Clock> Exchange<'_, R> {
         }
     }
 
-    // All of it, one after the other.
-    fn is_held(&self, pending: &mut Pending) -> Result<bool, AllocError> {
-        Ok(
-            self.pushes_are_heard(pending)
-                && self.longest_push_is_heard(pending)?
-                && self.longer_push_is_refused(pending)?
-                && self.downlinks_are_sent(pending)
-                && self.outcomes_are_told(pending)
-                && self.is_counted(),
-        )
+    // All of it, one after the other, with a push that is a byte longer than the longest.
+    fn is_held(&self, pending: &mut Pending, longer: &[u8]) -> bool {
+        self.pushes_are_heard(pending)
+            && self.longest_push_is_heard(pending, longer)
+            && self.longer_push_is_refused(pending, longer)
+            && self.downlinks_are_sent(pending)
+            && self.outcomes_are_told(pending)
+            && self.is_counted()
     }
 }
 
 /// Each outcome has the name by which it is counted.
 #[test]
 fn outcomes_have_names(rt: HostRuntime) {
+    let mut number = 1;
     for &(outcome, _, name) in &TOLD {
-        assert!(rt; outcome_name(outcome) == name);
+        number = holds(&rt, outcome_name(outcome) == name, number);
     }
 }
 
@@ -351,14 +369,21 @@ fn is_held<R: Wait + time::Clock>(
         server,
         gateway,
     };
+    let longer = spaced(alloc, 16_385)?;
     let mut pending = Pending::new(alloc)?;
-    exchange.is_held(&mut pending)
+    Ok(exchange.is_held(&mut pending, longer.as_slice()))
+}
+
+// The same between two sockets of this machine.
+fn is_held_here<R: Net + Wait + time::Clock>(rt: &R, alloc: Global) -> Option<bool> {
+    let gateway = local(rt)?;
+    let socket = local(rt)?;
+    let addr = socket.local_addr().ok()?;
+    let forwarders = server(rt, alloc, socket)?;
+    is_held(rt, alloc, &gateway, &forwarders, addr).ok()
 }
 
 #[test]
-fn a_forwarder_is_heard_and_answered(rt: HostRuntime) -> Result<(), Fail> {
-    let gateway = local(&rt)?;
-    let (forwarders, server) = server(&rt)?;
-    assert!(rt; is_held(&rt, rt.alloc(), &gateway, &forwarders, server) == Ok(true));
-    Ok(())
+fn a_forwarder_is_heard_and_answered(rt: HostRuntime) {
+    assert!(rt; is_held_here(&rt, rt.alloc()) == Some(true));
 }
