@@ -16,11 +16,11 @@ use crate::forwarders::messages::Messages;
 use crate::put::put_line;
 use std::alloc::Global;
 
-/// Puts the line for each message of a text.
-pub fn make(alloc: Global, text: &str, out: &mut String) {
+/// Puts the line for each message of these lines.
+pub fn make(alloc: Global, lines: &[&str], out: &mut String) {
     match Messages::new(alloc) {
         Ok(mut messages) => {
-            for line in text.strip_suffix("\n").unwrap_or(text).split("\n") {
+            for line in lines {
                 messages.put(alloc, line, out);
             }
         }

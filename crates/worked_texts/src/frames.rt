@@ -31,41 +31,154 @@ use ns_types::Heard;
 use std::alloc::Global;
 use test_device::TestDevice;
 
+// What a line asks.
+#[derive(Clone, Copy)]
+enum Question {
+    Device,
+    Accept,
+    Uplink,
+    Best,
+    Aes,
+    Cmac,
+    Read,
+    Parts,
+    Fronts,
+    Changes,
+    Data,
+    Acknowledgement,
+    EachLength,
+    JoinRequest,
+    JoinAccept,
+    Send,
+    Address,
+    Window,
+    Ticket,
+    Rx1,
+    Source,
+    Sink,
+    OverStd,
+    StdFails,
+    Mic,
+    Fits,
+    Cipher,
+    Decipher,
+    SessionKeys,
+    JoinMic,
+    AcceptCipher,
+    Counter,
+}
+
+// The questions, each by the word that asks it.
+const QUESTIONS: &[(&str, Question)] = &[
+    ("device", Question::Device),
+    ("accept", Question::Accept),
+    ("uplink", Question::Uplink),
+    ("copy", Question::Best),
+    ("aes", Question::Aes),
+    ("cmac", Question::Cmac),
+    ("read", Question::Read),
+    ("parts", Question::Parts),
+    ("fronts", Question::Fronts),
+    ("changes", Question::Changes),
+    ("data", Question::Data),
+    ("acknowledgement", Question::Acknowledgement),
+    ("each_length", Question::EachLength),
+    ("join_request", Question::JoinRequest),
+    ("join_accept", Question::JoinAccept),
+    ("send", Question::Send),
+    ("address", Question::Address),
+    ("window", Question::Window),
+    ("ticket", Question::Ticket),
+    ("rx1", Question::Rx1),
+    ("source", Question::Source),
+    ("sink", Question::Sink),
+    ("std", Question::OverStd),
+    ("std_fails", Question::StdFails),
+    ("mic", Question::Mic),
+    ("fits", Question::Fits),
+    ("cipher", Question::Cipher),
+    ("decipher", Question::Decipher),
+    ("session_keys", Question::SessionKeys),
+    ("join_mic", Question::JoinMic),
+    ("accept_cipher", Question::AcceptCipher),
+    ("counter", Question::Counter),
+];
+
+// The question that a word asks.
+fn question_of(what: &str) -> Option<Question> {
+    for (word, question) in QUESTIONS {
+        if *word == what {
+            return Some(*question);
+        }
+    }
+    None
+}
+
 // Puts the answer to a line that asks, where a device and copies of a frame may change.
 fn answer(ask: Ask, device: &mut TestDevice, copies: &mut Vec<Heard>, out: &mut Answers) {
-    match ask.what() {
-        "device" => devices::new(ask, device, out),
-        "accept" => devices::accept(ask, device, out),
-        "uplink" => devices::uplink(ask, device, out),
-        "copy" => names::copy(ask, copies, out),
-        what => answer_to(what, ask, out),
+    match question_of(ask.what()) {
+        Some(Question::Device) => devices::new(ask, device, out),
+        Some(Question::Accept) => devices::accept(ask, device, out),
+        Some(Question::Uplink) => devices::uplink(ask, device, out),
+        Some(Question::Best) => names::copy(ask, copies, out),
+        Some(question) => answer_to(question, ask, out),
+        None => out.word("?"),
     }
 }
 
-// Puts the answer to a line that asks this.
-fn answer_to(what: &str, ask: Ask, out: &mut Answers) {
-    match what {
-        "aes" => ciphers::aes(ask, out),
-        "cmac" => ciphers::cmac(ask, out),
-        "read" => variants::read(ask, out),
-        "parts" => views::parts(ask, out),
-        "fronts" => variants::fronts(ask, out),
-        "changes" => variants::changes(ask, out),
-        "data" => created::data(ask, out),
-        "acknowledgement" => created::acknowledgement(ask, out),
-        "each_length" => created::each_length(ask, out),
-        "join_request" => created::join_request(ask, out),
-        "join_accept" => created::join_accept(ask, out),
-        "send" => datagrams::send(ask, out),
-        "address" => names::address(ask, out),
-        "window" => names::window(ask, out),
-        "ticket" => names::ticket(ask, out),
-        "rx1" => names::first_window(ask, out),
-        "source" => streams::read(ask, out),
-        "sink" => streams::write(ask, out),
-        "std" => streams::over_std(ask, out),
-        "std_fails" => streams::fails(ask, out),
-        _ => mics::answer(what, ask, out),
+// Puts the answer to a question about ciphers, or about frames that are read.
+fn answer_to(question: Question, ask: Ask, out: &mut Answers) {
+    match question {
+        Question::Aes => ciphers::aes(ask, out),
+        Question::Cmac => ciphers::cmac(ask, out),
+        Question::Read => variants::read(ask, out),
+        Question::Parts => views::parts(ask, out),
+        Question::Fronts => variants::fronts(ask, out),
+        Question::Changes => variants::changes(ask, out),
+        _ => answer_of_creation(question, ask, out),
+    }
+}
+
+// Puts the answer to a question about frames that are created.
+fn answer_of_creation(question: Question, ask: Ask, out: &mut Answers) {
+    match question {
+        Question::Data => created::data(ask, out),
+        Question::Acknowledgement => created::acknowledgement(ask, out),
+        Question::EachLength => created::each_length(ask, out),
+        Question::JoinRequest => created::join_request(ask, out),
+        Question::JoinAccept => created::join_accept(ask, out),
+        Question::Send => datagrams::send(ask, out),
+        _ => answer_of_name(question, ask, out),
+    }
+}
+
+// Puts the answer to a question about addresses, windows, tickets and streams.
+fn answer_of_name(question: Question, ask: Ask, out: &mut Answers) {
+    match question {
+        Question::Address => names::address(ask, out),
+        Question::Window => names::window(ask, out),
+        Question::Ticket => names::ticket(ask, out),
+        Question::Rx1 => names::first_window(ask, out),
+        Question::Source => streams::read(ask, out),
+        Question::Sink => streams::write(ask, out),
+        Question::OverStd => streams::over_std(ask, out),
+        Question::StdFails => streams::fails(ask, out),
+        _ => answer_of_cipher(question, ask, out),
+    }
+}
+
+// Puts the answer to a question about MICs, payloads, keys and counters.
+fn answer_of_cipher(question: Question, ask: Ask, out: &mut Answers) {
+    match question {
+        Question::Mic => mics::mic(ask, out),
+        Question::Fits => mics::fits(ask, out),
+        Question::Cipher => mics::cipher(ask, out),
+        Question::Decipher => mics::decipher(ask, out),
+        Question::SessionKeys => mics::session(ask, out),
+        Question::JoinMic => mics::join_mic(ask, out),
+        Question::AcceptCipher => mics::accept_cipher(ask, out),
+        Question::Counter => mics::counter(ask, out),
+        _ => {}
     }
 }
 
@@ -126,10 +239,10 @@ impl Case {
     }
 }
 
-/// Puts the titles of a text's cases.
-pub fn make(alloc: Global, text: &str, out: &mut String) {
+/// Puts the titles of the cases of these lines.
+pub fn make(alloc: Global, lines: &[&str], out: &mut String) {
     let mut case = Case::new(alloc);
-    for line in text.split("\n") {
+    for line in lines {
         case.add(line);
     }
     case.end();

@@ -23,10 +23,10 @@ mod worked;
 use crate::joins::worked::Worked;
 use std::alloc::Global;
 
-/// Puts what each line of a text comes to.
-pub fn make(alloc: Global, text: &str, out: &mut String) {
+/// Puts what each of these lines comes to.
+pub fn make(alloc: Global, lines: &[&str], out: &mut String) {
     let mut worked = Worked::new(alloc);
-    for line in text.strip_suffix("\n").unwrap_or(text).split("\n") {
+    for line in lines {
         worked.put(alloc, line, out);
     }
 }

@@ -15,6 +15,7 @@ mod put;
 mod records;
 mod runs;
 
+use crate::put::pieces;
 use anyhow::bail;
 use std::alloc::Global;
 use std::rt::Files;
@@ -43,41 +44,59 @@ fn kind_of(word: &str) -> Option<Kind> {
 }
 
 // The text of a file, or of standard input.
-fn text_of<R: Files + Input + AllocGlobal>(rt: &R, name: &str) -> anyhow::Result<String> {
-    let read = if name == "-" {
+fn text_of<R: Files + Input + AllocGlobal>(rt: &R, name: &str) -> io::Result<String> {
+    if name == "-" {
         io::read_to_string(rt.alloc(), rt.reader())
     } else {
         fs::read_to_string(rt, name)
-    };
-    match read {
-        Ok(text) => Ok(text),
-        Err(fault) => bail!("cannot read {name}: {fault}"),
+    }
+}
+
+// Puts what comes of the pieces of a text of this kind and name: its parts with a title, or its lines.
+fn put_made(alloc: Global, kind: Kind, name: &str, pieces: &[&str], out: &mut String) {
+    match kind {
+        Kind::Runs => runs::make(alloc, name, pieces, out),
+        Kind::Records => records::make(alloc, pieces, out),
+        Kind::Forwarders => forwarders::make(alloc, pieces, out),
+        Kind::Frames => frames::make(alloc, pieces, out),
+        Kind::Joins => joins::make(alloc, pieces, out),
+    }
+}
+
+// What stands between the pieces of a text of this kind.
+fn mark_of(kind: Kind) -> &'static str {
+    match kind {
+        Kind::Runs | Kind::Records => "\n# ",
+        _ => "\n",
     }
 }
 
 // What is printed of a text of this kind and name.
 fn printed(alloc: Global, kind: Kind, name: &str, text: &str) -> String {
     let mut out = String::new(alloc);
-    match kind {
-        Kind::Runs => runs::make(alloc, name, text, &mut out),
-        Kind::Records => records::make(alloc, text, &mut out),
-        Kind::Forwarders => forwarders::make(alloc, text, &mut out),
-        Kind::Frames => frames::make(alloc, text, &mut out),
-        Kind::Joins => joins::make(alloc, text, &mut out),
-    }
+    let whole = text.strip_suffix("\n").unwrap_or(text);
+    let pieces = pieces(alloc, whole, mark_of(kind));
+    put_made(alloc, kind, name, pieces.as_slice(), &mut out);
     out
 }
 
 // Makes the text of this name, and prints what comes of it.
-fn make<R: Files + Input + Print + AllocGlobal>(
+fn make<R: Files + Input + Print + AllocGlobal>(rt: &R, kind: Kind, name: &str) -> io::Result<()> {
+    let text = text_of(rt, name)?;
+    let printed = printed(rt.alloc(), kind, name, text.as_str());
+    rt.print(printed.as_str())
+}
+
+// The same; a fault is told with the name.
+fn make_named<R: Files + Input + Print + AllocGlobal>(
     rt: &R,
     kind: Kind,
     name: &str,
 ) -> anyhow::Result<()> {
-    let text = text_of(rt, name)?;
-    let printed = printed(rt.alloc(), kind, name, text.as_str());
-    rt.print(printed.as_str())?;
-    Ok(())
+    match make(rt, kind, name) {
+        Ok(()) => Ok(()),
+        Err(fault) => bail!("{name}: {fault}"),
+    }
 }
 
 fn main(rt: HostRuntime) -> anyhow::Result<()> {
@@ -86,7 +105,7 @@ fn main(rt: HostRuntime) -> anyhow::Result<()> {
         let word = word.as_str();
         match (kind_of(word), kind) {
             (Some(named), _) => kind = Some(named),
-            (None, Some(kind)) => make(&rt, kind, word)?,
+            (None, Some(kind)) => make_named(&rt, kind, word)?,
             (None, None) => bail!("no kind of text: {word}"),
         }
     }

@@ -1,4 +1,4 @@
-//! Adding to a text. Where memory runs out, what was to be added is lost, and then text is missing.
+//! Adding to a text, and its pieces. Where memory runs out, what was to be added is lost, and then text is missing.
 
 use std::alloc::{AllocError, Global};
 use std::fmt::{Display, Write};
@@ -29,4 +29,18 @@ pub fn show<D: Display + Drop>(out: &mut String, shown: D) {
 /// Adds bytes in hex.
 pub fn put_hex(alloc: Global, out: &mut String, bytes: &[u8]) {
     put_made(out, hex::encode(alloc, bytes));
+}
+
+/// The pieces of a text that stand between these marks.
+pub fn pieces<'a>(alloc: Global, text: &'a str, mark: &str) -> Vec<&'a str> {
+    let mut pieces = Vec::new(alloc);
+    for piece in text.split(mark) {
+        let _ = pieces.push(piece);
+    }
+    pieces
+}
+
+/// The text in front of the first line feed, and that behind it.
+pub fn halves(text: &str) -> (&str, &str) {
+    text.split_once("\n").unwrap_or((text, ""))
 }

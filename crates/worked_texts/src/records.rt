@@ -18,15 +18,15 @@
 mod life;
 mod lines;
 
-use crate::put::put_line;
+use crate::put::{halves, put_line};
 use crate::records::life::Life;
 use std::alloc::Global;
 
-/// Makes the records of a text.
-pub fn make(alloc: Global, text: &str, out: &mut String) {
+/// Makes the records of a text's parts. The first says what the text is about.
+pub fn make(alloc: Global, parts: &[&str], out: &mut String) {
     let mut life = Life::new(alloc);
-    for part in text.split("\n# ").skip(1) {
-        let (title, lines) = part.split_once("\n").unwrap_or((part, ""));
+    for part in parts.get(1..).unwrap_or(&[]) {
+        let (title, lines) = halves(part);
         put_line(out, title);
         life.take(lines);
         life.put_difference(out);

@@ -14,7 +14,7 @@
 
 ghost use Rattle.std.specs.Prelude.{◌<◌};
 
-use crate::put::{put, put_line, put_made, show};
+use crate::put::{halves, pieces, put, put_line, put_made, show};
 use ns_events::Output;
 use ns_replay::{ReplayFault, replay};
 use ns_roster::Roster;
@@ -45,12 +45,12 @@ impl Worked {
     }
 
     // The run of these lines, in place of the one before. Where they name no roster, that one's stays.
-    fn read(&mut self, lines: &str) {
+    fn read(&mut self, alloc: Global, lines: &str) {
         self.uplinks = Output::Lines;
         self.closing = false;
         self.steps.clear();
         self.lines.clear();
-        for line in lines.split("\n") {
+        for line in &pieces(alloc, lines, "\n") {
             self.add(line);
         }
     }
@@ -130,13 +130,13 @@ impl Worked {
     }
 }
 
-/// Makes the runs of the text of this name.
-pub fn make(alloc: Global, name: &str, text: &str, out: &mut String) {
+/// Makes the runs of the parts of the text of this name. The first says what the text is about.
+pub fn make(alloc: Global, name: &str, parts: &[&str], out: &mut String) {
     let mut run = Worked::new(alloc);
     put_line(out, name);
-    for part in text.split("\n# ").skip(1) {
-        let (title, lines) = part.split_once("\n").unwrap_or((part, ""));
-        run.read(lines);
+    for part in parts.get(1..).unwrap_or(&[]) {
+        let (title, lines) = halves(part);
+        run.read(alloc, lines);
         run.make(alloc, title, out);
     }
 }

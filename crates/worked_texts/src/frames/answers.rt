@@ -93,6 +93,13 @@ impl Answers {
         }
     }
 
+    /// Puts each of these bytes in hex, or `-`.
+    pub fn all(&mut self, parts: &[&[u8]]) {
+        for part in parts {
+            self.hex(part);
+        }
+    }
+
     /// Whether the bytes that were put, one after the other, are these.
     pub fn are(&self, bytes: &[u8]) -> bool {
         self.bytes.as_slice() == bytes

@@ -11,10 +11,7 @@ pub fn aes(ask: Ask, out: &mut Answers) {
     let block = ask.array("block");
     let enciphered = cipher.encrypt(&block);
     let (first, second) = cipher.encrypt_two(&block, &ask.array("beside"));
-    out.hex(&enciphered);
-    out.hex(&first);
-    out.hex(&second);
-    out.hex(&cipher.decrypt(&enciphered));
+    out.all(&[&enciphered, &first, &second, &cipher.decrypt(&enciphered)]);
 }
 
 /// key, message: the code of the message, whole, under the expanded key, and byte by byte, and whether it is that of the message
@@ -23,23 +20,35 @@ pub fn cmac(ask: Ask, out: &mut Answers) {
     let key = ask.key("key");
     let mut room = [0; 256];
     let message = ask.bytes("message", &mut room);
-    let mut whole = Cmac::new(&key);
-    whole.update(message);
-    let code = whole.finish();
-    out.hex(&code);
-    let mut expanded = Cmac::with_cipher(&Aes128::new(&key));
-    expanded.update(message);
-    out.hex(&expanded.finish());
-    let mut bytes = Cmac::new(&key);
-    for byte in message.iter() {
-        bytes.update(&[*byte]);
+    let code = code_of(Cmac::new(&key), message);
+    let expanded = code_of(Cmac::with_cipher(&Aes128::new(&key)), message);
+    out.all(&[&code, &expanded, &code_by_bytes(&key, message)]);
+    let is_code = is_code_however_cut(&key, message, &code);
+    out.either(is_code, "cut", "cut otherwise");
+}
+
+// The code of a message that comes whole.
+fn code_of(mut cmac: Cmac, message: &[u8]) -> [u8; 16] {
+    cmac.update(message);
+    cmac.finish()
+}
+
+// The code of a message that comes byte by byte.
+fn code_by_bytes(key: &Key, message: &[u8]) -> [u8; 16] {
+    let mut cmac = Cmac::new(key);
+    for byte in message {
+        cmac.update(&[*byte]);
     }
-    out.hex(&bytes.finish());
-    out.either(
-        is_code_however_cut(&key, message, &code),
-        "cut",
-        "cut otherwise",
-    );
+    cmac.finish()
+}
+
+// The code of a message in three pieces.
+fn code_of_three(key: &Key, first: &[u8], second: &[u8], third: &[u8]) -> [u8; 16] {
+    let mut cmac = Cmac::new(key);
+    cmac.update(first);
+    cmac.update(second);
+    cmac.update(third);
+    cmac.finish()
 }
 
 // Whether the message in three pieces has this code, wherever it is cut.
@@ -48,11 +57,7 @@ fn is_code_however_cut(key: &Key, message: &[u8], code: &[u8; 16]) -> bool {
         let (front, third) = message.split_at(end);
         for start in 0..=front.len() {
             let (first, second) = front.split_at(start);
-            let mut cmac = Cmac::new(key);
-            cmac.update(first);
-            cmac.update(second);
-            cmac.update(third);
-            if cmac.finish() != *code {
+            if code_of_three(key, first, second, third) != *code {
                 return false;
             }
         }

@@ -34,9 +34,8 @@ pub fn accept(ask: Ask, device: &mut TestDevice, out: &mut Answers) {
     }
     match device.session() {
         Some(session) => {
-            out.hex(&session.addr.0.to_be_bytes());
-            out.hex(&session.nwk.0);
-            out.hex(&session.app.0);
+            let addr = session.addr.0.to_be_bytes();
+            out.all(&[&addr, &session.nwk.0, &session.app.0]);
         }
         None => out.word("none"),
     }

@@ -10,23 +10,8 @@ use ns_secure::{
 use ns_types::{DevNonce, NetId};
 use ns_views::{PhyView, parts_mut, view};
 
-/// Puts the answer to a line that asks this.
-pub fn answer(what: &str, ask: Ask, out: &mut Answers) {
-    match what {
-        "mic" => mic(ask, out),
-        "fits" => fits(ask, out),
-        "cipher" => cipher(ask, out),
-        "decipher" => decipher(ask, out),
-        "session_keys" => session(ask, out),
-        "join_mic" => join_mic(ask, out),
-        "accept_cipher" => accept_cipher(ask, out),
-        "counter" => counter(ask, out),
-        _ => out.word("?"),
-    }
-}
-
-// key, dir, addr, counter, signed: the MIC, by the key and by the expanded key.
-fn mic(ask: Ask, out: &mut Answers) {
+/// key, dir, addr, counter, signed: the MIC, by the key and by the expanded key.
+pub fn mic(ask: Ask, out: &mut Answers) {
     let mut room = [0; 256];
     let signed = ask.bytes("signed", &mut room);
     if signed.len() <= 251 {
@@ -37,8 +22,8 @@ fn mic(ask: Ask, out: &mut Answers) {
     }
 }
 
-// key, counter, frame: whether the MIC of an uplink fits, by the key and by the expanded key.
-fn fits(ask: Ask, out: &mut Answers) {
+/// key, counter, frame: whether the MIC of an uplink fits, by the key and by the expanded key.
+pub fn fits(ask: Ask, out: &mut Answers) {
     let mut room = [0; 256];
     let frame = ask.bytes("frame", &mut room);
     if let Ok(PhyView::Frame(frame)) = view(frame) {
@@ -52,8 +37,8 @@ fn fits(ask: Ask, out: &mut Answers) {
     }
 }
 
-// key, dir, addr, counter, payload: the payload enciphered.
-fn cipher(ask: Ask, out: &mut Answers) {
+/// key, dir, addr, counter, payload: the payload enciphered.
+pub fn cipher(ask: Ask, out: &mut Answers) {
     let mut room = [0; 256];
     let payload = ask.bytes("payload", &mut room);
     if payload.len() <= 242 {
@@ -68,8 +53,8 @@ fn cipher(ask: Ask, out: &mut Answers) {
     }
 }
 
-// key, dir, addr, counter, frame: an uplink with its payload deciphered in place.
-fn decipher(ask: Ask, out: &mut Answers) {
+/// key, dir, addr, counter, frame: an uplink with its payload deciphered in place.
+pub fn decipher(ask: Ask, out: &mut Answers) {
     let mut room = [0; 256];
     let frame = ask.bytes("frame", &mut room);
     let (key, dir, addr, counter) = (ask.key("key"), ask.dir(), ask.addr(), ask.number("counter"));
@@ -82,8 +67,8 @@ fn decipher(ask: Ask, out: &mut Answers) {
     out.hex(frame);
 }
 
-// root, join_nonce, net_id, nonce: the NwkSKey and the AppSKey.
-fn session(ask: Ask, out: &mut Answers) {
+/// root, join_nonce, net_id, nonce: the NwkSKey and the AppSKey.
+pub fn session(ask: Ask, out: &mut Answers) {
     let net_id = NetId(ask.number("net_id"));
     let nonce = DevNonce(ask.number("nonce"));
     let (nwk, app) = session_keys(&ask.key("root"), ask.array("join_nonce"), net_id, nonce);
@@ -91,14 +76,14 @@ fn session(ask: Ask, out: &mut Answers) {
     out.hex(&app.0);
 }
 
-// root, signed: the MIC of a Join-Request or of a Join-Accept.
-fn join_mic(ask: Ask, out: &mut Answers) {
+/// root, signed: the MIC of a Join-Request or of a Join-Accept.
+pub fn join_mic(ask: Ask, out: &mut Answers) {
     let mut room = [0; 256];
     out.hex(&join_mic_of(&ask.key("root"), ask.bytes("signed", &mut room)).0);
 }
 
-// root, plain: what follows the MHDR of a Join-Accept with a CFList, enciphered, and that deciphered.
-fn accept_cipher(ask: Ask, out: &mut Answers) {
+/// root, plain: what follows the MHDR of a Join-Accept with a CFList, enciphered, and that deciphered.
+pub fn accept_cipher(ask: Ask, out: &mut Answers) {
     let (root, mut accept) = (ask.key("root"), ask.array::<32>("plain"));
     accept_cipher_in_place(&mut accept, &root);
     out.hex(&accept);
@@ -106,8 +91,8 @@ fn accept_cipher(ask: Ask, out: &mut Answers) {
     out.hex(&accept);
 }
 
-// max, low: the counter with these low 16 bits that is next above the greatest one, and the greatest that is not above it.
-fn counter(ask: Ask, out: &mut Answers) {
+/// max, low: the counter with these low 16 bits that is next above the greatest one, and the greatest that is not above it.
+pub fn counter(ask: Ask, out: &mut Answers) {
     let (max, low) = (ask.option("max"), ask.number("low"));
     out.option(above(max, low));
     out.option(below(max, low));

@@ -7,11 +7,13 @@ use ns_views::{DataView, JoinView, PhyView, known_parts_mut, parts_mut, view};
 // Puts the parts of a data frame: MHDR, DevAddr, FCtrl, FCnt, FOpts, FPort, FRMPayload and MIC. Whether they are the bytes, and all
 // but the MIC are signed.
 fn put_data(bytes: &[u8], frame: &DataView, out: &mut Answers) -> bool {
-    out.hex(bytes.get(..1).unwrap_or(&[]));
-    out.hex(&frame.dev_addr().0.to_le_bytes());
-    out.hex(&[frame.fctrl()]);
-    out.hex(&frame.fcnt16().to_le_bytes());
-    out.hex(frame.fopts());
+    out.all(&[
+        bytes.get(..1).unwrap_or(&[]),
+        &frame.dev_addr().0.to_le_bytes(),
+        &[frame.fctrl()],
+        &frame.fcnt16().to_le_bytes(),
+        frame.fopts(),
+    ]);
     match frame.fport() {
         Some(port) => out.hex(&[port]),
         None => out.word("none"),
@@ -24,11 +26,13 @@ fn put_data(bytes: &[u8], frame: &DataView, out: &mut Answers) -> bool {
 
 // Puts the parts of a Join-Request: MHDR, JoinEUI, DevEUI, DevNonce and MIC. Whether they are the bytes, and its ticket is.
 fn put_join(bytes: &[u8], request: &JoinView, out: &mut Answers) -> bool {
-    out.hex(bytes.get(..1).unwrap_or(&[]));
-    out.hex(&request.join_eui().0.to_le_bytes());
-    out.hex(&request.dev_eui().0.to_le_bytes());
-    out.hex(&request.nonce().0.to_le_bytes());
-    out.hex(&request.mic().0);
+    out.all(&[
+        bytes.get(..1).unwrap_or(&[]),
+        &request.join_eui().0.to_le_bytes(),
+        &request.dev_eui().0.to_le_bytes(),
+        &request.nonce().0.to_le_bytes(),
+        &request.mic().0,
+    ]);
     out.are(bytes) && out.are(&request.ticket().0)
 }
 

@@ -1,6 +1,6 @@
 //! A record, and the server that writes it.
 
-use crate::put::{put, put_hex, put_line, show};
+use crate::put::{pieces, put, put_hex, put_line, show};
 use crate::records::lines::{without_end, without_last};
 use ns_calls::{Answer, Call, Line, lines, put_window, shard_of_call, up_line};
 use ns_record::{matters, step_line};
@@ -51,7 +51,7 @@ impl Life {
         self.shards.clear();
         self.said.clear();
         self.wanted.clear();
-        for line in lines.split("\n") {
+        for line in &pieces(self.alloc, lines, "\n") {
             self.add(line);
         }
     }
