@@ -1,6 +1,6 @@
 //! Workers on two threads, of which one is held at its gate.
 
-use crate::runs::{Bench, Run, run_all};
+use crate::runs::{Bench, Run, Runner, run_all};
 use crate::told::tell;
 use ns_server::{Gate, Naming, Pass};
 use std::sync::Wait;
@@ -23,6 +23,11 @@ impl Until {
             flag: AtomicU64::new(flag),
             late: AtomicU64::new(0),
         }
+    }
+
+    /// Puts the flag up.
+    pub fn let_go(&self) {
+        self.flag.store(1, Ordering::SeqCst);
     }
 }
 
@@ -63,28 +68,35 @@ pub fn run_beside<B: Naming + Send + Sync, R: Threads + Wait + Clock + Sync>(
         known: bench.known,
     };
     let mut other = String::new(bench.alloc);
-    let ran = run_both(&held, bench, one, two, log, &mut other, first, others);
+    let ran = run_both(
+        bench.rt, &held, bench, one, two, log, &mut other, first, others,
+    );
     let told = tell_other(log, other.as_str(), &gate);
     ran.and(told)
 }
 
 // The first runs are held until the others have ended.
-fn run_both<B: Naming + Send + Sync, R: Threads + Wait + Clock + Sync>(
-    held: &Bench<'_, B, R>,
-    free: &Bench<'_, B, R>,
-    one: &mut Pass<B>,
-    two: &mut Pass<B>,
+fn run_both<N: Runner + Sync, M: Runner + Sync, R: Threads>(
+    rt: &R,
+    held: &N,
+    free: &M,
+    one: &mut N::Pass,
+    two: &mut M::Pass,
     log: &mut String,
     other: &mut String,
     first: &[Run],
     others: &[Run],
-) -> Option<()> {
+) -> Option<()>
+where
+    N::Pass: Send,
+    M::Pass: Send,
+{
     let (ran, other_ran) = thread::join(
-        held.rt,
+        rt,
         || run_all(held, one, log, first),
         || {
             let ran = run_all(free, two, other, others);
-            held.gate.flag.store(1, Ordering::SeqCst);
+            held.let_go();
             ran
         },
     );

@@ -75,6 +75,58 @@ pub struct Bench<'a, B: Naming, R> {
     pub known: &'a Roster,
 }
 
+/// Runs workers on a server, each with a pass. What is done again and again names no server by it.
+pub trait Runner {
+    /// A pass of the server.
+    type Pass;
+
+    /// Runs a worker from a time on. How many downlinks a gateway worker or a join worker sent.
+    fn run_one(
+        &self,
+        pass: &mut Self::Pass,
+        log: &mut String,
+        time: u64,
+        work: Work,
+        faults: Faults,
+    ) -> Option<usize>;
+
+    /// How many entries a pass knows of shard 13.
+    fn made(&self, pass: &Self::Pass) -> u64;
+
+    /// Where memory comes from.
+    fn alloc(&self) -> Global;
+
+    /// Lets a call go that is held at the gate.
+    fn let_go(&self);
+}
+
+impl<B: Naming, R: Wait + Clock> Runner for Bench<'_, B, R> {
+    type Pass = Pass<B>;
+
+    fn run_one(
+        &self,
+        pass: &mut Pass<B>,
+        log: &mut String,
+        time: u64,
+        work: Work,
+        faults: Faults,
+    ) -> Option<usize> {
+        run_one(self, pass, log, time, work, faults)
+    }
+
+    fn made(&self, pass: &Pass<B>) -> u64 {
+        pass.made(13)
+    }
+
+    fn alloc(&self) -> Global {
+        self.alloc
+    }
+
+    fn let_go(&self) {
+        self.gate.let_go();
+    }
+}
+
 // The datagram that gateway a1 makes of a frame, with another byte at this place.
 fn changed(alloc: Global, frame: &[u8], place: usize, byte: u8) -> Option<Vec<u8>> {
     let mut datagram = heard(alloc, frame)?;
@@ -301,17 +353,17 @@ fn take_most(alloc: Global, held: &mut Vec<Vec<u8>>) -> Option<()> {
 }
 
 // Has a ticket answered until it is accepted, which takes more than one block of memory.
-fn until_accepted<B: Naming, R: Wait + Clock>(
-    bench: &Bench<'_, B, R>,
-    pass: &mut Pass<B>,
+fn until_accepted<N: Runner>(
+    runner: &N,
+    pass: &mut N::Pass,
     log: &mut String,
     reads: &'static [Reads],
     asks: &'static [Asked],
 ) -> Option<()> {
-    let mut held = Vec::with_capacity(bench.alloc, BLOCKS).ok()?;
-    take_most(bench.alloc, &mut held)?;
+    let mut held = Vec::with_capacity(runner.alloc(), BLOCKS).ok()?;
+    take_most(runner.alloc(), &mut held)?;
     for blocks in 0..200u32 {
-        if is_accepted(bench, pass, log, reads, asks, blocks)? {
+        if is_accepted(runner, pass, log, reads, asks, blocks)? {
             return if blocks > 1 { Some(()) } else { None };
         }
     }
@@ -319,9 +371,9 @@ fn until_accepted<B: Naming, R: Wait + Clock>(
 }
 
 // Has a ticket answered once, with so many blocks of memory. Whether it is accepted; None where the calls are not two.
-fn is_accepted<B: Naming, R: Wait + Clock>(
-    bench: &Bench<'_, B, R>,
-    pass: &mut Pass<B>,
+fn is_accepted<N: Runner>(
+    runner: &N,
+    pass: &mut N::Pass,
     log: &mut String,
     reads: &'static [Reads],
     asks: &'static [Asked],
@@ -332,11 +384,11 @@ fn is_accepted<B: Naming, R: Wait + Clock>(
         blocks,
         ..NONE
     };
-    let made = pass.made(13).wrapping_add(2);
+    let made = runner.made(pass).wrapping_add(2);
     log.clear();
-    run_one(bench, pass, log, 7, Work::Serve(reads, 1), NONE)?;
-    let sent = run_one(bench, pass, log, 7, Work::Answer(asks), faults)?;
-    if pass.made(13) == made {
+    runner.run_one(pass, log, 7, Work::Serve(reads, 1), NONE)?;
+    let sent = runner.run_one(pass, log, 7, Work::Answer(asks), faults)?;
+    if runner.made(pass) == made {
         Some(sent == 1)
     } else {
         None
@@ -344,19 +396,19 @@ fn is_accepted<B: Naming, R: Wait + Clock>(
 }
 
 /// Runs workers in order.
-pub fn run_all<B: Naming, R: Wait + Clock>(
-    bench: &Bench<'_, B, R>,
-    pass: &mut Pass<B>,
+pub fn run_all<N: Runner>(
+    runner: &N,
+    pass: &mut N::Pass,
     log: &mut String,
     runs: &[Run],
 ) -> Option<()> {
     for run in runs {
         match *run {
             Run::At(time, work, faults) => {
-                run_one(bench, pass, log, time, work, faults)?;
+                runner.run_one(pass, log, time, work, faults)?;
             }
             Run::LeaveOut => log.clear(),
-            Run::UntilAccepted(reads, asks) => until_accepted(bench, pass, log, reads, asks)?,
+            Run::UntilAccepted(reads, asks) => until_accepted(runner, pass, log, reads, asks)?,
         }
     }
     Some(())

@@ -580,31 +580,48 @@ fn closers_on_two_shards(rt: HostRuntime) {
     tell_so(&rt, rt.alloc(), 2, &[ONE_SHARD_HOLDS_UP_NO_OTHER]);
 }
 
+// Whether a window with this counter is to be closed after the time of its copies, which a copy does not change.
+fn is_closed_in_time(fcnt: u32) -> bool {
+    let window = WindowName {
+        eui: DevEui(SECOND),
+        session: 1,
+        fcnt,
+        round: 1,
+    };
+    let due = LATE + 5_000;
+    let close = Some(Job::Close(CloseJob { name: window, due }));
+    job_of(&Reply::Opened { window }, LATE, 5_000) == close
+        && job_of(&Reply::Again { window }, LATE, 5_000) == close
+        && job_of(&Reply::Copied { window, place: 1 }, LATE, 5_000) == None
+}
+
+// Whether a ticket is to be asked for at this time, where windows are open for so long.
+fn is_asked_at(window_ms: u32, due: u64) -> bool {
+    let ticket = Ticket(JOIN_SECOND);
+    let ask = AskJob {
+        ticket,
+        since: LATE,
+        due,
+    };
+    job_of(&Reply::Ask { ticket }, LATE, window_ms) == Some(Job::Ask(ask))
+}
+
+// How long windows are open, and when a ticket is to be asked for.
+const ASKED_AT: &[(u32, u64)] = &[
+    (0, LATE),
+    (200, LATE + 200),
+    (1_000, LATE + 1_000),
+    (5_000, LATE + 1_000),
+];
+
 /// The job of a reply: a window's after the time of its copies, a ticket's after at most a second, whatever the name and the time.
 #[test]
 fn jobs_of_replies(rt: HostRuntime) {
     for fcnt in [0u32, 4, 9, u32::MAX] {
-        let window = WindowName {
-            eui: DevEui(SECOND),
-            session: 1,
-            fcnt,
-            round: 1,
-        };
-        let due = LATE + 5_000;
-        let close = Some(Job::Close(CloseJob { name: window, due }));
-        let right = job_of(&Reply::Opened { window }, LATE, 5_000) == close
-            && job_of(&Reply::Again { window }, LATE, 5_000) == close
-            && job_of(&Reply::Copied { window, place: 1 }, LATE, 5_000) == None;
-        assert!(rt; right);
+        assert!(rt; is_closed_in_time(fcnt));
     }
-    let ticket = Ticket(JOIN_SECOND);
-    for (window_ms, after) in [(0u32, 0u64), (200, 200), (1_000, 1_000), (5_000, 1_000)] {
-        let ask = Some(Job::Ask(AskJob {
-            ticket,
-            since: LATE,
-            due: LATE + after,
-        }));
-        assert!(rt; job_of(&Reply::Ask { ticket }, LATE, window_ms) == ask);
+    for &(window_ms, due) in ASKED_AT {
+        assert!(rt; is_asked_at(window_ms, due));
     }
     assert!(rt; job_of(&Reply::JoinRefused, LATE, 5_000) == None);
 }
