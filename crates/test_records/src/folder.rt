@@ -1,5 +1,6 @@
 //! The record of a folder with which no server goes on, made shorter.
 
+use crate::rows::holds;
 use crate::worked::{ASKED, BASE, CLOSED, JOIN, ROSTER, TORN, TORN_UP, UP, roster_of};
 use log::sink::Writer;
 use ns_compact::Folder;
@@ -169,13 +170,8 @@ fn is_so<R: Files<File = File> + AllocGlobal>(rt: &R, row: &Row) -> io::Result<b
 /// A record is made shorter, or stays as it is, by the rows above.
 #[test]
 fn records_are_made_shorter(rt: HostRuntime) {
-    let mut number = 0u32;
+    let mut number = 1;
     for row in ROWS {
-        number = number.saturating_add(1);
-        let is_right = match is_so(&rt, row) {
-            Ok(is_right) => is_right,
-            Err(_) => false,
-        };
-        assert!(rt; is_right, "row {number}");
+        number = holds(&rt, matches!(is_so(&rt, row), Ok(true)), number);
     }
 }

@@ -2,6 +2,7 @@
 
 use crate::folder::text_of;
 use crate::life::resumed;
+use crate::rows::holds;
 use crate::worked::{AGAIN, CLOSED, JOIN, ROSTER, TORN, TORN_UP, UP, roster_of};
 use ns_resume::RecordFault::{NoFit, NoStep, UpDiffers, UpLonger};
 use ns_resume::{RecordFault, Resumed};
@@ -171,26 +172,18 @@ fn told(alloc: Global, row: &Row) -> Result<Told, RecordFault> {
     Ok(told_of(&resumed))
 }
 
-// The number of the first row of which something else is told.
-fn wrong_row(alloc: Global, rows: &[Row]) -> usize {
-    let mut number = 0usize;
-    for row in rows {
-        number = number.saturating_add(1);
-        if told(alloc, row) != row.4 {
-            return number;
-        }
-    }
-    0
-}
-
 #[test]
 fn records_are_run(rt: HostRuntime) {
-    let row = wrong_row(rt.alloc(), RUN);
-    assert!(rt; row == 0, "{row}");
+    let mut number = 1;
+    for row in RUN {
+        number = holds(&rt, told(rt.alloc(), row) == row.4, number);
+    }
 }
 
 #[test]
 fn records_are_refused(rt: HostRuntime) {
-    let row = wrong_row(rt.alloc(), REFUSED);
-    assert!(rt; row == 0, "{row}");
+    let mut number = 1;
+    for row in REFUSED {
+        number = holds(&rt, told(rt.alloc(), row) == row.4, number);
+    }
 }

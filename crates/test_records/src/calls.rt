@@ -1,15 +1,12 @@
 //! The calls of one device, from the step lines of what gateways and join servers send, and the lines of their answers.
 
+use crate::worked::{ROSTER, roster_of};
 use ns_calls::{Answer, Call, lines, shard_of_call};
 use ns_replay::step;
 use ns_roster::Roster;
 use ns_shard::Shard;
 use std::alloc::Global;
 use std::sync::Arc;
-
-/// The roster of the device, as text.
-const ROSTER: &str =
-    r#"{"version":1,"net_id":"000024","rx1_offset":0,"rx_delay":1,"devices":[{"dev_eui":"000000000000000d","join_eui":"0102030401020304","slot":1998321}]}"#;
 
 /// A Join-Request of the device that gateway a1 hears.
 pub const JOIN: &str =
@@ -25,8 +22,7 @@ pub const ANSWERED: &str =
 
 /// The roster of the device.
 pub fn roster(alloc: Global) -> Option<Arc<Roster>> {
-    let roster = Roster::read(alloc, ROSTER.as_bytes()).ok()?;
-    Arc::new(alloc, roster).ok()
+    roster_of(alloc, ROSTER).ok()
 }
 
 /// The call of a step line.
