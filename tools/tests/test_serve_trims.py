@@ -27,7 +27,7 @@ class Trims(Served):
         self.assertGreater(self.trims_after(), 255)
 
     def test_each_shard(self):
-        server = self.serve(self.roster([13]), NOWHERE, '--stop-after', '17', '--trim', '1', level='ns_serve_parts::trims=debug')
+        server = self.serve(self.roster([13]), NOWHERE, '--stop-after', '17', '--trim', '1', level='ns_serve_shards::trims=debug')
         gateway = self.gateway(0xa1, server)
         for shard in range(16):
             gateway.heard(unknown(shard))
@@ -38,7 +38,7 @@ class Trims(Served):
 
     def flooded(self, *words):
         """A server to which 1,000 frames came of an address in shard 5 that no device has."""
-        server = self.serve(self.roster([13]), NOWHERE, '--stop-after', '1001', *words, level='ns_serve_parts::trims=debug')
+        server = self.serve(self.roster([13]), NOWHERE, '--stop-after', '1001', *words, level='ns_serve_shards::trims=debug')
         gateway = self.gateway(0xa1, server)
         for _ in range(1000):
             gateway.heard(unknown(5))

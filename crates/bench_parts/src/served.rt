@@ -7,8 +7,9 @@ ghost use Rattle.ns_tally.specs.Tally.{AreNamed};
 
 use anyhow::anyhow;
 use ns_calls::{Answer, Call, shard_of_call};
+use ns_outside::{Open, Receipt};
 use ns_roster::Roster;
-use ns_server::{Naming, Open, Pass, Receipt, Server};
+use ns_server::{Naming, Pass, Server};
 use ns_shard::Shard;
 use ns_tally::Blanks;
 use std::alloc::{AllocError, Global};

@@ -7,8 +7,9 @@ ghost use Rattle.ns_tally.specs.Tally.{AreNamed};
 
 use crate::load::Load;
 use anyhow::anyhow;
+use ns_outside::Open;
 use ns_roster::Roster;
-use ns_server::{Naming, Open, Pass, Server};
+use ns_server::{Naming, Pass, Server};
 use ns_tally::Blanks;
 use std::alloc::{AllocError, Global};
 use std::marker::Brand;

@@ -1,7 +1,8 @@
 //! What each worker does: its devices join, and then it hears an uplink of each device. And what is done between two rounds of them: trims.
 
 use crate::threads::DEVICES;
-use ns_server::{Naming, Pass, Receipt, Server};
+use ns_outside::Receipt;
+use ns_server::{Naming, Pass, Server};
 use ns_shard::TrimFault;
 use std::alloc::{AllocError, Global};
 use std::sync::Wait;

@@ -1,6 +1,6 @@
 -- Which ticket is answered next.
 use Rattle.std.specs.Prelude.{ℕ, zero, suc, ◌+◌, ◌-◌, ◌^◌, min, nat_le, nat_lt, cond, List, [], ◌∷◌, Option, None, Some}
-use Rattle.ns_workers.specs.declared.job.AskJob.{AskJob}
+use Rattle.ns_outside.specs.declared.job.AskJob.{AskJob}
 
 -- the join server is not asked about a ticket of more than 4,500 ms
 abbrev pub most_age : ℕ

@@ -4,8 +4,8 @@ use Rattle.ns_calls.specs.declared.call.Reply.{Reply}
 use Rattle.ns_calls.specs.declared.call.Reply.TheVariants.{Opened, Copied, Crowded, Old, NoSession, Busy, Ask, JoinCopied, JoinCrowded, NonceOld, NoDevice, JoinBusy, Accepted, JoinRefused, JoinStale, NoTicket, Closed, NoWindow, Again}
 use Rattle.ns_link.specs.declared.LinkFault.TheVariants.{Short, Version, Kind, Length, Frequency, DataRate, Buffer}
 use Rattle.ns_views.specs.Faults.{number}
-use Rattle.ns_workers.specs.declared.datagram.Refused.{Refused}
-use Rattle.ns_workers.specs.declared.datagram.Refused.TheVariants.{Link, View}
+use Rattle.ns_outside.specs.declared.fault.Refused.{Refused}
+use Rattle.ns_outside.specs.declared.fault.Refused.TheVariants.{Link, View}
 
 -- the place of a reply's counter, in the order of the log line of counts
 abbrev pub reply_place : Reply → ℕ

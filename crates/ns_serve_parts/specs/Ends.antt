@@ -1,7 +1,7 @@
 -- How a server ends, by its workers' ends.
 use Rattle.std.specs.Prelude.{◌≡◌, ◌⊎◌, ◌↔◌, Option, Some, IsNone}
-use Rattle.ns_workers.specs.declared.outside.WorkerFault.{WorkerFault}
-use Rattle.ns_workers.specs.declared.outside.WorkerFault.TheVariants as worker
+use Rattle.ns_outside.specs.declared.fault.WorkerFault.{WorkerFault}
+use Rattle.ns_outside.specs.declared.fault.WorkerFault.TheVariants as worker
 use Rattle.ns_serve_parts.specs.declared.options.ServeFault.{ServeFault}
 use Rattle.ns_serve_parts.specs.declared.options.ServeFault.TheVariants as serve
 

@@ -3,7 +3,7 @@ use Rattle.std.specs.Prelude.{ℕ, ◌≡◌, List, [], ◌∷◌, ◌++◌, Opt
 use Rattle.std.specs.Io.KnownBytes.{Appends, append_known}
 use Rattle.ns_calls.specs.declared.answer.Downlink.{Downlink}
 use Rattle.ns_serve_parts.specs.declared.output.Output.{Output}
-use Rattle.ns_workers.specs.Grown as grown
+use Rattle.ns_outside.specs.Grown as grown
 
 -- a line with its line feed
 abbrev pub line : List ℕ → List ℕ

@@ -1,7 +1,7 @@
 //! The tickets about which the join server is to be asked, in the order in which they came.
 ghost use Rattle.std.specs.Prelude.{◌≡◌, ◌+◌, ◌<◌, ◌↔◌, IsTrue};
 
-use ns_workers::{AskJob, MOST_AGE_MS};
+use ns_outside::{AskJob, MOST_AGE_MS};
 use std::alloc::Global;
 use std::collections::VecDeque;
 

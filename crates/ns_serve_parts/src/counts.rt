@@ -6,7 +6,7 @@ use crate::seldom::is_minute_later;
 use log::{Log, info, warn};
 use ns_calls::Reply;
 use ns_link::LinkFault;
-use ns_workers::Refused;
+use ns_outside::Refused;
 use std::alloc::{AllocError, Global};
 use std::fmt;
 use std::fmt::{Display, Formatter};

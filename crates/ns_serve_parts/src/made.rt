@@ -1,8 +1,10 @@
 //! How many entries each shard has.
 
-use crate::trims::PLACES;
-use ns_shard::Shard;
+use ns_types::SHARDS;
 use std::sync::atomic::{AtomicU64, Ordering};
+
+/// How many places a list of one thing for each shard has.
+pub const PLACES: usize = SHARDS as usize;
 
 /// How many entries were made in each shard, as far as they were told.
 #[derive(Drop)]
@@ -11,13 +13,13 @@ pub struct Made {
 }
 
 impl Made {
-    /// Those that these shards have made.
-    pub fn of(shards: &[Shard]) -> Made {
+    /// So many were made in each.
+    pub fn of(counts: &[u64; PLACES]) -> Made {
         let made = Made {
             counts: Default::default(),
         };
-        for (count, shard) in made.counts.iter().zip(shards) {
-            count.store(shard.made(), Ordering::SeqCst);
+        for (place, count) in made.counts.iter().zip(counts.iter()) {
+            place.store(*count, Ordering::SeqCst);
         }
         made
     }

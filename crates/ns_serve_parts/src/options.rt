@@ -5,7 +5,7 @@ ghost use Rattle.ns_serve_parts.specs.Ends.{serve_fault};
 
 use ns_events::Output;
 use ns_joinclient::HostName;
-use ns_workers::WorkerFault;
+use ns_outside::WorkerFault;
 use std::alloc::AllocError;
 use std::net::SocketAddr;
 use thiserror::Error;

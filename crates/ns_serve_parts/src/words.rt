@@ -2,7 +2,7 @@
 
 use ns_joinclient::AskFault;
 use ns_joinwire::AnsFault;
-use ns_workers::JoinFault;
+use ns_outside::JoinFault;
 
 /// What a fault of a join means for who runs the join server.
 pub fn words_of(why: &JoinFault) -> &'static str {

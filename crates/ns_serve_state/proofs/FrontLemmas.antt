@@ -1,5 +1,5 @@
 -- What a gateway worker notes of a datagram, by the gateway that it names.
-use Rattle.std.proofs.Common.{◌≡◌, ℕ, List, ◌⊎◌, inl, inr, Option, Some, None, IfSome, sym, subst}
+use Rattle.std.proofs.Common.{◌≡◌, ℕ, List, inl, inr, Option, Some, None, IfSome, sym, subst}
 use Rattle.std.specs.declared.net.socket_addr.SocketAddr.{SocketAddr}
 use Rattle.ns_front.specs.declared.front.FrameName.{FrameName}
 use Rattle.ns_front.specs.declared.front.Seen.{Seen}

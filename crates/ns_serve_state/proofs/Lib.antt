@@ -1,3 +1,2 @@
-mod RecordLemmas
 mod NoticeLemmas
 mod FrontLemmas

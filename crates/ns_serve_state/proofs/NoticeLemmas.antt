@@ -7,7 +7,7 @@ use Rattle.ns_calls.specs.declared.answer.Downlink.{Downlink}
 use Rattle.ns_calls.specs.declared.call.Reply.TheVariants.{Accepted, Closed}
 use Rattle.ns_events.specs.declared.times.Utc.{Utc}
 use Rattle.ns_events.specs.Notice.{join_json, ack_json}
-use Rattle.ns_server.specs.declared.kept.Receipt.{Receipt}
+use Rattle.ns_outside.specs.declared.receipt.Receipt.{Receipt}
 use Rattle.ns_serve_state.specs.Notices.{IsNoticeAs, IsNoticeOf}
 
 pub is_join : (time : Option Utc) (r : Receipt) (text : List ℕ) (eui : DevEui) (session : ℕ) (addr : DevAddr)

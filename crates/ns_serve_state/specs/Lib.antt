@@ -1,4 +1,3 @@
-pub mod Begun
 pub mod Front
 pub mod Hearing
 pub mod Notices

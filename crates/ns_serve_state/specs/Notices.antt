@@ -5,7 +5,7 @@ use Rattle.ns_calls.specs.declared.call.Reply.{Reply}
 use Rattle.ns_calls.specs.declared.call.Reply.TheVariants.{Accepted, Closed}
 use Rattle.ns_events.specs.declared.times.Utc.{Utc}
 use Rattle.ns_events.specs.Notice.{join_json, ack_json}
-use Rattle.ns_server.specs.declared.kept.Receipt.{Receipt}
+use Rattle.ns_outside.specs.declared.receipt.Receipt.{Receipt}
 
 -- the object of a reply with what goes down: that of the session of an accepted join, and that of an acknowledgement, whose gateway is
 -- that of the downlink

@@ -3,8 +3,8 @@
 use crate::clock::{closing_of, now_ms};
 use crate::state::State;
 use crossbeam_channel::Sender;
+use ns_outside::{AskJob, CloseJob, Job, Jobs};
 use ns_types::{Ticket, WindowName};
-use ns_workers::{AskJob, CloseJob, Job, Jobs};
 use std::alloc::AllocError;
 use std::sync::Wait;
 use std::time::Clock;

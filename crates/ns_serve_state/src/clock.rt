@@ -4,8 +4,8 @@ ghost use Rattle.std.specs.Duration.{as_nanos};
 
 use crate::state::State;
 use ns_events::{Times, Utc};
+use ns_outside::Timer;
 use ns_serve_parts::utc_of;
-use ns_workers::Timer;
 use std::sync::Wait;
 use std::thread;
 use std::time::{Clock, Duration};

@@ -3,8 +3,8 @@ ghost use Rattle.std.specs.Prelude.{◌≡◌, None, IfErr};
 
 use crate::clock::now_ms;
 use crate::state::State;
+use ns_outside::{AskJob, JobSource, Next};
 use ns_serve_parts::Asks;
-use ns_workers::{AskJob, JobSource, Next};
 use std::alloc::Global;
 use std::sync::{Condvar, Mutex, Wait};
 use std::time::{Clock, Duration};

@@ -1,7 +1,7 @@
 //! Datagrams from gateways, and downlinks to them, by the socket of this server's own datagrams and by that of packet forwarders.
 ghost use Rattle.std.specs.Prelude.{◌≡◌, ◌≢◌, ◌<◌, ◌≤◌, ◌⊎◌, ◌↔◌, ℕ, None, IfOk, IsTrue, IfSome, Some, take};
 ghost use Rattle.ns_forwarder_socket.specs.Event.{FitsBuffer as FitsEvent};
-ghost use Rattle.ns_workers.specs.Datagrams.{FitsBuffer};
+ghost use Rattle.ns_outside.specs.Datagrams.{FitsBuffer};
 ghost use Rattle.ns_front.specs.declared.front.Seen.{Seen};
 ghost use Rattle.ns_front.specs.Front.{seen_of, NamesFrame};
 ghost use Rattle.ns_front.specs.Noted.{IsNoted};
@@ -16,9 +16,9 @@ use ns_calls::Downlink;
 use ns_forwarder_socket::{Event, Pending};
 use ns_front::{NotedPeers, front_of, read_seen};
 use ns_link::write_down;
+use ns_outside::{Datagrams, Downlinks, Received};
 use ns_serve_parts::more;
 use ns_types::Target;
-use ns_workers::{Datagrams, Downlinks, Received};
 use std::io::{Error, ErrorKind};
 use std::net::{SocketAddr, UdpSocket};
 use std::sync::Wait;

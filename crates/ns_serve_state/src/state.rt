@@ -12,7 +12,6 @@ use ns_front::{Addresses, Lates, Peers};
 use ns_record_files::{RecordFiles, Recorder};
 use ns_roster::Roster;
 use ns_serve_parts::{Askers, Counts, EventLines, Made, ServeFault, ServeOptions, keys};
-use ns_shard::Shard;
 use std::alloc::{AllocError, Global};
 use std::collections::hash_map::RandomState;
 use std::net::{SocketAddr, UdpSocket};
@@ -153,7 +152,7 @@ pub struct State {
 }
 
 impl State {
-    /// The state of a server that begins now.
+    /// The state of a server that begins now, with so many entries in each shard.
     pub fn new<R: Clock>(
         rt: &R,
         alloc: Global,
@@ -161,7 +160,7 @@ impl State {
         forwarders: Option<(UdpSocket, SocketAddr)>,
         roster: &Roster,
         options: &ServeOptions<'_>,
-        shards: &[Shard],
+        made: Made,
         record: Option<Recorder<RecordFiles>>,
         status: Option<Status>,
     ) -> Result<State, ServeFault>
@@ -185,7 +184,7 @@ impl State {
             lates: parts.lates,
             asks: AskQueue::new(alloc),
             askers: parts.askers,
-            made: Made::of(shards),
+            made,
             counts: Counts::new(),
             seldoms: Seldoms::new(),
             uplinks: options.output,

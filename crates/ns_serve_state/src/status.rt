@@ -2,9 +2,9 @@
 
 use crate::clock::BEGIN_MS;
 use log::{Log, error, info};
+use ns_outside::Receipt;
 use ns_roster::Roster;
 use ns_serve_parts::{ServeFault, keys};
-use ns_server::Receipt;
 use ns_status::{Device, Devices, Gateway, Gateways, gateway_of, news_of};
 use ns_types::{DevEui, GatewayId};
 use std::alloc::{AllocError, Global};

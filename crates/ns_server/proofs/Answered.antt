@@ -10,10 +10,11 @@ use Rattle.ns_calls.specs.Out.{answer}
 use Rattle.ns_calls.specs.Shards.{shard_of_call}
 use Rattle.ns_shard.specs.State.{State, Keeps}
 use Rattle.ns_shard.proofs.Entries.{answer-is}
-use Rattle.ns_server.specs.declared.kept.Receipt.{Receipt}
+use Rattle.ns_outside.specs.declared.receipt.Receipt.{Receipt}
 use Rattle.ns_server.specs.Kept.{IsStateOf}
 use Rattle.ns_server.specs.Begun.{BeganAs}
-use Rattle.ns_server.specs.Receipts.{receipt_of, receipt_for, Sends, HasHistory, AnswersFrom}
+use Rattle.ns_outside.specs.Receipts.{receipt_of}
+use Rattle.ns_server.specs.Receipts.{receipt_for, Sends, HasHistory, AnswersFrom}
 
 -- the receipt of a call has each history of which the shard had what it keeps
 history_of : (net : Network) (shard : ℕ) (s : State) (call : Call) (r : Receipt) (h : List Entry) → r ≡ receipt_for s call → s.roster ≡ net → IsHistory net shard h → Keeps h s →

@@ -5,7 +5,7 @@ use Rattle.std.proofs.lemmas.Bool.{cases_lt}
 use Rattle.std.proofs.lemmas.Option.{slice_get_within}
 use Rattle.ns_calls.specs.declared.call.Entry.{Entry}
 use Rattle.ns_shard.specs.State.{State}
-use Rattle.ns_server.specs.declared.kept.Receipt.{Receipt}
+use Rattle.ns_outside.specs.declared.receipt.Receipt.{Receipt}
 use Rattle.ns_server.specs.Check.{StandsIn, Stands, IsPassed, IsRepeated, IsRight}
 
 -- the receipt is looked up in its shard

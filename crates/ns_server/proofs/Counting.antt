@@ -4,7 +4,7 @@ use Rattle.ns_calls.proofs.LocalLemmas.{bool_tells}
 use Rattle.ns_calls.proofs.Lists.{count-cons}
 use Rattle.std.proofs.Common.{◌≡◌, ◌==◌, ◌&&◌, inl, inr, zero-add, ℕ, zero, suc, ◌+◌, ◌<◌, ◌≤◌, Bool, true, false, cond, List, [], ◌∷◌, Some, refl, ap, sym, ◌∙◌, count_by, arith}
 use Rattle.std.specs.Prelude.{slice_get}
-use Rattle.ns_server.specs.declared.kept.Receipt.{Receipt}
+use Rattle.ns_outside.specs.declared.receipt.Receipt.{Receipt}
 
 -- ---- sums over the numbers below a bound
 

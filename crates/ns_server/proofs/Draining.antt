@@ -5,7 +5,7 @@ use Rattle.ns_types.specs.declared.identity.WindowName.{WindowName}
 use Rattle.ns_roster.specs.Network.{Network}
 use Rattle.ns_calls.specs.declared.call.Call.TheVariants.{Close}
 use Rattle.ns_shard.specs.State.{State, IsState, after_call, oldest_in}
-use Rattle.ns_server.specs.declared.kept.Receipt.{Receipt}
+use Rattle.ns_outside.specs.declared.receipt.Receipt.{Receipt}
 use Rattle.ns_server.specs.Receipts.{receipt_for}
 use Rattle.ns_server.specs.Kept.{IsStateOf}
 use Rattle.ns_server.specs.Settled.{AreStates}

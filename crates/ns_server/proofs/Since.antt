@@ -10,7 +10,7 @@ use Rattle.ns_calls.proofs.Lists.{count-append, count-cons}
 use Rattle.ns_kept.specs.Kept.{Remains, whole, reading, is_kept, filter_before}
 use Rattle.ns_kept.proofs.Law.{sent-from_mark}
 use Rattle.ns_shard.specs.State.{State, IsState, Keeps, remains}
-use Rattle.ns_server.specs.declared.kept.Receipt.{Receipt}
+use Rattle.ns_outside.specs.declared.receipt.Receipt.{Receipt}
 use Rattle.ns_server.specs.Check.{StandsIn, Stands, IsRepeated, AreRight, receipts_of, receipts_since, entries_since, HasReceipt}
 use Rattle.ns_server.proofs.Checking.{stands_before}
 use Rattle.ns_server.proofs.Counting.{AreBetween, AreApart, each_hit}

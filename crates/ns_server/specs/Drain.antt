@@ -8,7 +8,7 @@ use Rattle.ns_calls.specs.Entries.{Opening, says, opened}
 use Rattle.ns_calls.specs.Laws.{closing_count}
 use Rattle.ns_shard.specs.State.{State, remains, after_call, oldest_in, finds_open}
 use Rattle.ns_kept.specs.Left.{Leaves}
-use Rattle.ns_server.specs.declared.kept.Receipt.{Receipt}
+use Rattle.ns_outside.specs.declared.receipt.Receipt.{Receipt}
 use Rattle.ns_server.specs.Receipts.{receipt_for}
 
 -- no shard has an open window

@@ -1,31 +1,15 @@
--- Receipts, what they tell, and how a step changes the counts of a pass.
-use Rattle.std.specs.Prelude.{ℕ, ◌≡◌, ◌+◌, ◌==◌, if◌then◌else◌, List, ◌++◌, length, slice_index, None}
+-- What receipts tell, and how a step changes the counts of a pass.
+use Rattle.std.specs.Prelude.{ℕ, ◌≡◌, ◌+◌, ◌==◌, if◌then◌else◌, List, ◌++◌, length, slice_index}
 use Rattle.ns_roster.specs.Network.{Network}
 use Rattle.ns_calls.specs.declared.call.Call.{Call}
-use Rattle.ns_calls.specs.declared.call.Call.TheVariants.{Close}
 use Rattle.ns_calls.specs.declared.call.Entry.{Entry}
-use Rattle.ns_calls.specs.declared.call.Reply.TheVariants.{NoWindow}
-use Rattle.ns_calls.specs.declared.answer.Answer.{Answer}
 use Rattle.ns_calls.specs.Shards.{shard_of_call}
 use Rattle.ns_calls.specs.Reply.{reply_to}
 use Rattle.ns_calls.specs.Merges.{out}
 use Rattle.ns_calls.specs.Legal.{IsHistory}
 use Rattle.ns_shard.specs.State.{State, Keeps, answer_in}
-use Rattle.ns_server.specs.declared.kept.Receipt.{Receipt}
-
--- the receipt of no call: its entry is of a closing that found no window
-abbrev pub empty_receipt : Receipt
-empty_receipt = record {
-  shard = 0;
-  entry = record { number = 0; call = Close (record { eui = record { 0 = 0 }; session = 0; fcnt = 0; round = 0 }); reply = NoWindow };
-  uplink = None;
-  downlink = None;
-}
-
--- the receipt of a call that made the entry of this number, with this answer
-abbrev pub receipt_of : ℕ → ℕ → Call → Answer → Receipt
-receipt_of shard number call a =
-    record { shard = shard; entry = record { number = number; call = call; reply = a.reply }; uplink = a.uplink; downlink = a.downlink }
+use Rattle.ns_outside.specs.declared.receipt.Receipt.{Receipt}
+use Rattle.ns_outside.specs.Receipts.{receipt_of}
 
 -- the receipt of a call on a shard in this state: the entry that the call makes, and what goes out with it
 abbrev pub receipt_for : State → Call → Receipt

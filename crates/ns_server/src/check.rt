@@ -5,10 +5,10 @@ ghost use Rattle.ns_sent.specs.Found.{CopiesFit};
 ghost use Rattle.ns_server.specs.Receipts.{Sends};
 ghost use Rattle.ns_server.specs.Check.{StandsIn, Stands, IsPassed, IsRepeated, IsRight, AreRight, IsFirstWrong};
 
-use crate::kept::Receipt;
 use crate::names::Naming;
 use crate::settled::Settled;
 use ns_calls::{Entry, limits_hold, windows_open_once};
+use ns_outside::Receipt;
 use ns_roster::Roster;
 use ns_sent::{downlink_of, is_downlink, is_entry, is_uplink, uplink_of};
 use ns_shard::Shard;

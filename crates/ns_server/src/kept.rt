@@ -6,78 +6,18 @@ ghost use Rattle.ns_calls.specs.Shards.{shard_of_call};
 ghost use Rattle.ns_kept.specs.Bound.{most_kept};
 ghost use Rattle.ns_shard.specs.State.{after_call, after_trim, dropped, finds_open};
 ghost use Rattle.ns_shard.specs.declared.trim.TrimFault.TheVariants.{Full};
-ghost use Rattle.ns_server.specs.Receipts.{empty_receipt, receipt_of, receipt_for, HasHistory, AnswersFrom, RisesAt};
+ghost use Rattle.ns_server.specs.Receipts.{receipt_for, HasHistory, AnswersFrom, RisesAt};
 ghost use Rattle.ns_server.specs.Kept.{IsStateOf};
 ghost use Rattle.ns_server.specs.Trims.{IsTrimOf, IsTrimInPlaceOf};
 
 use crate::names::Naming;
 use crate::pass::Pass;
-use ns_calls::{Answer, Call, Downlink, Entry, Reply, Uplink};
+use ns_calls::Call;
+use ns_outside::Receipt;
 use ns_shard::{Dropped, Shard, TrimFault};
 use ns_tally::ShardBook;
-use ns_types::{DevEui, WindowName};
 use std::alloc::{AllocError, Global};
 use std::marker::Model;
-
-/// What a call got: its shard, the entry that it made, and what goes out with it.
-#[derive(Debug, PartialEq, Eq, Drop)]
-pub struct Receipt {
-    pub shard: u8,
-    pub entry: Entry,
-    pub uplink: Option<Uplink>,
-    pub downlink: Option<Downlink>,
-}
-
-impl Receipt {
-    /// A receipt of no call: room for those of calls.
-    pub fn empty() -> Receipt
-        ensures { result ≡ empty_receipt }
-    {
-        let window = WindowName {
-            eui: DevEui(0),
-            session: 0,
-            fcnt: 0,
-            round: 0,
-        };
-        Receipt {
-            shard: 0,
-            entry: Entry {
-                number: 0,
-                call: Call::Close { window },
-                reply: Reply::NoWindow,
-            },
-            uplink: None,
-            downlink: None,
-        }
-    }
-
-    // Makes this the receipt of a call that made the entry of this number, with this reply. What goes out with it is there.
-    #[inline(always)]
-    fn put(&mut self, shard: u8, number: u64, call: &Call, reply: Reply)
-        ensures { self.new ≡ receipt_of shard number call.now (record { reply = reply; uplink = self.old.uplink; downlink = self.old.downlink }) }
-    {
-        self.entry.reply = reply;
-        self.entry.call = *call;
-        self.entry.number = number;
-        self.shard = shard;
-    }
-}
-
-// The receipt of a call that made the entry of this number, with this answer.
-pub(crate) fn receipt_of(shard: u8, number: u64, call: &Call, answer: Answer) -> Receipt
-    ensures { result ≡ receipt_of shard number call.now answer }
-{
-    Receipt {
-        shard,
-        entry: Entry {
-            number,
-            call: *call,
-            reply: answer.reply,
-        },
-        uplink: answer.uplink,
-        downlink: answer.downlink,
-    }
-}
 
 /// What a trim in place tells: its mark, which is the number of the next entry, and how many entries it dropped.
 #[derive(Clone, Copy, Debug, PartialEq, Eq)]

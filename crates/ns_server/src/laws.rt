@@ -3,7 +3,7 @@
 ghost use Rattle.std.specs.Prelude.{◌≡◌, ◌+◌, ◌≤◌, ℕ, List, Some, length, slice_get};
 ghost use Rattle.ns_calls.specs.declared.call.Entry.{Entry};
 ghost use Rattle.ns_shard.specs.State.{State, IsState, Keeps};
-ghost use Rattle.ns_server.specs.declared.kept.Receipt.{Receipt};
+ghost use Rattle.ns_outside.specs.declared.receipt.Receipt.{Receipt};
 ghost use Rattle.ns_server.specs.Check.{AreRight, receipts_of, receipts_since, entries_since, HasReceipt};
 
 /// Where as many receipts of a shard that was never trimmed are right as its history has entries, each entry of the history has its receipt among them.

@@ -6,11 +6,11 @@
 //! the plain server's, in a legal history of its shard, is proved at each call; that the histories are as long as the passes count
 //! together, from the begin on, is proved at `settle`, and so is that every merge of them is a legal history of one server without shards.
 //!
-//! The crate stands on `ns_shard` and `ns_tally`. It never looks into a shard.
+//! The crate stands on `ns_shard` and `ns_tally`, and on `ns_outside` for receipts and for what a call visits. It never looks into a
+//! shard.
 #![tactic(auto)]
 
 mod check;
-mod gate;
 mod kept;
 mod laws;
 mod names;
@@ -18,8 +18,7 @@ mod pass;
 mod server;
 mod settled;
 
-pub use gate::{Gate, Open};
-pub use kept::{Kept, Receipt, Trim};
+pub use kept::{Kept, Trim};
 pub use laws::{receipts_are_all, receipts_since_the_mark_are_all};
 pub use names::Naming;
 pub use pass::Pass;

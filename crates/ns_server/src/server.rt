@@ -12,11 +12,11 @@ ghost use Rattle.ns_server.specs.Begun.{BeganAs, ArePlaced, states_at};
 ghost use Rattle.ns_server.specs.Kept.{IsStateOf};
 ghost use Rattle.ns_server.specs.Rows.{new_states, AreRow, AreFirst};
 
-use crate::gate::Gate;
-use crate::kept::{Kept, Receipt, Trim};
+use crate::kept::{Kept, Trim};
 use crate::names::Naming;
 use crate::pass::{PLACES, Pass};
 use ns_calls::{Call, shard_of_call};
+use ns_outside::{Gate, Receipt};
 use ns_roster::Roster;
 use ns_shard::{Dropped, Shard, TrimFault};
 use ns_tally::{Blanks, Books, ShardBook, Shares};

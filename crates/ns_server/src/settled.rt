@@ -10,12 +10,12 @@ ghost use Rattle.ns_server.specs.Begun.{AreBegun};
 ghost use Rattle.ns_server.specs.Settled.{histories, AreStates, AreMadeBy, MergesToLegal, greatest_of};
 ghost use Rattle.ns_server.specs.Drain.{Drains, NoneOpen, EachIsClosed, OpensFirst};
 
-use crate::kept::{Receipt, receipt_of};
 use crate::names::Naming;
 use crate::pass::{PLACES, Pass};
 use crate::server::Server;
 use ns_calls::{Call, Entry, windows_open_once};
 use ns_kept::{drained_histories_closed_all, merges_of_what_leaves_are_legal};
+use ns_outside::{Receipt, receipt_of};
 use ns_roster::Roster;
 use ns_shard::Shard;
 use ns_tally::Shares;

@@ -8,16 +8,16 @@ use Rattle.ns_calls.specs.declared.call.Call.TheVariants.{JoinReply}
 use Rattle.ns_calls.specs.declared.call.Outcome.{Outcome}
 use Rattle.ns_calls.specs.declared.call.Outcome.TheVariants as outcome
 use Rattle.ns_events.specs.declared.output.Output.TheVariants.{Lines}
-use Rattle.ns_server.specs.declared.kept.Receipt.{Receipt}
-use Rattle.ns_workers.specs.declared.job.AskJob.{AskJob}
+use Rattle.ns_outside.specs.declared.receipt.Receipt.{Receipt}
+use Rattle.ns_outside.specs.declared.job.AskJob.{AskJob}
 use Rattle.ns_workers.specs.declared.join.Joined.{Joined}
-use Rattle.ns_workers.specs.declared.outside.Next.TheVariants.{Job, End, Failed}
-use Rattle.ns_workers.specs.declared.outside.WorkerFault.TheVariants.{NoMemory, SourceFailed}
-use Rattle.ns_workers.specs.Given.{Given, Takes}
+use Rattle.ns_outside.specs.declared.traits.Next.TheVariants.{Job, End, Failed}
+use Rattle.ns_outside.specs.declared.fault.WorkerFault.TheVariants.{NoMemory, SourceFailed}
+use Rattle.ns_outside.specs.Given.{Given, Takes}
 use Rattle.ns_workers.specs.Answering.{IsOutcome, IsReply, Answers}
 use Rattle.ns_workers.specs.Job.{IsTooOld}
 use Rattle.ns_workers.specs.Effects.{Effects, Does, effects}
-use Rattle.ns_workers.specs.Notice.{Notice, ticket_stale}
+use Rattle.ns_outside.specs.Notice.{Notice, ticket_stale}
 use Rattle.ns_workers.proofs.Doings.{zip_more, does_none, does_both, does_with}
 use Rattle.ns_workers.proofs.Sources.{Holds, holds_none, holds_more, gave_end, gave_full, gave_broken}
 

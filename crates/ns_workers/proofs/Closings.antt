@@ -3,11 +3,11 @@ use Rattle.std.proofs.Common.{◌≡◌, ℕ, List, [], ◌∷◌, ◌++◌, len
 use Rattle.std.specs.Prelude.{All}
 use Rattle.std.proofs.lemmas.List.{map-append}
 use Rattle.std.proofs.lemmas.List.Elements.{All-nil, All-push}
-use Rattle.ns_server.specs.declared.kept.Receipt.{Receipt}
-use Rattle.ns_workers.specs.declared.job.CloseJob.{CloseJob}
-use Rattle.ns_workers.specs.declared.outside.Next.TheVariants.{Job, End, Failed}
-use Rattle.ns_workers.specs.declared.outside.WorkerFault.TheVariants.{NoMemory, SourceFailed, SinkFailed}
-use Rattle.ns_workers.specs.Given.{Given, Takes}
+use Rattle.ns_outside.specs.declared.receipt.Receipt.{Receipt}
+use Rattle.ns_outside.specs.declared.job.CloseJob.{CloseJob}
+use Rattle.ns_outside.specs.declared.traits.Next.TheVariants.{Job, End, Failed}
+use Rattle.ns_outside.specs.declared.fault.WorkerFault.TheVariants.{NoMemory, SourceFailed, SinkFailed}
+use Rattle.ns_outside.specs.Given.{Given, Takes}
 use Rattle.ns_workers.specs.Closing.{closing, calls_made, closings, Closes}
 use Rattle.ns_workers.proofs.Sources.{Holds, holds_none, holds_more, gave_end, gave_full, gave_broken}
 

@@ -11,16 +11,16 @@ use Rattle.ns_calls.specs.Shards.{shard_of_call}
 use Rattle.ns_roster.specs.Network.{Network}
 use Rattle.ns_events.specs.declared.output.Output.{Output}
 use Rattle.ns_events.specs.declared.times.Times.{Times}
-use Rattle.ns_server.specs.declared.kept.Receipt.{Receipt}
+use Rattle.ns_outside.specs.declared.receipt.Receipt.{Receipt}
 use Rattle.ns_server.specs.Receipts.{HasHistory, RisesAt}
-use Rattle.ns_workers.specs.declared.job.Job.{Job}
-use Rattle.ns_workers.specs.declared.outside.WorkerFault.{WorkerFault}
-use Rattle.ns_workers.specs.declared.outside.WorkerFault.TheVariants.{SinkFailed}
+use Rattle.ns_outside.specs.declared.job.Job.{Job}
+use Rattle.ns_outside.specs.declared.fault.WorkerFault.{WorkerFault}
+use Rattle.ns_outside.specs.declared.fault.WorkerFault.TheVariants.{SinkFailed}
 use Rattle.ns_workers.specs.Closing.{HasAnswer, AreAnswered}
 use Rattle.ns_workers.specs.Effects.{Effects, Does, effects}
-use Rattle.ns_workers.specs.Grown.{Grows}
+use Rattle.ns_outside.specs.Grown.{Grows}
 use Rattle.ns_workers.specs.Lines.{uplink_line, AreLines, AppendsLine, AppendsLineFront, AppendsLines, AppendsLinesFront, downlinks_of}
-use Rattle.ns_workers.specs.Notice.{Notice, call_replied}
+use Rattle.ns_outside.specs.Notice.{Notice, call_replied}
 use Rattle.ns_workers.proofs.Counting.{rises_none, rises_more, rises_both}
 
 pub grows_none : {X : Type 0} (a : Option (List X)) → Grows a a []

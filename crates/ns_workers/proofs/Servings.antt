@@ -7,18 +7,19 @@ use Rattle.ns_calls.specs.declared.call.Reply.{Reply}
 use Rattle.ns_calls.specs.declared.call.Reply.TheVariants as reply
 use Rattle.ns_roster.specs.Network.{Network}
 use Rattle.ns_events.specs.declared.output.Output.{Output}
-use Rattle.ns_server.specs.declared.kept.Receipt.{Receipt}
-use Rattle.ns_workers.specs.declared.datagram.Refused.{Refused}
+use Rattle.ns_outside.specs.declared.receipt.Receipt.{Receipt}
+use Rattle.ns_outside.specs.declared.fault.Refused.{Refused}
 use Rattle.ns_workers.specs.declared.gateway.Served.{Served}
-use Rattle.ns_workers.specs.declared.job.Job.{Job}
-use Rattle.ns_workers.specs.declared.outside.Received.TheVariants.{Got, Idle, End, Failed}
-use Rattle.ns_workers.specs.declared.outside.WorkerFault.{WorkerFault}
-use Rattle.ns_workers.specs.declared.outside.WorkerFault.TheVariants.{NoMemory, SourceFailed, SinkFailed}
-use Rattle.ns_workers.specs.Given.{Given, Gave}
-use Rattle.ns_workers.specs.Datagrams.{TakesDatagram}
+use Rattle.ns_outside.specs.declared.job.Job.{Job}
+use Rattle.ns_outside.specs.declared.traits.Received.TheVariants.{Got, Idle, End, Failed}
+use Rattle.ns_outside.specs.declared.fault.WorkerFault.{WorkerFault}
+use Rattle.ns_outside.specs.declared.fault.WorkerFault.TheVariants.{NoMemory, SourceFailed, SinkFailed}
+use Rattle.ns_outside.specs.Given.{Given, Gave}
+use Rattle.ns_outside.specs.Datagrams.{TakesDatagram}
 use Rattle.ns_workers.specs.Effects.{Effects, Does}
-use Rattle.ns_workers.specs.Job.{job_of, call_at_once}
-use Rattle.ns_workers.specs.Notice.{Notice, datagram_refused, call_dropped}
+use Rattle.ns_outside.specs.Job.{job_of}
+use Rattle.ns_workers.specs.Job.{call_at_once}
+use Rattle.ns_outside.specs.Notice.{Notice, datagram_refused, call_dropped}
 use Rattle.ns_workers.specs.Serving.{call_in, refused, dropped, called, nothing, put, done_itself, undone, Follows, IsDue, IsTurn, Serves, ServesAll, none_served, undone_at, was_refused, was_dropped, left_undone, receipts_of, own_of, put_by, own_in, put_in}
 use Rattle.ns_workers.proofs.Counting.{count_by_both}
 use Rattle.ns_workers.proofs.Doings.{zip_both, none_is_no_fault, does_none, does_both, does_with}

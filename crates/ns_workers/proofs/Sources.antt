@@ -1,9 +1,9 @@
 -- What a worker knows of its source, turn by turn.
 use Rattle.std.proofs.Common.{◌≡◌, ◌≢◌, List, [], ◌∷◌, ◌++◌, Option, None, Some, inl, inr, refl, sym, ap, ◌∙◌, subst, append_assoc, append-nil}
 use Rattle.std.specs.Prelude.{IfSome}
-use Rattle.ns_workers.specs.declared.outside.WorkerFault.{WorkerFault}
-use Rattle.ns_workers.specs.declared.outside.WorkerFault.TheVariants.{NoMemory, SourceFailed, SinkFailed}
-use Rattle.ns_workers.specs.Given.{Given, Gave, with_jobs, with_end, with_failure}
+use Rattle.ns_outside.specs.declared.fault.WorkerFault.{WorkerFault}
+use Rattle.ns_outside.specs.declared.fault.WorkerFault.TheVariants.{NoMemory, SourceFailed, SinkFailed}
+use Rattle.ns_outside.specs.Given.{Given, Gave, with_jobs, with_end, with_failure}
 
 -- these jobs were given
 abbrev pub Holds : {J : Type 0} → Option (Given J) → Option (Given J) → List J → Type 0

@@ -9,7 +9,7 @@ use Rattle.ns_events.specs.declared.output.Output.{Output}
 use Rattle.ns_events.specs.declared.output.Output.TheVariants.{Lines, Json}
 use Rattle.ns_events.specs.declared.times.Times.{Times}
 use Rattle.ns_events.specs.Uplink.{uplink_json}
-use Rattle.ns_server.specs.declared.kept.Receipt.{Receipt}
+use Rattle.ns_outside.specs.declared.receipt.Receipt.{Receipt}
 use Rattle.ns_workers.specs.Lines.{AppendsLine, AppendsLineFront, AreLines, uplink_line, up_line, up_lines}
 
 pub line_none : (out : Output) (a : Option (List ℕ)) → AppendsLine out a a None

@@ -7,15 +7,15 @@ use Rattle.ns_calls.specs.declared.call.Outcome.{Outcome}
 use Rattle.ns_calls.specs.declared.call.Outcome.TheVariants.{Failed}
 use Rattle.ns_roster.specs.Network.{Network}
 use Rattle.ns_events.specs.declared.output.Output.TheVariants.{Lines}
-use Rattle.ns_server.specs.declared.kept.Receipt.{Receipt}
-use Rattle.ns_workers.specs.declared.job.AskJob.{AskJob}
+use Rattle.ns_outside.specs.declared.receipt.Receipt.{Receipt}
+use Rattle.ns_outside.specs.declared.job.AskJob.{AskJob}
 use Rattle.ns_workers.specs.declared.join.Joined.{Joined}
-use Rattle.ns_workers.specs.declared.outside.WorkerFault.{WorkerFault}
-use Rattle.ns_workers.specs.declared.outside.WorkerFault.TheVariants.{NoMemory}
+use Rattle.ns_outside.specs.declared.fault.WorkerFault.{WorkerFault}
+use Rattle.ns_outside.specs.declared.fault.WorkerFault.TheVariants.{NoMemory}
 use Rattle.ns_workers.specs.Effects.{Effects, Does}
-use Rattle.ns_workers.specs.Given.{Given, Gave}
+use Rattle.ns_outside.specs.Given.{Given, Gave}
 use Rattle.ns_workers.specs.Job.{IsTooOld}
-use Rattle.ns_workers.specs.Notice.{Notice, ticket_stale}
+use Rattle.ns_outside.specs.Notice.{Notice, ticket_stale}
 
 -- at a time that the timer told, a ticket that was too old was answered as failed, and the monitor was told; another one by
 -- an outcome of asking about it

@@ -13,9 +13,9 @@ use Rattle.ns_joinclient.specs.declared.fault.AskFault.{AskFault}
 use Rattle.ns_joinclient.specs.declared.fault.AskFault.TheVariants as ask
 use Rattle.ns_joinclient.specs.Request.{request}
 use Rattle.ns_joinclient.specs.Asked.{Exchanges, IsAnswer, HasWholeBody, IsCutShort}
-use Rattle.ns_workers.specs.declared.join.JoinFault.{JoinFault}
-use Rattle.ns_workers.specs.declared.join.JoinFault.TheVariants.{NoDevice, NoMemory, NoConnection, Exchange}
-use Rattle.ns_workers.specs.Notice.{Notice, ticket_unanswered}
+use Rattle.ns_outside.specs.declared.fault.JoinFault.{JoinFault}
+use Rattle.ns_outside.specs.declared.fault.JoinFault.TheVariants.{NoDevice, NoMemory, NoConnection, Exchange}
+use Rattle.ns_outside.specs.Notice.{Notice, ticket_unanswered}
 
 -- a fault of an exchange on a stream, as `ask` tells it: H1, H2, want of memory, and else the first fault of the response
 abbrev pub IsFault : {S : Type 0} → (S → Option (List ℕ)) → (S → Option (List ℕ)) → (S → Bool) → S → S → List ℕ → ℕ → AskFault → Type 0

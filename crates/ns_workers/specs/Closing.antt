@@ -4,12 +4,12 @@ use Rattle.ns_calls.specs.declared.call.Call.{Call}
 use Rattle.ns_calls.specs.declared.call.Call.TheVariants.{Close}
 use Rattle.ns_calls.specs.Shards.{shard_of_call}
 use Rattle.ns_roster.specs.Network.{Network}
-use Rattle.ns_server.specs.declared.kept.Receipt.{Receipt}
+use Rattle.ns_outside.specs.declared.receipt.Receipt.{Receipt}
 use Rattle.ns_server.specs.Receipts.{HasHistory}
-use Rattle.ns_workers.specs.declared.job.CloseJob.{CloseJob}
-use Rattle.ns_workers.specs.declared.outside.WorkerFault.{WorkerFault}
-use Rattle.ns_workers.specs.declared.outside.WorkerFault.TheVariants.{NoMemory}
-use Rattle.ns_workers.specs.Given.{Given, Gave}
+use Rattle.ns_outside.specs.declared.job.CloseJob.{CloseJob}
+use Rattle.ns_outside.specs.declared.fault.WorkerFault.{WorkerFault}
+use Rattle.ns_outside.specs.declared.fault.WorkerFault.TheVariants.{NoMemory}
+use Rattle.ns_outside.specs.Given.{Given, Gave}
 
 -- the call of a job: the closing of its window
 abbrev pub closing : CloseJob → Call

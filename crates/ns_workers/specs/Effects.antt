@@ -3,15 +3,15 @@ use Rattle.std.specs.Prelude.{ℕ, ◌≢◌, All, List, Option, Some}
 use Rattle.ns_roster.specs.Network.{Network}
 use Rattle.ns_calls.specs.declared.answer.Downlink.{Downlink}
 use Rattle.ns_events.specs.declared.output.Output.{Output}
-use Rattle.ns_server.specs.declared.kept.Receipt.{Receipt}
-use Rattle.ns_workers.specs.declared.job.Job.{Job}
-use Rattle.ns_workers.specs.declared.outside.WorkerFault.{WorkerFault}
-use Rattle.ns_workers.specs.declared.outside.WorkerFault.TheVariants.{SinkFailed}
+use Rattle.ns_outside.specs.declared.receipt.Receipt.{Receipt}
+use Rattle.ns_outside.specs.declared.job.Job.{Job}
+use Rattle.ns_outside.specs.declared.fault.WorkerFault.{WorkerFault}
+use Rattle.ns_outside.specs.declared.fault.WorkerFault.TheVariants.{SinkFailed}
 use Rattle.ns_workers.specs.Closing.{AreAnswered}
 use Rattle.ns_workers.specs.Counts.{RisesByReceipts}
-use Rattle.ns_workers.specs.Grown.{Grows}
+use Rattle.ns_outside.specs.Grown.{Grows}
 use Rattle.ns_workers.specs.Lines.{AppendsLines, AppendsLinesFront, downlinks_of}
-use Rattle.ns_workers.specs.Notice.{Notice, call_replied}
+use Rattle.ns_outside.specs.Notice.{Notice, call_replied}
 
 -- the counts of a worker's pass, the jobs that it put, the downlinks that it gave out, and the bytes that its sink has
 pub record Effects : Type 0 where

@@ -1,7 +1,3 @@
-pub mod Given
-pub mod Datagrams
-pub mod Grown
-pub mod Notice
 pub mod Job
 pub mod Lines
 pub mod Closing

@@ -8,7 +8,7 @@ use Rattle.ns_calls.specs.Text.{up_text}
 use Rattle.ns_events.specs.declared.output.Output.{Output}
 use Rattle.ns_events.specs.declared.times.Times.{Times}
 use Rattle.ns_events.specs.Output.{line_of}
-use Rattle.ns_server.specs.declared.kept.Receipt.{Receipt}
+use Rattle.ns_outside.specs.declared.receipt.Receipt.{Receipt}
 
 -- the line of an uplink with its line feed, if there is one, as the output asks
 abbrev pub uplink_line : Output → Option Times → Option Uplink → List ℕ

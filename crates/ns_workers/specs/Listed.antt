@@ -2,7 +2,7 @@
 use Rattle.std.specs.Prelude.{ℕ, List, map, Option, Some, take}
 use Rattle.ns_workers.specs.declared.listed.ListedJobs.{ListedJobs}
 use Rattle.ns_workers.specs.declared.listed.ListedDatagrams.{ListedDatagrams}
-use Rattle.ns_workers.specs.Given.{Given}
+use Rattle.ns_outside.specs.Given.{Given}
 
 -- the jobs that it has given and how it has ended
 abbrev pub jobs_given : {J : Type 0} → ListedJobs J → Option (Given J)

@@ -6,17 +6,18 @@ use Rattle.ns_calls.specs.declared.call.Call.{Call}
 use Rattle.ns_calls.specs.declared.call.Reply.{Reply}
 use Rattle.ns_calls.specs.Steps.{Refusal, link, view, datagram_call}
 use Rattle.ns_events.specs.declared.output.Output.{Output}
-use Rattle.ns_server.specs.declared.kept.Receipt.{Receipt}
-use Rattle.ns_workers.specs.declared.datagram.Refused.{Refused}
-use Rattle.ns_workers.specs.declared.datagram.Refused.TheVariants.{Link, View}
+use Rattle.ns_outside.specs.declared.receipt.Receipt.{Receipt}
+use Rattle.ns_outside.specs.declared.fault.Refused.{Refused}
+use Rattle.ns_outside.specs.declared.fault.Refused.TheVariants.{Link, View}
 use Rattle.ns_workers.specs.declared.gateway.Served.{Served}
-use Rattle.ns_workers.specs.declared.job.Job.{Job}
-use Rattle.ns_workers.specs.declared.outside.WorkerFault.{WorkerFault}
-use Rattle.ns_workers.specs.declared.outside.WorkerFault.TheVariants.{NoMemory}
+use Rattle.ns_outside.specs.declared.job.Job.{Job}
+use Rattle.ns_outside.specs.declared.fault.WorkerFault.{WorkerFault}
+use Rattle.ns_outside.specs.declared.fault.WorkerFault.TheVariants.{NoMemory}
 use Rattle.ns_workers.specs.Effects.{Effects, Does}
-use Rattle.ns_workers.specs.Given.{Given, Gave}
-use Rattle.ns_workers.specs.Job.{job_of, call_at_once}
-use Rattle.ns_workers.specs.Notice.{Notice, datagram_refused, call_dropped}
+use Rattle.ns_outside.specs.Given.{Given, Gave}
+use Rattle.ns_outside.specs.Job.{job_of}
+use Rattle.ns_workers.specs.Job.{call_at_once}
+use Rattle.ns_outside.specs.Notice.{Notice, datagram_refused, call_dropped}
 
 -- the call of a datagram, or why it makes none
 abbrev pub refused_as : Result Call Refusal → Result Call Refused

@@ -3,16 +3,18 @@ ghost use Rattle.std.specs.Prelude.{◌≡◌, ◌≢◌, Some, false, true, opt
 ghost use Rattle.ns_server.specs.Receipts.{RisesAt};
 ghost use Rattle.ns_workers.specs.Closing.{Closes, AreAnswered, HasAnswer, closing};
 ghost use Rattle.ns_workers.specs.Counts.{RisesByReceipts};
-ghost use Rattle.ns_workers.specs.Grown.{Grows};
+ghost use Rattle.ns_outside.specs.Grown.{Grows};
 ghost use Rattle.ns_workers.specs.Lines.{AppendsLine, AppendsLineFront, AppendsLines, AppendsLinesFront, downlinks_of};
-ghost use Rattle.ns_workers.specs.Notice.{call_replied};
+ghost use Rattle.ns_outside.specs.Notice.{call_replied};
 
 use crate::counted::{make_call, send_down};
-use crate::job::CloseJob;
 use crate::line::write_uplink;
-use crate::outside::{Downlinks, JobSource, Monitor, Next, Shared, Timer, WorkerFault};
+use crate::shared::Shared;
 use ns_calls::Call;
-use ns_server::{Gate, Naming, Pass, Receipt};
+use ns_outside::{
+    CloseJob, Downlinks, Gate, JobSource, Monitor, Next, Receipt, Timer, WorkerFault,
+};
+use ns_server::{Naming, Pass};
 use ns_types::{Failed, Sink};
 use std::alloc::{AllocError, Global};
 use std::sync::Wait;

@@ -2,12 +2,13 @@
 ghost use Rattle.std.specs.Prelude.{◌≡◌, option_to_list, OnOk, OnErr};
 ghost use Rattle.ns_server.specs.Receipts.{RisesAt};
 ghost use Rattle.ns_workers.specs.Closing.{HasAnswer};
-ghost use Rattle.ns_workers.specs.Grown.{Grows};
-ghost use Rattle.ns_workers.specs.Notice.{call_replied};
+ghost use Rattle.ns_outside.specs.Grown.{Grows};
+ghost use Rattle.ns_outside.specs.Notice.{call_replied};
 
-use crate::outside::{Downlinks, Monitor, Shared};
+use crate::shared::Shared;
 use ns_calls::Call;
-use ns_server::{Gate, Naming, Pass, Receipt};
+use ns_outside::{Downlinks, Gate, Monitor, Receipt};
+use ns_server::{Naming, Pass};
 use std::alloc::AllocError;
 use std::sync::Wait;
 

@@ -3,17 +3,9 @@ ghost use Rattle.std.specs.Prelude.{◌≡◌, Ok, Err, IfErr, OnOk};
 ghost use Rattle.ns_workers.specs.Serving.{call_in};
 
 use ns_calls::{Call, DataFrame};
-use ns_link::{LinkFault, read_datagram};
-use ns_views::{PhyView, ViewFault, view};
-
-/// Why a datagram makes no call.
-#[derive(Clone, Copy, Debug, PartialEq, Eq)]
-pub enum Refused {
-    /// Its layout is refused.
-    Link(LinkFault),
-    /// Its frame is refused.
-    View(ViewFault),
-}
+use ns_link::read_datagram;
+use ns_outside::Refused;
+use ns_views::{PhyView, view};
 
 // Puts the call of a datagram in the place of another, or says why it makes none. A call is large: so none is moved.
 pub(crate) fn put_call(bytes: &[u8], call: &mut Call) -> Result<(), Refused>

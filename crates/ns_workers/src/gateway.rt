@@ -6,10 +6,13 @@ ghost use Rattle.ns_workers.specs.Serving.{Follows, IsDue, Serves, ServesAll};
 use crate::closer::hand_out;
 use crate::counted::make_call;
 use crate::datagram::put_call;
-use crate::job::{Job, call_at_once, job_of, leads_to_job};
-use crate::outside::{Datagrams, Downlinks, Jobs, Monitor, Received, Shared, Timer, WorkerFault};
+use crate::job::{call_at_once, leads_to_job};
+use crate::shared::Shared;
 use ns_calls::{Call, Reply};
-use ns_server::{Gate, Naming, Pass, Receipt};
+use ns_outside::{
+    Datagrams, Downlinks, Gate, Job, Jobs, Monitor, Receipt, Received, Timer, WorkerFault, job_of,
+};
+use ns_server::{Naming, Pass};
 use ns_types::Sink;
 use std::sync::Wait;
 

@@ -7,42 +7,26 @@ ghost use Rattle.ns_workers.specs.Answering.{IsOutcome, IsReply, Answers};
 ghost use Rattle.ns_workers.specs.Effects.{Does, effects};
 
 use crate::counted::{make_call, send_down};
-use crate::job::{AskJob, is_too_old};
-use crate::outside::{
-    Connections, Downlinks, JobSource, Monitor, Next, Shared, Timer, WorkerFault,
-};
+use crate::job::is_too_old;
+use crate::shared::Shared;
 use ns_calls::{Call, JoinAns, Outcome};
-use ns_joinclient::{AskFault, HostName, ask};
+use ns_joinclient::{HostName, ask};
 use ns_joinwire::join_req;
+use ns_outside::{
+    AskJob, Connections, Downlinks, Gate, JobSource, JoinFault, Monitor, Next, Receipt, Timer,
+    WorkerFault,
+};
 use ns_roster::Roster;
-use ns_server::{Gate, Naming, Pass, Receipt};
+use ns_server::{Naming, Pass};
 use ns_types::Ticket;
 use std::alloc::{AllocError, Global};
 use std::sync::Wait;
-use thiserror::Error;
 
 /// What a join worker has done: how many tickets it answered, and why it ended early.
 #[derive(Clone, Copy, Debug, PartialEq, Eq)]
 pub struct Joined {
     pub answered: u64,
     pub fault: Option<WorkerFault>,
-}
-
-/// Why there is no answer of the join server that can be used.
-#[derive(Clone, Copy, Debug, PartialEq, Eq, Error)]
-pub enum JoinFault {
-    /// The roster has no such device.
-    #[error("no device")]
-    NoDevice,
-    /// A growth was refused while the request was made.
-    #[error("no memory")]
-    NoMemory,
-    /// No connection could be opened.
-    #[error("no connection")]
-    NoConnection,
-    /// The exchange failed, or its answer was refused.
-    #[error("{0}")]
-    Exchange(AskFault),
 }
 
 // A worker whose count is this ends.

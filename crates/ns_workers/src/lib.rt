@@ -2,8 +2,8 @@
 //!
 //! A gateway worker reads datagrams, makes their calls and puts the jobs that follow; a join worker asks the join server about tickets
 //! and answers them; a closer closes windows as they become due and writes their lines. Each has a pass of its own, and what it
-//! did is counted in it. What is around them (sockets, channels, a clock) stands behind small traits, so that the same workers run in
-//! the program, in a test and in a program that embeds them.
+//! did is counted in it. What is around them (sockets, channels, a clock) stands behind the small traits of `ns_outside`, so that the
+//! same workers run in the program, in a test and in a program that embeds them.
 //!
 //! Promised where a source tells what it gave: a closer waited for the time of each job that it took, its receipts are of their
 //! closings, in order, and its sink has their lines; a join worker's receipts are of the answers to its tickets, in order, each as the
@@ -22,16 +22,11 @@ mod join;
 mod laws;
 mod line;
 mod listed;
-mod outside;
+mod shared;
 
 pub use closer::{Ended, run_closer};
-pub use datagram::Refused;
 pub use gateway::{Served, run_gateway};
-pub use job::{AskJob, COPIES_MS, CloseJob, Job, MOST_AGE_MS, job_of};
-pub use join::{JoinFault, Joined, run_join};
+pub use join::{Joined, run_join};
 pub use laws::lines_are_up_lines;
 pub use listed::{ListedDatagrams, ListedJobs};
-pub use outside::{
-    Connections, Datagrams, Downlinks, JobSource, Jobs, Monitor, Next, Received, Shared, Timer,
-    WorkerFault,
-};
+pub use shared::Shared;

@@ -6,10 +6,10 @@ ghost use Rattle.ns_calls.specs.Text.{up_text};
 ghost use Rattle.ns_events.specs.Uplink.{uplink_json};
 ghost use Rattle.ns_workers.specs.Lines.{AppendsLine, AppendsLineFront};
 
-use crate::outside::Timer;
 use arrayvec::ArrayString;
 use ns_calls::{Line, Uplink, put_uplink};
 use ns_events::{Output, Times, uplink_json};
+use ns_outside::Timer;
 use ns_types::{Failed, Sink, write_all};
 
 // Writes the `up` line of an uplink with its line feed.

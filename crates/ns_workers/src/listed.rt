@@ -1,7 +1,7 @@
 //! Sources over memory, which tell what they gave.
 ghost use Rattle.std.specs.Prelude.{◌≡◌, ◌≤◌, Bool, true, false, vec_len, take};
 
-use crate::outside::{Datagrams, JobSource, Next, Received};
+use ns_outside::{Datagrams, JobSource, Next, Received};
 
 // Where a source over memory stands, and how it has ended.
 #[derive(Drop)]
@@ -70,7 +70,7 @@ impl<J: Copy> ListedJobs<J> {
 
 impl<R, J: Copy> JobSource<R, J> for ListedJobs<J> {
     ghost use Rattle.std.specs.Prelude.{Some};
-    ghost use Rattle.ns_workers.specs.Given.{Takes};
+    ghost use Rattle.ns_outside.specs.Given.{Takes};
     ghost use Rattle.ns_workers.specs.Listed.{jobs_given};
 
     ghost given = { λ s. jobs_given s };
@@ -126,7 +126,7 @@ impl ListedDatagrams {
 
 impl<R> Datagrams<R> for ListedDatagrams {
     ghost use Rattle.std.specs.Prelude.{◌≡◌, ◌↔◌, false, not};
-    ghost use Rattle.ns_workers.specs.Datagrams.{FitsBuffer, TakesDatagram};
+    ghost use Rattle.ns_outside.specs.Datagrams.{FitsBuffer, TakesDatagram};
     ghost use Rattle.ns_workers.specs.Listed.{datagrams_given};
 
     ghost given = { λ s. datagrams_given s };

@@ -3,10 +3,10 @@
 use crate::states::TICKET;
 use ns_calls::Reply;
 use ns_link::LinkFault;
+use ns_outside::Refused;
 use ns_serve_state::State;
 use ns_types::{DevAddr, DevEui, DevNonce, WindowName};
 use ns_views::ViewFault;
-use ns_workers::Refused;
 use std::sync::atomic::Ordering;
 
 const EUI: DevEui = DevEui(13);

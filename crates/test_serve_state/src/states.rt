@@ -5,7 +5,7 @@ use ns_calls::{Bytes, Downlink};
 use ns_events::Output;
 use ns_joinclient::HostName;
 use ns_roster::Roster;
-use ns_serve_parts::ServeOptions;
+use ns_serve_parts::{Made, PLACES, ServeOptions};
 use ns_serve_state::{State, Status};
 use ns_types::{GatewayId, Target, Ticket};
 use std::alloc::{AllocError, Global};
@@ -80,7 +80,8 @@ pub fn state_with<R: Wait + Clock>(
 ) -> Option<State> {
     let options = options()?;
     let roster = roster(alloc)?;
-    State::new(rt, alloc, own, None, &roster, &options, &[], None, status).ok()
+    let made = Made::of(&[0; PLACES]);
+    State::new(rt, alloc, own, None, &roster, &options, made, None, status).ok()
 }
 
 /// A downlink of the gateway 161 with this frame.

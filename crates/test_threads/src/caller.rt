@@ -2,7 +2,8 @@
 
 use crate::work::Told;
 use ns_calls::{Call, Reply};
-use ns_server::{Naming, Open, Pass, Receipt, Server};
+use ns_outside::{Open, Receipt};
+use ns_server::{Naming, Pass, Server};
 use ns_shard::{Dropped, TrimFault};
 use std::alloc::Global;
 use std::sync::Wait;

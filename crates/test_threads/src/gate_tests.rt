@@ -3,7 +3,8 @@
 use crate::served::Work;
 use crate::traffic;
 use crate::trial::{Trial, with_workers};
-use ns_server::{Gate, Naming, Open, Pass, Receipt, Server};
+use ns_outside::{Gate, Open, Receipt};
+use ns_server::{Naming, Pass, Server};
 use std::alloc::AllocError;
 use std::rt::Clock;
 use std::sync::Wait;

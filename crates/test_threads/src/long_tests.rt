@@ -4,7 +4,7 @@ use crate::caller::Caller;
 use crate::traffic::{closing, join, join_reply, roster, uplink};
 use crate::trial::{Left, Trial, on_server};
 use ns_calls::{Answer, Call, Reply, shard_of_call};
-use ns_server::Receipt;
+use ns_outside::Receipt;
 use ns_shard::Shard;
 use ns_types::WindowName;
 use std::alloc::{AllocError, Global};

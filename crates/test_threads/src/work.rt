@@ -1,7 +1,8 @@
 //! What each worker of a server does with a call, and what comes of all workers.
 
 use ns_calls::Call;
-use ns_server::{Gate, Naming, Pass, Receipt, Server};
+use ns_outside::{Gate, Receipt};
+use ns_server::{Naming, Pass, Server};
 use std::alloc::{AllocError, Global};
 use std::sync::Wait;
 use std::sync::atomic::{AtomicU64, Ordering};

@@ -3,12 +3,11 @@
 ghost use Rattle.std.specs.Prelude.{None};
 
 use ns_calls::Downlink;
-use ns_server::Receipt;
-use ns_types::{BLOCKS, Fuse, Ticket, take_rest};
-use ns_workers::{
-    Connections, Datagrams, Downlinks, Job, JobSource, Jobs, JoinFault, Monitor, Next, Received,
-    Refused, Timer,
+use ns_outside::{
+    Connections, Datagrams, Downlinks, Job, JobSource, Jobs, JoinFault, Monitor, Next, Receipt,
+    Received, Refused, Timer,
 };
+use ns_types::{BLOCKS, Fuse, Ticket, take_rest};
 use std::alloc::Global;
 use std::sync::atomic::{AtomicU64, Ordering};
 

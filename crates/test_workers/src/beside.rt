@@ -2,7 +2,8 @@
 
 use crate::runs::{Bench, Run, Runner, run_all};
 use crate::told::tell;
-use ns_server::{Gate, Naming, Pass};
+use ns_outside::Gate;
+use ns_server::{Naming, Pass};
 use std::sync::Wait;
 use std::sync::atomic::{AtomicU64, Ordering};
 use std::thread;

@@ -7,12 +7,12 @@ use crate::told::{fault_number, tell, tell_jobs, tell_out, tell_window};
 use ns_calls::Call;
 use ns_events::Output;
 use ns_joinclient::HostName;
+use ns_outside::{AskJob, CloseJob};
 use ns_roster::Roster;
 use ns_server::{Naming, Pass, Server};
 use ns_types::{BLOCKS, DevEui, Fuse, Ticket, WindowName, take_rest};
 use ns_workers::{
-    AskJob, CloseJob, Ended, Joined, ListedDatagrams, ListedJobs, Served, Shared, run_closer,
-    run_gateway, run_join,
+    Ended, Joined, ListedDatagrams, ListedJobs, Served, Shared, run_closer, run_gateway, run_join,
 };
 use std::alloc::Global;
 use std::sync::Wait;

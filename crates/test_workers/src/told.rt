@@ -3,8 +3,8 @@
 use crate::around::{Around, Sent};
 use itoa::Buffer;
 use ns_calls::{Entry, Line, Reply, put_downlink};
+use ns_outside::{AskJob, CloseJob, Job, WorkerFault};
 use ns_types::{Ticket, WindowName};
-use ns_workers::{AskJob, CloseJob, Job, WorkerFault};
 
 /// Tells a word and numbers.
 pub fn tell(log: &mut String, word: &str, numbers: &[u64]) -> Option<()> {

@@ -1,13 +1,13 @@
 use Rattle.std.proofs.Common.{rules, [], ◌∷◌, ◌++◌, Some, subst, sym}
 use Rattle.std.specs.Prelude.{All}
 use Rattle.std.proofs.lemmas.List.Elements.{All-nil}
-use Rattle.ns_server.specs.declared.kept.Receipt.{Receipt}
-use Rattle.ns_workers.specs.declared.outside.WorkerFault.TheVariants.{SinkFailed}
+use Rattle.ns_outside.specs.declared.receipt.Receipt.{Receipt}
+use Rattle.ns_outside.specs.declared.fault.WorkerFault.TheVariants.{SinkFailed}
 use Rattle.ns_workers.specs.Closing.{AreAnswered, Closes}
 use Rattle.ns_workers.specs.Counts.{RisesByReceipts}
-use Rattle.ns_workers.specs.Grown.{Grows}
+use Rattle.ns_outside.specs.Grown.{Grows}
 use Rattle.ns_workers.specs.Lines.{AppendsLine, AppendsLines, AppendsLinesFront, downlinks_of}
-use Rattle.ns_workers.specs.Notice.{call_replied}
+use Rattle.ns_outside.specs.Notice.{call_replied}
 use Rattle.ns_workers.proofs.Closings.{Closed, closed_none, closed_more, closes_refused, closes_unsent}
 use Rattle.ns_workers.proofs.Counting.{rises_none, rises_more}
 use Rattle.ns_workers.proofs.Doings.{grows_none, answered_none, answered_more, told_more, lines_none, lines_more, lines_front, downlinks_more}

@@ -2,9 +2,9 @@ use Rattle.std.proofs.Common.{◌≡◌, false, ◌≤◌, ◌-◌}
 use Rattle.std.specs.Prelude.{All, vec_len, vec_capacity}
 use Rattle.ns_workers.specs.Closing.{AreAnswered}
 use Rattle.ns_workers.specs.Counts.{RisesByReceipts}
-use Rattle.ns_workers.specs.Grown.{Grows}
+use Rattle.ns_outside.specs.Grown.{Grows}
 use Rattle.ns_workers.specs.Lines.{AppendsLines, downlinks_of}
-use Rattle.ns_workers.specs.Notice.{call_replied}
+use Rattle.ns_outside.specs.Notice.{call_replied}
 use Rattle.ns_workers.proofs.Closings.{Closed}
 use Rattle.ns_workers.proofs.closer.run_closer.Given as goal
 

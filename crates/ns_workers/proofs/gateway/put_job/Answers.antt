@@ -1,5 +1,5 @@
 use Rattle.std.proofs.Common.{[], ◌∷◌, None, Some, refl, sym, ap, ◌∙◌, subst}
-use Rattle.ns_workers.specs.declared.outside.WorkerFault.TheVariants.{NoMemory, SinkFailed}
+use Rattle.ns_outside.specs.declared.fault.WorkerFault.TheVariants.{NoMemory, SinkFailed}
 use Rattle.ns_workers.specs.Effects.{Does, effects}
 use Rattle.ns_workers.specs.Job.{call_at_once}
 use Rattle.ns_workers.proofs.Doings.{does_own, does_put}

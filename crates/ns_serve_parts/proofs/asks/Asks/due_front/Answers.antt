@@ -1,7 +1,7 @@
 use Rattle.std.proofs.Common.{◌≡◌, ℕ, suc, ◌+◌, ◌<◌, ◌≤◌, cond, nat_le, List, length, get_or, drop, sym, ap, ◌∙◌, arith}
 use Rattle.std.proofs.lemmas.Bool.Decides.{nat_tests}
 use Rattle.std.proofs.lemmas.List.{at_drop_more, at_drop_all}
-use Rattle.ns_workers.specs.declared.job.AskJob.{AskJob}
+use Rattle.ns_outside.specs.declared.job.AskJob.{AskJob}
 use Rattle.ns_serve_parts.specs.Asks.{due_front}
 use Rattle.ns_serve_parts.proofs.asks.Asks.due_front.Goals as goal
 

@@ -1,0 +1,6 @@
+pub mod Receipts
+pub mod Given
+pub mod Grown
+pub mod Notice
+pub mod Datagrams
+pub mod Job

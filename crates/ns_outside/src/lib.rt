@@ -1,0 +1,24 @@
+//! What a server's calls give, and what the workers of a server ask of what stands round them.
+//!
+//! - `Receipt`: what a call got. `Gate`: what a call visits round its step.
+//! - `Job`: what follows a reply, by `job_of`. `WorkerFault`, `Refused`, `JoinFault`: why a worker ended, and why a datagram or a ticket
+//!   got nothing.
+//! - The traits behind which sockets, channels and a clock stand: `Datagrams`, `JobSource`, `Jobs`, `Timer`, `Connections`, `Downlinks`,
+//!   `Monitor`.
+//!
+//! Neither the server nor its workers are named here: what stands round them is made, and proved, beside them.
+#![tactic(auto)]
+
+mod fault;
+mod gate;
+mod job;
+mod receipt;
+mod traits;
+
+pub use fault::{JoinFault, Refused, WorkerFault};
+pub use gate::{Gate, Open};
+pub use job::{AskJob, COPIES_MS, CloseJob, Job, MOST_AGE_MS, job_of};
+pub use receipt::{Receipt, receipt_of};
+pub use traits::{
+    Connections, Datagrams, Downlinks, JobSource, Jobs, Monitor, Next, Received, Timer,
+};
