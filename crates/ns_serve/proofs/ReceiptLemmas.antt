@@ -5,7 +5,7 @@ use Rattle.ns_types.specs.declared.ticket.Ticket.{Ticket}
 use Rattle.ns_calls.specs.declared.call.Outcome.{Outcome}
 use Rattle.ns_roster.specs.Network.{Network}
 use Rattle.ns_events.specs.declared.output.Output.{Output}
-use Rattle.ns_server.specs.declared.kept.Receipt.{Receipt}
+use Rattle.ns_outside.specs.declared.receipt.Receipt.{Receipt}
 use Rattle.ns_tally.specs.Tally.{none_made}
 use Rattle.ns_workers.specs.Closing.{HasAnswer}
 use Rattle.ns_workers.specs.Serving.{receipts_of}

@@ -2,13 +2,13 @@
 use Rattle.std.proofs.Common.{◌≡◌, ◌⊎◌, ℕ, ◌≤◌, Bool, true, false, List, [], ◌++◌, length, take, drop, take-append-drop, Option, None, Some, sym, ap, ◌∙◌, subst, inl, inr, arith}
 use Rattle.std.specs.Option.{option_map_or}
 use Rattle.std.proofs.lemmas.List.{length-map, length-take-le, take_all}
-use Rattle.ns_server.specs.declared.kept.Receipt.{Receipt}
-use Rattle.ns_workers.specs.declared.job.CloseJob.{CloseJob}
-use Rattle.ns_workers.specs.declared.outside.WorkerFault.{WorkerFault}
-use Rattle.ns_workers.specs.declared.outside.WorkerFault.TheVariants.{NoMemory, SourceFailed, SinkFailed}
+use Rattle.ns_outside.specs.declared.receipt.Receipt.{Receipt}
+use Rattle.ns_outside.specs.declared.job.CloseJob.{CloseJob}
+use Rattle.ns_outside.specs.declared.fault.WorkerFault.{WorkerFault}
+use Rattle.ns_outside.specs.declared.fault.WorkerFault.TheVariants.{NoMemory, SourceFailed, SinkFailed}
 use Rattle.ns_workers.specs.Closing.{AreClosed, Closes, calls_made, closing, closings}
 use Rattle.ns_workers.specs.declared.listed.ListedJobs.{ListedJobs}
-use Rattle.ns_workers.specs.Given.{Given, Gave}
+use Rattle.ns_outside.specs.Given.{Given, Gave}
 use Rattle.ns_workers.specs.Listed.{jobs_given}
 
 -- a list has given so many of its jobs

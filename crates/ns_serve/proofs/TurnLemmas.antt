@@ -1,7 +1,7 @@
 -- What the closer is to do.
 use Rattle.std.proofs.Common.{◌≡◌, List, [], ◌∷◌, ◌++◌, Option, Some, None, Result, Ok, Err}
 use Rattle.std.specs.Prelude.{IfOk, slice_get}
-use Rattle.ns_workers.specs.declared.job.CloseJob.{CloseJob}
+use Rattle.ns_outside.specs.declared.job.CloseJob.{CloseJob}
 use Rattle.ns_serve.specs.declared.closer.Turn.{Turn}
 use Rattle.ns_serve.specs.declared.closer.Turn.TheVariants.{Close, Idle, End}
 use Rattle.ns_serve.specs.Turns.{IsTurn, IsTurnWith}

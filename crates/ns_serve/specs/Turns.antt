@@ -5,10 +5,10 @@ use Rattle.ns_types.specs.declared.ticket.Ticket.{Ticket}
 use Rattle.ns_calls.specs.declared.call.Outcome.{Outcome}
 use Rattle.ns_roster.specs.Network.{Network}
 use Rattle.ns_events.specs.declared.output.Output.{Output}
-use Rattle.ns_server.specs.declared.kept.Receipt.{Receipt}
+use Rattle.ns_outside.specs.declared.receipt.Receipt.{Receipt}
 use Rattle.ns_tally.specs.Tally.{none_made}
 use Rattle.ns_workers.specs.declared.gateway.Served.{Served}
-use Rattle.ns_workers.specs.declared.job.CloseJob.{CloseJob}
+use Rattle.ns_outside.specs.declared.job.CloseJob.{CloseJob}
 use Rattle.ns_workers.specs.declared.join.Joined.{Joined}
 use Rattle.ns_workers.specs.Answering.{Answers, IsOutcome}
 use Rattle.ns_workers.specs.Closing.{AreAnswered, calls_made, closings}

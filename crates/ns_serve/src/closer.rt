@@ -1,7 +1,7 @@
 //! The closer: windows are closed as they become due, their lines written, and the shards trimmed.
 ghost use Rattle.std.specs.Prelude.{◌≡◌, ◌≢◌, ◌+◌, ◌^◌, ◌<◌, ◌≤◌, ◌⊎◌, ◌↔◌, ◌++◌, List, Some, None, true, false, IsNone, IsTrue, IfOk, slice_get, vec_len};
-ghost use Rattle.ns_server.specs.declared.kept.Receipt.{Receipt as receipt};
-ghost use Rattle.ns_workers.specs.declared.job.CloseJob.{CloseJob as close_job};
+ghost use Rattle.ns_outside.specs.declared.receipt.Receipt.{Receipt as receipt};
+ghost use Rattle.ns_outside.specs.declared.job.CloseJob.{CloseJob as close_job};
 ghost use Rattle.ns_workers.specs.Closing.{AreAnswered, AreClosed, calls_made, closings};
 ghost use Rattle.ns_workers.specs.Counts.{RisesByReceipts};
 ghost use Rattle.ns_workers.specs.Lines.{AppendsLines, AppendsLinesFront};
@@ -10,11 +10,13 @@ ghost use Rattle.ns_serve.specs.Turns.{HasClosed, HasReceipts, IsTurn, IsTurnWit
 use crossbeam_channel::{Receiver, RecvTimeoutError};
 use log::{Log, error};
 use ns_events::Output as Written;
+use ns_outside::{CloseJob, WorkerFault};
 use ns_serve_parts::{Held, Output, ServeFault, put_under_lock};
-use ns_serve_state::{Events, Later, Recording, SinceMoment, State, nap_ms, now_ms, take_notices};
+use ns_serve_shards::Recording;
+use ns_serve_state::{Events, Later, SinceMoment, State, nap_ms, now_ms, take_notices};
 use ns_server::{Naming, Pass};
 use ns_types::Sink;
-use ns_workers::{CloseJob, Ended, ListedJobs, Shared, WorkerFault, run_closer};
+use ns_workers::{Ended, ListedJobs, Shared, run_closer};
 use std::alloc::{AllocError, Global};
 use std::sync::{Mutex, Wait};
 use std::thread;

@@ -14,19 +14,19 @@ use crossbeam_channel::{Receiver, Sender, unbounded};
 use log::{Log, error};
 use ns_forwarder_socket::Pending;
 use ns_joinclient::HostName;
+use ns_outside::{CloseJob, Connections, WorkerFault};
 use ns_record_files::Upkeep;
 use ns_responses::Responses;
 use ns_roster::Roster;
-use ns_serve_parts::{
-    Held, Lines, Output, ServeFault, ServeOptions, ToJoinServer, Trims, Within, trim_due, trims_of,
-};
+use ns_serve_parts::{Held, Lines, Output, ServeFault, ServeOptions, ToJoinServer, Within};
+use ns_serve_shards::{Recording, Trims, trim_due, trims_of};
 use ns_serve_state::{
-    Events, FromQueue, FromSocket, IntoQueues, Later, Recording, SinceStart, State, ToSocket,
-    hand_on, look_after_record, now_ms, rest_record, tell,
+    Events, FromQueue, FromSocket, IntoQueues, Later, SinceStart, State, ToSocket, hand_on,
+    look_after_record, now_ms, rest_record, tell,
 };
 use ns_server::{Naming, Pass, Server};
 use ns_types::{Sink, Source, Stream, Ticket, WindowName};
-use ns_workers::{CloseJob, Connections, Shared, WorkerFault, run_gateway, run_join};
+use ns_workers::{Shared, run_gateway, run_join};
 use std::alloc::{AllocError, Global};
 use std::net::{Net, SocketAddr, TcpListener, TcpStream};
 use std::sync::atomic::Ordering;

@@ -4,11 +4,11 @@ ghost use Rattle.std.specs.Io.KnownBytes.{Appends, append_known};
 ghost use Rattle.std.specs.Arc.{arc_value};
 ghost use Rattle.ns_types.specs.Identity.{shard_count};
 ghost use Rattle.ns_server.specs.Begun.{ArePlaced, states_at};
-ghost use Rattle.ns_serve_state.specs.Begun.{IsBegun};
+ghost use Rattle.ns_serve_shards.specs.Begun.{IsBegun};
 ghost use Rattle.ns_tally.specs.Tally.{AreNamed, none_made};
 ghost use Rattle.ns_server.specs.Drain.{NoneOpen, EachIsClosed};
 ghost use Rattle.ns_workers.specs.Lines.{AppendsLine};
-ghost use Rattle.ns_serve_parts.specs.Closing.{last_lines};
+ghost use Rattle.ns_serve_shards.specs.Closing.{last_lines};
 ghost use Rattle.ns_serve_parts.specs.Output.{Grows, EndsIn, Sends};
 
 use crate::ending::{Stop, mark_stop};
@@ -16,18 +16,18 @@ use crate::run::{Around, Ends, run_all};
 use log::{Log, error, info};
 use ns_calls::{Uplink, up_line};
 use ns_events::{Output as Written, uplink_json};
+use ns_outside::{Downlinks, Receipt};
 use ns_record_files::{RecordFiles, Recorder, Upkeep};
 use ns_roster::Roster;
-use ns_serve_parts::{Output, ServeFault, ServeOptions, closing_text, trims_of};
+use ns_serve_parts::{Made, Output, ServeFault, ServeOptions};
+use ns_serve_shards::{Begun, closing_text, record_call, trims_of};
 use ns_serve_state::{
-    AfterRecord, Begun, State, Status, ToSocket, has_failed, log_counts, log_unsent, note_event,
-    now_ms, record_call, take_notices, times_of, write_record,
+    AfterRecord, State, Status, ToSocket, has_failed, log_counts, log_unsent, note_event, now_ms,
+    take_notices, times_of, write_record,
 };
-use ns_server::{Naming, Pass, Receipt, Server, Settled};
-use ns_shard::Shard;
+use ns_server::{Naming, Pass, Server, Settled};
 use ns_tally::Blanks;
 use ns_types::{Sink, Ticket, WindowName};
-use ns_workers::Downlinks;
 use std::alloc::Global;
 use std::io;
 use std::marker::Brand;
@@ -64,25 +64,59 @@ fn listen<R: Net + Log>(
     }
 }
 
+// Whether there are as many workers as sockets by which gateways are to be heard.
+fn suffice<R: Log>(rt: &R, options: &ServeOptions<'_>, own: Option<SocketAddr>) -> bool {
+    let suffice = own.is_none() || options.forwarders.is_none() || options.workers >= 2;
+    if !suffice {
+        error!(rt; "one worker does not hear both this server's own datagrams and forwarders");
+    }
+    suffice
+}
+
+// Where gateways are heard, and where the status is told.
+#[derive(Drop)]
+struct Opened {
+    own: Option<(UdpSocket, SocketAddr)>,
+    forwarders: Option<(UdpSocket, SocketAddr)>,
+    status: Option<Status>,
+}
+
+// Opens what the options ask for.
+fn open_all<R: Net<Listener = TcpListener, Stream = TcpStream> + Clock + Log>(
+    rt: &R,
+    alloc: Global,
+    roster: &Roster,
+    options: &ServeOptions<'_>,
+) -> Result<Opened, ServeFault> {
+    let own_addr = options.own_addr();
+    if !suffice(rt, options, own_addr) {
+        return Err(ServeFault::Io);
+    }
+    let own = listen(rt, own_addr)?;
+    let forwarders = listen(rt, options.forwarders)?;
+    Ok(Opened {
+        own,
+        forwarders,
+        status: Status::open(rt, alloc, roster, options.status)?,
+    })
+}
+
 // What all threads share, once gateways are heard.
 fn begin<R: Net<Listener = TcpListener, Stream = TcpStream> + Clock + Log>(
     rt: &R,
     alloc: Global,
     roster: &Roster,
     options: &ServeOptions<'_>,
-    shards: &[Shard],
+    made: Made,
     record: Option<Recorder<RecordFiles>>,
 ) -> Result<State, ServeFault> {
-    let own_addr = options.own_addr();
-    if own_addr.is_some() && options.forwarders.is_some() && options.workers < 2 {
-        error!(rt; "one worker does not hear both this server's own datagrams and forwarders");
-        return Err(ServeFault::Io);
-    }
-    let own = listen(rt, own_addr)?;
-    let forwarders = listen(rt, options.forwarders)?;
-    let status = Status::open(rt, alloc, roster, options.status)?;
+    let Opened {
+        own,
+        forwarders,
+        status,
+    } = open_all(rt, alloc, roster, options)?;
     let state = State::new(
-        rt, alloc, own, forwarders, roster, options, shards, record, status,
+        rt, alloc, own, forwarders, roster, options, made, record, status,
     );
     if let Err(why) = &state {
         error!(rt; "what all threads share: {why}");
@@ -484,7 +518,7 @@ pub fn serve<
 {
     let mut begun = begun;
     let record = begun.record.take();
-    let state = begin(rt, alloc, &roster, options, begun.shards.as_slice(), record)?;
+    let state = begin(rt, alloc, &roster, options, begun.made(), record)?;
     log_start(rt, &roster, options);
     let outcome = serve_with(
         rt, alloc, roster, options, &state, begun, stop, upkeep, writer,

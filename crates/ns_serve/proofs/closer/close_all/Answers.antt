@@ -1,7 +1,7 @@
 use Rattle.std.proofs.Common.{◌≡◌, List, rules, arith, length, ap, ◌∙◌}
 use Rattle.std.specs.Option.{option_map_or}
 use Rattle.ns_workers.specs.declared.listed.ListedJobs.{ListedJobs}
-use Rattle.ns_workers.specs.declared.job.CloseJob.{CloseJob}
+use Rattle.ns_outside.specs.declared.job.CloseJob.{CloseJob}
 use Rattle.ns_serve.proofs.TakenLemmas.{takes_first, takes_all}
 use Rattle.ns_serve.proofs.closer.close_all.Goals as goal
 
