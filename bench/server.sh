@@ -1,7 +1,7 @@
 #!/usr/bin/env bash
 # Times calls by Shard::apply on one thread, and by one Server with 1, 2 and 4 threads on shards of their own: `bench_parts server`.
-#   server.sh [DEVICES FRAMES ROUNDS]    each device joins, and each of its frames is heard by three gateways and its window closed; of
-#                                        each way the fastest round counts
+#   server.sh [DEVICES FRAMES ROUNDS]    each device joins, and each of its frames is heard by three gateways and its window closed; a
+#                                        shard is trimmed after every 10,000 entries, as by `serve`; of each way the fastest round counts
 #   server.sh --instructions             instructions of a call on one thread, by callgrind
 #   server.sh --trim [DEVICES FRAMES ROUNDS]
 #                                        how long a trim of one shard takes, for which calls on the shard wait: all devices are of that
@@ -26,7 +26,7 @@ fi
 if [ "${1:-}" = --processes ]; then
     for count in 1 2 4; do
         for process in $(seq "$count"); do
-            "$program" server 64 64 "${2:-200}" apply > "$work/lines.$process" 2> "$work/apply.$process" &
+            "$program" server 64 2000 "${2:-5}" apply > "$work/lines.$process" 2> "$work/apply.$process" &
         done
         wait
         for process in $(seq "$count"); do
@@ -44,7 +44,7 @@ if [ "${1:-}" = --trim ]; then
         END { printf "%d entries: %.1f to %.1f ms, a second trim %.2f ms\n", made, least / 1e6, most / 1e6, again / 1e6 }'
     exit
 fi
-"$program" server "${1:-64}" "${2:-64}" "${3:-25}" > "$work/lines" 2> "$work/times"
+"$program" server "${1:-64}" "${2:-2000}" "${3:-5}" > "$work/lines" 2> "$work/times"
 echo "load average: $(cut -d' ' -f1-3 /proc/loadavg)"
 grep -v '^trim' "$work/times" | sort -k1,1 -k3,3n | awk '!seen[$1]++' | awk '
     BEGIN { printf "%-10s %12s %10s %8s\n", "", "calls/s", "ns a call", "ratio" }

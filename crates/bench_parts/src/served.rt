@@ -12,6 +12,7 @@ use ns_roster::Roster;
 use ns_server::{Naming, Pass, Server};
 use ns_shard::Shard;
 use ns_tally::Blanks;
+use ns_types::SHARDS;
 use std::alloc::{AllocError, Global};
 use std::marker::Brand;
 use std::sync::{Arc, Wait};
@@ -39,16 +40,33 @@ fn shards(alloc: Global, roster: &Arc<Roster>) -> Result<Vec<Shard>, AllocError>
     Ok(shards)
 }
 
+// After how many entries a shard is trimmed, as `serve` does where nothing else is asked for.
+const TRIM: u64 = 10_000;
+
+// Whether the entry of a number is the last one before a trim.
+fn is_last(number: u64) -> bool {
+    number % TRIM == TRIM - 1
+}
+
+// Makes a call on its shard, which is trimmed where that is due.
+fn apply_one(alloc: Global, shard: &mut Shard, call: &Call) -> Result<u64, AllocError> {
+    if shard.index() != shard_of_call(call) {
+        return Ok(0);
+    }
+    let (number, seen) = (shard.made(), sees_answer(&shard.apply(*call)?));
+    if is_last(number) {
+        let _ = shard.trim_in_place(alloc);
+    }
+    Ok(u64::from(seen))
+}
+
 // Makes each call on its shard.
-fn apply_each(shards: &mut [Shard], calls: &[Call]) -> Result<u64, AllocError> {
+fn apply_each(alloc: Global, shards: &mut [Shard], calls: &[Call]) -> Result<u64, AllocError> {
     let mut seen = 0u64;
     for call in calls {
         let place = shard_of_call(call);
         if let Some(shard) = shards.get_mut(usize::from(place)) {
-            if shard.index() == place {
-                let answer = shard.apply(*call)?;
-                seen = seen.wrapping_add(u64::from(sees_answer(&answer)));
-            }
+            seen = seen.wrapping_add(apply_one(alloc, shard, call)?);
         }
     }
     Ok(seen)
@@ -72,19 +90,39 @@ pub fn apply_all<R: Clock>(
 ) -> anyhow::Result<(u128, u128)> {
     let mut shards = shards(alloc, roster)?;
     let start = Instant::now(rt)?;
-    let _seen = apply_each(shards.as_mut_slice(), calls)?;
+    let _seen = apply_each(alloc, shards.as_mut_slice(), calls)?;
     let took = start.elapsed(rt)?.as_nanos();
     Ok((entries_of(shards.as_slice()), took))
 }
 
+// Makes a call on the server, which trims its shard where that is due.
+fn call_one<B: Naming, R: Wait>(
+    rt: &R,
+    alloc: Global,
+    server: &Server<B>,
+    pass: &mut Pass<B>,
+    call: &Call,
+) -> u64 {
+    let Ok(receipt) = server.call(rt, pass, *call, &Open) else {
+        return 0;
+    };
+    if is_last(receipt.entry.number) && receipt.shard < SHARDS {
+        let _ = server.trim_in_place(rt, alloc, receipt.shard);
+    }
+    u64::from(sees_receipt(&receipt))
+}
+
 // Makes a thread's calls.
-fn call_each<B: Naming, R: Wait>(rt: &R, server: &Server<B>, job: (Pass<B>, &[Call])) -> Pass<B> {
+fn call_each<B: Naming, R: Wait>(
+    rt: &R,
+    alloc: Global,
+    server: &Server<B>,
+    job: (Pass<B>, &[Call]),
+) -> Pass<B> {
     let (mut pass, calls) = job;
     let mut seen = 0u64;
     for call in calls {
-        if let Ok(receipt) = server.call(rt, &mut pass, *call, &Open) {
-            seen = seen.wrapping_add(u64::from(sees_receipt(&receipt)));
-        }
+        seen = seen.wrapping_add(call_one(rt, alloc, server, &mut pass, call));
     }
     pass
 }
@@ -107,10 +145,11 @@ fn jobs<'a, B: Naming>(
 // Lends the server to a thread for each part of the calls.
 fn all_call<B: Naming + Send + Sync, R: Threads + Wait + Sync>(
     rt: &R,
+    alloc: Global,
     server: &Server<B>,
     jobs: Vec<(Pass<B>, &[Call])>,
 ) -> Result<Vec<Pass<B>>, AllocError> {
-    thread::map_vec(rt, jobs, &|job| call_each(rt, server, job))
+    thread::map_vec(rt, jobs, &|job| call_each(rt, alloc, server, job))
 }
 
 // The passes, and the nanoseconds of all calls.
@@ -123,7 +162,7 @@ fn time_calls<B: Naming + Send + Sync, R: Threads + Wait + Clock + Sync>(
 ) -> anyhow::Result<(Vec<Pass<B>>, u128)> {
     let jobs = jobs(alloc, passes, parts)?;
     let start = Instant::now(rt)?;
-    let passes = all_call(rt, server, jobs)?;
+    let passes = all_call(rt, alloc, server, jobs)?;
     Ok((passes, start.elapsed(rt)?.as_nanos()))
 }
 

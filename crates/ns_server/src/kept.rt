@@ -32,6 +32,8 @@ pub struct Trim {
 pub struct Kept<B: Naming, const K: usize> {
     pub(crate) shard: Shard,
     pub(crate) book: ShardBook<B>,
+    // Nothing: what the next lock guards begins in another cache line, so that two threads on two shards write to no line together.
+    pub(crate) apart: [u64; 16],
 }
 
 impl<B: Naming, const K: usize> Model for Kept<B, K> {

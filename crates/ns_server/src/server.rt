@@ -158,7 +158,11 @@ fn new_lock<B: Naming, const K: usize>(
 {
     let shard = shards.pop().unwrap();
     let _made = shard.made();
-    Mutex::new(Kept { shard, book })
+    Mutex::new(Kept {
+        shard,
+        book,
+        apart: [0; 16],
+    })
 }
 
 // Puts passes with which nothing was made yet, where there is room for them.
@@ -474,7 +478,11 @@ fn open_one<B: Naming, const K: usize>(lock: Mutex<Kept<B, K>>, all: &mut Shares
     ensures begun { BeganAs (B.begun K) result }
     ensures same { all.new ≡ all.old }
 {
-    let Kept { shard, mut book } = lock.into_inner();
+    let Kept {
+        shard,
+        mut book,
+        apart: _,
+    } = lock.into_inner();
     book.audit(all);
     shard
 }
