@@ -1,76 +1,136 @@
 -- What a closer has done, turn by turn.
-use Rattle.std.proofs.Common.{◌≡◌, ℕ, List, [], ◌∷◌, ◌++◌, length, Option, None, Some, inl, inr, refl, sym, ap, ◌∙◌}
-use Rattle.std.specs.Prelude.{All}
+use Rattle.std.proofs.Common.{◌≡◌, ◌≢◌, ℕ, List, [], ◌∷◌, ◌++◌, length, Option, None, Some, inl, inr, refl, sym, ap, ◌∙◌, subst}
+use Rattle.std.specs.Prelude.{All, slice_set}
 use Rattle.std.proofs.lemmas.List.{map-append}
 use Rattle.std.proofs.lemmas.List.Elements.{All-nil, All-push}
+use Rattle.ns_roster.specs.Network.{Network}
+use Rattle.ns_events.specs.declared.output.Output.{Output}
 use Rattle.ns_outside.specs.declared.receipt.Receipt.{Receipt}
 use Rattle.ns_outside.specs.declared.job.CloseJob.{CloseJob}
 use Rattle.ns_outside.specs.declared.traits.Next.TheVariants.{Job, End, Failed}
+use Rattle.ns_outside.specs.declared.fault.WorkerFault.{WorkerFault}
 use Rattle.ns_outside.specs.declared.fault.WorkerFault.TheVariants.{NoMemory, SourceFailed, SinkFailed}
 use Rattle.ns_outside.specs.Given.{Given, Takes}
+use Rattle.ns_outside.specs.Notice.{Notice}
 use Rattle.ns_workers.specs.Closing.{closing, calls_made, closings, Closes}
+use Rattle.ns_workers.specs.Closed.{ClosesOne, ClosesAll}
+use Rattle.ns_workers.specs.Effects.{Effects, Does}
+use Rattle.ns_workers.proofs.Doings.{does_none, does_both, does_with}
 use Rattle.ns_workers.proofs.Sources.{Holds, holds_none, holds_more, gave_end, gave_full, gave_broken}
 
--- these jobs were taken, waited for and closed
-pub record Closed (has_come : ℕ → Type 0) (old now : Option (Given CloseJob)) (receipts : List Receipt) : Type 0 where
+-- ---- the last place of a list
+
+set_last : {X : Type 0} (xs : List X) (x y : X) → slice_set (xs ++ x ∷ []) (length xs) y ≡ xs ++ y ∷ []
+set_last [] x y = refl
+set_last (z ∷ xs) x y = ap (λ l. z ∷ l) (set_last xs x y)
+
+pub set_placed : {X : Type 0} (xs ys : List X) (x y : X) (n : ℕ) → ys ≡ xs ++ x ∷ [] → n ≡ length xs → slice_set ys n y ≡ xs ++ y ∷ []
+set_placed xs ys x y n is at =
+    subst (λ l. slice_set l n y ≡ xs ++ y ∷ []) (sym is) (subst (λ m. slice_set (xs ++ x ∷ []) m y ≡ xs ++ y ∷ []) (sym at) (set_last xs x y))
+
+-- ---- jobs after jobs
+
+-- so far these jobs were taken, waited for and closed, and what goes out with the receipts has gone out
+pub record Closed (net : Network) (out : Output) (h : Notice → Type 0) (c : ℕ → Type 0) (old now : Option (Given CloseJob)) (before after : Effects) (receipts : List Receipt) : Type 0 where
   pub taken : List CloseJob
   pub holds : Holds old now taken
-  pub waited : All (λ j. has_come j.due) taken
+  pub waited : All (λ j. c j.due) taken
   pub closed : calls_made receipts ≡ closings taken
+  pub does : Does net out h None before after receipts receipts []
 
-pub closed_none : (c : ℕ → Type 0) (old : Option (Given CloseJob)) → Closed c old old []
-closed_none c old = record { taken = []; holds = holds_none old; waited = All-nil (λ (j : CloseJob). c j.due); closed = refl }
-
-pub closed_more : (c : ℕ → Type 0) (old now new : Option (Given CloseJob)) (rs : List Receipt) (r : Receipt) (j : CloseJob)
-    → Closed c old now rs → Takes now new (Job j) → c j.due → r.entry.call ≡ closing j → Closed c old new (rs ++ r ∷ [])
-closed_more c old now new rs r j so takes come call = record {
-  taken = so.taken ++ j ∷ [];
-  holds = holds_more old now new so.taken j so.holds takes;
-  waited = All-push (λ (j : CloseJob). c j.due) so.taken j so.waited come;
-  closed = map-append (λ (q : Receipt). q.entry.call) rs (r ∷ []) ∙ ap (λ l. l ++ r.entry.call ∷ []) so.closed
-      ∙ ap (λ n. closings so.taken ++ n ∷ []) call ∙ sym (map-append closing so.taken (j ∷ []));
-}
-
-pub closes_end : (c : ℕ → Type 0) (limit : ℕ) (old now new : Option (Given CloseJob)) (rs : List Receipt) → Closed c old now rs → Takes now new End → Closes c limit old new rs None
-closes_end c limit old now new rs so takes = record {
-  taken = so.taken;
-  gave = gave_end (length rs ≡ limit) old now new so.taken so.holds takes;
-  waited = so.waited;
-  closed = so.closed;
-}
-
-pub closes_full : (c : ℕ → Type 0) (limit : ℕ) (old now : Option (Given CloseJob)) (rs : List Receipt) → Closed c old now rs → length rs ≡ limit → Closes c limit old now rs None
-closes_full c limit old now rs so full = record {
-  taken = so.taken;
-  gave = gave_full (length rs ≡ limit) old now so.taken so.holds full;
-  waited = so.waited;
-  closed = so.closed;
-}
-
-pub closes_broken : (c : ℕ → Type 0) (limit : ℕ) (old now new : Option (Given CloseJob)) (rs : List Receipt) → Closed c old now rs → Takes now new Failed → Closes c limit old new rs (Some SourceFailed)
-closes_broken c limit old now new rs so takes = record {
-  taken = so.taken;
-  gave = gave_broken (length rs ≡ limit) old now new so.taken so.holds takes;
-  waited = so.waited;
-  closed = so.closed;
-}
-
-pub closes_before : (c : ℕ → Type 0) (limit : ℕ) (old : Option (Given CloseJob)) → Closes c limit old old [] (Some NoMemory)
-closes_before c limit old = record {
+pub closed_none : (net : Network) (out : Output) (h : Notice → Type 0) (c : ℕ → Type 0) (old : Option (Given CloseJob)) (e : Effects) → Closed net out h c old old e e []
+closed_none net out h c old e = record {
   taken = [];
-  gave = holds_none old;
+  holds = holds_none old;
   waited = All-nil (λ (j : CloseJob). c j.due);
-  closed = inl refl;
+  closed = refl;
+  does = does_none net out h None e;
 }
 
-pub closes_refused : (c : ℕ → Type 0) (limit : ℕ) (old now new : Option (Given CloseJob)) (rs : List Receipt) (j : CloseJob)
-    → Closed c old now rs → Takes now new (Job j) → c j.due → Closes c limit old new rs (Some NoMemory)
-closes_refused c limit old now new rs j so takes come = record {
-  taken = so.taken ++ j ∷ [];
-  gave = holds_more old now new so.taken j so.holds takes;
-  waited = All-push (λ (j : CloseJob). c j.due) so.taken j so.waited come;
-  closed = inr (j, map-append closing so.taken (j ∷ []) ∙ ap (λ l. l ++ closing j ∷ []) (sym so.closed));
+-- the calls of one more receipt are the closings of one more job
+one_more : (rs : List Receipt) (r : Receipt) (js : List CloseJob) (j : CloseJob) → calls_made rs ≡ closings js → r.entry.call ≡ closing j → calls_made (rs ++ r ∷ []) ≡ closings (js ++ j ∷ [])
+one_more rs r js j so call =
+    map-append (λ (q : Receipt). q.entry.call) rs (r ∷ []) ∙ ap (λ l. l ++ r.entry.call ∷ []) so
+    ∙ ap (λ n. closings js ++ n ∷ []) call ∙ sym (map-append closing js (j ∷ []))
+
+pub closed_more : (net : Network) (out : Output) (h : Notice → Type 0) (c : ℕ → Type 0) (old now new : Option (Given CloseJob)) (e f g : Effects) (rs rs' : List Receipt) (j : CloseJob)
+    → Closed net out h c old now e f rs → Takes now new (Job j) → c j.due → ClosesOne net out h j None f g rs rs' → Closed net out h c old new e g rs'
+closed_more net out h c old now new e f g rs rs' j so takes come one =
+    let (r, is, call, did) = one in
+    subst (λ l. Closed net out h c old new e g l) (sym is) (record {
+      taken = so.taken ++ j ∷ [];
+      holds = holds_more old now new so.taken j so.holds takes;
+      waited = All-push (λ (j : CloseJob). c j.due) so.taken j so.waited come;
+      closed = one_more rs r so.taken j so.closed call;
+      does = does_both net out h None e f g rs (r ∷ []) rs (r ∷ []) [] [] so.does did;
+    })
+
+pub closes_end : (net : Network) (out : Output) (h : Notice → Type 0) (c : ℕ → Type 0) (limit : ℕ) (old now new : Option (Given CloseJob)) (e f : Effects) (rs : List Receipt)
+    → Closed net out h c old now e f rs → Takes now new End → ClosesAll net out h c limit old new e f rs None
+closes_end net out h c limit old now new e f rs so takes = record {
+  closes = record {
+    taken = so.taken;
+    gave = gave_end (length rs ≡ limit) old now new so.taken so.holds takes;
+    waited = so.waited;
+    closed = so.closed;
+  };
+  does = so.does;
 }
 
-pub closes_unsent : (c : ℕ → Type 0) (limit : ℕ) (old now : Option (Given CloseJob)) (rs : List Receipt) → Closed c old now rs → Closes c limit old now rs (Some SinkFailed)
-closes_unsent c limit old now rs so = record { taken = so.taken; gave = so.holds; waited = so.waited; closed = so.closed }
+pub closes_full : (net : Network) (out : Output) (h : Notice → Type 0) (c : ℕ → Type 0) (limit : ℕ) (old now : Option (Given CloseJob)) (e f : Effects) (rs : List Receipt)
+    → Closed net out h c old now e f rs → length rs ≡ limit → ClosesAll net out h c limit old now e f rs None
+closes_full net out h c limit old now e f rs so full = record {
+  closes = record {
+    taken = so.taken;
+    gave = gave_full (length rs ≡ limit) old now so.taken so.holds full;
+    waited = so.waited;
+    closed = so.closed;
+  };
+  does = so.does;
+}
+
+pub closes_broken : (net : Network) (out : Output) (h : Notice → Type 0) (c : ℕ → Type 0) (limit : ℕ) (old now new : Option (Given CloseJob)) (e f : Effects) (rs : List Receipt)
+    → Closed net out h c old now e f rs → Takes now new Failed → ClosesAll net out h c limit old new e f rs (Some SourceFailed)
+closes_broken net out h c limit old now new e f rs so takes = record {
+  closes = record {
+    taken = so.taken;
+    gave = gave_broken (length rs ≡ limit) old now new so.taken so.holds takes;
+    waited = so.waited;
+    closed = so.closed;
+  };
+  does = does_with net out h (Some SourceFailed) e f rs rs [] so.does;
+}
+
+-- nothing was done for want of memory
+pub closes_before : (c : ℕ → Type 0) (limit : ℕ) (old : Option (Given CloseJob)) → Closes c limit old old [] (Some NoMemory)
+closes_before c limit old = record { taken = []; gave = holds_none old; waited = All-nil (λ (j : CloseJob). c j.due); closed = inl refl }
+
+-- the last job's closing was refused memory, or what goes out with it could not be written
+pub closes_fault : (net : Network) (out : Output) (h : Notice → Type 0) (c : ℕ → Type 0) (limit : ℕ) (old now new : Option (Given CloseJob)) (e f g : Effects) (rs rs' : List Receipt) (j : CloseJob)
+    (fault : Option WorkerFault) → fault ≢ None → fault ≢ Some SourceFailed
+    → Closed net out h c old now e f rs → Takes now new (Job j) → c j.due → ClosesOne net out h j fault f g rs rs' → ClosesAll net out h c limit old new e g rs' fault
+closes_fault net out h c limit old now new e f g rs rs' j None some other so takes come one = absurd (some refl)
+closes_fault net out h c limit old now new e f g rs rs' j (Some SourceFailed) some other so takes come one = absurd (other refl)
+closes_fault net out h c limit old now new e f g rs rs' j (Some NoMemory) some other so takes come one =
+    let (same, still) = one in
+    subst (λ l. ClosesAll net out h c limit old new e g l (Some NoMemory)) (sym same)
+    (subst (λ x. ClosesAll net out h c limit old new e x rs (Some NoMemory)) (sym still) (record {
+      closes = record {
+        taken = so.taken ++ j ∷ [];
+        gave = holds_more old now new so.taken j so.holds takes;
+        waited = All-push (λ (j : CloseJob). c j.due) so.taken j so.waited come;
+        closed = inr (j, map-append closing so.taken (j ∷ []) ∙ ap (λ l. l ++ closing j ∷ []) (sym so.closed));
+      };
+      does = does_with net out h (Some NoMemory) e f rs rs [] so.does;
+    }))
+closes_fault net out h c limit old now new e f g rs rs' j (Some SinkFailed) some other so takes come one =
+    let (r, is, call, did) = one in
+    subst (λ l. ClosesAll net out h c limit old new e g l (Some SinkFailed)) (sym is) (record {
+      closes = record {
+        taken = so.taken ++ j ∷ [];
+        gave = holds_more old now new so.taken j so.holds takes;
+        waited = All-push (λ (j : CloseJob). c j.due) so.taken j so.waited come;
+        closed = one_more rs r so.taken j so.closed call;
+      };
+      does = does_both net out h (Some SinkFailed) e f g rs (r ∷ []) rs (r ∷ []) [] [] so.does did;
+    })

@@ -2,6 +2,7 @@ pub mod Job
 pub mod Lines
 pub mod Closing
 pub mod Effects
+pub mod Closed
 pub mod Asking
 pub mod Answering
 pub mod Serving

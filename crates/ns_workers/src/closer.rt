@@ -1,8 +1,10 @@
 //! Closes windows as they become due.
-ghost use Rattle.std.specs.Prelude.{◌≡◌, ◌≢◌, Some, false, true, option_to_list, All, OnOk, OnErr};
+ghost use Rattle.std.specs.Prelude.{◌≡◌, ◌≢◌, ◌+◌, ◌<◌, ◌≤◌, [], None, Some, false, true, option_to_list, vec_len, vec_capacity, All, OnOk, OnErr};
 ghost use Rattle.ns_server.specs.Receipts.{RisesAt};
 ghost use Rattle.ns_workers.specs.Closing.{Closes, AreAnswered, HasAnswer, closing};
+ghost use Rattle.ns_workers.specs.Closed.{ClosesOne, ClosesAll};
 ghost use Rattle.ns_workers.specs.Counts.{RisesByReceipts};
+ghost use Rattle.ns_workers.specs.Effects.{effects};
 ghost use Rattle.ns_outside.specs.Grown.{Grows};
 ghost use Rattle.ns_workers.specs.Lines.{AppendsLine, AppendsLineFront, AppendsLines, AppendsLinesFront, downlinks_of};
 ghost use Rattle.ns_outside.specs.Notice.{call_replied};
@@ -66,6 +68,89 @@ pub(crate) fn hand_out<B: Naming, R, G, D: Downlinks<R>, M: Monitor<R>, T: Timer
     write_uplink(shared.rt, shared.output, timer, due, sink, &receipt.uplink)
 }
 
+// Closes the window of a job once it is due, and hands out what comes of that. The receipt is made in its place behind the others;
+// where the closing was refused memory it is taken away again. Tells the fault where there was one.
+fn close_next<B: Naming, R: Wait, G: Gate<R>, D: Downlinks<R>, M: Monitor<R>, T: Timer<R>, W: Sink>(
+    shared: &Shared<'_, B, R, G, M>,
+    pass: &mut Pass<B>,
+    timer: &T,
+    down: &mut D,
+    sink: &mut W,
+    receipts: &mut Vec<Receipt>,
+    job: CloseJob,
+) -> Option<WorkerFault>
+    requires sound { W.has_failed sink.old ≡ false }
+    requires room { vec_len receipts.old < vec_capacity receipts.old }
+    ensures waited { T.has_come timer.now job.due }
+    ensures closes { let before = effects pass.old None (D.taken down.old) (W.taken sink.old) in
+        let after = effects pass.new None (D.taken down.new) (W.taken sink.new) in
+        ClosesOne B.roster shared.now.output (M.has_heard shared.now.monitor.now) job result before after receipts.old.items receipts.new.items }
+    ensures count { result ≡ None → vec_len receipts.new ≡ vec_len receipts.old + 1 }
+    ensures room { vec_capacity receipts.new ≡ vec_capacity receipts.old }
+    ensures sound { result ≢ Some WorkerFault.SinkFailed → W.has_failed sink.new ≡ false }
+    ensures failed { result ≡ Some WorkerFault.SinkFailed → W.has_failed sink.new ≡ true }
+    ensures source { result ≢ Some WorkerFault.SourceFailed }
+{
+    let place = receipts.len();
+    receipts.push_reserved(Receipt::empty());
+    let receipt = &mut receipts[place];
+    let Ok(()) = close_due(shared, pass, timer, job, receipt) else {
+        receipts.pop();
+        return Some(WorkerFault::NoMemory);
+    };
+    match hand_out(shared, timer, job.due, down, sink, receipt) {
+        Ok(()) => None,
+        Err(_) => Some(WorkerFault::SinkFailed),
+    }
+}
+
+// Closes the windows of jobs, and puts the receipts into a list that has room for as many as there may be. Tells the fault where there
+// was one.
+#[tactic(auto, using(crate::proofs::Closings::closed_none, crate::proofs::Closings::closed_more, crate::proofs::Closings::closes_end, crate::proofs::Closings::closes_full, crate::proofs::Closings::closes_broken, crate::proofs::Closings::closes_fault,))]
+fn close_all<
+    B: Naming,
+    R: Wait,
+    G: Gate<R>,
+    D: Downlinks<R>,
+    M: Monitor<R>,
+    T: Timer<R>,
+    J: JobSource<R, CloseJob>,
+    W: Sink,
+>(
+    shared: &Shared<'_, B, R, G, M>,
+    pass: &mut Pass<B>,
+    timer: &T,
+    jobs: &mut J,
+    down: &mut D,
+    sink: &mut W,
+    receipts: &mut Vec<Receipt>,
+    limit: usize,
+) -> Option<WorkerFault>
+    requires sound { W.has_failed sink.old ≡ false }
+    requires none { receipts.old.items ≡ [] }
+    requires room { limit ≤ vec_capacity receipts.old }
+    ensures closes { let before = effects pass.old None (D.taken down.old) (W.taken sink.old) in
+        let after = effects pass.new None (D.taken down.new) (W.taken sink.new) in
+        ClosesAll B.roster shared.now.output (M.has_heard shared.now.monitor.now) (T.has_come timer.now) limit
+        (J.given jobs.old) (J.given jobs.new) before after receipts.new.items result }
+    ensures same { J.all jobs.new ≡ J.all jobs.old }
+    ensures sound { result ≢ Some WorkerFault.SinkFailed → W.has_failed sink.new ≡ false }
+    ensures failed { result ≡ Some WorkerFault.SinkFailed → W.has_failed sink.new ≡ true }
+{
+    while receipts.len() < limit {
+        let job = match jobs.take(shared.rt) {
+            Next::Job(job) => job,
+            Next::End => return None,
+            Next::Failed => return Some(WorkerFault::SourceFailed),
+        };
+        let fault = close_next(shared, pass, timer, down, sink, receipts, job);
+        if fault.is_some() {
+            return fault;
+        }
+    }
+    None
+}
+
 /// Closes the windows of at most `limit` jobs, each as it becomes due, sends what goes down, and writes the line of each first window
 /// that was open, with a line feed. Room for the receipts is taken first. Each receipt tells the plain server's answer after a history of its
 /// shard.
@@ -73,7 +158,7 @@ pub(crate) fn hand_out<B: Naming, R, G, D: Downlinks<R>, M: Monitor<R>, T: Timer
 /// With no fault and fewer receipts than `limit` the source has ended. K1 where a growth was refused: then nothing was done with the
 /// job taken last, whose window was not open (no clause). K2 where the source failed. K3 where the sink failed: then it has a beginning of the
 /// lines.
-#[tactic(auto, using(crate::proofs::Counting::rises_none, crate::proofs::Counting::rises_more, crate::proofs::Closings::closed_none, crate::proofs::Closings::closed_more, crate::proofs::Closings::closes_end, crate::proofs::Closings::closes_full, crate::proofs::Closings::closes_broken, crate::proofs::Closings::closes_before, crate::proofs::Closings::closes_refused, crate::proofs::Closings::closes_unsent, crate::proofs::Doings::answered_none, crate::proofs::Doings::grows_none, crate::proofs::Doings::downlinks_more, crate::proofs::Doings::lines_none, crate::proofs::Doings::lines_more, crate::proofs::Doings::lines_front, crate::proofs::Doings::lines_whole,))]
+#[tactic(auto, using(crate::proofs::Closings::closes_before, crate::proofs::Counting::rises_none, crate::proofs::Doings::answered_none, crate::proofs::Doings::grows_none, crate::proofs::Doings::lines_none, crate::proofs::Doings::lines_whole,))]
 pub fn run_closer<
     B: Naming,
     R: Wait,
@@ -112,40 +197,15 @@ pub fn run_closer<
             fault: Some(WorkerFault::NoMemory),
         };
     };
-    while receipts.len() < limit as usize {
-        let job = match jobs.take(shared.rt) {
-            Next::Job(job) => job,
-            Next::End => {
-                return Ended {
-                    receipts,
-                    fault: None,
-                };
-            }
-            Next::Failed => {
-                return Ended {
-                    receipts,
-                    fault: Some(WorkerFault::SourceFailed),
-                };
-            }
-        };
-        let mut receipt = Receipt::empty();
-        let Ok(()) = close_due(shared, pass, timer, job, &mut receipt) else {
-            return Ended {
-                receipts,
-                fault: Some(WorkerFault::NoMemory),
-            };
-        };
-        let handed = hand_out(shared, timer, job.due, down, sink, &receipt);
-        receipts.push_reserved(receipt);
-        if handed.is_err() {
-            return Ended {
-                receipts,
-                fault: Some(WorkerFault::SinkFailed),
-            };
-        }
-    }
-    Ended {
-        receipts,
-        fault: None,
-    }
+    let fault = close_all(
+        shared,
+        pass,
+        timer,
+        jobs,
+        down,
+        sink,
+        &mut receipts,
+        limit as usize,
+    );
+    Ended { receipts, fault }
 }
