@@ -1,26 +1,39 @@
-//! A worker of a server as its tests call it. Whoever is generic over `Caller` has no type of the server in it, and is cheap to prove.
+//! A worker of a server as its tests call it, and what a server leaves. Whoever is generic over `Caller` or `Ended` has no type of the
+//! server in it, and is cheap to prove.
 
-use crate::work::Told;
-use ns_calls::{Call, Reply};
+ghost use Rattle.std.specs.Prelude.{◌<◌};
+
+use crate::gate_tests::{Visited, is_past};
+use crate::work::make;
+use ns_calls::{Call, Entry, Reply};
 use ns_outside::{Open, Receipt};
-use ns_server::{Naming, Pass, Server};
+use ns_server::{Naming, Pass, Server, Settled};
 use ns_shard::{Dropped, TrimFault};
 use std::alloc::Global;
+use std::rt::Clock;
 use std::sync::Wait;
+use std::sync::atomic::AtomicU64;
 
 /// Makes calls, and trims.
 pub trait Caller {
     /// The receipt of a call, where memory was not refused.
     fn call(&mut self, call: Call) -> Option<Receipt>;
 
-    /// The reply to a call that is told at the gate.
-    fn told(&mut self, call: Call, gate: &Told) -> Option<Reply>;
+    /// The receipt of a call that visits a gate, where memory was not refused.
+    fn visit(&mut self, call: Call, gate: Visited<'_>) -> Option<Receipt>;
 
-    /// How many entries of shard 13 it has made.
-    fn made(&self) -> u64;
+    /// Makes a call, and keeps its receipt, where there is memory and the gate was told of it.
+    fn keep(&mut self, call: Call, receipts: &mut Vec<Receipt>) -> Option<()>;
+
+    /// How many entries of a shard it has made.
+    fn made(&self, shard: u8) -> u64
+        requires { shard < 16 };
 
     /// Trims a shard.
     fn trim(&mut self, shard: u8) -> Result<Dropped, TrimFault>;
+
+    /// Waits until a number is another than this one, for ten seconds at most. Whether it is.
+    fn is_past(&self, number: &AtomicU64, first: u64) -> bool;
 }
 
 /// A worker with its pass.
@@ -32,18 +45,21 @@ pub struct Worker<'a, B: Naming, R> {
     pub pass: &'a mut Pass<B>,
 }
 
-impl<'a, B: Naming, R: Wait> Caller for Worker<'a, B, R> {
+impl<'a, B: Naming, R: Wait + Clock> Caller for Worker<'a, B, R> {
     fn call(&mut self, call: Call) -> Option<Receipt> {
         self.server.call(self.rt, self.pass, call, &Open).ok()
     }
 
-    fn told(&mut self, call: Call, gate: &Told) -> Option<Reply> {
-        let receipt = self.server.call(self.rt, self.pass, call, gate).ok()?;
-        Some(receipt.entry.reply)
+    fn visit(&mut self, call: Call, gate: Visited<'_>) -> Option<Receipt> {
+        self.server.call(self.rt, self.pass, call, &gate).ok()
     }
 
-    fn made(&self) -> u64 {
-        self.pass.made(13)
+    fn keep(&mut self, call: Call, receipts: &mut Vec<Receipt>) -> Option<()> {
+        make(self.rt, self.server, self.pass, call, receipts).ok()
+    }
+
+    fn made(&self, shard: u8) -> u64 {
+        self.pass.made(shard)
     }
 
     fn trim(&mut self, shard: u8) -> Result<Dropped, TrimFault> {
@@ -53,9 +69,63 @@ impl<'a, B: Naming, R: Wait> Caller for Worker<'a, B, R> {
             Err(TrimFault::Full)
         }
     }
+
+    fn is_past(&self, number: &AtomicU64, first: u64) -> bool {
+        is_past(self.rt, number, first)
+    }
 }
 
 /// The reply to a call, where memory was not refused.
 pub fn reply_to<C: Caller>(caller: &mut C, call: Call) -> Option<Reply> {
     Some(caller.call(call)?.entry.reply)
+}
+
+/// The histories of a server that has ended.
+pub trait Ended {
+    /// The entries of a shard that its last trim kept, and those made since.
+    fn history(&self, shard: u8) -> &[Entry]
+        requires { shard < 16 };
+
+    /// How many entries of a shard were made before its last trim.
+    fn mark(&self, shard: u8) -> u64
+        requires { shard < 16 };
+
+    /// How many entries of a shard its trims dropped.
+    fn dropped(&self, shard: u8) -> u64
+        requires { shard < 16 };
+
+    /// How many entries were made in all shards.
+    fn total(&self) -> u128;
+
+    /// Compares receipts with the histories.
+    fn check(&self, receipts: &[Receipt]) -> Result<(), usize>;
+
+    /// Closes the open window that was opened first.
+    fn drain_next(&mut self) -> Option<Receipt>;
+}
+
+impl<B: Naming> Ended for Settled<B> {
+    fn history(&self, shard: u8) -> &[Entry] {
+        self.history(shard)
+    }
+
+    fn mark(&self, shard: u8) -> u64 {
+        self.mark(shard)
+    }
+
+    fn dropped(&self, shard: u8) -> u64 {
+        self.dropped(shard)
+    }
+
+    fn total(&self) -> u128 {
+        self.total()
+    }
+
+    fn check(&self, receipts: &[Receipt]) -> Result<(), usize> {
+        self.check(receipts)
+    }
+
+    fn drain_next(&mut self) -> Option<Receipt> {
+        self.drain_next()
+    }
 }

@@ -1,13 +1,12 @@
 //! Gates: a call of one shard held while all other shards answer, and two calls of one shard in turn.
 
+use crate::caller::Caller;
 use crate::served::Work;
 use crate::traffic;
 use crate::trial::{Trial, with_workers};
-use ns_outside::{Gate, Open, Receipt};
-use ns_server::{Naming, Pass, Server};
-use std::alloc::AllocError;
+use crate::work::Told;
+use ns_outside::{Gate, Receipt};
 use std::rt::Clock;
-use std::sync::Wait;
 use std::sync::atomic::{AtomicU64, Ordering};
 use std::test::*;
 use std::thread;
@@ -29,8 +28,8 @@ fn one_shard_in_turn(rt: HostRuntime) -> Result<(), Fail> {
     with_workers(&rt, rt.alloc(), 16, 2, Trial::InThreads(work))
 }
 
-// Waits until a number is another than this one, for ten seconds at most. Whether it is.
-fn is_past<R: Clock>(rt: &R, number: &AtomicU64, first: u64) -> bool {
+/// Waits until a number is another than this one, for ten seconds at most. Whether it is.
+pub fn is_past<R: Clock>(rt: &R, number: &AtomicU64, first: u64) -> bool {
     for _ in 0..10_000u32 {
         if number.load(Ordering::SeqCst) != first {
             return true;
@@ -61,22 +60,17 @@ impl Until {
 
     /// What one of two workers does: the first one's call on shard 0 is held until the other's, one on each of the fifteen others, are
     /// answered.
-    pub fn work<B: Naming, R: Wait + Clock>(
-        &self,
-        rt: &R,
-        server: &Server<B>,
-        pass: &mut Pass<B>,
-        receipts: &mut Vec<Receipt>,
-    ) -> Result<(), AllocError> {
+    pub fn work<C: Caller>(&self, caller: &mut C, receipts: &mut Vec<Receipt>) -> Option<()> {
         if self.workers.fetch_add(1, Ordering::SeqCst) == 0 {
-            return one_call(rt, server, pass, 0, self, receipts);
+            let held = caller.visit(traffic::join(0, 1), Visited::Until(self));
+            return put(held, receipts);
         }
-        let _ = is_past(rt, &self.number, 77);
+        let _ = caller.is_past(&self.number, 77);
         for device in 1..16u32 {
-            one_call(rt, server, pass, device, &Open, receipts)?;
+            put(caller.call(traffic::join(device, 1)), receipts)?;
         }
         self.flag.store(1, Ordering::SeqCst);
-        Ok(())
+        Some(())
     }
 
     /// Whether the flag came in time, for the first entry of shard 0; and each of sixteen receipts is of the first entry of its shard.
@@ -123,23 +117,16 @@ impl Turns {
 
     /// What one of two workers does: each makes a call on shard 0, the second once the first visits the gate. Its receipt is kept where it
     /// is that of the second entry of the shard, or of the third.
-    pub fn work<B: Naming, R: Wait + Clock>(
-        &self,
-        rt: &R,
-        server: &Server<B>,
-        pass: &mut Pass<B>,
-        receipts: &mut Vec<Receipt>,
-    ) -> Result<(), AllocError> {
+    pub fn work<C: Caller>(&self, caller: &mut C, receipts: &mut Vec<Receipt>) -> Option<()> {
         let place = self.workers.fetch_add(1, Ordering::SeqCst);
         if place > 0 {
-            let _ = is_past(rt, &self.visits, 0);
+            let _ = caller.is_past(&self.visits, 0);
         }
-        one_call(rt, server, pass, 0, self, receipts)?;
-        let number = receipts.last().map_or(0, |receipt| receipt.entry.number);
-        if number != place.wrapping_add(1) {
-            receipts.truncate(0);
+        let receipt = caller.visit(traffic::join(0, 1), Visited::Turns(self))?;
+        if receipt.entry.number == place.wrapping_add(1) {
+            receipts.push(receipt).ok()?;
         }
-        Ok(())
+        Some(())
     }
 
     /// Whether no call came too early, there were two visits, by the second entry and the third, and each call has its receipt.
@@ -187,16 +174,41 @@ impl<R: Clock> Gate<R> for Turns {
     }
 }
 
-// Makes a device's Join-Request, and keeps its receipt.
-fn one_call<B: Naming, R: Wait, G: Gate<R>>(
-    rt: &R,
-    server: &Server<B>,
-    pass: &mut Pass<B>,
-    device: u32,
-    gate: &G,
-    receipts: &mut Vec<Receipt>,
-) -> Result<(), AllocError> {
-    let receipt = server.call(rt, pass, traffic::join(device, 1), gate)?;
-    receipts.push(receipt)?;
-    Ok(())
+// Keeps a receipt.
+fn put(receipt: Option<Receipt>, receipts: &mut Vec<Receipt>) -> Option<()> {
+    receipts.push(receipt?).ok()
+}
+
+/// The gate that a call visits.
+#[derive(Clone, Copy)]
+pub enum Visited<'a> {
+    Told(&'a Told),
+    Until(&'a Until),
+    Turns(&'a Turns),
+}
+
+impl<R: Clock> Gate<R> for Visited<'_> {
+    fn before(&self, rt: &R, shard: u8) {
+        match self {
+            Visited::Told(gate) => gate.before(rt, shard),
+            Visited::Until(gate) => gate.before(rt, shard),
+            Visited::Turns(gate) => gate.before(rt, shard),
+        }
+    }
+
+    fn visit(&self, rt: &R, shard: u8, number: u64) {
+        match self {
+            Visited::Told(gate) => gate.visit(rt, shard, number),
+            Visited::Until(gate) => gate.visit(rt, shard, number),
+            Visited::Turns(gate) => gate.visit(rt, shard, number),
+        }
+    }
+
+    fn made(&self, rt: &R, receipt: &Receipt) {
+        match self {
+            Visited::Told(gate) => gate.made(rt, receipt),
+            Visited::Until(gate) => gate.made(rt, receipt),
+            Visited::Turns(gate) => gate.made(rt, receipt),
+        }
+    }
 }

@@ -4,6 +4,7 @@
 //! growth refused alone.
 
 use crate::caller::{Caller, reply_to};
+use crate::gate_tests::Visited;
 use crate::series::{DEVICE, Series, done_of};
 use crate::traffic::{closing, join, join_reply, uplink};
 use crate::trial::{Trial, is_made, on_server, shared_roster};
@@ -21,6 +22,11 @@ fn taken(alloc: Global) -> Option<Vec<Vec<u8>>> {
     Some(held)
 }
 
+// The reply to a call that is told at the gate.
+fn told<C: Caller>(caller: &mut C, call: Call, gate: &Told) -> Option<Reply> {
+    Some(caller.visit(call, Visited::Told(gate))?.entry.reply)
+}
+
 // Makes a call until it is answered, with one block of memory more given back before each time. The reply, and whether memory was
 // refused before. None where a refused call was counted, or told at the gate.
 fn until_answered<C: Caller>(
@@ -28,12 +34,12 @@ fn until_answered<C: Caller>(
     call: &Call,
     held: &mut Vec<Vec<u8>>,
 ) -> Option<(Reply, bool)> {
-    let (made, gate) = (caller.made(), Told::new());
+    let (made, gate) = (caller.made(13), Told::new());
     for refusals in 0..BLOCKS {
-        if let Some(reply) = caller.told(*call, &gate) {
+        if let Some(reply) = told(caller, *call, &gate) {
             return Some((reply, refusals > 0));
         }
-        if caller.made() != made || gate.entries() > 0 {
+        if caller.made(13) != made || gate.entries() > 0 {
             return None;
         }
         held.pop()?;

@@ -4,11 +4,10 @@
 //! No contract says that these find memory, so a body that refuses them would be proved. What comes of them follows from the rules of a
 //! trim.
 
-use crate::caller::Caller;
+use crate::caller::{Caller, Ended};
 use crate::series::{Series, WINDOWS, closing_at, done_of};
 use crate::traffic::roster_of;
 use crate::trial::{Trial, is_made, on_server};
-use ns_server::{Naming, Settled};
 use std::sync::Arc;
 use std::test::*;
 
@@ -66,7 +65,7 @@ pub fn many_windows<C: Caller>(caller: &mut C) -> Option<u64> {
 }
 
 /// Closes what is open, the oldest first. Whether the windows come in the order in which they were opened, and half of them are open.
-pub fn is_half_open<B: Naming>(settled: &mut Settled<B>) -> bool {
+pub fn is_half_open<E: Ended>(settled: &mut E) -> bool {
     let mut count = 0u32;
     for window in 0..WINDOWS {
         let Some(receipt) = settled.drain_next() else {

@@ -1,16 +1,16 @@
 //! What the workers of a server do, each in a thread of its own.
 
+use crate::caller::Caller;
 use crate::gate_tests::{Turns, Until};
 use crate::traffic;
-use crate::trial::settled_by;
-use crate::work::{make, parted};
+use crate::trial::{Outcome, Trial, by_last, by_pass};
+use crate::work::parted;
 use ns_calls::Call;
 use ns_outside::Receipt;
-use ns_server::{Naming, Pass, Server, Settled};
+use ns_server::{Naming, Pass, Server};
 use std::alloc::{AllocError, Global};
 use std::rt::Clock;
 use std::sync::Wait;
-use std::test::Fail;
 use std::thread;
 use std::thread::Threads;
 
@@ -50,6 +50,25 @@ impl<'a> Work<'a> {
             _ => None,
         }
     }
+
+    /// What is made before the threads begin: where devices are to have joined, they do so, and where a shard is to have an entry, it gets
+    /// one.
+    pub fn begin<C: Caller>(self, caller: &mut C, receipts: &mut Vec<Receipt>) -> Option<()> {
+        match self {
+            Work::Hear => make_all(caller, Work::Join, receipts),
+            Work::InTurn(_) => caller.keep(traffic::join(0, 1), receipts),
+            _ => Some(()),
+        }
+    }
+
+    /// What one worker does. Where there is no memory, its receipts end there.
+    pub fn make<C: Caller>(self, caller: &mut C, receipts: &mut Vec<Receipt>) -> Option<()> {
+        match self {
+            Work::AtOnce(gate) => gate.work(caller, receipts),
+            Work::InTurn(gate) => gate.work(caller, receipts),
+            _ => make_all(caller, self, receipts),
+        }
+    }
 }
 
 // The call of a number at random.
@@ -64,95 +83,75 @@ fn at_random(random: u32) -> Option<Call> {
     }
 }
 
-/// The histories of a server whose workers have ended, and the receipts of all calls.
-pub fn served<B: Naming + Send + Sync, R: Threads + Wait + Clock + Sync>(
-    rt: &R,
-    alloc: Global,
-    server: Server<B>,
-    passes: Vec<Pass<B>>,
-    work: Work,
-) -> Result<(Settled<B>, Vec<Receipt>), Fail> {
-    let mut receipts = Vec::new(alloc);
-    let passes = worked(rt, alloc, &server, passes, work, &mut receipts)?;
-    Ok((settled_by(server, passes)?, receipts))
-}
-
-// The passes when the workers have ended.
-fn worked<B: Naming + Send + Sync, R: Threads + Wait + Clock + Sync>(
-    rt: &R,
-    alloc: Global,
-    server: &Server<B>,
-    mut passes: Vec<Pass<B>>,
-    work: Work,
-    receipts: &mut Vec<Receipt>,
-) -> Result<Vec<Pass<B>>, AllocError> {
-    if let Some(first) = passes.last_mut() {
-        make_first(rt, server, first, work, receipts)?;
-    }
-    parted(alloc, all_work(rt, alloc, server, passes, work)?, receipts)
-}
-
-// What is made before the threads begin: where devices are to have joined, they do so, and where a shard is to have an entry, it gets one.
-fn make_first<B: Naming, R: Wait>(
-    rt: &R,
-    server: &Server<B>,
-    pass: &mut Pass<B>,
-    work: Work,
-    receipts: &mut Vec<Receipt>,
-) -> Result<(), AllocError> {
-    match work {
-        Work::Hear => make_all(rt, server, pass, Work::Join, receipts),
-        Work::InTurn(_) => make(rt, server, pass, traffic::join(0, 1), receipts),
-        _ => Ok(()),
-    }
-}
-
-// Lends the server to a thread for each pass.
-fn all_work<B: Naming + Send + Sync, R: Threads + Wait + Clock + Sync>(
-    rt: &R,
-    alloc: Global,
-    server: &Server<B>,
-    passes: Vec<Pass<B>>,
-    work: Work,
-) -> Result<Vec<(Pass<B>, Vec<Receipt>)>, AllocError> {
-    thread::map_vec(rt, passes, &|pass| work_one(rt, alloc, server, pass, work))
-}
-
-// What one worker does with its pass. Where there is no memory, its receipts end there.
-fn work_one<B: Naming, R: Wait + Clock>(
-    rt: &R,
-    alloc: Global,
-    server: &Server<B>,
-    pass: Pass<B>,
-    work: Work,
-) -> (Pass<B>, Vec<Receipt>) {
-    let mut pass = pass;
-    let mut receipts = Vec::new(alloc);
-    let _ = match work {
-        Work::AtOnce(gate) => gate.work(rt, server, &mut pass, &mut receipts),
-        Work::InTurn(gate) => gate.work(rt, server, &mut pass, &mut receipts),
-        _ => make_all(rt, server, &mut pass, work, &mut receipts),
-    };
-    (pass, receipts)
-}
-
 // Makes a worker's calls. The numbers at random begin with that of the first entry that the worker makes.
-fn make_all<B: Naming, R: Wait>(
-    rt: &R,
-    server: &Server<B>,
-    pass: &mut Pass<B>,
-    work: Work,
-    receipts: &mut Vec<Receipt>,
-) -> Result<(), AllocError> {
+fn make_all<C: Caller>(caller: &mut C, work: Work, receipts: &mut Vec<Receipt>) -> Option<()> {
     let mut random = 0x2545_f491u32;
     for place in 0..work.calls() {
         random = random.wrapping_mul(1_664_525).wrapping_add(1_013_904_223);
         if let Some(call) = work.call_at(place, random) {
-            make(rt, server, pass, call, receipts)?;
+            caller.keep(call, receipts)?;
         }
         if let Some(last) = receipts.last() {
             random ^= (last.entry.number % 65_536) as u32;
         }
     }
-    Ok(())
+    Some(())
+}
+
+// What all threads share.
+#[derive(Drop)]
+struct Shared<'a, B: Naming, R> {
+    rt: &'a R,
+    alloc: Global,
+    server: &'a Server<B>,
+    work: Work<'a>,
+}
+
+impl<'a, B: Naming, R: Wait + Clock> Shared<'a, B, R> {
+    // What one worker does with its pass.
+    fn work_one(&self, pass: Pass<B>) -> (Pass<B>, Vec<Receipt>) {
+        let mut pass = pass;
+        let mut outcome = Outcome::new(self.alloc);
+        let trial = Trial::InThreads(self.work);
+        by_pass(
+            self.rt,
+            self.alloc,
+            self.server,
+            &mut pass,
+            trial,
+            &mut outcome,
+        );
+        (pass, outcome.receipts)
+    }
+}
+
+/// Lets a thread with each pass do the work. The passes when all have ended, and the receipts of all calls in the outcome.
+pub fn served<B: Naming + Send + Sync, R: Threads + Wait + Clock + Sync>(
+    rt: &R,
+    alloc: Global,
+    server: &Server<B>,
+    mut passes: Vec<Pass<B>>,
+    work: Work,
+    outcome: &mut Outcome,
+) -> Result<Vec<Pass<B>>, AllocError> {
+    by_last(rt, alloc, server, &mut passes, Trial::Begun(work), outcome);
+    if outcome.made.is_none() {
+        return Err(AllocError);
+    }
+    let shared = Shared {
+        rt,
+        alloc,
+        server,
+        work,
+    };
+    parted(alloc, all_work(rt, &shared, passes)?, &mut outcome.receipts)
+}
+
+// Lends what is shared to a thread for each pass.
+fn all_work<B: Naming + Send + Sync, R: Threads + Wait + Clock + Sync>(
+    rt: &R,
+    shared: &Shared<'_, B, R>,
+    passes: Vec<Pass<B>>,
+) -> Result<Vec<(Pass<B>, Vec<Receipt>)>, AllocError> {
+    thread::map_vec(rt, passes, &|pass| shared.work_one(pass))
 }

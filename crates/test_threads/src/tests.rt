@@ -1,15 +1,14 @@
 //! Workers in threads of their own: their receipts, the sum, the drain, and a pass that is missing.
 
-use crate::caller::{Caller, Worker};
+use crate::caller::{Caller, Ended};
 use crate::served::Work;
 use crate::traffic;
 use crate::trial::{Trial, settled_by, with_workers};
 use ns_calls::Reply;
 use ns_outside::Receipt;
 use ns_server::{Naming, Pass, Server, SettleFault, Settled};
-use std::alloc::{AllocError, Global};
+use std::alloc::AllocError;
 use std::mem;
-use std::sync::Wait;
 use std::test::*;
 
 /// 100 devices join, and each of four workers hears one frame of each.
@@ -31,8 +30,8 @@ fn random_calls(rt: HostRuntime) -> Result<(), Fail> {
 }
 
 /// Whether what workers have done is as it is to be.
-pub fn are_right<B: Naming>(
-    settled: &mut Settled<B>,
+pub fn are_right<E: Ended>(
+    settled: &mut E,
     receipts: &mut Vec<Receipt>,
     work: Work,
 ) -> Option<bool> {
@@ -46,7 +45,7 @@ pub fn are_right<B: Naming>(
 }
 
 // The receipts of a day, also with one that is wrong.
-fn day<B: Naming>(settled: &mut Settled<B>, receipts: &mut Vec<Receipt>) -> Option<bool> {
+fn day<E: Ended>(settled: &mut E, receipts: &mut Vec<Receipt>) -> Option<bool> {
     let is_right = (settled.total(), receipts.len()) == (600, 600)
         && are_counted(receipts.as_slice())
         && changed_is_found(settled, receipts)?
@@ -82,11 +81,7 @@ fn bare(receipt: &Receipt) -> Receipt {
 }
 
 // Whether a check of receipts finds this.
-fn is_found<B: Naming>(
-    settled: &Settled<B>,
-    receipts: &[Receipt],
-    want: Result<(), usize>,
-) -> bool {
+fn is_found<E: Ended>(settled: &E, receipts: &[Receipt], want: Result<(), usize>) -> bool {
     settled.check(receipts) == want
 }
 
@@ -96,7 +91,7 @@ fn change(receipts: &mut Vec<Receipt>, reply: Reply) -> Option<Reply> {
 }
 
 // Whether all receipts pass, and one whose reply is changed is found at its place.
-fn changed_is_found<B: Naming>(settled: &Settled<B>, receipts: &mut Vec<Receipt>) -> Option<bool> {
+fn changed_is_found<E: Ended>(settled: &E, receipts: &mut Vec<Receipt>) -> Option<bool> {
     let is_right = is_found(settled, receipts.as_slice(), Ok(()));
     let reply = change(receipts, Reply::JoinBusy)?;
     let is_wrong = is_found(settled, receipts.as_slice(), Err(250));
@@ -105,7 +100,7 @@ fn changed_is_found<B: Naming>(settled: &Settled<B>, receipts: &mut Vec<Receipt>
 }
 
 // Whether a receipt put again is found at the end.
-fn again_is_found<B: Naming>(settled: &Settled<B>, receipts: &mut Vec<Receipt>) -> Option<bool> {
+fn again_is_found<E: Ended>(settled: &E, receipts: &mut Vec<Receipt>) -> Option<bool> {
     let again = bare(receipts.get(250)?);
     receipts.push(again).ok()?;
     let is_wrong = is_found(settled, receipts.as_slice(), Err(600));
@@ -114,7 +109,7 @@ fn again_is_found<B: Naming>(settled: &Settled<B>, receipts: &mut Vec<Receipt>) 
 }
 
 // Closes what is open, and all receipts pass; one that has lost its downlink is found.
-fn drained_pass<B: Naming>(settled: &mut Settled<B>, receipts: &mut Vec<Receipt>) -> Option<bool> {
+fn drained_pass<E: Ended>(settled: &mut E, receipts: &mut Vec<Receipt>) -> Option<bool> {
     drained(settled, receipts).ok()?;
     let is_right = (settled.total(), receipts.len()) == (700, 700)
         && is_found(settled, receipts.as_slice(), Ok(()));
@@ -123,10 +118,7 @@ fn drained_pass<B: Naming>(settled: &mut Settled<B>, receipts: &mut Vec<Receipt>
 }
 
 // Closes what is open, with a receipt of each.
-fn drained<B: Naming>(
-    settled: &mut Settled<B>,
-    receipts: &mut Vec<Receipt>,
-) -> Result<(), AllocError> {
+fn drained<E: Ended>(settled: &mut E, receipts: &mut Vec<Receipt>) -> Result<(), AllocError> {
     for _ in 0..10_000u32 {
         let Some(receipt) = settled.drain_next() else {
             break;
@@ -137,8 +129,8 @@ fn drained<B: Naming>(
 }
 
 // There are so many receipts of calls at random, and all pass, before the drain and after it.
-fn random_run<B: Naming>(
-    settled: &mut Settled<B>,
+fn random_run<E: Ended>(
+    settled: &mut E,
     receipts: &mut Vec<Receipt>,
     calls: usize,
 ) -> Option<bool> {
@@ -154,59 +146,34 @@ fn a_pass_is_missing(rt: HostRuntime) -> Result<(), Fail> {
     with_workers(&rt, rt.alloc(), 1, 2, Trial::HeldBack)
 }
 
-/// Whether a server that lacks a pass gives all back, and is settled with it.
-pub fn held_back<B: Naming, R: Wait>(
-    rt: &R,
-    alloc: Global,
-    server: Server<B>,
-    mut passes: Vec<Pass<B>>,
-) -> Result<bool, Fail> {
-    match passes.pop() {
-        Some(mut one) => {
-            let is_made = makes_one(rt, alloc, &server, &mut one);
-            Ok(is_made && has_one(&lacking(server, passes, one)?))
-        }
-        None => Ok(false),
-    }
+/// Makes one call. How many entries were made, where the pass counts it.
+pub fn makes_one<C: Caller>(caller: &mut C) -> Option<u64> {
+    let is_made = caller.call(traffic::join(0, 1)).is_some();
+    (is_made && caller.made(0) == 1).then_some(1)
 }
 
-// Settles a server, which fails without this pass, and then with it.
-fn lacking<B: Naming>(
+/// Settles a server, which fails without one of its passes and gives all back, and then with it.
+pub fn held_back<B: Naming>(
     server: Server<B>,
-    passes: Vec<Pass<B>>,
-    one: Pass<B>,
+    mut passes: Vec<Pass<B>>,
 ) -> Result<Settled<B>, Fail> {
+    let one = passes.pop();
     match server.settle(passes) {
         Ok(_) => Err(Fail::from("a pass was missing")),
         Err(fault) => given_back(fault, one),
     }
 }
 
-// Makes one call by a pass.
-fn makes_one<B: Naming, R: Wait>(
-    rt: &R,
-    alloc: Global,
-    server: &Server<B>,
-    pass: &mut Pass<B>,
-) -> bool {
-    let mut worker = Worker {
-        rt,
-        alloc,
-        server,
-        pass,
-    };
-    let is_made = worker.call(traffic::join(0, 1)).is_some();
-    is_made && pass.made(0) == 1
-}
-
 // Gives back the pass that was missing, and settles the server.
-fn given_back<B: Naming>(fault: SettleFault<B>, one: Pass<B>) -> Result<Settled<B>, Fail> {
+fn given_back<B: Naming>(fault: SettleFault<B>, one: Option<Pass<B>>) -> Result<Settled<B>, Fail> {
     let SettleFault { server, mut passes } = fault;
-    let _ = passes.push(one).is_ok();
+    if let Some(one) = one {
+        let _ = passes.push(one).is_ok();
+    }
     settled_by(server, passes)
 }
 
-// Whether one entry was made, in shard 0.
-fn has_one<B: Naming>(settled: &Settled<B>) -> bool {
+/// Whether one entry was made, in shard 0.
+pub fn has_one<E: Ended>(settled: &E) -> bool {
     settled.total() == 1 && settled.history(0).len() == 1 && settled.history(1).len() == 0
 }

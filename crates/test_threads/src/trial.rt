@@ -5,15 +5,16 @@ ghost use Rattle.std.specs.Arc.{arc_value};
 ghost use Rattle.ns_shard.specs.State.{no_entries};
 ghost use Rattle.ns_tally.specs.Tally.{AreNamed};
 
-use crate::caller::{Caller, Worker};
+use crate::caller::{Caller, Ended, Worker};
 use crate::growth_tests::{calls_refused, closed_without, trim_refused};
 use crate::large_tests::{is_half_open, long_trims, many_windows};
 use crate::long_tests::long_run;
 use crate::served::{Work, served};
-use crate::tests::{are_right, held_back};
+use crate::tests::{are_right, has_one, held_back, makes_one};
 use crate::traffic;
 use crate::trim_tests::Run;
 use ns_roster::Roster;
+use ns_outside::Receipt;
 use ns_server::{Naming, Pass, Server, Settled};
 use ns_tally::Blanks;
 use std::alloc::{AllocError, Global};
@@ -29,6 +30,8 @@ use std::thread::Threads;
 pub enum Trial<'a> {
     // Each worker does this work in a thread of its own.
     InThreads(Work<'a>),
+    // What is made before such threads begin.
+    Begun(Work<'a>),
     HeldBack,
     Refused,
     Closings,
@@ -49,7 +52,7 @@ pub struct Left {
 
 impl Left {
     // Whether a server's histories are so.
-    fn is_of<B: Naming>(&self, settled: &Settled<B>) -> bool {
+    fn is_of<E: Ended>(&self, settled: &E) -> bool {
         for shard in 0..16u8 {
             let place = usize::from(shard);
             if settled.dropped(shard) != self.dropped[place]
@@ -62,9 +65,53 @@ impl Left {
     }
 }
 
+/// What comes of a trial, beside what the server is left with: the receipts of workers, of a trial by one worker how many entries were
+/// made, where all is as it is to be, and of a long run what is to be left.
+#[derive(Drop)]
+pub struct Outcome {
+    pub receipts: Vec<Receipt>,
+    pub made: Option<u64>,
+    pub left: Left,
+}
+
+impl Outcome {
+    /// Nothing came yet.
+    pub fn new(alloc: Global) -> Outcome {
+        Outcome {
+            receipts: Vec::new(alloc),
+            made: None,
+            left: Left {
+                dropped: [0; 16],
+                has: [0; 16],
+            },
+        }
+    }
+
+    // Makes what one worker makes of a trial.
+    fn make<C: Caller>(&mut self, alloc: Global, caller: &mut C, trial: Trial) {
+        self.made = match trial {
+            Trial::InThreads(work) => work.make(caller, &mut self.receipts).and(Some(0)),
+            Trial::Begun(work) => work.begin(caller, &mut self.receipts).and(Some(0)),
+            _ => made_by(alloc, caller, trial, &mut self.left),
+        };
+    }
+
+    // Whether a server has made so many entries, and its histories are as the trial is to leave them.
+    fn is_right<E: Ended>(&mut self, settled: &mut E, trial: Trial) -> bool {
+        match trial {
+            Trial::InThreads(work) => are_right(settled, &mut self.receipts, work) == Some(true),
+            _ => {
+                let total = settled.total();
+                self.made.map(u128::from) == Some(total) && is_left(settled, trial, &self.left)
+            }
+        }
+    }
+}
+
 // Makes the trial by one worker. How many entries were made, where all is as it is to be, and of a long run what is to be left.
 fn made_by<C: Caller>(alloc: Global, caller: &mut C, trial: Trial, left: &mut Left) -> Option<u64> {
     match trial {
+        Trial::HeldBack => makes_one(caller),
         Trial::Refused => calls_refused(alloc, caller),
         Trial::Closings => closed_without(alloc, caller),
         Trial::TrimRefused => trim_refused(alloc, caller),
@@ -77,8 +124,9 @@ fn made_by<C: Caller>(alloc: Global, caller: &mut C, trial: Trial, left: &mut Le
 }
 
 // Whether the server's histories are as such a trial is to leave them.
-fn is_left<B: Naming>(settled: &mut Settled<B>, trial: Trial, left: &Left) -> bool {
+fn is_left<E: Ended>(settled: &mut E, trial: Trial, left: &Left) -> bool {
     match trial {
+        Trial::HeldBack => has_one(settled),
         Trial::TrimRefused => (settled.mark(13), settled.dropped(13)) == (14, 1),
         Trial::LongRun => left.is_of(settled),
         Trial::Trimmed(run) => run.is_left(settled),
@@ -88,69 +136,80 @@ fn is_left<B: Naming>(settled: &mut Settled<B>, trial: Trial, left: &Left) -> bo
     }
 }
 
-// Makes the trial by the last of the workers.
-fn by_last<B: Naming, R: Wait>(
+/// Makes what the worker with this pass makes of a trial.
+pub fn by_pass<B: Naming, R: Wait + Clock>(
     rt: &R,
     alloc: Global,
     server: &Server<B>,
-    passes: &mut Vec<Pass<B>>,
+    pass: &mut Pass<B>,
     trial: Trial,
-    left: &mut Left,
-) -> Option<u64> {
-    let pass = passes.last_mut()?;
+    outcome: &mut Outcome,
+) {
     let mut worker = Worker {
         rt,
         alloc,
         server,
         pass,
     };
-    made_by(alloc, &mut worker, trial, left)
+    outcome.make(alloc, &mut worker, trial);
 }
 
-// Whether a server has made so many entries, and its histories are as the trial is to leave them.
-fn has_made<B: Naming>(
-    settled: &mut Settled<B>,
-    trial: Trial,
-    made: Option<u64>,
-    left: &Left,
-) -> bool {
-    let total = settled.total();
-    made.map(u128::from) == Some(total) && is_left(settled, trial, left)
-}
-
-// Makes a trial that one worker makes.
-fn by_one<B: Naming, R: Wait>(
+/// The same by the last of the workers, if there is one.
+pub fn by_last<B: Naming, R: Wait + Clock>(
     rt: &R,
     alloc: Global,
-    server: Server<B>,
-    mut passes: Vec<Pass<B>>,
+    server: &Server<B>,
+    passes: &mut Vec<Pass<B>>,
     trial: Trial,
-) -> Result<bool, Fail> {
-    let mut left = Left {
-        dropped: [0; 16],
-        has: [0; 16],
-    };
-    let made = by_last(rt, alloc, &server, &mut passes, trial, &mut left);
-    let mut settled = settled_by(server, passes)?;
-    Ok(has_made(&mut settled, trial, made, &left))
+    outcome: &mut Outcome,
+) {
+    if let Some(pass) = passes.last_mut() {
+        by_pass(rt, alloc, server, pass, trial, outcome);
+    }
 }
 
-// Makes the trial. Whether all is as it is to be.
-fn made<B: Naming + Send + Sync, R: Threads + Wait + Abort + Clock + Sync>(
+// Makes the trial. The passes when it has ended.
+fn made<B: Naming + Send + Sync, R: Threads + Wait + Clock + Sync>(
+    rt: &R,
+    alloc: Global,
+    server: &Server<B>,
+    mut passes: Vec<Pass<B>>,
+    trial: Trial,
+    outcome: &mut Outcome,
+) -> Result<Vec<Pass<B>>, AllocError> {
+    match trial {
+        Trial::InThreads(work) => served(rt, alloc, server, passes, work, outcome),
+        _ => {
+            by_last(rt, alloc, server, &mut passes, trial, outcome);
+            Ok(passes)
+        }
+    }
+}
+
+// Settles the server of a trial.
+fn settled<B: Naming>(
+    server: Server<B>,
+    passes: Vec<Pass<B>>,
+    trial: Trial,
+) -> Result<Settled<B>, Fail> {
+    match trial {
+        Trial::HeldBack => held_back(server, passes),
+        _ => settled_by(server, passes),
+    }
+}
+
+// Makes the trial, and settles the server. Whether all is as it is to be.
+fn is_right<B: Naming + Send + Sync, R: Threads + Wait + Clock + Sync>(
     rt: &R,
     alloc: Global,
     server: Server<B>,
     passes: Vec<Pass<B>>,
     trial: Trial,
 ) -> Result<bool, Fail> {
-    match trial {
-        Trial::InThreads(work) => {
-            let (mut settled, mut receipts) = served(rt, alloc, server, passes, work)?;
-            Ok(are_right(&mut settled, &mut receipts, work) == Some(true))
-        }
-        Trial::HeldBack => held_back(rt, alloc, server, passes),
-        _ => by_one(rt, alloc, server, passes, trial),
-    }
+    let mut outcome = Outcome::new(alloc);
+    let passes = made(rt, alloc, &server, passes, trial, &mut outcome)?;
+    let mut settled = settled(server, passes, trial)?;
+    Ok(outcome.is_right(&mut settled, trial))
 }
 
 /// A roster of this many devices.
@@ -222,7 +281,7 @@ fn named<B: Naming + Send + Sync, R: Threads + Wait + Abort + Clock + Sync>(
 {
     match Server::<B>::new(alloc, roster, workers, blanks) {
         Ok((server, passes)) => {
-            let is_right = made(rt, alloc, server, passes, trial)?;
+            let is_right = is_right(rt, alloc, server, passes, trial)?;
             assert!(rt; is_right);
             Ok(true)
         }

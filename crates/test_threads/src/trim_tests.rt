@@ -2,13 +2,12 @@
 
 use self::Left::*;
 use self::Step::*;
-use crate::caller::Caller;
+use crate::caller::{Caller, Ended};
 use crate::series::DEVICE;
 use crate::traffic::{join, join_reply, uplink};
 use crate::trial::{Trial, on_server};
 use ns_calls::{Answer, Call, Entry, JoinAccept, JoinAns, Outcome, lines};
 use ns_outside::Receipt;
-use ns_server::{Naming, Settled};
 use ns_types::{DevEui, Key, WindowName};
 use std::alloc::Global;
 use std::test::*;
@@ -340,7 +339,7 @@ impl Run {
     }
 
     /// Whether what is left is what is to be kept, and what was made since.
-    pub fn is_left<B: Naming>(&self, settled: &mut Settled<B>) -> bool {
+    pub fn is_left<E: Ended>(&self, settled: &mut E) -> bool {
         match self.left {
             Numbers(numbers) => {
                 self.has_left(settled, numbers.len()) && are_numbered(settled.history(13), numbers)
@@ -350,7 +349,7 @@ impl Run {
     }
 
     // Whether the history has so many entries, with this mark.
-    fn has_left<B: Naming>(&self, settled: &Settled<B>, left: usize) -> bool {
+    fn has_left<E: Ended>(&self, settled: &E, left: usize) -> bool {
         settled.history(13).len() == left
             && settled.mark(13) == self.mark
             && settled.dropped(13) == self.made().saturating_sub(left as u64)
@@ -360,7 +359,7 @@ impl Run {
 }
 
 // Whether so many windows are open, each with 16 copies.
-fn drains<B: Naming>(settled: &mut Settled<B>, windows: u32) -> bool {
+fn drains<E: Ended>(settled: &mut E, windows: u32) -> bool {
     let mut full = 0u32;
     for _ in 0..9u32 {
         let Some(receipt) = settled.drain_next() else {
