@@ -5,12 +5,12 @@ use crate::trial::Writer;
 use log::Log;
 use log::sink::Discard;
 use ns_calls::{Bytes, Call, Downlink, Reply};
+use ns_outside::{Downlinks, Receipt};
 use ns_record_files::RecordFiles;
 use ns_serve::Begun;
-use ns_serve_state::{AfterRecord, State, ToSocket, record_call};
-use ns_server::Receipt;
+use ns_serve_shards::record_call;
+use ns_serve_state::{AfterRecord, State, ToSocket};
 use ns_types::{DevEui, GatewayId, Sink, Target, WindowName};
-use ns_workers::Downlinks;
 use std::alloc::Global;
 use std::fs;
 use std::fs::File;
@@ -59,17 +59,10 @@ fn state_of<R: Files<File = File> + Clock>(rt: &R, alloc: Global) -> Option<Stat
     let roster = SHORT.roster(alloc)?;
     let options = SHORT.options(Some(1))?;
     let files = RecordFiles::open(rt, &Discard, alloc, FOLDER, false).ok()?;
-    let Begun {
-        shards,
-        windows: _,
-        tickets: _,
-        record,
-    } = Begun::resume(&Discard, alloc, &roster, files).ok()?;
-    let shards = shards.as_slice();
-    State::new(
-        rt, alloc, None, None, &roster, &options, shards, record, None,
-    )
-    .ok()
+    let mut begun = Begun::resume(&Discard, alloc, &roster, files).ok()?;
+    let record = begun.record.take();
+    let made = begun.made();
+    State::new(rt, alloc, None, None, &roster, &options, made, record, None).ok()
 }
 
 // Asserts that these are the steps in the file.
