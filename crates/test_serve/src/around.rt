@@ -14,57 +14,49 @@ use std::sync::atomic::{AtomicU64, Ordering};
 use std::thread::Threads;
 use std::time::{Clock, Duration};
 
-/// A log in memory.
-pub type Lines<'a, R> = FilteredLog<Locked<&'a R, Vec<u8>>>;
+/// A runtime that logs into memory. Its clock is the runtime's, or stands at a time.
+#[derive(Drop)]
+pub struct Around<'a, R: Wait> {
+    rt: &'a R,
+    log: FilteredLog<Locked<&'a R, Vec<u8>>>,
+    // The time at which the clock stands, in milliseconds; 0 where it goes on.
+    stands_ms: &'a AtomicU64,
+}
 
-/// A runtime that logs these lines into memory, of which there is room for 64 KB. Its clock stands at this time in milliseconds, or goes on
-/// where it is 0.
+/// A runtime that logs these lines into memory, of which there is room for 64 KB, and whose clock stands at this time in milliseconds, or
+/// goes on where it is 0.
 pub fn logging<'a, R: Wait>(
     rt: &'a R,
     alloc: Global,
     lines: &str,
-    stands_ms: u64,
-) -> Result<Around<'a, R, Lines<'a, R>>, AllocError> {
+    stands_ms: &'a AtomicU64,
+) -> Result<Around<'a, R>, AllocError> {
     let filter = Builder::new(alloc).parse(lines)?.build();
     let lines = Locked::new(rt, Vec::with_capacity(alloc, 65_536)?);
     Ok(Around {
         rt,
         log: FilteredLog::new(lines, filter),
-        stands_ms: AtomicU64::new(stands_ms),
+        stands_ms,
     })
 }
 
-/// A runtime that logs by this logger. Its clock is the runtime's, or stands at a time.
-#[derive(Drop)]
-pub struct Around<'a, R, L> {
-    rt: &'a R,
-    log: L,
-    // The time at which the clock stands, in milliseconds; 0 where it goes on.
-    stands_ms: AtomicU64,
-}
-
-impl<'a, R, L> Around<'a, R, L> {
-    /// The clock stands at another time.
-    pub fn stand_at(&self, ms: u64) {
-        self.stands_ms.store(ms, Ordering::SeqCst);
-    }
-
-    /// The logger again.
-    pub fn into_log(self) -> L {
+impl<'a, R: Wait> Around<'a, R> {
+    /// What was logged.
+    pub fn into_lines(self) -> Vec<u8> {
         let Around {
             rt: _,
             log,
             stands_ms: _,
         } = self;
-        log
+        log.into_inner().into_inner()
     }
 }
 
-impl<'a, R: Wait, L> Wait for Around<'a, R, L> {}
+impl<'a, R: Wait> Wait for Around<'a, R> {}
 
-impl<'a, R: Threads, L> Threads for Around<'a, R, L> {}
+impl<'a, R: Threads + Wait> Threads for Around<'a, R> {}
 
-impl<'a, R: Clock, L> Clock for Around<'a, R, L> {
+impl<'a, R: Clock + Wait> Clock for Around<'a, R> {
     fn monotonic(&self) -> io::Result<Duration> {
         match self.stands_ms.load(Ordering::SeqCst) {
             0 => self.rt.monotonic(),
@@ -82,7 +74,7 @@ impl<'a, R: Clock, L> Clock for Around<'a, R, L> {
     }
 }
 
-impl<'a, R: Net, L> Net for Around<'a, R, L> {
+impl<'a, R: Net + Wait> Net for Around<'a, R> {
     type Stream = R::Stream;
 
     type Listener = R::Listener;
@@ -104,11 +96,7 @@ impl<'a, R: Net, L> Net for Around<'a, R, L> {
     }
 }
 
-impl<'a, R, L: Log> Log for Around<'a, R, L> {
-    ghost enables = { λ s level target. L.enables s.log level target };
-
-    ghost target_of = { λ s. L.target_of s.log };
-
+impl<'a, R: Wait> Log for Around<'a, R> {
     fn enabled(&self, metadata: &Metadata<'_>) -> bool {
         self.log.enabled(metadata)
     }

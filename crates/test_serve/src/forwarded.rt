@@ -35,7 +35,7 @@ const FORWARDED: Trial = Trial {
 /// power of the options.
 #[test]
 fn forwarder_over_loopback(rt: HostRuntime) {
-    assert!(rt; tried(&rt, &rt, rt.alloc(), &FORWARDED).is_some());
+    assert!(rt; tried(&rt, &rt, &FORWARDED).is_some());
 }
 
 // A device joins by a gateway of the server's own datagrams, and sends a confirmed uplink. Then a forwarder asks for downlinks: its worker
@@ -78,5 +78,5 @@ const BOTH_HEARD: Trial = Trial {
 /// A server hears a forwarder beside own datagrams, closes at its end the window that is open then, and counts that.
 #[test]
 fn both_sockets_are_heard(rt: HostRuntime) {
-    assert!(rt; tried(&rt, &rt, rt.alloc(), &BOTH_HEARD).is_some());
+    assert!(rt; tried(&rt, &rt, &BOTH_HEARD).is_some());
 }

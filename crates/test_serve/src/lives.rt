@@ -1,7 +1,7 @@
 //! Lives of a record: what a second server knows of the first, what a crash would have left, windows that it left open, and starts that are
 //! refused.
 
-ghost use Rattle.std.specs.Prelude.{IfSome};
+ghost use Rattle.std.specs.Prelude.{IfOk};
 ghost use Rattle.std.specs.Arc.{arc_value};
 ghost use Rattle.ns_serve_shards.specs.Begun.{IsBegun};
 
@@ -63,22 +63,28 @@ const TORN_UP: &str = "up 000000000000000d 1 2 1 pl";
 const FIRST_UPS: &str =
     "up 000000000000000d 1 0 1 plain - 74657374 1 00000000000000a1\nup 000000000000000d 1 1 1 plain - 74657374 1 00000000000000a1\n";
 
+// Those of two lives.
+const BOTH_UPS: &str =
+    "up 000000000000000d 1 0 1 plain - 74657374 1 00000000000000a1\nup 000000000000000d 1 1 1 plain - 74657374 1 00000000000000a1\nup 000000000000000d 1 2 1 plain - 74657374 1 00000000000000a1\n";
+
 // A roster without the device.
 const WITHOUT: &str = r#"{"version":1,"net_id":"000024","rx1_offset":0,"rx_delay":1,"devices":[]}"#;
 
-/// How many lives have ended, and how often the record of one was looked after.
+/// How many lives have ended, how often the record of one was looked after, and the time at which the clock stands, in milliseconds, or 0.
 #[derive(Drop)]
 pub struct Ended {
     pub lives: AtomicU64,
     pub looks: AtomicU64,
+    pub stands_ms: AtomicU64,
 }
 
 impl Ended {
-    /// None has ended.
-    pub fn new() -> Ended {
+    /// None has ended, and the clock stands at this time.
+    pub fn new(stands_ms: u64) -> Ended {
         Ended {
             lives: AtomicU64::new(0),
             looks: AtomicU64::new(0),
+            stands_ms: AtomicU64::new(stands_ms),
         }
     }
 
@@ -94,25 +100,37 @@ impl Ended {
     }
 }
 
+/// What the record in a folder leaves, whose steps are to outlive the machine or the program alone.
+pub fn resumed<H: Files<File = File>>(
+    host: &H,
+    alloc: Global,
+    roster: &Arc<Roster>,
+    folder: &str,
+    sync: bool,
+) -> Result<Begun, RecordFault>
+    ensures { IfOk result (IsBegun (arc_value roster.now)) }
+{
+    match RecordFiles::open(host, &Discard, alloc, folder, sync) {
+        Ok(files) => Begun::resume(&Discard, alloc, roster, files),
+        Err(_) => Err(RecordFault::Io),
+    }
+}
+
 /// What a life begins with: the record in its folder, or nothing.
 pub fn begun_of<H: Files<File = File>>(
     host: &H,
     alloc: Global,
     roster: &Arc<Roster>,
     folder: Option<&str>,
-) -> Option<Begun>
-    ensures { IfSome result (IsBegun (arc_value roster.now)) }
+) -> Result<Begun, RecordFault>
+    ensures { IfOk result (IsBegun (arc_value roster.now)) }
 {
-    let Some(folder) = folder else {
-        return match Begun::new(alloc, roster) {
-            Ok(begun) => Some(begun),
-            Err(_) => None,
-        };
-    };
-    let files = RecordFiles::open(host, &Discard, alloc, folder, true).ok()?;
-    match Begun::resume(&Discard, alloc, roster, files) {
-        Ok(begun) => Some(begun),
-        Err(_) => None,
+    if let Some(folder) = folder {
+        return resumed(host, alloc, roster, folder, true);
+    }
+    match Begun::new(alloc, roster) {
+        Ok(begun) => Ok(begun),
+        Err(_) => Err(RecordFault::NoMemory),
     }
 }
 
@@ -141,29 +159,45 @@ pub fn emptied<H: Files + Alloc>(host: &H, folder: &str) -> Option<()> {
     fs::create_dir(host, folder).ok()
 }
 
-/// The bytes of a file of a folder.
-pub fn bytes_of<H: Files<File = File>>(
+// The path of a file of a folder.
+fn path_of(alloc: Global, folder: &str, name: &str) -> Option<String> {
+    format!(in alloc; "{folder}/{name}").ok()
+}
+
+// The bytes of a file of a folder.
+fn bytes_of<H: Files<File = File>>(
     host: &H,
     alloc: Global,
     folder: &str,
     name: &str,
 ) -> Option<Vec<u8>> {
-    let path = format!(in alloc; "{folder}/{name}").ok()?;
+    let path = path_of(alloc, folder, name)?;
+    let mut file = File::open(host, path.as_str()).ok()?;
     let mut bytes = Vec::new(alloc);
-    File::open(host, path.as_str())
-        .ok()?
-        .read_to_end(&mut bytes)
-        .ok()?;
+    file.read_to_end(&mut bytes).ok()?;
     Some(bytes)
+}
+
+/// Whether a file of a folder has these bytes.
+pub fn has_bytes<H: Files<File = File>>(
+    host: &H,
+    alloc: Global,
+    folder: &str,
+    name: &str,
+    want: &[u8],
+) -> bool {
+    match bytes_of(host, alloc, folder, name) {
+        Some(bytes) => bytes.as_slice() == want,
+        None => false,
+    }
 }
 
 // Writes the files of a folder.
 fn write<H: Files>(host: &H, alloc: Global, folder: &str, steps: &str, up: &str) -> Option<()> {
-    for (name, text) in [("steps", steps), ("up", up)] {
-        let path = format!(in alloc; "{folder}/{name}").ok()?;
-        fs::write(host, path.as_str(), text.as_bytes()).ok()?;
-    }
-    Some(())
+    let steps_path = path_of(alloc, folder, "steps")?;
+    fs::write(host, steps_path.as_str(), steps.as_bytes()).ok()?;
+    let up_path = path_of(alloc, folder, "up")?;
+    fs::write(host, up_path.as_str(), up.as_bytes()).ok()
 }
 
 /// What is asked of a server of one device: windows stay open for 200 ms.
@@ -242,27 +276,23 @@ fn make_folders<H: Files + Alloc>(host: &H, alloc: Global) -> Option<()> {
     write(host, alloc, OPEN, STEPS.strip_suffix(CLOSE)?, "")
 }
 
-// Whether the file of `up` lines of the record has those of both lives.
-fn has_both<H: Files<File = File>>(host: &H, alloc: Global) -> bool {
-    match bytes_of(host, alloc, FOLDER, "up") {
-        Some(lines) => Want::Is(&[FIRST_UPS, UP]).fits(lines.as_slice()),
-        None => false,
+// Whether the file of `up` lines of the record has those of both lives. The folders of the four lives are taken away.
+fn leave_both<H: Files<File = File> + Alloc>(host: &H, alloc: Global) -> bool {
+    let mut is_left = has_bytes(host, alloc, FOLDER, "up", BOTH_UPS.as_bytes());
+    for folder in [FOLDER, KILLED, OPEN] {
+        is_left = fs::remove_dir_all(host, folder).is_ok() && is_left;
     }
+    is_left
 }
 
 /// A session lives on in the second life: an uplink goes out once over both, and acknowledgements are numbered on. What a kill would have
 /// left when the first acknowledgement was there has all that this rests on: the number is not used again. A window that a kill would have
 /// left open is closed long before the next life ends.
 #[test]
-fn lives_are_one_run(rt: HostRuntime) -> Result<(), Fail> {
-    let alloc: Global = rt.alloc();
-    assert!(rt; make_folders(&rt, alloc).is_some());
-    assert!(rt; tried(&rt, &rt, alloc, &LIVES).is_some_and(|looks| looks >= 3));
-    assert!(rt; has_both(&rt, alloc));
-    for folder in [FOLDER, KILLED, OPEN] {
-        fs::remove_dir_all(&rt, folder)?;
-    }
-    Ok(())
+fn lives_are_one_run(rt: HostRuntime) {
+    assert!(rt; make_folders(&rt, rt.alloc()).is_some());
+    assert!(rt; tried(&rt, &rt, &LIVES).unwrap_or(0) >= 3);
+    assert!(rt; leave_both(&rt, rt.alloc()));
 }
 
 // A start with a record: its roster and files, why it is refused, if it is, and what it leaves of the files.
@@ -298,38 +328,46 @@ const STARTS: [Start; 3] = [
 fn refused<H: Files<File = File>>(
     host: &H,
     alloc: Global,
-    roster: &str,
-) -> Option<Option<RecordFault>> {
-    let roster = roster_of(alloc, roster)?;
-    let files = RecordFiles::open(host, &Discard, alloc, REFUSED, false).ok()?;
-    Some(Begun::resume(&Discard, alloc, &roster, files).err())
+    roster: &Arc<Roster>,
+) -> Option<RecordFault> {
+    match resumed(host, alloc, roster, REFUSED, false) {
+        Ok(_) => None,
+        Err(why) => Some(why),
+    }
 }
 
 // Whether the files are these.
-fn are_these<H: Files<File = File>>(host: &H, alloc: Global, files: &[&str; 2]) -> Option<bool> {
-    let steps = bytes_of(host, alloc, REFUSED, "steps")?;
-    let ups = bytes_of(host, alloc, REFUSED, "up")?;
-    Some(steps.as_slice() == files[0].as_bytes() && ups.as_slice() == files[1].as_bytes())
+fn are_these<H: Files<File = File>>(host: &H, alloc: Global, files: &[&str; 2]) -> bool {
+    has_bytes(host, alloc, REFUSED, "steps", files[0].as_bytes())
+        && has_bytes(host, alloc, REFUSED, "up", files[1].as_bytes())
 }
 
 // Whether a start comes to what it says.
 fn starts_so<H: Files<File = File>>(host: &H, alloc: Global, start: &Start) -> Option<bool> {
     write(host, alloc, REFUSED, start.before[0], start.before[1])?;
-    let why = refused(host, alloc, start.roster)?;
-    Some(why == start.why && are_these(host, alloc, &start.behind)?)
+    let roster = roster_of(alloc, start.roster)?;
+    let is_refused = refused(host, alloc, &roster) == start.why;
+    Some(is_refused && are_these(host, alloc, &start.behind))
+}
+
+// Whether each start comes to what it says.
+fn all_start_so<H: Files<File = File>>(host: &H, alloc: Global) -> bool {
+    let mut is_right = true;
+    for start in &STARTS {
+        is_right = starts_so(host, alloc, start) == Some(true) && is_right;
+    }
+    is_right
+}
+
+// The same, with a folder that is there as long.
+fn are_right<H: Files<File = File> + Alloc>(host: &H, alloc: Global) -> bool {
+    emptied(host, REFUSED).is_some()
+        && all_start_so(host, alloc)
+        && fs::remove_dir_all(host, REFUSED).is_ok()
 }
 
 /// A start that is refused changes no byte of the files, and one that is not mends them.
 #[test]
 fn refused_starts_change_nothing(rt: HostRuntime) {
-    let alloc: Global = rt.alloc();
-    assert!(rt; emptied(&rt, REFUSED).is_some());
-    for start in &STARTS {
-        assert!(rt;
-            starts_so(&rt, alloc, start) == Some(true),
-            "{}",
-            start.behind[1]
-        );
-    }
-    assert!(rt; fs::remove_dir_all(&rt, REFUSED).is_ok());
+    assert!(rt; are_right(&rt, rt.alloc()));
 }

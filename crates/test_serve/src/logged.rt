@@ -1,14 +1,12 @@
 //! What a server logs: the counts once a minute and at the end, and where memory was wanting before the first window.
 
-use crate::around::{Around, logging};
+use crate::lives::Ended;
 use crate::parties::contains;
 use crate::play::Side::Near;
 use crate::play::Step::{Ask, First, Frame, Stand};
-use crate::trial::{Asked, Life, Told, Trial, USUAL, Want, Writer, served, tried};
-use log::Log;
+use crate::trial::{Asked, Life, Ran, Told, Trial, USUAL, Want, run_logged, tried};
 use ns_serve::ServeFault;
-use ns_types::{BLOCKS, take_all};
-use std::alloc::Global;
+use ns_types::BLOCKS;
 use std::net::{Net, TcpListener, TcpStream};
 use std::sync::Wait;
 use std::test::*;
@@ -65,7 +63,7 @@ const TWO_MINUTES: Trial = Trial {
 /// The counts are logged once a minute has passed, and then not before another has, and at the end, with their names.
 #[test]
 fn counts_are_logged_each_minute(rt: HostRuntime) {
-    assert!(rt; tried(&rt, &rt, rt.alloc(), &TWO_MINUTES).is_some());
+    assert!(rt; tried(&rt, &rt, &TWO_MINUTES).is_some());
 }
 
 // Datagrams that are refused as G1, G6, G1 and V4.
@@ -95,67 +93,69 @@ const FOUR_REFUSED: Trial = Trial {
 /// A refusal that a worker tells is counted under its number.
 #[test]
 fn refusals_are_counted(rt: HostRuntime) {
-    assert!(rt; tried(&rt, &rt, rt.alloc(), &FOUR_REFUSED).is_some());
+    assert!(rt; tried(&rt, &rt, &FOUR_REFUSED).is_some());
 }
 
-// What is asked of a server that has little memory.
-const LITTLE: Asked = Asked {
-    port: 17025,
-    ..USUAL
+// A server that has little memory, and serves no datagram. What it does rests on how many blocks that is (`served`).
+const LITTLE: Trial = Trial {
+    asked: USUAL,
+    levels: "error",
+    stands_ms: 0,
+    lives: &[Life {
+        folder: None,
+        stop_after: Some(0),
+    }],
+    joins: 0,
+    steps: &[],
+    told: Told {
+        ended: Ok(0),
+        output: Want::Has(&[]),
+        log: Want::Is(&[]),
+    },
 };
 
-// Serves no datagram with no memory but so many blocks.
-fn served_with<R, L>(
-    rt: &Around<'_, R, L>,
-    alloc: Global,
-    blocks: usize,
-) -> Option<Result<u128, ServeFault>>
+// What comes of that server with so many blocks of memory.
+fn run_with<R>(rt: &R, host: &HostRuntime, blocks: usize) -> Option<Ran>
 where
     R: Threads + Wait + Clock + Net<Listener = TcpListener, Stream = TcpStream> + Sync,
-    L: Log + Sync,
 {
-    let options = LITTLE.options(Some(0))?;
-    let roster = LITTLE.roster(alloc)?;
-    let mut output: Vec<u8> = Vec::with_capacity(alloc, 4096).ok()?;
-    let mut held = Vec::with_capacity(alloc, BLOCKS).ok()?;
-    take_all(alloc, &mut held).ok()?;
-    for _ in 0..blocks {
-        let _ = held.pop();
-    }
-    let writer = Writer::new(&mut output, u32::MAX);
-    let ended = served(rt, alloc, &options, roster, writer);
-    held.clear();
-    Some(ended)
+    let asked = Asked {
+        port: 17025,
+        blocks: Some(blocks),
+        ..USUAL
+    };
+    run_logged(rt, host, &asked, &LITTLE, &Ended::new(0))
 }
 
-// Serves so. Whether it served; None where it ended otherwise, or did not log an error exactly where it did not serve.
-fn is_served<R>(rt: &R, alloc: Global, blocks: usize) -> Option<bool>
+// Whether it served; None where it ended otherwise, or did not log an error exactly where it did not serve.
+fn served(ran: &Ran) -> Option<bool> {
+    let has_error = contains(ran.log.as_slice(), b"[ERROR ");
+    match ran.outcome {
+        Some(Ok(0)) if !has_error => Some(true),
+        Some(Err(ServeFault::NoMemory)) if has_error => Some(false),
+        _ => None,
+    }
+}
+
+// With how many blocks of memory it serves first, with twice as many after each time; None where it ended otherwise before, or never did.
+fn least_blocks<R>(rt: &R, host: &HostRuntime) -> Option<usize>
 where
     R: Threads + Wait + Clock + Net<Listener = TcpListener, Stream = TcpStream> + Sync,
 {
-    let around = logging(rt, alloc, "error", 0).ok()?;
-    let ended = served_with(&around, alloc, blocks)?;
-    let lines = around.into_log().into_inner().into_inner();
-    match (ended, contains(lines.as_slice(), b"[ERROR ")) {
-        (Ok(0), false) => Some(true),
-        (Err(ServeFault::NoMemory), true) => Some(false),
-        _ => None,
+    let mut blocks = 0usize;
+    for _ in 0..40 {
+        let ran = run_with(rt, host, blocks)?;
+        if served(&ran)? {
+            return Some(blocks);
+        }
+        blocks = blocks.saturating_mul(2).max(1).min(BLOCKS);
     }
+    None
 }
 
 /// Where memory is wanting before the first window, the server ends with `NoMemory`, and a line of level error was logged; with more and
 /// more of it, it serves at last, and none was.
 #[test]
-fn want_of_memory_is_logged(rt: HostRuntime) -> Result<(), Fail> {
-    let mut blocks = 0;
-    for _ in 0..40 {
-        let is_served = is_served(&rt, rt.alloc(), blocks);
-        assert!(rt; is_served.is_some());
-        if is_served == Some(true) {
-            assert!(rt; blocks > 0);
-            return Ok(());
-        }
-        blocks = blocks.saturating_mul(2).max(1).min(BLOCKS);
-    }
-    Err(Fail::from("it never served"))
+fn want_of_memory_is_logged(rt: HostRuntime) {
+    assert!(rt; least_blocks(&rt, &rt).unwrap_or(0) > 0);
 }

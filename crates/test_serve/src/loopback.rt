@@ -39,7 +39,7 @@ const ONE_DEVICE: Trial = Trial {
 /// the nonce of the join.
 #[test]
 fn one_device_over_loopback(rt: HostRuntime) {
-    assert!(rt; tried(&rt, &rt, rt.alloc(), &ONE_DEVICE).is_some());
+    assert!(rt; tried(&rt, &rt, &ONE_DEVICE).is_some());
 }
 
 // Half of 242 bytes 5a.
@@ -77,7 +77,7 @@ const LONGEST: Trial = Trial {
 /// A datagram of 283 bytes is read whole, and its line of 800 bytes is written whole.
 #[test]
 fn longest_datagram_and_line(rt: HostRuntime) {
-    assert!(rt; tried(&rt, &rt, rt.alloc(), &LONGEST).is_some());
+    assert!(rt; tried(&rt, &rt, &LONGEST).is_some());
 }
 
 // A device joins by one socket of a gateway, and sends a confirmed uplink by another.
@@ -108,7 +108,7 @@ const MOVED: Trial = Trial {
 /// A window that is open at the end is closed: its acknowledgement goes to where its gateway was heard last, and its line is written.
 #[test]
 fn last_window_is_acknowledged(rt: HostRuntime) {
-    assert!(rt; tried(&rt, &rt, rt.alloc(), &MOVED).is_some());
+    assert!(rt; tried(&rt, &rt, &MOVED).is_some());
 }
 
 // The same, with events and JSON objects.
@@ -140,7 +140,7 @@ const OBJECTS: Trial = Trial {
 /// Where they are asked for, an acknowledgement is told with the device's address, and the uplink as a JSON object.
 #[test]
 fn events_and_objects_are_written(rt: HostRuntime) {
-    assert!(rt; tried(&rt, &rt, rt.alloc(), &OBJECTS).is_some());
+    assert!(rt; tried(&rt, &rt, &OBJECTS).is_some());
 }
 
 // A device sends uplink 0, and some 300 ms later the confirmed uplink 1; once that is acknowledged comes one byte.
@@ -176,7 +176,7 @@ const TWO_UPLINKS: Trial = Trial {
 /// A window that is not due when the one before it is closed is closed when it is due, long before the server ends.
 #[test]
 fn window_behind_another_is_closed(rt: HostRuntime) {
-    assert!(rt; tried(&rt, &rt, rt.alloc(), &TWO_UPLINKS).is_some());
+    assert!(rt; tried(&rt, &rt, &TWO_UPLINKS).is_some());
 }
 
 // Two devices ask to join at a time.
@@ -212,7 +212,7 @@ const TWO_JOINS: Trial = Trial {
 /// Two join workers ask the join server at the same time.
 #[test]
 fn two_are_asked_about_at_a_time(rt: HostRuntime) {
-    assert!(rt; tried(&rt, &rt, rt.alloc(), &TWO_JOINS).is_some());
+    assert!(rt; tried(&rt, &rt, &TWO_JOINS).is_some());
 }
 
 // A device joins within 1,000 ms, which a longer window than that of 100 ms does not allow, and sends an uplink.
@@ -241,5 +241,5 @@ const FAILING: Trial = Trial {
 /// A server that is not told when to stop ends with `Io` where its output fails.
 #[test]
 fn failed_output_ends_the_server(rt: HostRuntime) {
-    assert!(rt; tried(&rt, &rt, rt.alloc(), &FAILING).is_some());
+    assert!(rt; tried(&rt, &rt, &FAILING).is_some());
 }

@@ -111,11 +111,23 @@ fn request(alloc: Global, stream: &TcpStream) -> Option<Vec<u8>> {
     None
 }
 
+// The head of an answer with so many bytes behind it.
+fn head(alloc: Global, length: usize) -> Option<String> {
+    format!(in alloc; "HTTP/1.1 200 OK\r\nContent-Length: {length}\r\n\r\n").ok()
+}
+
+// Writes a part of an answer. Whether it was written.
+fn write(stream: &TcpStream, part: &str) -> bool {
+    { stream }.write_all(part.as_bytes()).is_ok()
+}
+
 // Answers with this text.
 fn respond(alloc: Global, stream: &TcpStream, text: &str) -> Option<()> {
-    let head = format!(in alloc; "HTTP/1.1 200 OK\r\nContent-Length: {}\r\n\r\n", text.len()).ok()?;
-    { stream }.write_all(head.as_bytes()).ok()?;
-    { stream }.write_all(text.as_bytes()).ok()
+    let head = head(alloc, text.len())?;
+    if write(stream, head.as_str()) && write(stream, text) {
+        return Some(());
+    }
+    None
 }
 
 // Reads a JoinReq and answers it.
@@ -125,19 +137,34 @@ fn answer(alloc: Global, stream: &TcpStream, server: &mut TestJoinServer) -> Opt
     respond(alloc, stream, text.as_str())
 }
 
-// So many connections, once all of them have come.
-fn connections<R: Clock>(
-    rt: &R,
-    alloc: Global,
-    listener: &TcpListener,
-    count: usize,
-) -> Option<Vec<TcpStream>> {
-    listener.set_nonblocking(true).ok()?;
-    let mut streams: Vec<TcpStream> = Vec::new(alloc);
-    for _connection in 0..count {
-        streams.push(accepted(rt, listener)?).ok()?;
+// Waits for one connection more. Whether it came.
+fn accept_one<R: Clock>(rt: &R, listener: &TcpListener, streams: &mut Vec<TcpStream>) -> bool {
+    match accepted(rt, listener) {
+        Some(stream) => streams.push(stream).is_ok(),
+        None => false,
     }
-    Some(streams)
+}
+
+// Waits for so many connections. Whether all of them came.
+fn accept_all<R: Clock>(
+    rt: &R,
+    listener: &TcpListener,
+    streams: &mut Vec<TcpStream>,
+    count: usize,
+) -> bool {
+    let mut is_there = listener.set_nonblocking(true).is_ok();
+    for _connection in 0..count {
+        is_there = is_there && accept_one(rt, listener, streams);
+    }
+    is_there
+}
+
+// Answers each of these connections.
+fn answer_all(alloc: Global, streams: &[TcpStream], server: &mut TestJoinServer) -> Option<()> {
+    for stream in streams {
+        answer(alloc, stream, server)?;
+    }
+    Some(())
 }
 
 // A join server with both devices.
@@ -155,12 +182,12 @@ pub fn join_server<R: Clock>(
     listener: &TcpListener,
     count: usize,
 ) -> Option<()> {
-    let streams = connections(rt, alloc, listener, count)?;
     let mut server = with_devices(alloc)?;
-    for stream in &streams {
-        answer(alloc, stream, &mut server)?;
+    let mut streams: Vec<TcpStream> = Vec::new(alloc);
+    if !accept_all(rt, listener, &mut streams, count) {
+        return None;
     }
-    Some(())
+    answer_all(alloc, streams.as_slice(), &mut server)
 }
 
 /// The datagram of a frame behind the front of one.

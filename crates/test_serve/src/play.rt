@@ -1,12 +1,13 @@
 //! What gateways and devices do while a server runs.
 
-use crate::around::Around;
-use crate::lives::{Ended, keep_killed, wait_for_up};
+use crate::lives::{keep_killed, wait_for_up};
 use crate::parties::{asked, contains, device_of, front, front_later, heard, nap, sent, socket_to};
+use crate::trial::Common;
 use base64::engine::general_purpose::STANDARD;
 use ns_types::{DevEui, DevNonce};
 use std::alloc::Global;
 use std::net::{Net, UdpSocket};
+use std::sync::atomic::Ordering;
 use std::test::*;
 use std::time::{Clock, Duration, Instant};
 use test_device::TestDevice;
@@ -72,11 +73,8 @@ pub enum Step {
 
 /// The gateways around a server, with their device.
 #[derive(Drop)]
-pub struct Party<'a, R, L> {
-    rt: &'a Around<'a, R, L>,
-    host: &'a HostRuntime,
-    alloc: Global,
-    ended: &'a Ended,
+pub struct Party<'a, R> {
+    common: &'a Common<'a, R>,
     near: UdpSocket,
     far: UdpSocket,
     device: TestDevice,
@@ -84,24 +82,14 @@ pub struct Party<'a, R, L> {
     buf: [u8; 512],
 }
 
-impl<'a, R: Clock + Net, L> Party<'a, R, L> {
+impl<'a, R: Clock + Net> Party<'a, R> {
     /// Those who send to these ports.
-    pub fn new(
-        rt: &'a Around<'a, R, L>,
-        host: &'a HostRuntime,
-        alloc: Global,
-        ended: &'a Ended,
-        near: u16,
-        far: u16,
-    ) -> Option<Party<'a, R, L>> {
-        let begun = Instant::now(rt).ok()?;
-        let near = socket_to(rt, near)?;
-        let far = socket_to(rt, far)?;
+    pub fn new(common: &'a Common<'a, R>, near: u16, far: u16) -> Option<Party<'a, R>> {
+        let begun = Instant::now(common.rt).ok()?;
+        let near = socket_to(common.rt, near)?;
+        let far = socket_to(common.rt, far)?;
         Some(Party {
-            rt,
-            host,
-            alloc,
-            ended,
+            common,
             near,
             far,
             device: device_of(DevEui(13)),
@@ -121,28 +109,67 @@ impl<'a, R: Clock + Net, L> Party<'a, R, L> {
 
     fn step(&mut self, step: &Step) -> Option<()> {
         match step {
+            Step::Join(_) | Step::Ask(..) | Step::Receive(..) | Step::Uplink(..) => {
+                self.step_of_all(step)
+            }
+            Step::Later(_) | Step::Longest | Step::Frame(..) | Step::Byte | Step::First => {
+                self.step_of_near(step)
+            }
+            Step::Pull | Step::PushJoin | Step::PushUplink(_) => self.step_of_forwarder(step),
+            Step::Acknowledged(..) | Step::Again(_) => self.step_of_lives(step),
+            _ => self.wait(step),
+        }
+    }
+
+    fn step_of_all(&mut self, step: &Step) -> Option<()> {
+        match step {
             Step::Join(gateway) => self.join(*gateway),
             Step::Ask(side, eui, gateway) => self.ask(side, *eui, *gateway),
             Step::Receive(side, bytes) => self.receive(side, *bytes),
             Step::Uplink(side, counter, confirmed, gateway) => {
-                self.uplink(side, *counter, *confirmed, *gateway)
+                self.uplink(side, *counter, *confirmed, &front(*gateway))
             }
-            Step::Later(gateway) => self.later(*gateway),
+            _ => None,
+        }
+    }
+
+    fn step_of_near(&self, step: &Step) -> Option<()> {
+        match step {
+            Step::Later(gateway) => self.uplink(&Side::Near, 0, false, &front_later(*gateway)),
             Step::Longest => self.longest(),
             Step::Frame(frame, rate) => self.frame(frame, *rate),
-            Step::Byte => self.near.send(&[0]).ok().map(|_| ()),
-            Step::First => sent(self.rt, &self.near, &[0]),
-            Step::Nap(times) => self.nap(*times),
-            Step::Within(ms) => self.within(*ms),
-            Step::Stand(ms) => self.stand(*ms),
+            Step::Byte => is(self.near.send(&[0]).is_ok()),
+            Step::First => sent(self.common.rt, &self.near, &[0]),
+            _ => None,
+        }
+    }
+
+    fn step_of_forwarder(&mut self, step: &Step) -> Option<()> {
+        match step {
             Step::Pull => self.pull(),
             Step::PushJoin => self.push_join(),
             Step::PushUplink(bytes) => self.push_uplink(*bytes),
+            _ => None,
+        }
+    }
+
+    fn step_of_lives(&mut self, step: &Step) -> Option<()> {
+        match step {
             Step::Acknowledged(counter, number) => self.acknowledged(*counter, *number),
             Step::Again(counter) => self.again(*counter),
-            Step::KeepKilled => keep_killed(self.host),
-            Step::Ended(lives) => self.ended.wait_for(self.rt, *lives),
-            Step::Closed => wait_for_up(self.host, self.rt),
+            _ => None,
+        }
+    }
+
+    fn wait(&self, step: &Step) -> Option<()> {
+        match step {
+            Step::Nap(times) => self.nap(*times),
+            Step::Within(ms) => self.within(*ms),
+            Step::Stand(ms) => self.stand(*ms),
+            Step::KeepKilled => keep_killed(self.common.host),
+            Step::Ended(lives) => self.common.ended.wait_for(self.common.rt, *lives),
+            Step::Closed => wait_for_up(self.common.host, self.common.rt),
+            _ => None,
         }
     }
 
@@ -155,20 +182,25 @@ impl<'a, R: Clock + Net, L> Party<'a, R, L> {
 
     // Sends the datagram of a frame. How many bytes it has.
     fn send(&self, side: &Side, head: &[u8; 27], frame: &[u8]) -> Option<usize> {
-        let datagram = heard(self.alloc, head, frame)?;
+        let datagram = heard(self.common.alloc, head, frame)?;
         self.socket(side).send(datagram.as_slice()).ok()
     }
 
     // Sends the datagram of a frame once the server is there.
     fn send_first(&self, side: &Side, head: &[u8; 27], frame: &[u8]) -> Option<()> {
-        let datagram = heard(self.alloc, head, frame)?;
-        sent(self.rt, self.socket(side), datagram.as_slice())
+        let datagram = heard(self.common.alloc, head, frame)?;
+        sent(self.common.rt, self.socket(side), datagram.as_slice())
     }
 
     // Sends the datagram of a frame until the server is there, and gives how many bytes come back.
     fn ask_for(&mut self, frame: &[u8], gateway: u8) -> Option<usize> {
-        let datagram = heard(self.alloc, &front(gateway), frame)?;
-        asked(self.rt, &self.near, datagram.as_slice(), &mut self.buf)
+        let datagram = heard(self.common.alloc, &front(gateway), frame)?;
+        asked(
+            self.common.rt,
+            &self.near,
+            datagram.as_slice(),
+            &mut self.buf,
+        )
     }
 
     fn join(&mut self, gateway: u8) -> Option<()> {
@@ -192,18 +224,11 @@ impl<'a, R: Clock + Net, L> Party<'a, R, L> {
         is(self.socket(side).recv(&mut buf).ok()? == want)
     }
 
-    fn uplink(&self, side: &Side, counter: u32, confirmed: bool, gateway: u8) -> Option<()> {
+    // Sends an uplink that is heard so.
+    fn uplink(&self, side: &Side, counter: u32, confirmed: bool, head: &[u8; 27]) -> Option<()> {
         let mut room = [0u8; 64];
         let frame = test_uplink(&self.device, counter, confirmed, &mut room)?;
-        self.send(side, &front(gateway), frame)?;
-        Some(())
-    }
-
-    fn later(&self, gateway: u8) -> Option<()> {
-        let mut room = [0u8; 64];
-        let frame = test_uplink(&self.device, 0, false, &mut room)?;
-        self.send(&Side::Near, &front_later(gateway), frame)?;
-        Some(())
+        is(self.send(side, head, frame).is_some())
     }
 
     fn longest(&self) -> Option<()> {
@@ -226,31 +251,44 @@ impl<'a, R: Clock + Net, L> Party<'a, R, L> {
 
     fn nap(&self, times: u32) -> Option<()> {
         for _ in 0..times {
-            nap(self.rt);
+            nap(self.common.rt);
         }
         Some(())
     }
 
     fn within(&self, ms: u64) -> Option<()> {
-        is(self.begun.elapsed(self.rt).ok()? < Duration::from_millis(ms))
+        is(self.begun.elapsed(self.common.rt).ok()? < Duration::from_millis(ms))
     }
 
     fn stand(&self, ms: u64) -> Option<()> {
-        self.rt.stand_at(ms);
+        self.common.ended.stands_ms.store(ms, Ordering::SeqCst);
         self.nap(100)
     }
 
     fn pull(&mut self) -> Option<()> {
-        let bytes = asked(self.rt, &self.far, &PULL_DATA, &mut self.buf)?;
-        is(self.buf.get(..bytes)? == PULL_ACK.as_slice())
+        let bytes = asked(self.common.rt, &self.far, &PULL_DATA, &mut self.buf)?;
+        is(self.has_come(bytes, &PULL_ACK))
+    }
+
+    // Whether what came last, of so many bytes, is this.
+    fn has_come(&self, bytes: usize, want: &[u8]) -> bool {
+        match self.buf.get(..bytes) {
+            Some(came) => came == want,
+            None => false,
+        }
     }
 
     // Sends a frame that was heard at 868.1 MHz, DR5, and waits until that is acknowledged.
     fn push(&mut self, frame: &[u8]) -> Option<()> {
-        let message = push_data(self.alloc, frame)?;
-        self.near.send(message.as_slice()).ok()?;
+        self.send_item(frame)?;
         let bytes = self.near.recv(&mut self.buf).ok()?;
-        is(self.buf.get(..bytes)? == PUSH_ACK.as_slice())
+        is(self.has_come(bytes, &PUSH_ACK))
+    }
+
+    // Sends a frame that was heard so.
+    fn send_item(&self, frame: &[u8]) -> Option<()> {
+        let message = push_data(self.common.alloc, frame)?;
+        is(self.near.send(message.as_slice()).is_ok())
     }
 
     // The Join-Accept's 17 bytes in base64 stand behind `{"txpk":{"codr":"4/5","data":"`.
@@ -258,7 +296,7 @@ impl<'a, R: Clock + Net, L> Party<'a, R, L> {
         let request = self.device.join_request(DevNonce(1));
         self.push(&request)?;
         self.far.recv(&mut self.buf).ok()?;
-        let accept = STANDARD.decode(self.alloc, &self.buf[34..58]).ok()?;
+        let accept = STANDARD.decode(self.common.alloc, &self.buf[34..58]).ok()?;
         self.device.accept(DevNonce(1), accept.as_slice()).ok()
     }
 
@@ -268,7 +306,15 @@ impl<'a, R: Clock + Net, L> Party<'a, R, L> {
         let frame = test_uplink(&device, 0, true, &mut room)?;
         self.push(frame)?;
         let bytes = self.far.recv(&mut self.buf).ok()?;
-        is(bytes == want && contains(self.buf.get(..bytes)?, b"\"powe\":16"))
+        is(bytes == want && self.has_power(bytes))
+    }
+
+    // Whether the message that came last, of so many bytes, says 16 dBm.
+    fn has_power(&self, bytes: usize) -> bool {
+        match self.buf.get(..bytes) {
+            Some(came) => contains(came, b"\"powe\":16"),
+            None => false,
+        }
     }
 
     // The low byte of the number of an acknowledgement stands behind MHDR, DevAddr and FCtrl.

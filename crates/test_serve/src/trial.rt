@@ -3,7 +3,7 @@
 
 ghost use Rattle.std.specs.Prelude.{◌≡◌, ◌<◌, ◌≤◌, None, IfSome};
 
-use crate::around::{Around, logging};
+use crate::around::logging;
 use crate::lives::{Ended, begun_of};
 use crate::parties::{ROSTER_A, contains, join_server, local};
 use crate::play::{Party, Step};
@@ -13,7 +13,7 @@ use ns_joinclient::HostName;
 use ns_record_files::{RecordFiles, Recorder, Upkeep};
 use ns_roster::Roster;
 use ns_serve::{Begun, ServeFault, ServeOptions, Stop, serve};
-use ns_types::{Failed, Sink, Stream};
+use ns_types::{BLOCKS, Failed, Sink, Stream, take_all};
 use std::alloc::Global;
 use std::net::{Net, SocketAddr, TcpListener, TcpStream};
 use std::process::Abort;
@@ -109,6 +109,8 @@ pub struct Asked {
     pub json: bool,
     /// Of how many texts the output takes.
     pub texts: u32,
+    /// With how many blocks of memory alone a server begins, where it is to have little.
+    pub blocks: Option<usize>,
 }
 
 /// Own datagrams of one device are heard, windows stay open for 1 s, and lines are written.
@@ -121,6 +123,7 @@ pub const USUAL: Asked = Asked {
     closing: false,
     json: false,
     texts: u32::MAX,
+    blocks: None,
 };
 
 /// One server of a trial.
@@ -258,70 +261,90 @@ fn beside(port: u16) -> u16 {
     port.saturating_add(2)
 }
 
-/// Serves what is asked for from the start.
-pub fn served<R, L>(
-    rt: &Around<'_, R, L>,
-    alloc: Global,
+// All memory but so many blocks, or nothing.
+fn all_but(alloc: Global, blocks: Option<usize>) -> Option<Vec<Vec<u8>>> {
+    let Some(blocks) = blocks else {
+        return Some(Vec::new(alloc));
+    };
+    let mut held = Vec::with_capacity(alloc, BLOCKS).ok()?;
+    take_all(alloc, &mut held).ok()?;
+    for _ in 0..blocks {
+        let _ = held.pop();
+    }
+    Some(held)
+}
+
+/// Servers, those around them, and what their threads share.
+#[derive(Drop)]
+pub struct Common<'a, R> {
+    pub rt: &'a R,
+    pub host: &'a HostRuntime,
+    pub alloc: Global,
+    pub asked: &'a Asked,
+    pub lives: &'a [Life],
+    pub joins: usize,
+    pub steps: &'a [Step],
+    pub ended: &'a Ended,
+}
+
+// Logs that a server does not begin.
+fn not_begun<L: Log>(log: &L) -> Result<u128, ServeFault> {
+    error!(log; "no memory for the shards, or a record that is refused");
+    Err(ServeFault::NoMemory)
+}
+
+// Serves, from where the record in a folder left it, or from the start.
+fn served<R>(
+    common: &Common<'_, R>,
     options: &ServeOptions<'_>,
     roster: Arc<Roster>,
-    writer: Writer<'_>,
+    folder: Option<&str>,
+    output: &mut Vec<u8>,
 ) -> Result<u128, ServeFault>
 where
-    R: Threads + Wait + Clock + Net<Listener = TcpListener, Stream = TcpStream> + Sync,
-    L: Log + Sync,
+    R: Threads + Wait + Clock + Net<Listener = TcpListener, Stream = TcpStream> + Log + Sync,
     requires workers { (0 < options.now.workers) × (options.now.workers ≤ 2) }
     requires join_workers { (0 < options.now.join_workers) × (options.now.join_workers ≤ 16) }
 {
-    let Ok(begun) = Begun::new(alloc, &roster) else {
-        error!(rt; "no memory for the shards");
-        return Err(ServeFault::NoMemory);
-    };
-    let count = AtomicU64::new(0);
-    let looks = Looks { count: &count };
-    serve(rt, alloc, roster, options, begun, Unused, looks, writer)
+    let (rt, alloc) = (common.rt, common.alloc);
+    match begun_of(common.host, alloc, &roster, folder) {
+        Ok(begun) => {
+            let looks = Looks {
+                count: &common.ended.looks,
+            };
+            let writer = Writer::new(output, common.asked.texts);
+            serve(rt, alloc, roster, options, begun, Unused, looks, writer)
+        }
+        Err(_) => not_begun(rt),
+    }
 }
 
-// One server of a trial, from where its record left it. Its outcome, if it began.
-fn live<R, L>(
-    rt: &Around<'_, R, L>,
-    host: &HostRuntime,
-    alloc: Global,
-    asked: &Asked,
+// One server. Its outcome, if there was memory to ask for it.
+fn live<R>(
+    common: &Common<'_, R>,
     life: &Life,
-    ended: &Ended,
     output: &mut Vec<u8>,
 ) -> Option<Result<u128, ServeFault>>
 where
-    R: Threads + Wait + Clock + Net<Listener = TcpListener, Stream = TcpStream> + Sync,
-    L: Log + Sync,
+    R: Threads + Wait + Clock + Net<Listener = TcpListener, Stream = TcpStream> + Log + Sync,
 {
-    let options = asked.options(life.stop_after)?;
-    let roster = asked.roster(alloc)?;
-    let begun = begun_of(host, alloc, &roster, life.folder)?;
-    let looks = Looks {
-        count: &ended.looks,
-    };
-    let writer = Writer::new(output, asked.texts);
-    Some(serve(rt, alloc, roster, &options, begun, Unused, looks, writer))
+    let options = common.asked.options(life.stop_after)?;
+    let roster = common.asked.roster(common.alloc)?;
+    let held = all_but(common.alloc, common.asked.blocks)?;
+    let outcome = served(common, &options, roster, life.folder, output);
+    drop(held);
+    Some(outcome)
 }
 
-// The servers of a trial, one after the other as long as none ends with a fault. The outcome of the last one.
-fn live_all<R, L>(
-    rt: &Around<'_, R, L>,
-    host: &HostRuntime,
-    alloc: Global,
-    trial: &Trial,
-    ended: &Ended,
-    output: &mut Vec<u8>,
-) -> Option<Result<u128, ServeFault>>
+// Servers one after the other as long as none ends with a fault. The outcome of the last one.
+fn live_all<R>(common: &Common<'_, R>, output: &mut Vec<u8>) -> Option<Result<u128, ServeFault>>
 where
-    R: Threads + Wait + Clock + Net<Listener = TcpListener, Stream = TcpStream> + Sync,
-    L: Log + Sync,
+    R: Threads + Wait + Clock + Net<Listener = TcpListener, Stream = TcpStream> + Log + Sync,
 {
     let mut last = None;
-    for life in trial.lives {
-        let outcome = live(rt, host, alloc, &trial.asked, life, ended, output)?;
-        ended.lives.fetch_add(1, Ordering::SeqCst);
+    for life in common.lives {
+        let outcome = live(common, life, output)?;
+        common.ended.lives.fetch_add(1, Ordering::SeqCst);
         last = Some(outcome);
         if outcome.is_err() {
             break;
@@ -331,52 +354,50 @@ where
 }
 
 // What gateways and devices do. Whether each step came to what it says.
-fn play<R, L>(
-    rt: &Around<'_, R, L>,
-    host: &HostRuntime,
-    alloc: Global,
-    trial: &Trial,
-    ended: &Ended,
-) -> bool
-where
-    R: Clock + Net,
-{
-    let (near, far) = trial.asked.ports();
-    match Party::new(rt, host, alloc, ended, near, far) {
-        Some(mut party) => party.play(trial.steps),
+fn play<R: Clock + Net>(common: &Common<'_, R>) -> bool {
+    let (near, far) = common.asked.ports();
+    match Party::new(common, near, far) {
+        Some(mut party) => party.play(common.steps),
         None => false,
     }
 }
 
-// The outcome of the last server of a trial, and whether each step came to what it says.
-type Ran = Option<(Option<Result<u128, ServeFault>>, bool)>;
-
-// Runs a trial, with a join server and gateways beside the servers.
-fn run<R, L>(
-    rt: &Around<'_, R, L>,
-    host: &HostRuntime,
-    alloc: Global,
-    trial: &Trial,
-    ended: &Ended,
-    output: &mut Vec<u8>,
-) -> Ran
+// A join server beside gateways and devices. Whether each of their steps came to what it says.
+fn surround<R>(common: &Common<'_, R>, listener: &TcpListener) -> bool
 where
-    R: Threads + Wait + Clock + Net<Listener = TcpListener, Stream = TcpStream> + Sync,
-    L: Log + Sync,
+    R: Threads + Clock + Net<Listener = TcpListener, Stream = TcpStream> + Sync,
 {
-    let listener = TcpListener::bind(rt, trial.asked.join_addr()).ok()?;
-    let (outcome, (_, is_played)) = thread::join(
-        rt,
-        || live_all(rt, host, alloc, trial, ended, output),
-        || {
-            thread::join(
-                rt,
-                || join_server(rt, alloc, &listener, trial.joins),
-                || play(rt, host, alloc, trial, ended),
-            )
-        },
+    let (_, is_played) = thread::join(
+        common.rt,
+        || join_server(common.rt, common.alloc, listener, common.joins),
+        || play(common),
     );
-    Some((outcome, is_played))
+    is_played
+}
+
+// Servers beside those around them. The outcome of the last one, where each step came to what it says.
+fn run_beside<R>(common: &Common<'_, R>, output: &mut Vec<u8>) -> Option<Result<u128, ServeFault>>
+where
+    R: Threads + Wait + Clock + Net<Listener = TcpListener, Stream = TcpStream> + Log + Sync,
+{
+    let listener = TcpListener::bind(common.rt, common.asked.join_addr()).ok()?;
+    let (outcome, is_played) = thread::join(
+        common.rt,
+        || live_all(common, output),
+        || surround(common, &listener),
+    );
+    if is_played { outcome } else { None }
+}
+
+// The same, or servers alone where memory is wanting.
+fn run<R>(common: &Common<'_, R>, output: &mut Vec<u8>) -> Option<Result<u128, ServeFault>>
+where
+    R: Threads + Wait + Clock + Net<Listener = TcpListener, Stream = TcpStream> + Log + Sync,
+{
+    if common.asked.blocks.is_some() {
+        return live_all(common, output);
+    }
+    run_beside(common, output)
 }
 
 // Asserts that a text is as wanted.
@@ -388,42 +409,61 @@ fn assert_told<R: Abort>(rt: &R, want: &Want, text: &[u8]) {
     );
 }
 
-// Asserts that a trial ended as it is told.
-fn assert_all<R: Abort>(rt: &R, told: &Told, ran: Ran, output: &[u8], log: &[u8]) {
-    let is_ended = match ran {
-        Some((Some(outcome), is_played)) => is_played && outcome == told.ended,
-        _ => false,
-    };
-    assert_told(rt, &told.output, output);
-    assert_told(rt, &told.log, log);
-    assert!(rt; is_ended);
+/// What comes of a trial, and what was logged and written.
+#[derive(Drop)]
+pub struct Ran {
+    pub outcome: Option<Result<u128, ServeFault>>,
+    pub log: Vec<u8>,
+    pub output: Vec<u8>,
 }
 
-// What is logged in a trial, and what comes of it.
-fn logged<R>(
+/// Runs a trial in which this is asked of servers, and takes what is logged.
+pub fn run_logged<R>(
     rt: &R,
     host: &HostRuntime,
-    alloc: Global,
+    asked: &Asked,
     trial: &Trial,
     ended: &Ended,
-    output: &mut Vec<u8>,
-) -> Option<(Vec<u8>, Ran)>
+) -> Option<Ran>
 where
     R: Threads + Wait + Clock + Net<Listener = TcpListener, Stream = TcpStream> + Sync,
 {
-    let around = logging(rt, alloc, trial.levels, trial.stands_ms).ok()?;
-    let ran = run(&around, host, alloc, trial, ended, output);
-    Some((around.into_log().into_inner().into_inner(), ran))
+    let alloc: Global = host.alloc();
+    let mut output: Vec<u8> = Vec::with_capacity(alloc, 4096).ok()?;
+    let around = logging(rt, alloc, trial.levels, &ended.stands_ms).ok()?;
+    let common = Common {
+        rt: &around,
+        host,
+        alloc,
+        asked,
+        lives: trial.lives,
+        joins: trial.joins,
+        steps: trial.steps,
+        ended,
+    };
+    let outcome = run(&common, &mut output);
+    let log = around.into_lines();
+    Some(Ran {
+        outcome,
+        log,
+        output,
+    })
+}
+
+// Asserts that a trial came to what is told.
+fn assert_all<R: Abort>(rt: &R, told: &Told, ran: &Ran) {
+    assert_told(rt, &told.output, ran.output.as_slice());
+    assert_told(rt, &told.log, ran.log.as_slice());
+    assert!(rt; ran.outcome == Some(told.ended));
 }
 
 /// Runs a trial. How often its record was looked after.
-pub fn tried<R>(rt: &R, host: &HostRuntime, alloc: Global, trial: &Trial) -> Option<u64>
+pub fn tried<R>(rt: &R, host: &HostRuntime, trial: &Trial) -> Option<u64>
 where
     R: Threads + Wait + Clock + Net<Listener = TcpListener, Stream = TcpStream> + Abort + Sync,
 {
-    let ended = Ended::new();
-    let mut output: Vec<u8> = Vec::new(alloc);
-    let (log, ran) = logged(rt, host, alloc, trial, &ended, &mut output)?;
-    assert_all(rt, &trial.told, ran, output.as_slice(), log.as_slice());
+    let ended = Ended::new(trial.stands_ms);
+    let ran = run_logged(rt, host, &trial.asked, trial, &ended)?;
+    assert_all(rt, &trial.told, &ran);
     Some(ended.looks.load(Ordering::SeqCst))
 }

@@ -1,21 +1,17 @@
 //! What leaves the server rests on steps that are written.
 
-use crate::lives::{SHORT, bytes_of, emptied};
+use crate::lives::{SHORT, emptied, has_bytes, resumed};
 use crate::trial::Writer;
-use log::Log;
-use log::sink::Discard;
 use ns_calls::{Bytes, Call, Downlink, Reply};
 use ns_outside::{Downlinks, Receipt};
-use ns_record_files::RecordFiles;
-use ns_serve::Begun;
+use ns_roster::Roster;
+use ns_serve::{Begun, ServeOptions};
 use ns_serve_shards::record_call;
 use ns_serve_state::{AfterRecord, State, ToSocket};
 use ns_types::{DevEui, GatewayId, Sink, Target, WindowName};
-use std::alloc::Global;
+use std::alloc::{Alloc, Global};
 use std::fs;
 use std::fs::File;
-use std::net::Net;
-use std::process::Abort;
 use std::rt::Files;
 use std::sync::Wait;
 use std::test::*;
@@ -54,62 +50,62 @@ fn downlink() -> Downlink {
     }
 }
 
-// The state of a server with the record in the folder.
-fn state_of<R: Files<File = File> + Clock>(rt: &R, alloc: Global) -> Option<State> {
-    let roster = SHORT.roster(alloc)?;
-    let options = SHORT.options(Some(1))?;
-    let files = RecordFiles::open(rt, &Discard, alloc, FOLDER, false).ok()?;
-    let mut begun = Begun::resume(&Discard, alloc, &roster, files).ok()?;
-    let record = begun.record.take();
-    let made = begun.made();
-    State::new(rt, alloc, None, None, &roster, &options, made, record, None).ok()
-}
-
-// Asserts that these are the steps in the file.
-fn assert_steps<R: Files<File = File> + Abort>(rt: &R, alloc: Global, steps: &[u8]) {
-    let are_these = match bytes_of(rt, alloc, FOLDER, "steps") {
-        Some(bytes) => bytes.as_slice() == steps,
-        None => false,
-    };
-    assert!(rt; are_these);
+// Whether these are the steps in the file.
+fn are_steps<R: Files<File = File>>(rt: &R, alloc: Global, steps: &[u8]) -> bool {
+    has_bytes(rt, alloc, FOLDER, "steps", steps)
 }
 
 // Writes a line behind what was put down of a state. Whether it was written.
-fn is_written<R: Wait + Log>(rt: &R, alloc: Global, state: &State) -> bool {
+fn is_written<R: Wait>(rt: &R, alloc: Global, state: &State) -> bool {
     let mut output: Vec<u8> = Vec::new(alloc);
     let mut writer = AfterRecord::new(rt, state, Writer::new(&mut output, u32::MAX));
     writer.write(b"up\n").is_ok()
 }
 
-fn write_two<R: Files<File = File> + Abort + Wait + Clock + Log + Net>(
-    rt: &R,
-    alloc: Global,
-    state: &State,
-) {
+// Puts down two steps. Whether each is written when something leaves, and the first not before that.
+fn write_two<R: Files<File = File> + Wait>(rt: &R, alloc: Global, state: &State) -> bool {
     record_call(rt, state, &closed(0));
-    assert_steps(rt, alloc, b"");
-    assert!(rt; !ToSocket { state }.send(rt, &downlink()));
-    assert_steps(rt, alloc, b"close 000000000000000d 1 0\n");
+    let is_late = are_steps(rt, alloc, b"");
+    let is_sent = ToSocket { state }.send(rt, &downlink());
+    let is_first = are_steps(rt, alloc, b"close 000000000000000d 1 0\n");
     record_call(rt, state, &closed(1));
-    assert!(rt; is_written(rt, alloc, state));
+    let is_put = is_written(rt, alloc, state);
     let both = b"close 000000000000000d 1 0\nclose 000000000000000d 1 1\n";
-    assert_steps(rt, alloc, both);
+    is_late && !is_sent && is_first && is_put && are_steps(rt, alloc, both)
 }
 
-// Writes two steps of a new state, if there is one.
-fn write_anew<R: Files<File = File> + Abort + Wait + Clock + Log + Net>(
+// Does so with the state of a server that begins with this.
+fn write_with<R: Files<File = File> + Wait + Clock>(
     rt: &R,
     alloc: Global,
-) -> Option<()> {
-    let state = state_of(rt, alloc)?;
-    write_two(rt, alloc, &state);
-    Some(())
+    roster: &Roster,
+    options: &ServeOptions<'_>,
+    begun: Begun,
+) -> bool {
+    let mut begun = begun;
+    let record = begun.record.take();
+    let made = begun.made();
+    match State::new(rt, alloc, None, None, roster, options, made, record, None) {
+        Ok(state) => write_two(rt, alloc, &state),
+        Err(_) => false,
+    }
+}
+
+// Does so with the record in the folder, which is there as long.
+fn write_anew<R: Files<File = File> + Alloc + Wait + Clock>(rt: &R, alloc: Global) -> Option<bool> {
+    emptied(rt, FOLDER)?;
+    let options = SHORT.options(Some(1))?;
+    let roster = SHORT.roster(alloc)?;
+    let is_written = match resumed(rt, alloc, &roster, FOLDER, false) {
+        Ok(begun) => write_with(rt, alloc, &roster, &options, begun),
+        Err(_) => false,
+    };
+    fs::remove_dir_all(rt, FOLDER).ok()?;
+    Some(is_written)
 }
 
 /// Before a downlink is sent, and before bytes go to standard output, the steps that were put down are in the file.
 #[test]
 fn steps_are_written_before(rt: HostRuntime) {
-    assert!(rt; emptied(&rt, FOLDER).is_some());
-    assert!(rt; write_anew(&rt, rt.alloc()).is_some());
-    assert!(rt; fs::remove_dir_all(&rt, FOLDER).is_ok());
+    assert!(rt; write_anew(&rt, rt.alloc()) == Some(true));
 }
