@@ -44,7 +44,7 @@ if [ "${1:-}" = --trim ]; then
         END { printf "%d entries: %.1f to %.1f ms, a second trim %.2f ms\n", made, least / 1e6, most / 1e6, again / 1e6 }'
     exit
 fi
-"$program" server "${1:-64}" "${2:-2000}" "${3:-5}" > "$work/lines" 2> "$work/times"
+"$program" server "${1:-64}" "${2:-8000}" "${3:-3}" > "$work/lines" 2> "$work/times"
 echo "load average: $(cut -d' ' -f1-3 /proc/loadavg)"
 grep -v '^trim' "$work/times" | sort -k1,1 -k3,3n | awk '!seen[$1]++' | awk '
     BEGIN { printf "%-10s %12s %10s %8s\n", "", "calls/s", "ns a call", "ratio" }
