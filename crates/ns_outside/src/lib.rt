@@ -6,7 +6,11 @@
 //! - The traits behind which sockets, channels and a clock stand: `Datagrams`, `JobSource`, `Jobs`, `Timer`, `Connections`, `Downlinks`,
 //!   `Monitor`.
 //!
-//! Neither the server nor its workers are named here: what stands round them is made, and proved, beside them.
+//! Promised: `job_of` gives the job that its definition names, and a receipt is made of its call, number and answer. A trait says what its
+//! value gave, took or was told, as far as that tells it. Neither the server nor its workers are named here: what stands round them is made,
+//! and proved, beside them.
+//! The crate stands on `ns_calls` and `ns_types`, on `ns_link` and `ns_views` for refusals, on `ns_joinwire` and `ns_joinclient` for faults
+//! of an exchange, and on `ns_events` for the times of an uplink.
 #![tactic(auto)]
 
 mod fault;
