@@ -10,7 +10,7 @@ ghost use Rattle.ns_serve.specs.Turns.{HasClosed, HasReceipts, IsTurn, IsTurnWit
 use crossbeam_channel::{Receiver, RecvTimeoutError};
 use log::{Log, error};
 use ns_events::Output as Written;
-use ns_outside::{CloseJob, WorkerFault};
+use ns_outside::{CloseJob, Receipt, WorkerFault};
 use ns_serve_parts::{Held, Output, ServeFault, put_under_lock};
 use ns_serve_shards::Recording;
 use ns_serve_state::{Events, Later, SinceMoment, State, nap_ms, now_ms, take_notices};
@@ -19,8 +19,8 @@ use ns_types::Sink;
 use ns_workers::{Ended, ListedJobs, Shared, run_closer};
 use std::alloc::{AllocError, Global};
 use std::sync::{Mutex, Wait};
-use std::thread;
 use std::time::{Clock, Duration};
+use std::{mem, thread};
 
 /// How many windows are closed at a time, at most.
 pub(crate) const AT_A_TIME: usize = 64;
@@ -161,9 +161,10 @@ impl<'a> Closings<'a> {
     }
 }
 
-/// Closes the windows of these jobs, in order, and puts their lines to those that are held. Without a fault it closes them all.
+/// Closes the windows of these jobs, in order, and puts their lines to those that are held. Without a fault it closes them all. The receipts
+/// come in the memory of others.
 pub(crate) fn close_all<B: Naming, R: Wait + Clock + Log>(
-    alloc: Global,
+    receipts: Vec<Receipt>,
     shared: &Shared<'_, B, R, Recording<'_>, Events<'_>>,
     pass: &mut Pass<B>,
     timer: &SinceMoment<'_>,
@@ -182,7 +183,7 @@ pub(crate) fn close_all<B: Naming, R: Wait + Clock + Log>(
 {
     let limit = u32::try_from(jobs.len()).unwrap_or(u32::MAX);
     let mut jobs = ListedJobs::new(jobs, false);
-    run_closer(alloc, shared, pass, timer, &mut jobs, down, held, limit)
+    run_closer(receipts, shared, pass, timer, &mut jobs, down, held, limit)
 }
 
 // The fault of a closer whose lines are held in memory: it is want of memory.
@@ -196,9 +197,10 @@ fn fault_of(fault: Option<WorkerFault>) -> Option<ServeFault>
     }
 }
 
-/// Closes the windows of these jobs, sends their downlinks and writes their lines, also where it meets a fault, which it gives.
+/// Closes the windows of these jobs, sends their downlinks and writes their lines, also where it meets a fault, which it gives. The receipts
+/// are put in the place of others, in their memory.
 pub(crate) fn close_and_write<B: Naming, R: Wait + Clock + Log, W: Sink>(
-    alloc: Global,
+    receipts: &mut Vec<Receipt>,
     shared: &Shared<'_, B, R, Recording<'_>, Events<'_>>,
     pass: &mut Pass<B>,
     state: &State,
@@ -213,10 +215,12 @@ pub(crate) fn close_and_write<B: Naming, R: Wait + Clock + Log, W: Sink>(
     ensures closed { result ≡ None → vec_len jobs < 2 ^ 32 → HasClosed B.roster jobs.items pass.old pass.new }
 {
     let timer = SinceMoment::now(shared.rt, state);
-    let ended = close_all(alloc, shared, pass, &timer, later, jobs, held);
+    let room = mem::replace(receipts, Vec::new(state.alloc));
+    let ended = close_all(room, shared, pass, &timer, later, jobs, held);
     later.send_all(shared.rt);
     let written = put_under_lock(shared.rt, output, held.lines());
     held.clear();
+    *receipts = ended.receipts;
     if ended.fault.is_some() {
         error!(shared.rt; "closer: no memory to close a window");
         return fault_of(ended.fault);

@@ -14,7 +14,7 @@ use crossbeam_channel::{Receiver, Sender, unbounded};
 use log::{Log, error};
 use ns_forwarder_socket::Pending;
 use ns_joinclient::HostName;
-use ns_outside::{CloseJob, Connections, WorkerFault};
+use ns_outside::{CloseJob, Connections, Receipt, WorkerFault};
 use ns_record_files::Upkeep;
 use ns_responses::Responses;
 use ns_roster::Roster;
@@ -381,6 +381,7 @@ fn close_turn<B: Naming, R: Wait + Clock + Log, W: Sink>(
     closings: &mut Closings<'_>,
     later: &mut Later<'_>,
     held: &mut Held,
+    receipts: &mut Vec<Receipt>,
 ) -> Result<bool, ServeFault>
     requires { held.old.failed ≡ false }
     ensures sound { held.new.failed ≡ false }
@@ -390,7 +391,7 @@ fn close_turn<B: Naming, R: Wait + Clock + Log, W: Sink>(
     match closings.next(rt, around.alloc) {
         Ok(Turn::Close(jobs)) => {
             let fault = close_and_write(
-                around.alloc,
+                receipts,
                 shared,
                 pass,
                 state,
@@ -448,11 +449,20 @@ fn close_to_end<B: Naming, R: Wait + Clock + Log, W: Sink>(
         return Some(no_room(around.rt, "lines"));
     };
     let mut closings = Closings::new(state, closes);
+    let mut receipts = Vec::new(around.alloc);
     let mut trims = trims_of(around.trim, around.roster.devices().len());
     let (gate, events) = (Recording { state }, Events { state });
     let shared = around.shared(&gate, &events);
     for _turn in around.rt.forever() {
-        match close_turn(around, &shared, pass, &mut closings, &mut later, &mut held) {
+        match close_turn(
+            around,
+            &shared,
+            pass,
+            &mut closings,
+            &mut later,
+            &mut held,
+            &mut receipts,
+        ) {
             Ok(true) => trim_shards(around, &mut trims),
             Ok(false) => return None,
             Err(fault) => return Some(fault),
@@ -555,6 +565,24 @@ fn join_kits<B: Naming>(
     Ok(kits)
 }
 
+// What the gateway worker at this place takes along with its pass.
+fn gateway_kit<B: Naming>(
+    pass: Pass<B>,
+    closes: &Sender<CloseJob>,
+    state: &State,
+    place: usize,
+) -> Result<GatewayKit<B>, AllocError>
+    requires { pass ≡ none_made }
+{
+    let pending = state.pending_at(place)?;
+    let closes = closes.clone()?;
+    Ok(GatewayKit {
+        pass,
+        pending,
+        closes,
+    })
+}
+
 // Takes the passes for gateway workers.
 fn gateway_kits<B: Naming>(
     alloc: Global,
@@ -567,11 +595,8 @@ fn gateway_kits<B: Naming>(
 {
     let mut kits = Vec::new(alloc);
     while let Some(pass) = passes.pop() {
-        kits.push(GatewayKit {
-            pass,
-            pending: state.pending_at(kits.len())?,
-            closes: closes.clone()?,
-        })?;
+        let kit = gateway_kit(pass, closes, state, kits.len())?;
+        kits.push(kit)?;
     }
     Ok(kits)
 }

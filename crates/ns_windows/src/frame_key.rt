@@ -1,26 +1,24 @@
 //! The bytes of a frame as a key of a map. They are hashed many at a time, where a slice hashes each byte of its own.
 
-ghost use Rattle.std.specs.Prelude.{◌≡◌, IfOk};
+ghost use Rattle.std.specs.Prelude.{◌≡◌, IfOk, OnOk};
 
 use indexmap::Equivalent;
 use std::alloc::{AllocError, Global};
-use std::boxed::BoxedSlice;
 use std::hash::{Hash, Hasher};
 use std::marker::Model;
 
 /// The bytes of a frame, in memory of their own. Contracts see the bytes.
 #[derive(Drop)]
 pub(crate) struct FrameKey {
-    bytes: BoxedSlice<u8>,
+    bytes: Vec<u8>,
 }
 
 impl Model for FrameKey {
     ghost use Rattle.std.specs.Prelude.{List, ℕ};
-    ghost use Rattle.std.specs.Box.{boxed_slice_items};
 
     ghost Value = { List ℕ };
 
-    ghost view = { λ k. boxed_slice_items k.bytes };
+    ghost view = { λ k. k.bytes.items };
 }
 
 impl FrameKey {
@@ -28,9 +26,19 @@ impl FrameKey {
     pub(crate) fn of(alloc: Global, frame: &[u8]) -> Result<FrameKey, AllocError>
         ensures { IfOk result (λ k. k ≡ frame.now) }
     {
-        Ok(FrameKey {
-            bytes: BoxedSlice::from_slice(alloc, frame)?,
-        })
+        let mut key = FrameKey {
+            bytes: Vec::new(alloc),
+        };
+        key.put(frame)?;
+        Ok(key)
+    }
+
+    /// Puts these bytes in the place of its own. Where a growth is refused, it has none.
+    pub(crate) fn put(&mut self, frame: &[u8]) -> Result<(), AllocError>
+        ensures { OnOk result (self.new ≡ frame.now) }
+    {
+        self.bytes.clear();
+        self.bytes.extend_from_slice(frame)
     }
 }
 

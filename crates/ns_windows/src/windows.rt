@@ -1,6 +1,7 @@
 //! Open windows by their names and by their frames.
 
-ghost use Rattle.std.specs.Prelude.{◌≡◌, [], ◌∷◌, ◌++◌, None, is_some, map, option_map, IfOk, OnOk, OnErr};
+ghost use Rattle.std.specs.Prelude.{◌≡◌, [], ◌∷◌, ◌++◌, None, is_some, map, option_map, bytes_eq, IfOk, OnOk, OnErr};
+ghost use Rattle.std.specs.Map.{lookup, KeepsOthers};
 ghost use Rattle.ns_calls.specs.Queries.{first};
 ghost use Rattle.ns_windows.specs.Windows.{window_named, window_of_frame, new_window, count, addition, with_copy_of, without};
 
@@ -29,6 +30,8 @@ pub struct Windows {
     counts: Counts,
     /// Closed windows, in whose memory others are opened.
     closed: Vec<BoxedWindow>,
+    /// Keys of closed windows, in whose memory others are made.
+    keys: Vec<FrameKey>,
 }
 
 impl Model for Windows {
@@ -43,6 +46,36 @@ impl Model for Windows {
     ghost invariant = { λ w. Agree (λ k. k) w.names w.frames.entries × AreCounted w.counts.entries w.names };
 }
 
+// A frame's key, in the memory of a kept one where there is one.
+fn key_of(keys: &mut Vec<FrameKey>, alloc: Global, frame: &[u8]) -> Result<FrameKey, AllocError>
+    ensures { IfOk result (λ k. k ≡ frame.now) }
+{
+    let Some(mut key) = keys.pop() else {
+        keys.reserve(MOST_CLOSED)?;
+        return FrameKey::of(alloc, frame);
+    };
+    key.put(frame)?;
+    Ok(key)
+}
+
+// Keeps a key for its memory, where there is room for it. It takes no memory.
+fn keep_key(keys: &mut Vec<FrameKey>, key: FrameKey) {
+    if keys.len() < keys.capacity() {
+        keys.push_reserved(key);
+    }
+}
+
+// Takes a frame out, and keeps its key.
+fn take_frame(frames: &mut IndexMap<FrameKey, WindowName>, keys: &mut Vec<FrameKey>, frame: &[u8])
+    ensures gone { lookup (λ k. bytes_eq frame.now k) frames.new.entries ≡ None }
+    ensures others { KeepsOthers (λ x y. bytes_eq x y) (λ k. bytes_eq frame.now k) frames.old.entries frames.new.entries }
+{
+    let Some((key, _)) = frames.swap_remove_entry(LentFrame { bytes: frame }) else {
+        return;
+    };
+    keep_key(keys, key);
+}
+
 impl Windows {
     /// No windows.
     pub fn new(alloc: Global) -> Windows
@@ -54,6 +87,7 @@ impl Windows {
             frames: IndexMap::new(alloc),
             counts: IndexMap::new(alloc),
             closed: Vec::new(alloc),
+            keys: Vec::new(alloc),
         }
     }
 
@@ -148,7 +182,7 @@ impl Windows {
         ensures err { OnErr result (self.new ≡ self.old) }
     {
         let name = window.as_ref().name;
-        let frame = FrameKey::of(self.alloc, window.as_ref().frame.bytes())?;
+        let frame = key_of(&mut self.keys, self.alloc, window.as_ref().frame.bytes())?;
         self.frames.reserve(1)?;
         self.counts.reserve(1)?;
         self.names.push(window)?;
@@ -173,9 +207,7 @@ impl Windows {
     {
         let window = self.names.remove(name)?;
         let lent = window.as_ref();
-        self.frames.swap_remove(LentFrame {
-            bytes: lent.frame.bytes(),
-        });
+        take_frame(&mut self.frames, &mut self.keys, lent.frame.bytes());
         lower(&mut self.counts, lent.name.eui);
         Some(window)
     }

@@ -18,7 +18,7 @@ use ns_outside::{
 };
 use ns_server::{Naming, Pass};
 use ns_types::{Failed, Sink};
-use std::alloc::{AllocError, Global};
+use std::alloc::AllocError;
 use std::sync::Wait;
 
 /// What a closer has done: the receipts of its closings, in order, and why it ended early.
@@ -152,8 +152,8 @@ fn close_all<
 }
 
 /// Closes the windows of at most `limit` jobs, each as it becomes due, sends what goes down, and writes the line of each first window
-/// that was open, with a line feed. Room for the receipts is taken first. Each receipt tells the plain server's answer after a history of its
-/// shard.
+/// that was open, with a line feed. The receipts come in the memory of others, which are gone; where it has no room for `limit` ones, that is
+/// taken first. Each receipt tells the plain server's answer after a history of its shard.
 ///
 /// With no fault and fewer receipts than `limit` the source has ended. K1 where a growth was refused: then nothing was done with the
 /// job taken last, whose window was not open (no clause). K2 where the source failed. K3 where the sink failed: then it has a beginning of the
@@ -169,7 +169,7 @@ pub fn run_closer<
     J: JobSource<R, CloseJob>,
     W: Sink,
 >(
-    alloc: Global,
+    mut receipts: Vec<Receipt>,
     shared: &Shared<'_, B, R, G, M>,
     pass: &mut Pass<B>,
     timer: &T,
@@ -191,9 +191,10 @@ pub fn run_closer<
     ensures sound { result.fault ≢ Some WorkerFault.SinkFailed → W.has_failed sink.new ≡ false }
     ensures failed { result.fault ≡ Some WorkerFault.SinkFailed → W.has_failed sink.new ≡ true }
 {
-    let Ok(mut receipts) = Vec::with_capacity(alloc, limit as usize) else {
+    receipts.clear();
+    let Ok(()) = receipts.reserve(limit as usize) else {
         return Ended {
-            receipts: Vec::new(alloc),
+            receipts,
             fault: Some(WorkerFault::NoMemory),
         };
     };

@@ -9,12 +9,12 @@ use ns_shard::{Shard, new_shards};
 use ns_types::{BLOCKS, take_all};
 use std::alloc::Global;
 
-// Each step, the line of its answer, and how often memory is refused to it at least.
-type Steps = &'static [(&'static str, &'static str, u64)];
+/// Each step, the line of its answer, and how often memory is refused to it at least.
+pub type Steps = &'static [(&'static str, &'static str, u64)];
 
-// A join that two gateways hear, its answer, an answer too many, and an uplink that two gateways hear. The first entry and the first
-// window need memory.
-const WORKED: Steps = &[
+/// A join that two gateways hear, its answer, an answer too many, and an uplink that two gateways hear. The first entry and the first
+/// window need memory.
+pub const WORKED: Steps = &[
     (
         JOIN,
         "ask 0004030201040302010d00000000000000010001000000",
@@ -35,8 +35,8 @@ const WORKED: Steps = &[
     ),
 ];
 
-// A Join-Request of a device that is not in the roster.
-const UNKNOWN: Steps = &[(
+/// A Join-Request of a device that is not in the roster.
+pub const UNKNOWN: Steps = &[(
     "heard 010100000000000000a100000000000f424033be27a005fc4a004b170004030201040302010e00000000000000010001000000",
     "nodevice",
     1,

@@ -1,6 +1,6 @@
-//! A journal where there is no memory, or as much as its growth is to need.
+//! A journal where there is no memory, or as much as its growth or its cut is to need.
 
-ghost use Rattle.std.specs.Prelude.{◌≡◌};
+ghost use Rattle.std.specs.Prelude.{◌≡◌, IfOk, map};
 
 use ns_calls::{Call, Entry, Reply};
 use ns_journal::Journal;
@@ -83,6 +83,32 @@ fn filled(alloc: Global) -> Result<Journal, AllocError> {
     Ok(journal)
 }
 
+// The numbers of all entries.
+fn numbers(alloc: Global, journal: &Journal) -> Result<Vec<u64>, AllocError>
+    ensures { IfOk result (λ v. v.items ≡ map (λ e. e.number) journal.now.entries) }
+{
+    journal
+        .entries()
+        .iter()
+        .map(|entry| entry.number)
+        .collect(alloc)
+}
+
+// Whether a cut of which all 65,536 entries stay is made with memory for these and an eighth more, and leaves as many. With memory for just
+// these, malloc finds no room beside what it keeps for itself.
+fn is_cut_to_all(journal: &mut Journal, alloc: Global) -> Result<bool, AllocError> {
+    let mut held: Vec<Vec<u8>> = Vec::with_capacity(alloc, BLOCKS)?;
+    let stay = numbers(alloc, journal)?;
+    let spare: Vec<Entry> = Vec::with_capacity(alloc, 73_728)?;
+    take_all(alloc, &mut held)?;
+    drop(spare);
+    if journal.made() > 1 << 63 {
+        return Ok(false);
+    }
+    let out = journal.cut(alloc, stay.as_slice())?;
+    Ok(out.is_empty() && journal.entries().len() == stay.len())
+}
+
 // Whether a growth is refused where all memory is gone, whether it is made with 64 MB more, and whether a cut of all is made with none.
 fn grown_and_cut(journal: &mut Journal, alloc: Global) -> Result<(bool, bool, bool), AllocError> {
     let mut held: Vec<Vec<u8>> = Vec::with_capacity(alloc, BLOCKS)?;
@@ -96,15 +122,17 @@ fn grown_and_cut(journal: &mut Journal, alloc: Global) -> Result<(bool, bool, bo
     Ok((is_refused, is_grown, is_cut))
 }
 
-// The same of a journal that is filled.
-fn grown_and_cut_anew(alloc: Global) -> Result<(bool, bool, bool), AllocError> {
+// The same of a journal that is filled, and whether a cut of which all stay is made before.
+fn grown_and_cut_anew(alloc: Global) -> Result<(bool, (bool, bool, bool)), AllocError> {
     let mut journal = filled(alloc)?;
-    grown_and_cut(&mut journal, alloc)
+    let is_cut = is_cut_to_all(&mut journal, alloc)?;
+    Ok((is_cut, grown_and_cut(&mut journal, alloc)?))
 }
 
 // Of entries that fill their room: a growth is refused where all memory is gone, and is made where 64 MB are given back, which has room
-// for twice as many and not for eight times as many. A cut of which nothing stays takes no memory.
+// for twice as many and not for eight times as many. A cut of which nothing stays takes no memory, and one of which all stay no
+// more than what stays and an eighth.
 #[test]
 fn growth_and_cut_take_no_more_than_they_need(rt: HostRuntime) {
-    assert!(rt; grown_and_cut_anew(rt.alloc()) == Ok((true, true, true)));
+    assert!(rt; grown_and_cut_anew(rt.alloc()) == Ok((true, (true, true, true))));
 }

@@ -1,8 +1,8 @@
 //! Tests of shards and of records, of what no text of a worked run can say.
 //!
 //! Of a shard and of `replay`: a server that searches its entries gives the same replies to Join-Requests, the last round of a session,
-//! memory that is refused to a shard, to a journal and to a whole run, a trim in place, streams that fail, and the texts of faults and
-//! keys.
+//! memory that is refused to a shard, to a journal and to a whole run, a run of 100,002 steps, a trim in place, streams that fail, and the
+//! texts of faults and keys.
 //!
 //! Of records: the lines of calls (ns_record), a start from a record (ns_resume), and compactions (ns_compact): which lines stay, that a
 //! server goes on the same after them, that too few lines are told as such, what is left of the files of a folder, also where `up` lines
@@ -35,6 +35,8 @@ mod random;
 mod rounds;
 #[cfg(test)]
 mod rows;
+#[cfg(test)]
+mod runs;
 #[cfg(test)]
 mod start;
 #[cfg(test)]

@@ -7,12 +7,40 @@ use crate::gate_tests::{Visited, is_past};
 use crate::work::make;
 use ns_calls::{Call, Entry, Reply};
 use ns_outside::{Open, Receipt};
-use ns_server::{Naming, Pass, Server, Settled};
+use ns_server::{Naming, Pass, Server, Settled, Trim};
 use ns_shard::{Dropped, TrimFault};
 use std::alloc::Global;
 use std::rt::Clock;
 use std::sync::Wait;
 use std::sync::atomic::AtomicU64;
+
+/// What came of a trim: its mark, how many entries it dropped, and those that it handed out.
+#[derive(Drop)]
+pub struct Trimmed {
+    pub mark: u64,
+    pub count: u64,
+    pub entries: Vec<Entry>,
+}
+
+impl Trimmed {
+    // Of a trim in place, which hands none out.
+    fn counted(alloc: Global, trim: Trim) -> Trimmed {
+        Trimmed {
+            mark: trim.mark,
+            count: trim.dropped,
+            entries: Vec::new(alloc),
+        }
+    }
+
+    // Of one that hands out what it drops.
+    fn handed_out(dropped: Dropped) -> Trimmed {
+        Trimmed {
+            mark: dropped.mark,
+            count: dropped.entries.len() as u64,
+            entries: dropped.entries,
+        }
+    }
+}
 
 /// Makes calls, and trims.
 pub trait Caller {
@@ -29,8 +57,8 @@ pub trait Caller {
     fn made(&self, shard: u8) -> u64
         requires { shard < 16 };
 
-    /// Trims a shard.
-    fn trim(&mut self, shard: u8) -> Result<Dropped, TrimFault>;
+    /// Trims a shard, in the memory of its entries or not.
+    fn trim(&mut self, shard: u8, in_place: bool) -> Result<Trimmed, TrimFault>;
 
     /// Waits until a number is another than this one, for ten seconds at most. Whether it is.
     fn is_past(&self, number: &AtomicU64, first: u64) -> bool;
@@ -62,12 +90,16 @@ impl<'a, B: Naming, R: Wait + Clock> Caller for Worker<'a, B, R> {
         self.pass.made(shard)
     }
 
-    fn trim(&mut self, shard: u8) -> Result<Dropped, TrimFault> {
-        if shard < 16 {
-            self.server.trim(self.rt, self.alloc, shard)
-        } else {
-            Err(TrimFault::Full)
+    fn trim(&mut self, shard: u8, in_place: bool) -> Result<Trimmed, TrimFault> {
+        if shard >= 16 {
+            return Err(TrimFault::Full);
         }
+        if in_place {
+            let trim = self.server.trim_in_place(self.rt, self.alloc, shard)?;
+            return Ok(Trimmed::counted(self.alloc, trim));
+        }
+        let dropped = self.server.trim(self.rt, self.alloc, shard)?;
+        Ok(Trimmed::handed_out(dropped))
     }
 
     fn is_past(&self, number: &AtomicU64, first: u64) -> bool {

@@ -146,7 +146,7 @@ pub fn closed_without<C: Caller>(alloc: Global, caller: &mut C) -> Option<u64> {
 // handed out one entry.
 fn is_trimmed_at_last<C: Caller>(caller: &mut C, held: &mut Vec<Vec<u8>>) -> Option<bool> {
     for refused in 0..BLOCKS {
-        match caller.trim(13) {
+        match caller.trim(13, false) {
             Ok(dropped) => return Some(refused > 0 && dropped.entries.len() == 1),
             Err(TrimFault::NoMemory) => {}
             Err(TrimFault::Full) => return None,

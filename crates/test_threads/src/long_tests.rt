@@ -168,7 +168,7 @@ impl Both {
     // Trims a shard of the server. Whether the mark is how many entries were made, and 208 of each device are left at most.
     fn trim<C: Caller>(&mut self, caller: &mut C, index: u8) -> Option<bool> {
         let place = usize::from(index % 16);
-        let trimmed = caller.trim(index).ok()?;
+        let trimmed = caller.trim(index, false).ok()?;
         let count = trimmed.entries.len() as u64;
         let made = self.shards.get(place)?.made();
         self.dropped[place] = self.dropped[place].wrapping_add(count);

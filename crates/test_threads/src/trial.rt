@@ -7,7 +7,7 @@ ghost use Rattle.ns_tally.specs.Tally.{AreNamed};
 
 use crate::caller::{Caller, Ended, Worker};
 use crate::growth_tests::{calls_refused, closed_without, trim_refused};
-use crate::large_tests::{is_half_open, long_trims, many_windows};
+use crate::large_tests::{are_left_twice, is_half_open, long_trims, many_windows};
 use crate::long_tests::long_run;
 use crate::served::{Work, served};
 use crate::tests::{are_right, has_one, held_back, makes_one};
@@ -130,7 +130,7 @@ fn is_left<E: Ended>(settled: &mut E, trial: Trial, left: &Left) -> bool {
         Trial::TrimRefused => (settled.mark(13), settled.dropped(13)) == (14, 1),
         Trial::LongRun => left.is_of(settled),
         Trial::Trimmed(run) => run.is_left(settled),
-        Trial::LongTrims => settled.drain_next().is_none(),
+        Trial::LongTrims => are_left_twice(settled),
         Trial::ManyWindows => is_half_open(settled),
         _ => true,
     }

@@ -132,7 +132,7 @@ fn are_numbered(entries: &[Entry], numbers: &[u64]) -> bool {
 
 // Whether a trim of the device's shard has this mark and hands out the entries of these numbers.
 fn trims_out<C: Caller>(caller: &mut C, mark: u64, out: &[u64]) -> bool {
-    match caller.trim(13) {
+    match caller.trim(13, false) {
         Ok(dropped) => dropped.mark == mark && are_numbered(dropped.entries.as_slice(), out),
         Err(_) => false,
     }

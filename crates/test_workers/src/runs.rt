@@ -4,7 +4,7 @@ use crate::around::{Around, Asked, Faults, NONE, Put, Scarce, Sent};
 use crate::beside::Until;
 use crate::frames::heard;
 use crate::told::{fault_number, tell, tell_jobs, tell_out, tell_window};
-use ns_calls::Call;
+use ns_calls::{Call, Reply};
 use ns_events::Output;
 use ns_joinclient::HostName;
 use ns_outside::{AskJob, CloseJob};
@@ -260,7 +260,7 @@ fn tell_joined(log: &mut String, joined: Joined, down: &Sent, around: &Around) -
     tell_out(log, &[], down, around, 0)
 }
 
-// Runs a closer. Its first three receipts are told by their calls.
+// Runs a closer.
 fn close<B: Naming, R: Wait + Clock>(
     alloc: Global,
     shared: &Shared<'_, B, R, Until, Around>,
@@ -274,14 +274,16 @@ fn close<B: Naming, R: Wait + Clock>(
     let most = if writes.is_some() { 2000 } else { 7 };
     let mut down = Sent::new(alloc, true)?;
     let mut sink = Fuse::new(alloc, Vec::new(alloc), most, None, writes);
+    let room = Vec::new(alloc);
     let ended = run_closer(
-        alloc, shared, pass, around, jobs, &mut down, &mut sink, limit,
+        room, shared, pass, around, jobs, &mut down, &mut sink, limit,
     );
     jobs.give_back();
     tell_closed(log, &ended, &sink, &down, around)
 }
 
-// Tells the first three receipts of a closer, how it ended, and what went out.
+// Tells the first four receipts of a closer, each with 1 where its window was not open; how it ended, with how many receipts; and what
+// went out.
 fn tell_closed(
     log: &mut String,
     ended: &Ended,
@@ -289,12 +291,14 @@ fn tell_closed(
     down: &Sent,
     around: &Around,
 ) -> Option<()> {
-    for receipt in ended.receipts.iter().take(3) {
+    for receipt in ended.receipts.iter().take(4) {
         if let Call::Close { window } = &receipt.entry.call {
-            tell_window(log, "close", window, 0)?;
+            let is_late = receipt.entry.reply == Reply::NoWindow;
+            tell_window(log, "close", window, u64::from(is_late))?;
         }
     }
-    tell(log, "ended", &[fault_number(ended.fault)])?;
+    let count = ended.receipts.len() as u64;
+    tell(log, "ended", &[fault_number(ended.fault), count])?;
     tell_out(log, sink.written(), down, around, 7)
 }
 

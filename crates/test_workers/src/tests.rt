@@ -1,7 +1,8 @@
 //! What workers do in whole, and what each fault leaves.
 //!
-//! Each case is runs, and the text that tells what came of each: the numbers of how it ended, the jobs that it put or the windows that it
-//! closed, its lines, its downlinks, and the numbers of `Around`; and then the replies of shards 13 and 14.
+//! Each case is runs, and the text that tells what came of each: the numbers of how it ended, the jobs that it put or the first four
+//! windows that it closed, each with 1 where it was not open, its lines, its downlinks, and the numbers of `Around`; and then the replies
+//! of shards 13 and 14.
 
 use crate::around::{Asked, Faults, NONE};
 use crate::frames::{
@@ -119,6 +120,9 @@ const NOT_OPEN: [Due; 3] = [(13, 2, 9, 1), (13, 3, 9, 1), (13, 4, 9, 40)];
 
 const ALL_OPEN: [Due; 3] = [(13, 2, 9, 1), (13, 3, 9, 1), (13, 10, 9, 40)];
 
+// Three open windows, and then one that is not open.
+const FOUR_WINDOWS: [Due; 4] = [(13, 2, 9, 1), (13, 3, 9, 1), (13, 10, 9, 1), (13, 4, 9, 1)];
+
 // Windows are closed in the order of the jobs, each with its line, and a closed name has none; the limit, the source's end, a source
 // that fails, and room that is refused.
 const WINDOWS_ARE_CLOSED_IN_ORDER: Case = (
@@ -132,20 +136,20 @@ const WINDOWS_ARE_CLOSED_IN_ORDER: Case = (
     ],
     "\
 close 13 1 2 1 0
-ended 0
+ended 0 1
 up 000000000000000d 1 2 1 plain - 74657374 1 00000000000000a1
 told 9 0 0 0 0 0 0 0 0 0
 close 13 1 3 1 0
-close 13 1 3 1 0
-ended 0
+close 13 1 3 1 1
+ended 0 2
 up 000000000000000d 1 3 1 plain - 55 1 00000000000000a1
 down 00000000000000a1 2000000 868100000 5 60f17dbe492000001c0217fb
 told 9 9 9 0 0 0 0 0 0 0
-ended 0
+ended 0 0
 told 9 9 9 0 0 0 0 0 0 0
-ended 2
+ended 2 0
 told 0 0 0 0 0 0 0 0 0 0
-ended 1
+ended 1 0
 told 0 0 0 0 0 0 0 0 0 0
 ask 0 4 3 2 1 4 3 2 1 13 0 0 0 0 0 0 0 1 0 1 0 0 0 0 0
 accepted 13 1 1237220849
@@ -153,6 +157,41 @@ opened 13 1 2 1 0
 opened 13 1 3 1 0
 closed 13 1 2 1 0
 acknowledged 13 1 3 1 0
+nowindow
+",
+    "",
+);
+
+// Of four windows, of which three are open, each has its receipt, and the three their lines.
+const FOUR_WINDOWS_ARE_CLOSED: Case = (
+    &[
+        ASKS,
+        JOINS,
+        HEARD,
+        At(7, Serve(&[Frame(&UP_10, 1)], 1), NONE),
+        LeaveOut,
+        At(7, Close(&FOUR_WINDOWS, &[9]), NONE),
+    ],
+    "\
+close 13 1 2 1 0
+close 13 1 3 1 0
+close 13 1 10 1 0
+close 13 1 4 1 1
+ended 0 4
+up 000000000000000d 1 2 1 plain - 74657374 1 00000000000000a1
+up 000000000000000d 1 3 1 plain - 55 1 00000000000000a1
+up 000000000000000d 1 10 1 plain - 55 1 00000000000000a1
+down 00000000000000a1 2000000 868100000 5 60f17dbe492000001c0217fb
+told 9 9 9 0 0 0 0 0 0 0
+ask 0 4 3 2 1 4 3 2 1 13 0 0 0 0 0 0 0 1 0 1 0 0 0 0 0
+accepted 13 1 1237220849
+opened 13 1 2 1 0
+opened 13 1 3 1 0
+opened 13 1 10 1 0
+closed 13 1 2 1 0
+acknowledged 13 1 3 1 0
+closed 13 1 10 1 0
+nowindow
 ",
     "",
 );
@@ -306,15 +345,17 @@ const EACH_WINDOW_IN_ITS_TIME: Case = (
     ],
     "\
 close 13 1 9 1 0
-close 13 1 4294967295 1 0
-close 4294967310 1 4 1 0
-ended 0
+close 13 1 4294967295 1 1
+close 4294967310 1 4 1 1
+ended 0 3
 up 000000000000000d 1 9 1 plain - 55 1 00000000000000a1
 told 9223372036854775808 9223372036854775813 9223372036854775813 0 0 0 0 0 0 0
 ask 0 4 3 2 1 4 3 2 1 13 0 0 0 0 0 0 0 1 0 1 0 0 0 0 0
 accepted 13 1 1237220849
 opened 13 1 9 1 0
 closed 13 1 9 1 0
+nowindow
+nowindow
 ",
     "",
 );
@@ -359,7 +400,7 @@ joinrefused
     "",
 );
 
-// What is told of a closer's first two windows, and of how they were opened and closed.
+// What is told of a closer's first two windows, of how they were opened and closed, and of the first two closings of one not open.
 const TWO_LINES: &str = "\
 up 000000000000000d 1 2 1 plain - 74657374 1 00000000000000a1
 up 000000000000000d 1 3 1 plain - 55 1 00000000000000a1
@@ -371,6 +412,8 @@ opened 13 1 2 1 0
 opened 13 1 3 1 0
 closed 13 1 2 1 0
 acknowledged 13 1 3 1 0
+nowindow
+nowindow
 ";
 
 // The lines of a closer's first two windows are written before it ends where its source fails.
@@ -385,8 +428,9 @@ const LINES_BEFORE_A_FAILED_SOURCE: Case = (
     "\
 close 13 1 2 1 0
 close 13 1 3 1 0
-close 13 1 4 1 0
-ended 2
+close 13 1 4 1 1
+close 13 1 4 1 1
+ended 2 42
 ",
     TWO_LINES,
 );
@@ -405,7 +449,7 @@ const LINES_BEFORE_A_FAILED_SINK: Case = (
 close 13 1 2 1 0
 close 13 1 3 1 0
 close 13 1 10 1 0
-ended 3
+ended 3 3
 up 000000000000000d 1 2 1 plain - 74657374 1 00000000000000a1
 up 000000000000000d 1 3 1 plain - 55 1 00000000000000a1
 down 00000000000000a1 2000000 868100000 5 60f17dbe492000001c0217fb
@@ -422,7 +466,8 @@ closed 13 1 10 1 0
     "",
 );
 
-// The same where memory is refused.
+// The same where memory is refused. The journal of the shard has room for two entries more, so two windows that are not open are told
+// too.
 const LINES_BEFORE_NO_MEMORY: Case = (
     &[
         ASKS,
@@ -434,8 +479,9 @@ const LINES_BEFORE_NO_MEMORY: Case = (
     "\
 close 13 1 2 1 0
 close 13 1 3 1 0
-close 13 1 4 1 0
-ended 1
+close 13 1 4 1 1
+close 13 1 4 1 1
+ended 1 4
 ",
     TWO_LINES,
 );
@@ -460,9 +506,9 @@ closed 13 1 2 1 0
     "",
 );
 
-// Each growth of the text of a request, of its connection and of the answer's reading is refused in turn: the ticket is answered as
-// failed, until there is memory enough.
-const EACH_GROWTH_OF_A_JOIN_REFUSED: Case = (
+// Blocks of memory are given back one after the other: the ticket is answered as failed, until there is memory enough for the text of a
+// request, its connection and the answer's reading. Several growths may pass with one block.
+const JOIN_REFUSED_UNTIL_MEMORY_IS_BACK: Case = (
     &[UntilAccepted(&[Frame(&JOIN_1, 1)], &[(&JOIN_1, 7, ANSWER_1, 0)])],
     "\
 served 1 0 0 0
@@ -493,6 +539,7 @@ const OF_JOIN_WORKERS: &[Case] = &[
 
 const OF_CLOSERS: &[Case] = &[
     WINDOWS_ARE_CLOSED_IN_ORDER,
+    FOUR_WINDOWS_ARE_CLOSED,
     EACH_WINDOW_IN_ITS_TIME,
     LINES_BEFORE_A_FAILED_SOURCE,
     LINES_BEFORE_A_FAILED_SINK,
@@ -501,7 +548,7 @@ const OF_CLOSERS: &[Case] = &[
 const WITHOUT_MEMORY: &[Case] = &[
     LINES_BEFORE_NO_MEMORY,
     DROPPED_UPLINK_IS_HEARD_AGAIN,
-    EACH_GROWTH_OF_A_JOIN_REFUSED,
+    JOIN_REFUSED_UNTIL_MEMORY_IS_BACK,
 ];
 
 // The first closer, held on shard 0, has ended after the one on shard 13.
@@ -511,13 +558,14 @@ const ONE_SHARD_HOLDS_UP_NO_OTHER: Case = (
         At(0, Close(&[(13, 0, 0, 1)], &[4]), NONE),
     ],
     "\
-close 16 1 0 1 0
-ended 0
+close 16 1 0 1 1
+ended 0 1
 told 0 0 0 0 0 0 0 0 0 0
-close 13 1 0 1 0
-ended 0
+close 13 1 0 1 1
+ended 0 1
 told 0 0 0 0 0 0 0 0 0 0
 late 0
+nowindow
 ",
     "",
 );

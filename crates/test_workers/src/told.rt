@@ -100,12 +100,13 @@ fn tell_reply(log: &mut String, reply: &Reply) -> Option<()> {
         ),
         Reply::JoinRefused => tell(log, "joinrefused", &[]),
         Reply::NoTicket => tell(log, "noticket", &[]),
+        Reply::NoWindow => tell(log, "nowindow", &[]),
         Reply::NoDevice => tell(log, "nodevice", &[]),
         _ => tell(log, "another reply", &[]),
     }
 }
 
-/// Tells the replies of entries, but for windows that are not open, and for an entry that is as the last but one before it.
+/// Tells the replies of entries, but for an entry that is as the last but one before it.
 pub fn tell_entries(log: &mut String, entries: &[Entry]) -> Option<()> {
     for at in 0..entries.len() {
         let entry = &entries[at];
@@ -113,7 +114,7 @@ pub fn tell_entries(log: &mut String, entries: &[Entry]) -> Option<()> {
             Some(other) => other.call == entry.call && other.reply == entry.reply,
             None => false,
         };
-        if !again && entry.reply != Reply::NoWindow {
+        if !again {
             tell_reply(log, &entry.reply)?;
         }
     }

@@ -22,11 +22,11 @@ invariant_of-self c = rw (stays c) c.self.invariant
 frame_of : (c : After-lower) → c.bytes.result.now ≡ c.in_ok-window.window.frame
 frame_of c = c.bytes.ensures.bytes ∙ ap (λ (w : Window). w.frame) c.as_ref-lent.ensures
 
-keeps : (c : After-lower) → KeepsOthers (λ x y. bytes_eq x y) (λ k. bytes_eq c.in_ok-window.window.frame k) c.self.inside.frames.entries c.swap_remove.new.self.entries
-keeps c = rw (← frame_of c) c.swap_remove.ensures.updates.3
+keeps : (c : After-lower) → KeepsOthers (λ x y. bytes_eq x y) (λ k. bytes_eq c.in_ok-window.window.frame k) c.self.inside.frames.entries c.take_frame.new.frames.entries
+keeps c = rw (← frame_of c) c.take_frame.ensures.others
 
-gone : (c : After-lower) → lookup (λ k. bytes_eq c.in_ok-window.window.frame k) c.swap_remove.new.self.entries ≡ None
-gone c = rw (← frame_of c) c.swap_remove.ensures.updates.1
+gone : (c : After-lower) → lookup (λ k. bytes_eq c.in_ok-window.window.frame k) c.take_frame.new.frames.entries ≡ None
+gone c = rw (← frame_of c) c.take_frame.ensures.gone
 
 counted : (c : After-lower) → AreCounted c.lower.new.counts.entries (without c.args.name.now c.self.inside.names)
 counted c eui =
@@ -45,7 +45,7 @@ invariant_of-self-2 c =
       (
         NoTwo-filter of_one_name (λ w. not (is_named name w)) ws i.0,
         NoTwo-filter of_one_frame (λ w. not (is_named name w)) ws i.1,
-        (λ f. frames-taken (λ (k : List ℕ). k) c.self.inside.frames.entries c.swap_remove.new.self.entries name ws c.in_ok-window.window i.0 i.1 (sym c.in_ok-window.ensures.result) (keeps c) (gone c) f (i.2 f)),
+        (λ f. frames-taken (λ (k : List ℕ). k) c.self.inside.frames.entries c.take_frame.new.frames.entries name ws c.in_ok-window.window i.0 i.1 (sym c.in_ok-window.ensures.result) (keeps c) (gone c) f (i.2 f)),
       ),
       counted c,
     )
