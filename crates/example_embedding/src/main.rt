@@ -13,8 +13,9 @@ mod steps;
 mod threads;
 mod workers;
 
-use ns_calls::{Answer, Call, lines, shard_of_call};
+use ns_calls::{Answer, Call, shard_of_call};
 use ns_kept::untrimmed_histories_read_as_they_are;
+use ns_lines::lines;
 use ns_roster::Roster;
 use ns_shard::{Shard, Shards, Taken};
 use ns_types::{GatewayId, Heard};

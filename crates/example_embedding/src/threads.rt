@@ -12,7 +12,8 @@ ghost use Rattle.ns_server.specs.Settled.{AreStates, MergesToLegal};
 
 use crate::workers::{round, trim_all};
 use anyhow::anyhow;
-use ns_calls::{Answer, lines};
+use ns_calls::Answer;
+use ns_lines::lines;
 use ns_outside::Receipt;
 use ns_roster::Roster;
 use ns_server::{Naming, Pass, Server, Settled};

@@ -5,7 +5,7 @@ use Rattle.ns_aes_cmac.specs.Cmac.{shifted_left, last_block, chained, cmac}
 use Rattle.ns_secure.specs.Cipher.{numbers}
 use Rattle.std.specs.Fmt.{digits}
 use Rattle.hex.specs.Hex.{encode_with}
-use Rattle.ns_calls.specs.Text.{reply_text, up_text, down_text, window_text, wide, address_text, bytes_text, gateways_text}
+use Rattle.ns_lines.specs.Text.{reply_text, up_text, down_text, window_text, wide, address_text, bytes_text, gateways_text}
 use Rattle.example_runs.specs.FirstJoin.{FirstJoin, FirstJoinLines}
 
 pub first_join : FirstJoin

@@ -7,7 +7,7 @@ use Rattle.ns_calls.specs.declared.call.Call.TheVariants as call
 use Rattle.ns_calls.specs.declared.call.Outcome.TheVariants.{Success}
 use Rattle.ns_calls.specs.declared.call.Reply.TheVariants.{Opened, Copied, Old, Ask, JoinCopied, NonceOld, NoDevice, JoinStale, NoTicket, Closed, NoWindow}
 use Rattle.ns_calls.specs.Runs.{answers_of}
-use Rattle.ns_calls.specs.Text.{text}
+use Rattle.ns_lines.specs.Text.{text}
 use Rattle.ns_calls.specs.Steps.{datagram_call}
 use Rattle.example_runs.specs.OneDevice.{eui, network, address, heard_1, heard_2, join_1, join_5, join_6, join_other, nwk_1, nwk_2, app_1, join_ans, name, quiet, accepted}
 

@@ -12,7 +12,7 @@ use Rattle.ns_calls.specs.declared.call.Call.TheVariants as call
 use Rattle.ns_calls.specs.declared.call.Outcome.TheVariants.{Success}
 use Rattle.ns_calls.specs.declared.call.Reply.TheVariants.{Opened, Copied, Old, Ask, Accepted, Closed, Again}
 use Rattle.ns_calls.specs.Runs.{answers_of, answers_after}
-use Rattle.ns_calls.specs.Text.{text}
+use Rattle.ns_lines.specs.Text.{text}
 use Rattle.example_runs.specs.OneDevice.{eui, network, address, heard_1, heard_2, join_1, nwk_1, app_1, join_ans, name, quiet, sent_by, accepted}
 
 -- Confirmed Data Up on port 1, of counters 2 and 3

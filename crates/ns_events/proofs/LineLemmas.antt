@@ -6,8 +6,8 @@ use Rattle.std.proofs.lemmas.Bool.Decides.{nat_tests}
 use Rattle.base64.specs.Rfc4648.{encode_symbols, padding_len}
 use Rattle.ns_types.specs.declared.heard.Heard.{Heard}
 use Rattle.ns_calls.specs.declared.answer.Uplink.{Uplink}
-use Rattle.ns_calls.specs.Text.{has_line_feed}
-use Rattle.ns_calls.proofs.LineLemmas.{joined, at_any, hex-line, decimal-line, wide-line, address-line}
+use Rattle.ns_lines.specs.Text.{has_line_feed}
+use Rattle.ns_lines.proofs.LineLemmas.{joined, at_any, hex-line, decimal-line, wide-line, address-line}
 use Rattle.ns_events.specs.declared.lora.Lora.{Lora}
 use Rattle.ns_events.specs.declared.times.Times.{Times}
 use Rattle.ns_events.specs.declared.times.Utc.{Utc}

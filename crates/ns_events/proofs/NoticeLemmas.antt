@@ -8,8 +8,8 @@ use Rattle.json.specs.Tree.{json_tokens, members_tokens, MembersHaveNumbers, mem
 use Rattle.json.proofs.Printed.Decimals.{IsNumber-decimal}
 use Rattle.json.proofs.Printed.Trees.{document-print}
 use Rattle.ns_types.specs.declared.identity.WindowName.{WindowName}
-use Rattle.ns_calls.specs.Text.{wide, has_line_feed}
-use Rattle.ns_calls.proofs.LineLemmas.{decimal-line, wide-line, address-line}
+use Rattle.ns_lines.specs.Text.{wide, has_line_feed}
+use Rattle.ns_lines.proofs.LineLemmas.{decimal-line, wide-line, address-line}
 use Rattle.ns_events.specs.declared.times.Utc.{Utc}
 use Rattle.ns_events.specs.Notice.{time_text, session_text, join_json, ack_json, with_time, session_members, ack_members, join_value, ack_value, NameFits}
 use Rattle.ns_events.proofs.LineLemmas.{utc-line}

@@ -8,7 +8,7 @@ use Rattle.json.specs.Tree.{json_tokens, items_tokens, members_tokens}
 use Rattle.json.proofs.Printed.Trees.{document-print}
 use Rattle.ns_types.specs.declared.heard.Heard.{Heard}
 use Rattle.ns_calls.specs.declared.answer.Uplink.{Uplink}
-use Rattle.ns_calls.specs.Text.{wide, address_text}
+use Rattle.ns_lines.specs.Text.{wide, address_text}
 use Rattle.ns_events.specs.declared.lora.Lora.{Lora}
 use Rattle.ns_events.specs.declared.times.Times.{Times}
 use Rattle.ns_events.specs.Lora.{lora_of}

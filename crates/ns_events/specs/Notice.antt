@@ -2,7 +2,7 @@
 use Rattle.std.specs.Prelude.{ℕ, ◌<◌, ◌^◌, List, [], ◌++◌, codes, decimal, Option, Some, None}
 use Rattle.json.specs.Json.{Json, number, string, object, Members, no_members, member}
 use Rattle.ns_types.specs.declared.identity.WindowName.{WindowName}
-use Rattle.ns_calls.specs.Text.{wide, address_text}
+use Rattle.ns_lines.specs.Text.{wide, address_text}
 use Rattle.ns_events.specs.declared.times.Utc.{Utc}
 use Rattle.ns_events.specs.Times.{utc_text}
 

@@ -1,7 +1,7 @@
 -- How uplinks are written.
 use Rattle.std.specs.Prelude.{ℕ, List, Option}
 use Rattle.ns_calls.specs.declared.answer.Uplink.{Uplink}
-use Rattle.ns_calls.specs.Text.{up_text}
+use Rattle.ns_lines.specs.Text.{up_text}
 use Rattle.ns_events.specs.declared.output.Output.{Output}
 use Rattle.ns_events.specs.declared.output.Output.TheVariants.{Lines, Json}
 use Rattle.ns_events.specs.declared.times.Times.{Times}

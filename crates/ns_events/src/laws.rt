@@ -2,7 +2,7 @@
 ghost use Rattle.std.specs.Prelude.{◌≡◌, ◌<◌, ◌^◌, ℕ, Option, Some, false};
 ghost use Rattle.json.specs.Json.{document};
 ghost use Rattle.ns_calls.specs.declared.answer.Uplink.{Uplink};
-ghost use Rattle.ns_calls.specs.Text.{has_line_feed};
+ghost use Rattle.ns_lines.specs.Text.{has_line_feed};
 ghost use Rattle.ns_events.specs.declared.times.Times.{Times};
 ghost use Rattle.ns_types.specs.declared.identity.WindowName.{WindowName};
 ghost use Rattle.ns_events.specs.declared.times.Utc.{Utc};

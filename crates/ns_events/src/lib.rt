@@ -4,8 +4,8 @@
 //! The Things Stack give to what they have in common with this server. `join_json` and `ack_json` give those of joins and of
 //! acknowledgements (`specs/Notice.antt`). A text has a fixed size and takes no memory. The wall
 //! clock's times are the caller's, and no clause says that they are right.
-//! The crate stands on `ns_types`, `ns_calls`, and `arrayvec`, `hex`, `itoa`, `base64` and `json` of the kit; of the last two only
-//! definitions.
+//! The crate stands on `ns_types`, `ns_calls`, on definitions of `ns_lines`, and on `arrayvec`, `hex`, `itoa`, `base64` and `json` of the
+//! kit; of the last two only definitions.
 #![tactic(auto)]
 
 mod event;

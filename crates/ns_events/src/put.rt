@@ -3,7 +3,7 @@ ghost use Rattle.std.specs.Prelude.{◌≡◌, ◌+◌, ◌*◌, ◌≤◌, ◌+
 ghost use Rattle.std.specs.Int.{w32, w64, to_be_bytes};
 ghost use Rattle.arrayvec.specs.ArrayString.{array_string_len};
 ghost use Rattle.hex.specs.Hex.{encode_lower, lower_digits};
-ghost use Rattle.ns_calls.specs.Text.{wide, address_text};
+ghost use Rattle.ns_lines.specs.Text.{wide, address_text};
 ghost use Rattle.ns_events.specs.Base64.{base64_text, symbols};
 ghost use Rattle.ns_events.specs.Uplink.{flag_text, tenths_text};
 ghost use Rattle.base64.specs.Rfc4648.{encode_group};
@@ -97,7 +97,7 @@ pub(crate) fn put_hex(text: &mut Text, bytes: &[u8])
 }
 
 // Puts an identity in hex, the highest byte first.
-#[tactic(auto, unfolding(ns_calls::specs::Text::wide))]
+#[tactic(auto, unfolding(ns_lines::specs::Text::wide))]
 pub(crate) fn put_identity(text: &mut Text, n: u64)
     requires { array_string_len text.old + 16 ≤ 6400 }
     ensures bytes { text.new.bytes ≡ text.old.bytes ++ wide n }
@@ -107,7 +107,7 @@ pub(crate) fn put_identity(text: &mut Text, n: u64)
 }
 
 // Puts an address in hex, the highest byte first.
-#[tactic(auto, unfolding(ns_calls::specs::Text::address_text))]
+#[tactic(auto, unfolding(ns_lines::specs::Text::address_text))]
 pub(crate) fn put_address(text: &mut Text, n: u32)
     requires { array_string_len text.old + 8 ≤ 6400 }
     ensures bytes { text.new.bytes ≡ text.old.bytes ++ address_text n }

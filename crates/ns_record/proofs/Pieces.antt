@@ -1,7 +1,7 @@
 -- A text that was put piece by piece, told from its last piece on.
 use Rattle.std.proofs.Common.{◌≡◌, ℕ, List, ◌++◌, ap, sym, ◌∙◌, append_assoc}
 use Rattle.hex.specs.Hex.{encode_lower, lower_digits}
-use Rattle.ns_calls.proofs.HexText.{encode_append}
+use Rattle.ns_lines.proofs.HexText.{encode_append}
 
 pub piece : {last b : List ℕ} (a p r : List ℕ) → last ≡ b ++ r → b ≡ a ++ p → last ≡ a ++ (p ++ r)
 piece a p r is before = is ∙ (ap (λ (l : List ℕ). l ++ r) before ∙ append_assoc a p r)

@@ -11,7 +11,7 @@ use Rattle.std.proofs.lemmas.List.Folds.{list_all-append, list_any_none}
 use Rattle.std.proofs.lemmas.List.Sums.{AllPass-from_list_all}
 use Rattle.std.proofs.lemmas.Bool.Decides.{nat_tests}
 use Rattle.hex.specs.Hex.{encode_with, encode_lower, lower_digits}
-use Rattle.ns_calls.specs.Text.{has_line_feed}
+use Rattle.ns_lines.specs.Text.{has_line_feed}
 
 -- a printable byte of ASCII
 abbrev is_plain : ℕ → Bool

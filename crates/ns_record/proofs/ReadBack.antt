@@ -32,7 +32,7 @@ use Rattle.ns_calls.specs.declared.call.Call.TheVariants as call
 use Rattle.ns_calls.specs.Accept.{accept_bytes}
 use Rattle.std.specs.List.{AllByRecursion}
 use Rattle.ns_calls.specs.Steps.{Refusal, content_call, unless_fault, frame_call, datagram_call}
-use Rattle.ns_calls.specs.Text.{wide, window_text, round_text, has_line_feed}
+use Rattle.ns_lines.specs.Text.{wide, window_text, round_text, has_line_feed}
 use Rattle.ns_roster.specs.Field.{value_of, whole_at}
 use Rattle.ns_roster.proofs.HexLemmas.{hex_bytes-encode_lower}
 use Rattle.ns_joinwire.specs.declared.fault.AnsFault.{AnsFault}

@@ -15,7 +15,7 @@ use Rattle.ns_calls.specs.declared.call.Outcome.TheVariants as outcome
 use Rattle.ns_calls.specs.declared.call.Call.{Call}
 use Rattle.ns_calls.specs.declared.call.Call.TheVariants as call
 use Rattle.ns_calls.specs.Accept.{accept_bytes}
-use Rattle.ns_calls.specs.Text.{window_text}
+use Rattle.ns_lines.specs.Text.{window_text}
 use Rattle.ns_shard.specs.declared.step.Act.{Act}
 use Rattle.ns_shard.specs.declared.step.Act.TheVariants.{Datagram, Answer, Lost, Close}
 use Rattle.ns_shard.specs.Taken.{call_of}

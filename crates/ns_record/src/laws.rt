@@ -3,7 +3,7 @@
 ghost use Rattle.std.specs.Prelude.{◌≡◌, false, List};
 ghost use Rattle.std.specs.List.{AllByRecursion};
 ghost use Rattle.ns_calls.specs.declared.call.Call.{Call};
-ghost use Rattle.ns_calls.specs.Text.{has_line_feed};
+ghost use Rattle.ns_lines.specs.Text.{has_line_feed};
 ghost use Rattle.ns_record.specs.StepText.{step_text, record_text, IsOfAStep, ReadsBack, AreReadBack};
 
 /// The step line of a call that came by a step is read back to a step that makes just this call, and has no line feed.

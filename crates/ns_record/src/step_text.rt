@@ -4,7 +4,8 @@ ghost use Rattle.std.specs.Prelude.{◌≡◌, ◌+◌, ◌≤◌, ◌++◌, len
 ghost use Rattle.arrayvec.specs.ArrayString.{array_string_len};
 ghost use Rattle.ns_record.specs.StepText.{up_header, key_text, app_text, accept_text, join_text, heard_text, lost_text, answer_text, close_text, step_text};
 
-use ns_calls::{Call, JoinAccept, JoinAns, Line, Outcome, put_decimal, put_hex, put_window};
+use ns_calls::{Call, JoinAccept, JoinAns, Outcome};
+use ns_lines::{Line, put_decimal, put_hex, put_window};
 use ns_types::{Heard, Key, Ticket, WindowName};
 
 // The bytes of a datagram before its frame of n bytes.

@@ -2,7 +2,7 @@
 
 ghost use Rattle.std.specs.Prelude.{◌≡◌, ◌↔◌, ℕ, List, Some};
 ghost use Rattle.ns_calls.specs.declared.answer.Answer.{Answer};
-ghost use Rattle.ns_calls.specs.Text.{text};
+ghost use Rattle.ns_lines.specs.Text.{text};
 ghost use Rattle.ns_events.specs.declared.output.Output.TheVariants.{Lines};
 ghost use Rattle.ns_replay.specs.Output.{answer_lines};
 ghost use Rattle.ns_shard.specs.declared.step.Act.{Act};
@@ -19,7 +19,7 @@ pub fn steps_are_spelled()
     ensures { (line : List ℕ) (act : Act) → (step line ≡ Some act) ↔ Spells line act }
 {}
 
-/// As lines, what is written of an answer is its text, as `lines` of `ns_calls` gives it.
+/// As lines, what is written of an answer is its text, as `lines` of `ns_lines` gives it.
 pub fn lines_are_the_text()
     ensures { (a : Answer) → answer_lines Lines a ≡ text a }
 {}

@@ -14,8 +14,8 @@ ghost use Rattle.ns_replay.specs.Private.Found.{Has, FoundIn, Longer};
 
 use crate::step_lines::{place_of, step};
 use crate::taken::put_taken;
-use ns_calls::Line;
 use ns_events::Output;
+use ns_lines::Line;
 use ns_roster::Roster;
 use ns_shard::{Act, Shards, Step, Taken};
 use ns_types::{ReadFault, Source};

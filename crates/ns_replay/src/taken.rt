@@ -7,8 +7,9 @@ ghost use Rattle.ns_events.specs.Uplink.{uplink_json};
 ghost use Rattle.ns_replay.specs.Output.{refusal_text, ended, answer_lines, text_of};
 
 use itoa::Buffer;
-use ns_calls::{Line, Uplink, put_downlink, put_lent_uplink, put_reply};
+use ns_calls::Uplink;
 use ns_events::{Output, uplink_json};
+use ns_lines::{Line, put_downlink, put_lent_uplink, put_reply};
 use ns_shard::{BoxedAnswer, Taken};
 use std::alloc::AllocError;
 

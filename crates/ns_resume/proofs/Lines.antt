@@ -8,7 +8,7 @@ use Rattle.std.proofs.lemmas.List.{length-take-le, get_or-take, nil_from_length,
 use Rattle.std.proofs.lemmas.List.Elements.{All-from_get_or}
 use Rattle.std.proofs.lemmas.List.Folds.{list_any_none}
 use Rattle.memchr.specs.Find.{Nowhere, Passes, is_byte}
-use Rattle.ns_calls.specs.Text.{has_line_feed}
+use Rattle.ns_lines.specs.Text.{has_line_feed}
 use Rattle.ns_resume.specs.Resumed.{IsAllOf}
 use Rattle.ns_resume.specs.Private.Lines.{is_front, IsFrontOf}
 

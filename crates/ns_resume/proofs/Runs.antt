@@ -9,7 +9,7 @@ use Rattle.ns_roster.specs.Network.{Network}
 use Rattle.ns_calls.proofs.Lists.{All-push}
 use Rattle.ns_calls.specs.declared.call.Call.{Call}
 use Rattle.ns_calls.specs.declared.answer.Answer.{Answer}
-use Rattle.ns_calls.specs.Text.{up_text, has_line_feed}
+use Rattle.ns_lines.specs.Text.{up_text, has_line_feed}
 use Rattle.ns_calls.specs.Shards.{shard_of_call}
 use Rattle.ns_shard.specs.declared.step.Step.{Step}
 use Rattle.ns_shard.specs.Steps.{shard_history, step_taken, AreAfter}

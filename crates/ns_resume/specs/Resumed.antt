@@ -9,7 +9,7 @@ use Rattle.ns_types.specs.declared.ticket.Ticket.{Ticket}
 use Rattle.ns_roster.specs.Network.{Network}
 use Rattle.ns_calls.specs.Entries.{open_windows}
 use Rattle.ns_calls.specs.History.{same_ticket, is_ticket_open}
-use Rattle.ns_calls.specs.Text.{up_text, has_line_feed}
+use Rattle.ns_lines.specs.Text.{up_text, has_line_feed}
 use Rattle.ns_recorded.specs.Recorded.{matters}
 use Rattle.ns_shard.specs.declared.step.Act.{Act}
 use Rattle.ns_shard.specs.declared.step.Step.{Step}

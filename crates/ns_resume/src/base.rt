@@ -7,7 +7,7 @@ ghost use Rattle.ns_resume.specs.Private.Faults.{NamesNoLine};
 
 use crate::fault::RecordFault;
 use crate::line::read_line;
-use ns_calls::{Line, put_hex};
+use ns_lines::{Line, put_hex};
 use std::alloc::Global;
 use std::io::BufRead;
 

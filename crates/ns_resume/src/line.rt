@@ -2,7 +2,7 @@
 
 ghost use Rattle.std.specs.Prelude.{◌≡◌, ◌+◌, ◌≤◌, ◌++◌, false, length, take, OnOk, IfOk};
 ghost use Rattle.std.specs.Io.KnownBytes.{Consumes};
-ghost use Rattle.ns_calls.specs.Text.{has_line_feed};
+ghost use Rattle.ns_lines.specs.Text.{has_line_feed};
 ghost use Rattle.ns_resume.specs.Resumed.{IsAllOf};
 ghost use Rattle.ns_resume.specs.Private.Lines.{IsPart, feed_of};
 

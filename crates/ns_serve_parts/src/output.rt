@@ -8,7 +8,7 @@ ghost use Rattle.ns_serve_parts.specs.Output.{line, settled_line, address_line, 
 use crate::options::ServeFault;
 use arrayvec::ArrayVec;
 use itoa::Buffer;
-use ns_calls::Line;
+use ns_lines::Line;
 use ns_types::{Failed, Sink, Stream, write_all};
 use std::alloc::Global;
 use std::net::SocketAddr;

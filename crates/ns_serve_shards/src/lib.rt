@@ -5,8 +5,8 @@
 //! `Recording` is the gate that puts down the calls on which later answers rest. `trim_due` trims the shards that are due by `Trims`, and
 //! `closing_text` is the roster from which the next run begins; each has a contract over its definition in `specs/`.
 //! The crate stands on `ns_serve_state` and `ns_serve_parts`, on `ns_server` and `ns_shard` for the shards, on `ns_outside` for receipts
-//! and gates, on `ns_record`, `ns_record_files` and `ns_resume` for the record, on `ns_calls`, `ns_roster` and `ns_types`, and on `log` of
-//! the kit.
+//! and gates, on `ns_record`, `ns_record_files` and `ns_resume` for the record, on `ns_calls`, `ns_lines`, `ns_roster` and `ns_types`, and
+//! on `log` of the kit.
 #![tactic(auto)]
 
 mod begun;

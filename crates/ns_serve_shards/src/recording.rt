@@ -1,10 +1,10 @@
 //! What is put down of a server's calls.
 ghost use Rattle.std.specs.Prelude.{◌≡◌};
 ghost use Rattle.std.specs.Option.{option_map};
-ghost use Rattle.ns_calls.specs.Text.{up_text};
+ghost use Rattle.ns_lines.specs.Text.{up_text};
 ghost use Rattle.ns_record.specs.StepText.{step_text};
 
-use ns_calls::put_uplink;
+use ns_lines::put_uplink;
 use ns_outside::{Gate, Receipt};
 use ns_record::{matters, put_step};
 use ns_record_files::{LineText, RecordLines};

@@ -4,7 +4,7 @@ use Rattle.std.specs.Io.KnownBytes.{Appends}
 use Rattle.ns_types.specs.Streams.{AppendsFront}
 use Rattle.ns_calls.specs.declared.answer.Uplink.{Uplink}
 use Rattle.ns_calls.specs.declared.answer.Downlink.{Downlink}
-use Rattle.ns_calls.specs.Text.{up_text}
+use Rattle.ns_lines.specs.Text.{up_text}
 use Rattle.ns_events.specs.declared.output.Output.{Output}
 use Rattle.ns_events.specs.declared.times.Times.{Times}
 use Rattle.ns_events.specs.Output.{line_of}

@@ -2,13 +2,14 @@
 ghost use Rattle.std.specs.Prelude.{◌≡◌, ◌∷◌, ◌++◌, [], false, true, OnOk, OnErr};
 ghost use Rattle.std.specs.Io.KnownBytes.{Appends};
 ghost use Rattle.ns_types.specs.Streams.{AppendsFront};
-ghost use Rattle.ns_calls.specs.Text.{up_text};
+ghost use Rattle.ns_lines.specs.Text.{up_text};
 ghost use Rattle.ns_events.specs.Uplink.{uplink_json};
 ghost use Rattle.ns_workers.specs.Lines.{AppendsLine, AppendsLineFront};
 
 use arrayvec::ArrayString;
-use ns_calls::{Line, Uplink, put_uplink};
+use ns_calls::Uplink;
 use ns_events::{Output, Times, uplink_json};
+use ns_lines::{Line, put_uplink};
 use ns_outside::Timer;
 use ns_types::{Failed, Sink, write_all};
 

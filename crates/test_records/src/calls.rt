@@ -1,7 +1,8 @@
 //! The calls of one device, from the step lines of what gateways and join servers send, and the lines of their answers.
 
 use crate::worked::{ROSTER, roster_of};
-use ns_calls::{Answer, Call, lines, shard_of_call};
+use ns_calls::{Answer, Call, shard_of_call};
+use ns_lines::lines;
 use ns_replay::step;
 use ns_roster::Roster;
 use ns_shard::Shard;

@@ -1,7 +1,8 @@
 //! Join-Requests, answered by a shard and by the plain server, which searches the entries.
 
 use crate::calls::{ANSWERED, JOIN, JOIN_2, answers, begins_with, call_of, roster};
-use ns_calls::{Answer, Call, Entry, Reply, reply_to_join};
+use ns_calls::{Answer, Call, Entry, Reply};
+use ns_plain::reply_to_join;
 use ns_roster::Roster;
 use ns_shard::{Shard, new_shards};
 use ns_types::{DevEui, WindowName};

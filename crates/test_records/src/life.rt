@@ -1,8 +1,9 @@
 //! A server over memory, and its record.
 
 use crate::worked::roster_of;
-use ns_calls::{Answer, Call, Reply, lines, shard_of_call, up_line};
+use ns_calls::{Answer, Call, Reply, shard_of_call};
 use ns_compact::{Shortened, serves_as_well, shorten};
+use ns_lines::{lines, up_line};
 use ns_record::{matters, step_line};
 use ns_resume::{Base, RecordFault, Resumed, base_line, run_record};
 use ns_roster::Roster;

@@ -2,7 +2,8 @@
 
 use crate::around::{Around, Sent};
 use itoa::Buffer;
-use ns_calls::{Entry, Line, Reply, put_downlink};
+use ns_calls::{Entry, Reply};
+use ns_lines::{Line, put_downlink};
 use ns_outside::{AskJob, CloseJob, Job, WorkerFault};
 use ns_types::{Ticket, WindowName};
 

@@ -3,7 +3,7 @@ use Rattle.std.specs.List.{starts_with}
 use Rattle.std.specs.Cmp.Lexicographic.{pointwise}
 use Rattle.std.specs.Prelude.{◌≡◌, ℕ, nat_eq, Bool, true, false, List, [], ◌∷◌, ◌++◌, Option, None, Some, if◌then◌else◌}
 use Rattle.std.specs.Io.KnownBytes.{Consumes}
-use Rattle.ns_calls.specs.Text.{has_line_feed}
+use Rattle.ns_lines.specs.Text.{has_line_feed}
 use Rattle.ns_resume.specs.Resumed.{IsAllOf}
 
 -- the line feed behind a whole line

@@ -6,7 +6,7 @@ use Rattle.ns_roster.specs.Network.{Network}
 use Rattle.ns_calls.specs.declared.call.Call.{Call}
 use Rattle.ns_calls.specs.declared.answer.Answer.{Answer}
 use Rattle.ns_calls.specs.Shards.{shard_of_call}
-use Rattle.ns_calls.specs.Text.{has_line_feed}
+use Rattle.ns_lines.specs.Text.{has_line_feed}
 use Rattle.ns_recorded.specs.Recorded.{matters}
 use Rattle.ns_shard.specs.declared.step.Step.{Step}
 use Rattle.ns_shard.specs.State.{State, answer_in, after_call}

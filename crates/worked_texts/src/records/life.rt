@@ -2,7 +2,8 @@
 
 use crate::put::{pieces, put, put_hex, put_line, show};
 use crate::records::lines::{without_end, without_last};
-use ns_calls::{Answer, Call, Line, lines, put_window, shard_of_call, up_line};
+use ns_calls::{Answer, Call, shard_of_call};
+use ns_lines::{Line, lines, put_window, up_line};
 use ns_record::{matters, step_line};
 use ns_replay::step;
 use ns_resume::{RecordFault, Resumed, run_record};

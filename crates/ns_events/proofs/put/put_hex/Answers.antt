@@ -1,6 +1,6 @@
 use Rattle.std.proofs.Common.{arith}
 use Rattle.hex.specs.Hex.{lower_digits}
-use Rattle.ns_calls.proofs.HexText.{encode_nil, encode_more}
+use Rattle.ns_lines.proofs.HexText.{encode_nil, encode_more}
 use Rattle.ns_events.proofs.put.put_hex.Goals as goal
 
 pub loop-byte-init : goal.loop-byte-init

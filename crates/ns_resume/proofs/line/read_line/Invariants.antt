@@ -1,6 +1,6 @@
 use Rattle.std.proofs.Common.{◌≡◌, false}
 use Rattle.std.specs.Io.KnownBytes.{Consumes}
-use Rattle.ns_calls.specs.Text.{has_line_feed}
+use Rattle.ns_lines.specs.Text.{has_line_feed}
 use Rattle.ns_resume.proofs.line.read_line.Given as goal
 
 -- what was read so far is the line's beginning, without a line feed

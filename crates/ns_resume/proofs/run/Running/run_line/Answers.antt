@@ -4,7 +4,7 @@ use Rattle.std.proofs.lemmas.Result.{on_ok_weaker}
 use Rattle.std.specs.Option.{option_map_or}
 use Rattle.ns_roster.specs.Network.{Network}
 use Rattle.ns_calls.specs.declared.answer.Uplink.{Uplink}
-use Rattle.ns_calls.specs.Text.{up_text}
+use Rattle.ns_lines.specs.Text.{up_text}
 use Rattle.ns_shard.specs.declared.step.Step.{Step}
 use Rattle.ns_replay.specs.Output.{ended}
 use Rattle.ns_resume.specs.declared.ups.Ups.{Ups}

@@ -1,0 +1,3 @@
+pub mod HexText
+pub mod HexDigits
+pub mod LineLemmas
