@@ -6,6 +6,7 @@ import unittest
 import check_worked_runs
 
 DATA = os.path.join(check_worked_runs.CRATE, 'data')
+CRATES = os.path.dirname(check_worked_runs.CRATE)
 WINDOWS = os.path.join(DATA, 'windows.txt')
 
 
@@ -27,6 +28,16 @@ class WorkedRuns(unittest.TestCase):
             file.write(wrong)
             file.flush()
             self.assertEqual(check_worked_runs.main([file.name]), 1)
+
+    def test_the_recorded_run_is_one(self):
+        """The steps that the program runs by its file `stdin`, those of test_threads and those of closing_rosters.txt are the same."""
+        with open(os.path.join(CRATES, 'lorawan_ns', 'stdin'), encoding='utf-8') as file:
+            steps = file.read().splitlines()
+        with open(os.path.join(CRATES, 'test_threads', 'src', 'recorded.rt'), encoding='utf-8') as file:
+            self.assertEqual(file.read().partition('r#"')[2].partition('"#')[0].splitlines(), steps)
+        with open(os.path.join(DATA, 'closing_rosters.txt'), encoding='utf-8') as file:
+            run = file.read().partition('# The recorded run')[2].partition('\n\n')[0]
+        self.assertEqual([line[2:] for line in run.splitlines() if line.startswith('> ')], steps)
 
 
 if __name__ == '__main__':
