@@ -1,2 +1,1 @@
 mod NoticeLemmas
-mod FrontLemmas

@@ -21,18 +21,19 @@ use std::time::Clock;
 /// What is logged once a minute at most: who got each of these replies, at the level info, and receives that failed and downlinks that a
 /// forwarder did not send, at warn.
 #[derive(Drop)]
-pub(crate) struct Seldoms {
+pub struct Seldoms {
     nosession: Seldom,
     nodevice: Seldom,
     nonceold: Seldom,
     joinrefused: Seldom,
+    /// Receives that failed.
     pub receive: Seldom,
-    pub transmit: Seldom,
+    transmit: Seldom,
 }
 
 impl Seldoms {
     /// None has come yet.
-    pub fn new() -> Seldoms {
+    pub(crate) fn new() -> Seldoms {
         Seldoms {
             nosession: Seldom::new(),
             nodevice: Seldom::new(),
@@ -126,7 +127,7 @@ pub fn log_counts<R: Log>(rt: &R, state: &State) {
 }
 
 /// Logs what came of a forwarder's message that gave no datagram, where an operator is to know.
-pub(crate) fn log_message<R: Log + Clock>(rt: &R, state: &State, event: Event) {
+pub fn log_message<R: Log + Clock>(rt: &R, state: &State, event: Event) {
     match event {
         Event::Refused(ForwarderFault::NoMemory) => {
             log_at(rt, Level::Warn, "message of a forwarder dropped: no memory");

@@ -128,7 +128,7 @@ pub struct State {
     /// Where gateways were last heard.
     pub addresses: Mutex<Addresses>,
     /// How often one of these changed or came. It is written under the lock of `addresses`.
-    pub(crate) address_changes: AtomicU64,
+    pub address_changes: AtomicU64,
     /// Frames whose windows were closed a while ago.
     pub lates: Lates,
     /// The tickets that wait for a join worker.
@@ -140,7 +140,7 @@ pub struct State {
     /// How often each thing happened.
     pub counts: Counts,
     /// What is logged once a minute at most.
-    pub(crate) seldoms: Seldoms,
+    pub seldoms: Seldoms,
     /// How uplinks are written.
     pub uplinks: Output,
     /// The lines of joins and acknowledgements that wait to be written, where they are.
@@ -204,6 +204,51 @@ impl State {
         } else {
             Ok(None)
         }
+    }
+
+    /// The server's allocator.
+    pub fn alloc(&self) -> Global
+        ensures { result ≡ self.now.alloc }
+    {
+        self.alloc
+    }
+
+    /// How uplinks are written.
+    pub fn uplinks(&self) -> Output
+        ensures { result ≡ self.now.uplinks }
+    {
+        self.uplinks
+    }
+
+    /// How long a window stays open, in milliseconds.
+    pub fn window_ms(&self) -> u32
+        ensures { result ≡ self.now.window_ms }
+    {
+        self.window_ms
+    }
+
+    /// Whether the status is told.
+    pub fn is_told(&self) -> bool
+        ensures { result ≡ is_some self.now.status }
+    {
+        self.status.is_some()
+    }
+
+    /// Whether there is a record.
+    pub fn is_recorded(&self) -> bool
+        ensures { result ≡ is_some self.now.record }
+    {
+        self.record.is_some()
+    }
+
+    /// So many gateway workers are at work from now on.
+    pub fn begin_gateways(&self, count: u64) {
+        self.gateways.store(count, Ordering::SeqCst);
+    }
+
+    /// A gateway worker has ended.
+    pub fn end_gateway(&self) {
+        self.gateways.fetch_sub(1, Ordering::SeqCst);
     }
 
     /// Whether no further datagram or job is to be taken.

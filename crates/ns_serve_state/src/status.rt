@@ -14,7 +14,7 @@ use std::sync::{Mutex, Wait};
 use std::time::Clock;
 
 /// How many places of devices are looked at under the lock at once.
-pub(crate) const BATCH: usize = 64;
+pub const BATCH: usize = 64;
 
 /// What is known of devices and gateways, and where it is told.
 #[derive(Drop)]
@@ -37,6 +37,23 @@ fn bind<R: Net<Listener = TcpListener, Stream = TcpStream>>(
     Ok((listener, bound))
 }
 
+// The same, where both is logged: its address, and why there is none.
+fn listen<R: Net<Listener = TcpListener, Stream = TcpStream> + Log>(
+    rt: &R,
+    addr: SocketAddr,
+) -> Result<TcpListener, ServeFault> {
+    match bind(rt, addr) {
+        Ok((listener, bound)) => {
+            info!(rt; "status at http://{bound}/");
+            Ok(listener)
+        }
+        Err(error) => {
+            error!(rt; "cannot tell the status at {addr}: {error}");
+            Err(ServeFault::Io)
+        }
+    }
+}
+
 impl Status {
     /// Where a status is told, if an address for it is given.
     pub fn open<R: Net<Listener = TcpListener, Stream = TcpStream> + Clock + Log>(
@@ -48,22 +65,16 @@ impl Status {
         let Some(addr) = addr else {
             return Ok(None);
         };
-        let (listener, bound) = match bind(rt, addr) {
-            Ok(bound) => bound,
-            Err(error) => {
-                error!(rt; "cannot tell the status at {addr}: {error}");
-                return Err(ServeFault::Io);
-            }
-        };
         let (Ok(since_1970), Ok(keys)) = (rt.since_1970(), keys(rt)) else {
             return Err(ServeFault::Io);
         };
-        info!(rt; "status at http://{bound}/");
+        let devices = Mutex::new(Devices::new(alloc, roster)?);
+        let gateways = Mutex::new(Gateways::new(alloc, keys)?);
         Ok(Some(Status {
-            listener,
+            listener: listen(rt, addr)?,
             start_ms: u64::try_from(since_1970.as_millis()).unwrap_or(u64::MAX),
-            devices: Mutex::new(Devices::new(alloc, roster)?),
-            gateways: Mutex::new(Gateways::new(alloc, keys)?),
+            devices,
+            gateways,
         }))
     }
 

@@ -2,7 +2,8 @@
 //! how many failures a worker waits out, which downlinks leave, what an earlier life left open, the times of a line, the address at which
 //! gateways are heard, the counts and other lines as they are logged, and the status over HTTP.
 //!
-//! They call what `ns_serve_state` and `ns_serve_parts` give in public, and stand here so that neither is proved once more for its tests.
+//! They call what `ns_serve_state`, `ns_serve_sockets`, `ns_serve_status` and `ns_serve_parts` give in public, and stand here so that none
+//! of these is proved once more for its tests.
 #![tactic(auto)]
 
 #[cfg(test)]

@@ -5,7 +5,8 @@ use crate::counted::{accepted, count_all};
 use crate::standing::Standing;
 use crate::states::local;
 use ns_outside::Receipt;
-use ns_serve_state::{State, Status, log_counts, tell};
+use ns_serve_state::{State, Status, log_counts};
+use ns_serve_status::tell;
 use ns_types::DevEui;
 use std::alloc::Global;
 use std::io::{Read, Write};
@@ -124,7 +125,7 @@ where
     state.gateways.store(1, Ordering::SeqCst);
     let (_, is_told) = thread::join(
         rt,
-        || tell(standing, alloc, state, status),
+        || tell(standing, alloc, state),
         || ask(rt, alloc, state),
     );
     is_told

@@ -1,13 +1,11 @@
 //! What leaves the server once what it rests on is written.
 ghost use Rattle.std.specs.Prelude.{◌≡◌, None, true, false, length, is_err, IfOk, if◌then◌else◌};
 
-use crate::events::log_unsent;
-use crate::record::write_record;
 use crate::sockets::send_down;
-use crate::state::State;
 use log::Log;
 use ns_calls::Downlink;
 use ns_outside::Downlinks;
+use ns_serve_state::{State, log_unsent, write_record};
 use ns_types::{Failed, Sink, Stream};
 use std::alloc::{AllocError, Global};
 use std::sync::Wait;

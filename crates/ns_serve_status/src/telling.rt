@@ -3,10 +3,8 @@
 ghost use Rattle.std.specs.Prelude.{None};
 ghost use Rattle.std.specs.Io.{ReadsAtMost, WritesAtMost};
 
-use crate::clock::now_ms;
-use crate::state::State;
-use crate::status::{BATCH, Status};
 use ns_serve_parts::write_whole;
+use ns_serve_state::{BATCH, State, Status, now_ms};
 use ns_status::{
     Content, Lists, Request, RequestFault, Route, Status as Answer, Totals, head_of, page_text,
     put_devices, put_end, put_front, put_gateways, put_metrics, read_request,
@@ -28,8 +26,12 @@ const ANSWER_MS: u64 = 8000;
 // How long it is waited before it is looked whether the server stops.
 const NAP_MS: u64 = 50;
 
-/// Answers who asks for the status, one after the other, until no gateway worker is left or a worker has met a fault.
-pub fn tell<R: Wait + Clock>(rt: &R, alloc: Global, state: &State, status: &Status) {
+/// Answers who asks for the status, one after the other, until no gateway worker is left or a worker has met a fault. It comes back at once
+/// where the status is not told.
+pub fn tell<R: Wait + Clock>(rt: &R, alloc: Global, state: &State) {
+    let Some(status) = &state.status else {
+        return;
+    };
     for _turn in rt.forever() {
         if state.is_deaf() || state.is_broken() {
             return;

@@ -6,7 +6,7 @@ use Rattle.ns_front.specs.declared.front.Seen.{Seen}
 use Rattle.ns_front.specs.declared.noted.NotedPeers.{NotedPeers}
 use Rattle.ns_front.specs.Front.{seen_of, Agree}
 use Rattle.ns_front.specs.Noted.{IsNoted}
-use Rattle.ns_serve_state.specs.Front.{NotesAt, NotesNamed}
+use Rattle.ns_serve_sockets.specs.Front.{NotesAt, NotesNamed}
 
 pub is_named : (noted : NotedPeers) (datagram : List ℕ) (front : ℕ × FrameName) (peer : Option SocketAddr) → Agree (Some front) (seen_of datagram)
     → IfSome peer (λ p. (n : ℕ) × IsNoted noted front.0 p n) → IfSome peer (λ p. (seen : Seen) → seen_of datagram ≡ Some seen → (n : ℕ) × IsNoted noted seen.gateway p n)
