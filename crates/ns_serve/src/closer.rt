@@ -13,7 +13,8 @@ use ns_events::Output as Written;
 use ns_outside::{CloseJob, Receipt, WorkerFault};
 use ns_serve_parts::{Held, Output, ServeFault, put_under_lock};
 use ns_serve_shards::Recording;
-use ns_serve_state::{Events, Later, SinceMoment, State, nap_ms, now_ms, take_notices};
+use ns_serve_sockets::Later;
+use ns_serve_state::{Events, SinceMoment, State, nap_ms, now_ms, take_notices};
 use ns_server::{Naming, Pass};
 use ns_types::Sink;
 use ns_workers::{Ended, ListedJobs, Shared, run_closer};
@@ -215,7 +216,7 @@ pub(crate) fn close_and_write<B: Naming, R: Wait + Clock + Log, W: Sink>(
     ensures closed { result ≡ None → vec_len jobs < 2 ^ 32 → HasClosed B.roster jobs.items pass.old pass.new }
 {
     let timer = SinceMoment::now(shared.rt, state);
-    let room = mem::replace(receipts, Vec::new(state.alloc));
+    let room = mem::replace(receipts, Vec::new(state.alloc()));
     let ended = close_all(room, shared, pass, &timer, later, jobs, held);
     later.send_all(shared.rt);
     let written = put_under_lock(shared.rt, output, held.lines());

@@ -20,16 +20,16 @@ use ns_responses::Responses;
 use ns_roster::Roster;
 use ns_serve_parts::{Held, Lines, Output, ServeFault, ServeOptions, ToJoinServer, Within};
 use ns_serve_shards::{Recording, Trims, trim_due, trims_of};
+use ns_serve_sockets::{FromSocket, Later, ToSocket};
 use ns_serve_state::{
-    Events, FromQueue, FromSocket, IntoQueues, Later, SinceStart, State, ToSocket, hand_on,
-    look_after_record, now_ms, rest_record, tell,
+    Events, FromQueue, IntoQueues, SinceStart, State, hand_on, look_after_record, rest_record,
 };
+use ns_serve_status::tell;
 use ns_server::{Naming, Pass, Server};
 use ns_types::{Sink, Source, Stream, Ticket, WindowName};
 use ns_workers::{Shared, run_gateway, run_join};
 use std::alloc::{AllocError, Global};
 use std::net::{Net, SocketAddr, TcpListener, TcpStream};
-use std::sync::atomic::Ordering;
 use std::sync::{Mutex, Wait};
 use std::thread;
 use std::thread::{JoinHandle, Scope, Threads};
@@ -59,7 +59,7 @@ impl<'a, B: Naming, R, W> Around<'a, B, R, W> {
         ensures { result.output ≡ self.now.state.now.uplinks }
     {
         Shared {
-            output: self.state.uplinks,
+            output: self.state.uplinks(),
             rt: self.rt,
             server: self.server,
             gate,
@@ -166,9 +166,7 @@ struct TellerKit;
 
 impl<'a, B: Naming, R: Wait + Clock, W> Work<TellerKit, ()> for Around<'a, B, R, W> {
     fn work(&self, _kit: TellerKit) {
-        if let Some(status) = &self.state.status {
-            tell(self.rt, self.alloc, self.state, status);
-        }
+        tell(self.rt, self.alloc, self.state);
     }
 }
 
@@ -306,10 +304,10 @@ fn gateway_thread<B: Naming, R: Wait + Clock + Log, W: Sink>(
         &mut jobs,
         &mut down,
         &mut sink,
-        state.window_ms,
+        state.window_ms(),
     );
     let fault = fault_of(rt, state, "gateway worker", served.fault);
-    state.gateways.fetch_sub(1, Ordering::SeqCst);
+    state.end_gateway();
     Back { pass, fault }
 }
 
@@ -364,12 +362,32 @@ fn closer_thread<B: Naming, R: Wait + Clock + Log, W: Sink>(
     Back { pass, fault }
 }
 
-// Room for the lines of one turn of the closer, and for its downlinks.
-fn rooms(alloc: Global, state: &State) -> Result<(Held, Later<'_>), AllocError>
-    ensures { IfOk result (λ r. r.0.failed ≡ false) }
-{
-    let held = Held::new(alloc, room_for(state.uplinks))?;
-    Ok((held, Later::new(alloc, state, AT_A_TIME)?))
+// What the closer keeps from turn to turn.
+#[derive(Drop)]
+struct Closer<'a> {
+    closings: Closings<'a>,
+    // The downlinks and the lines of one turn.
+    later: Later<'a>,
+    held: Held,
+    // In whose memory the receipts of the next turn are put.
+    receipts: Vec<Receipt>,
+}
+
+impl<'a> Closer<'a> {
+    // The closer of the windows that come by a channel, with room for one turn.
+    fn new(state: &'a State, closes: Receiver<CloseJob>) -> Result<Closer<'a>, AllocError>
+        ensures { IfOk result (λ c. c.held.failed ≡ false) }
+    {
+        let alloc = state.alloc();
+        let held = Held::new(alloc, room_for(state.uplinks()))?;
+        let later = Later::new(alloc, state, AT_A_TIME)?;
+        Ok(Closer {
+            closings: Closings::new(state, closes),
+            later,
+            held,
+            receipts: Vec::new(alloc),
+        })
+    }
 }
 
 // Closes the windows that are due and writes what was told meanwhile: whether the server goes on, or the fault that ends it.
@@ -378,27 +396,24 @@ fn close_turn<B: Naming, R: Wait + Clock + Log, W: Sink>(
     around: &Around<'_, B, R, W>,
     shared: &Shared<'_, B, R, Recording<'_>, Events<'_>>,
     pass: &mut Pass<B>,
-    closings: &mut Closings<'_>,
-    later: &mut Later<'_>,
-    held: &mut Held,
-    receipts: &mut Vec<Receipt>,
+    closer: &mut Closer<'_>,
 ) -> Result<bool, ServeFault>
-    requires { held.old.failed ≡ false }
-    ensures sound { held.new.failed ≡ false }
+    requires { closer.old.held.failed ≡ false }
+    ensures sound { closer.new.held.failed ≡ false }
     ensures receipts { HasReceipts B.roster pass.old pass.new }
 {
     let (rt, state) = (around.rt, around.state);
-    match closings.next(rt, around.alloc) {
+    match closer.closings.next(rt, around.alloc) {
         Ok(Turn::Close(jobs)) => {
             let fault = close_and_write(
-                receipts,
+                &mut closer.receipts,
                 shared,
                 pass,
                 state,
                 around.output,
                 jobs,
-                later,
-                held,
+                &mut closer.later,
+                &mut closer.held,
             );
             ended(fault)?;
         }
@@ -445,24 +460,14 @@ fn close_to_end<B: Naming, R: Wait + Clock + Log, W: Sink>(
     ensures { HasReceipts B.roster pass.old pass.new }
 {
     let state = around.state;
-    let Ok((mut held, mut later)) = rooms(around.alloc, state) else {
+    let Ok(mut closer) = Closer::new(state, closes) else {
         return Some(no_room(around.rt, "lines"));
     };
-    let mut closings = Closings::new(state, closes);
-    let mut receipts = Vec::new(around.alloc);
     let mut trims = trims_of(around.trim, around.roster.devices().len());
     let (gate, events) = (Recording { state }, Events { state });
     let shared = around.shared(&gate, &events);
     for _turn in around.rt.forever() {
-        match close_turn(
-            around,
-            &shared,
-            pass,
-            &mut closings,
-            &mut later,
-            &mut held,
-            &mut receipts,
-        ) {
+        match close_turn(around, &shared, pass, &mut closer) {
             Ok(true) => trim_shards(around, &mut trims),
             Ok(false) => return None,
             Err(fault) => return Some(fault),
@@ -565,43 +570,45 @@ fn join_kits<B: Naming>(
     Ok(kits)
 }
 
-// What the gateway worker at this place takes along with its pass.
-fn gateway_kit<B: Naming>(
-    pass: Pass<B>,
+// What the gateway worker at this place takes along beside its pass.
+fn gateway_ends(
     closes: &Sender<CloseJob>,
     state: &State,
     place: usize,
-) -> Result<GatewayKit<B>, AllocError>
-    requires { pass ≡ none_made }
-{
+) -> Result<(Option<Pending>, Sender<CloseJob>), AllocError> {
     let pending = state.pending_at(place)?;
-    let closes = closes.clone()?;
-    Ok(GatewayKit {
-        pass,
-        pending,
-        closes,
-    })
+    Ok((pending, closes.clone()?))
 }
 
-// Takes the passes for gateway workers.
+// Takes so many passes for gateway workers.
 fn gateway_kits<B: Naming>(
     alloc: Global,
-    mut passes: Vec<Pass<B>>,
+    passes: &mut Vec<Pass<B>>,
+    count: usize,
     closes: &Sender<CloseJob>,
     state: &State,
 ) -> Result<Vec<GatewayKit<B>>, AllocError>
-    requires { All (λ p. p ≡ none_made) passes.items }
-    ensures { IfOk result (λ kits. vec_len kits ≡ vec_len passes) }
+    requires count { count ≤ vec_len passes.old }
+    requires unused { All (λ p. p ≡ none_made) passes.old.items }
+    ensures count { IfOk result (λ kits. (vec_len kits ≡ count) × (vec_len passes.new + count ≡ vec_len passes.old)) }
+    ensures unused { All (λ p. p ≡ none_made) passes.new.items }
 {
     let mut kits = Vec::new(alloc);
-    while let Some(pass) = passes.pop() {
-        let kit = gateway_kit(pass, closes, state, kits.len())?;
-        kits.push(kit)?;
+    while kits.len() < count {
+        let (pending, closes) = gateway_ends(closes, state, kits.len())?;
+        let Some(pass) = passes.pop() else {
+            return Ok(kits);
+        };
+        kits.push(GatewayKit {
+            pass,
+            pending,
+            closes,
+        })?;
     }
     Ok(kits)
 }
 
-// Divides the passes: one for the closer, and one for each join worker and each gateway worker that is asked for.
+// Divides the passes: one for each join worker and each gateway worker that is asked for, and one for the closer.
 fn kits_of<B: Naming>(
     alloc: Global,
     mut passes: Vec<Pass<B>>,
@@ -614,14 +621,13 @@ fn kits_of<B: Naming>(
     ensures joins { IfOk result (λ kits. vec_len kits.joins ≡ options.now.join_workers) }
     ensures gateways { IfOk result (λ kits. vec_len kits.gateways ≡ options.now.workers) }
 {
+    let joins = join_kits(alloc, &mut passes, options.join_workers)?;
+    let gateways = gateway_kits(alloc, &mut passes, options.workers, closes, state)?;
     let Some(pass) = passes.pop() else {
         return Err(AllocError);
     };
-    let closer = CloserKit { pass };
-    let joins = join_kits(alloc, &mut passes, options.join_workers)?;
-    let gateways = gateway_kits(alloc, passes, closes, state)?;
     Ok(Kits {
-        closer,
+        closer: CloserKit { pass },
         joins,
         gateways,
     })
@@ -634,7 +640,7 @@ fn channel_of<R: Wait + Clock>(
     windows: Vec<WindowName>,
     tickets: Vec<Ticket>,
 ) -> Result<(Sender<CloseJob>, Receiver<CloseJob>), AllocError> {
-    let (close_sender, close_receiver) = unbounded::<CloseJob, Global>(state.alloc)?;
+    let (close_sender, close_receiver) = unbounded::<CloseJob, Global>(state.alloc())?;
     hand_on(rt, state, windows, tickets, &close_sender)?;
     Ok((close_sender, close_receiver))
 }
@@ -684,12 +690,12 @@ pub(crate) fn run_all<
     let (alloc, state) = (around.alloc, around.state);
     // Their number says that the counts of workers fit.
     let _count = passes.len();
-    let room = room_for_workers(alloc, options.workers, options.join_workers)?;
     let (close_sender, close_receiver) = channel_of(around.rt, state, windows, tickets)?;
-    let kits = kits_of(alloc, passes, &close_sender, state, options)?;
-    drop(close_sender);
     // The channel stays open until the last gateway worker has ended.
     let _close_open = close_receiver.clone()?;
+    let room = room_for_workers(alloc, options.workers, options.join_workers)?;
+    let kits = kits_of(alloc, passes, &close_sender, state, options)?;
+    drop(close_sender);
     Ok(run_kits(around, kits, close_receiver, room, upkeep))
 }
 
@@ -709,9 +715,7 @@ fn run_kits<
     ensures { All (λ p. ∥ HasReceipts B.roster none_made p ∥₁) result.passes.items }
 {
     let (rt, state) = (around.rt, around.state);
-    state
-        .gateways
-        .store(kits.gateways.len() as u64, Ordering::SeqCst);
+    state.begin_gateways(kits.gateways.len() as u64);
     thread::scope(thread::scope_env(), rt, |scope| {
         let Room {
             mut handles,
@@ -727,9 +731,9 @@ fn run_kits<
             around,
             joins,
             gateways,
-            state.status.is_some(),
+            state.is_told(),
             KeeperKit { upkeep },
-            state.record.is_some(),
+            state.is_recorded(),
             &mut handles,
         );
         if !is_whole {

@@ -1,5 +1,5 @@
 //! A server from its start to what it settled.
-ghost use Rattle.std.specs.Prelude.{◌≡◌, Some, ◌+◌, ◌≤◌, ◌<◌, ◌⊎◌, [], false, true, sum_by, All, vec_len, IfOk, IfSome, IsErr, OnOk, OnErr};
+ghost use Rattle.std.specs.Prelude.{◌≡◌, Some, ◌+◌, ◌≤◌, ◌<◌, ◌⊎◌, [], false, true, sum_by, All, vec_len, IfOk, IfErr, IfSome, IsErr, OnOk, OnErr};
 ghost use Rattle.std.specs.Io.KnownBytes.{Appends, append_known};
 ghost use Rattle.std.specs.Arc.{arc_value};
 ghost use Rattle.ns_types.specs.Identity.{shard_count};
@@ -22,11 +22,13 @@ use ns_record_files::{RecordFiles, Recorder, Upkeep};
 use ns_roster::Roster;
 use ns_serve_parts::{Made, Output, ServeFault, ServeOptions};
 use ns_serve_shards::{Begun, closing_text, record_call, trims_of};
+use ns_serve_sockets::{AfterRecord, ToSocket};
 use ns_serve_state::{
-    AfterRecord, State, Status, ToSocket, has_failed, log_counts, log_unsent, note_event, now_ms,
-    take_notices, times_of, write_record,
+    State, Status, has_failed, log_counts, log_unsent, note_event, now_ms, take_notices, times_of,
+    write_record,
 };
 use ns_server::{Naming, Pass, Server, Settled};
+use ns_shard::Shard;
 use ns_tally::Blanks;
 use ns_types::{Sink, Ticket, WindowName};
 use std::alloc::Global;
@@ -153,6 +155,20 @@ fn first_lines<R: Log, W: Sink + Drop>(
     Ok(output)
 }
 
+// The same of a writer that waits for the record. A fault is logged.
+fn begun_output<'a, R: Wait + Log, W: Sink + Drop>(
+    rt: &'a R,
+    alloc: Global,
+    state: &'a State,
+    writer: W,
+) -> Result<Output<AfterRecord<'a, R, W>>, ServeFault> {
+    let output = first_lines(rt, alloc, state, AfterRecord::new(rt, state, writer));
+    if let Err(why) = &output {
+        error!(rt; "the first line: {why}");
+    }
+    output
+}
+
 // Stops the server from outside, where the options ask for it.
 fn watch_stop<R: Threads + Log, S: Stop + Send + Drop + 'static>(
     rt: &R,
@@ -193,7 +209,7 @@ fn put_uplink<R: Clock, W: Sink>(
         (append_known (W.taken output.new.writer) output.new.lines.items) (Some uplink.now)) }
     ensures failed { OnErr result (W.has_failed output.new.writer ≡ true) }
 {
-    match state.uplinks {
+    match state.uplinks() {
         Written::Lines => output.put_line(up_line(uplink).as_str()),
         Written::Json => {
             let times = times_of(rt, state, now_ms(rt, state));
@@ -315,14 +331,15 @@ fn settled_of<B: Naming, R: Wait + Clock + Log, W: Sink>(
     roster: &Roster,
     state: &State,
     server: Server<B>,
-    ends: Ends<B>,
+    ends: Result<Ends<B>, ServeFault>,
     output: &mut Output<W>,
     closing: bool,
 ) -> Result<u128, ServeFault>
     requires { roster.now ≡ B.roster }
-    ensures fault { IfSome ends.fault (λ f. result ≡ Err f) }
+    ensures unmade { IfErr ends (λ f. result ≡ Err f) }
+    ensures fault { IfOk ends (λ e. IfSome e.fault (λ f. result ≡ Err f)) }
 {
-    let Ends { passes, fault } = ends;
+    let Ends { passes, fault } = ends?;
     if let Some(fault) = fault {
         return Err(fault);
     }
@@ -387,6 +404,19 @@ fn run_workers<
     }
 }
 
+// The shards with which a server begins, and what an earlier life left open.
+fn parts_of(begun: Begun) -> (Vec<Shard>, Vec<WindowName>, Vec<Ticket>)
+    ensures { result.0 ≡ begun.shards }
+{
+    let Begun {
+        shards,
+        windows,
+        tickets,
+        record: _,
+    } = begun;
+    (shards, windows, tickets)
+}
+
 // A server of this many workers, from its start to what it settled.
 fn run_server<
     B: Naming + Send + Sync,
@@ -397,6 +427,7 @@ fn run_server<
     rt: &R,
     alloc: Global,
     roster: Arc<Roster>,
+    known: Arc<Roster>,
     blanks: Blanks,
     state: &State,
     output: Output<W>,
@@ -410,27 +441,20 @@ fn run_server<
     requires parts { blanks.parts ≡ options.now.workers + options.now.join_workers + 1 }
     requires passes { B.workers ≡ options.now.workers + options.now.join_workers + 1 }
     requires roster { arc_value roster ≡ B.roster }
+    requires known { arc_value known ≡ B.roster }
     requires sixteen { vec_len begun.shards ≡ shard_count }
     requires places { ArePlaced B.roster begun.shards.items }
     requires begun { B.begun ≡ states_at B.roster begun.shards.items }
 {
-    let Ok(known) = roster.clone() else {
-        return Err(no_memory(rt, "the roster"));
-    };
-    let Begun {
-        shards,
-        windows,
-        tickets,
-        record: _,
-    } = begun;
     let count = options.workers + options.join_workers + 1;
+    let (shards, windows, tickets) = parts_of(begun);
     let Ok((server, passes)) = Server::<B>::resume(alloc, roster, count, blanks, shards) else {
         return Err(no_memory(rt, "the shards"));
     };
     let output = Mutex::new(output);
     let ends = run_workers(
         rt, alloc, &server, passes, &known, state, &output, options, windows, tickets, upkeep,
-    )?;
+    );
     let mut output = output.into_inner();
     let closing = options.closing;
     let outcome = settled_of(rt, alloc, &known, state, server, ends, &mut output, closing);
@@ -462,19 +486,15 @@ fn serve_with<
     requires sixteen { vec_len begun.shards ≡ shard_count }
     requires places { ArePlaced (arc_value roster) begun.shards.items }
 {
-    let writer = AfterRecord::new(rt, state, writer);
-    let output = match first_lines(rt, alloc, state, writer) {
-        Ok(output) => output,
-        Err(why) => {
-            error!(rt; "the first line: {why}");
-            return Err(why);
-        }
+    let Ok(known) = roster.clone() else {
+        return Err(no_memory(rt, "the roster"));
     };
+    let output = begun_output(rt, alloc, state, writer)?;
     watch_stop(rt, state, options, stop)?;
     let count = options.workers as u64 + options.join_workers as u64 + 1;
     let blanks = Blanks::new(count);
     run_server::<Brand, _, _, _>(
-        rt, alloc, roster, blanks, state, output, options, begun, upkeep,
+        rt, alloc, roster, known, blanks, state, output, options, begun, upkeep,
     )
 }
 
@@ -484,7 +504,9 @@ fn end_of<R: Log>(
     mut state: State,
     outcome: Result<u128, ServeFault>,
 ) -> Result<u128, ServeFault> {
-    if has_failed(rt, state.record.take()) {
+    let is_lost = has_failed(rt, state.record.take());
+    drop(state);
+    if is_lost {
         return Err(ServeFault::Io);
     }
     outcome
