@@ -33,6 +33,14 @@ pub struct Folder<'a, R, L> {
     pub roster: &'a Arc<Roster>,
 }
 
+// The step lines of a record, its `up` lines, and its step lines once more.
+#[derive(Drop)]
+struct Sources<'a> {
+    steps: BufReader<PartFile<'a>>,
+    ups: BufReader<PartFile<'a>>,
+    again: BufReader<PartFile<'a>>,
+}
+
 // The fault of a record whose files failed.
 fn of_files(fault: FilesFault) -> RecordFault {
     match fault {
@@ -67,26 +75,44 @@ impl<'a, R: Files<File = File>, L: Log> Folder<'a, R, L> {
         Ok(BufReader::with_capacity(self.alloc, BLOCK, file)?)
     }
 
+    // The record, to be read for a compaction.
+    fn sources<'b>(&self, part: &Part<'b>) -> Result<Sources<'b>, RecordFault> {
+        let steps = self.read("steps", part.steps, part)?;
+        let ups = self.read("up", part.ups, part)?;
+        Ok(Sources {
+            steps,
+            ups,
+            again: self.read("steps", part.steps, part)?,
+        })
+    }
+
     // Writes the lines that are chosen, behind room for the line that tells the base.
     fn choose(&self, part: &Part<'_>, to: &ShorterSteps) -> Result<Shortened, RecordFault> {
-        let mut steps = self.read("steps", part.steps, part)?;
-        let mut ups = self.read("up", part.ups, part)?;
-        let mut again = self.read("steps", part.steps, part)?;
+        let mut sources = self.sources(part)?;
         let new = NewSteps {
             log: self.log,
             file: to.file(),
         };
         let mut out = BufWriter::with_capacity(self.alloc, BLOCK, new)?;
+        self.choose_into(&mut sources, &mut out)
+    }
+
+    // The same, where the writer is there.
+    fn choose_into<W: Write>(
+        &self,
+        sources: &mut Sources<'_>,
+        out: &mut W,
+    ) -> Result<Shortened, RecordFault> {
         let none = Base { lines: 0, ups: 0 };
         out.write_all(base_line(&none).as_str().as_bytes())?;
         out.write_all(b"\n")?;
         let left = shorten(
             self.alloc,
             self.roster.clone()?,
-            &mut steps,
-            &mut ups,
-            &mut again,
-            &mut out,
+            &mut sources.steps,
+            &mut sources.ups,
+            &mut sources.again,
+            out,
         )?;
         out.flush()?;
         Ok(left)

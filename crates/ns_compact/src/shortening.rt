@@ -31,6 +31,51 @@ pub struct Shortened {
     pub written: u64,
 }
 
+// A choice of lines while a record is run once more.
+#[derive(Drop)]
+struct Choosing<'a> {
+    rerun: Rerun,
+    choice: Choice<'a>,
+    line: Vec<u8>,
+    // How many lines were written.
+    count: u64,
+}
+
+impl<'a> Choosing<'a> {
+    // The choice of a record after all of whose lines trims left this.
+    fn new(
+        alloc: Global,
+        roster: Arc<Roster>,
+        left: &'a [Shard],
+    ) -> Result<Choosing<'a>, RecordFault> {
+        let rerun = Rerun::new(alloc, roster)?;
+        Ok(Choosing {
+            rerun,
+            choice: Choice::new(alloc, left)?,
+            line: Vec::new(alloc),
+            count: 0,
+        })
+    }
+
+    // Runs the next line, which has this number, and writes what is chosen by then; or says that there is none.
+    fn take<S: BufRead, W: Write>(
+        &mut self,
+        number: u64,
+        steps: &mut S,
+        out: &mut W,
+    ) -> Result<bool, RecordFault> {
+        self.line.clear();
+        steps.read_until(b'\n', &mut self.line)?;
+        if self.line.pop() != Some(b'\n') {
+            return Ok(false);
+        }
+        let made = self.rerun.run(number, self.line.as_slice())?;
+        self.choice
+            .take(&made, self.line.as_slice(), out, &mut self.count)?;
+        Ok(true)
+    }
+}
+
 // Writes the lines that are chosen of a record, after all of which trims left this. Gives how many there were, and how many were written.
 fn choose<S: BufRead, W: Write>(
     alloc: Global,
@@ -40,18 +85,11 @@ fn choose<S: BufRead, W: Write>(
     out: &mut W,
 ) -> Result<(u64, u64), RecordFault> {
     read_base(alloc, steps)?;
-    let mut rerun = Rerun::new(alloc, roster)?;
-    let mut choice = Choice::new(alloc, left)?;
-    let mut count = 0;
-    let mut line = Vec::new(alloc);
+    let mut choosing = Choosing::new(alloc, roster, left)?;
     'lines: for number in 1..u64::MAX {
-        line.clear();
-        steps.read_until(b'\n', &mut line)?;
-        if line.pop() != Some(b'\n') {
-            return Ok((number - 1, count));
+        if !choosing.take(number, steps, out)? {
+            return Ok((number - 1, choosing.count));
         }
-        let made = rerun.run(number, line.as_slice())?;
-        choice.take(&made, line.as_slice(), out, &mut count)?;
     }
     Err(RecordFault::TooMany)
 }
