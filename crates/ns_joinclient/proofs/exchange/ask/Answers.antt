@@ -1,6 +1,7 @@
 use Rattle.std.proofs.Common.{refl, inl, inr}
 use Rattle.std.specs.Io.KnownBytes.{Appends}
 use Rattle.ns_joinclient.specs.Request.{host_text, request}
+use Rattle.ns_joinclient.proofs.FaultLemmas.{write_is_not_ended, write_is_no_memory}
 use Rattle.ns_joinclient.proofs.AskLemmas.{answer_clause, fault_clause, ended_clause, memory_clause, failed_clause, on_ok, on_err}
 use Rattle.ns_joinclient.proofs.exchange.ask.Goals as goal
 
@@ -34,10 +35,10 @@ pub returns-then-is_err-clause-fault : goal.returns-then-is_err-clause-fault
 returns-then-is_err-clause-fault g c = λ shown. absurd (shown.0 refl)
 
 pub returns-then-is_err-clause-ended : goal.returns-then-is_err-clause-ended
-returns-then-is_err-clause-ended g c = λ q. cc
+returns-then-is_err-clause-ended g c = λ q. absurd (write_is_not_ended q)
 
 pub returns-then-is_err-clause-memory : goal.returns-then-is_err-clause-memory
-returns-then-is_err-clause-memory g c = λ q. cc
+returns-then-is_err-clause-memory g c = λ q. absurd (write_is_no_memory q)
 
 pub returns-then-is_err-clause-failed : goal.returns-then-is_err-clause-failed
 returns-then-is_err-clause-failed g c = λ q. inl refl
