@@ -1,10 +1,10 @@
 -- What one byte more makes of the place where bytes end in a head; and at each place the head can still be completed, and is not whole.
-use Rattle.std.proofs.Common.{◌≡◌, ◌≢◌, ℕ, ◌+◌, ◌-◌, ◌≤◌, List, [], ◌∷◌, ◌++◌, length, take, drop, get_or, None, Some, refl, sym, ap, subst, ◌∙◌, arith, append_assoc, length-append}
+use Rattle.std.proofs.Common.{◌≡◌, ◌≢◌, ℕ, ◌+◌, ◌-◌, ◌<◌, ◌≤◌, List, [], ◌∷◌, ◌++◌, length, take, drop, get_or, None, Some, refl, sym, ap, subst, ◌∙◌, arith, append_assoc, length-append}
 use Rattle.std.specs.Prelude.{codes, IsTrue}
 use Rattle.std.specs.List.{flat_map}
 use Rattle.std.specs.Char.{is_ascii_digit}
 use Rattle.std.proofs.lemmas.Bool.{and_from}
-use Rattle.std.proofs.lemmas.List.{append-nil, flat_map_more}
+use Rattle.std.proofs.lemmas.List.{append-nil, flat_map_more, take_more}
 use Rattle.std.proofs.lemmas.List.Elements.{All-nil, All-push}
 use Rattle.std.proofs.lemmas.List.Sums.{AllPass-from_list_all}
 use Rattle.std.proofs.Math.Seq.{take-add}
@@ -36,10 +36,31 @@ code_status text is = record { code = text; is_code = is; reason = None; is_phra
 pub reason_status : (text : List ℕ) → IsReason text → IsStatus text
 reason_status text is = record { code = is.code; is_code = is.is_code; reason = Some is.phrase; is_phrase = is.is_phrase; is = is.is }
 
+pub code_reason : (text : List ℕ) → IsCode text → IsReason (text ++ 32 ∷ [])
+code_reason text is = record { code = text; is_code = is; phrase = []; is_phrase = All-nil (λ x. IsTrue (is_value_byte x)); is = refl }
+
+pub reason_more : (text : List ℕ) (b : ℕ) → IsTrue (is_value_byte b) → IsReason text → IsReason (text ++ b ∷ [])
+reason_more text b fits is = record {
+  code = is.code;
+  is_code = is.is_code;
+  phrase = is.phrase ++ b ∷ [];
+  is_phrase = All-push (λ x. IsTrue (is_value_byte x)) is.phrase b is.is_phrase fits;
+  is = behind_more text is.code (32 ∷ is.phrase) (b ∷ []) is.is;
+}
+
 pub status_end : (end : LineEnd) (text : List ℕ) → IsStatus text → IsLines (text ++ print_end end)
 status_end end text is = record { status = text; is_status = is; end = end; fields = []; are_fields = All-nil IsField; is = sym (append-nil (text ++ print_end end)) }
 
 -- ---- headers
+
+pub lines_name : (text : List ℕ) (b : ℕ) → IsTrue (is_token_byte b) → IsLines text → IsName (text ++ b ∷ [])
+lines_name text b fits is = record {
+  lines = text;
+  are_lines = is;
+  name = b ∷ [];
+  is_name = (omega arith, All-push (λ x. IsTrue (is_token_byte x)) [] b (All-nil (λ x. IsTrue (is_token_byte x))) fits);
+  is = refl;
+}
 
 pub name_more : (text : List ℕ) (b : ℕ) → IsTrue (is_token_byte b) → IsName text → IsName (text ++ b ∷ [])
 name_more text b fits is = record {
@@ -211,3 +232,7 @@ start_is bytes rest front behind long low high space a b c =
           ∙ ap (λ x. codes "HTTP/1." ++ (x ∷ get_or rest 1 0 ∷ digits)) (let e : get_or rest 0 0 ≡ 48 + minor = omega arith in e)
           ∙ ap (λ x. codes "HTTP/1." ++ ((48 + minor) ∷ x ∷ digits)) space;
     }
+
+-- the place behind one more of some bytes
+pub ends_next : (old new : Place) (bytes : List ℕ) (seen : ℕ) → seen < length bytes → EndsAt old (take seen bytes) → ((text : List ℕ) → EndsAt old text → EndsAt new (text ++ get_or bytes seen 0 ∷ [])) → EndsAt new (take (seen + 1) bytes)
+ends_next old new bytes seen left at step = subst (EndsAt new) (sym (take_more bytes seen 0 left)) (step (take seen bytes) at)

@@ -73,6 +73,30 @@ fn open_file<R: Files<File = File>>(rt: &R, path: &str) -> io::Result<File> {
     how.open(rt, path)
 }
 
+// Opens a file of a folder, as `open_file` does.
+fn open_in<R: Files<File = File>, L: Log>(
+    rt: &R,
+    log: &L,
+    alloc: Global,
+    folder: &str,
+    name: &str,
+) -> Result<File, FilesFault> {
+    let path = path_of(alloc, folder, name)?;
+    told(log, open_file(rt, path.as_str()))
+}
+
+// Opens the file of the steps of a folder, and takes its lock.
+fn open_locked<R: Files<File = File>, L: Log>(
+    rt: &R,
+    log: &L,
+    alloc: Global,
+    folder: &str,
+) -> Result<File, FilesFault> {
+    let steps = open_in(rt, log, alloc, folder, "steps")?;
+    lock(log, &steps)?;
+    Ok(steps)
+}
+
 // Takes a lock that ends with the program.
 fn lock<L: Log>(log: &L, file: &File) -> Result<(), FilesFault> {
     match file.try_lock() {
@@ -178,23 +202,24 @@ impl RecordFiles {
         folder: &str,
         sync: bool,
     ) -> Result<RecordFiles, FilesFault> {
-        let steps_path = path_of(alloc, folder, "steps")?;
-        let ups_path = path_of(alloc, folder, "up")?;
-        let folder = told(log, File::open(rt, folder))?;
-        lock(log, &folder)?;
-        let steps = told(log, open_file(rt, steps_path.as_str()))?;
-        lock(log, &steps)?;
-        let ups = told(log, open_file(rt, ups_path.as_str()))?;
-        told(log, folder.sync_all())?;
-        told(log, cut_zeros(&steps))?;
-        told(log, cut_zeros(&ups))?;
-        Ok(RecordFiles {
-            folder,
-            steps,
-            ups,
+        let place = told(log, File::open(rt, folder))?;
+        lock(log, &place)?;
+        let files = RecordFiles {
+            folder: place,
+            steps: open_locked(rt, log, alloc, folder)?,
+            ups: open_in(rt, log, alloc, folder, "up")?,
             sync,
             failure: None,
-        })
+        };
+        files.begin(log)?;
+        Ok(files)
+    }
+
+    // Brings the folder to the disk, in which the files may be new, and cuts zeros off their ends.
+    fn begin<L: Log>(&self, log: &L) -> Result<(), FilesFault> {
+        told(log, self.folder.sync_all())?;
+        told(log, cut_zeros(&self.steps))?;
+        told(log, cut_zeros(&self.ups))
     }
 
     /// Lends the file of the steps, to be read from where it was read last.
