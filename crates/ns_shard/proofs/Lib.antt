@@ -2,6 +2,7 @@ pub mod Maps
 pub mod WindowSteps
 pub mod Places
 pub mod Roster
+pub mod Datagrams
 pub mod DeviceSteps
 pub mod Entries
 pub mod Totals
@@ -14,6 +15,7 @@ pub mod PartsAfter
 pub mod RunSteps
 pub mod RunHistories
 pub mod RunTaken
+pub mod StepEnds
 pub mod Openings
 pub mod Live
 pub mod Trimmed
