@@ -12,6 +12,7 @@ pub mod CloseSteps
 pub mod UplinkSteps
 pub mod Endings
 pub mod PartsAfter
+pub mod Standing
 pub mod RunSteps
 pub mod RunHistories
 pub mod RunTaken
