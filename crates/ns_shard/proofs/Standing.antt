@@ -1,12 +1,15 @@
 -- What stands after a call: of the state that contracts see, and of parts.
-use Rattle.std.proofs.Common.{◌≡◌, Bool, true, false, cond, List, Option, None, Some, Result, Ok, Err, OnErr, IsOk, refl, sym, ap, subst, ◌∙◌}
+use Rattle.std.proofs.Common.{◌≡◌, Bool, true, false, cond, List, Option, None, Some, Result, Ok, Err, OnOk, OnErr, IsOk, refl, sym, ap, subst, ◌∙◌}
 use Rattle.ns_types.specs.Cases.{when}
 use Rattle.ns_calls.specs.declared.call.Call.{Call}
 use Rattle.ns_calls.specs.declared.answer.Answer.{Answer}
+use Rattle.ns_calls.specs.declared.answer.Uplink.{Uplink}
+use Rattle.ns_calls.specs.declared.answer.Downlink.{Downlink}
 use Rattle.std.specs.Prelude.{◌==◌}
 use Rattle.std.specs.Option.{option_map_or, option_and_then}
 use Rattle.ns_types.specs.declared.ticket.Ticket.{Ticket}
 use Rattle.ns_types.specs.Ticket.{dev_eui, join_eui}
+use Rattle.ns_calls.specs.declared.call.Reply.{Reply}
 use Rattle.ns_calls.specs.declared.call.Reply.TheVariants as reply
 use Rattle.ns_sessions.specs.declared.decision.JoinDecision.{JoinDecision}
 use Rattle.ns_sessions.specs.Record.{join_decision}
@@ -20,6 +23,10 @@ use Rattle.ns_shard.specs.State.{State, IsState, Keeps, finds_open, answer_in, a
 use Rattle.ns_shard.specs.Private.Parts.{AreParts, state_of}
 use Rattle.ns_shard.proofs.PartsAfter.{same-state}
 
+pub on_ok : {T E : Type 0} (r : Result T E) (P : Type 0) → P → OnOk r P
+on_ok (Ok x) P p = p
+on_ok (Err e) P p = tt
+
 pub on_err : {T E : Type 0} (r : Result T E) (P : Type 0) → P → OnErr r P
 on_err (Ok x) P p = tt
 on_err (Err e) P p = p
@@ -28,6 +35,13 @@ on_err (Err e) P p = p
 pub ok-where_open : {T E : Type 0} (r : Result T E) (b : Bool) → OnErr r (b ≡ false) → b ≡ true → IsOk r
 ok-where_open (Ok x) b closed opened = refl
 ok-where_open (Err e) b closed opened = absurd (cc (closed, opened))
+
+pub never : {P : Type 0} → false ≡ true → P
+never e = absurd (cc e)
+
+-- an answer, by its fields
+pub answer-fields : (r : Reply) (u : Option Uplink) (d : Option Downlink) (a : Answer) → r ≡ a.reply → u ≡ a.uplink → d ≡ a.downlink → let x : Answer = record { reply = r; uplink = u; downlink = d } in x ≡ a
+answer-fields r u d a reply uplink downlink = (λ i. let x : Answer = record { reply = reply i; uplink = uplink i; downlink = downlink i } in x)
 
 -- ---- parts
 
