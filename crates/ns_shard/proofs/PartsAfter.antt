@@ -28,7 +28,8 @@ use Rattle.ns_shard.specs.declared.event.Event.{Event}
 use Rattle.ns_shard.specs.declared.event.Ended.{Ended}
 use Rattle.ns_shard.specs.declared.event.Event.TheVariants as event
 use Rattle.ns_shard.specs.Private.Sending.{reply_of, answer_of}
-use Rattle.ns_shard.specs.Private.Reaction.{uplink_reply, with_shard_uplink, with_copy_or_window, shard_join_reply}
+use Rattle.ns_shard.specs.Private.Reaction.{uplink_reply, shard_join_reply}
+use Rattle.ns_shard.specs.Private.Uplink.{UplinkEnds}
 use Rattle.ns_shard.specs.State.{State, Keeps, quiet, seen, ends_open, finds_open, answer_in, after_call}
 use Rattle.ns_shard.specs.Private.Room.{opens, opening_event, open_total, IsRoomFor, reserved_after}
 use Rattle.ns_shard.specs.Private.Parts.{Agrees, AreParts, AreTaken, state_of}
@@ -114,18 +115,18 @@ module _ (p q : Parts) (are : AreParts p) (c : Call) (same : state_of q ≡ stat
 -- ---- uplinks and Join-Requests
 
 module _ (p : Parts) (are : AreParts p) (j : JournalState) (made : j.made ≡ p.journal.made) (entries : j.entries ≡ p.journal.entries) (kept : j.reserved ≡ p.journal.reserved) where
-  pub uplink-taken : (frame : List ℕ) (heard : Heard) → shard_of_call (call.Uplink frame heard) ≡ p.index → j.reserved + 2 ≤ j.room → (ds : List Own) (ws : List Window) (r : Result Event AllocError) → IfOk r (λ e. reply_of e ≡ uplink_reply p.devices p.windows frame)
-      → IfOk r (λ e. e ≡ opening_event (call.Uplink frame heard) (reply_of e)) → IfOk r (λ e. ds ≡ with_shard_uplink (reply_of e) p.devices) → IfOk r (λ e. ws ≡ with_copy_or_window (reply_of e) frame heard p.devices p.windows)
+  pub uplink-taken : (frame : List ℕ) (heard : Heard) → shard_of_call (call.Uplink frame heard) ≡ p.index → j.reserved + 2 ≤ j.room → (ds : List Own) (ws : List Window) (r : Result Event AllocError) → UplinkEnds frame heard p.devices p.windows (uplink_reply p.devices p.windows frame) r ds ws
       → IfOk r (AreTaken (record p { devices = ds; windows = ws; journal = j }) (call.Uplink frame heard))
-  uplink-taken frame heard own room ds ws (Err e) reply opened devices windows = tt
-  uplink-taken frame heard own room ds ws (Ok e) reply opened devices windows =
+  uplink-taken frame heard own room ds ws (Err e) told = tt
+  uplink-taken frame heard own room ds ws (Ok e) told =
       let net : Network = arc_value p.roster in
       let c : Call = call.Uplink frame heard in
       let q : Parts = record p { devices = ds; windows = ws; journal = j } in
-      let replied = reply ∙ uplink-replied net p.index are.history p.devices p.windows frame are.agrees (uplinks_agree net are.history) own in
+      let reply : Reply = uplink_reply p.devices p.windows frame in
+      let replied = uplink-replied net p.index are.history p.devices p.windows frame are.agrees (uplinks_agree net are.history) own in
       let agrees : Agrees net p.index (history-after p are c) ds ws =
-      rw (devices, windows) (agrees-uplink net p.index are.history p.devices p.windows frame heard are.agrees others_stay (uplinks_agree net are.history) own (reply_of e) (sym replied)) in
-      subst (AreTaken q c) (sym opened) (opening-taken p q are c (same-state p j made entries) agrees kept (reply_of e) (ap quiet replied) refl room)
+      rw (told.devices, told.windows) (agrees-uplink net p.index are.history p.devices p.windows frame heard are.agrees others_stay (uplinks_agree net are.history) own reply (sym replied)) in
+      subst (AreTaken q c) (sym told.event) (opening-taken p q are c (same-state p j made entries) agrees kept reply (ap quiet replied) refl room)
 
   pub join-taken : (t : Ticket) (heard : Heard) → shard_of_call (call.Join t heard) ≡ p.index → j.reserved + 2 ≤ j.room → {ds : List Own} (e : Event) → reply_of e ≡ shard_join_reply p.devices t → e ≡ opening_event (call.Join t heard) (reply_of e)
       → ds ≡ with_join_of t heard p.devices → AreTaken (record p { devices = ds; journal = j }) (call.Join t heard) e
@@ -138,9 +139,9 @@ module _ (p : Parts) (are : AreParts p) (j : JournalState) (made : j.made ≡ p.
       subst (AreTaken q c) (sym opened) (opening-taken p q are c (same-state p j made entries) agrees kept (reply_of e) (ap quiet replied) refl room)
 
   -- where a growth is refused, all is as it was
-  pub uplink-refused : (ds : List Own) (ws : List Window) (r : Result Event AllocError) → OnErr r (ds ≡ p.devices) → OnErr r (ws ≡ p.windows) → OnErr r (AreParts (record p { devices = ds; windows = ws; journal = j }))
-  uplink-refused ds ws (Ok e) devices windows = tt
-  uplink-refused ds ws (Err e) devices windows = rw (devices, windows) (record { small = are.small; history = are.history; keeps = subst (Keeps are.history) (sym (same-state p j made entries)) are.keeps; agrees = are.agrees; reserved = kept ∙ are.reserved })
+  pub uplink-refused : (frame : List ℕ) (heard : Heard) (reply : Reply) (ds : List Own) (ws : List Window) (r : Result Event AllocError) → UplinkEnds frame heard p.devices p.windows reply r ds ws → OnErr r (AreParts (record p { devices = ds; windows = ws; journal = j }))
+  uplink-refused frame heard reply ds ws (Ok e) told = tt
+  uplink-refused frame heard reply ds ws (Err e) told = rw (told.devices, told.windows) (record { small = are.small; history = are.history; keeps = subst (Keeps are.history) (sym (same-state p j made entries)) are.keeps; agrees = are.agrees; reserved = kept ∙ are.reserved })
 
 -- ---- answers and closings
 

@@ -5,5 +5,6 @@ pub mod Devices
 pub mod Sending
 pub mod Room
 pub mod Reaction
+pub mod Uplink
 pub mod Parts
 pub mod Run

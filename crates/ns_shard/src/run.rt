@@ -14,7 +14,7 @@ ghost use Rattle.ns_shard.specs.declared.step.Step.{Step};
 ghost use Rattle.ns_shard.specs.Steps.{step_taken, all_taken, AreAfter, AreReached};
 ghost use Rattle.ns_shard.specs.Taken.{call_of, calls_of, OfEach, HandsOut, HasCopies, AreHandedOutOnce};
 ghost use Rattle.ns_shard.specs.NextRun.{greatest_among, greatest_after};
-ghost use Rattle.ns_shard.specs.Private.Run.{taken_in, states_after, refused_as, AreInPlace};
+ghost use Rattle.ns_shard.specs.Private.Run.{refused_as, AreInPlace, StepEnds};
 
 use crate::calls::answer_call;
 use crate::packed::BoxedAnswer;
@@ -208,8 +208,7 @@ pub fn new_shards(alloc: Global, roster: Arc<Roster>) -> Result<Vec<Shard>, Allo
 fn apply(alloc: Global, shards: &mut Vec<Shard>, call: &Call) -> Result<Taken, AllocError>
     requires sixteen { length shards.old.items ≡ shard_count }
     requires in_place { AreInPlace shards.old.items }
-    ensures taken { IfOk result (λ t. taken_in shards.old.items (Ok call.now) ≡ Some t) }
-    ensures shards { OnOk result (shards.new.items ≡ states_after shards.old.items (Ok call.now)) }
+    ensures { StepEnds shards.old.items (Ok call.now) result shards.new.items }
 {
     let index = shard_of_call(call);
     let shard = &mut shards[index as usize];
@@ -226,9 +225,7 @@ fn apply(alloc: Global, shards: &mut Vec<Shard>, call: &Call) -> Result<Taken, A
 fn run_datagram(alloc: Global, shards: &mut Vec<Shard>, bytes: &[u8]) -> Result<Taken, AllocError>
     requires sixteen { length shards.old.items ≡ shard_count }
     requires in_place { AreInPlace shards.old.items }
-    ensures taken { IfOk result (λ t. taken_in shards.old.items (refused_as (datagram_call bytes.now)) ≡ Some t) }
-    ensures shards { OnOk result (shards.new.items ≡ states_after shards.old.items (refused_as (datagram_call bytes.now))) }
-    ensures memory { OnErr result (IsOk (datagram_call bytes.now)) }
+    ensures { StepEnds shards.old.items (refused_as (datagram_call bytes.now)) result shards.new.items }
 {
     let datagram = match read_datagram(bytes) {
         Ok(datagram) => datagram,
@@ -252,8 +249,7 @@ fn run_datagram(alloc: Global, shards: &mut Vec<Shard>, bytes: &[u8]) -> Result<
 fn run_step(alloc: Global, shards: &mut Vec<Shard>, step: &Step) -> Result<Taken, AllocError>
     requires sixteen { length shards.old.items ≡ shard_count }
     requires in_place { AreInPlace shards.old.items }
-    ensures taken { IfOk result (λ t. taken_in shards.old.items (refused_as (call_of step.now.act)) ≡ Some t) }
-    ensures shards { OnOk result (shards.new.items ≡ states_after shards.old.items (refused_as (call_of step.now.act))) }
+    ensures { StepEnds shards.old.items (refused_as (call_of step.now.act)) result shards.new.items }
 {
     match &step.act {
         Act::Datagram(bytes) => run_datagram(alloc, shards, bytes.as_slice()),

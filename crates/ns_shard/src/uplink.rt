@@ -1,16 +1,14 @@
 //! What comes of an uplink.
 
-ghost use Rattle.std.specs.Prelude.{◌≡◌, true, nat_le, IsSome, IfOk, OnOk, OnErr, None, Some, position, if◌then◌else◌};
+ghost use Rattle.std.specs.Prelude.{◌≡◌, nat_le, IsSome, OnOk, OnErr, None, Some, position, if◌then◌else◌};
 ghost use Rattle.ns_types.specs.declared.identity.WindowName.{WindowName};
 ghost use Rattle.ns_views.specs.Frame.{is_confirmed};
-ghost use Rattle.ns_calls.specs.declared.call.Call.TheVariants.{Uplink};
 ghost use Rattle.ns_calls.specs.declared.call.Reply.TheVariants.{Opened, Again};
 ghost use Rattle.ns_calls.specs.Reply.{most_windows, window_of};
 ghost use Rattle.ns_windows.specs.Windows.{window_named, window_of_frame, count};
 ghost use Rattle.ns_devices.specs.Devices.{is_own, fit_at, IsNew, keys_in};
-ghost use Rattle.ns_shard.specs.Private.Sending.{reply_of};
-ghost use Rattle.ns_shard.specs.Private.Room.{opens, opening_event};
-ghost use Rattle.ns_shard.specs.Private.Reaction.{added_reply, with_window, open_reply, round_of, again_reply, uplink_reply, with_shard_uplink, with_copy_or_window, HasPlace, CanOpen};
+ghost use Rattle.ns_shard.specs.Private.Reaction.{added_reply, with_window, open_reply, round_of, again_reply, uplink_reply, HasPlace, CanOpen};
+ghost use Rattle.ns_shard.specs.Private.Uplink.{UplinkEnds};
 
 use crate::event::Event;
 use ns_calls::{DataFrame, MOST_WINDOWS, Reply};
@@ -72,13 +70,7 @@ fn open(
     requires new { IsNew devices.old (window_of (fit_at fit.now)) }
     requires place { let f = fit_at fit.now in open_reply windows.old f ≡ Opened (window_of f) → HasPlace devices.old windows.old (window_of f) }
     requires frame { window_of_frame frame.now windows.old ≡ None }
-    ensures reply { IfOk result (λ e. reply_of e ≡ open_reply windows.old (fit_at fit.now)) }
-    ensures opened { IfOk result (λ e. e ≡ opening_event (Uplink frame.now heard.now) (reply_of e)) }
-    ensures devices { IfOk result (λ e. devices.new ≡ with_shard_uplink (reply_of e) devices.old) }
-    ensures windows { IfOk result (λ e. windows.new ≡ with_copy_or_window (reply_of e) frame.now heard.now devices.old windows.old) }
-    ensures memory { OnErr result (opens (Uplink frame.now heard.now) (open_reply windows.old (fit_at fit.now)) ≡ true) }
-    ensures err_devices { OnErr result (devices.new ≡ devices.old) }
-    ensures err_windows { OnErr result (windows.new ≡ windows.old) }
+    ensures { UplinkEnds frame.now heard.now devices.old windows.old (open_reply windows.old (fit_at fit.now)) result devices.new windows.new }
 {
     let name = fit.window();
     if is_busy(windows, name.eui) {
@@ -118,13 +110,7 @@ fn open_again(
     requires place { (name : WindowName) → again_reply devices.old windows.old frame.now (fit_at fit.now) ≡ Again name
         → HasPlace devices.old windows.old name }
     requires frame { window_of_frame frame.now windows.old ≡ None }
-    ensures reply { IfOk result (λ e. reply_of e ≡ again_reply devices.old windows.old frame.now (fit_at fit.now)) }
-    ensures opened { IfOk result (λ e. e ≡ opening_event (Uplink frame.now heard.now) (reply_of e)) }
-    ensures devices { IfOk result (λ e. devices.new ≡ with_shard_uplink (reply_of e) devices.old) }
-    ensures windows { IfOk result (λ e. windows.new ≡ with_copy_or_window (reply_of e) frame.now heard.now devices.old windows.old) }
-    ensures memory { OnErr result (opens (Uplink frame.now heard.now) (again_reply devices.old windows.old frame.now (fit_at fit.now)) ≡ true) }
-    ensures err_devices { OnErr result (devices.new ≡ devices.old) }
-    ensures err_windows { OnErr result (windows.new ≡ windows.old) }
+    ensures { UplinkEnds frame.now heard.now devices.old windows.old (again_reply devices.old windows.old frame.now (fit_at fit.now)) result devices.new windows.new }
 {
     let Some(round) = round_of(devices, windows, fit, frame) else {
         return Ok(Event::Quiet(Reply::Old {
@@ -150,13 +136,7 @@ pub fn uplink(
     heard: &Heard,
 ) -> Result<Event, AllocError>
     requires open { CanOpen devices.old windows.old frame.now }
-    ensures reply { IfOk result (λ e. reply_of e ≡ uplink_reply devices.old windows.old frame.now) }
-    ensures opened { IfOk result (λ e. e ≡ opening_event (Uplink frame.now heard.now) (reply_of e)) }
-    ensures devices { IfOk result (λ e. devices.new ≡ with_shard_uplink (reply_of e) devices.old) }
-    ensures windows { IfOk result (λ e. windows.new ≡ with_copy_or_window (reply_of e) frame.now heard.now devices.old windows.old) }
-    ensures memory { OnErr result (opens (Uplink frame.now heard.now) (uplink_reply devices.old windows.old frame.now) ≡ true) }
-    ensures err_devices { OnErr result (devices.new ≡ devices.old) }
-    ensures err_windows { OnErr result (windows.new ≡ windows.old) }
+    ensures { UplinkEnds frame.now heard.now devices.old windows.old (uplink_reply devices.old windows.old frame.now) result devices.new windows.new }
 {
     if let Some(addition) = windows.add_copy(frame.bytes(), heard) {
         return Ok(Event::Quiet(copy_reply(addition)));

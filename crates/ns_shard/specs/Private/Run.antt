@@ -1,6 +1,7 @@
 -- What comes of a call in the states of the shards, and the states after it.
-use Rattle.std.specs.Prelude.{◌≡◌, ℕ, List, Option, Some, option_map, slice_get, slice_set, Result, Ok, Err}
+use Rattle.std.specs.Prelude.{◌≡◌, ℕ, List, Option, Some, option_map, slice_get, slice_set, Result, Ok, Err, IsOk}
 use Rattle.std.specs.Option.{option_map_or}
+use Rattle.std.specs.declared.alloc.AllocError.{AllocError}
 use Rattle.ns_calls.specs.declared.call.Call.{Call}
 use Rattle.ns_calls.specs.Steps.{Refusal, link, view}
 use Rattle.ns_calls.specs.Shards.{shard_of_call}
@@ -26,3 +27,12 @@ taken_in shards (Ok c) = option_map (λ s. Made (shard_of_call c) s.made (answer
 abbrev pub states_after : List State → Result Call Taken → List State
 states_after shards (Err refusal) = shards
 states_after shards (Ok c) = option_map_or (λ s. slice_set shards (shard_of_call c) (after_call s c)) (slice_get shards (shard_of_call c)) shards
+
+-- this comes of it, and these are the states after it. A growth is refused where a call is made alone
+pub record IsMade (states : List State) (made : Result Call Taken) (what : Taken) (after : List State) : Type 0 where
+  pub taken : taken_in states made ≡ Some what
+  pub shards : after ≡ states_after states made
+
+abbrev pub StepEnds : List State → Result Call Taken → Result Taken AllocError → List State → Type 0
+StepEnds states made (Ok what) after = IsMade states made what after
+StepEnds states made (Err _) after = IsOk made

@@ -1,15 +1,32 @@
-use Rattle.std.proofs.Common.{rules, ◌≡◌, Some, Ok, IfOk, OnOk, sym, subst}
+use Rattle.std.proofs.Common.{ap}
 use Rattle.ns_calls.specs.Steps.{datagram_call}
-use Rattle.ns_calls.specs.declared.call.Call.TheVariants.{Join}
-use Rattle.ns_shard.specs.Private.Run.{taken_in, states_after, refused_as}
+use Rattle.ns_shard.specs.Private.Run.{refused_as}
+use Rattle.ns_shard.proofs.Datagrams.{link-call, view-call, join-call, frame-call}
+use Rattle.ns_shard.proofs.StepEnds.{none-made, call-ends}
 use Rattle.ns_shard.proofs.run.run_datagram.Goals as goal
 
-pub returns-in-Ok-Join-clause-taken : goal.returns-in-Ok-Join-clause-taken
-returns-in-Ok-Join-clause-taken c =
-    let call : refused_as (datagram_call c.args.bytes.now) ≡ Ok (Join c.ticket-ticket.result c.heard-heard.result) = search rules in
-    subst (λ r. IfOk c.apply.result (λ t. taken_in c.args.shards.now.items r ≡ Some t)) (sym call) c.apply.ensures.taken
+pub returns-in-Err : goal.returns-in-Err
+returns-in-Err c = none-made c.args.shards.now.items (refused_as (datagram_call c.args.bytes.now)) (ap refused_as (link-call c.args.bytes.now c.in-Err.fault c.in-Err.ensures.gives))
 
-pub returns-in-Ok-Join-clause-shards : goal.returns-in-Ok-Join-clause-shards
-returns-in-Ok-Join-clause-shards c =
-    let call : refused_as (datagram_call c.args.bytes.now) ≡ Ok (Join c.ticket-ticket.result c.heard-heard.result) = search rules in
-    subst (λ r. OnOk c.apply.result (c.apply.new.shards.items ≡ states_after c.args.shards.now.items r)) (sym call) c.apply.ensures.shards
+pub apply-requires : goal.apply-requires
+apply-requires c = record { sixteen = c.requires.sixteen; in_place = c.requires.in_place }
+
+pub apply-requires-in-Ok-Frame : goal.apply-requires-in-Ok-Frame
+apply-requires-in-Ok-Frame c = record { sixteen = c.requires.sixteen; in_place = c.requires.in_place }
+
+pub returns-in-Ok-Join : goal.returns-in-Ok-Join
+returns-in-Ok-Join c =
+    call-ends c.args.shards.now.items (datagram_call c.args.bytes.now) c.apply.result c.apply.new.shards.items
+    (join-call c.args.bytes.now c.in-Ok.datagram c.in-Ok.ensures.gives c.frame.ensures c.heard-heard.ensures c.in-Ok-Join.ensures.no_fault c.in-Ok-Join.field-0-is c.in-Ok-Join.ensures.view c.ticket-ticket.ensures.bytes)
+    c.apply.ensures
+
+pub returns-in-Ok-Frame : goal.returns-in-Ok-Frame
+returns-in-Ok-Frame c =
+    call-ends c.args.shards.now.items (datagram_call c.args.bytes.now) c.apply-in-Ok-Frame.result c.apply-in-Ok-Frame.new.shards.items
+    (frame-call c.args.bytes.now c.in-Ok.datagram c.in-Ok.ensures.gives c.frame.ensures c.heard-heard.ensures c.in-Ok-Frame.ensures.no_fault c.in-Ok-Frame.field-0-is c.in-Ok-Frame.ensures.view c.of-frame.ensures)
+    c.apply-in-Ok-Frame.ensures
+
+pub returns-in-Err-view : goal.returns-in-Err-view
+returns-in-Err-view c =
+    none-made c.args.shards.now.items (refused_as (datagram_call c.args.bytes.now))
+    (ap refused_as (view-call c.args.bytes.now c.in-Ok.datagram c.in-Ok.ensures.gives c.frame.ensures c.in-Err-view.fault c.in-Err-view.ensures.fault))

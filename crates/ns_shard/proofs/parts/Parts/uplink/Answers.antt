@@ -13,10 +13,9 @@ uplink-requires c =
 pub returns-clause-taken : goal.returns-clause-taken
 returns-clause-taken c =
     let room = c.in_ok-room.ensures in
-    let told = c.uplink.ensures in
-    uplink-taken c.args.self.now c.requires.agree c.room.new.self room.made room.entries room.reserved c.args.frame.now c.args.heard.now c.requires.own room.ok c.uplink.new.devices c.uplink.new.windows c.uplink.result told.reply told.opened told.devices told.windows
+    uplink-taken c.args.self.now c.requires.agree c.room.new.self room.made room.entries room.reserved c.args.frame.now c.args.heard.now c.requires.own room.ok c.uplink.new.devices c.uplink.new.windows c.uplink.result c.uplink.ensures
 
 pub returns-clause-err : goal.returns-clause-err
 returns-clause-err c =
     let room = c.in_ok-room.ensures in
-    uplink-refused c.args.self.now c.requires.agree c.room.new.self room.made room.entries room.reserved c.uplink.new.devices c.uplink.new.windows c.uplink.result c.uplink.ensures.err_devices c.uplink.ensures.err_windows
+    uplink-refused c.args.self.now c.requires.agree c.room.new.self room.made room.entries room.reserved c.args.frame.now c.args.heard.now _ c.uplink.new.devices c.uplink.new.windows c.uplink.result c.uplink.ensures

@@ -1,4 +1,5 @@
 use Rattle.std.proofs.Common.{sym, ap, ◌∙◌, ◌++◌, ◌+◌, take, drop, subst, []}
+use Rattle.std.proofs.lemmas.Result.{IfOk-from_err}
 use Rattle.std.specs.List.{AllByRecursion}
 use Rattle.std.specs.Arc.{arc_value}
 use Rattle.ns_shard.specs.Steps.{all_taken}
@@ -44,3 +45,27 @@ returns c =
       copies = subst (AllByRecursion (HasCopies shards)) (sym told) (taken-copies net steps shards after);
       handed_out_once = subst AreHandedOutOnce (sym told) (taken-once net steps);
     }
+
+pub returns-in_err-shards : goal.returns-in_err-shards
+returns-in_err-shards c =
+    let r = c.from_residual.result in
+    let failed = c.from_residual.ensures.0 in
+    record { taken = IfOk-from_err r _ failed; shards = IfOk-from_err r _ failed; sixteen = IfOk-from_err r _ failed; histories = IfOk-from_err r _ failed; calls = IfOk-from_err r _ failed; nonces_rise = IfOk-from_err r _ failed; counters_rise = IfOk-from_err r _ failed; acks_rise = IfOk-from_err r _ failed; uplinks = IfOk-from_err r _ failed; windows_open_once = IfOk-from_err r _ failed; nonces_within = IfOk-from_err r _ failed; greatest = IfOk-from_err r _ failed; copies = IfOk-from_err r _ failed; handed_out_once = IfOk-from_err r _ failed }
+
+pub returns-in_err-step : goal.returns-in_err-step
+returns-in_err-step c =
+    let r = c.from_residual-in_err-step.result in
+    let failed = c.from_residual-in_err-step.ensures.0 in
+    record { taken = IfOk-from_err r _ failed; shards = IfOk-from_err r _ failed; sixteen = IfOk-from_err r _ failed; histories = IfOk-from_err r _ failed; calls = IfOk-from_err r _ failed; nonces_rise = IfOk-from_err r _ failed; counters_rise = IfOk-from_err r _ failed; acks_rise = IfOk-from_err r _ failed; uplinks = IfOk-from_err r _ failed; windows_open_once = IfOk-from_err r _ failed; nonces_within = IfOk-from_err r _ failed; greatest = IfOk-from_err r _ failed; copies = IfOk-from_err r _ failed; handed_out_once = IfOk-from_err r _ failed }
+
+pub returns-in_err-one : goal.returns-in_err-one
+returns-in_err-one c =
+    let r = c.from_residual-in_err-one.result in
+    let failed = c.from_residual-in_err-one.ensures.0 in
+    record { taken = IfOk-from_err r _ failed; shards = IfOk-from_err r _ failed; sixteen = IfOk-from_err r _ failed; histories = IfOk-from_err r _ failed; calls = IfOk-from_err r _ failed; nonces_rise = IfOk-from_err r _ failed; counters_rise = IfOk-from_err r _ failed; acks_rise = IfOk-from_err r _ failed; uplinks = IfOk-from_err r _ failed; windows_open_once = IfOk-from_err r _ failed; nonces_within = IfOk-from_err r _ failed; greatest = IfOk-from_err r _ failed; copies = IfOk-from_err r _ failed; handed_out_once = IfOk-from_err r _ failed }
+
+pub returns-in_err-push : goal.returns-in_err-push
+returns-in_err-push c =
+    let r = c.from_residual-in_err-push.result in
+    let failed = c.from_residual-in_err-push.ensures.0 in
+    record { taken = IfOk-from_err r _ failed; shards = IfOk-from_err r _ failed; sixteen = IfOk-from_err r _ failed; histories = IfOk-from_err r _ failed; calls = IfOk-from_err r _ failed; nonces_rise = IfOk-from_err r _ failed; counters_rise = IfOk-from_err r _ failed; acks_rise = IfOk-from_err r _ failed; uplinks = IfOk-from_err r _ failed; windows_open_once = IfOk-from_err r _ failed; nonces_within = IfOk-from_err r _ failed; greatest = IfOk-from_err r _ failed; copies = IfOk-from_err r _ failed; handed_out_once = IfOk-from_err r _ failed }

@@ -1,0 +1,41 @@
+use Rattle.std.proofs.Common.{◌≡◌, refl, ap, ◌∙◌}
+use Rattle.std.proofs.lemmas.Result.{IfOk-from_err}
+use Rattle.std.specs.Arc.{arc_value}
+use Rattle.ns_roster.specs.Network.{Network}
+use Rattle.ns_calls.specs.declared.answer.Answer.{Answer}
+use Rattle.ns_shard.specs.State.{State, answer_in, after_call}
+use Rattle.ns_shard.specs.Private.Sending.{answer_of, downlink_of}
+use Rattle.ns_shard.specs.Private.Parts.{state_of}
+use Rattle.ns_shard.proofs.Standing.{on_err}
+use Rattle.ns_shard.proofs.parts.Parts.apply.Goals as goal
+
+pub returns-in_err-event : goal.returns-in_err-event
+returns-in_err-event c =
+    let r = c.from_residual.result in
+    let failed = c.from_residual.ensures.0 in
+    record {
+      reply = IfOk-from_err r _ failed;
+      uplink = IfOk-from_err r _ failed;
+      downlink = IfOk-from_err r _ failed;
+      state = IfOk-from_err r _ failed;
+      «open» = on_err r _ c.in_err-event.ensures.open;
+      err = on_err r _ (c.take.ensures.state, refl, refl);
+      agree = c.in_err-event.ensures.err;
+    }
+
+pub returns : goal.returns
+returns c =
+    let call = c.args.call.now in
+    let event = c.in_ok-event.event in
+    let before : state_of c.take.new.self ≡ state_of c.args.self.now = c.take.ensures.state in
+    let told : answer_of (arc_value c.take.new.self.roster) event ≡ answer_in (state_of c.args.self.now) call = c.in_ok-event.ensures.taken.answer ∙ ap (λ (s : State). answer_in s call) before in
+    let net : c.deref.result.now ≡ arc_value c.take.new.self.roster = c.deref.ensures ∙ ap (λ (s : State). s.roster) c.push.ensures.state in
+    record {
+      reply = c.hand_out.ensures.reply ∙ ap (λ (a : Answer). a.reply) told;
+      uplink = c.hand_out.ensures.uplink ∙ ap (λ (a : Answer). a.uplink) told;
+      downlink = c.hand_out.ensures.downlink ∙ (ap (λ (n : Network). downlink_of n event) net ∙ ap (λ (a : Answer). a.downlink) told);
+      state = c.push.ensures.state ∙ ap (λ (s : State). after_call s call) before;
+      «open» = tt;
+      err = tt;
+      agree = c.push.ensures.agree;
+    }
