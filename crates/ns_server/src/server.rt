@@ -93,11 +93,11 @@ fn run<B: Naming, const K: usize, R: Wait, G: Gate<R>>(
     receipt: &mut Receipt,
 ) -> Result<(), AllocError>
     requires { shard_of_call call.now ≡ K }
-    ensures call { OnOk result ((receipt.new.shard ≡ K) × (receipt.new.entry.call ≡ call.now)) }
-    ensures number { OnOk result (slice_index pass.old K ≤ receipt.new.entry.number) }
-    ensures answered { OnOk result (HasHistory B.roster K receipt.new) }
-    ensures begun { OnOk result (AnswersFrom B.roster (B.begun K) K receipt.new) }
-    ensures counted { OnOk result (RisesAt K pass.old pass.new) }
+    ensures call { OnOk result ((receipt.new.shard ≡ shard_of_call call.now) × (receipt.new.entry.call ≡ call.now)) }
+    ensures number { OnOk result (slice_index pass.old (shard_of_call call.now) ≤ receipt.new.entry.number) }
+    ensures answered { OnOk result (HasHistory B.roster (shard_of_call call.now) receipt.new) }
+    ensures begun { OnOk result (AnswersFrom B.roster (B.begun (shard_of_call call.now)) (shard_of_call call.now) receipt.new) }
+    ensures counted { OnOk result (RisesAt (shard_of_call call.now) pass.old pass.new) }
     ensures err { OnErr result ((pass.new ≡ pass.old) × (receipt.new ≡ receipt.old)) }
 {
     let shard = shard_of_call(call);
