@@ -466,6 +466,7 @@ impl<B: Naming> Server<B> {
             open_one(k14, &mut all),
             open_one(k15, &mut all),
         ];
+        drop(all);
         (roster, shards)
     }
 }
