@@ -180,6 +180,7 @@ fn put_passes<B: Naming>(passes: &mut Vec<Pass<B>>, mut shares: Shares<B>, worke
             shares: shares.split_one(),
         });
     }
+    drop(shares);
 }
 
 impl<B: Naming> Server<B> {
@@ -199,8 +200,14 @@ impl<B: Naming> Server<B> {
         ensures server { IfOk result (λ r. r.0 ≡ workers) }
         ensures passes { IfOk result (λ r. (vec_len r.1 ≡ workers) × All (λ p. p ≡ none_made) r.1.items) }
     {
-        let none = new_shards(alloc, &roster)?;
-        Server::<B>::over(alloc, roster, workers, blanks, none)
+        match new_shards(alloc, &roster) {
+            Ok(none) => Server::<B>::over(alloc, roster, workers, blanks, none),
+            Err(refused) => {
+                drop(blanks);
+                drop(roster);
+                Err(refused)
+            }
+        }
     }
 
     /// A server that begins with these sixteen shards and their entries, as those that the run of a record leaves, and a pass for each of
@@ -241,7 +248,15 @@ impl<B: Naming> Server<B> {
         ensures server { IfOk result (λ r. r.0 ≡ workers) }
         ensures passes { IfOk result (λ r. (vec_len r.1 ≡ workers) × All (λ p. p ≡ none_made) r.1.items) }
     {
-        let mut passes = Vec::with_capacity(alloc, workers)?;
+        let mut passes = match Vec::with_capacity(alloc, workers) {
+            Ok(passes) => passes,
+            Err(refused) => {
+                drop(shards);
+                drop(blanks);
+                drop(roster);
+                return Err(refused);
+            }
+        };
         let (books, shares) = blanks.open::<B>();
         put_passes(&mut passes, shares, workers);
         let server = Server::<B>::locked(roster, workers, books, shards);
