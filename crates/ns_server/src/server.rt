@@ -200,14 +200,11 @@ impl<B: Naming> Server<B> {
         ensures server { IfOk result (λ r. r.0 ≡ workers) }
         ensures passes { IfOk result (λ r. (vec_len r.1 ≡ workers) × All (λ p. p ≡ none_made) r.1.items) }
     {
-        match new_shards(alloc, &roster) {
-            Ok(none) => Server::<B>::over(alloc, roster, workers, blanks, none),
-            Err(refused) => {
-                drop(blanks);
-                drop(roster);
-                Err(refused)
-            }
-        }
+        let Ok(none) = new_shards(alloc, &roster) else {
+            drop(blanks);
+            return Err(AllocError);
+        };
+        Server::<B>::over(alloc, roster, workers, blanks, none)
     }
 
     /// A server that begins with these sixteen shards and their entries, as those that the run of a record leaves, and a pass for each of
@@ -248,14 +245,9 @@ impl<B: Naming> Server<B> {
         ensures server { IfOk result (λ r. r.0 ≡ workers) }
         ensures passes { IfOk result (λ r. (vec_len r.1 ≡ workers) × All (λ p. p ≡ none_made) r.1.items) }
     {
-        let mut passes = match Vec::with_capacity(alloc, workers) {
-            Ok(passes) => passes,
-            Err(refused) => {
-                drop(shards);
-                drop(blanks);
-                drop(roster);
-                return Err(refused);
-            }
+        let Ok(mut passes) = Vec::with_capacity(alloc, workers) else {
+            drop(blanks);
+            return Err(AllocError);
         };
         let (books, shares) = blanks.open::<B>();
         put_passes(&mut passes, shares, workers);
