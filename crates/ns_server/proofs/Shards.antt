@@ -1,7 +1,6 @@
 -- The sixteen shards, one after the other.
 use Rattle.std.proofs.Common.{◌≡◌, ℕ, zero, suc, ◌+◌, ◌≤◌, List, [], ◌∷◌, length, take, option_map, Bool, cond, Some, None, refl, ap, sym, ◌∙◌, subst, arith, eq-eqb}
 use Rattle.std.proofs.lemmas.List.{length-take-le}
-use Rattle.std.proofs.lemmas.Option.{slice_get-map}
 use Rattle.std.specs.Option.{option_and_then}
 use Rattle.std.specs.Prelude.{slice_get, slice_index}
 use Rattle.ns_types.specs.Identity.{shard_of}
@@ -12,7 +11,7 @@ use Rattle.ns_kept.specs.Kept.{Remains, whole, reading, is_kept}
 use Rattle.ns_kept.specs.Left.{Leaves, left_of}
 use Rattle.ns_shard.specs.State.{State, IsState, remains, seen, known_greatest, greatest_in}
 use Rattle.ns_tally.specs.Tally.{added}
-use Rattle.ns_server.specs.Settled.{histories, AreStates, greatest_of}
+use Rattle.ns_server.specs.Settled.{AreStates, greatest_of}
 use Rattle.ns_server.specs.Rows.{AreRow}
 use Rattle.ns_server.proofs.Unread.{kept_fewer, length_left}
 

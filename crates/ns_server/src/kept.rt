@@ -112,7 +112,10 @@ impl<B: Naming, const K: usize> Kept<B, K> {
         ensures told { IfOk result (IsTrimInPlaceOf B.roster K) }
     {
         let mark = self.shard.made();
-        let dropped = self.shard.trim_in_place(alloc)?;
+        let dropped = match self.shard.trim_in_place(alloc) {
+            Ok(dropped) => dropped,
+            Err(fault) => return Err(fault),
+        };
         Ok(Trim { mark, dropped })
     }
 

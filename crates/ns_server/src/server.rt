@@ -93,11 +93,11 @@ fn run<B: Naming, const K: usize, R: Wait, G: Gate<R>>(
     receipt: &mut Receipt,
 ) -> Result<(), AllocError>
     requires { shard_of_call call.now ≡ K }
-    ensures call { OnOk result ((receipt.new.shard ≡ K) × (receipt.new.entry.call ≡ call.now)) }
-    ensures number { OnOk result (slice_index pass.old K ≤ receipt.new.entry.number) }
-    ensures answered { OnOk result (HasHistory B.roster K receipt.new) }
-    ensures begun { OnOk result (AnswersFrom B.roster (B.begun K) K receipt.new) }
-    ensures counted { OnOk result (RisesAt K pass.old pass.new) }
+    ensures call { OnOk result ((receipt.new.shard ≡ shard_of_call call.now) × (receipt.new.entry.call ≡ call.now)) }
+    ensures number { OnOk result (slice_index pass.old (shard_of_call call.now) ≤ receipt.new.entry.number) }
+    ensures answered { OnOk result (HasHistory B.roster (shard_of_call call.now) receipt.new) }
+    ensures begun { OnOk result (AnswersFrom B.roster (B.begun (shard_of_call call.now)) (shard_of_call call.now) receipt.new) }
+    ensures counted { OnOk result (RisesAt (shard_of_call call.now) pass.old pass.new) }
     ensures err { OnErr result ((pass.new ≡ pass.old) × (receipt.new ≡ receipt.old)) }
 {
     let shard = shard_of_call(call);
@@ -180,6 +180,7 @@ fn put_passes<B: Naming>(passes: &mut Vec<Pass<B>>, mut shares: Shares<B>, worke
             shares: shares.split_one(),
         });
     }
+    drop(shares);
 }
 
 impl<B: Naming> Server<B> {
@@ -199,7 +200,10 @@ impl<B: Naming> Server<B> {
         ensures server { IfOk result (λ r. r.0 ≡ workers) }
         ensures passes { IfOk result (λ r. (vec_len r.1 ≡ workers) × All (λ p. p ≡ none_made) r.1.items) }
     {
-        let none = new_shards(alloc, &roster)?;
+        let Ok(none) = new_shards(alloc, &roster) else {
+            drop(blanks);
+            return Err(AllocError);
+        };
         Server::<B>::over(alloc, roster, workers, blanks, none)
     }
 
@@ -241,7 +245,10 @@ impl<B: Naming> Server<B> {
         ensures server { IfOk result (λ r. r.0 ≡ workers) }
         ensures passes { IfOk result (λ r. (vec_len r.1 ≡ workers) × All (λ p. p ≡ none_made) r.1.items) }
     {
-        let mut passes = Vec::with_capacity(alloc, workers)?;
+        let Ok(mut passes) = Vec::with_capacity(alloc, workers) else {
+            drop(blanks);
+            return Err(AllocError);
+        };
         let (books, shares) = blanks.open::<B>();
         put_passes(&mut passes, shares, workers);
         let server = Server::<B>::locked(roster, workers, books, shards);
@@ -466,6 +473,7 @@ impl<B: Naming> Server<B> {
             open_one(k14, &mut all),
             open_one(k15, &mut all),
         ];
+        drop(all);
         (roster, shards)
     }
 }

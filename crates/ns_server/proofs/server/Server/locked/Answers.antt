@@ -54,3 +54,48 @@ invariant_of-result g c = (sym c.requires.workers.1, c.requires.workers.0, c.req
 
 pub returns : goal.returns
 returns g c = refl
+
+pub invariant_of-books : goal.invariant_of-books
+invariant_of-books g c = record { shards = c.args.books.shards; none = c.args.books.none }
+
+pub invariant_of-books-2 : goal.invariant_of-books-2
+invariant_of-books-2 g c = record { shards = c.args.books.shards; none = c.args.books.none }
+
+pub invariant_of-books-3 : goal.invariant_of-books-3
+invariant_of-books-3 g c = record { shards = c.args.books.shards; none = c.args.books.none }
+
+pub invariant_of-books-4 : goal.invariant_of-books-4
+invariant_of-books-4 g c = record { shards = c.args.books.shards; none = c.args.books.none }
+
+pub invariant_of-books-5 : goal.invariant_of-books-5
+invariant_of-books-5 g c = record { shards = c.args.books.shards; none = c.args.books.none }
+
+pub invariant_of-books-6 : goal.invariant_of-books-6
+invariant_of-books-6 g c = record { shards = c.args.books.shards; none = c.args.books.none }
+
+pub invariant_of-books-7 : goal.invariant_of-books-7
+invariant_of-books-7 g c = record { shards = c.args.books.shards; none = c.args.books.none }
+
+pub invariant_of-books-8 : goal.invariant_of-books-8
+invariant_of-books-8 g c = record { shards = c.args.books.shards; none = c.args.books.none }
+
+pub invariant_of-books-9 : goal.invariant_of-books-9
+invariant_of-books-9 g c = record { shards = c.args.books.shards; none = c.args.books.none }
+
+pub invariant_of-books-10 : goal.invariant_of-books-10
+invariant_of-books-10 g c = record { shards = c.args.books.shards; none = c.args.books.none }
+
+pub invariant_of-books-11 : goal.invariant_of-books-11
+invariant_of-books-11 g c = record { shards = c.args.books.shards; none = c.args.books.none }
+
+pub invariant_of-books-12 : goal.invariant_of-books-12
+invariant_of-books-12 g c = record { shards = c.args.books.shards; none = c.args.books.none }
+
+pub invariant_of-books-13 : goal.invariant_of-books-13
+invariant_of-books-13 g c = record { shards = c.args.books.shards; none = c.args.books.none }
+
+pub invariant_of-books-14 : goal.invariant_of-books-14
+invariant_of-books-14 g c = record { shards = c.args.books.shards; none = c.args.books.none }
+
+pub invariant_of-books-15 : goal.invariant_of-books-15
+invariant_of-books-15 g c = record { shards = c.args.books.shards; none = c.args.books.none }

@@ -1,4 +1,4 @@
-use Rattle.std.proofs.Common.{refl}
+use Rattle.std.proofs.Common.{refl, rules}
 use Rattle.std.proofs.lemmas.Bool.{both_ways, not-true, not_from_false, false_from_ne_true}
 use Rattle.std.proofs.lemmas.Option.{slice_get_read}
 use Rattle.ns_server.proofs.Checking.{right_stands, right_is}
@@ -21,3 +21,9 @@ returns-else-has g c =
           let stands = right_is c.args.self.now c.args.receipts.now c.args.i c.index-receipts-i.result at (λ passed. absurd (cc (c.if-is_passed.false, c.is_passed.ensures.1 passed))) right in
           absurd (cc (c.if-has.false, c.has.ensures.1 stands.0))),
     )
+
+pub offset_bounds-receipts-i : goal.offset_bounds-receipts-i
+offset_bounds-receipts-i g c = search rules
+
+pub bounds-receipts-i : goal.bounds-receipts-i
+bounds-receipts-i g c = c.requires
