@@ -5,12 +5,12 @@
 //! their uplinks: `serve` of `ns_serve` does it, with threads and sockets. `lorawan_ns compact ROSTER DIR` makes a record shorter:
 //! `ns_compact` does it. Here is what a run does: what the words ask for, as `ns_words` reads them. The commands beside `serve`, the texts
 //! of faults, log lines and the exit statuses are those of `ns_commands`. The program stands on these, on `ns_serve` and
-//! `ns_serve_shards`, on `ns_record_files` for a record's files, on `ns_roster`, on `ns_types` for streams, and on `log` of the kit.
+//! `ns_serve_ends`, on `ns_record_files` for a record's files, on `ns_roster`, on `ns_types` for streams, and on `log` of the kit.
 #![tactic(auto)]
 
 ghost use Rattle.std.specs.Prelude.{IfOk, map, string_bytes};
 ghost use Rattle.std.specs.Arc.{arc_value};
-ghost use Rattle.ns_serve_shards.specs.Begun.{IsBegun};
+ghost use Rattle.ns_serve_ends.specs.Begun.{IsBegun};
 ghost use Rattle.ns_words.specs.Asked.{IsServed};
 ghost use Rattle.ns_commands.specs.Status.{IsRun};
 

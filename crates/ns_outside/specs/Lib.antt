@@ -1,4 +1,5 @@
 pub mod Receipts
+pub mod Answered
 pub mod Given
 pub mod Grown
 pub mod Notice

@@ -1,3 +1,2 @@
-pub mod Begun
 pub mod Closing
 pub mod Trims

@@ -1,17 +1,17 @@
 //! What all threads of a server over sockets share, and how a thread reaches it.
 //!
-//! `State` has the sockets, the queue of tickets, the counters, the record and the status. Around it stand the workers' clock and jobs, what
-//! they tell (`Events`, `note_event`), and when the record of their calls is written (`write_record`). Datagrams and downlinks are
-//! `ns_serve_sockets`', and answers over HTTP `ns_serve_status`'. Which workers hear forwarders is a contract; what stands under a lock and
-//! what the system does is shown by tests alone.
+//! `State` has the sockets, the queue of tickets, the counters, the record and the status. Around it stand the workers' clock and jobs, the
+//! lines of joins and acknowledgements (`note_event`), and when the record of their calls is written (`write_record`). Who is told what
+//! happens is `ns_serve_events`', datagrams and downlinks are `ns_serve_sockets`', and answers over HTTP `ns_serve_status`'. Which workers
+//! hear forwarders is a contract; what stands under a lock and what the system does is shown by tests alone.
 //! The crate stands on `ns_serve_parts`, on `ns_outside` for what the workers ask of what stands round them, on `ns_calls`, `ns_events`,
-//! `ns_forwarder`, `ns_forwarder_socket`, `ns_front`, `ns_joinclient`, `ns_joinwire`, `ns_roster` and `ns_types`, on
-//! `ns_record_files` for the record, on `ns_status`, and on `crossbeam_channel` and `log` of the kit.
+//! `ns_forwarder`, `ns_forwarder_socket`, `ns_front`, `ns_roster` and `ns_types`, on `ns_record_files` for the record, on `ns_status`, and
+//! on `crossbeam_channel` and `log` of the kit.
 #![tactic(auto)]
 
 mod channels;
 mod clock;
-mod events;
+mod logged;
 mod notices;
 mod queue;
 mod record;
@@ -19,8 +19,8 @@ mod state;
 mod status;
 
 pub use channels::{IntoQueues, hand_on};
-pub use clock::{SinceMoment, SinceStart, nap_ms, now_ms, times_of};
-pub use events::{Events, Seldoms, log_counts, log_message, log_unsent};
+pub use clock::{SinceMoment, SinceStart, closing_of, nap_ms, now_ms, times_of};
+pub use logged::{Seldoms, log_at, log_counts, log_message, log_seldom, log_unsent};
 pub use notices::{note_event, take_notices};
 pub use queue::FromQueue;
 pub use record::{has_failed, log_failure, look_after_record, rest_record, write_record};

@@ -3,7 +3,7 @@
 ghost use Rattle.std.specs.Prelude.{◌≡◌, ◌+◌, ◌*◌, max, is_some, IfOk};
 ghost use Rattle.ns_serve_state.specs.Hearing.{hears_forwarders};
 
-use crate::events::Seldoms;
+use crate::logged::Seldoms;
 use crate::queue::AskQueue;
 use crate::status::Status;
 use ns_events::Output;

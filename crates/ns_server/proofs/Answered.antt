@@ -14,7 +14,8 @@ use Rattle.ns_outside.specs.declared.receipt.Receipt.{Receipt}
 use Rattle.ns_server.specs.Kept.{IsStateOf}
 use Rattle.ns_server.specs.Begun.{BeganAs}
 use Rattle.ns_outside.specs.Receipts.{receipt_of}
-use Rattle.ns_server.specs.Receipts.{receipt_for, Sends, HasHistory, AnswersFrom}
+use Rattle.ns_outside.specs.Answered.{Sends, HasHistory}
+use Rattle.ns_server.specs.Receipts.{receipt_for, AnswersFrom}
 
 -- the receipt of a call has each history of which the shard had what it keeps
 history_of : (net : Network) (shard : ℕ) (s : State) (call : Call) (r : Receipt) (h : List Entry) → r ≡ receipt_for s call → s.roster ≡ net → IsHistory net shard h → Keeps h s →

@@ -12,7 +12,7 @@ use Rattle.ns_kept.specs.Left.{Leaves, first_entries}
 use Rattle.ns_sent.specs.Found.{CopiesFit}
 use Rattle.ns_shard.specs.State.{State, Keeps, IsState, remains}
 use Rattle.ns_outside.specs.declared.receipt.Receipt.{Receipt}
-use Rattle.ns_server.specs.Receipts.{Sends}
+use Rattle.ns_outside.specs.Answered.{Sends}
 use Rattle.ns_server.specs.Check.{StandsIn}
 use Rattle.ns_server.proofs.Unread.{kept_of, leaves_first, place_left, length_left, out_unread, copies_fit}
 

@@ -4,7 +4,7 @@ use Rattle.ns_roster.specs.Network.{Network}
 use Rattle.ns_calls.specs.declared.call.Entry.{Entry}
 use Rattle.ns_shard.specs.State.{State, Keeps}
 use Rattle.ns_outside.specs.declared.receipt.Receipt.{Receipt}
-use Rattle.ns_server.specs.Receipts.{Sends}
+use Rattle.ns_outside.specs.Answered.{Sends}
 
 -- the receipt's entry stands in this history at its number, and the receipt tells what goes out there
 pub record StandsAt (net : Network) (h : List Entry) (r : Receipt) : Type 0 where

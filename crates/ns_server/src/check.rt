@@ -2,7 +2,7 @@
 
 ghost use Rattle.std.specs.Prelude.{◌≡◌, ◌<◌, ◌≤◌, ◌↔◌, length, IsTrue, MatchResult};
 ghost use Rattle.ns_sent.specs.Found.{CopiesFit};
-ghost use Rattle.ns_server.specs.Receipts.{Sends};
+ghost use Rattle.ns_outside.specs.Answered.{Sends};
 ghost use Rattle.ns_server.specs.Check.{StandsIn, Stands, IsPassed, IsRepeated, IsRight, AreRight, IsFirstWrong};
 
 use crate::names::Naming;

@@ -6,7 +6,8 @@ ghost use Rattle.ns_calls.specs.Shards.{shard_of_call};
 ghost use Rattle.ns_kept.specs.Bound.{most_kept};
 ghost use Rattle.ns_shard.specs.State.{after_call, after_trim, dropped, finds_open};
 ghost use Rattle.ns_shard.specs.declared.trim.TrimFault.TheVariants.{Full};
-ghost use Rattle.ns_server.specs.Receipts.{receipt_for, HasHistory, AnswersFrom, RisesAt};
+ghost use Rattle.ns_outside.specs.Answered.{HasHistory, RisesAt};
+ghost use Rattle.ns_server.specs.Receipts.{receipt_for, AnswersFrom};
 ghost use Rattle.ns_server.specs.Kept.{IsStateOf};
 ghost use Rattle.ns_server.specs.Trims.{IsTrimOf, IsTrimInPlaceOf};
 

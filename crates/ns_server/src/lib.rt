@@ -10,6 +10,7 @@
 //! shard.
 #![tactic(auto)]
 
+mod calls;
 mod check;
 mod kept;
 mod laws;

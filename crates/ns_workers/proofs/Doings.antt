@@ -12,7 +12,7 @@ use Rattle.ns_roster.specs.Network.{Network}
 use Rattle.ns_events.specs.declared.output.Output.{Output}
 use Rattle.ns_events.specs.declared.times.Times.{Times}
 use Rattle.ns_outside.specs.declared.receipt.Receipt.{Receipt}
-use Rattle.ns_server.specs.Receipts.{HasHistory, RisesAt}
+use Rattle.ns_outside.specs.Answered.{HasHistory, RisesAt}
 use Rattle.ns_outside.specs.declared.job.Job.{Job}
 use Rattle.ns_outside.specs.declared.fault.WorkerFault.{WorkerFault}
 use Rattle.ns_outside.specs.declared.fault.WorkerFault.TheVariants.{SinkFailed}

@@ -5,7 +5,7 @@ use Rattle.ns_calls.specs.declared.call.Call.TheVariants.{Close}
 use Rattle.ns_calls.specs.Shards.{shard_of_call}
 use Rattle.ns_roster.specs.Network.{Network}
 use Rattle.ns_outside.specs.declared.receipt.Receipt.{Receipt}
-use Rattle.ns_server.specs.Receipts.{HasHistory}
+use Rattle.ns_outside.specs.Answered.{HasHistory}
 use Rattle.ns_outside.specs.declared.job.CloseJob.{CloseJob}
 use Rattle.ns_outside.specs.declared.fault.WorkerFault.{WorkerFault}
 use Rattle.ns_outside.specs.declared.fault.WorkerFault.TheVariants.{NoMemory}

@@ -1,6 +1,6 @@
 //! Closes windows as they become due.
 ghost use Rattle.std.specs.Prelude.{◌≡◌, ◌≢◌, ◌+◌, ◌<◌, ◌≤◌, [], None, Some, false, true, option_to_list, vec_len, vec_capacity, All, OnOk, OnErr};
-ghost use Rattle.ns_server.specs.Receipts.{RisesAt};
+ghost use Rattle.ns_outside.specs.Answered.{RisesAt};
 ghost use Rattle.ns_workers.specs.Closing.{Closes, AreAnswered, HasAnswer, closing};
 ghost use Rattle.ns_workers.specs.Closed.{ClosesOne, ClosesAll};
 ghost use Rattle.ns_workers.specs.Counts.{RisesByReceipts};
@@ -14,12 +14,10 @@ use crate::line::write_uplink;
 use crate::shared::Shared;
 use ns_calls::Call;
 use ns_outside::{
-    CloseJob, Downlinks, Gate, JobSource, Monitor, Next, Receipt, Timer, WorkerFault,
+    Calls, CloseJob, Downlinks, Gate, JobSource, Monitor, Next, Receipt, Timer, WorkerFault,
 };
-use ns_server::{Naming, Pass};
 use ns_types::{Failed, Sink};
 use std::alloc::AllocError;
-use std::sync::Wait;
 
 /// What a closer has done: the receipts of its closings, in order, and why it ended early.
 #[derive(Drop)]
@@ -29,19 +27,19 @@ pub struct Ended {
 }
 
 // Waits until the job is due, and closes its window. Puts the receipt in the place of another.
-fn close_due<B: Naming, R: Wait, G: Gate<R>, M: Monitor<R>, T: Timer<R>>(
-    shared: &Shared<'_, B, R, G, M>,
-    pass: &mut Pass<B>,
+fn close_due<S: Calls<R>, R, G: Gate<R>, M: Monitor<R>, T: Timer<R>>(
+    shared: &Shared<'_, S, R, G, M>,
+    pass: &mut S::Pass,
     timer: &T,
     job: CloseJob,
     receipt: &mut Receipt,
 ) -> Result<(), AllocError>
     ensures waited { T.has_come timer.now job.due }
     ensures call { OnOk result (receipt.new.entry.call ≡ closing job) }
-    ensures answered { OnOk result (HasAnswer B.roster receipt.new) }
-    ensures counted { OnOk result (RisesAt receipt.new.shard pass.old pass.new) }
+    ensures answered { OnOk result (HasAnswer S.roster receipt.new) }
+    ensures counted { OnOk result (RisesAt receipt.new.shard (S.made pass.old) (S.made pass.new)) }
     ensures told { OnOk result (M.has_heard shared.now.monitor.now (call_replied receipt.new)) }
-    ensures err { OnErr result (pass.new ≡ pass.old) }
+    ensures err { OnErr result (S.made pass.new ≡ S.made pass.old) }
 {
     timer.until(shared.rt, job.due);
     let call = Call::Close { window: job.name };
@@ -49,8 +47,8 @@ fn close_due<B: Naming, R: Wait, G: Gate<R>, M: Monitor<R>, T: Timer<R>>(
 }
 
 // Sends what goes down, and writes the line of what goes up, whose window was due then.
-pub(crate) fn hand_out<B: Naming, R, G, D: Downlinks<R>, M: Monitor<R>, T: Timer<R>, W: Sink>(
-    shared: &Shared<'_, B, R, G, M>,
+pub(crate) fn hand_out<S: Calls<R>, R, G, D: Downlinks<R>, M: Monitor<R>, T: Timer<R>, W: Sink>(
+    shared: &Shared<'_, S, R, G, M>,
     timer: &T,
     due: u64,
     down: &mut D,
@@ -70,9 +68,9 @@ pub(crate) fn hand_out<B: Naming, R, G, D: Downlinks<R>, M: Monitor<R>, T: Timer
 
 // Closes the window of a job once it is due, and hands out what comes of that. The receipt is made in its place behind the others;
 // where the closing was refused memory it is taken away again. Tells the fault where there was one.
-fn close_next<B: Naming, R: Wait, G: Gate<R>, D: Downlinks<R>, M: Monitor<R>, T: Timer<R>, W: Sink>(
-    shared: &Shared<'_, B, R, G, M>,
-    pass: &mut Pass<B>,
+fn close_next<S: Calls<R>, R, G: Gate<R>, D: Downlinks<R>, M: Monitor<R>, T: Timer<R>, W: Sink>(
+    shared: &Shared<'_, S, R, G, M>,
+    pass: &mut S::Pass,
     timer: &T,
     down: &mut D,
     sink: &mut W,
@@ -82,9 +80,9 @@ fn close_next<B: Naming, R: Wait, G: Gate<R>, D: Downlinks<R>, M: Monitor<R>, T:
     requires sound { W.has_failed sink.old ≡ false }
     requires room { vec_len receipts.old < vec_capacity receipts.old }
     ensures waited { T.has_come timer.now job.due }
-    ensures closes { let before = effects pass.old None (D.taken down.old) (W.taken sink.old) in
-        let after = effects pass.new None (D.taken down.new) (W.taken sink.new) in
-        ClosesOne B.roster shared.now.output (M.has_heard shared.now.monitor.now) job result before after receipts.old.items receipts.new.items }
+    ensures closes { let before = effects (S.made pass.old) None (D.taken down.old) (W.taken sink.old) in
+        let after = effects (S.made pass.new) None (D.taken down.new) (W.taken sink.new) in
+        ClosesOne S.roster shared.now.output (M.has_heard shared.now.monitor.now) job result before after receipts.old.items receipts.new.items }
     ensures count { result ≡ None → vec_len receipts.new ≡ vec_len receipts.old + 1 }
     ensures room { vec_capacity receipts.new ≡ vec_capacity receipts.old }
     ensures sound { result ≢ Some WorkerFault.SinkFailed → W.has_failed sink.new ≡ false }
@@ -108,8 +106,8 @@ fn close_next<B: Naming, R: Wait, G: Gate<R>, D: Downlinks<R>, M: Monitor<R>, T:
 // was one.
 #[tactic(auto, using(crate::proofs::Closings::closed_none, crate::proofs::Closings::closed_more, crate::proofs::Closings::closes_end, crate::proofs::Closings::closes_full, crate::proofs::Closings::closes_broken, crate::proofs::Closings::closes_fault,))]
 fn close_all<
-    B: Naming,
-    R: Wait,
+    S: Calls<R>,
+    R,
     G: Gate<R>,
     D: Downlinks<R>,
     M: Monitor<R>,
@@ -117,8 +115,8 @@ fn close_all<
     J: JobSource<R, CloseJob>,
     W: Sink,
 >(
-    shared: &Shared<'_, B, R, G, M>,
-    pass: &mut Pass<B>,
+    shared: &Shared<'_, S, R, G, M>,
+    pass: &mut S::Pass,
     timer: &T,
     jobs: &mut J,
     down: &mut D,
@@ -129,9 +127,9 @@ fn close_all<
     requires sound { W.has_failed sink.old ≡ false }
     requires none { receipts.old.items ≡ [] }
     requires room { limit ≤ vec_capacity receipts.old }
-    ensures closes { let before = effects pass.old None (D.taken down.old) (W.taken sink.old) in
-        let after = effects pass.new None (D.taken down.new) (W.taken sink.new) in
-        ClosesAll B.roster shared.now.output (M.has_heard shared.now.monitor.now) (T.has_come timer.now) limit
+    ensures closes { let before = effects (S.made pass.old) None (D.taken down.old) (W.taken sink.old) in
+        let after = effects (S.made pass.new) None (D.taken down.new) (W.taken sink.new) in
+        ClosesAll S.roster shared.now.output (M.has_heard shared.now.monitor.now) (T.has_come timer.now) limit
         (J.given jobs.old) (J.given jobs.new) before after receipts.new.items result }
     ensures same { J.all jobs.new ≡ J.all jobs.old }
     ensures sound { result ≢ Some WorkerFault.SinkFailed → W.has_failed sink.new ≡ false }
@@ -160,8 +158,8 @@ fn close_all<
 /// lines.
 #[tactic(auto, using(crate::proofs::Closings::closes_before, crate::proofs::Counting::rises_none, crate::proofs::Doings::answered_none, crate::proofs::Doings::grows_none, crate::proofs::Doings::lines_none, crate::proofs::Doings::lines_whole,))]
 pub fn run_closer<
-    B: Naming,
-    R: Wait,
+    S: Calls<R>,
+    R,
     G: Gate<R>,
     D: Downlinks<R>,
     M: Monitor<R>,
@@ -170,8 +168,8 @@ pub fn run_closer<
     W: Sink,
 >(
     mut receipts: Vec<Receipt>,
-    shared: &Shared<'_, B, R, G, M>,
-    pass: &mut Pass<B>,
+    shared: &Shared<'_, S, R, G, M>,
+    pass: &mut S::Pass,
     timer: &T,
     jobs: &mut J,
     down: &mut D,
@@ -181,9 +179,9 @@ pub fn run_closer<
     requires { W.has_failed sink.old ≡ false }
     ensures jobs { Closes (T.has_come timer.now) limit (J.given jobs.old) (J.given jobs.new) result.receipts.items result.fault }
     ensures same { J.all jobs.new ≡ J.all jobs.old }
-    ensures answered { AreAnswered B.roster result.receipts.items }
+    ensures answered { AreAnswered S.roster result.receipts.items }
     ensures told { All (λ r. M.has_heard shared.now.monitor.now (call_replied r)) result.receipts.items }
-    ensures counted { RisesByReceipts pass.old pass.new result.receipts.items }
+    ensures counted { RisesByReceipts (S.made pass.old) (S.made pass.new) result.receipts.items }
     ensures down { Grows (D.taken down.old) (D.taken down.new) (downlinks_of result.receipts.items) }
     ensures text { result.fault ≢ Some WorkerFault.SinkFailed
         → AppendsLines shared.now.output (W.taken sink.old) (W.taken sink.new) result.receipts.items }

@@ -1,30 +1,28 @@
 //! Calls, and what goes down with them.
 ghost use Rattle.std.specs.Prelude.{◌≡◌, option_to_list, OnOk, OnErr};
-ghost use Rattle.ns_server.specs.Receipts.{RisesAt};
+ghost use Rattle.ns_outside.specs.Answered.{RisesAt};
 ghost use Rattle.ns_workers.specs.Closing.{HasAnswer};
 ghost use Rattle.ns_outside.specs.Grown.{Grows};
 ghost use Rattle.ns_outside.specs.Notice.{call_replied};
 
 use crate::shared::Shared;
 use ns_calls::Call;
-use ns_outside::{Downlinks, Gate, Monitor, Receipt};
-use ns_server::{Naming, Pass};
+use ns_outside::{Calls, Downlinks, Gate, Monitor, Receipt};
 use std::alloc::AllocError;
-use std::sync::Wait;
 
 // Makes a call and tells its receipt, which it puts in the place of another.
 #[tactic(auto, using(crate::proofs::Doings::counted_answer))]
-pub(crate) fn make_call<B: Naming, R: Wait, G: Gate<R>, M: Monitor<R>>(
-    shared: &Shared<'_, B, R, G, M>,
-    pass: &mut Pass<B>,
+pub(crate) fn make_call<S: Calls<R>, R, G: Gate<R>, M: Monitor<R>>(
+    shared: &Shared<'_, S, R, G, M>,
+    pass: &mut S::Pass,
     call: &Call,
     receipt: &mut Receipt,
 ) -> Result<(), AllocError>
     ensures call { OnOk result (receipt.new.entry.call ≡ call.now) }
-    ensures answered { OnOk result (HasAnswer B.roster receipt.new) }
-    ensures counted { OnOk result (RisesAt receipt.new.shard pass.old pass.new) }
+    ensures answered { OnOk result (HasAnswer S.roster receipt.new) }
+    ensures counted { OnOk result (RisesAt receipt.new.shard (S.made pass.old) (S.made pass.new)) }
     ensures told { OnOk result (M.has_heard shared.now.monitor.now (call_replied receipt.new)) }
-    ensures err { OnErr result (pass.new ≡ pass.old) }
+    ensures err { OnErr result (S.made pass.new ≡ S.made pass.old) }
 {
     shared
         .server
@@ -34,8 +32,8 @@ pub(crate) fn make_call<B: Naming, R: Wait, G: Gate<R>, M: Monitor<R>>(
 }
 
 // Sends what goes down with a receipt. What cannot be sent is lost.
-pub(crate) fn send_down<B: Naming, R, G, D: Downlinks<R>, M: Monitor<R>>(
-    shared: &Shared<'_, B, R, G, M>,
+pub(crate) fn send_down<S: Calls<R>, R, G, D: Downlinks<R>, M: Monitor<R>>(
+    shared: &Shared<'_, S, R, G, M>,
     down: &mut D,
     receipt: &Receipt,
 )

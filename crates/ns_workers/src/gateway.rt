@@ -10,9 +10,9 @@ use crate::job::{call_at_once, leads_to_job};
 use crate::shared::Shared;
 use ns_calls::{Call, Reply};
 use ns_outside::{
-    Datagrams, Downlinks, Gate, Job, Jobs, Monitor, Receipt, Received, Timer, WorkerFault, job_of,
+    Calls, Datagrams, Downlinks, Gate, Job, Jobs, Monitor, Receipt, Received, Timer, WorkerFault,
+    job_of,
 };
-use ns_server::{Naming, Pass};
 use ns_types::Sink;
 use std::sync::Wait;
 
@@ -33,8 +33,8 @@ const MOST: u64 = 1 << 63;
 // that could not be done. The receipt is room.
 #[tactic(auto, using(crate::proofs::Servings::follows_put, crate::proofs::Servings::follows_itself, crate::proofs::Servings::follows_unsent, crate::proofs::Servings::follows_undone, crate::proofs::Doings::does_own, crate::proofs::Doings::does_put,))]
 fn put_job<
-    B: Naming,
-    R: Wait,
+    S: Calls<R>,
+    R,
     G: Gate<R>,
     M: Monitor<R>,
     T: Timer<R>,
@@ -42,8 +42,8 @@ fn put_job<
     D: Downlinks<R>,
     W: Sink,
 >(
-    shared: &Shared<'_, B, R, G, M>,
-    pass: &mut Pass<B>,
+    shared: &Shared<'_, S, R, G, M>,
+    pass: &mut S::Pass,
     timer: &T,
     jobs: &mut P,
     down: &mut D,
@@ -52,9 +52,9 @@ fn put_job<
     job: Job,
 ) -> Option<WorkerFault>
     requires { W.has_failed sink.old ≡ false }
-    ensures follows { let before = effects pass.old (P.taken jobs.old) (D.taken down.old) (W.taken sink.old) in
-        let after = effects pass.new (P.taken jobs.new) (D.taken down.new) (W.taken sink.new) in
-        Follows B.roster shared.now.output (M.has_heard shared.now.monitor.now) job result before after }
+    ensures follows { let before = effects (S.made pass.old) (P.taken jobs.old) (D.taken down.old) (W.taken sink.old) in
+        let after = effects (S.made pass.new) (P.taken jobs.new) (D.taken down.new) (W.taken sink.new) in
+        Follows S.roster shared.now.output (M.has_heard shared.now.monitor.now) job result before after }
     ensures sound { result ≢ Some WorkerFault.SinkFailed → W.has_failed sink.new ≡ false }
     ensures failed { result ≡ Some WorkerFault.SinkFailed → W.has_failed sink.new ≡ true }
     ensures source { result ≢ Some WorkerFault.SourceFailed }
@@ -84,8 +84,8 @@ fn job_after<R, T: Timer<R>>(rt: &R, timer: &T, reply: &Reply, window_ms: u32) -
 // Makes the call of a datagram that is not refused, and puts the job that follows, if one does. The call and the receipt are room.
 #[tactic(auto, using(crate::proofs::Servings::serves_refused, crate::proofs::Servings::serves_dropped, crate::proofs::Servings::serves_called, crate::proofs::Servings::serves_followed, crate::proofs::Doings::does_call,))]
 fn serve_one<
-    B: Naming,
-    R: Wait,
+    S: Calls<R>,
+    R,
     G: Gate<R>,
     M: Monitor<R>,
     T: Timer<R>,
@@ -93,8 +93,8 @@ fn serve_one<
     D: Downlinks<R>,
     W: Sink,
 >(
-    shared: &Shared<'_, B, R, G, M>,
-    pass: &mut Pass<B>,
+    shared: &Shared<'_, S, R, G, M>,
+    pass: &mut S::Pass,
     timer: &T,
     jobs: &mut P,
     down: &mut D,
@@ -108,9 +108,9 @@ fn serve_one<
     requires sound { W.has_failed sink.old ≡ false }
     requires counts { (served.old.read < 2 ^ 63) × (served.old.refused < 2 ^ 63) × (served.old.dropped < 2 ^ 63) }
     requires fault { served.old.fault ≡ None }
-    ensures serves { let before = effects pass.old (P.taken jobs.old) (D.taken down.old) (W.taken sink.old) in
-        let after = effects pass.new (P.taken jobs.new) (D.taken down.new) (W.taken sink.new) in
-        Serves B.roster shared.now.output (M.has_heard shared.now.monitor.now) (T.has_told timer.now) window_ms served.old served.new before after (bytes.now ∷ []) }
+    ensures serves { let before = effects (S.made pass.old) (P.taken jobs.old) (D.taken down.old) (W.taken sink.old) in
+        let after = effects (S.made pass.new) (P.taken jobs.new) (D.taken down.new) (W.taken sink.new) in
+        Serves S.roster shared.now.output (M.has_heard shared.now.monitor.now) (T.has_told timer.now) window_ms served.old served.new before after (bytes.now ∷ []) }
     ensures few { (served.new.refused ≤ served.old.refused + 1) × (served.new.dropped ≤ served.old.dropped + 1) }
     ensures sound { served.new.fault ≢ Some WorkerFault.SinkFailed → W.has_failed sink.new ≡ false }
     ensures failed { served.new.fault ≡ Some WorkerFault.SinkFailed → W.has_failed sink.new ≡ true }
@@ -141,7 +141,7 @@ fn serve_one<
 /// clause here); K2 where the source failed; K3 where the sink failed.
 #[tactic(auto, using(crate::proofs::Servings::heard_first, crate::proofs::Servings::heard_idle, crate::proofs::Servings::heard_more, crate::proofs::Servings::serves_to_end, crate::proofs::Servings::serves_broken, crate::proofs::Servings::serves_fault,))]
 pub fn run_gateway<
-    B: Naming,
+    S: Calls<R>,
     R: Wait,
     G: Gate<R>,
     M: Monitor<R>,
@@ -151,8 +151,8 @@ pub fn run_gateway<
     D: Downlinks<R>,
     W: Sink,
 >(
-    shared: &Shared<'_, B, R, G, M>,
-    pass: &mut Pass<B>,
+    shared: &Shared<'_, S, R, G, M>,
+    pass: &mut S::Pass,
     datagrams: &mut I,
     timer: &T,
     jobs: &mut P,
@@ -161,9 +161,9 @@ pub fn run_gateway<
     window_ms: u32,
 ) -> Served
     requires { W.has_failed sink.old ≡ false }
-    ensures serves { let before = effects pass.old (P.taken jobs.old) (D.taken down.old) (W.taken sink.old) in
-        let after = effects pass.new (P.taken jobs.new) (D.taken down.new) (W.taken sink.new) in
-        ServesAll B.roster shared.now.output (M.has_heard shared.now.monitor.now) (T.has_told timer.now) window_ms
+    ensures serves { let before = effects (S.made pass.old) (P.taken jobs.old) (D.taken down.old) (W.taken sink.old) in
+        let after = effects (S.made pass.new) (P.taken jobs.new) (D.taken down.new) (W.taken sink.new) in
+        ServesAll S.roster shared.now.output (M.has_heard shared.now.monitor.now) (T.has_told timer.now) window_ms
         (I.given datagrams.old) (I.given datagrams.new) before after result }
     ensures sound { result.fault ≢ Some WorkerFault.SinkFailed → W.has_failed sink.new ≡ false }
     ensures failed { result.fault ≡ Some WorkerFault.SinkFailed → W.has_failed sink.new ≡ true }

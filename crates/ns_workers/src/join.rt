@@ -13,14 +13,12 @@ use ns_calls::{Call, JoinAns, Outcome};
 use ns_joinclient::{HostName, ask};
 use ns_joinwire::join_req;
 use ns_outside::{
-    AskJob, Connections, Downlinks, Gate, JobSource, JoinFault, Monitor, Next, Receipt, Timer,
-    WorkerFault,
+    AskJob, Calls, Connections, Downlinks, Gate, JobSource, JoinFault, Monitor, Next, Receipt,
+    Timer, WorkerFault,
 };
 use ns_roster::Roster;
-use ns_server::{Naming, Pass};
 use ns_types::Ticket;
 use std::alloc::{AllocError, Global};
-use std::sync::Wait;
 
 /// What a join worker has done: how many tickets it answered, and why it ended early.
 #[derive(Clone, Copy, Debug, PartialEq, Eq)]
@@ -121,8 +119,8 @@ fn outcome_for<R, C: Connections<R>, T: Timer<R>, M: Monitor<R>>(
 // down.
 #[tactic(auto, using(crate::proofs::Answerings::reply_of, crate::proofs::Doings::does_reply,))]
 fn answer_job<
-    B: Naming,
-    R: Wait,
+    S: Calls<R>,
+    R,
     G: Gate<R>,
     M: Monitor<R>,
     C: Connections<R>,
@@ -130,8 +128,8 @@ fn answer_job<
     D: Downlinks<R>,
 >(
     alloc: Global,
-    shared: &Shared<'_, B, R, G, M>,
-    pass: &mut Pass<B>,
+    shared: &Shared<'_, S, R, G, M>,
+    pass: &mut S::Pass,
     connections: &C,
     timer: &T,
     down: &mut D,
@@ -144,10 +142,10 @@ fn answer_job<
         let has_heard = M.has_heard shared.now.monitor.now in
         let has_outcome = HasOutcome C.S.taken C.S.left C.S.has_failed has_opened has_none has_heard roster.now (host_text host.entry) in
         IfOk result (λ r. IsReply (IsOutcome has_heard (T.has_told timer.now) has_outcome) job.now r) }
-    ensures does { let before = effects pass.old None (D.taken down.old) None in
-        let after = effects pass.new None (D.taken down.new) None in
-        IfOk result (λ r. Does B.roster Lines (M.has_heard shared.now.monitor.now) None before after (r ∷ []) (r ∷ []) []) }
-    ensures err { OnErr result ((pass.new ≡ pass.old) × (down.new ≡ down.old)) }
+    ensures does { let before = effects (S.made pass.old) None (D.taken down.old) None in
+        let after = effects (S.made pass.new) None (D.taken down.new) None in
+        IfOk result (λ r. Does S.roster Lines (M.has_heard shared.now.monitor.now) None before after (r ∷ []) (r ∷ []) []) }
+    ensures err { OnErr result ((S.made pass.new ≡ S.made pass.old) × (down.new ≡ down.old)) }
 {
     let outcome = outcome_for(
         shared.rt,
@@ -177,8 +175,8 @@ fn answer_job<
 /// last was not open (no clause). K2 where the source failed. K3 never comes.
 #[tactic(auto, using(crate::proofs::Answerings::answered_first, crate::proofs::Answerings::answered_next, crate::proofs::Answerings::answers_end, crate::proofs::Answerings::answers_full, crate::proofs::Answerings::answers_broken, crate::proofs::Answerings::answers_refused,))]
 pub fn run_join<
-    B: Naming,
-    R: Wait,
+    S: Calls<R>,
+    R,
     G: Gate<R>,
     M: Monitor<R>,
     C: Connections<R>,
@@ -187,8 +185,8 @@ pub fn run_join<
     D: Downlinks<R>,
 >(
     alloc: Global,
-    shared: &Shared<'_, B, R, G, M>,
-    pass: &mut Pass<B>,
+    shared: &Shared<'_, S, R, G, M>,
+    pass: &mut S::Pass,
     connections: &C,
     timer: &T,
     jobs: &mut J,
@@ -200,9 +198,9 @@ pub fn run_join<
         let has_none = C.has_none connections.now in
         let has_heard = M.has_heard shared.now.monitor.now in
         let has_outcome = HasOutcome C.S.taken C.S.left C.S.has_failed has_opened has_none has_heard roster.now (host_text host.entry) in
-        let before = effects pass.old None (D.taken down.old) None in
-        let after = effects pass.new None (D.taken down.new) None in
-        Answers B.roster has_heard (IsOutcome has_heard (T.has_told timer.now) has_outcome) (J.given jobs.old) (J.given jobs.new) before after result }
+        let before = effects (S.made pass.old) None (D.taken down.old) None in
+        let after = effects (S.made pass.new) None (D.taken down.new) None in
+        Answers S.roster has_heard (IsOutcome has_heard (T.has_told timer.now) has_outcome) (J.given jobs.old) (J.given jobs.new) before after result }
     ensures same { J.all jobs.new ≡ J.all jobs.old }
     ensures fault { result.fault ≢ Some WorkerFault.SinkFailed }
 {

@@ -9,8 +9,9 @@
 //! closings, in order, and its sink has their lines; a join worker's receipts are of the answers to its tickets, in order, each as the
 //! join server answered; a gateway worker counted each datagram as refused, dropped or called, and put the job that follows each reply
 //! once, or did it. What goes down is that of the receipts.
-//! The crate stands on `ns_server` for the calls, on `ns_link`, `ns_views`, `ns_calls`, `ns_lines` and `ns_events` for datagrams and lines,
-//! and on `ns_joinwire` and `ns_joinclient` for the exchange with a join server.
+//! The crate stands on `ns_outside` for these and for what makes calls (`Calls`: a server of `ns_server` does), on `ns_link`, `ns_views`,
+//! `ns_calls`, `ns_lines` and `ns_events` for datagrams and lines, and on `ns_joinwire` and `ns_joinclient` for the exchange with a join
+//! server.
 #![tactic(auto)]
 
 mod closer;

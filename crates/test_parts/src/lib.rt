@@ -1,10 +1,12 @@
-//! Tests of the crates round the shards: late copies of frames (ns_front), what a server tells of itself over HTTP (ns_status), texts from
-//! outside, in pieces of every size and with each fault (ns_responses, ns_roster_place), the files of a record (ns_record_files), and
-//! packet forwarders, over memory and over sockets (ns_forwarder, ns_forwarder_socket).
+//! Tests of the crates round the shards: where gateways are, and late copies of frames (ns_front), what a server tells of itself over HTTP
+//! (ns_status), texts from outside, in pieces of every size and with each fault (ns_responses, ns_roster_place), the files of a record
+//! (ns_record_files), and packet forwarders, over memory and over sockets (ns_forwarder, ns_forwarder_socket).
 //!
 //! They call what those crates give in public, and stand here so that no crate is proved once more for its tests.
 #![tactic(auto)]
 
+#[cfg(test)]
+mod addresses;
 #[cfg(test)]
 mod failures;
 #[cfg(test)]

@@ -8,9 +8,10 @@ ghost use Rattle.ns_tally.specs.Tally.{AreNamed};
 use crate::trial::USUAL;
 use log::Log;
 use ns_calls::Call;
-use ns_outside::{Open, Receipt};
+use ns_outside::{Calls, Open, Receipt};
 use ns_roster::Roster;
-use ns_serve::{PLACES, Trims, trim_due};
+use ns_serve_parts::PLACES;
+use ns_serve_shards::{Trims, trim_due};
 use ns_server::{Naming, Pass, Server, Settled};
 use ns_tally::Blanks;
 use ns_types::{BLOCKS, DevEui, GatewayId, Heard, Ticket, WindowName, take_all};
@@ -27,10 +28,10 @@ fn add_one(made: &mut [u64; PLACES], shard: u8) {
 }
 
 // Makes so many closings of a window that is not open, in this shard.
-fn closings<B: Naming, R: Wait>(
+fn closings<S: Calls<R>, R>(
     rt: &R,
-    server: &Server<B>,
-    pass: &mut Pass<B>,
+    server: &S,
+    pass: &mut S::Pass,
     made: &mut [u64; PLACES],
     shard: u8,
     count: u32,
@@ -41,8 +42,9 @@ fn closings<B: Naming, R: Wait>(
         fcnt: 2,
         round: 1,
     };
+    let mut receipt = Receipt::empty();
     for _ in 0..count {
-        let receipt = server.call(rt, pass, Call::Close { window }, &Open)?;
+        server.call_into(rt, pass, &Call::Close { window }, &Open, &mut receipt)?;
         add_one(made, receipt.shard);
     }
     Ok(())
@@ -65,11 +67,7 @@ fn trim_by_turns<B: Naming, R: Wait + Log>(
 }
 
 // Has the device ask to join: its ticket is open from then on, and its entry stays.
-fn ask<B: Naming, R: Wait>(
-    rt: &R,
-    server: &Server<B>,
-    pass: &mut Pass<B>,
-) -> Result<Receipt, AllocError> {
+fn ask<S: Calls<R>, R>(rt: &R, server: &S, pass: &mut S::Pass) -> Result<Receipt, AllocError> {
     let ticket = Ticket([
         0, 4, 3, 2, 1, 4, 3, 2, 1, 13, 0, 0, 0, 0, 0, 0, 0, 1, 0, 1, 0, 0, 0,
     ]);
@@ -81,7 +79,9 @@ fn ask<B: Naming, R: Wait>(
         rssi: -400,
         snr: 75,
     };
-    server.call(rt, pass, Call::Join { ticket, heard }, &Open)
+    let mut receipt = Receipt::empty();
+    server.call_into(rt, pass, &Call::Join { ticket, heard }, &Open, &mut receipt)?;
+    Ok(receipt)
 }
 
 // Looks whether a trim is due while there is no memory, and then so many times with it.

@@ -2,19 +2,19 @@
 
 use crate::runs::{Bench, Run, Runner, run_all};
 use crate::told::tell;
-use ns_outside::Gate;
-use ns_server::{Naming, Pass};
+use ns_outside::{Calls, Gate, Receipt};
 use std::sync::Wait;
 use std::sync::atomic::{AtomicU64, Ordering};
 use std::thread;
 use std::thread::Threads;
 use std::time::{Clock, Duration};
 
-/// Holds a call at its gate until the flag is up, for ten seconds at most.
+/// Holds a call at its gate until the flag is up, for ten seconds at most, and counts the entries of shard 13.
 #[derive(Drop)]
 pub struct Until {
     flag: AtomicU64,
     late: AtomicU64,
+    count: AtomicU64,
 }
 
 impl Until {
@@ -23,7 +23,13 @@ impl Until {
         Until {
             flag: AtomicU64::new(flag),
             late: AtomicU64::new(0),
+            count: AtomicU64::new(0),
         }
+    }
+
+    /// How many entries of shard 13 were made by calls that visited it.
+    pub fn made(&self) -> u64 {
+        self.count.load(Ordering::SeqCst)
     }
 
     /// Puts the flag up.
@@ -42,6 +48,12 @@ impl<R: Clock> Gate<R> for Until {
         }
         self.late.store(1, Ordering::SeqCst);
     }
+
+    fn made(&self, _rt: &R, receipt: &Receipt) {
+        if receipt.shard == 13 {
+            let _ = self.count.fetch_add(1, Ordering::SeqCst);
+        }
+    }
 }
 
 // Tells what another thread told, and whether a call was held at a gate too long.
@@ -52,13 +64,16 @@ fn tell_other(log: &mut String, other: &str, gate: &Until) -> Option<()> {
 
 /// The first run is held at its gate until the others, on another thread, have ended. Tells what the first tells, what the others do, and
 /// whether the first was held too long.
-pub fn run_beside<B: Naming + Send + Sync, R: Threads + Wait + Clock + Sync>(
-    bench: &Bench<'_, B, R>,
-    one: &mut Pass<B>,
-    two: &mut Pass<B>,
+pub fn run_beside<S: Calls<R> + Sync, R: Threads + Wait + Clock + Sync>(
+    bench: &Bench<'_, S, R>,
+    one: &mut S::Pass,
+    two: &mut S::Pass,
     log: &mut String,
     runs: &[Run],
-) -> Option<()> {
+) -> Option<()>
+where
+    S::Pass: Send,
+{
     let (first, others) = runs.split_at_checked(1)?;
     let gate = Until::new(0);
     let held = Bench {

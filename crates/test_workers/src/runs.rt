@@ -7,9 +7,8 @@ use crate::told::{fault_number, tell, tell_jobs, tell_out, tell_window};
 use ns_calls::{Call, Reply};
 use ns_events::Output;
 use ns_joinclient::HostName;
-use ns_outside::{AskJob, CloseJob};
+use ns_outside::{AskJob, Calls, CloseJob};
 use ns_roster::Roster;
-use ns_server::{Naming, Pass, Server};
 use ns_types::{BLOCKS, DevEui, Fuse, Ticket, WindowName, take_rest};
 use ns_workers::{
     Ended, Joined, ListedDatagrams, ListedJobs, Served, Shared, run_closer, run_gateway, run_join,
@@ -67,15 +66,15 @@ pub enum Run {
 
 /// What the runs of workers share.
 #[derive(Drop)]
-pub struct Bench<'a, B: Naming, R> {
+pub struct Bench<'a, S, R> {
     pub rt: &'a R,
     pub alloc: Global,
-    pub server: &'a Server<B>,
+    pub server: &'a S,
     pub gate: &'a Until,
     pub known: &'a Roster,
 }
 
-/// Runs workers on a server, each with a pass. What is done again and again names no server by it.
+/// Runs workers on a server, each with a pass.
 pub trait Runner {
     /// A pass of the server.
     type Pass;
@@ -90,8 +89,8 @@ pub trait Runner {
         faults: Faults,
     ) -> Option<usize>;
 
-    /// How many entries a pass knows of shard 13.
-    fn made(&self, pass: &Self::Pass) -> u64;
+    /// How many entries of shard 13 were made.
+    fn made(&self) -> u64;
 
     /// Where memory comes from.
     fn alloc(&self) -> Global;
@@ -100,12 +99,12 @@ pub trait Runner {
     fn let_go(&self);
 }
 
-impl<B: Naming, R: Wait + Clock> Runner for Bench<'_, B, R> {
-    type Pass = Pass<B>;
+impl<S: Calls<R>, R: Wait + Clock> Runner for Bench<'_, S, R> {
+    type Pass = S::Pass;
 
     fn run_one(
         &self,
-        pass: &mut Pass<B>,
+        pass: &mut S::Pass,
         log: &mut String,
         time: u64,
         work: Work,
@@ -114,8 +113,8 @@ impl<B: Naming, R: Wait + Clock> Runner for Bench<'_, B, R> {
         run_one(self, pass, log, time, work, faults)
     }
 
-    fn made(&self, pass: &Pass<B>) -> u64 {
-        pass.made(13)
+    fn made(&self) -> u64 {
+        self.gate.made()
     }
 
     fn alloc(&self) -> Global {
@@ -175,10 +174,10 @@ fn closings(alloc: Global, windows: &[Due]) -> Option<Vec<CloseJob>> {
 }
 
 // Runs a gateway worker.
-fn serve<B: Naming, R: Wait + Clock>(
+fn serve<S: Calls<R>, R: Wait + Clock>(
     alloc: Global,
-    shared: &Shared<'_, B, R, Until, Around>,
-    pass: &mut Pass<B>,
+    shared: &Shared<'_, S, R, Until, Around>,
+    pass: &mut S::Pass,
     log: &mut String,
     down: &mut Sent,
     list: &[Reads],
@@ -232,10 +231,10 @@ fn askings(alloc: Global, asks: &[Asked]) -> Option<Vec<AskJob>> {
 }
 
 // Runs a join worker.
-fn answer<B: Naming, R: Wait + Clock>(
+fn answer<S: Calls<R>, R: Wait + Clock>(
     alloc: Global,
-    shared: &Shared<'_, B, R, Until, Around>,
-    pass: &mut Pass<B>,
+    shared: &Shared<'_, S, R, Until, Around>,
+    pass: &mut S::Pass,
     known: &Roster,
     log: &mut String,
     down: &mut Sent,
@@ -261,10 +260,10 @@ fn tell_joined(log: &mut String, joined: Joined, down: &Sent, around: &Around) -
 }
 
 // Runs a closer.
-fn close<B: Naming, R: Wait + Clock>(
+fn close<S: Calls<R>, R: Wait + Clock>(
     alloc: Global,
-    shared: &Shared<'_, B, R, Until, Around>,
-    pass: &mut Pass<B>,
+    shared: &Shared<'_, S, R, Until, Around>,
+    pass: &mut S::Pass,
     log: &mut String,
     jobs: &mut Scarce<ListedJobs<CloseJob>>,
     limit: u32,
@@ -303,10 +302,10 @@ fn tell_closed(
 }
 
 // Runs closers over one source.
-fn close_all<B: Naming, R: Wait + Clock>(
+fn close_all<S: Calls<R>, R: Wait + Clock>(
     alloc: Global,
-    shared: &Shared<'_, B, R, Until, Around>,
-    pass: &mut Pass<B>,
+    shared: &Shared<'_, S, R, Until, Around>,
+    pass: &mut S::Pass,
     log: &mut String,
     windows: &[Due],
     limits: &[u32],
@@ -321,9 +320,9 @@ fn close_all<B: Naming, R: Wait + Clock>(
 }
 
 // Runs a worker from a time on. How many downlinks a gateway worker or a join worker sent.
-fn run_one<B: Naming, R: Wait + Clock>(
-    bench: &Bench<'_, B, R>,
-    pass: &mut Pass<B>,
+fn run_one<S: Calls<R>, R: Wait + Clock>(
+    bench: &Bench<'_, S, R>,
+    pass: &mut S::Pass,
     log: &mut String,
     time: u64,
     work: Work,
@@ -388,11 +387,11 @@ fn is_accepted<N: Runner>(
         blocks,
         ..NONE
     };
-    let made = runner.made(pass).wrapping_add(2);
+    let made = runner.made().wrapping_add(2);
     log.clear();
     runner.run_one(pass, log, 7, Work::Serve(reads, 1), NONE)?;
     let sent = runner.run_one(pass, log, 7, Work::Answer(asks), faults)?;
-    if runner.made(pass) == made {
+    if runner.made() == made {
         Some(sent == 1)
     } else {
         None

@@ -8,8 +8,9 @@ ghost use Rattle.ns_tally.specs.Tally.{AreNamed};
 use crate::beside::{Until, run_beside};
 use crate::runs::{Bench, Run, run_all};
 use crate::told::tell_entries;
+use ns_outside::Calls;
 use ns_roster::Roster;
-use ns_server::{Naming, Pass, Server, SettleFault, Settled};
+use ns_server::{Naming, Server, SettleFault, Settled};
 use ns_tally::Blanks;
 use std::alloc::Global;
 use std::marker::Brand;
@@ -67,12 +68,15 @@ fn tell_on<B: Naming + Send + Sync, R: Threads + Wait + Clock + Sync>(
 }
 
 // Runs workers in order with one pass, or beside each other with two.
-fn run_with<B: Naming + Send + Sync, R: Threads + Wait + Clock + Sync>(
-    bench: &Bench<'_, B, R>,
-    passes: &mut [Pass<B>],
+fn run_with<S: Calls<R> + Sync, R: Threads + Wait + Clock + Sync>(
+    bench: &Bench<'_, S, R>,
+    passes: &mut [S::Pass],
     log: &mut String,
     runs: &[Run],
-) -> Option<()> {
+) -> Option<()>
+where
+    S::Pass: Send,
+{
     match passes {
         [one] => run_all(bench, one, log, runs),
         [one, two] => run_beside(bench, one, two, log, runs),

@@ -7,9 +7,9 @@ use Rattle.ns_workers.proofs.closer.close_all.Given as goal
 abbrev pub invariant-loop-jobs : goal.invariant-loop-jobs
 invariant-loop-jobs g l =
     (g.W.Stream.has_failed l.sink ≡ false) × (vec_len l.receipts ≤ l.limit) × (l.limit ≤ vec_capacity l.receipts)
-    × Closed g.B.Naming.roster l.shared.output (g.M.Monitor.has_heard l.shared.monitor.now) (g.T.Timer.has_come l.timer)
+    × Closed g.S.Calls.roster l.shared.output (g.M.Monitor.has_heard l.shared.monitor.now) (g.T.Timer.has_come l.timer)
     (g.J.JobSource.given l.fn.jobs) (g.J.JobSource.given l.jobs)
-    (effects l.fn.pass None (g.D.Downlinks.taken l.fn.down) (g.W.Sink.taken l.fn.sink)) (effects l.pass None (g.D.Downlinks.taken l.down) (g.W.Sink.taken l.sink)) l.receipts.items
+    (effects (g.S.Calls.made l.fn.pass) None (g.D.Downlinks.taken l.fn.down) (g.W.Sink.taken l.fn.sink)) (effects (g.S.Calls.made l.pass) None (g.D.Downlinks.taken l.down) (g.W.Sink.taken l.sink)) l.receipts.items
     × (g.J.JobSource.all l.jobs ≡ g.J.JobSource.all l.fn.jobs)
 
 abbrev pub decreases-loop-jobs : goal.decreases-loop-jobs

@@ -11,7 +11,7 @@ returns-in-Ok-hand_out-clause-closes g c =
       r,
       placed,
       c.in-Ok.ensures.call,
-      does_own g.B.Naming.roster c.args.shared.now.output (g.M.Monitor.has_heard c.args.shared.now.monitor.now) None c.args.pass.now c.close_due.new.pass None None
+      does_own g.S.Calls.roster c.args.shared.now.output (g.M.Monitor.has_heard c.args.shared.now.monitor.now) None (g.S.Calls.made c.args.pass.now) (g.S.Calls.made c.close_due.new.pass) None None
           (g.D.Downlinks.taken c.args.down.now) (g.D.Downlinks.taken c.hand_out.new.down) (g.W.Sink.taken c.args.sink.now) (g.W.Sink.taken c.hand_out.new.sink) r
           c.in-Ok.ensures.answered c.in-Ok.ensures.counted c.in-Ok.ensures.told tt c.in-Ok-hand_out.ensures.down (λ _. c.in-Ok-hand_out.ensures.ok) c.in-Ok-hand_out.ensures.front,
     )
@@ -23,7 +23,7 @@ returns-in-Err-clause-closes g c =
       r,
       placed,
       c.in-Ok.ensures.call,
-      does_own g.B.Naming.roster c.args.shared.now.output (g.M.Monitor.has_heard c.args.shared.now.monitor.now) (Some SinkFailed) c.args.pass.now c.close_due.new.pass None None
+      does_own g.S.Calls.roster c.args.shared.now.output (g.M.Monitor.has_heard c.args.shared.now.monitor.now) (Some SinkFailed) (g.S.Calls.made c.args.pass.now) (g.S.Calls.made c.close_due.new.pass) None None
           (g.D.Downlinks.taken c.args.down.now) (g.D.Downlinks.taken c.hand_out.new.down) (g.W.Sink.taken c.args.sink.now) (g.W.Sink.taken c.hand_out.new.sink) r
           c.in-Ok.ensures.answered c.in-Ok.ensures.counted c.in-Ok.ensures.told tt c.in-Err.ensures.down (λ other. absurd (other refl)) c.in-Err.ensures.front,
     )

@@ -12,9 +12,9 @@ invariant-loop-joined g l =
     let has_outcome = HasOutcome g.C.S.Sink.taken g.C.S.Source.left g.C.S.Stream.has_failed (g.C.Connections.has_opened l.connections)
     (g.C.Connections.has_none l.connections) has_heard l.roster (host_text l.host) in
     (l.joined.answered ≤ 2 ^ 63) × (l.joined.fault ≡ None)
-    × Answered g.B.Naming.roster has_heard (IsOutcome has_heard (g.T.Timer.has_told l.timer) has_outcome)
+    × Answered g.S.Calls.roster has_heard (IsOutcome has_heard (g.T.Timer.has_told l.timer) has_outcome)
     (g.J.JobSource.given l.fn.jobs) (g.J.JobSource.given l.jobs)
-    (effects l.fn.pass None (g.D.Downlinks.taken l.fn.down) None) (effects l.pass None (g.D.Downlinks.taken l.down) None) l.joined.answered
+    (effects (g.S.Calls.made l.fn.pass) None (g.D.Downlinks.taken l.fn.down) None) (effects (g.S.Calls.made l.pass) None (g.D.Downlinks.taken l.down) None) l.joined.answered
     × (g.J.JobSource.all l.jobs ≡ g.J.JobSource.all l.fn.jobs)
 
 abbrev pub decreases-loop-joined : goal.decreases-loop-joined

@@ -1,4 +1,0 @@
-mod ReceiptLemmas
-mod TurnLemmas
-mod DrainLemmas
-mod TakenLemmas

@@ -1,7 +1,0 @@
-use Rattle.std.specs.Io.KnownBytes.{append_known}
-use Rattle.ns_serve_parts.specs.Output.{Grows}
-use Rattle.ns_serve.proofs.service.drain.Given as goal
-
-abbrev pub invariant-loop-turn : goal.invariant-loop-turn
-invariant-loop-turn g l =
-    Grows (append_known (g.W.Sink.taken l.fn.output.writer) l.fn.output.lines.items) (append_known (g.W.Sink.taken l.output.writer) l.output.lines.items)

@@ -1,0 +1,2 @@
+mod RecordLemmas
+mod DrainLemmas

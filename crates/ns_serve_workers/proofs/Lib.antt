@@ -1,0 +1,3 @@
+mod ReceiptLemmas
+mod TurnLemmas
+mod TakenLemmas

@@ -1,0 +1,261 @@
+//! What the closer does in a turn: windows are closed as they become due, and their lines written.
+ghost use Rattle.std.specs.Prelude.{◌≡◌, ◌≢◌, ◌+◌, ◌^◌, ◌<◌, ◌≤◌, ◌⊎◌, ◌↔◌, ◌++◌, List, Some, None, true, false, IsNone, IsTrue, IfOk, slice_get, vec_len};
+ghost use Rattle.ns_outside.specs.declared.receipt.Receipt.{Receipt as receipt};
+ghost use Rattle.ns_outside.specs.declared.job.CloseJob.{CloseJob as close_job};
+ghost use Rattle.ns_workers.specs.Closing.{AreAnswered, AreClosed, calls_made, closings};
+ghost use Rattle.ns_workers.specs.Counts.{RisesByReceipts};
+ghost use Rattle.ns_workers.specs.Lines.{AppendsLines, AppendsLinesFront};
+ghost use Rattle.ns_serve_workers.specs.Turns.{HasClosed, HasReceipts, IsTurn, IsTurnWith};
+
+use crossbeam_channel::{Receiver, RecvTimeoutError};
+use log::{Log, error};
+use ns_events::Output as Written;
+use ns_outside::{Calls, CloseJob, Gate, Monitor, Receipt, WorkerFault};
+use ns_serve_parts::{Held, Output, ServeFault, put_under_lock};
+use ns_serve_sockets::Later;
+use ns_serve_state::{SinceMoment, State, nap_ms, now_ms, take_notices};
+use ns_types::Sink;
+use ns_workers::{Ended, ListedJobs, Shared, run_closer};
+use std::alloc::{AllocError, Global};
+use std::sync::{Mutex, Wait};
+use std::time::{Clock, Duration};
+use std::{mem, thread};
+
+/// How many windows are closed at a time, at most.
+pub(crate) const AT_A_TIME: usize = 64;
+
+/// The room for the lines of so many windows, each with its line feed.
+pub(crate) fn room_for(output: Written) -> usize {
+    match output {
+        Written::Lines => AT_A_TIME * 1025,
+        Written::Json => AT_A_TIME * 6401,
+    }
+}
+
+// How long the closer waits at most before it looks whether the server stops and whether shards are to be trimmed.
+const NAP_MS: u64 = 100;
+
+// How long it sleeps at least where a window is not due, so that the windows of a few milliseconds are closed together.
+const LEAST_NAP_MS: u64 = 3;
+
+// Whether a time has come. Once no gateway worker is left every time has, since no copy can come then.
+fn has_come(due: u64, now: u64, is_deaf: bool) -> bool
+    ensures { IsTrue result ↔ ((due ≤ now) ⊎ (is_deaf ≡ true)) }
+{
+    due <= now || is_deaf
+}
+
+/// The windows that are to be closed, in the order in which they were opened.
+#[derive(Drop)]
+pub(crate) struct Closings<'a> {
+    state: &'a State,
+    receiver: Receiver<CloseJob>,
+    // One that is not due yet.
+    held: Option<CloseJob>,
+}
+
+/// What the closer is to do.
+#[derive(Drop)]
+pub(crate) enum Turn {
+    /// To close the windows of these jobs, which are due.
+    Close(Vec<CloseJob>),
+    /// Nothing is due.
+    Idle,
+    /// The server stops.
+    End,
+}
+
+impl<'a> Closings<'a> {
+    /// The windows that come by a channel.
+    pub fn new(state: &'a State, receiver: Receiver<CloseJob>) -> Closings<'a>
+        ensures { result.held ≡ None }
+    {
+        Closings {
+            state,
+            receiver,
+            held: None,
+        }
+    }
+
+    /// What is to be done next: it is waited for a while.
+    #[tactic(auto, using(crate::proofs::TurnLemmas::turn_held, crate::proofs::TurnLemmas::turn_new))]
+    pub fn next<R: Wait + Clock>(&mut self, rt: &R, alloc: Global) -> Result<Turn, AllocError>
+        ensures { IfOk result (IsTurn self.old.held self.new.held) }
+    {
+        if self.state.is_over() {
+            return Ok(Turn::End);
+        }
+        if let Some(first) = self.held.take() {
+            return self.turn_with(rt, alloc, first);
+        }
+        match self
+            .receiver
+            .recv_timeout(rt, Duration::from_millis(NAP_MS))
+        {
+            Ok(first) => self.turn_with(rt, alloc, first),
+            Err(RecvTimeoutError::Timeout) => Ok(Turn::Idle),
+            Err(RecvTimeoutError::Disconnected) => Ok(Turn::End),
+        }
+    }
+
+    // What is to be done where this job is the next one.
+    fn turn_with<R: Wait + Clock>(
+        &mut self,
+        rt: &R,
+        alloc: Global,
+        first: CloseJob,
+    ) -> Result<Turn, AllocError>
+        requires { self.old.held ≡ None }
+        ensures { IfOk result (IsTurnWith first self.new.held) }
+    {
+        let Some(now) = self.comes(rt, first.due) else {
+            self.held = Some(first);
+            return Ok(Turn::Idle);
+        };
+        Ok(Turn::Close(self.batch(rt, alloc, first, now)?))
+    }
+
+    // Waits a while for a time, and gives the moment then, if it has come.
+    fn comes<R: Clock>(&self, rt: &R, due: u64) -> Option<u64> {
+        let begun = now_ms(rt, self.state);
+        if has_come(due, begun, self.state.is_deaf()) {
+            return Some(begun);
+        }
+        let nap = nap_ms(due, begun).max(LEAST_NAP_MS);
+        thread::sleep(rt, Duration::from_millis(nap));
+        let now = now_ms(rt, self.state);
+        if has_come(due, now, self.state.is_deaf()) {
+            Some(now)
+        } else {
+            None
+        }
+    }
+
+    // This job, which is due, and those behind it that are due at this moment.
+    #[tactic(auto, using(crate::proofs::TurnLemmas::first_stays))]
+    fn batch<R: Wait + Clock>(
+        &mut self,
+        rt: &R,
+        alloc: Global,
+        first: CloseJob,
+        now: u64,
+    ) -> Result<Vec<CloseJob>, AllocError>
+        requires { self.old.held ≡ None }
+        ensures count { IfOk result (λ jobs. (0 < vec_len jobs) × (vec_len jobs ≤ 64)) }
+        ensures first { IfOk result (λ jobs. slice_get jobs.items 0 ≡ Some first) }
+    {
+        let mut jobs = Vec::with_capacity(alloc, AT_A_TIME)?;
+        jobs.push_reserved(first);
+        while jobs.len() < AT_A_TIME {
+            let Ok(job) = self.receiver.try_recv(rt) else {
+                break;
+            };
+            if !has_come(job.due, now, self.state.is_deaf()) {
+                self.held = Some(job);
+                break;
+            }
+            jobs.push_reserved(job);
+        }
+        Ok(jobs)
+    }
+}
+
+// Closes the windows of these jobs, in order, and puts their lines to those that are held. Without a fault it closes them all. The receipts
+// come in the memory of others.
+fn close_all<S: Calls<R>, R: Wait + Clock + Log, G: Gate<R>, M: Monitor<R>>(
+    receipts: Vec<Receipt>,
+    shared: &Shared<'_, S, R, G, M>,
+    pass: &mut S::Pass,
+    timer: &SinceMoment<'_>,
+    down: &mut Later<'_>,
+    jobs: Vec<CloseJob>,
+    held: &mut Held,
+) -> Ended
+    requires { held.old.failed ≡ false }
+    ensures lines { result.fault ≢ Some WorkerFault.SinkFailed
+        → AppendsLines shared.now.output (Some held.old.lines.items) (Some held.new.lines.items) result.receipts.items }
+    ensures front { AppendsLinesFront shared.now.output (Some held.old.lines.items) (Some held.new.lines.items) result.receipts.items }
+    ensures closed { (taken rest : List close_job) × (jobs.items ≡ taken ++ rest) × AreClosed result.fault result.receipts.items taken }
+    ensures all { result.fault ≡ None → vec_len jobs < 2 ^ 32 → calls_made result.receipts.items ≡ closings jobs.items }
+    ensures answered { AreAnswered S.roster result.receipts.items }
+    ensures counted { RisesByReceipts (S.made pass.old) (S.made pass.new) result.receipts.items }
+{
+    let limit = u32::try_from(jobs.len()).unwrap_or(u32::MAX);
+    let mut jobs = ListedJobs::new(jobs, false);
+    run_closer(receipts, shared, pass, timer, &mut jobs, down, held, limit)
+}
+
+// Logs why the closer ends.
+fn log_end<R: Log>(rt: &R, why: &str) {
+    error!(rt; "closer: {why}");
+}
+
+// Logs that what it wrote did not go out, and gives the fault.
+fn unwritten<R: Log>(rt: &R) -> ServeFault
+    ensures { result ≡ ServeFault.Io }
+{
+    log_end(rt, "standard output or the record failed");
+    ServeFault::Io
+}
+
+// The fault of a closer whose lines were held in memory, where a fault of it is want of memory, and then written or not. It is logged.
+fn fault_of<R: Log>(rt: &R, fault: Option<WorkerFault>, is_written: bool) -> Option<ServeFault>
+    ensures none { IsNone result ↔ IsNone fault × (is_written ≡ true) }
+    ensures memory { result ≡ Some ServeFault.Io → IsNone fault }
+{
+    if fault.is_some() {
+        log_end(rt, "no memory to close a window");
+        return Some(ServeFault::NoMemory);
+    }
+    if is_written {
+        None
+    } else {
+        Some(unwritten(rt))
+    }
+}
+
+/// Closes the windows of these jobs, sends their downlinks and writes their lines, also where it meets a fault, which it gives. The receipts
+/// are put in the place of others, in their memory.
+pub(crate) fn close_and_write<
+    S: Calls<R>,
+    R: Wait + Clock + Log,
+    G: Gate<R>,
+    M: Monitor<R>,
+    W: Sink,
+>(
+    receipts: &mut Vec<Receipt>,
+    shared: &Shared<'_, S, R, G, M>,
+    pass: &mut S::Pass,
+    state: &State,
+    output: &Mutex<Output<W>>,
+    jobs: Vec<CloseJob>,
+    later: &mut Later<'_>,
+    held: &mut Held,
+) -> Option<ServeFault>
+    requires { held.old.failed ≡ false }
+    ensures sound { held.new.failed ≡ false }
+    ensures receipts { HasReceipts S.roster (S.made pass.old) (S.made pass.new) }
+    ensures closed { result ≡ None → vec_len jobs < 2 ^ 32 → HasClosed S.roster jobs.items (S.made pass.old) (S.made pass.new) }
+{
+    let timer = SinceMoment::now(shared.rt, state);
+    let room = mem::replace(receipts, Vec::new(state.alloc()));
+    let ended = close_all(room, shared, pass, &timer, later, jobs, held);
+    later.send_all(shared.rt);
+    let is_written = put_under_lock(shared.rt, output, held.lines()).is_ok();
+    held.clear();
+    *receipts = ended.receipts;
+    fault_of(shared.rt, ended.fault, is_written)
+}
+
+/// Writes the joins and acknowledgements that were told, and gives the fault where they could not be.
+pub(crate) fn write_notices<R: Wait + Log, W: Sink>(
+    rt: &R,
+    state: &State,
+    output: &Mutex<Output<W>>,
+) -> Option<ServeFault> {
+    let lines = take_notices(rt, state);
+    if !lines.is_empty() && put_under_lock(rt, output, lines.as_slice()).is_err() {
+        return Some(unwritten(rt));
+    }
+    None
+}
