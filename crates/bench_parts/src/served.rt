@@ -7,9 +7,9 @@ ghost use Rattle.ns_tally.specs.Tally.{AreNamed};
 
 use anyhow::anyhow;
 use ns_calls::{Answer, Call, shard_of_call};
-use ns_outside::{Open, Receipt};
+use ns_outside::{Calls, Open, Receipt};
 use ns_roster::Roster;
-use ns_server::{Naming, Pass, Server};
+use ns_server::{Naming, Server};
 use ns_shard::Shard;
 use ns_tally::Blanks;
 use ns_types::SHARDS;
@@ -95,44 +95,59 @@ pub fn apply_all<R: Clock>(
     Ok((entries_of(shards.as_slice()), took))
 }
 
-// Makes a call on the server, which trims its shard where that is due.
-fn call_one<B: Naming, R: Wait>(
+// Trims its shards between calls.
+trait TrimsShards<R> {
+    fn trim_shard(&self, rt: &R, alloc: Global, shard: u8);
+}
+
+impl<B: Naming, R: Wait> TrimsShards<R> for Server<B> {
+    fn trim_shard(&self, rt: &R, alloc: Global, shard: u8) {
+        if shard < SHARDS {
+            let _ = self.trim_in_place(rt, alloc, shard);
+        }
+    }
+}
+
+// Makes a call on the server, which trims its shard where that is due. The receipt is put in the place of another.
+fn call_one<S: Calls<R> + TrimsShards<R>, R>(
     rt: &R,
     alloc: Global,
-    server: &Server<B>,
-    pass: &mut Pass<B>,
+    server: &S,
+    pass: &mut S::Pass,
     call: &Call,
+    receipt: &mut Receipt,
 ) -> u64 {
-    let Ok(receipt) = server.call(rt, pass, *call, &Open) else {
+    let Ok(()) = server.call_into(rt, pass, call, &Open, receipt) else {
         return 0;
     };
-    if is_last(receipt.entry.number) && receipt.shard < SHARDS {
-        let _ = server.trim_in_place(rt, alloc, receipt.shard);
+    if is_last(receipt.entry.number) {
+        server.trim_shard(rt, alloc, receipt.shard);
     }
-    u64::from(sees_receipt(&receipt))
+    u64::from(sees_receipt(receipt))
 }
 
 // Makes a thread's calls.
-fn call_each<B: Naming, R: Wait>(
+fn call_each<S: Calls<R> + TrimsShards<R>, R>(
     rt: &R,
     alloc: Global,
-    server: &Server<B>,
-    job: (Pass<B>, &[Call]),
-) -> Pass<B> {
+    server: &S,
+    job: (S::Pass, &[Call]),
+) -> S::Pass {
     let (mut pass, calls) = job;
+    let mut receipt = Receipt::empty();
     let mut seen = 0u64;
     for call in calls {
-        seen = seen.wrapping_add(call_one(rt, alloc, server, &mut pass, call));
+        seen = seen.wrapping_add(call_one(rt, alloc, server, &mut pass, call, &mut receipt));
     }
     pass
 }
 
 // A pass for each thread's calls.
-fn jobs<'a, B: Naming>(
+fn jobs<'a, P: Drop>(
     alloc: Global,
-    mut passes: Vec<Pass<B>>,
+    mut passes: Vec<P>,
     parts: &'a [Vec<Call>],
-) -> Result<Vec<(Pass<B>, &'a [Call])>, AllocError> {
+) -> Result<Vec<(P, &'a [Call])>, AllocError> {
     let mut jobs = Vec::new(alloc);
     for calls in parts {
         if let Some(pass) = passes.pop() {
@@ -142,27 +157,20 @@ fn jobs<'a, B: Naming>(
     Ok(jobs)
 }
 
-// Lends the server to a thread for each part of the calls.
-fn all_call<B: Naming + Send + Sync, R: Threads + Wait + Sync>(
+// The passes, and the nanoseconds of all calls. The server is lent to a thread for each part of the calls.
+fn time_calls<S: Calls<R> + TrimsShards<R> + Sync, R: Threads + Wait + Clock + Sync>(
     rt: &R,
     alloc: Global,
-    server: &Server<B>,
-    jobs: Vec<(Pass<B>, &[Call])>,
-) -> Result<Vec<Pass<B>>, AllocError> {
-    thread::map_vec(rt, jobs, &|job| call_each(rt, alloc, server, job))
-}
-
-// The passes, and the nanoseconds of all calls.
-fn time_calls<B: Naming + Send + Sync, R: Threads + Wait + Clock + Sync>(
-    rt: &R,
-    alloc: Global,
-    server: &Server<B>,
-    passes: Vec<Pass<B>>,
+    server: &S,
+    passes: Vec<S::Pass>,
     parts: &[Vec<Call>],
-) -> anyhow::Result<(Vec<Pass<B>>, u128)> {
+) -> anyhow::Result<(Vec<S::Pass>, u128)>
+where
+    S::Pass: Send,
+{
     let jobs = jobs(alloc, passes, parts)?;
     let start = Instant::now(rt)?;
-    let passes = all_call(rt, alloc, server, jobs)?;
+    let passes = thread::map_vec(rt, jobs, &|job| call_each(rt, alloc, server, job))?;
     Ok((passes, start.elapsed(rt)?.as_nanos()))
 }
 

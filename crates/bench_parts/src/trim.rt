@@ -7,7 +7,7 @@ ghost use Rattle.ns_tally.specs.Tally.{AreNamed};
 
 use crate::load::Load;
 use anyhow::anyhow;
-use ns_outside::Open;
+use ns_outside::{Calls, Open, Receipt};
 use ns_roster::Roster;
 use ns_server::{Naming, Pass, Server};
 use ns_tally::Blanks;
@@ -25,15 +25,16 @@ pub struct Trims {
 }
 
 // All devices join, and each of their frames is heard.
-fn make_all<B: Naming, R: Wait>(
+fn make_all<S: Calls<R>, R>(
     rt: &R,
-    server: &Server<B>,
-    pass: &mut Pass<B>,
+    server: &S,
+    pass: &mut S::Pass,
     load: Load,
 ) -> Result<(), AllocError> {
+    let mut receipt = Receipt::empty();
     for place in 0..load.count() {
         if let Some(call) = load.call_at(place, 16) {
-            let _ = server.call(rt, pass, call, &Open)?;
+            server.call_into(rt, pass, &call, &Open, &mut receipt)?;
         }
     }
     Ok(())
