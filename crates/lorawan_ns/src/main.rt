@@ -122,37 +122,27 @@ where
     }
 }
 
-// The roster, where it is read already, and with what the record of a server is kept short, where one is to be kept: the roster once more, and
-// the folder.
+// What keeps the record of a server short works with: its roster, and its folder.
 #[derive(Drop)]
 struct Kept<'a> {
-    known: Option<Arc<Roster>>,
-    record: Option<(Arc<Roster>, &'a str)>,
+    roster: Arc<Roster>,
+    again: Arc<Roster>,
+    folder: &'a str,
 }
 
-impl<'a> Kept<'a> {
-    // Nothing is kept.
-    fn none() -> Kept<'a> {
-        Kept {
-            known: None,
-            record: None,
-        }
-    }
-}
-
-// What is kept by what the words ask for, or how the program ends.
+// The roster, twice, and the folder of the record that a server is to keep, where that is asked for; or how the program ends.
 fn what_is_kept<'a, R: Files<File = File> + AllocGlobal, L: Log>(
     rt: &R,
     log: &L,
     words: &'a [String],
-) -> Result<Kept<'a>, End<'a>> {
+) -> Result<Option<Kept<'a>>, End<'a>> {
     let (path, record) = match read_words(rt.alloc(), words) {
         Ok(Asked::Serve(path, _, record)) => (path, record),
         Err(BadWords::NoMemory) => return Err(End::Refused(BadWords::NoMemory)),
-        _ => return Ok(Kept::none()),
+        _ => return Ok(None),
     };
     let Some(folder) = record.folder else {
-        return Ok(Kept::none());
+        return Ok(None);
     };
     let roster = match read_roster(rt, log, path) {
         Ok(roster) => roster,
@@ -161,24 +151,19 @@ fn what_is_kept<'a, R: Files<File = File> + AllocGlobal, L: Log>(
     let Ok(again) = roster.clone() else {
         return Err(End::Ran(Err(Fault::NoMemory)));
     };
-    Ok(Kept {
-        known: Some(roster),
-        record: Some((again, folder)),
-    })
+    Ok(Some(Kept {
+        roster,
+        again,
+        folder,
+    }))
 }
 
-// Looks after the record of a server, where there is one.
+// Where there is no record to look after.
 #[derive(Drop)]
-struct IfRecorded<U> {
-    keeper: Option<U>,
-}
+struct NoRecord;
 
-impl<U: Upkeep> Upkeep for IfRecorded<U> {
-    fn look_after(&mut self, record: &Recorder<RecordFiles>) {
-        if let Some(keeper) = &mut self.keeper {
-            keeper.look_after(record);
-        }
-    }
+impl Upkeep for NoRecord {
+    fn look_after(&mut self, _record: &Recorder<RecordFiles>) {}
 }
 
 // Opens `/dev/null`, and leaves it open where its number is at most this one.
@@ -212,13 +197,19 @@ fn main(rt: HostRuntime) -> ExitCode {
         Ok(words) => {
             let (words, stop) = (words.as_slice(), EndOfInput::new(rt));
             let end = match what_is_kept(&rt, &log, words) {
-                Ok(Kept { known, record }) => {
-                    let keeper = match &record {
-                        Some((roster, folder)) => Some(keeper(&rt, &log, roster, folder)),
-                        None => None,
-                    };
-                    run(&rt, &log, words, known, stop, IfRecorded { keeper })
+                Ok(
+                    Some(
+                        Kept {
+                            roster,
+                            again,
+                            folder,
+                        },
+                    ),
+                ) => {
+                    let upkeep = keeper(&rt, &log, &roster, folder);
+                    run(&rt, &log, words, Some(again), stop, upkeep)
                 }
+                Ok(None) => run(&rt, &log, words, None, stop, NoRecord),
                 Err(end) => end,
             };
             concluded(&rt, &log, &end)
