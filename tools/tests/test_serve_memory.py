@@ -59,8 +59,8 @@ class Growths(Served):
 
     def closed(self, **environment):
         """A run with a closing roster, of a device that joins and sends two uplinks, the last of which ends it."""
-        server = self.serve(self.roster([13]), self.joins([13]).where, '--workers', '1', '--window', '200', '--stop-after', '3', '--closing',
-                            environment={'LD_PRELOAD': self.wrapper, **environment})
+        server = self.serve(self.roster([13]), self.joins([13]).where, '--workers', '1', '--window', '200', '--stop-after', '3',
+                            '--closing', environment={'LD_PRELOAD': self.wrapper, **environment})
         gateway, device = self.gateway(0xa1, server), self.device(13)
         gateway.join(device, 1)
         for counter in range(2):
