@@ -5,26 +5,26 @@
 //! their uplinks: `serve` of `ns_serve` does it, with threads and sockets. `lorawan_ns compact ROSTER DIR` makes a record shorter:
 //! `ns_compact` does it. Here is what a run does: what the words ask for, as `ns_words` reads them. The commands beside `serve`, the texts
 //! of faults, log lines and the exit statuses are those of `ns_commands`. The program stands on these, on `ns_serve` and
-//! `ns_serve_ends`, on `ns_record_files` for a record's files, on `ns_roster`, on `ns_types` for streams, and on `log` of the kit.
+//! `ns_serve_shards`, on `ns_record_files` for the upkeep of a record, on `ns_roster`, on `ns_types` for streams, and on `log` of the kit.
 #![tactic(auto)]
 
 ghost use Rattle.std.specs.Prelude.{IfOk, map, string_bytes};
 ghost use Rattle.std.specs.Arc.{arc_value};
-ghost use Rattle.ns_serve_ends.specs.Begun.{IsBegun};
+ghost use Rattle.ns_serve_shards.specs.Begun.{IsBegun};
 ghost use Rattle.ns_words.specs.Asked.{IsServed};
 ghost use Rattle.ns_commands.specs.Status.{IsRun};
 
 use log::filter::FilteredLog;
 use log::{Log, error};
 use ns_commands::{
-    End, Fault, Logging, Timed, VARIABLE, compact, concluded, ended, keeper, of_record, of_serve,
-    open_record, read_filter, read_roster, run_replay, words,
+    End, Fault, Logging, Timed, VARIABLE, compact, concluded, ended, keeper, kept_record,
+    of_record, of_serve, open_record, read_filter, read_roster, run_replay, words,
 };
-use ns_record_files::{RecordFiles, Recorder, Upkeep};
+use ns_record_files::Upkeep;
 use ns_roster::Roster;
 use ns_serve::{Begun, EndOfInput, ServeOptions, Stop, WaitingWriter, serve};
 use ns_types::OverStd;
-use ns_words::{Asked, BadWords, Recorded, read_words};
+use ns_words::{Asked, Recorded, read_words};
 use std::fs::{File, OpenOptions};
 use std::io;
 use std::net::{Net, TcpListener, TcpStream};
@@ -64,7 +64,7 @@ fn begin<R: Files<File = File> + AllocGlobal, L: Log>(
     }
 }
 
-// Serves gateways, once the roster is read.
+// Serves gateways, over the roster of this file, which may be read already.
 fn run_serve<'a, R, L, S, U>(
     rt: &R,
     log: &L,
@@ -93,7 +93,7 @@ where
     of_serve(serve(log, alloc, roster, options, begun, stop, upkeep, writer))
 }
 
-// Does what the words ask for. The roster may be read already.
+// Does what the words ask for.
 fn run<'a, R, L, S, U>(
     rt: &R,
     log: &L,
@@ -120,50 +120,6 @@ where
         Ok(Asked::Compact(path, folder)) => End::Ran(compact(rt, log, path, folder)),
         Err(bad) => End::Refused(bad),
     }
-}
-
-// What keeps the record of a server short works with: its roster, and its folder.
-#[derive(Drop)]
-struct Kept<'a> {
-    roster: Arc<Roster>,
-    again: Arc<Roster>,
-    folder: &'a str,
-}
-
-// The roster, twice, and the folder of the record that a server is to keep, where that is asked for; or how the program ends.
-fn what_is_kept<'a, R: Files<File = File> + AllocGlobal, L: Log>(
-    rt: &R,
-    log: &L,
-    words: &'a [String],
-) -> Result<Option<Kept<'a>>, End<'a>> {
-    let (path, record) = match read_words(rt.alloc(), words) {
-        Ok(Asked::Serve(path, _, record)) => (path, record),
-        Err(BadWords::NoMemory) => return Err(End::Refused(BadWords::NoMemory)),
-        _ => return Ok(None),
-    };
-    let Some(folder) = record.folder else {
-        return Ok(None);
-    };
-    let roster = match read_roster(rt, log, path) {
-        Ok(roster) => roster,
-        Err(fault) => return Err(End::Ran(Err(fault))),
-    };
-    let Ok(again) = roster.clone() else {
-        return Err(End::Ran(Err(Fault::NoMemory)));
-    };
-    Ok(Some(Kept {
-        roster,
-        again,
-        folder,
-    }))
-}
-
-// Where there is no record to look after.
-#[derive(Drop)]
-struct NoRecord;
-
-impl Upkeep for NoRecord {
-    fn look_after(&mut self, _record: &Recorder<RecordFiles>) {}
 }
 
 // Opens `/dev/null`, and leaves it open where its number is at most this one.
@@ -196,20 +152,11 @@ fn main(rt: HostRuntime) -> ExitCode {
     match words(&rt) {
         Ok(words) => {
             let (words, stop) = (words.as_slice(), EndOfInput::new(rt));
-            let end = match what_is_kept(&rt, &log, words) {
-                Ok(
-                    Some(
-                        Kept {
-                            roster,
-                            again,
-                            folder,
-                        },
-                    ),
-                ) => {
-                    let upkeep = keeper(&rt, &log, &roster, folder);
-                    run(&rt, &log, words, Some(again), stop, upkeep)
+            let end = match kept_record(&rt, &log, words) {
+                Ok((kept, known)) => {
+                    let upkeep = keeper(&rt, &log, &kept);
+                    run(&rt, &log, words, known, stop, upkeep)
                 }
-                Ok(None) => run(&rt, &log, words, None, stop, NoRecord),
                 Err(end) => end,
             };
             concluded(&rt, &log, &end)

@@ -20,6 +20,15 @@ pub trait Upkeep {
     fn look_after(&mut self, record: &Recorder<RecordFiles>);
 }
 
+/// Where there is none, nothing is done.
+impl<U: Upkeep> Upkeep for Option<U> {
+    fn look_after(&mut self, record: &Recorder<RecordFiles>) {
+        if let Some(upkeep) = self {
+            upkeep.look_after(record);
+        }
+    }
+}
+
 /// The lines of steps behind so many bytes, which are to follow fewer steps.
 #[derive(Drop)]
 pub struct LaterLines {

@@ -3,19 +3,17 @@ ghost use Rattle.std.specs.Prelude.{◌≡◌, ◌+◌, ◌≤◌, ◌<◌, All,
 ghost use Rattle.std.specs.Arc.{arc_value};
 ghost use Rattle.ns_types.specs.Identity.{shard_count};
 ghost use Rattle.ns_server.specs.Begun.{ArePlaced, states_at};
-ghost use Rattle.ns_serve_ends.specs.Begun.{IsBegun};
+ghost use Rattle.ns_serve_shards.specs.Begun.{IsBegun};
 ghost use Rattle.ns_tally.specs.Tally.{AreNamed, none_made};
 
 use crate::trimming::Trimming;
 use log::{Log, error};
 use ns_record_files::Upkeep;
 use ns_roster::Roster;
-use ns_serve_ends::{
-    Begun, Stop, begin, begun_output, finish, log_start, no_memory, watch_stop, written,
-};
-use ns_serve_events::Events;
+use ns_serve_ends::{Stop, begin, begun_output, finish, log_start, no_memory, watch_stop, written};
+use ns_serve_events::{Events, Recording};
 use ns_serve_parts::{Output, ServeFault, ServeOptions};
-use ns_serve_shards::{Recording, trims_of};
+use ns_serve_shards::{Begun, entries_between, trims_of};
 use ns_serve_sockets::AfterRecord;
 use ns_serve_state::{State, has_failed, log_counts, write_record};
 use ns_serve_workers::{Around, run_all};
@@ -259,7 +257,12 @@ pub fn serve<
     let mut begun = begun;
     let record = begun.record.take();
     let state = begin(rt, alloc, &roster, options, begun.made(), record)?;
-    log_start(rt, &roster, options);
+    log_start(
+        rt,
+        &roster,
+        options,
+        entries_between(options.trim, roster.devices().len()),
+    );
     let outcome = serve_with(
         rt, alloc, roster, options, &state, begun, stop, upkeep, writer,
     );

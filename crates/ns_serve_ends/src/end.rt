@@ -3,9 +3,10 @@ ghost use Rattle.std.specs.Prelude.{◌≡◌, ◌⊎◌, [], Some, sum_by, IfOk
 ghost use Rattle.std.specs.Io.KnownBytes.{Appends, append_known};
 ghost use Rattle.ns_server.specs.Drain.{NoneOpen, EachIsClosed};
 ghost use Rattle.ns_workers.specs.Lines.{AppendsLine};
-ghost use Rattle.ns_serve_shards.specs.Closing.{last_lines};
+ghost use Rattle.ns_serve_ends.specs.Closing.{last_lines};
 ghost use Rattle.ns_serve_parts.specs.Output.{Grows, EndsIn, Sends};
 
+use crate::closing::closing_text;
 use crate::fault::no_memory;
 use log::{Log, error};
 use ns_calls::Uplink;
@@ -13,8 +14,8 @@ use ns_events::{Output as Written, uplink_json};
 use ns_lines::up_line;
 use ns_outside::{Downlinks, Receipt};
 use ns_roster::Roster;
+use ns_serve_events::record_call;
 use ns_serve_parts::{Output, ServeFault};
-use ns_serve_shards::{closing_text, record_call};
 use ns_serve_sockets::ToSocket;
 use ns_serve_state::{State, log_unsent, note_event, now_ms, take_notices, times_of};
 use ns_server::{Naming, Settled};

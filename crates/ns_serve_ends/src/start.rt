@@ -6,7 +6,6 @@ use log::{Log, error, info};
 use ns_record_files::{RecordFiles, Recorder};
 use ns_roster::Roster;
 use ns_serve_parts::{Made, Output, ServeFault, ServeOptions};
-use ns_serve_shards::trims_of;
 use ns_serve_sockets::AfterRecord;
 use ns_serve_state::{State, Status};
 use ns_types::Sink;
@@ -166,14 +165,19 @@ pub fn watch_stop<R: Threads + Log, S: Stop + Send + Drop + 'static>(
     mark_stop(rt, mark, stop)
 }
 
-/// Logs what is served.
-pub fn log_start<R: Log>(rt: &R, roster: &Roster, options: &ServeOptions<'_>) {
+/// Logs what is served, and after how many further entries a shard is trimmed, where it is.
+pub fn log_start<R: Log>(
+    rt: &R,
+    roster: &Roster,
+    options: &ServeOptions<'_>,
+    entries_between: Option<u64>,
+) {
     info!(rt; "devices {} join server {} host {} workers {} join workers {} window {} ms",
         roster.devices().len(), options.join, options.host.as_str(), options.workers, options.join_workers, options.window_ms);
     if let Some(count) = options.stop_after {
         info!(rt; "stops after {count} datagrams");
     }
-    if let Some(trims) = trims_of(options.trim, roster.devices().len()) {
-        info!(rt; "trims a shard after {} entries", trims.every);
+    if let Some(count) = entries_between {
+        info!(rt; "trims a shard after {count} entries");
     }
 }

@@ -1,2 +1,2 @@
-pub mod Closing
+pub mod Begun
 pub mod Trims

@@ -51,15 +51,22 @@ fn marks_apart(every: u64) -> [u64; PLACES]
     marks
 }
 
-/// The trims that are asked for, if any are, of the shards of so many devices. A trim walks through all entries of its shard, and what it
-/// leaves grows with the devices: a shard is due no sooner than after a quarter as many further entries. The shards begin a sixteenth
-/// apart, so that where all grow alike they are not due at once: windows are closed between their trims.
+/// After how many further entries a shard is trimmed, where trims are asked for and there are so many devices. A trim walks through all
+/// entries of its shard, and what it leaves grows with the devices: a shard is due no sooner than after a quarter as many further entries.
+pub fn entries_between(trim: Option<u32>, devices: usize) -> Option<u64>
+    ensures { result ≡ option_map (λ n. max n (devices / 4)) trim }
+{
+    let entries = u64::from(trim?);
+    Some(entries.max(devices as u64 / DEVICES_AN_ENTRY))
+}
+
+/// The trims that are asked for, if any are, of the shards of so many devices. The shards begin a sixteenth apart, so that where all grow
+/// alike they are not due at once: windows are closed between their trims.
 pub fn trims_of(trim: Option<u32>, devices: usize) -> Option<Trims>
     ensures every { option_map (λ t. t.every) result ≡ option_map (λ n. max n (devices / 4)) trim }
     ensures marks { IfSome result (λ t. (k : ℕ) → k < shard_count → slice_index t.marks k ≡ k * (t.every / 16)) }
 {
-    let entries = u64::from(trim?);
-    let every = entries.max(devices as u64 / DEVICES_AN_ENTRY);
+    let every = entries_between(trim, devices)?;
     Some(Trims {
         every,
         marks: marks_apart(every),

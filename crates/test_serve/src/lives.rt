@@ -3,7 +3,7 @@
 
 ghost use Rattle.std.specs.Prelude.{IfOk};
 ghost use Rattle.std.specs.Arc.{arc_value};
-ghost use Rattle.ns_serve_ends.specs.Begun.{IsBegun};
+ghost use Rattle.ns_serve_shards.specs.Begun.{IsBegun};
 
 use crate::parties::{ROSTER_A, ROSTER_B, nap};
 use crate::play::Side::Near;

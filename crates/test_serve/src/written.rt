@@ -6,7 +6,7 @@ use ns_calls::{Bytes, Call, Downlink, Reply};
 use ns_outside::{Downlinks, Receipt};
 use ns_roster::Roster;
 use ns_serve::{Begun, ServeOptions};
-use ns_serve_shards::record_call;
+use ns_serve_events::record_call;
 use ns_serve_sockets::{AfterRecord, ToSocket};
 use ns_serve_state::State;
 use ns_types::{DevEui, GatewayId, Sink, Target, WindowName};

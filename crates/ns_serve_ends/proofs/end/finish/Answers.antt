@@ -1,6 +1,6 @@
 use Rattle.std.proofs.Common.{◌≡◌, Bool, true, false, List, ℕ, Option, sym, ◌∙◌, subst, rules}
 use Rattle.std.specs.Io.KnownBytes.{Appends, append_known}
-use Rattle.ns_serve_shards.specs.Closing.{roster_text, last_lines}
+use Rattle.ns_serve_ends.specs.Closing.{roster_text, last_lines}
 use Rattle.ns_serve_parts.specs.Output.{EndsIn, line, settled_line}
 use Rattle.ns_serve_parts.proofs.OutputLemmas.{ends_in, ends_in_both}
 use Rattle.ns_serve_ends.proofs.end.finish.Goals as goal

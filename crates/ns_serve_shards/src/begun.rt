@@ -3,7 +3,7 @@ ghost use Rattle.std.specs.Prelude.{◌≡◌, IfOk, vec_len};
 ghost use Rattle.std.specs.Arc.{arc_value};
 ghost use Rattle.ns_types.specs.Identity.{shard_count};
 ghost use Rattle.ns_server.specs.Begun.{ArePlaced};
-ghost use Rattle.ns_serve_ends.specs.Begun.{IsBegun};
+ghost use Rattle.ns_serve_shards.specs.Begun.{IsBegun};
 
 use log::{Log, info, warn};
 use ns_record_files::{RecordFiles, RecordWriter, Recorder};
