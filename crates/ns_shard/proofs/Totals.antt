@@ -31,7 +31,7 @@ use Rattle.ns_sessions.proofs.OpenTickets.{same_ticket-sym}
 use Rattle.ns_shard.specs.State.{ends_open}
 use Rattle.ns_shard.specs.Private.Room.{opens, open_total}
 use Rattle.ns_calls.proofs.RoundLemmas.{count-none}
-use Rattle.ns_windows.proofs.Named.{same_window-sym}
+use Rattle.ns_windows.proofs.Names.{same_window-sym}
 use Rattle.std.proofs.lemmas.List.Sums.{length-filter}
 use Rattle.std.proofs.lemmas.List.Filters.{length-filter_both}
 use Rattle.std.proofs.lemmas.List.Elements.{filter_agree}

@@ -26,7 +26,7 @@ use Rattle.ns_calls.specs.Reply as plain
 use Rattle.ns_shard.specs.Private.Held.{window_from, window_of_opening, windows_in}
 use Rattle.ns_shard.proofs.Maps.{map-same, filter-map, map-map, find-map, count-map, some-of}
 use Rattle.std.proofs.lemmas.List.Elements.{filter_agree}
-use Rattle.ns_windows.proofs.Named.{same_window-sym}
+use Rattle.ns_windows.proofs.Names.{same_window-sym}
 use Rattle.std.proofs.lemmas.Bool.{lt-ltb}
 
 -- the session of each open window has an answer

@@ -8,6 +8,7 @@ use Rattle.std.proofs.lemmas.List.Folds.{find-append}
 use Rattle.std.proofs.lemmas.Slice.Eq.{bytes_eq-Decides}
 use Rattle.ns_types.specs.declared.identity.WindowName.{WindowName}
 use Rattle.ns_calls.proofs.LocalLemmas.{bool_tells}
+use Rattle.ns_windows.specs.declared.by_name.Named.{Named}
 use Rattle.ns_windows.specs.declared.window.Window.{Window}
 use Rattle.ns_windows.specs.Windows.{is_named, is_of, window_of_frame, without, AreApart, AreOfFrames}
 use Rattle.ns_windows.proofs.Names.{none_else}
@@ -20,13 +21,26 @@ bytes_sym a b = nat_list_eq_equiv.symm a b
 
 -- ---- a window more
 
-lookup-push : {F : Type 0} (test : F → Bool) (es : List (F × WindowName)) (k : F) (n : WindowName) → lookup test (es ++ (k, n) ∷ []) ≡ option_or (lookup test es) (cond (test k) (Some n) None)
-lookup-push test [] k n = refl
-lookup-push test (e ∷ es) k n =
+lookup-push : {F V : Type 0} (test : F → Bool) (es : List (F × V)) (k : F) (v : V) → lookup test (es ++ (k, v) ∷ []) ≡ option_or (lookup test es) (cond (test k) (Some v) None)
+lookup-push test [] k v = refl
+lookup-push test (e ∷ es) k v =
     elim (bool_tells (test e.0)) [
       | inl is ↦ rw is
-      | inr isnt ↦ rw isnt (lookup-push test es k n)
+      | inr isnt ↦ rw isnt (lookup-push test es k v)
     ]
+
+-- the name of what stands at a frame
+abbrev pub name_at : {F : Type 0} → (F → Bool) → List (F × Named) → Option WindowName
+name_at test frames = option_map (λ n. n.name) (lookup test frames)
+
+pub unnamed : (o : Option Named) → option_map (λ n. n.name) o ≡ None → o ≡ None
+unnamed None none = refl
+unnamed (Some n) none = absurd (cc none)
+
+named-or : (o : Option Named) (n : Named) (b : Bool) → option_map (λ m. m.name) (option_or o (cond b (Some n) None)) ≡ option_or (option_map (λ m. m.name) o) (cond b (Some n.name) None)
+named-or None n true = refl
+named-or None n false = refl
+named-or (Some m) n b = refl
 
 name-or : (o : Option Window) (w : Window) (b : Bool) → option_or (option_map (λ v. v.name) o) (cond b (Some w.name) None) ≡ option_map (λ v. v.name) (option_or o (cond b (Some w) None))
 name-or None w true = refl
@@ -34,13 +48,18 @@ name-or None w false = refl
 name-or (Some v) w b = refl
 
 module _ {F : Type 0} (bytes : F → List ℕ) where
-  pub frames-push : (frames : List (F × WindowName)) (ws : List Window) (k : F) (w : Window) (frame : List ℕ) → bytes k ≡ w.frame
-      → lookup (λ x. bytes_eq frame (bytes x)) frames ≡ option_map (λ v. v.name) (window_of_frame frame ws)
-      → lookup (λ x. bytes_eq frame (bytes x)) (frames ++ (k, w.name) ∷ []) ≡ option_map (λ v. v.name) (window_of_frame frame (ws ++ w ∷ []))
-  frames-push frames ws k w frame of_key agree =
+  pub frames-push : (frames : List (F × Named)) (ws : List Window) (k : F) (n : Named) (w : Window) (frame : List ℕ) → bytes k ≡ w.frame → n.name ≡ w.name
+      → name_at (λ x. bytes_eq frame (bytes x)) frames ≡ option_map (λ v. v.name) (window_of_frame frame ws)
+      → name_at (λ x. bytes_eq frame (bytes x)) (frames ++ (k, n) ∷ []) ≡ option_map (λ v. v.name) (window_of_frame frame (ws ++ w ∷ []))
+  frames-push frames ws k n w frame of_key of_name agree =
+      let test : F → Bool = λ x. bytes_eq frame (bytes x) in
       let same : bytes_eq frame (bytes k) ≡ is_of frame w = ap (λ b. bytes_eq frame b) of_key ∙ bytes_sym frame w.frame in
-      rw (lookup-push (λ x. bytes_eq frame (bytes x)) frames k w.name, same, agree, find-append (is_of frame) ws (w ∷ []))
-      (name-or (window_of_frame frame ws) w (is_of frame w))
+      ap (λ o. option_map (λ m. m.name) o) (lookup-push test frames k n)
+      ∙ named-or (lookup test frames) n (bytes_eq frame (bytes k))
+      ∙ ap₂ (λ o b. option_or o (cond b (Some n.name) None)) agree same
+      ∙ ap (λ q. option_or (option_map (λ v. v.name) (window_of_frame frame ws)) (cond (is_of frame w) (Some q) None)) of_name
+      ∙ name-or (window_of_frame frame ws) w (is_of frame w)
+      ∙ ap (λ o. option_map (λ v. v.name) o) (sym (find-append (is_of frame) ws (w ∷ [])))
 
 abbrev pub of_one_frame : Window → Window → Bool
 of_one_frame w v = is_of w.frame v
@@ -75,7 +94,7 @@ framed-kept name (v ∷ ws) w frame apart found other =
     ]
 
 module _ {F : Type 0} (bytes : F → List ℕ) where
-  kept_others : (frames after : List (F × WindowName)) (w : Window) (frame : List ℕ)
+  kept_others : (frames after : List (F × Named)) (w : Window) (frame : List ℕ)
       → KeepsOthers (λ x y. bytes_eq (bytes x) (bytes y)) (λ k. bytes_eq w.frame (bytes k)) frames after → is_of frame w ≡ false
       → lookup (λ k. bytes_eq frame (bytes k)) after ≡ lookup (λ k. bytes_eq frame (bytes k)) frames
   unfolding KeepsOthers
@@ -85,18 +104,18 @@ module _ {F : Type 0} (bytes : F → List ℕ) where
       (λ k is. ap (λ b. bytes_eq frame b) (sym ((bytes_eq-Decides w.frame (bytes k)).0 is)) ∙ bytes_sym frame w.frame ∙ other)
 
   -- without a window, and without its frame, each frame still has its window's name
-  pub frames-taken : (frames after : List (F × WindowName)) (name : WindowName) (ws : List Window) (w : Window)
+  pub frames-taken : (frames after : List (F × Named)) (name : WindowName) (ws : List Window) (w : Window)
       → AreApart ws → AreOfFrames ws → find (is_named name) ws ≡ Some w
       → KeepsOthers (λ x y. bytes_eq (bytes x) (bytes y)) (λ k. bytes_eq w.frame (bytes k)) frames after → lookup (λ k. bytes_eq w.frame (bytes k)) after ≡ None
-      → (frame : List ℕ) → lookup (λ k. bytes_eq frame (bytes k)) frames ≡ option_map (λ v. v.name) (window_of_frame frame ws)
-      → lookup (λ k. bytes_eq frame (bytes k)) after ≡ option_map (λ v. v.name) (window_of_frame frame (without name ws))
+      → (frame : List ℕ) → name_at (λ k. bytes_eq frame (bytes k)) frames ≡ option_map (λ v. v.name) (window_of_frame frame ws)
+      → name_at (λ k. bytes_eq frame (bytes k)) after ≡ option_map (λ v. v.name) (window_of_frame frame (without name ws))
   frames-taken frames after name ws w apart of_frames found keeps gone frame agree =
       elim (bool_tells (is_of frame w)) [
         | inl same ↦
-            subst (λ f. lookup (λ k. bytes_eq f (bytes k)) after ≡ option_map (λ v. v.name) (window_of_frame f (without name ws))) ((bytes_eq-Decides w.frame frame).0 same)
-            (gone ∙ sym (ap (λ r. option_map (λ v. v.name) r) (framed-gone name ws w of_frames found)))
+            subst (λ f. name_at (λ k. bytes_eq f (bytes k)) after ≡ option_map (λ v. v.name) (window_of_frame f (without name ws))) ((bytes_eq-Decides w.frame frame).0 same)
+            (ap (λ o. option_map (λ n. n.name) o) gone ∙ sym (ap (λ r. option_map (λ v. v.name) r) (framed-gone name ws w of_frames found)))
         | inr other ↦
-            kept_others frames after w frame keeps other ∙ agree ∙ ap (λ r. option_map (λ v. v.name) r) (sym (framed-kept name ws w frame apart found other))
+            ap (λ o. option_map (λ n. n.name) o) (kept_others frames after w frame keeps other) ∙ agree ∙ ap (λ r. option_map (λ v. v.name) r) (sym (framed-kept name ws w frame apart found other))
       ]
 
 -- ---- a window that changes

@@ -1,9 +1,9 @@
 pub mod Places
 pub mod Pairs
 pub mod Names
-pub mod Named
+pub mod Numbered
+pub mod Renumbered
+pub mod Standing
 pub mod Framed
 pub mod Counted
 pub mod Found
-pub mod Last
-pub mod Copies

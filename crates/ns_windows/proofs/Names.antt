@@ -1,10 +1,11 @@
 -- Windows of which no two have one name.
-use Rattle.std.proofs.Common.{◌≡◌, Bool, true, false, cond, nat_lt, List, [], ◌∷◌, ◌++◌, length, map, refl, sym, ap, ap₂, subst, ◌∙◌}
+use Rattle.std.proofs.Common.{◌≡◌, Bool, true, false, cond, nat_lt, List, [], ◌∷◌, ◌++◌, length, map, refl, sym, ap, ap₂, subst, ◌∙◌, inl, inr}
 use Rattle.std.specs.List.{AllByRecursion}
 use Rattle.std.proofs.lemmas.Bool.{false≢true, cond_both, false_from_ne_true}
 use Rattle.ns_types.specs.declared.identity.WindowName.{WindowName}
 use Rattle.ns_types.specs.declared.heard.Heard.{Heard}
 use Rattle.ns_types.specs.Identity.{same_window}
+use Rattle.ns_calls.proofs.LocalLemmas.{bool_tells}
 use Rattle.ns_calls.proofs.NameLemmas.{same_window-refl, same_window-eq}
 use Rattle.ns_calls.specs.Entries.{most_copies}
 use Rattle.ns_windows.specs.declared.window.Window.{Window}
@@ -16,6 +17,13 @@ use Rattle.ns_windows.proofs.Pairs.{NoTwo-push, NoTwo-map}
 pub apart-sym : (v w : WindowName) → same_window v w ≡ false → same_window w v ≡ false
 apart-sym v w apart =
     false_from_ne_true _ (λ same. false≢true (sym apart ∙ (ap (λ u. same_window v u) (same_window-eq w v same) ∙ same_window-refl v)))
+
+pub same_window-sym : (v w : WindowName) → same_window v w ≡ same_window w v
+same_window-sym v w =
+    elim (bool_tells (same_window v w)) [
+      | inl same ↦ same ∙ sym (ap (λ u. same_window u v) (sym (same_window-eq v w same)) ∙ same_window-refl v)
+      | inr differs ↦ differs ∙ sym (apart-sym v w differs)
+    ]
 
 -- a window of the name differs from what it is apart from
 pub none_else : (name : WindowName) (w : Window) (ws : List Window) → is_named name w ≡ true → AllByRecursion (λ v. is_named w.name v ≡ false) ws → NonePasses (is_named name) ws
@@ -41,3 +49,10 @@ keep_name name heard w = cond_both (is_named name w) _ _ (λ (v : Window). v.nam
 
 pub copied-apart : (name : WindowName) (heard : Heard) (ws : List Window) → AreApart ws → AreApart (with_copy_in name heard ws)
 copied-apart name heard ws apart = apart-map (λ w. cond (is_named name w) (with_copy heard w) w) (keep_name name heard) ws apart
+
+-- nor does it change the frame
+copy-frame : (heard : Heard) (w : Window) → (with_copy heard w).frame ≡ w.frame
+copy-frame heard w = cond_both (nat_lt (length w.copies.items) most_copies) _ _ (λ (v : Window). v.frame ≡ w.frame) (λ _. refl) (λ _. refl)
+
+pub keep_frame : (name : WindowName) (heard : Heard) (w : Window) → (cond (is_named name w) (with_copy heard w) w).frame ≡ w.frame
+keep_frame name heard w = cond_both (is_named name w) _ _ (λ (v : Window). v.frame ≡ w.frame) (λ _. copy-frame heard w) (λ _. refl)

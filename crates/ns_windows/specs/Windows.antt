@@ -2,14 +2,14 @@
 use Rattle.std.specs.Prelude.{◌≡◌, ℕ, ◌+◌, Bool, false, not, ◌==◌, nat_lt, List, [], ◌∷◌, ◌++◌, length, map, filter, find, count_by, Option, option_map, unwrap_or, bytes_eq, if◌then◌else◌}
 use Rattle.std.specs.List.{AllByRecursion}
 use Rattle.std.specs.Option.{option_map_or}
-use Rattle.std.specs.Map.{lookup, set_value}
-use Rattle.lru.specs.LruCache.{LruCache}
+use Rattle.std.specs.Map.{lookup}
 use Rattle.ns_types.specs.declared.identity.DevEui.{DevEui}
 use Rattle.ns_types.specs.declared.identity.WindowName.{WindowName}
 use Rattle.ns_types.specs.declared.identity.Key.{Key}
 use Rattle.ns_types.specs.declared.heard.Heard.{Heard}
 use Rattle.ns_types.specs.Identity.{same_window}
 use Rattle.ns_calls.specs.Entries.{most_copies}
+use Rattle.ns_windows.specs.declared.by_name.Named.{Named}
 use Rattle.ns_windows.specs.declared.window.Window.{Window}
 use Rattle.ns_windows.specs.declared.window.Addition.{Addition}
 use Rattle.ns_windows.specs.declared.window.Addition.TheVariants.{Copied, Crowded}
@@ -64,18 +64,6 @@ NoTwo test (x ∷ xs) = AllByRecursion (λ y. test x y ≡ false) xs × NoTwo te
 abbrev pub AreApart : List Window → Type 0
 AreApart = NoTwo (λ w v. is_named w.name v)
 
--- the entries of a map that need not be there
-abbrev pub entries_of : Option (LruCache WindowName Window) → List (WindowName × Window)
-entries_of linked = option_map_or (λ l. l.entries) linked []
-
--- entries, where the window of the name that passes the test has one copy more
-abbrev pub entries_with_copy : (WindowName → Bool) → Heard → List (WindowName × Window) → List (WindowName × Window)
-entries_with_copy test heard entries = option_map_or (λ w. set_value test entries (with_copy heard w)) (lookup test entries) entries
-
--- each window stands at its own name
-abbrev pub AreNamed : List (WindowName × Window) → Type 0
-AreNamed = AllByRecursion (λ e. e.0 ≡ e.1.name)
-
 -- no two windows have one frame
 abbrev pub AreOfFrames : List Window → Type 0
 AreOfFrames = NoTwo (λ w v. is_of w.frame v)
@@ -89,7 +77,7 @@ abbrev pub AreCounted : List (DevEui × ℕ) → List Window → Type 0
 AreCounted counts windows = (eui : DevEui) → count_in counts eui ≡ count eui windows
 
 -- the windows and the names by frame say the same: at each frame stands the name of its window
-abbrev pub Agree : {F : Type 0} → (F → List ℕ) → List Window → List (F × WindowName) → Type 0
+abbrev pub Agree : {F : Type 0} → (F → List ℕ) → List Window → List (F × Named) → Type 0
 Agree bytes windows frames =
     AreApart windows × AreOfFrames windows
-    × ((frame : List ℕ) → lookup (λ k. bytes_eq frame (bytes k)) frames ≡ option_map (λ w. w.name) (window_of_frame frame windows))
+    × ((frame : List ℕ) → option_map (λ n. n.name) (lookup (λ k. bytes_eq frame (bytes k)) frames) ≡ option_map (λ w. w.name) (window_of_frame frame windows))

@@ -5,7 +5,7 @@ ghost use Rattle.std.specs.Map.{lookup, KeepsOthers};
 ghost use Rattle.ns_calls.specs.Queries.{first};
 ghost use Rattle.ns_windows.specs.Windows.{window_named, window_of_frame, new_window, count, addition, with_copy_of, without};
 
-use crate::by_name::ByName;
+use crate::by_name::{ByName, Named};
 use crate::counts::{Counts, count_of, lower, raise};
 use crate::frame_key::{FrameKey, LentFrame};
 use crate::window::{Addition, BoxedWindow, Window};
@@ -25,7 +25,7 @@ pub struct Windows {
     /// The windows by name.
     names: ByName,
     /// The name of the window of each frame.
-    frames: IndexMap<FrameKey, WindowName>,
+    frames: IndexMap<FrameKey, Named>,
     /// How many windows each device has.
     counts: Counts,
     /// Closed windows, in whose memory others are opened.
@@ -66,7 +66,7 @@ fn keep_key(keys: &mut Vec<FrameKey>, key: FrameKey) {
 }
 
 // Takes a frame out, and keeps its key.
-fn take_frame(frames: &mut IndexMap<FrameKey, WindowName>, keys: &mut Vec<FrameKey>, frame: &[u8])
+fn take_frame(frames: &mut IndexMap<FrameKey, Named>, keys: &mut Vec<FrameKey>, frame: &[u8])
     ensures gone { lookup (λ k. bytes_eq frame.now k) frames.new.entries ≡ None }
     ensures others { KeepsOthers (λ x y. bytes_eq x y) (λ k. bytes_eq frame.now k) frames.old.entries frames.new.entries }
 {
@@ -124,8 +124,8 @@ impl Windows {
         ensures result { result ≡ option_map addition (window_of_frame frame.now self.old) }
         ensures windows { self.new ≡ with_copy_of frame.now heard.now self.old }
     {
-        let name = self.frames.get(LentFrame { bytes: frame }).copied()?;
-        self.names.add_copy(&name, heard)
+        let named = self.frames.get(LentFrame { bytes: frame })?;
+        self.names.add_copy(named, heard)
     }
 
     /// Adds a window at the end. Where the growth is refused, nothing has changed.
@@ -185,8 +185,8 @@ impl Windows {
         let frame = key_of(&mut self.keys, self.alloc, window.as_ref().frame.bytes())?;
         self.frames.reserve(1)?;
         self.counts.reserve(1)?;
-        self.names.push(window)?;
-        self.frames.insert(frame, name).unwrap();
+        let number = self.names.push(window)?;
+        self.frames.insert(frame, Named { name, number }).unwrap();
         raise(&mut self.counts, name.eui);
         Ok(())
     }

@@ -1,37 +1,42 @@
-use Rattle.std.proofs.Common.{◌≡◌, ◌-◌, ◌^◌, option_map, sym, ap, subst, ◌∙◌}
-use Rattle.std.specs.Map.{values_of}
-use Rattle.ns_types.specs.contracts.identity.WindowNamePartialEq.TheImpl as name_eq
-use Rattle.ns_windows.specs.Windows.{window_named, with_copy_in, addition, entries_of, AreNamed, AreApart}
-use Rattle.ns_windows.proofs.Names.{copied-apart}
-use Rattle.ns_windows.proofs.Named.{lookup-named, key_test}
-use Rattle.ns_windows.proofs.Copies.{values-copied, named-copied}
+use Rattle.std.proofs.Common.{◌≡◌, None, option_map, sym, ap, ◌∙◌}
+use Rattle.ns_windows.specs.declared.window.Window.{Window}
+use Rattle.ns_windows.specs.Windows.{is_named, window_named, with_copy, with_copy_in, addition}
+use Rattle.ns_windows.specs.Places.{open_of}
+use Rattle.ns_windows.proofs.Numbered.{Stands, nowhere, stands-here}
+use Rattle.ns_windows.proofs.Places.{none_found, map-none}
+use Rattle.ns_windows.proofs.Standing.{at-place, copied-open, copied-kept}
 use Rattle.ns_windows.proofs.by_name.ByName.add_copy.Goals as goal
-use Rattle.ns_windows.proofs.by_name.ByName.add_copy.Goals.{After-add_to_named}
+use Rattle.ns_windows.proofs.by_name.ByName.add_copy.Goals.{After-from_residual, After-add_at}
 
-invariant : (c : After-add_to_named) → AreNamed c.in-Some.linked.entries × AreApart (values_of c.in-Some.linked.entries) × (c.in-Some.linked.cap ≡ 2 ^ 64 - 1)
-invariant c = rw c.in-Some.is at c.self.invariant
+pub place_of-requires : goal.place_of-requires
+place_of-requires c = c.self.invariant.1
 
-was : (c : After-add_to_named) → values_of c.in-Some.linked.entries ≡ c.args.self.now
-was c = ap (λ o. values_of (entries_of o)) (sym c.in-Some.is) ∙ c.self.view_is
+none : (c : After-from_residual) → window_named c.args.named.now.name c.args.self.now ≡ None
+none c = ap (window_named c.args.named.now.name) (sym c.self.view_is) ∙ nowhere c.args.named.now.name c.self.inside.first c.self.inside.places.items c.in_err-place.ensures.none
 
-now : (c : After-add_to_named) → values_of c.add_to_named.new.linked.entries ≡ with_copy_in c.args.name.now c.args.heard.now (values_of c.in-Some.linked.entries)
-now c =
-    ap values_of c.add_to_named.ensures.entries
-    ∙ values-copied _ c.args.name.now (key_test c.args.name.now) c.args.heard.now c.in-Some.linked.entries (invariant c).0 (invariant c).1
+pub returns-in_err-place-clause-result : goal.returns-in_err-place-clause-result
+returns-in_err-place-clause-result c = c.from_residual.ensures ∙ sym (ap (option_map addition) (none c))
 
-pub invariant_of-self-2 : goal.invariant_of-self-2
-invariant_of-self-2 c =
-    let name = c.args.name.now in
-    let es = c.in-Some.linked.entries in (
-      subst AreNamed (sym c.add_to_named.ensures.entries) (named-copied ((name_eq.ghosts).eq name) name (key_test name) c.args.heard.now es (invariant c).0),
-      subst AreApart (sym (now c)) (copied-apart name c.args.heard.now (values_of es) (invariant c).1),
-      c.add_to_named.ensures.cap ∙ (invariant c).2,
-    )
+pub returns-in_err-place-clause-windows : goal.returns-in_err-place-clause-windows
+returns-in_err-place-clause-windows c =
+    sym (map-none (is_named c.args.named.now.name) (with_copy c.args.heard.now) c.args.self.now (none_found (is_named c.args.named.now.name) c.args.self.now (none c)))
+
+here : (c : After-add_at) → (w : Window) × Stands c.args.named.now.name c.self.inside.places.items c.in_ok-place.place w
+here c = stands-here c.args.named.now.name c.self.inside.places.items c.in_ok-place.place c.in_ok-place.ensures.found c.self.invariant.0
+
+pub invariant_of-self : goal.invariant_of-self
+invariant_of-self c =
+    copied-kept c.args.named.now.name c.self.inside.first c.self.inside.places.items c.in_ok-place.place (here c).0 (here c).1 c.args.heard.now c.self.inside.numbers.entries c.add_at.new.places.items
+    c.add_at.ensures.places c.self.invariant
 
 pub returns-clause-result : goal.returns-clause-result
 returns-clause-result c =
-    let name = c.args.name.now in
-    c.add_to_named.ensures.result ∙ ap (option_map addition) (lookup-named _ name (key_test name) c.in-Some.linked.entries (invariant c).0 ∙ ap (window_named name) (was c))
+    let name = c.args.named.now.name in
+    c.add_at.ensures.result ∙ ap (option_map addition) (at-place name c.self.inside.first c.self.inside.places.items c.in_ok-place.place (here c).0 (here c).1 ∙ ap (window_named name) c.self.view_is)
 
 pub returns-clause-windows : goal.returns-clause-windows
-returns-clause-windows c = now c ∙ ap (with_copy_in c.args.name.now c.args.heard.now) (was c)
+returns-clause-windows c =
+    let name = c.args.named.now.name in
+    ap open_of c.add_at.ensures.places
+    ∙ copied-open name c.self.inside.first c.self.inside.places.items c.in_ok-place.place (here c).0 (here c).1 c.args.heard.now c.self.invariant.0
+    ∙ ap (with_copy_in name c.args.heard.now) c.self.view_is

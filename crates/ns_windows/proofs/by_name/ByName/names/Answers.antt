@@ -1,16 +1,31 @@
-use Rattle.std.proofs.Common.{◌≡◌, List, [], ◌∷◌, map, refl, sym, ap, ◌∙◌}
-use Rattle.std.specs.Map.{values_of}
+use Rattle.std.proofs.Common.{◌≡◌, ◌+◌, suc, ◌++◌, map, take, option_to_list, sym, ap, arith, ◌∙◌}
+use Rattle.std.proofs.lemmas.List.{map-append, take_all}
 use Rattle.ns_types.specs.declared.identity.WindowName.{WindowName}
 use Rattle.ns_windows.specs.declared.window.Window.{Window}
-use Rattle.ns_windows.specs.Windows.{entries_of}
+use Rattle.ns_windows.specs.Places.{open_of}
+use Rattle.ns_windows.proofs.Standing.{open-take}
 use Rattle.ns_windows.proofs.by_name.ByName.names.Goals as goal
 
-names-of : (es : List (WindowName × Window)) → map (λ (e : WindowName × Window). e.1.name) es ≡ map (λ (w : Window). w.name) (values_of es)
-names-of [] = refl
-names-of (e ∷ es) = ap (λ (ns : List WindowName). e.1.name ∷ ns) (names-of es)
+name_of : Window → WindowName
+name_of w = w.name
+
+pub loop-at-preserved : goal.loop-at-preserved
+unfolding name_of
+loop-at-preserved c =
+    let ps = c.self.inside.places.items in
+    let at = c.loop-at.at in
+    let o = c.in-Some.place.now in
+    let next : suc at ≡ at + 1 = omega arith in
+    c.in_ok-put_name.ensures
+    ∙ ap (λ ns. ns ++ map name_of (option_to_list o)) c.loop-at.invariant
+    ∙ sym (map-append name_of (open_of (take at ps)) (option_to_list o))
+    ∙ ap (map name_of) (sym (open-take ps at o (omega (arith, c.loop-at-test.true, c.len-at-end.ensures, c.self.inside.places.ok.0)) c.in-Some.ensures.lookup))
+    ∙ ap (λ k. map name_of (open_of (take k ps))) next
 
 pub returns : goal.returns
+unfolding name_of
 returns c =
-    c.in_ok-names.ensures
-    ∙ (names-of c.in-Some.linked.entries
-    ∙ ap (map (λ (w : Window). w.name)) (ap (λ l. values_of (entries_of l)) (sym c.in-Some.is) ∙ c.self.view_is))
+    let ps = c.self.inside.places.items in
+    c.loop-at.invariant
+    ∙ ap (λ xs. map name_of (open_of xs)) (take_all c.loop-at.at ps (omega (arith, c.loop-at-test.false, c.len-at-end.ensures, c.self.inside.places.ok.0)))
+    ∙ ap (map name_of) c.self.view_is
