@@ -6,7 +6,8 @@
 ghost use Rattle.std.specs.Prelude.{◌<◌};
 
 use crate::print_time;
-use ns_joinclient::{HostName, ask};
+use ns_exchange::HostName;
+use ns_joinclient::ask;
 use ns_types::{Fuse, OverStd};
 use std::alloc::{AllocError, Global};
 use std::io;

@@ -1,7 +1,7 @@
 -- Which results and faults are others.
 use Rattle.std.proofs.Common.{◌≢◌, Result, Ok, Err}
-use Rattle.ns_joinclient.specs.declared.fault.AskFault.{AskFault}
-use Rattle.ns_joinclient.specs.declared.fault.AskFault.TheVariants.{Write, Ended, BadHead, TooLong, NoMemory}
+use Rattle.ns_exchange.specs.declared.fault.AskFault.{AskFault}
+use Rattle.ns_exchange.specs.declared.fault.AskFault.TheVariants.{Write, Ended, BadHead, TooLong, NoMemory}
 use Rattle.ns_joinclient.specs.Reading.{IsShown}
 
 pub error_is_no_value : {A E : Type 0} (x : A) (e : E) → Err e ≢ Ok x

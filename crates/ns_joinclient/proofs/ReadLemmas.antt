@@ -7,7 +7,7 @@ use borrow.Rule.Slice.PartMut.{mid_of, put_mid}
 use Rattle.std.specs.Io.KnownBytes.{Consumes, Keeps, IsAtEnd}
 use Rattle.std.proofs.KnownBytes.{Consumes-nil, Consumes-trans, Consumes-kept}
 use Rattle.ns_types.specs.declared.stream.Failed.{Failed}
-use Rattle.ns_joinclient.specs.declared.fault.AskFault.TheVariants.{Ended}
+use Rattle.ns_exchange.specs.declared.fault.AskFault.TheVariants.{Ended}
 use Rattle.ns_joinclient.specs.declared.scan.Scan.{Scan}
 use Rattle.ns_joinclient.specs.Exchange.{EndsInHead}
 use Rattle.ns_joinclient.specs.Place.{EndsAt, IsInside, IsScanOf}

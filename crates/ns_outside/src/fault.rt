@@ -1,6 +1,6 @@
 //! Why a worker ended, and why a datagram or a ticket got nothing.
 
-use ns_joinclient::AskFault;
+use ns_exchange::AskFault;
 use ns_link::LinkFault;
 use ns_views::ViewFault;
 use thiserror::Error;

@@ -2,8 +2,8 @@
 
 use log::{Level, Log};
 use ns_calls::{Call, Downlink, Reply};
+use ns_exchange::AskFault;
 use ns_front::FrameName;
-use ns_joinclient::AskFault;
 use ns_joinwire::AnsFault;
 use ns_outside::{JoinFault, Monitor, Receipt, Refused};
 use ns_serve_parts::{more, words_of};

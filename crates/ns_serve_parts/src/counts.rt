@@ -196,22 +196,32 @@ impl Counts {
         was.is_ok()
     }
 
-    /// Logs the counts.
-    pub fn log_all<R: Log>(&self, rt: &R, read: u64) {
+    // Logs the counts of datagrams.
+    fn log_datagrams<R: Log>(&self, rt: &R, read: u64) {
         let refusals = Named {
             names: &REFUSALS,
             counters: &self.refusals,
         };
+        let (dropped, late) = (value(&self.dropped), value(&self.late));
+        let unreceived = value(&self.unreceived);
+        info!(rt; "datagrams: read {read} dropped {dropped} late {late} failed receives {unreceived}{refusals}");
+    }
+
+    // Logs the counts of replies.
+    fn log_replies<R: Log>(&self, rt: &R) {
         let replies = Named {
             names: &REPLIES,
             counters: &self.replies,
         };
-        let (dropped, late) = (value(&self.dropped), value(&self.late));
-        let unreceived = value(&self.unreceived);
-        info!(rt; "datagrams: read {read} dropped {dropped} late {late} failed receives {unreceived}{refusals}");
         let (unanswered, unsent) = (value(&self.unanswered), value(&self.unsent));
         let stale = value(&self.stale);
         info!(rt; "replies:{replies} unanswered {unanswered} unsent {unsent} stale tickets {stale}");
+    }
+
+    /// Logs the counts.
+    pub fn log_all<R: Log>(&self, rt: &R, read: u64) {
+        self.log_datagrams(rt, read);
+        self.log_replies(rt);
         let unwritten = value(&self.unwritten);
         if unwritten > 0 {
             warn!(rt; "standard output failed: {unwritten} lines did not reach it");

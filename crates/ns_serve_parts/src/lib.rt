@@ -5,7 +5,7 @@
 //! ended. What is computed has a contract over its definition in `specs/`. What stands under a lock, what is logged, and what the
 //! system does with a socket, no contract says.
 //! The crate stands on `ns_outside` for what the workers ask of what stands round them, on `ns_calls`, `ns_lines`, `ns_events`,
-//! `ns_joinclient`, `ns_joinwire`, `ns_link`, `ns_responses`, `ns_types` and `ns_views`, and on `itoa`, `jiff_core`, `log`, `lru` and
+//! `ns_exchange`, `ns_joinwire`, `ns_link`, `ns_responses`, `ns_types` and `ns_views`, and on `itoa`, `jiff_core`, `log`, `lru` and
 //! `thiserror` of the kit.
 #![tactic(auto)]
 

@@ -4,7 +4,7 @@ ghost use Rattle.ns_serve_parts.specs.declared.options.ServeFault.TheVariants as
 ghost use Rattle.ns_serve_parts.specs.Ends.{serve_fault};
 
 use ns_events::Output;
-use ns_joinclient::HostName;
+use ns_exchange::HostName;
 use ns_outside::WorkerFault;
 use std::alloc::AllocError;
 use std::net::SocketAddr;

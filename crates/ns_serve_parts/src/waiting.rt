@@ -27,6 +27,11 @@ impl<'a, R, W> WaitingWriter<'a, R, W> {
     }
 }
 
+// Logs the end of standard output.
+fn log_end<R: Log>(rt: &R, error: &io::Error) {
+    error!(rt; "standard output: {error}");
+}
+
 impl<'a, R: Wait + Clock + Log, W: Write> Write for WaitingWriter<'a, R, W> {
     ghost contents = { λ s. W.contents s.writer };
 
@@ -40,7 +45,7 @@ impl<'a, R: Wait + Clock + Log, W: Write> Write for WaitingWriter<'a, R, W> {
                     }
                     ErrorKind::Interrupted => {}
                     _ => {
-                        error!(self.rt; "standard output: {error}");
+                        log_end(self.rt, &error);
                         return Err(error);
                     }
                 },

@@ -1,6 +1,6 @@
 //! Why a join server's answer was refused, in words.
 
-use ns_joinclient::AskFault;
+use ns_exchange::AskFault;
 use ns_joinwire::AnsFault;
 use ns_outside::JoinFault;
 

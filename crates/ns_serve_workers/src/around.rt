@@ -1,7 +1,7 @@
 //! What the threads of a server see.
 ghost use Rattle.std.specs.Prelude.{◌≡◌};
 
-use ns_joinclient::HostName;
+use ns_exchange::HostName;
 use ns_roster::Roster;
 use ns_serve_parts::Output;
 use ns_serve_state::State;

@@ -2,7 +2,7 @@
 ghost use Rattle.std.specs.Prelude.{◌≡◌};
 ghost use Rattle.std.specs.Duration.{as_nanos};
 ghost use Rattle.std.specs.Option.{option_map};
-ghost use Rattle.ns_joinclient.specs.Request.{host_text};
+ghost use Rattle.ns_exchange.specs.HostText.{host_text};
 ghost use Rattle.ns_tally.specs.Tally.{none_made};
 ghost use Rattle.ns_workers.specs.Asking.{HasOutcome};
 ghost use Rattle.ns_serve_parts.specs.declared.join_server.ToJoinServer.{ToJoinServer as to_join_server};

@@ -44,7 +44,8 @@ use Rattle.ns_devices.specs.declared.own.Own.{Own}
 use Rattle.ns_shard.specs.Private.Held.{window_of_opening, windows_in}
 use Rattle.ns_shard.specs.Private.Devices.{own_in, devices_in}
 use Rattle.ns_devices.specs.Devices.{own_of, with_change_of}
-use Rattle.ns_shard.specs.Private.Sending.{uplink_from, first_uplink_from, ack_from}
+use Rattle.ns_uplinks.specs.Uplinks.{uplink_from, first_uplink_from}
+use Rattle.ns_shard.specs.Private.Sending.{ack_from}
 use Rattle.ns_shard.specs.Private.Reaction.{ack_of, close_ended, with_closing}
 use Rattle.ns_shard.specs.Private.Parts.{Agrees}
 use Rattle.ns_shard.proofs.Roster.{own-found, members}

@@ -4,10 +4,10 @@ ghost use Rattle.std.specs.Prelude.{◌≡◌};
 ghost use Rattle.ns_shard.specs.declared.event.Event.TheVariants as event;
 ghost use Rattle.ns_shard.specs.Private.Sending.{ended_reply, reply_of, uplink_of, downlink_of, answer_of};
 
-use crate::boxed::BoxedUplink;
 use crate::sending::ack_from;
 use ns_calls::{Answer, Downlink, Reply};
 use ns_roster::Roster;
+use ns_uplinks::BoxedUplink;
 use ns_windows::BoxedWindow;
 
 /// What a join server's answer or a closing ended.

@@ -3,11 +3,10 @@
 //! A shard keeps the state of its devices, its open windows and its entries. It promises that each answer is the plain server's, over
 //! the entries made before, that a call adds exactly its own entry, and that where memory is refused nothing has changed. It answers
 //! from its records, and never searches its entries. `Shards::run` takes steps, from their bytes on, to the sixteen shards: each
-//! makes the entry that the plain server makes, or is refused. It stands on `ns_devices`, `ns_windows` and `ns_journal`, on `ns_sent`
-//! for what goes out, on `ns_keep` for trims, on `ns_joinwire` for join servers' answers, and on the definitions of `ns_calls`.
+//! makes the entry that the plain server makes, or is refused. It stands on `ns_devices`, `ns_windows` and `ns_journal`, on `ns_uplinks`
+//! and `ns_sent` for what goes out, on `ns_keep` for trims, on `ns_joinwire` for join servers' answers, and on the definitions of `ns_calls`.
 #![tactic(auto)]
 
-mod boxed;
 mod calls;
 mod closing;
 mod event;
@@ -24,8 +23,8 @@ mod step;
 mod trim;
 mod uplink;
 
-pub use boxed::BoxedUplink;
 pub use calls::{call_into, call_of};
+pub use ns_uplinks::BoxedUplink;
 pub use packed::BoxedAnswer;
 pub use run::{Run, Shards, Taken, new_shards};
 pub use shard::Shard;

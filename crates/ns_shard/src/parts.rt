@@ -8,7 +8,6 @@ ghost use Rattle.ns_calls.specs.Shards.{shard_of_call};
 ghost use Rattle.ns_shard.specs.State.{no_entries, after_call, answer_in, finds_open};
 ghost use Rattle.ns_shard.specs.Private.Parts.{AreParts, AreTaken, state_of};
 
-use crate::boxed::BoxedUplink;
 use crate::closing::close;
 use crate::event::Event;
 use crate::joining::{answer, join};
@@ -20,6 +19,7 @@ use ns_devices::Devices;
 use ns_journal::Journal;
 use ns_roster::Roster;
 use ns_types::{Heard, Ticket, WindowName};
+use ns_uplinks::BoxedUplink;
 use ns_windows::Windows;
 use std::alloc::{AllocError, Global};
 use std::sync::Arc;

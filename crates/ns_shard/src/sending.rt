@@ -3,10 +3,10 @@
 ghost use Rattle.std.specs.Prelude.{◌≡◌, option_and_then};
 ghost use Rattle.ns_shard.specs.Private.Sending.{ack_from};
 
-use crate::boxed::BoxedUplink;
 use ns_calls::{Downlink, Uplink};
 use ns_roster::Roster;
 use ns_sent::acknowledgement;
+use ns_uplinks::BoxedUplink;
 use ns_windows::Window;
 
 /// Puts the uplink that goes out, if any, where one may be. The room for one is large: where none is, nothing is moved.

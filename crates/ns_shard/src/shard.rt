@@ -11,7 +11,6 @@ ghost use Rattle.ns_kept.specs.Bound.{most_kept};
 ghost use Rattle.ns_shard.specs.declared.trim.TrimFault.TheVariants.{Full};
 ghost use Rattle.ns_shard.specs.Private.Parts.{AreParts, state_of};
 
-use crate::boxed::BoxedUplink;
 use crate::open::open_tickets;
 use crate::packed::BoxedAnswer;
 use crate::parts::Parts;
@@ -20,6 +19,7 @@ use crate::trim::{Dropped, TrimFault};
 use ns_calls::{Answer, Call, Downlink, Entry, Outcome, Reply, Uplink};
 use ns_roster::Roster;
 use ns_types::{DevEui, DevNonce, Ticket, WindowName, shard_of};
+use ns_uplinks::BoxedUplink;
 use std::alloc::{AllocError, Global};
 use std::marker::Model;
 use std::sync::Arc;

@@ -5,7 +5,7 @@ use Rattle.std.specs.Str.Parse.{IsNumeral, digits_value, without_leading_plus}
 use Rattle.std.specs.Net.Grammar.{IsSocketText}
 use Rattle.std.specs.declared.net.socket_addr.SocketAddr.{SocketAddr}
 use Rattle.clap.specs.Words.{Row, Text, fault_of, first_of, one_of, subcommand_of}
-use Rattle.ns_joinclient.specs.Request.{host_text}
+use Rattle.ns_exchange.specs.HostText.{host_text}
 use Rattle.ns_events.specs.declared.output.Output.{Output}
 use Rattle.ns_events.specs.declared.output.Output.TheVariants as output
 use Rattle.ns_serve_parts.specs.declared.options.ServeOptions.{ServeOptions}

@@ -6,7 +6,7 @@ use Rattle.clap.specs.Values.{kind_of}
 use Rattle.clap.specs.Words.{IsAmong, Row, Text, all_of, fault_of, first_of, one_of, subcommand_of}
 use Rattle.clap.specs.declared.error.Error.{Error}
 use Rattle.clap.specs.declared.error.kind.ErrorKind.TheVariants.{OutOfMemory}
-use Rattle.ns_joinclient.specs.Host.{is_host_name}
+use Rattle.ns_exchange.specs.Host.{is_host_name}
 use Rattle.ns_words.specs.declared.options.BadWords.{BadWords}
 use Rattle.ns_words.specs.declared.options.BadWords.TheVariants.{NoMemory, NotText, BadValue, Shown}
 use Rattle.ns_words.specs.declared.options.OptionName.{OptionName}

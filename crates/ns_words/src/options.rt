@@ -1,7 +1,7 @@
 //! The command line.
 
 ghost use Rattle.std.specs.Prelude.{◌≡◌, ◌<◌, ◌≤◌, codes, false, IfErr, IfOk, Some, map, string_bytes};
-ghost use Rattle.ns_joinclient.specs.Request.{host_text};
+ghost use Rattle.ns_exchange.specs.HostText.{host_text};
 ghost use Rattle.clap.specs.Words.{app_of, first_of, found_of, new_app, rows_of, rule_of, with_rule};
 ghost use Rattle.ns_words.specs.Asked.{HasOptions, HasRecord, IsAddr, IsAddrIfGiven, IsAsked, IsAskedBy, IsDoable, IsFlag, IsNumber, IsNumberIfGiven, IsNumberOrNever, IsOutput, IsServed, command_of, name_of};
 ghost use Rattle.ns_words.specs.declared.options.BadWords.TheVariants as refusal;
@@ -12,7 +12,7 @@ use clap::builder::ValueParser;
 use clap::error::ErrorKind;
 use clap::{Arg, ArgAction, ArgMatches, Command};
 use ns_events::Output;
-use ns_joinclient::HostName;
+use ns_exchange::HostName;
 use ns_serve_parts::ServeOptions;
 use std::alloc::{AllocError, Global};
 use std::error::Error;

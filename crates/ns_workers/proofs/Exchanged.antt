@@ -7,8 +7,8 @@ use Rattle.ns_roster.specs.declared.Device.{Device}
 use Rattle.ns_roster.specs.Network.{Network, device}
 use Rattle.ns_calls.specs.declared.call.JoinAns.{JoinAns}
 use Rattle.ns_joinwire.specs.JoinReq.{joinreq}
-use Rattle.ns_joinclient.specs.declared.fault.AskFault.{AskFault}
-use Rattle.ns_joinclient.specs.declared.fault.AskFault.TheVariants.{Write, Ended, BadHead, Status, Encoded, TooLong, Answer, NoMemory}
+use Rattle.ns_exchange.specs.declared.fault.AskFault.{AskFault}
+use Rattle.ns_exchange.specs.declared.fault.AskFault.TheVariants.{Write, Ended, BadHead, Status, Encoded, TooLong, Answer, NoMemory}
 use Rattle.ns_joinclient.specs.Asked.{Exchanges, IsAnswer, HasWholeBody, IsCutShort}
 use Rattle.ns_joinclient.specs.Reading.{IsShown}
 use Rattle.ns_joinclient.specs.Request.{request}

@@ -9,8 +9,8 @@ use Rattle.ns_calls.specs.declared.call.JoinAns.{JoinAns}
 use Rattle.ns_calls.specs.declared.call.Outcome.{Outcome}
 use Rattle.ns_calls.specs.declared.call.Outcome.TheVariants.{Success, Failed}
 use Rattle.ns_joinwire.specs.JoinReq.{joinreq}
-use Rattle.ns_joinclient.specs.declared.fault.AskFault.{AskFault}
-use Rattle.ns_joinclient.specs.declared.fault.AskFault.TheVariants as ask
+use Rattle.ns_exchange.specs.declared.fault.AskFault.{AskFault}
+use Rattle.ns_exchange.specs.declared.fault.AskFault.TheVariants as ask
 use Rattle.ns_joinclient.specs.Request.{request}
 use Rattle.ns_joinclient.specs.Asked.{Exchanges, IsAnswer, HasWholeBody, IsCutShort}
 use Rattle.ns_outside.specs.declared.fault.JoinFault.{JoinFault}

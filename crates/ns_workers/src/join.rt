@@ -1,7 +1,7 @@
 //! Asks the join server about tickets, and answers them.
 ghost use Rattle.std.specs.Prelude.{◌≡◌, ◌≢◌, [], ◌∷◌, None, Some, IfOk, IfErr, OnErr};
 ghost use Rattle.ns_events.specs.declared.output.Output.TheVariants.{Lines};
-ghost use Rattle.ns_joinclient.specs.Request.{host_text};
+ghost use Rattle.ns_exchange.specs.HostText.{host_text};
 ghost use Rattle.ns_workers.specs.Asking.{IsAnswered, IsUnanswered, HasOutcome};
 ghost use Rattle.ns_workers.specs.Answering.{IsOutcome, IsReply, Answers};
 ghost use Rattle.ns_workers.specs.Effects.{Does, effects};
@@ -10,7 +10,8 @@ use crate::counted::{make_call, send_down};
 use crate::job::is_too_old;
 use crate::shared::Shared;
 use ns_calls::{Call, JoinAns, Outcome};
-use ns_joinclient::{HostName, ask};
+use ns_exchange::HostName;
+use ns_joinclient::ask;
 use ns_joinwire::join_req;
 use ns_outside::{
     AskJob, Calls, Connections, Downlinks, Gate, JobSource, JoinFault, Monitor, Next, Receipt,

@@ -1,6 +1,9 @@
 //! Tests of the crates round the shards: where gateways are, and late copies of frames (ns_front), what a server tells of itself over HTTP
 //! (ns_status), texts from outside, in pieces of every size and with each fault (ns_responses, ns_roster_place), the files of a record
-//! (ns_record_files), and packet forwarders, over memory and over sockets (ns_forwarder, ns_forwarder_socket).
+//! (ns_record_files), packet forwarders, over memory and over sockets (ns_forwarder, ns_forwarder_socket), and what the threads of `serve`
+//! share where none runs (ns_serve_parts, ns_serve_state, ns_serve_sockets, ns_serve_status): which datagrams are late copies, how many
+//! failures a worker waits out, which downlinks leave, what an earlier life left open, the times of a line, the address at which gateways
+//! are heard, the counts and other lines as they are logged, and the status over HTTP.
 //!
 //! They call what those crates give in public, and stand here so that no crate is proved once more for its tests.
 #![tactic(auto)]
@@ -25,6 +28,8 @@ mod responses;
 mod rows;
 #[cfg(test)]
 mod running;
+#[cfg(test)]
+mod served;
 #[cfg(test)]
 mod sockets;
 #[cfg(test)]

@@ -9,7 +9,7 @@ use crate::parties::{ROSTER_A, contains, join_server, local};
 use crate::play::{Party, Step};
 use log::{Log, error};
 use ns_events::Output;
-use ns_joinclient::HostName;
+use ns_exchange::HostName;
 use ns_record_files::{RecordFiles, Recorder, Upkeep};
 use ns_roster::Roster;
 use ns_serve::{Begun, ServeFault, ServeOptions, Stop, serve};

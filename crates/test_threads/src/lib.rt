@@ -1,8 +1,8 @@
-//! Traffic of many devices as calls, the tests that make them on one server from several threads, and tests at the largest sizes that the
-//! server is for, also of `ns_replay`.
+//! Traffic of many devices as calls, the tests that make them on one server from several threads, tests at the largest sizes that the
+//! server is for, also of `ns_replay`, and those of the workers (`ns_workers`): gateway workers, join workers and closers.
 //!
 //! The calls are those of whole runs: each device asks to join, its join is answered, its uplinks are heard and closed. Benchmarks and
-//! examples make the same calls.
+//! examples make the same calls. Tests of what crates give in public stand here so that none of these is proved once more for them.
 #![tactic(auto)]
 
 mod traffic;
@@ -39,5 +39,7 @@ mod tests;
 mod trial;
 #[cfg(test)]
 mod trim_tests;
+#[cfg(test)]
+mod workers;
 #[cfg(test)]
 mod written;

@@ -1,17 +1,15 @@
 -- What goes out with what came of a call.
 use Rattle.std.specs.Prelude.{ℕ, Option, None, option_map, option_and_then}
 use Rattle.ns_types.specs.Heard.{best}
-use Rattle.ns_types.specs.Cases.{when}
-use Rattle.ns_types.specs.Identity.{is_first}
-use Rattle.ns_views.specs.Frame.{data_fields}
 use Rattle.ns_roster.specs.Network.{Network}
 use Rattle.ns_calls.specs.declared.call.Reply.{Reply}
 use Rattle.ns_calls.specs.declared.call.Reply.TheVariants as reply
 use Rattle.ns_calls.specs.declared.answer.Uplink.{Uplink}
 use Rattle.ns_calls.specs.declared.answer.Downlink.{Downlink}
 use Rattle.ns_calls.specs.declared.answer.Answer.{Answer}
-use Rattle.ns_calls.specs.Out.{payload_key, uplink_under, ack_at}
+use Rattle.ns_calls.specs.Out.{ack_at}
 use Rattle.ns_windows.specs.declared.window.Window.{Window}
+use Rattle.ns_uplinks.specs.Uplinks.{first_uplink_from}
 use Rattle.ns_shard.specs.declared.event.Ended.{Ended}
 use Rattle.ns_shard.specs.declared.event.Ended.TheVariants.{Answered, Closed}
 use Rattle.ns_shard.specs.declared.packed.Lain.{Lain}
@@ -21,16 +19,9 @@ use Rattle.ns_shard.specs.declared.event.Event.TheVariants as event
 
 -- ---- of a window that was closed
 
-abbrev pub uplink_from : Window → Uplink
-uplink_from w = uplink_under w.name w.frame w.copies.items (payload_key (data_fields w.frame).port w.nwk w.app)
-
 -- the acknowledgement with this number, at RX1 of the best copy
 abbrev pub ack_from : Network → Window → ℕ → Option Downlink
 ack_from net w n = option_map (ack_at net w.frame w.nwk n) (best w.copies.items)
-
--- the uplink goes out with the first window of its rounds
-abbrev pub first_uplink_from : Window → Option Uplink
-first_uplink_from w = when (is_first w.name) (uplink_from w)
 
 -- ---- of any call
 

@@ -5,7 +5,7 @@ use crate::joins::scarce::Try;
 use crate::joins::text::bytes_of;
 use crate::joins::{devices, exchanges, messages, rosters, scarce};
 use crate::put::{put, show};
-use ns_joinclient::AskFault;
+use ns_exchange::AskFault;
 use ns_joinwire::AnsFault;
 use ns_roster::field::hex_bytes;
 use ns_roster::{Roster, RosterFault};

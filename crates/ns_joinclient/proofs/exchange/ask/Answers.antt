@@ -1,6 +1,7 @@
 use Rattle.std.proofs.Common.{refl, inl, inr}
 use Rattle.std.specs.Io.KnownBytes.{Appends}
-use Rattle.ns_joinclient.specs.Request.{host_text, request}
+use Rattle.ns_exchange.specs.HostText.{host_text}
+use Rattle.ns_joinclient.specs.Request.{request}
 use Rattle.ns_joinclient.proofs.FaultLemmas.{write_is_not_ended, write_is_no_memory}
 use Rattle.ns_joinclient.proofs.AskLemmas.{answer_clause, fault_clause, ended_clause, memory_clause, failed_clause, on_ok, on_err}
 use Rattle.ns_joinclient.proofs.exchange.ask.Goals as goal

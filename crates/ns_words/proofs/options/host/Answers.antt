@@ -1,10 +1,10 @@
 use Rattle.std.proofs.Common.{◌≡◌, Some, Result, ap, refl, sym, subst, codes, is_some, ◌∙◌}
 use Rattle.std.specs.Prelude.{IfErr, IfOk}
 use Rattle.clap.specs.Words.{first_of, found_of, rows_of}
-use Rattle.ns_joinclient.specs.declared.host.HostName.{HostName}
-use Rattle.ns_joinclient.specs.Request.{host_text}
+use Rattle.ns_exchange.specs.declared.host.HostName.{HostName}
+use Rattle.ns_exchange.specs.HostText.{host_text}
 use Rattle.ns_words.specs.declared.options.BadWords.{BadWords}
-use Rattle.ns_joinclient.specs.Host.{is_host_name}
+use Rattle.ns_exchange.specs.Host.{is_host_name}
 use Rattle.ns_words.specs.declared.options.BadWords.TheVariants.{BadValue}
 use Rattle.ns_words.specs.declared.options.OptionName.TheVariants.{Host}
 use Rattle.ns_words.specs.Refused.{HasNoHost}

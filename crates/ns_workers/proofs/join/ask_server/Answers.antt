@@ -1,7 +1,7 @@
 use Rattle.std.proofs.Common.{sym, ap, ◌∙◌}
 use Rattle.ns_roster.specs.Network.{device}
 use Rattle.ns_roster.proofs.DeviceLemmas.{found-device}
-use Rattle.ns_joinclient.specs.Request.{host_text}
+use Rattle.ns_exchange.specs.HostText.{host_text}
 use Rattle.ns_workers.proofs.Exchanged.{asked_answer, asked_fault}
 use Rattle.ns_workers.proofs.join.ask_server.Goals as goal
 

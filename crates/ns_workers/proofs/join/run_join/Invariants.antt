@@ -1,5 +1,5 @@
 use Rattle.std.proofs.Common.{◌≡◌, ◌≤◌, ◌-◌, ◌^◌, None}
-use Rattle.ns_joinclient.specs.Request.{host_text}
+use Rattle.ns_exchange.specs.HostText.{host_text}
 use Rattle.ns_workers.specs.Answering.{IsOutcome}
 use Rattle.ns_workers.specs.Asking.{HasOutcome}
 use Rattle.ns_workers.specs.Effects.{effects}

@@ -1,0 +1,10 @@
+//! What the threads of a server share, and its parts, by single calls where no server runs.
+
+mod cases;
+mod counted;
+mod parts;
+mod shared;
+mod sockets;
+mod standing;
+mod states;
+mod told;

@@ -1,0 +1,418 @@
+//! Runs of workers, and the text that tells all that came of them.
+
+use crate::workers::around::{Around, Asked, Faults, NONE, Put, Scarce, Sent};
+use crate::workers::beside::Until;
+use crate::workers::frames::heard;
+use crate::workers::told::{fault_number, tell, tell_jobs, tell_out, tell_window};
+use ns_calls::{Call, Reply};
+use ns_events::Output;
+use ns_exchange::HostName;
+use ns_outside::{AskJob, Calls, CloseJob};
+use ns_roster::Roster;
+use ns_types::{BLOCKS, DevEui, Fuse, Ticket, WindowName, take_rest};
+use ns_workers::{
+    Ended, Joined, ListedDatagrams, ListedJobs, Served, Shared, run_closer, run_gateway, run_join,
+};
+use std::alloc::Global;
+use std::sync::Wait;
+use std::time::Clock;
+
+/// What a gateway worker reads.
+#[derive(Clone, Copy)]
+pub enum Reads {
+    /// A frame that gateway a1 heard, so many times.
+    Frame(&'static [u8], u32),
+    /// The same with another byte at this place of the datagram.
+    Changed(&'static [u8], usize, u8),
+    /// So many bytes 01.
+    Ones(usize),
+}
+
+/// A window of a device and a counter, which is due at a time, so many times.
+pub type Due = (u64, u32, u64, u32);
+
+/// What a worker does.
+#[derive(Clone, Copy)]
+pub enum Work {
+    /// A gateway worker reads these, with room for so many jobs.
+    Serve(&'static [Reads], usize),
+    /// A join worker answers tickets.
+    Answer(&'static [Asked]),
+    /// A closer closes windows, in runs of these limits.
+    Close(&'static [Due], &'static [u32]),
+}
+
+impl Work {
+    // By how much the clock goes on with each look, and what the join server is asked.
+    fn around(self) -> (u64, &'static [Asked]) {
+        match self {
+            Work::Serve(..) => (10, &[]),
+            Work::Answer(asks) => (0, asks),
+            Work::Close(..) => (0, &[]),
+        }
+    }
+}
+
+/// What happens on a server.
+#[derive(Clone, Copy)]
+pub enum Run {
+    /// A worker does this from a time on.
+    At(u64, Work, Faults),
+    /// What was told before is left out.
+    LeaveOut,
+    /// These are heard and answered, with one block of memory more each time, until a Join-Accept goes down.
+    UntilAccepted(&'static [Reads], &'static [Asked]),
+}
+
+/// What the runs of workers share.
+#[derive(Drop)]
+pub struct Bench<'a, S, R> {
+    pub rt: &'a R,
+    pub alloc: Global,
+    pub server: &'a S,
+    pub gate: &'a Until,
+    pub known: &'a Roster,
+}
+
+/// Runs workers on a server, each with a pass.
+pub trait Runner {
+    /// A pass of the server.
+    type Pass;
+
+    /// Runs a worker from a time on. How many downlinks a gateway worker or a join worker sent.
+    fn run_one(
+        &self,
+        pass: &mut Self::Pass,
+        log: &mut String,
+        time: u64,
+        work: Work,
+        faults: Faults,
+    ) -> Option<usize>;
+
+    /// How many entries of shard 13 were made.
+    fn made(&self) -> u64;
+
+    /// Where memory comes from.
+    fn alloc(&self) -> Global;
+
+    /// Lets a call go that is held at the gate.
+    fn let_go(&self);
+}
+
+impl<S: Calls<R>, R: Wait + Clock> Runner for Bench<'_, S, R> {
+    type Pass = S::Pass;
+
+    fn run_one(
+        &self,
+        pass: &mut S::Pass,
+        log: &mut String,
+        time: u64,
+        work: Work,
+        faults: Faults,
+    ) -> Option<usize> {
+        run_one(self, pass, log, time, work, faults)
+    }
+
+    fn made(&self) -> u64 {
+        self.gate.made()
+    }
+
+    fn alloc(&self) -> Global {
+        self.alloc
+    }
+
+    fn let_go(&self) {
+        self.gate.let_go();
+    }
+}
+
+// The datagram that gateway a1 makes of a frame, with another byte at this place.
+fn changed(alloc: Global, frame: &[u8], place: usize, byte: u8) -> Option<Vec<u8>> {
+    let mut datagram = heard(alloc, frame)?;
+    *datagram.get_mut(place)? = byte;
+    Some(datagram)
+}
+
+// Adds the datagrams of one line of a list.
+fn put_datagrams(alloc: Global, all: &mut Vec<Vec<u8>>, reads: Reads) -> Option<()> {
+    match reads {
+        Reads::Frame(frame, times) => {
+            for _ in 0..times {
+                all.push(heard(alloc, frame)?).ok()?;
+            }
+            Some(())
+        }
+        Reads::Changed(frame, place, byte) => all.push(changed(alloc, frame, place, byte)?).ok(),
+        Reads::Ones(length) => all.push(vec![in alloc; 1u8; length].ok()?).ok(),
+    }
+}
+
+// Datagrams.
+fn datagrams(alloc: Global, list: &[Reads]) -> Option<Vec<Vec<u8>>> {
+    let mut all = Vec::new(alloc);
+    for reads in list {
+        put_datagrams(alloc, &mut all, *reads)?;
+    }
+    Some(all)
+}
+
+// The jobs that close windows.
+fn closings(alloc: Global, windows: &[Due]) -> Option<Vec<CloseJob>> {
+    let mut jobs = Vec::new(alloc);
+    for &(eui, fcnt, due, times) in windows {
+        let name = WindowName {
+            eui: DevEui(eui),
+            session: 1,
+            fcnt,
+            round: 1,
+        };
+        for _ in 0..times {
+            jobs.push(CloseJob { name, due }).ok()?;
+        }
+    }
+    Some(jobs)
+}
+
+// Runs a gateway worker.
+fn serve<S: Calls<R>, R: Wait + Clock>(
+    alloc: Global,
+    shared: &Shared<'_, S, R, Until, Around>,
+    pass: &mut S::Pass,
+    log: &mut String,
+    down: &mut Sent,
+    list: &[Reads],
+    room: usize,
+    faults: Faults,
+) -> Option<()> {
+    let around = shared.monitor;
+    let source = ListedDatagrams::new(datagrams(alloc, list)?, faults.source);
+    let mut source = Scarce::new(alloc, source, faults)?;
+    let mut jobs = Put::new(alloc, room);
+    let mut sink = Fuse::new(alloc, Vec::new(alloc), 2000, None, faults.writes);
+    let served = run_gateway(
+        shared,
+        pass,
+        &mut source,
+        around,
+        &mut jobs,
+        down,
+        &mut sink,
+        3_000,
+    );
+    source.give_back();
+    tell_served(log, served, &jobs, &sink, down, around)
+}
+
+// Tells how a gateway worker ended, its jobs, and what went out.
+fn tell_served(
+    log: &mut String,
+    served: Served,
+    jobs: &Put,
+    sink: &Fuse,
+    down: &Sent,
+    around: &Around,
+) -> Option<()> {
+    let fault = fault_number(served.fault);
+    let numbers = [served.read, served.refused, served.dropped, fault];
+    tell(log, "served", &numbers)?;
+    tell_jobs(log, jobs.jobs.as_slice())?;
+    tell_out(log, sink.written(), down, around, 0)
+}
+
+// Jobs to ask for tickets.
+fn askings(alloc: Global, asks: &[Asked]) -> Option<Vec<AskJob>> {
+    let mut jobs = Vec::new(alloc);
+    for &(frame, since, _, _) in asks {
+        let ticket = Ticket(*frame);
+        let due = since;
+        jobs.push(AskJob { ticket, since, due }).ok()?;
+    }
+    Some(jobs)
+}
+
+// Runs a join worker.
+fn answer<S: Calls<R>, R: Wait + Clock>(
+    alloc: Global,
+    shared: &Shared<'_, S, R, Until, Around>,
+    pass: &mut S::Pass,
+    known: &Roster,
+    log: &mut String,
+    down: &mut Sent,
+    asks: &[Asked],
+    faults: Faults,
+) -> Option<()> {
+    let around = shared.monitor;
+    let host = HostName::new("js.local")?;
+    let jobs = ListedJobs::new(askings(alloc, asks)?, faults.source);
+    let mut jobs = Scarce::new(alloc, jobs, faults)?;
+    let joined = run_join(
+        alloc, shared, pass, around, around, &mut jobs, down, known, host,
+    );
+    jobs.give_back();
+    tell_joined(log, joined, down, around)
+}
+
+// Tells how a join worker ended, and its downlinks.
+fn tell_joined(log: &mut String, joined: Joined, down: &Sent, around: &Around) -> Option<()> {
+    let fault = fault_number(joined.fault);
+    tell(log, "joined", &[joined.answered, fault])?;
+    tell_out(log, &[], down, around, 0)
+}
+
+// Runs a closer.
+fn close<S: Calls<R>, R: Wait + Clock>(
+    alloc: Global,
+    shared: &Shared<'_, S, R, Until, Around>,
+    pass: &mut S::Pass,
+    log: &mut String,
+    jobs: &mut Scarce<ListedJobs<CloseJob>>,
+    limit: u32,
+    writes: Option<u64>,
+) -> Option<()> {
+    let around = shared.monitor;
+    let most = if writes.is_some() { 2000 } else { 7 };
+    let mut down = Sent::new(alloc, true)?;
+    let mut sink = Fuse::new(alloc, Vec::new(alloc), most, None, writes);
+    let room = Vec::new(alloc);
+    let ended = run_closer(
+        room, shared, pass, around, jobs, &mut down, &mut sink, limit,
+    );
+    jobs.give_back();
+    tell_closed(log, &ended, &sink, &down, around)
+}
+
+// Tells the first four receipts of a closer, each with 1 where its window was not open; how it ended, with how many receipts; and what
+// went out.
+fn tell_closed(
+    log: &mut String,
+    ended: &Ended,
+    sink: &Fuse,
+    down: &Sent,
+    around: &Around,
+) -> Option<()> {
+    for receipt in ended.receipts.iter().take(4) {
+        if let Call::Close { window } = &receipt.entry.call {
+            let is_late = receipt.entry.reply == Reply::NoWindow;
+            tell_window(log, "close", window, u64::from(is_late))?;
+        }
+    }
+    let count = ended.receipts.len() as u64;
+    tell(log, "ended", &[fault_number(ended.fault), count])?;
+    tell_out(log, sink.written(), down, around, 7)
+}
+
+// Runs closers over one source.
+fn close_all<S: Calls<R>, R: Wait + Clock>(
+    alloc: Global,
+    shared: &Shared<'_, S, R, Until, Around>,
+    pass: &mut S::Pass,
+    log: &mut String,
+    windows: &[Due],
+    limits: &[u32],
+    faults: Faults,
+) -> Option<()> {
+    let jobs = ListedJobs::new(closings(alloc, windows)?, faults.source);
+    let mut jobs = Scarce::new(alloc, jobs, faults)?;
+    for limit in limits {
+        close(alloc, shared, pass, log, &mut jobs, *limit, faults.writes)?;
+    }
+    Some(())
+}
+
+// Runs a worker from a time on. How many downlinks a gateway worker or a join worker sent.
+fn run_one<S: Calls<R>, R: Wait + Clock>(
+    bench: &Bench<'_, S, R>,
+    pass: &mut S::Pass,
+    log: &mut String,
+    time: u64,
+    work: Work,
+    faults: Faults,
+) -> Option<usize> {
+    let alloc = bench.alloc;
+    let (step, asks) = work.around();
+    let around = Around::new(alloc, time, step, asks);
+    let mut down = Sent::new(alloc, !faults.downlinks)?;
+    let sent = &mut down;
+    let shared = Shared {
+        output: Output::Lines,
+        rt: bench.rt,
+        server: bench.server,
+        gate: bench.gate,
+        monitor: &around,
+    };
+    let ran = match work {
+        Work::Serve(list, room) => serve(alloc, &shared, pass, log, sent, list, room, faults),
+        Work::Answer(asks) => answer(alloc, &shared, pass, bench.known, log, sent, asks, faults),
+        Work::Close(due, limits) => close_all(alloc, &shared, pass, log, due, limits, faults),
+    };
+    ran?;
+    Some(down.sent.len())
+}
+
+// Takes all memory but 64 MB, so that it takes less time to take the rest again and again.
+fn take_most(alloc: Global, held: &mut Vec<Vec<u8>>) -> Option<()> {
+    let _left: Vec<u8> = Vec::with_capacity(alloc, 1 << 26).ok()?;
+    take_rest(alloc, held).ok()
+}
+
+// Has a ticket answered until it is accepted, which takes more than one block of memory.
+fn until_accepted<N: Runner>(
+    runner: &N,
+    pass: &mut N::Pass,
+    log: &mut String,
+    reads: &'static [Reads],
+    asks: &'static [Asked],
+) -> Option<()> {
+    let mut held = Vec::with_capacity(runner.alloc(), BLOCKS).ok()?;
+    take_most(runner.alloc(), &mut held)?;
+    for blocks in 0..200u32 {
+        if is_accepted(runner, pass, log, reads, asks, blocks)? {
+            return if blocks > 1 { Some(()) } else { None };
+        }
+    }
+    None
+}
+
+// Has a ticket answered once, with so many blocks of memory. Whether it is accepted; None where the calls are not two.
+fn is_accepted<N: Runner>(
+    runner: &N,
+    pass: &mut N::Pass,
+    log: &mut String,
+    reads: &'static [Reads],
+    asks: &'static [Asked],
+    blocks: u32,
+) -> Option<bool> {
+    let faults = Faults {
+        from: 0,
+        blocks,
+        ..NONE
+    };
+    let made = runner.made().wrapping_add(2);
+    log.clear();
+    runner.run_one(pass, log, 7, Work::Serve(reads, 1), NONE)?;
+    let sent = runner.run_one(pass, log, 7, Work::Answer(asks), faults)?;
+    if runner.made() == made {
+        Some(sent == 1)
+    } else {
+        None
+    }
+}
+
+/// Runs workers in order.
+pub fn run_all<N: Runner>(
+    runner: &N,
+    pass: &mut N::Pass,
+    log: &mut String,
+    runs: &[Run],
+) -> Option<()> {
+    for run in runs {
+        match *run {
+            Run::At(time, work, faults) => {
+                runner.run_one(pass, log, time, work, faults)?;
+            }
+            Run::LeaveOut => log.clear(),
+            Run::UntilAccepted(reads, asks) => until_accepted(runner, pass, log, reads, asks)?,
+        }
+    }
+    Some(())
+}

@@ -1,0 +1,123 @@
+//! The text that tells what came of runs: lines of a word and numbers.
+
+use crate::workers::around::{Around, Sent};
+use itoa::Buffer;
+use ns_calls::{Entry, Reply};
+use ns_lines::{Line, put_downlink};
+use ns_outside::{AskJob, CloseJob, Job, WorkerFault};
+use ns_types::{Ticket, WindowName};
+
+/// Tells a word and numbers.
+pub fn tell(log: &mut String, word: &str, numbers: &[u64]) -> Option<()> {
+    log.push_str(word).ok()?;
+    for number in numbers {
+        let mut buffer = Buffer::new();
+        log.push_str(" ").ok()?;
+        log.push_str(buffer.format(*number)).ok()?;
+    }
+    log.push_str("\n").ok()
+}
+
+/// The number of a fault, or 0.
+pub fn fault_number(fault: Option<WorkerFault>) -> u64 {
+    match fault {
+        None => 0,
+        Some(WorkerFault::NoMemory) => 1,
+        Some(WorkerFault::SourceFailed) => 2,
+        Some(WorkerFault::SinkFailed) => 3,
+    }
+}
+
+/// Tells a word and a window with one more number.
+pub fn tell_window(log: &mut String, word: &str, name: &WindowName, last: u64) -> Option<()> {
+    let (session, fcnt, round) = (name.session, name.fcnt, name.round);
+    let numbers = [
+        name.eui.0,
+        u64::from(session),
+        u64::from(fcnt),
+        u64::from(round),
+        last,
+    ];
+    tell(log, word, &numbers)
+}
+
+// Tells a word, the bytes of a ticket, and two more numbers.
+fn tell_ticket(log: &mut String, word: &str, ticket: &Ticket, since: u64, due: u64) -> Option<()> {
+    let mut numbers = [0; 25];
+    for (byte, number) in ticket.0.iter().zip(numbers.iter_mut()) {
+        *number = u64::from(*byte);
+    }
+    numbers[23] = since;
+    numbers[24] = due;
+    tell(log, word, &numbers)
+}
+
+/// Tells jobs, each with when it is due, and since when a ticket waits.
+pub fn tell_jobs(log: &mut String, jobs: &[Job]) -> Option<()> {
+    for job in jobs {
+        match job {
+            Job::Close(CloseJob { name, due }) => tell_window(log, "close", name, *due)?,
+            Job::Ask(AskJob { ticket, since, due }) => {
+                tell_ticket(log, "ask", ticket, *since, *due)?;
+            }
+        }
+    }
+    Some(())
+}
+
+/// Tells lines, downlinks, and the numbers of what is around from a place on.
+pub fn tell_out(
+    log: &mut String,
+    lines: &[u8],
+    down: &Sent,
+    around: &Around,
+    from: usize,
+) -> Option<()> {
+    log.push_str(str::from_utf8(lines).ok()?).ok()?;
+    for downlink in down.sent.iter() {
+        let mut line = Line::new();
+        put_downlink(&mut line, downlink);
+        tell(log, line.as_str(), &[])?;
+    }
+    tell(log, "told", &around.told(from))
+}
+
+// Tells a reply.
+fn tell_reply(log: &mut String, reply: &Reply) -> Option<()> {
+    match reply {
+        Reply::Opened { window } => tell_window(log, "opened", window, 0),
+        Reply::Again { window } => tell_window(log, "again", window, 0),
+        Reply::Copied { window, place } => tell_window(log, "copied", window, u64::from(*place)),
+        Reply::Closed { window, ack: None } => tell_window(log, "closed", window, 0),
+        Reply::Closed {
+            window,
+            ack: Some(number),
+        } => tell_window(log, "acknowledged", window, u64::from(*number)),
+        Reply::Ask { ticket } => tell_ticket(log, "ask", ticket, 0, 0),
+        Reply::Accepted { eui, session, addr } => tell(
+            log,
+            "accepted",
+            &[eui.0, u64::from(*session), u64::from(addr.0)],
+        ),
+        Reply::JoinRefused => tell(log, "joinrefused", &[]),
+        Reply::NoTicket => tell(log, "noticket", &[]),
+        Reply::NoWindow => tell(log, "nowindow", &[]),
+        Reply::NoDevice => tell(log, "nodevice", &[]),
+        _ => tell(log, "another reply", &[]),
+    }
+}
+
+/// Tells the replies of entries, but for an entry that is as the last but one before it.
+pub fn tell_entries(log: &mut String, entries: &[Entry]) -> Option<()> {
+    for at in 0..entries.len() {
+        let entry = &entries[at];
+        let again = match entries.get(at.wrapping_sub(2)) {
+            Some(other) => other.call == entry.call && other.reply == entry.reply,
+            None => false,
+        };
+        if !again {
+            tell_reply(log, &entry.reply)?;
+        }
+    }
+    Some(())
+}
