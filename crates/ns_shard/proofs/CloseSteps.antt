@@ -251,6 +251,6 @@ agrees-close net index h devices windows w agrees stay law mine = record {
         let e : Entry = entry_for net h (length h) (call.Close w) in
         let reply_is : reply_to_close h w ≡ reply.NoWindow = close-reply h w None is in
         windows-quiet h e (joined net index h devices windows agrees) (ap (history.closing_in (call.Close w)) reply_is) (close-says (λ s. opened s ≡ None) w (λ ack. refl) refl (reply_to net h (call.Close w))) (close-says (λ s. copied s ≡ None) w (λ ack. refl) refl (reply_to net h (call.Close w)))
-        ∙ sym (Rattle.ns_windows.proofs.Places.filter-none (Rattle.ns_windows.specs.Windows.is_named w) (windows_in h) (Rattle.ns_windows.proofs.Places.none_found (Rattle.ns_windows.specs.Windows.is_named w) (windows_in h) (windows-named h w ∙ ap (option_map (window_of_opening h)) is)))
+        ∙ sym (Rattle.ns_windows.proofs.Passing.filter-none (Rattle.ns_windows.specs.Windows.is_named w) (windows_in h) (Rattle.ns_windows.proofs.Passing.none_found (Rattle.ns_windows.specs.Windows.is_named w) (windows_in h) (windows-named h w ∙ ap (option_map (window_of_opening h)) is)))
     windows_after (Some o) is =
         windows-closed h (entry_for net h (length h) (call.Close w)) w (ack_number h o) (joined net index h devices windows agrees) refl (close-reply h w (Some o) is)

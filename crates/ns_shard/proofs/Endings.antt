@@ -43,7 +43,7 @@ use Rattle.ns_sessions.proofs.OpenTickets.{open_asked, at_member}
 use Rattle.ns_sessions.proofs.Uplinks.{others_stay, closings_agree}
 use Rattle.ns_windows.specs.declared.window.Window.{Window}
 use Rattle.ns_windows.specs.Windows.{window_named, is_named, without}
-use Rattle.ns_windows.proofs.Places.{filter-none, none_found}
+use Rattle.ns_windows.proofs.Passing.{filter-none, none_found}
 use Rattle.ns_devices.specs.declared.own.Own.{Own}
 use Rattle.ns_shard.specs.Private.Devices.{own_in, devices_in}
 use Rattle.ns_devices.specs.Devices.{devices_of, is_own, own_of, with_state, with_change_of, after_answer}

@@ -114,10 +114,9 @@ module _ (frame : List ℕ) (heard : Heard) (devices : List Own) (windows : List
   added-is w true = refl
   added-is w false = refl
 
-  pub copied-taken : (a : Addition) (r : Reply) (bytes : List ℕ) (ws : List Window) → bytes ≡ frame → Some a ≡ option_map addition (window_of_frame bytes windows) → ws ≡ with_copy_of bytes heard windows → r ≡ added_reply a
+  pub copied-taken : (a : Addition) (r : Reply) (ws : List Window) → Some a ≡ option_map addition (window_of_frame frame windows) → ws ≡ with_copy_of frame heard windows → r ≡ added_reply a
       → IsTaken frame heard devices windows (uplink_reply devices windows frame) (event.Quiet r) devices ws
-  copied-taken a r bytes ws same told now is =
-      step (window_of_frame frame windows) refl (told ∙ ap (λ (x : List ℕ). option_map addition (window_of_frame x windows)) same) (now ∙ ap (λ (x : List ℕ). with_copy_of x heard windows) same)
+  copied-taken a r ws told now is = step (window_of_frame frame windows) refl told now
     where
       step : (o : Option Window) → window_of_frame frame windows ≡ o → Some a ≡ option_map addition o → ws ≡ option_map_or (λ (w : Window). with_copy_in w.name heard windows) o windows → IsTaken frame heard devices windows (uplink_reply devices windows frame) (event.Quiet r) devices ws
       step None e some copied = absurd (cc)
@@ -134,12 +133,12 @@ module _ (frame : List ℕ) (heard : Heard) (devices : List Own) (windows : List
 
 -- ---- an uplink that adds no copy
 
-module _ (frame : List ℕ) (heard : Heard) (devices : List Own) (windows ws : List Window) {bytes : List ℕ} (same : bytes ≡ frame) (told : None ≡ option_map addition (window_of_frame bytes windows)) (now : ws ≡ with_copy_of bytes heard windows) where
+module _ (frame : List ℕ) (heard : Heard) (devices : List Own) (windows ws : List Window) (told : None ≡ option_map addition (window_of_frame frame windows)) (now : ws ≡ with_copy_of frame heard windows) where
   none-framed : window_of_frame frame windows ≡ None
-  none-framed = ap (λ (b : List ℕ). window_of_frame b windows) (sym same) ∙ nothing-framed bytes windows told
+  none-framed = nothing-framed frame windows told
 
   kept : ws ≡ windows
-  kept = none-copied bytes heard windows ws (nothing-framed bytes windows told) now
+  kept = none-copied frame heard windows ws none-framed now
 
   pub still-none : window_of_frame frame ws ≡ None
   still-none = ap (window_of_frame frame) kept ∙ none-framed

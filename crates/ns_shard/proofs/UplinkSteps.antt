@@ -57,7 +57,7 @@ use Rattle.ns_shard.proofs.DeviceSteps.{devices-changed, devices-same}
 use Rattle.ns_shard.proofs.WindowSteps.{windows-quiet, windows-copied, windows-opened, windows-framed, windows-named, windows-count, copied-full}
 use Rattle.ns_shard.proofs.PartSteps.{joined, same_device-false}
 use Rattle.ns_shard.proofs.CloseSteps.{fit-known, own-some, fit-of}
-use Rattle.ns_windows.proofs.Places.{none_found}
+use Rattle.ns_windows.proofs.Passing.{none_found}
 use Rattle.ns_kept.proofs.Within.{find-any}
 use Rattle.std.proofs.Math.Bool.{and-true}
 use Rattle.ns_shard.proofs.Totals.{is_some-map}

@@ -1,9 +1,9 @@
-pub mod Places
+pub mod Passing
 pub mod Pairs
 pub mod Names
-pub mod Numbered
-pub mod Renumbered
+pub mod Frames
+pub mod Keyed
+pub mod Opened
+pub mod Spots
+pub mod Sought
 pub mod Standing
-pub mod Framed
-pub mod Counted
-pub mod Found

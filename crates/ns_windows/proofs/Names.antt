@@ -10,7 +10,7 @@ use Rattle.ns_calls.proofs.NameLemmas.{same_window-refl, same_window-eq}
 use Rattle.ns_calls.specs.Entries.{most_copies}
 use Rattle.ns_windows.specs.declared.window.Window.{Window}
 use Rattle.ns_windows.specs.Windows.{is_named, with_copy, with_copy_in, AreApart}
-use Rattle.ns_windows.proofs.Places.{NonePasses}
+use Rattle.ns_windows.proofs.Passing.{NonePasses}
 use Rattle.ns_windows.proofs.Pairs.{NoTwo-push, NoTwo-map}
 
 -- two names that differ from each other differ the other way round
@@ -51,8 +51,12 @@ pub copied-apart : (name : WindowName) (heard : Heard) (ws : List Window) → Ar
 copied-apart name heard ws apart = apart-map (λ w. cond (is_named name w) (with_copy heard w) w) (keep_name name heard) ws apart
 
 -- nor does it change the frame
-copy-frame : (heard : Heard) (w : Window) → (with_copy heard w).frame ≡ w.frame
+pub copy-frame : (heard : Heard) (w : Window) → (with_copy heard w).frame ≡ w.frame
 copy-frame heard w = cond_both (nat_lt (length w.copies.items) most_copies) _ _ (λ (v : Window). v.frame ≡ w.frame) (λ _. refl) (λ _. refl)
 
 pub keep_frame : (name : WindowName) (heard : Heard) (w : Window) → (cond (is_named name w) (with_copy heard w) w).frame ≡ w.frame
 keep_frame name heard w = cond_both (is_named name w) _ _ (λ (v : Window). v.frame ≡ w.frame) (λ _. copy-frame heard w) (λ _. refl)
+
+-- what has a name has that of another with it
+pub name-alike : (name : WindowName) (w v : Window) → is_named name w ≡ true → of_one_name w v ≡ is_named name v
+name-alike name w v is = ap (λ n. is_named n v) (same_window-eq w.name name is)

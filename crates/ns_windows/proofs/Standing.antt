@@ -1,119 +1,159 @@
--- What is said of places and numbers stays so: with one window more, with a copy more, and with one window less.
-use Rattle.std.proofs.Common.{◌≡◌, ℕ, suc, zero, ◌+◌, ◌<◌, not, cond, List, [], ◌∷◌, ◌++◌, length, take, get_or, option_to_list, Option, None, Some, option_map, refl, sym, ap, subst, ◌∙◌, arith, inl, inr}
-use Rattle.std.specs.Option.{option_or}
+-- What is said of windows at places and of their spots stays so, as one comes, changes and goes.
+use Rattle.std.proofs.Common.{◌≡◌, ℕ, suc, ◌+◌, ◌<◌, ◌==◌, cond, not, true, List, [], ◌∷◌, ◌++◌, length, map, filter, Option, None, Some, option_map, is_some, refl, sym, ap, subst, ◌∙◌, arith}
 use Rattle.std.specs.List.{slice_set}
-use Rattle.std.specs.Map.{lookup}
 use Rattle.std.proofs.lemmas.List.{length-set}
-use Rattle.std.proofs.Math.Bool.{and_assoc}
+use Rattle.smallvec.specs.SmallVec.{SmallVec}
 use Rattle.ns_types.specs.declared.identity.WindowName.{WindowName}
 use Rattle.ns_types.specs.declared.heard.Heard.{Heard}
-use Rattle.ns_types.specs.Identity.{same_window}
-use Rattle.ns_calls.proofs.NameLemmas.{same_window-eq}
-use Rattle.ns_types.specs.contracts.identity.WindowNamePartialEq.TheImpl as name_eq
-use Rattle.ns_calls.proofs.LocalLemmas.{bool_tells}
+use Rattle.ns_calls.proofs.NameLemmas.{same_window-refl}
+use Rattle.ns_windows.specs.declared.filed.Filed.{Filed}
+use Rattle.ns_windows.specs.declared.rows.Spot.{Spot}
 use Rattle.ns_windows.specs.declared.window.Window.{Window}
-use Rattle.ns_windows.specs.Windows.{is_named, window_named, with_copy, with_copy_in, without, AreApart}
-use Rattle.ns_windows.specs.Places.{open_of, window_at, places_with_copy, places_without, number_of, AreNumbered, StartsOpen, Leaves}
+use Rattle.ns_windows.specs.Windows.{is_named, is_of, window_named, window_of_frame, with_copy, with_copy_in, with_copy_of, without, AreApart, AreOfFrames}
+use Rattle.ns_windows.specs.Places.{open_of, window_at, passes_at, places_with_copy, places_without, StartsOpen, Leaves}
+use Rattle.ns_windows.specs.Rows.{device_of, counter_of, address_of, mic_of, frame_address, frame_mic, spots_in, spots_of, spots_without, AreInRows, Adds, Takes, Lacks}
+use Rattle.ns_windows.specs.Filed.{AreFiled, Stand}
+use Rattle.ns_windows.proofs.Passing.{none_found}
 use Rattle.ns_windows.proofs.Pairs.{NoTwo-filter}
-use Rattle.ns_windows.proofs.Names.{apart-push, copied-apart, copy-name, of_one_name}
-use Rattle.ns_windows.proofs.Places.{none_found}
-use Rattle.ns_windows.proofs.Numbered.{Stands, stands, stands-at, stands-named, open-push, number-push, starts-push, open-changed, number-changed, starts-changed, open-taken, number-taken, open-left, number-left, length-left}
+use Rattle.ns_windows.proofs.Names.{of_one_name, name-alike, apart-push, copied-apart, copy-name, keep_name, keep_frame, copy-frame}
+use Rattle.ns_windows.proofs.Frames.{of_one_frame, frame-alike, of_frames-push, of_frames-map}
+use Rattle.ns_windows.proofs.Opened.{open-push, starts-push, passes-there, found-there, open-changed, starts-changed, open-taken, open-left, length-left, filled-is, open-filled, starts-filled, open-length}
+use Rattle.ns_windows.proofs.Spots.{spots-push, spots-set, spots-below, spots-taken, spots-left}
 
--- the test by which keys are compared
-pub key_test : (name m : WindowName) → (name_eq.ghosts).eq name m ≡ same_window name m
-key_test name m = simp (← and_assoc) refl
+-- ---- rows of any key and mark
 
--- ---- where a name stands
+module _ (key mark : Window → ℕ) (n : ℕ) (ps : List (Option Window)) (old new : List (ℕ × SmallVec Spot)) (known : AreInRows key mark n ps old) where
+  pub rows-pushed : (m : ℕ) (w : Window) → m ≡ n + length ps → Adds key mark m w old new → AreInRows key mark n (ps ++ Some w ∷ []) new
+  rows-pushed m w is adds k =
+      adds k ∙ ap (λ (ss : List Spot). ss ++ cond (key w == k) (record { number = m; mark = mark w } ∷ []) []) (known k)
+      ∙ ap (λ i. spots_of key mark k n ps ++ cond (key w == k) ((record { number = i; mark = mark w }) ∷ []) []) is ∙ sym (spots-push key mark k n ps w)
 
-module _ (name : WindowName) (n : ℕ) (ps : List (Option Window)) (place : ℕ) (window : Window) (there : Stands name ps place window) where
-  -- the window there is the window of the name
-  pub at-place : window_at ps place ≡ window_named name (open_of ps)
-  at-place = stands-at name ps place window there ∙ sym (stands-named name ps place window there)
+  pub rows-refused : (m : ℕ) → m ≡ n + length ps → ((k : ℕ) → Lacks m (spots_in old k) → spots_in new k ≡ spots_in old k) → AreInRows key mark n ps new
+  rows-refused m is stays k =
+      stays k (ap (spots_without m) (known k) ∙ spots-below key mark k m n ps is ∙ sym (known k)) ∙ known k
+
+  pub rows-taken : (i m after_n : ℕ) (w : Window) (after : List (Option Window)) → window_at ps i ≡ Some w → m ≡ n + i → Takes key m w old new
+      → Leaves n (places_without i ps) after_n after → AreInRows key mark after_n after new
+  rows-taken i m after_n w after at is takes left k =
+      takes k ∙ ap (λ (ss : List Spot). cond (key w == k) (spots_without m ss) ss) (known k)
+      ∙ sym (spots-taken key mark k n ps i m w at is) ∙ ap (spots_of key mark k n) left.places ∙ spots-left key mark k n left.empty after ∙ ap (λ j. spots_of key mark k j after) (sym left.number)
+
+-- all rows, with a window more
+pub filed-pushed : (n m : ℕ) (ps : List (Option Window)) (w : Window) (old new : Filed) → AreFiled n ps old → m ≡ n + length ps
+    → Adds device_of counter_of m w old.devices.entries new.devices.entries → Adds frame_address frame_mic m w old.addresses.entries new.addresses.entries → AreFiled n (ps ++ Some w ∷ []) new
+filed-pushed n m ps w old new known is devices addresses = record {
+  devices = rows-pushed device_of counter_of n ps old.devices.entries new.devices.entries known.devices m w is devices;
+  addresses = rows-pushed frame_address frame_mic n ps old.addresses.entries new.addresses.entries known.addresses m w is addresses;
+}
+
+-- ---- all that is said
+
+module _ (n : ℕ) (ps : List (Option Window)) (spots : Filed) (s : Stand n ps spots) where
+  -- the window at a place that has a name or a frame is the one that is found by it
+  pub named-there : (name : WindowName) (i : ℕ) (w : Window) → window_at ps i ≡ Some w → is_named name w ≡ true → window_named name (open_of ps) ≡ Some w
+  named-there name i w at is = found-there (is_named name) of_one_name (name-alike name) ps i w at is s.names
+
+  pub framed-there : (frame : List ℕ) (i : ℕ) (w : Window) → window_at ps i ≡ Some w → is_of frame w ≡ true → window_of_frame frame (open_of ps) ≡ Some w
+  framed-there frame i w at is = found-there (is_of frame) of_one_frame (frame-alike frame) ps i w at is s.frames
 
   -- ---- with a copy more
 
-  copied-places : (heard : Heard) → places_with_copy place heard ps ≡ slice_set ps place (Some (with_copy heard window))
-  copied-places heard = ap (λ o. slice_set ps place (option_map (with_copy heard) o)) (stands-at name ps place window there)
+  copied-places : (heard : Heard) (i : ℕ) (w : Window) → window_at ps i ≡ Some w → places_with_copy i heard ps ≡ slice_set ps i (Some (with_copy heard w))
+  copied-places heard i w at = ap (λ o. slice_set ps i (option_map (with_copy heard) o)) at
 
-  pub copied-open : (heard : Heard) → AreApart (open_of ps) → open_of (places_with_copy place heard ps) ≡ with_copy_in name heard (open_of ps)
-  copied-open heard apart = ap open_of (copied-places heard) ∙ open-changed name (with_copy heard) (copy-name heard) ps place window there apart
+  copied-in : (heard : Heard) (i : ℕ) (w : Window) → window_at ps i ≡ Some w → open_of (places_with_copy i heard ps) ≡ with_copy_in w.name heard (open_of ps)
+  copied-in heard i w at =
+      ap open_of (copied-places heard i w at) ∙ open-changed w.name (with_copy heard) ps i w at (same_window-refl w.name) s.names
 
-  pub copied-kept : (heard : Heard) (numbers : List (WindowName × ℕ)) (after : List (Option Window)) → after ≡ places_with_copy place heard ps
-      → AreApart (open_of ps) × AreNumbered n ps numbers × StartsOpen ps × (n + length ps < 18446744073709551616)
-      → AreApart (open_of after) × AreNumbered n after numbers × StartsOpen after × (n + length after < 18446744073709551616)
-  copied-kept heard numbers after is kept =
-      let set : after ≡ slice_set ps place (Some (with_copy heard window)) = is ∙ copied-places heard in (
-        subst AreApart (sym (ap open_of is ∙ copied-open heard kept.0)) (copied-apart name heard (open_of ps) kept.0),
-        (λ m. kept.1 m ∙ sym (ap (number_of m n) set ∙ number-changed name (with_copy heard) (copy-name heard) m n ps place window there)),
-        subst StartsOpen (sym set) (starts-changed ps place (with_copy heard window) kept.2),
-        omega (arith, kept.3, ap length set, length-set ps place (Some (with_copy heard window))),
-      )
+  pub copied-open : (frame : List ℕ) (heard : Heard) (i : ℕ) (w : Window) → window_at ps i ≡ Some w → is_of frame w ≡ true → open_of (places_with_copy i heard ps) ≡ with_copy_of frame heard (open_of ps)
+  copied-open frame heard i w at is = rw (framed-there frame i w at is) (copied-in heard i w at)
 
-  -- ---- without it
+  pub copied-stand : (heard : Heard) (i : ℕ) (w : Window) (after : List (Option Window)) → window_at ps i ≡ Some w → after ≡ places_with_copy i heard ps → Stand n after spots
+  copied-stand heard i w after at is =
+      let set : after ≡ slice_set ps i (Some (with_copy heard w)) = is ∙ copied-places heard i w at in
+      let opened : open_of after ≡ with_copy_in w.name heard (open_of ps) = ap open_of is ∙ copied-in heard i w at in
+      let one : Window → Window = λ v. cond (is_named w.name v) (with_copy heard v) v in
+      record {
+        names = subst AreApart (sym opened) (copied-apart w.name heard (open_of ps) s.names);
+        frames = subst AreOfFrames (sym opened) (of_frames-map one (keep_frame w.name heard) (open_of ps) s.frames);
+        filed = record {
+          devices = λ k. s.filed.devices k
+              ∙ sym (ap (spots_of device_of counter_of k n) set ∙ spots-set device_of counter_of k (with_copy heard) (λ v. ap (λ m. m.eui.0) (copy-name heard v)) (λ v. ap (λ m. m.fcnt) (copy-name heard v)) n ps i w at);
+          addresses = λ k. s.filed.addresses k
+              ∙ sym (ap (spots_of frame_address frame_mic k n) set ∙ spots-set frame_address frame_mic k (with_copy heard) (λ v. ap address_of (copy-frame heard v)) (λ v. ap mic_of (copy-frame heard v)) n ps i w at);
+        };
+        starts = subst StartsOpen (sym set) (starts-changed ps i (with_copy heard w) s.starts);
+        fits = omega (arith, s.fits, ap length set, length-set ps i (Some (with_copy heard w)));
+      }
 
-  pub taken-open : (m : ℕ) (after : List (Option Window)) → AreApart (open_of ps) → Leaves n (places_without place ps) m after → open_of after ≡ without name (open_of ps)
-  taken-open m after apart left = sym (open-left left.empty after) ∙ ap open_of (sym left.places) ∙ open-taken name ps place window there apart
+  -- ---- with a window more
 
-  pub taken-kept : (numbers fewer : List (WindowName × ℕ)) (m : ℕ) (after : List (Option Window))
-      → ((q : WindowName) → lookup ((name_eq.ghosts).eq q) fewer ≡ cond ((name_eq.ghosts).eq name q) None (lookup ((name_eq.ghosts).eq q) numbers))
-      → Leaves n (places_without place ps) m after
-      → AreApart (open_of ps) × AreNumbered n ps numbers × StartsOpen ps × (n + length ps < 18446744073709551616)
-      → AreApart (open_of after) × AreNumbered m after fewer × StartsOpen after × (m + length after < 18446744073709551616)
-  taken-kept numbers fewer m after removed left kept =
-      let ends : length (places_without place ps) ≡ left.empty + length after = ap length left.places ∙ length-left left.empty after in (
-        subst AreApart (sym (taken-open m after kept.0 left)) (NoTwo-filter of_one_name (λ w. not (is_named name w)) (open_of ps) kept.0),
-        (λ q.
-            removed q
-            ∙ ap (λ b. cond b None (lookup ((name_eq.ghosts).eq q) numbers)) (key_test name q)
-            ∙ ap (λ o. cond (same_window name q) None o) (kept.1 q)
-            ∙ sym (number-taken name q n ps place window there kept.0)
-            ∙ ap (number_of q n) left.places
-            ∙ number-left q n left.empty after
-            ∙ ap (λ i. number_of q i after) (sym left.number)),
-        left.starts,
-        omega (arith, kept.3, ends, length-set ps place None, left.number),
-      )
+  pub pushed-stand : (w : Window) (m : ℕ) (after : List (Option Window)) (more : Filed) → window_named w.name (open_of ps) ≡ None → window_of_frame w.frame (open_of ps) ≡ None
+      → after ≡ ps ++ Some w ∷ [] → m ≡ n + length ps → n + length after < 18446744073709551616
+      → Adds device_of counter_of m w spots.devices.entries more.devices.entries → Adds frame_address frame_mic m w spots.addresses.entries more.addresses.entries → Stand n after more
+  pushed-stand w m after more new_name new_frame is at fits devices addresses =
+      let opened : open_of after ≡ open_of ps ++ w ∷ [] = ap open_of is ∙ open-push ps w in
+      record {
+        names = subst AreApart (sym opened) (apart-push (open_of ps) w s.names (none_found (is_named w.name) (open_of ps) new_name));
+        frames = subst AreOfFrames (sym opened) (of_frames-push (open_of ps) w s.frames (none_found (is_of w.frame) (open_of ps) new_frame));
+        filed = subst (λ qs. AreFiled n qs more) (sym is) (filed-pushed n m ps w spots more s.filed at devices addresses);
+        starts = subst StartsOpen (sym is) (starts-push ps w s.starts);
+        fits = fits;
+      }
 
--- ---- with one window more
+  -- where a growth was refused
+  pub refused-stand : (m : ℕ) (after : List (Option Window)) (same : Filed) → after ≡ ps → m ≡ n + length ps
+      → ((k : ℕ) → Lacks m (spots_in spots.devices.entries k) → spots_in same.devices.entries k ≡ spots_in spots.devices.entries k)
+      → ((k : ℕ) → spots_in same.addresses.entries k ≡ spots_in spots.addresses.entries k) → Stand n after same
+  refused-stand m after same is at devices addresses =
+      subst (λ qs. Stand n qs same) (sym is) (record {
+        names = s.names;
+        frames = s.frames;
+        filed = record {
+          devices = rows-refused device_of counter_of n ps spots.devices.entries same.devices.entries s.filed.devices m at devices;
+          addresses = λ k. addresses k ∙ s.filed.addresses k;
+        };
+        starts = s.starts;
+        fits = s.fits;
+      })
 
-named-other : (name m : WindowName) (w : Window) → w.name ≡ name → is_named m w ≡ same_window name m
-named-other name m w is = ap (λ k. same_window k m) is
+  -- ---- with a window less
 
-module _ (n : ℕ) (ps : List (Option Window)) (w : Window) (new : window_named w.name (open_of ps) ≡ None) where
-  numbered-push : (m : WindowName) (o : Option ℕ) → number_of m n ps ≡ o
-      → option_or o (cond (is_named m w) (Some (n + length ps)) None) ≡ cond (same_window w.name m) (Some (n + length ps)) o
-  numbered-push m None at = refl
-  numbered-push m (Some k) at =
-      elim (bool_tells (same_window w.name m)) [
-        | inl same ↦ absurd (cc (sym new ∙ ap (λ q. window_named q (open_of ps)) (same_window-eq w.name m same) ∙ stands-named m ps (stands m n k ps at).0 (stands m n k ps at).1 (stands m n k ps at).3))
-        | inr other ↦ rw other
-      ]
+  module _ (name : WindowName) (i : ℕ) (w : Window) (at : window_at ps i ≡ Some w) (is : is_named name w ≡ true) (m : ℕ) (after : List (Option Window)) (left : Leaves n (places_without i ps) m after) where
+    pub taken-open : open_of after ≡ without name (open_of ps)
+    taken-open = sym (open-left left.empty after) ∙ ap open_of (sym left.places) ∙ open-taken name ps i w at is s.names
 
-  pub pushed-kept : (numbers more : List (WindowName × ℕ)) (after : List (Option Window)) → after ≡ ps ++ Some w ∷ []
-      → ((q : WindowName) → lookup ((name_eq.ghosts).eq q) more ≡ cond ((name_eq.ghosts).eq w.name q) (Some (n + length ps)) (lookup ((name_eq.ghosts).eq q) numbers))
-      → n + length after < 18446744073709551616
-      → AreApart (open_of ps) × AreNumbered n ps numbers × StartsOpen ps
-      → AreApart (open_of after) × AreNumbered n after more × StartsOpen after × (n + length after < 18446744073709551616)
-  pushed-kept numbers more after is inserted fits kept = (
-    subst AreApart (sym (ap open_of is ∙ open-push ps w)) (apart-push (open_of ps) w kept.0 (none_found (is_named w.name) (open_of ps) new)),
-    (λ q.
-        inserted q
-        ∙ ap (λ b. cond b (Some (n + length ps)) (lookup ((name_eq.ghosts).eq q) numbers)) (key_test w.name q)
-        ∙ ap (λ o. cond (same_window w.name q) (Some (n + length ps)) o) (kept.1 q)
-        ∙ sym (numbered-push q (number_of q n ps) refl)
-        ∙ sym (number-push q n ps w)
-        ∙ ap (number_of q n) (sym is)),
-    subst StartsOpen (sym is) (starts-push ps w kept.2),
-    fits,
-  )
+    pub taken-stand : (number : ℕ) (fewer : Filed) → number ≡ n + i
+        → Takes device_of number w spots.devices.entries fewer.devices.entries → Takes frame_address number w spots.addresses.entries fewer.addresses.entries → Stand m after fewer
+    taken-stand number fewer here devices addresses =
+        let ends : length (places_without i ps) ≡ left.empty + length after = ap length left.places ∙ length-left left.empty after in
+        record {
+          names = subst AreApart (sym taken-open) (NoTwo-filter of_one_name (λ v. not (is_named name v)) (open_of ps) s.names);
+          frames = subst AreOfFrames (sym taken-open) (NoTwo-filter of_one_frame (λ v. not (is_named name v)) (open_of ps) s.frames);
+          filed = record {
+            devices = rows-taken device_of counter_of n ps spots.devices.entries fewer.devices.entries s.filed.devices i number m w after at here devices left;
+            addresses = rows-taken frame_address frame_mic n ps spots.addresses.entries fewer.addresses.entries s.filed.addresses i number m w after at here addresses left;
+          };
+          starts = left.starts;
+          fits = omega (arith, s.fits, ends, length-set ps i None, left.number);
+        }
 
--- ---- the windows of the places up to one
+  -- ---- without the empty places
 
-pub open-take : (ps : List (Option Window)) (i : ℕ) (o : Option Window) → i < length ps → o ≡ get_or ps i o → open_of (take (suc i) ps) ≡ open_of (take i ps) ++ option_to_list o
-open-take [] i o within at = absurd (omega (arith, within))
-open-take (None ∷ ps) zero None within at = refl
-open-take (None ∷ ps) zero (Some w) within at = absurd (cc at)
-open-take (Some v ∷ ps) zero None within at = absurd (cc at)
-open-take (Some v ∷ ps) zero (Some w) within at = ap (λ (u : Option Window). option_to_list u) (sym at)
-open-take (None ∷ ps) (suc i) o within at = open-take ps i o (omega (arith, within)) at
-open-take (Some v ∷ ps) (suc i) o within at = ap (λ ws. v ∷ ws) (open-take ps i o (omega (arith, within)) at)
+  pub closed-open : (after : List (Option Window)) → after ≡ filter is_some ps → open_of after ≡ open_of ps
+  closed-open after is = ap open_of (is ∙ filled-is ps) ∙ open-filled (open_of ps)
+
+  pub closed-stand : (after : List (Option Window)) (anew : Filed) → after ≡ filter is_some ps → AreFiled 0 (map Some (open_of ps)) anew → Stand 0 after anew
+  closed-stand after anew is filed =
+      let filled : after ≡ map Some (open_of ps) = is ∙ filled-is ps in
+      record {
+        names = subst AreApart (sym (closed-open after is)) s.names;
+        frames = subst AreOfFrames (sym (closed-open after is)) s.frames;
+        filed = subst (λ qs. AreFiled 0 qs anew) (sym filled) filed;
+        starts = subst StartsOpen (sym filled) (starts-filled (open_of ps));
+        fits = omega (arith, s.fits, ap length filled, length-map (open_of ps), open-length ps);
+      }
+    where
+      length-map : (ws : List Window) → length (map Some ws) ≡ length ws
+      length-map [] = refl
+      length-map (w ∷ ws) = ap suc (length-map ws)

@@ -1,15 +1,13 @@
 -- Open windows as a list, in the order of their opening.
-use Rattle.std.specs.Prelude.{◌≡◌, ℕ, ◌+◌, Bool, false, not, ◌==◌, nat_lt, List, [], ◌∷◌, ◌++◌, length, map, filter, find, count_by, Option, option_map, unwrap_or, bytes_eq, if◌then◌else◌}
+use Rattle.std.specs.Prelude.{◌≡◌, ℕ, ◌+◌, Bool, false, not, ◌==◌, nat_lt, List, [], ◌∷◌, ◌++◌, length, map, filter, find, count_by, Option, bytes_eq, if◌then◌else◌}
 use Rattle.std.specs.List.{AllByRecursion}
 use Rattle.std.specs.Option.{option_map_or}
-use Rattle.std.specs.Map.{lookup}
 use Rattle.ns_types.specs.declared.identity.DevEui.{DevEui}
 use Rattle.ns_types.specs.declared.identity.WindowName.{WindowName}
 use Rattle.ns_types.specs.declared.identity.Key.{Key}
 use Rattle.ns_types.specs.declared.heard.Heard.{Heard}
 use Rattle.ns_types.specs.Identity.{same_window}
 use Rattle.ns_calls.specs.Entries.{most_copies}
-use Rattle.ns_windows.specs.declared.by_name.Named.{Named}
 use Rattle.ns_windows.specs.declared.window.Window.{Window}
 use Rattle.ns_windows.specs.declared.window.Addition.{Addition}
 use Rattle.ns_windows.specs.declared.window.Addition.TheVariants.{Copied, Crowded}
@@ -67,17 +65,3 @@ AreApart = NoTwo (λ w v. is_named w.name v)
 -- no two windows have one frame
 abbrev pub AreOfFrames : List Window → Type 0
 AreOfFrames = NoTwo (λ w v. is_of w.frame v)
-
--- what a device's count says
-abbrev pub count_in : List (DevEui × ℕ) → DevEui → ℕ
-count_in counts eui = unwrap_or (lookup (λ d. eui.0 == d.0) counts) 0
-
--- each device's count is how many windows it has
-abbrev pub AreCounted : List (DevEui × ℕ) → List Window → Type 0
-AreCounted counts windows = (eui : DevEui) → count_in counts eui ≡ count eui windows
-
--- the windows and the names by frame say the same: at each frame stands the name of its window
-abbrev pub Agree : {F : Type 0} → (F → List ℕ) → List Window → List (F × Named) → Type 0
-Agree bytes windows frames =
-    AreApart windows × AreOfFrames windows
-    × ((frame : List ℕ) → option_map (λ n. n.name) (lookup (λ k. bytes_eq frame (bytes k)) frames) ≡ option_map (λ w. w.name) (window_of_frame frame windows))

@@ -2,12 +2,13 @@
 //!
 //! A window is open from the first copy of an uplink until it is closed, and gathers the copies that other gateways heard. It holds
 //! the keys of its session, since the session can end before the window closes. The crate promises that `Windows` is a list of
-//! windows: what is found, counted, added and taken is what a list says. It stands on `ns_types` and `ns_calls`.
+//! windows: what is found, counted, added and taken is what a list says. It stands on `ns_types`, `ns_views` and
+//! `ns_calls`.
 #![tactic(auto)]
 
-mod by_name;
-mod counts;
-mod frame_key;
+mod filed;
+mod places;
+mod rows;
 mod window;
 mod windows;
 

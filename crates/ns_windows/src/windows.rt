@@ -1,18 +1,18 @@
 //! Open windows by their names and by their frames.
 
-ghost use Rattle.std.specs.Prelude.{◌≡◌, [], ◌∷◌, ◌++◌, None, is_some, map, option_map, bytes_eq, IfOk, OnOk, OnErr};
-ghost use Rattle.std.specs.Map.{lookup, KeepsOthers};
+ghost use Rattle.std.specs.Prelude.{◌≡◌, [], ◌∷◌, ◌++◌, None, is_some, map, option_map, IfOk, OnOk, OnErr};
 ghost use Rattle.ns_calls.specs.Queries.{first};
 ghost use Rattle.ns_windows.specs.Windows.{window_named, window_of_frame, new_window, count, addition, with_copy_of, without};
 
-use crate::by_name::{ByName, Named};
-use crate::counts::{Counts, count_of, lower, raise};
-use crate::frame_key::{FrameKey, LentFrame};
+use crate::filed::{Filed, count_of, filed_anew, find, no_spots, put, take};
+use crate::places::{
+    Places, Sought, add_at, is_sparse, leave_all_empty, leave_empty, put_name, take_at,
+};
 use crate::window::{Addition, BoxedWindow, Window};
-use indexmap::IndexMap;
 use ns_calls::DataFrame;
 use ns_types::{DevEui, Heard, Key, WindowName};
 use std::alloc::{AllocError, Global};
+use std::collections::VecDeque;
 use std::marker::Model;
 
 // Of how many closed windows the memory is kept.
@@ -22,58 +22,27 @@ const MOST_CLOSED: usize = 64;
 #[derive(Drop)]
 pub struct Windows {
     alloc: Global,
-    /// The windows by name.
-    names: ByName,
-    /// The name of the window of each frame.
-    frames: IndexMap<FrameKey, Named>,
-    /// How many windows each device has.
-    counts: Counts,
+    /// The windows at their places, of which the first is not empty.
+    places: Places,
+    /// The number of the first place. Those of the others follow.
+    first: usize,
+    /// The numbers of the places of the windows, by device and by address.
+    filed: Filed,
     /// Closed windows, in whose memory others are opened.
     closed: Vec<BoxedWindow>,
-    /// Keys of closed windows, in whose memory others are made.
-    keys: Vec<FrameKey>,
 }
 
 impl Model for Windows {
     ghost use Rattle.std.specs.Prelude.{List};
     ghost use Rattle.ns_windows.specs.declared.window.Window.{Window};
-    ghost use Rattle.ns_windows.specs.Windows.{Agree, AreCounted};
+    ghost use Rattle.ns_windows.specs.Places.{open_of};
+    ghost use Rattle.ns_windows.specs.Filed.{Stand};
 
     ghost Value = { List Window };
 
-    ghost view = { λ w. w.names };
+    ghost view = { λ w. open_of w.places.items };
 
-    ghost invariant = { λ w. Agree (λ k. k) w.names w.frames.entries × AreCounted w.counts.entries w.names };
-}
-
-// A frame's key, in the memory of a kept one where there is one.
-fn key_of(keys: &mut Vec<FrameKey>, alloc: Global, frame: &[u8]) -> Result<FrameKey, AllocError>
-    ensures { IfOk result (λ k. k ≡ frame.now) }
-{
-    let Some(mut key) = keys.pop() else {
-        keys.reserve(MOST_CLOSED)?;
-        return FrameKey::of(alloc, frame);
-    };
-    key.put(frame)?;
-    Ok(key)
-}
-
-// Keeps a key for its memory, where there is room for it. It takes no memory.
-fn keep_key(keys: &mut Vec<FrameKey>, key: FrameKey) {
-    if keys.len() < keys.capacity() {
-        keys.push_reserved(key);
-    }
-}
-
-// Takes a frame out, and keeps its key.
-fn take_frame(frames: &mut IndexMap<FrameKey, Named>, keys: &mut Vec<FrameKey>, frame: &[u8])
-    ensures gone { lookup (λ k. bytes_eq frame.now k) frames.new.entries ≡ None }
-    ensures others { KeepsOthers (λ x y. bytes_eq x y) (λ k. bytes_eq frame.now k) frames.old.entries frames.new.entries }
-{
-    let Some((key, _)) = frames.swap_remove_entry(LentFrame { bytes: frame }) else {
-        return;
-    };
-    keep_key(keys, key);
+    ghost invariant = { λ w. Stand w.first w.places.items w.filed };
 }
 
 impl Windows {
@@ -83,11 +52,10 @@ impl Windows {
     {
         Windows {
             alloc,
-            names: ByName::new(alloc),
-            frames: IndexMap::new(alloc),
-            counts: IndexMap::new(alloc),
+            places: VecDeque::new(alloc),
+            first: 0,
+            filed: no_spots(alloc),
             closed: Vec::new(alloc),
-            keys: Vec::new(alloc),
         }
     }
 
@@ -95,37 +63,47 @@ impl Windows {
     pub fn count(&self, eui: DevEui) -> usize
         ensures { result ≡ count eui self.now }
     {
-        count_of(&self.counts, eui)
+        count_of(&self.filed, eui)
     }
 
     /// The name of the window that was opened first.
     pub fn oldest(&self) -> Option<WindowName>
         ensures { result ≡ option_map (λ w. w.name) (first self.now) }
     {
-        self.names.oldest()
+        match self.places.front() {
+            Some(Some(window)) => Some(window.as_ref().name),
+            _ => None,
+        }
     }
 
     /// The names of the windows, in the order of their opening. `NoMemory` (`AllocError`) where a growth was refused.
     pub fn names(&self, alloc: Global) -> Result<Vec<WindowName>, AllocError>
         ensures { IfOk result (λ v. v.items ≡ map (λ w. w.name) self.now) }
     {
-        self.names.names(alloc)
+        let mut names = Vec::with_capacity(alloc, self.places.len())?;
+        for at in 0..self.places.len() {
+            let Some(place) = self.places.get(at) else {
+                unreachable!()
+            };
+            put_name(&mut names, place)?;
+        }
+        Ok(names)
     }
 
     /// Whether a window of this name is open.
     pub fn is_open(&self, name: &WindowName) -> bool
         ensures { result ≡ is_some (window_named name.now self.now) }
     {
-        self.names.has(name)
+        find(&self.places, self.first, &self.filed, Sought::Name(name)).is_some()
     }
 
     /// Adds a copy to the window of a frame of equal bytes, where there is one, and where it has fewer than 16.
-    pub fn add_copy(&mut self, frame: &[u8], heard: &Heard) -> Option<Addition>
+    pub fn add_copy(&mut self, frame: &DataFrame, heard: &Heard) -> Option<Addition>
         ensures result { result ≡ option_map addition (window_of_frame frame.now self.old) }
         ensures windows { self.new ≡ with_copy_of frame.now heard.now self.old }
     {
-        let named = self.frames.get(LentFrame { bytes: frame })?;
-        self.names.add_copy(named, heard)
+        let place = find(&self.places, self.first, &self.filed, Sought::Frame(frame))?;
+        add_at(&mut self.places, place, heard)
     }
 
     /// Adds a window at the end. Where the growth is refused, nothing has changed.
@@ -173,6 +151,19 @@ impl Windows {
         }
     }
 
+    // Leaves out all empty places, where memory is there for it.
+    #[inline(never)]
+    fn close_up(&mut self)
+        ensures { self.new ≡ self.old }
+    {
+        let Ok(filed) = filed_anew(self.alloc, &self.places) else {
+            return;
+        };
+        leave_all_empty(&mut self.places);
+        self.first = 0;
+        self.filed = filed;
+    }
+
     // Adds a window at the end. Where the growth is refused, nothing has changed.
     #[inline(always)]
     fn put_boxed(&mut self, window: BoxedWindow) -> Result<(), AllocError>
@@ -181,13 +172,27 @@ impl Windows {
         ensures ok { OnOk result (self.new ≡ self.old ++ window ∷ []) }
         ensures err { OnErr result (self.new ≡ self.old) }
     {
-        let name = window.as_ref().name;
-        let frame = key_of(&mut self.keys, self.alloc, window.as_ref().frame.bytes())?;
-        self.frames.reserve(1)?;
-        self.counts.reserve(1)?;
-        let number = self.names.push(window)?;
-        self.frames.insert(frame, Named { name, number }).unwrap();
-        raise(&mut self.counts, name.eui);
+        if is_sparse(&self.places) {
+            self.close_up();
+        }
+        self.put_last(window)
+    }
+
+    // The same at a further place.
+    #[inline(always)]
+    fn put_last(&mut self, window: BoxedWindow) -> Result<(), AllocError>
+        requires name { window_named window.name self.old ≡ None }
+        requires frame { window_of_frame window.frame self.old ≡ None }
+        ensures ok { OnOk result (self.new ≡ self.old ++ window ∷ []) }
+        ensures err { OnErr result (self.new ≡ self.old) }
+    {
+        let number = self.first + self.places.len();
+        if number == usize::MAX {
+            return Err(AllocError);
+        }
+        self.places.reserve(1)?;
+        put(&mut self.filed, self.alloc, window.as_ref(), number)?;
+        self.places.push_back_reserved(Some(window));
         Ok(())
     }
 
@@ -205,10 +210,10 @@ impl Windows {
         ensures result { result ≡ window_named name.now self.old }
         ensures windows { self.new ≡ without name.now self.old }
     {
-        let window = self.names.remove(name)?;
-        let lent = window.as_ref();
-        take_frame(&mut self.frames, &mut self.keys, lent.frame.bytes());
-        lower(&mut self.counts, lent.name.eui);
+        let place = find(&self.places, self.first, &self.filed, Sought::Name(name))?;
+        let window = take_at(&mut self.places, place)?;
+        take(&mut self.filed, window.as_ref(), self.first + place);
+        leave_empty(&mut self.places, &mut self.first);
         Some(window)
     }
 }

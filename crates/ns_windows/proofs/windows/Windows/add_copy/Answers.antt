@@ -1,38 +1,29 @@
-use Rattle.std.proofs.Common.{◌≡◌, cond, Option, Some, option_map, sym, ap, ◌∙◌}
-use Rattle.ns_windows.specs.declared.by_name.Named.{Named}
+use Rattle.std.proofs.Common.{◌≡◌, true, Some, option_map, sym, ap, ◌∙◌}
 use Rattle.ns_windows.specs.declared.window.Window.{Window}
-use Rattle.ns_windows.specs.Windows.{is_named, window_of_frame, addition, with_copy}
-use Rattle.ns_windows.proofs.Names.{copied-apart, keep_name}
-use Rattle.ns_windows.proofs.Framed.{framed-map, of_frames-map}
-use Rattle.ns_windows.proofs.Counted.{count-map}
-use Rattle.ns_windows.proofs.Names.{keep_frame}
-use Rattle.ns_windows.proofs.Found.{agreed, copied-framed}
+use Rattle.ns_windows.specs.Windows.{is_of, window_of_frame, with_copy_of, addition}
+use Rattle.ns_windows.specs.Places.{open_of, window_at}
+use Rattle.ns_windows.proofs.Opened.{passes-there}
+use Rattle.ns_windows.proofs.Standing.{framed-there, copied-open, copied-stand}
 use Rattle.ns_windows.proofs.windows.Windows.add_copy.Goals as goal
-use Rattle.ns_windows.proofs.windows.Windows.add_copy.Goals.{After-add_copy}
+use Rattle.ns_windows.proofs.windows.Windows.add_copy.Goals.{After-add_at}
 
--- the name that was found is that of the frame's window
-at : (c : After-add_copy) → Some c.in_ok-named.named.now.name ≡ option_map (λ w. w.name) (window_of_frame c.args.frame.now c.self.inside.names)
-at c = ap (λ (o : Option Named). option_map (λ n. n.name) o) c.in_ok-named.ensures.value ∙ c.self.invariant.0.2 c.args.frame.now
+here : (c : After-add_at) → (w : Window) × (window_at c.self.inside.places.items c.in_ok-place.place ≡ Some w) × (is_of c.args.frame.now w ≡ true)
+here c = passes-there (is_of c.args.frame.now) c.self.inside.places.items c.in_ok-place.place c.in_ok-place.ensures.found
 
 pub invariant_of-self : goal.invariant_of-self
 invariant_of-self c =
-    let name = c.in_ok-named.named.now.name in
-    let heard = c.args.heard.now in
-    let ws = c.self.inside.names in
-    let i = c.self.invariant.0 in
-    let one : Window → Window = λ w. cond (is_named name w) (with_copy heard w) w in
-    rw c.add_copy.ensures.windows (
-      (
-        copied-apart name heard ws i.0,
-        of_frames-map one (keep_name name heard) (keep_frame name heard) ws i.1,
-        (λ f. i.2 f ∙ sym (framed-map one (keep_name name heard) (keep_frame name heard) f ws)),
-      ),
-      (λ eui. c.self.invariant.1 eui ∙ sym (count-map eui one (keep_name name heard) ws)),
-    )
+    copied-stand c.self.inside.first c.self.inside.places.items c.self.inside.filed c.self.invariant c.args.heard.now c.in_ok-place.place (here c).0 c.add_at.new.places.items (here c).1 c.add_at.ensures.places
 
 pub returns-clause-result : goal.returns-clause-result
 returns-clause-result c =
-    rw (← c.self.view_is) (c.add_copy.ensures.result ∙ ap (option_map addition) (agreed c.args.frame.now c.self.inside.names c.in_ok-named.named.now.name c.self.invariant.0.0 (at c)))
+    c.add_at.ensures.result
+    ∙ ap (option_map addition)
+    ((here c).1
+    ∙ sym (framed-there c.self.inside.first c.self.inside.places.items c.self.inside.filed c.self.invariant c.args.frame.now c.in_ok-place.place (here c).0 (here c).1 (here c).2)
+    ∙ ap (window_of_frame c.args.frame.now) c.self.view_is)
 
 pub returns-clause-windows : goal.returns-clause-windows
-returns-clause-windows c = rw (← c.self.view_is) (c.add_copy.ensures.windows ∙ copied-framed c.args.frame.now c.self.inside.names c.in_ok-named.named.now.name c.args.heard.now (at c))
+returns-clause-windows c =
+    ap open_of c.add_at.ensures.places
+    ∙ copied-open c.self.inside.first c.self.inside.places.items c.self.inside.filed c.self.invariant c.args.frame.now c.args.heard.now c.in_ok-place.place (here c).0 (here c).1 (here c).2
+    ∙ ap (with_copy_of c.args.frame.now c.args.heard.now) c.self.view_is

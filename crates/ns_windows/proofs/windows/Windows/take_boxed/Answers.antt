@@ -1,51 +1,52 @@
-use Rattle.std.proofs.Common.{◌≡◌, ℕ, List, ◌+◌, ◌-◌, arith, None, bytes_eq, not, sym, ap, ◌∙◌}
-use Rattle.std.specs.Map.{lookup, KeepsOthers}
+use Rattle.std.proofs.Common.{◌≡◌, ◌+◌, true, None, Some, refl, sym, ap, subst, ◌∙◌}
 use Rattle.ns_windows.specs.declared.window.Window.{Window}
-use Rattle.ns_windows.specs.Windows.{is_named, without, count, count_in, AreCounted}
-use Rattle.ns_windows.proofs.Pairs.{NoTwo-filter}
-use Rattle.ns_windows.proofs.Names.{of_one_name}
-use Rattle.ns_windows.proofs.Framed.{frames-taken, of_one_frame}
-use Rattle.ns_windows.proofs.Counted.{one_of, count-taken}
-use Rattle.ns_windows.proofs.Places.{none_found, filter-none}
+use Rattle.ns_windows.specs.Windows.{is_named, window_named, without}
+use Rattle.ns_windows.specs.Places.{open_of, window_at, places_without, Leaves}
+use Rattle.ns_windows.specs.Rows.{device_of, frame_address, Takes}
+use Rattle.ns_windows.proofs.Passing.{none_found, filter-none}
+use Rattle.ns_windows.proofs.Opened.{passes-there}
+use Rattle.ns_windows.proofs.Standing.{named-there, taken-open, taken-stand}
 use Rattle.ns_windows.proofs.windows.Windows.take_boxed.Goals as goal
-use Rattle.ns_windows.proofs.windows.Windows.take_boxed.Goals.{After-from_residual, After-lower}
+use Rattle.ns_windows.proofs.windows.Windows.take_boxed.Goals.{After-leave_empty}
 
-stays : (c : After-from_residual) → c.remove.new.self ≡ c.self.inside.names
-stays c =
+pub returns-in_err-place-clause-windows : goal.returns-in_err-place-clause-windows
+returns-in_err-place-clause-windows c =
     let name = c.args.name.now in
-    let ws = c.self.inside.names in
-    c.remove.ensures.windows ∙ filter-none (is_named name) ws (none_found (is_named name) ws (sym c.in_err-window.ensures.result))
+    sym (filter-none (is_named name) c.args.self.now (none_found (is_named name) c.args.self.now (ap (window_named name) (sym c.self.view_is) ∙ c.in_err-place.ensures.none)))
 
-pub invariant_of-self : goal.invariant_of-self
-invariant_of-self c = rw (stays c) c.self.invariant
+here : (c : After-leave_empty) → (w : Window) × (window_at c.self.inside.places.items c.in_ok-place.place ≡ Some w) × (is_named c.args.name.now w ≡ true)
+here c = passes-there (is_named c.args.name.now) c.self.inside.places.items c.in_ok-place.place c.in_ok-place.ensures.found
 
-frame_of : (c : After-lower) → c.bytes.result.now ≡ c.in_ok-window.window.frame
-frame_of c = c.bytes.ensures.bytes ∙ ap (λ (w : Window). w.frame) c.as_ref-lent.ensures
+-- the window that was taken is the one at the place
+taken : (c : After-leave_empty) → (here c).0 ≡ c.in_ok-window.window
+taken c = by (sym (here c).1 ∙ sym c.in_ok-window.ensures.result)
+  where
+    by : {v w : Window} → Some v ≡ Some w → v ≡ w
+    by same = cc same
 
-keeps : (c : After-lower) → KeepsOthers (λ x y. bytes_eq x y) (λ k. bytes_eq c.in_ok-window.window.frame k) c.self.inside.frames.entries c.take_frame.new.frames.entries
-keeps c = rw (← frame_of c) c.take_frame.ensures.others
-
-gone : (c : After-lower) → lookup (λ k. bytes_eq c.in_ok-window.window.frame k) c.take_frame.new.frames.entries ≡ None
-gone c = rw (← frame_of c) c.take_frame.ensures.gone
-
-counted : (c : After-lower) → AreCounted c.lower.new.counts.entries (without c.args.name.now c.self.inside.names)
-counted c eui =
-    let ws = c.self.inside.names in
-    let w = c.in_ok-window.window in
-    let lowered : count_in c.lower.new.counts.entries eui ≡ count_in c.self.inside.counts.entries eui - one_of eui w = rw c.as_ref-lent.ensures at (c.lower.ensures eui) in
-    let taken : count eui ws ≡ count eui (without c.args.name.now ws) + one_of eui w = count-taken eui c.args.name.now ws w c.self.invariant.0.0 (sym c.in_ok-window.ensures.result) in
-    omega (arith, lowered, c.self.invariant.1 eui, taken)
+left : (c : After-leave_empty) → Leaves c.self.inside.first (places_without c.in_ok-place.place c.self.inside.places.items) c.leave_empty.new.first c.leave_empty.new.places.items
+left c = subst (λ ps. Leaves c.self.inside.first ps c.leave_empty.new.first c.leave_empty.new.places.items) c.take_at.ensures.places c.leave_empty.ensures
 
 pub invariant_of-self-2 : goal.invariant_of-self-2
 invariant_of-self-2 c =
+    let number = c.self.inside.first + c.in_ok-place.place in
+    let old = c.self.inside.filed in
+    let fewer = c.take.new.filed in
+    let window = c.as_ref.ensures ∙ sym (taken c) in
+    taken-stand c.self.inside.first c.self.inside.places.items old c.self.invariant c.args.name.now c.in_ok-place.place (here c).0 (here c).1 (here c).2 c.leave_empty.new.first c.leave_empty.new.places.items (left c)
+    number fewer refl
+    (subst (λ (w : Window). Takes device_of number w old.devices.entries fewer.devices.entries) window c.take.ensures.devices)
+    (subst (λ (w : Window). Takes frame_address number w old.addresses.entries fewer.addresses.entries) window c.take.ensures.addresses)
+
+pub returns-clause-result : goal.returns-clause-result
+returns-clause-result c =
     let name = c.args.name.now in
-    let ws = c.self.inside.names in
-    let i = c.self.invariant.0 in
-    rw c.remove.ensures.windows (
-      (
-        NoTwo-filter of_one_name (λ w. not (is_named name w)) ws i.0,
-        NoTwo-filter of_one_frame (λ w. not (is_named name w)) ws i.1,
-        (λ f. frames-taken (λ (k : List ℕ). k) c.self.inside.frames.entries c.take_frame.new.frames.entries name ws c.in_ok-window.window i.0 i.1 (sym c.in_ok-window.ensures.result) (keeps c) (gone c) f (i.2 f)),
-      ),
-      counted c,
-    )
+    ap Some (sym (taken c))
+    ∙ sym (named-there c.self.inside.first c.self.inside.places.items c.self.inside.filed c.self.invariant name c.in_ok-place.place (here c).0 (here c).1 (here c).2)
+    ∙ ap (window_named name) c.self.view_is
+
+pub returns-clause-windows : goal.returns-clause-windows
+returns-clause-windows c =
+    let name = c.args.name.now in
+    taken-open c.self.inside.first c.self.inside.places.items c.self.inside.filed c.self.invariant name c.in_ok-place.place (here c).0 (here c).1 (here c).2 c.leave_empty.new.first c.leave_empty.new.places.items (left c)
+    ∙ ap (without name) c.self.view_is

@@ -1,0 +1,37 @@
+use Rattle.std.proofs.Common.{◌≡◌, ℕ, Option, None, Some, true, IfNone, find, sym, ap, subst, ◌∙◌}
+use Rattle.std.specs.Int.{w32, from_le_bytes}
+use Rattle.ns_types.specs.declared.identity.WindowName.{WindowName}
+use Rattle.ns_calls.proofs.NameLemmas.{same_window-eq}
+use Rattle.ns_windows.specs.declared.window.Window.{Window}
+use Rattle.ns_windows.specs.Windows.{is_named, is_of}
+use Rattle.ns_windows.specs.Places.{open_of}
+use Rattle.ns_windows.specs.Rows.{device_of, counter_of, address_of, mic_of, frame_address, frame_mic, NoneIsThere}
+use Rattle.ns_windows.proofs.Frames.{frame-is}
+use Rattle.ns_windows.proofs.Sought.{none-sought}
+use Rattle.ns_windows.proofs.filed.find.Goals as goal
+
+if_none : {P Q : Type 0} (o : Option ℕ) → (P → Q) → IfNone o P → IfNone o Q
+if_none None f holds = f holds
+if_none (Some place) f holds = tt
+
+pub returns-in-Name-clause-none : goal.returns-in-Name-clause-none
+returns-in-Name-clause-none c =
+    let name = c.in-Name.name.now in
+    let ps = c.args.places.now.items in
+    rw c.in-Name.is (if_none c.place_of.result
+    (λ none.
+    none-sought (is_named name) device_of counter_of name.eui.0 name.fcnt (λ w is. ap (λ (m : WindowName). m.eui.0) (same_window-eq w.name name is)) (λ w is. ap (λ (m : WindowName). m.fcnt) (same_window-eq w.name name is)) c.args.first ps
+    (subst (NoneIsThere (is_named name) c.args.first name.fcnt ps) (c.spots_at-spots.ensures ∙ c.requires.devices name.eui.0) none))
+    (rw c.in-Name.is at c.place_of.ensures.none))
+
+pub returns-in-Frame-clause-none : goal.returns-in-Frame-clause-none
+returns-in-Frame-clause-none c =
+    let frame = c.in-Frame.frame.now in
+    let ps = c.args.places.now.items in
+    let address : c.address_of.result ≡ address_of frame = c.address_of.ensures ∙ ap address_of c.view-frame.ensures in
+    let mic : c.mic_of.result ≡ mic_of frame = c.mic_of.ensures ∙ ap mic_of c.view-frame.ensures in
+    rw c.in-Frame.is (if_none c.place_of-in-Frame.result
+    (λ none.
+    none-sought (is_of frame) frame_address frame_mic c.address_of.result c.mic_of.result (λ w is. ap address_of (frame-is frame w is) ∙ sym address) (λ w is. ap mic_of (frame-is frame w is) ∙ sym mic) c.args.first ps
+    (subst (NoneIsThere (is_of frame) c.args.first c.mic_of.result ps) (c.spots_at-spots-in-Frame.ensures ∙ c.requires.addresses c.address_of.result) none))
+    (rw c.in-Frame.is at c.place_of-in-Frame.ensures.none))

@@ -1,0 +1,32 @@
+use Rattle.std.proofs.Common.{◌≡◌, ◌+◌, ◌++◌, ◌∷◌, [], Some, length, ap, subst, ◌∙◌, arith}
+use Rattle.ns_windows.specs.declared.window.Window.{Window}
+use Rattle.ns_windows.specs.Windows.{window_named, window_of_frame}
+use Rattle.ns_windows.specs.Places.{open_of}
+use Rattle.ns_windows.specs.Rows.{device_of, counter_of, frame_address, frame_mic, Adds}
+use Rattle.ns_windows.proofs.Opened.{open-push}
+use Rattle.ns_windows.proofs.Standing.{pushed-stand, refused-stand}
+use Rattle.ns_windows.proofs.windows.Windows.put_last.Goals as goal
+
+pub invariant_of-self-in_err-put : goal.invariant_of-self-in_err-put
+invariant_of-self-in_err-put c =
+    refused-stand c.self.inside.first c.self.inside.places.items c.self.inside.filed c.self.invariant (c.self.inside.first + c.len.result) c.reserve.new.self.items c.put.new.filed c.reserve.ensures.items (ap (λ l. c.self.inside.first + l) (c.len.ensures ∙ c.self.inside.places.ok.0))
+    c.in_err-put.ensures.err_devices c.in_err-put.ensures.err_addresses
+
+pub invariant_of-self-2 : goal.invariant_of-self-2
+invariant_of-self-2 c =
+    let ps = c.self.inside.places.items in
+    let old = c.self.inside.filed in
+    let more = c.put.new.filed in
+    let m = c.self.inside.first + c.len.result in
+    let number : m ≡ c.self.inside.first + length ps = ap (λ l. c.self.inside.first + l) (c.len.ensures ∙ c.self.inside.places.ok.0) in
+    let pushed : c.push_back_reserved.new.self.items ≡ ps ++ Some c.args.window ∷ [] = c.push_back_reserved.ensures.items ∙ ap (λ qs. qs ++ Some c.args.window ∷ []) c.reserve.ensures.items in
+    pushed-stand c.self.inside.first ps old c.self.invariant c.args.window m c.push_back_reserved.new.self.items more
+    (ap (window_named c.args.window.name) c.self.view_is ∙ c.requires.name) (ap (window_of_frame c.args.window.frame) c.self.view_is ∙ c.requires.frame) pushed number
+    (omega (arith, c.if-number.false, number, c.reserve.ensures.len, c.push_back_reserved.ensures.len, c.push_back_reserved.new.self.ok.0, c.self.inside.places.ok.0, c.self.invariant.fits))
+    (subst (λ (w : Window). Adds device_of counter_of m w old.devices.entries more.devices.entries) c.as_ref.ensures c.in_ok-put.ensures.devices)
+    (subst (λ (w : Window). Adds frame_address frame_mic m w old.addresses.entries more.addresses.entries) c.as_ref.ensures c.in_ok-put.ensures.addresses)
+
+pub returns-clause-ok : goal.returns-clause-ok
+returns-clause-ok c =
+    ap open_of (c.push_back_reserved.ensures.items ∙ ap (λ qs. qs ++ Some c.args.window ∷ []) c.reserve.ensures.items)
+    ∙ open-push c.self.inside.places.items c.args.window ∙ ap (λ ws. ws ++ c.args.window ∷ []) c.self.view_is

@@ -1,0 +1,68 @@
+-- Where windows are, by device and by address: for each window the number of its place, and a mark that tells it from most others of its row.
+use Rattle.std.specs.Prelude.{◌≡◌, ℕ, suc, ◌-◌, Bool, false, ◌&&◌, not, ◌==◌, List, [], ◌∷◌, ◌++◌, filter, Option, Some, None, if◌then◌else◌}
+use Rattle.std.specs.Int.{w32, from_le_bytes}
+use Rattle.std.specs.List.{AllByRecursion}
+use Rattle.std.specs.Option.{option_map_or}
+use Rattle.std.specs.Map.{lookup}
+use Rattle.smallvec.specs.SmallVec.{SmallVec}
+use Rattle.ns_views.specs.Frame.{data_fields}
+use Rattle.ns_windows.specs.declared.rows.Spot.{Spot}
+use Rattle.ns_windows.specs.declared.window.Window.{Window}
+use Rattle.ns_windows.specs.Places.{passes_at}
+
+-- the device of a window, and its frame counter; the address of a frame, and its MIC
+abbrev pub device_of : Window → ℕ
+device_of w = w.name.eui.0
+
+abbrev pub counter_of : Window → ℕ
+counter_of w = w.name.fcnt
+
+abbrev pub address_of : List ℕ → ℕ
+address_of frame = (data_fields frame).addr
+
+abbrev pub mic_of : List ℕ → ℕ
+mic_of frame = from_le_bytes w32 (data_fields frame).mic
+
+abbrev pub frame_address : Window → ℕ
+frame_address w = address_of w.frame
+
+abbrev pub frame_mic : Window → ℕ
+frame_mic w = mic_of w.frame
+
+-- the spots that a table has for a key
+abbrev pub spots_in : List (ℕ × SmallVec Spot) → ℕ → List Spot
+spots_in rows key = option_map_or (λ v. v.items) (lookup (λ k. key == k) rows) []
+
+-- the spots of the windows that have this key, where the first place has this number
+abbrev pub spots_of : (Window → ℕ) → (Window → ℕ) → ℕ → ℕ → List (Option Window) → List Spot
+spots_of key mark k n [] = []
+spots_of key mark k n (None ∷ ps) = spots_of key mark k (suc n) ps
+spots_of key mark k n (Some w ∷ ps) =
+    if key w == k then record { number = n; mark = mark w } ∷ spots_of key mark k (suc n) ps else spots_of key mark k (suc n) ps
+
+-- each key has the spots of its windows
+abbrev pub AreInRows : (Window → ℕ) → (Window → ℕ) → ℕ → List (Option Window) → List (ℕ × SmallVec Spot) → Type 0
+AreInRows key mark n places rows = (k : ℕ) → spots_in rows k ≡ spots_of key mark k n places
+
+-- the spots but for that of a number
+abbrev pub spots_without : ℕ → List Spot → List Spot
+spots_without number spots = filter (λ s. not (s.number == number)) spots
+
+-- a window's spot comes behind those of its key
+abbrev pub Adds : (Window → ℕ) → (Window → ℕ) → ℕ → Window → List (ℕ × SmallVec Spot) → List (ℕ × SmallVec Spot) → Type 0
+Adds key mark number w old new = (k : ℕ) → spots_in new k ≡ spots_in old k ++ (if key w == k then record { number = number; mark = mark w } ∷ [] else [])
+
+-- the spot of a number goes out of those of a window's key
+abbrev pub Takes : (Window → ℕ) → ℕ → Window → List (ℕ × SmallVec Spot) → List (ℕ × SmallVec Spot) → Type 0
+Takes key number w old new = (k : ℕ) → spots_in new k ≡ (if key w == k then spots_without number (spots_in old k) else spots_in old k)
+
+-- no spot has the number
+abbrev pub Lacks : ℕ → List Spot → Type 0
+Lacks number spots = spots_without number spots ≡ spots
+
+-- whether a window that passes is at a spot with this mark
+abbrev pub is_there : (Window → Bool) → ℕ → ℕ → List (Option Window) → Spot → Bool
+is_there test n mark places s = (s.mark == mark) && passes_at test (s.number - n) places
+
+abbrev pub NoneIsThere : (Window → Bool) → ℕ → ℕ → List (Option Window) → List Spot → Type 0
+NoneIsThere test n mark places spots = AllByRecursion (λ s. is_there test n mark places s ≡ false) spots

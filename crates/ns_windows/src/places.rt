@@ -1,0 +1,144 @@
+//! Windows at places in a row, in the order of their opening.
+
+ghost use Rattle.std.specs.Prelude.{◌≡◌, true, ◌<◌, ◌+◌, ◌^◌, ◌++◌, length, map, option_map, option_to_list, filter, is_some, IfSome, IfNone, OnOk};
+ghost use Rattle.ns_windows.specs.Windows.{with_copy, addition};
+ghost use Rattle.ns_windows.specs.Places.{window_at, passes, passes_at, places_with_copy, places_without, Leaves};
+ghost use Rattle.ns_windows.specs.Rows.{NoneIsThere};
+
+use crate::rows::Spot;
+use crate::window::{Addition, BoxedWindow, Window};
+use ns_calls::DataFrame;
+use ns_types::{Heard, WindowName};
+use std::alloc::AllocError;
+use std::collections::VecDeque;
+
+/// Windows in the order of their opening, each at a place. A window that was closed leaves its place empty.
+pub(crate) type Places = VecDeque<Option<BoxedWindow>>;
+
+/// What a window is found by.
+#[derive(Clone, Copy)]
+pub(crate) enum Sought<'a> {
+    Name(&'a WindowName),
+    Frame(&'a DataFrame),
+}
+
+// Whether a window is the one that is sought.
+fn is_sought(sought: Sought, window: &Window) -> bool
+    ensures { result ≡ passes sought.entry window.now }
+{
+    match sought {
+        Sought::Name(name) => window.name == *name,
+        Sought::Frame(frame) => window.frame.bytes() == frame.bytes(),
+    }
+}
+
+// Whether the window that is sought is at a place.
+fn is_at(places: &Places, place: usize, sought: Sought) -> bool
+    ensures { result ≡ passes_at (passes sought.entry) place places.now.items }
+{
+    let Some(Some(window)) = places.get(place) else {
+        return false;
+    };
+    is_sought(sought, window.as_ref())
+}
+
+/// The place of the window that is sought, where the first place has this number and the window has this mark, if it is at one of these
+/// spots.
+pub(crate) fn place_of(
+    places: &Places,
+    first: usize,
+    spots: &[Spot],
+    mark: u32,
+    sought: Sought,
+) -> Option<usize>
+    ensures found { IfSome result (λ place. passes_at (passes sought.entry) place places.now.items ≡ true) }
+    ensures none { IfNone result (NoneIsThere (passes sought.entry) first mark places.now.items spots.now) }
+{
+    for spot in spots {
+        let place = spot.number.saturating_sub(first);
+        if spot.mark == mark && is_at(places, place, sought) {
+            return Some(place);
+        }
+    }
+    None
+}
+
+// Adds a copy to the window that stands here.
+fn add_here(place: &mut Option<BoxedWindow>, heard: &Heard) -> Option<Addition>
+    ensures result { result ≡ option_map addition place.old }
+    ensures window { place.new ≡ option_map (with_copy heard.now) place.old }
+{
+    let Some(window) = place else {
+        return None;
+    };
+    Some(window.add_copy(heard))
+}
+
+/// Adds a copy to the window at a place, where it has fewer than 16.
+pub(crate) fn add_at(places: &mut Places, place: usize, heard: &Heard) -> Option<Addition>
+    ensures result { result ≡ option_map addition (window_at places.old.items place) }
+    ensures places { places.new.items ≡ places_with_copy place heard.now places.old.items }
+{
+    add_here(places.get_mut(place)?, heard)
+}
+
+/// Takes the window at a place out, which is empty then.
+pub(crate) fn take_at(places: &mut Places, place: usize) -> Option<BoxedWindow>
+    ensures result { result ≡ window_at places.old.items place }
+    ensures places { places.new.items ≡ places_without place places.old.items }
+{
+    let Some(window) = places.get_mut(place) else {
+        return None;
+    };
+    window.take()
+}
+
+/// Puts the name of the window that stands here behind others, if there is one.
+pub(crate) fn put_name(
+    names: &mut Vec<WindowName>,
+    place: &Option<BoxedWindow>,
+) -> Result<(), AllocError>
+    ensures { OnOk result (names.new.items ≡ names.old.items ++ map (λ w. w.name) (option_to_list place.now)) }
+{
+    let Some(window) = place else {
+        return Ok(());
+    };
+    names.push(window.as_ref().name)?;
+    Ok(())
+}
+
+/// Leaves out the empty places before the first window.
+pub(crate) fn leave_empty(places: &mut Places, first: &mut usize)
+    requires { first.old + length places.old.items < 2 ^ 64 }
+    ensures { Leaves first.old places.old.items first.new places.new.items }
+{
+    while let Some(place) = places.front() {
+        if place.is_some() {
+            return;
+        }
+        places.pop_front();
+        *first += 1;
+    }
+}
+
+/// Leaves out all empty places.
+pub(crate) fn leave_all_empty(places: &mut Places)
+    ensures { places.new.items ≡ filter is_some places.old.items }
+{
+    places.retain(|place| place.is_some());
+}
+
+/// Whether no place is left before the next growth, and fewer than half of them have a window. Few places stay as they are.
+pub(crate) fn is_sparse(places: &Places) -> bool {
+    const FEW: usize = 64;
+    if places.len() < FEW || places.len() < places.capacity() {
+        return false;
+    }
+    let mut windows: usize = 0;
+    for at in 0..places.len() {
+        if let Some(Some(_window)) = places.get(at) {
+            windows = windows.saturating_add(1);
+        }
+    }
+    windows < places.len() / 2
+}
