@@ -16,7 +16,8 @@ use Rattle.ns_sessions.proofs.OpenTickets.{same_device-refl}
 use Rattle.ns_sessions.specs.Record.{DeviceRecord}
 use Rattle.ns_devices.specs.declared.own.Own.{Own}
 use Rattle.ns_devices.specs.Devices.{is_own, is_addressed, change_first, with_state}
-use Rattle.ns_devices.specs.Places.{Agree, places_from, places_in}
+use Rattle.ns_rows.specs.Rows.{row_in}
+use Rattle.ns_devices.specs.Places.{Agree, places_from}
 use Rattle.ns_devices.proofs.Addressed.{places-push, places-set}
 use Rattle.ns_devices.proofs.Positions.{set-placed}
 
@@ -69,12 +70,12 @@ euis-push es o euis =
     ∙ ap (λ ks. ks ++ eui o ∷ []) euis
     ∙ sym (ap (map eui) (values-push es (eui o) o) ∙ map-append eui (values_of es) (o ∷ []))
 
-pub places-added : (es : List (DevEui × Own)) (old new : List (DevAddr × SmallVec ℕ)) (o : Own) → Agree es old
-    → ((a : DevAddr) → places_in new a ≡ places_in old a ++ cond (o.addr.0 == a.0) (length es ∷ []) [])
-    → (a : DevAddr) → places_in new a ≡ places_from (λ x. x.addr.0 == a.0) 0 (values_of (es ++ (o.device.eui, o) ∷ []))
+pub places-added : (es : List (DevEui × Own)) (old new : List (ℕ × SmallVec ℕ)) (o : Own) → Agree es old
+    → ((a : ℕ) → row_in new a ≡ row_in old a ++ cond (o.addr.0 == a) (length es ∷ []) [])
+    → (a : ℕ) → row_in new a ≡ places_from (λ x. x.addr.0 == a) 0 (values_of (es ++ (o.device.eui, o) ∷ []))
 places-added es old new o agree more a =
     let long : length (values_of es) ≡ length es = length-map es (λ (e : DevEui × Own). e.1) in
-    let pushed = places-push (λ (x : Own). x.addr.0 == a.0) 0 (values_of es) o in
+    let pushed = places-push (λ (x : Own). x.addr.0 == a) 0 (values_of es) o in
     grind (arith, more a, agree.places a, long, values-push es (eui o) o, pushed)
 
 -- ---- a write of a device that keeps its EUI and its address
@@ -99,22 +100,22 @@ euis-set [] i x y at same = refl
 euis-set (o ∷ os) zero x y at same = let this : o ≡ x = cc in ap (λ e. e ∷ map eui os) (same ∙ ap eui (sym this))
 euis-set (o ∷ os) (suc i) x y at same = ap (λ es. eui o ∷ es) (euis-set os i x y at same)
 
-pub agree-set : (es : List (DevEui × Own)) (table : List (DevAddr × SmallVec ℕ)) (i : ℕ) (x y : Own) → Agree es table → slice_get (values_of es) i ≡ Some x
+pub agree-set : (es : List (DevEui × Own)) (table : List (ℕ × SmallVec ℕ)) (i : ℕ) (x y : Own) → Agree es table → slice_get (values_of es) i ≡ Some x
     → y.device ≡ x.device → y.addr ≡ x.addr → Agree (set_value_at es i y) table
 agree-set es table i x y agree at device addr = record {
   euis = keys-set es i y ∙ agree.euis ∙ sym (ap (map eui) (values-set es i y) ∙ euis-set (values_of es) i x y at (ap (λ d. d.eui) device));
   apart = subst (IsDistinct same_device) (sym (keys-set es i y)) agree.apart;
   places = λ a. agree.places a
-      ∙ sym (ap (places_from (λ (o : Own). o.addr.0 == a.0) 0) (values-set es i y)
-      ∙ places-set (λ (o : Own). o.addr.0 == a.0) 0 (values_of es) i x y at (ap (λ (b : DevAddr). b.0 == a.0) addr));
+      ∙ sym (ap (places_from (λ (o : Own). o.addr.0 == a) 0) (values-set es i y)
+      ∙ places-set (λ (o : Own). o.addr.0 == a) 0 (values_of es) i x y at (ap (λ (b : DevAddr). b.0 == a) addr));
 }
 
 -- a write of a device whose state alone is changed
-pub agree-state : (f : DeviceRecord → DeviceRecord) (es : List (DevEui × Own)) (table : List (DevAddr × SmallVec ℕ)) (i : ℕ) (x y : Own) → Agree es table → slice_get (values_of es) i ≡ Some x
+pub agree-state : (f : DeviceRecord → DeviceRecord) (es : List (DevEui × Own)) (table : List (ℕ × SmallVec ℕ)) (i : ℕ) (x y : Own) → Agree es table → slice_get (values_of es) i ≡ Some x
     → y ≡ with_state f x → Agree (set_value_at es i y) table
 agree-state f es table i x y agree at is = agree-set es table i x y agree at (ap (λ (o : Own). o.device) is) (ap (λ (o : Own). o.addr) is)
 
 -- the places at a frame's address are those of the devices that have it
-pub addressed-places : (es : List (DevEui × Own)) (table : List (DevAddr × SmallVec ℕ)) (frame : List ℕ) (addr : DevAddr) → Agree es table → addr.0 ≡ (data_fields frame).addr
-    → places_in table addr ≡ places_from (is_addressed frame) 0 (values_of es)
+pub addressed-places : (es : List (DevEui × Own)) (table : List (ℕ × SmallVec ℕ)) (frame : List ℕ) (addr : ℕ) → Agree es table → addr ≡ (data_fields frame).addr
+    → row_in table addr ≡ places_from (is_addressed frame) 0 (values_of es)
 addressed-places es table frame addr agree is = agree.places addr ∙ ap (λ (n : ℕ). places_from (λ (o : Own). o.addr.0 == n) 0 (values_of es)) is

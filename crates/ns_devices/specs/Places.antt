@@ -1,10 +1,9 @@
 -- Where the devices of a shard stand; for private clauses.
 use Rattle.std.specs.Prelude.{◌≡◌, ℕ, suc, ◌<◌, Bool, ◌==◌, List, [], ◌∷◌, length, map, filter_map, slice_get, Option, if◌then◌else◌}
 use Rattle.std.specs.List.{AllByRecursion, IsDistinct}
-use Rattle.std.specs.Option.{option_map_or}
-use Rattle.std.specs.Map.{lookup, keys_of, values_of}
+use Rattle.std.specs.Map.{keys_of, values_of}
 use Rattle.smallvec.specs.SmallVec.{SmallVec}
-use Rattle.ns_types.specs.declared.identity.DevAddr.{DevAddr}
+use Rattle.ns_rows.specs.Rows.{row_in}
 use Rattle.ns_types.specs.declared.identity.DevEui.{DevEui}
 use Rattle.ns_calls.specs.Queries.{first}
 use Rattle.ns_calls.specs.Entries.{same_device}
@@ -17,16 +16,12 @@ abbrev pub places_from : {X : Type 0} → (X → Bool) → ℕ → List X → Li
 places_from test place [] = []
 places_from test place (x ∷ xs) = if test x then place ∷ places_from test (suc place) xs else places_from test (suc place) xs
 
--- the places that a table has at an address
-abbrev pub places_in : List (DevAddr × SmallVec ℕ) → DevAddr → List ℕ
-places_in table addr = option_map_or (λ v. v.items) (lookup (λ a. addr.0 == a.0) table) []
-
 -- The devices by EUI and the places by address say the same: each device stands at its own EUI, no two have one EUI, and at each address
 -- stand the places of the devices with it, in their order.
-pub record Agree (list : List (DevEui × Own)) (table : List (DevAddr × SmallVec ℕ)) : Type 0 where
+pub record Agree (list : List (DevEui × Own)) (table : List (ℕ × SmallVec ℕ)) : Type 0 where
   pub euis : keys_of list ≡ map (λ o. o.device.eui) (values_of list)
   pub apart : IsDistinct same_device (keys_of list)
-  pub places : (addr : DevAddr) → places_in table addr ≡ places_from (λ o. o.addr.0 == addr.0) 0 (values_of list)
+  pub places : (addr : ℕ) → row_in table addr ≡ places_from (λ o. o.addr.0 == addr) 0 (values_of list)
 
 -- each of the places has a device
 abbrev pub AreWithin : List ℕ → List Own → Type 0

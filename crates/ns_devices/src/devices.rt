@@ -12,10 +12,10 @@ ghost use Rattle.ns_devices.specs.Devices.{joinless, devices_of, is_own, own_of,
 ghost use Rattle.ns_devices.specs.Places.{AreWithin, first_fit_at};
 
 use crate::own::{Own, Placed};
-use crate::places::{Places, add_place, places_at};
 use indexmap::IndexMap;
 use ns_calls::Outcome;
 use ns_roster::Roster;
+use ns_rows::{Rows, add, row_at};
 use ns_sessions::{AnswerDecision, JoinDecision, Recovery};
 use ns_types::{DevAddr, DevEui, DevNonce, Heard, Key, Ticket, WindowName, shard_of};
 use ns_views::DataView;
@@ -29,8 +29,8 @@ pub struct Devices {
     alloc: Global,
     /// The devices at their DevEUIs.
     list: IndexMap<DevEui, Own>,
-    /// The places of the devices of each address.
-    places: Places,
+    /// The places of the devices of each address, of which few have more than two.
+    places: Rows<usize, 2>,
 }
 
 impl Model for Devices {
@@ -74,7 +74,7 @@ impl Devices {
     {
         let place = self.list.len();
         self.list.reserve(1)?;
-        add_place(&mut self.places, self.alloc, own.addr, place)?;
+        add(&mut self.places, self.alloc, u64::from(own.addr.0), place)?;
         self.list.insert(own.device.eui, own).unwrap();
         Ok(())
     }
@@ -108,7 +108,8 @@ impl Devices {
         ensures place { IfSome result (λ f. position (is_own f.eui) self.now ≡ Some f.place) }
         ensures new { recovery ≡ Above → IfSome result (λ f. IsNew self.now (window_of (fit_at f))) }
     {
-        self.first_fit(places_at(&self.places, frame.dev_addr()), recovery, frame)
+        let places = row_at(&self.places, u64::from(frame.dev_addr().0));
+        self.first_fit(places, recovery, frame)
     }
 
     /// Takes a Join-Request: none of the devices has its DevEUI and JoinEUI, or what came of it.

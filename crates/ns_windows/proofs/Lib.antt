@@ -2,7 +2,6 @@ pub mod Passing
 pub mod Pairs
 pub mod Names
 pub mod Frames
-pub mod Keyed
 pub mod Opened
 pub mod Spots
 pub mod Sought

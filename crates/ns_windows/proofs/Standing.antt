@@ -6,12 +6,13 @@ use Rattle.smallvec.specs.SmallVec.{SmallVec}
 use Rattle.ns_types.specs.declared.identity.WindowName.{WindowName}
 use Rattle.ns_types.specs.declared.heard.Heard.{Heard}
 use Rattle.ns_calls.proofs.NameLemmas.{same_window-refl}
+use Rattle.ns_rows.specs.Rows.{row_in}
 use Rattle.ns_windows.specs.declared.filed.Filed.{Filed}
 use Rattle.ns_windows.specs.declared.rows.Spot.{Spot}
 use Rattle.ns_windows.specs.declared.window.Window.{Window}
 use Rattle.ns_windows.specs.Windows.{is_named, is_of, window_named, window_of_frame, with_copy, with_copy_in, with_copy_of, without, AreApart, AreOfFrames}
 use Rattle.ns_windows.specs.Places.{open_of, window_at, passes_at, places_with_copy, places_without, StartsOpen, Leaves}
-use Rattle.ns_windows.specs.Rows.{device_of, counter_of, address_of, mic_of, frame_address, frame_mic, spots_in, spots_of, spots_without, AreInRows, Adds, Takes, Lacks}
+use Rattle.ns_windows.specs.Rows.{device_of, counter_of, address_of, mic_of, frame_address, frame_mic, spots_of, spots_without, AreInRows, Adds, Takes, Lacks}
 use Rattle.ns_windows.specs.Filed.{AreFiled, Stand}
 use Rattle.ns_windows.proofs.Passing.{none_found}
 use Rattle.ns_windows.proofs.Pairs.{NoTwo-filter}
@@ -28,7 +29,7 @@ module _ (key mark : Window → ℕ) (n : ℕ) (ps : List (Option Window)) (old 
       adds k ∙ ap (λ (ss : List Spot). ss ++ cond (key w == k) (record { number = m; mark = mark w } ∷ []) []) (known k)
       ∙ ap (λ i. spots_of key mark k n ps ++ cond (key w == k) ((record { number = i; mark = mark w }) ∷ []) []) is ∙ sym (spots-push key mark k n ps w)
 
-  pub rows-refused : (m : ℕ) → m ≡ n + length ps → ((k : ℕ) → Lacks m (spots_in old k) → spots_in new k ≡ spots_in old k) → AreInRows key mark n ps new
+  pub rows-refused : (m : ℕ) → m ≡ n + length ps → ((k : ℕ) → Lacks m (row_in old k) → row_in new k ≡ row_in old k) → AreInRows key mark n ps new
   rows-refused m is stays k =
       stays k (ap (spots_without m) (known k) ∙ spots-below key mark k m n ps is ∙ sym (known k)) ∙ known k
 
@@ -89,7 +90,7 @@ module _ (n : ℕ) (ps : List (Option Window)) (spots : Filed) (s : Stand n ps s
   -- ---- with a window more
 
   pub pushed-stand : (w : Window) (m : ℕ) (after : List (Option Window)) (more : Filed) → window_named w.name (open_of ps) ≡ None → window_of_frame w.frame (open_of ps) ≡ None
-      → after ≡ ps ++ Some w ∷ [] → m ≡ n + length ps → n + length after < 18446744073709551616
+      → after ≡ ps ++ Some w ∷ [] → m ≡ n + length ps → n + length after < 4294967296
       → Adds device_of counter_of m w spots.devices.entries more.devices.entries → Adds frame_address frame_mic m w spots.addresses.entries more.addresses.entries → Stand n after more
   pushed-stand w m after more new_name new_frame is at fits devices addresses =
       let opened : open_of after ≡ open_of ps ++ w ∷ [] = ap open_of is ∙ open-push ps w in
@@ -103,8 +104,8 @@ module _ (n : ℕ) (ps : List (Option Window)) (spots : Filed) (s : Stand n ps s
 
   -- where a growth was refused
   pub refused-stand : (m : ℕ) (after : List (Option Window)) (same : Filed) → after ≡ ps → m ≡ n + length ps
-      → ((k : ℕ) → Lacks m (spots_in spots.devices.entries k) → spots_in same.devices.entries k ≡ spots_in spots.devices.entries k)
-      → ((k : ℕ) → spots_in same.addresses.entries k ≡ spots_in spots.addresses.entries k) → Stand n after same
+      → ((k : ℕ) → Lacks m (row_in spots.devices.entries k) → row_in same.devices.entries k ≡ row_in spots.devices.entries k)
+      → ((k : ℕ) → row_in same.addresses.entries k ≡ row_in spots.addresses.entries k) → Stand n after same
   refused-stand m after same is at devices addresses =
       subst (λ qs. Stand n qs same) (sym is) (record {
         names = s.names;

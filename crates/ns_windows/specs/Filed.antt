@@ -11,10 +11,10 @@ pub record AreFiled (n : ℕ) (places : List (Option Window)) (filed : Filed) : 
   pub devices : AreInRows device_of counter_of n places filed.devices.entries
   pub addresses : AreInRows frame_address frame_mic n places filed.addresses.entries
 
--- No two windows have one name, nor one frame. They are filed, the first place is not empty, and the number behind the last place is one.
+-- No two windows have one name, nor one frame. They are filed, the first place is not empty, and the number behind the last place has 32 bits.
 pub record Stand (n : ℕ) (places : List (Option Window)) (spots : Filed) : Type 0 where
   pub names : AreApart (open_of places)
   pub frames : AreOfFrames (open_of places)
   pub filed : AreFiled n places spots
   pub starts : StartsOpen places
-  pub fits : n + length places < 2 ^ 64
+  pub fits : n + length places < 2 ^ 32

@@ -2,9 +2,8 @@
 use Rattle.std.specs.Prelude.{◌≡◌, ℕ, suc, ◌-◌, Bool, false, ◌&&◌, not, ◌==◌, List, [], ◌∷◌, ◌++◌, filter, Option, Some, None, if◌then◌else◌}
 use Rattle.std.specs.Int.{w32, from_le_bytes}
 use Rattle.std.specs.List.{AllByRecursion}
-use Rattle.std.specs.Option.{option_map_or}
-use Rattle.std.specs.Map.{lookup}
 use Rattle.smallvec.specs.SmallVec.{SmallVec}
+use Rattle.ns_rows.specs.Rows.{row_in}
 use Rattle.ns_views.specs.Frame.{data_fields}
 use Rattle.ns_windows.specs.declared.rows.Spot.{Spot}
 use Rattle.ns_windows.specs.declared.window.Window.{Window}
@@ -29,10 +28,6 @@ frame_address w = address_of w.frame
 abbrev pub frame_mic : Window → ℕ
 frame_mic w = mic_of w.frame
 
--- the spots that a table has for a key
-abbrev pub spots_in : List (ℕ × SmallVec Spot) → ℕ → List Spot
-spots_in rows key = option_map_or (λ v. v.items) (lookup (λ k. key == k) rows) []
-
 -- the spots of the windows that have this key, where the first place has this number
 abbrev pub spots_of : (Window → ℕ) → (Window → ℕ) → ℕ → ℕ → List (Option Window) → List Spot
 spots_of key mark k n [] = []
@@ -42,7 +37,7 @@ spots_of key mark k n (Some w ∷ ps) =
 
 -- each key has the spots of its windows
 abbrev pub AreInRows : (Window → ℕ) → (Window → ℕ) → ℕ → List (Option Window) → List (ℕ × SmallVec Spot) → Type 0
-AreInRows key mark n places rows = (k : ℕ) → spots_in rows k ≡ spots_of key mark k n places
+AreInRows key mark n places rows = (k : ℕ) → row_in rows k ≡ spots_of key mark k n places
 
 -- the spots but for that of a number
 abbrev pub spots_without : ℕ → List Spot → List Spot
@@ -50,11 +45,11 @@ spots_without number spots = filter (λ s. not (s.number == number)) spots
 
 -- a window's spot comes behind those of its key
 abbrev pub Adds : (Window → ℕ) → (Window → ℕ) → ℕ → Window → List (ℕ × SmallVec Spot) → List (ℕ × SmallVec Spot) → Type 0
-Adds key mark number w old new = (k : ℕ) → spots_in new k ≡ spots_in old k ++ (if key w == k then record { number = number; mark = mark w } ∷ [] else [])
+Adds key mark number w old new = (k : ℕ) → row_in new k ≡ row_in old k ++ (if key w == k then record { number = number; mark = mark w } ∷ [] else [])
 
 -- the spot of a number goes out of those of a window's key
 abbrev pub Takes : (Window → ℕ) → ℕ → Window → List (ℕ × SmallVec Spot) → List (ℕ × SmallVec Spot) → Type 0
-Takes key number w old new = (k : ℕ) → spots_in new k ≡ (if key w == k then spots_without number (spots_in old k) else spots_in old k)
+Takes key number w old new = (k : ℕ) → row_in new k ≡ (if key w == k then spots_without number (row_in old k) else row_in old k)
 
 -- no spot has the number
 abbrev pub Lacks : ℕ → List Spot → Type 0

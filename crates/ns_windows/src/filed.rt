@@ -1,13 +1,15 @@
 //! The spots of windows, by device and by address.
 
-ghost use Rattle.std.specs.Prelude.{◌≡◌, true, ℕ, [], None, length, map, Some, find, IfSome, IfNone, IfOk, OnOk, OnErr};
+ghost use Rattle.std.specs.Prelude.{◌≡◌, true, ℕ, ◌<◌, ◌^◌, [], None, length, map, Some, find, IfSome, IfNone, IfOk, OnOk, OnErr};
+ghost use Rattle.ns_rows.specs.Rows.{row_in};
 ghost use Rattle.ns_windows.specs.Places.{open_of, passes, passes_at};
-ghost use Rattle.ns_windows.specs.Rows.{device_of, counter_of, address_of, mic_of, frame_address, frame_mic, spots_in, Adds, Takes, Lacks};
+ghost use Rattle.ns_windows.specs.Rows.{device_of, counter_of, address_of, mic_of, frame_address, frame_mic, Adds, Takes, Lacks};
 ghost use Rattle.ns_windows.specs.Filed.{AreFiled};
 
 use crate::places::{Places, Sought, place_of};
-use crate::rows::{Rows, Spot, add_spot, spots_at, take_spot};
+use crate::rows::{Spot, Spots, take_spot};
 use crate::window::Window;
+use ns_rows::{add, row_at};
 use ns_types::DevEui;
 use ns_views::DataView;
 use std::alloc::{AllocError, Global};
@@ -16,8 +18,8 @@ use std::collections::HashMap;
 /// The spots of windows: of each device, where the mark is the frame counter, and of each address, where it is the MIC.
 #[derive(Drop)]
 pub(crate) struct Filed {
-    pub devices: Rows,
-    pub addresses: Rows,
+    pub devices: Spots,
+    pub addresses: Spots,
 }
 
 // The address of a frame as a key.
@@ -36,8 +38,8 @@ fn mic_of(frame: &DataView) -> u32
 
 /// No spots.
 pub(crate) fn no_spots(alloc: Global) -> Filed
-    ensures devices { (k : ℕ) → spots_in result.devices.entries k ≡ [] }
-    ensures addresses { (k : ℕ) → spots_in result.addresses.entries k ≡ [] }
+    ensures devices { (k : ℕ) → row_in result.devices.entries k ≡ [] }
+    ensures addresses { (k : ℕ) → row_in result.addresses.entries k ≡ [] }
 {
     Filed {
         devices: HashMap::new(alloc),
@@ -47,9 +49,9 @@ pub(crate) fn no_spots(alloc: Global) -> Filed
 
 /// How many windows of a device are at places.
 pub(crate) fn count_of(filed: &Filed, eui: DevEui) -> usize
-    ensures { result ≡ length (spots_in filed.now.devices.entries eui.0) }
+    ensures { result ≡ length (row_in filed.now.devices.entries eui.0) }
 {
-    spots_at(&filed.devices, eui.0).len()
+    row_at(&filed.devices, eui.0).len()
 }
 
 /// Files a window that is at a place of this number. Where the growth is refused, rows without that number are as before.
@@ -57,25 +59,25 @@ pub(crate) fn put(
     filed: &mut Filed,
     alloc: Global,
     window: &Window,
-    number: usize,
+    number: u32,
 ) -> Result<(), AllocError>
     ensures devices { OnOk result (Adds device_of counter_of number window.now filed.old.devices.entries filed.new.devices.entries) }
     ensures addresses { OnOk result (Adds frame_address frame_mic number window.now filed.old.addresses.entries filed.new.addresses.entries) }
-    ensures err_devices { OnErr result ((k : ℕ) → Lacks number (spots_in filed.old.devices.entries k) → spots_in filed.new.devices.entries k ≡ spots_in filed.old.devices.entries k) }
-    ensures err_addresses { OnErr result ((k : ℕ) → spots_in filed.new.addresses.entries k ≡ spots_in filed.old.addresses.entries k) }
+    ensures err_devices { OnErr result ((k : ℕ) → Lacks number (row_in filed.old.devices.entries k) → row_in filed.new.devices.entries k ≡ row_in filed.old.devices.entries k) }
+    ensures err_addresses { OnErr result ((k : ℕ) → row_in filed.new.addresses.entries k ≡ row_in filed.old.addresses.entries k) }
 {
     let eui = window.name.eui.0;
     let spot = Spot {
         number,
         mark: window.name.fcnt,
     };
-    add_spot(&mut filed.devices, alloc, eui, spot)?;
+    add(&mut filed.devices, alloc, eui, spot)?;
     let frame = window.frame.view();
     let spot = Spot {
         number,
         mark: mic_of(&frame),
     };
-    if add_spot(&mut filed.addresses, alloc, address_of(&frame), spot).is_err() {
+    if add(&mut filed.addresses, alloc, address_of(&frame), spot).is_err() {
         take_spot(&mut filed.devices, eui, number);
         return Err(AllocError);
     }
@@ -83,7 +85,7 @@ pub(crate) fn put(
 }
 
 /// Takes the spots of a window out, whose place has this number. It takes no memory.
-pub(crate) fn take(filed: &mut Filed, window: &Window, number: usize)
+pub(crate) fn take(filed: &mut Filed, window: &Window, number: u32)
     ensures devices { Takes device_of number window.now filed.old.devices.entries filed.new.devices.entries }
     ensures addresses { Takes frame_address number window.now filed.old.addresses.entries filed.new.addresses.entries }
 {
@@ -103,12 +105,12 @@ pub(crate) fn find(places: &Places, first: usize, filed: &Filed, sought: Sought)
 {
     match sought {
         Sought::Name(name) => {
-            let spots = spots_at(&filed.devices, name.eui.0);
+            let spots = row_at(&filed.devices, name.eui.0);
             place_of(places, first, spots, name.fcnt, sought)
         }
         Sought::Frame(frame) => {
             let frame = frame.view();
-            let spots = spots_at(&filed.addresses, address_of(&frame));
+            let spots = row_at(&filed.addresses, address_of(&frame));
             place_of(places, first, spots, mic_of(&frame), sought)
         }
     }
@@ -116,6 +118,7 @@ pub(crate) fn find(places: &Places, first: usize, filed: &Filed, sought: Sought)
 
 /// The spots of the windows at places, where the places of windows alone are counted, from 0 on. `AllocError` where a growth was refused.
 pub(crate) fn filed_anew(alloc: Global, places: &Places) -> Result<Filed, AllocError>
+    requires { length places.now.items < 2 ^ 32 }
     ensures { IfOk result (λ filed. AreFiled 0 (map Some (open_of places.now.items)) filed) }
 {
     let mut filed = no_spots(alloc);

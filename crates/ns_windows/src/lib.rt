@@ -3,7 +3,7 @@
 //! A window is open from the first copy of an uplink until it is closed, and gathers the copies that other gateways heard. It holds
 //! the keys of its session, since the session can end before the window closes. The crate promises that `Windows` is a list of
 //! windows: what is found, counted, added and taken is what a list says. It stands on `ns_types`, `ns_views` and
-//! `ns_calls`.
+//! `ns_calls`, and on `ns_rows` for where the windows of a device and of an address are.
 #![tactic(auto)]
 
 mod filed;

@@ -55,7 +55,7 @@ pub(crate) fn place_of(
     ensures none { IfNone result (NoneIsThere (passes sought.entry) first mark places.now.items spots.now) }
 {
     for spot in spots {
-        let place = spot.number.saturating_sub(first);
+        let place = (spot.number as usize).saturating_sub(first);
         if spot.mark == mark && is_at(places, place, sought) {
             return Some(place);
         }

@@ -18,6 +18,9 @@ use std::marker::Model;
 // Of how many closed windows the memory is kept.
 const MOST_CLOSED: usize = 64;
 
+// Above this the number of the first place falls to 0 again.
+const MOST_FIRST: usize = 1 << 31;
+
 /// Open windows, in the order of their opening.
 #[derive(Drop)]
 pub struct Windows {
@@ -172,7 +175,7 @@ impl Windows {
         ensures ok { OnOk result (self.new ≡ self.old ++ window ∷ []) }
         ensures err { OnErr result (self.new ≡ self.old) }
     {
-        if is_sparse(&self.places) {
+        if is_sparse(&self.places) || self.first > MOST_FIRST {
             self.close_up();
         }
         self.put_last(window)
@@ -186,8 +189,10 @@ impl Windows {
         ensures ok { OnOk result (self.new ≡ self.old ++ window ∷ []) }
         ensures err { OnErr result (self.new ≡ self.old) }
     {
-        let number = self.first + self.places.len();
-        if number == usize::MAX {
+        let Ok(number) = u32::try_from(self.first + self.places.len()) else {
+            return Err(AllocError);
+        };
+        if number == u32::MAX {
             return Err(AllocError);
         }
         self.places.reserve(1)?;
@@ -212,7 +217,11 @@ impl Windows {
     {
         let place = find(&self.places, self.first, &self.filed, Sought::Name(name))?;
         let window = take_at(&mut self.places, place)?;
-        take(&mut self.filed, window.as_ref(), self.first + place);
+        take(
+            &mut self.filed,
+            window.as_ref(),
+            (self.first + place) as u32,
+        );
         leave_empty(&mut self.places, &mut self.first);
         Some(window)
     }

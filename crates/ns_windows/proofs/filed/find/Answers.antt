@@ -21,7 +21,7 @@ returns-in-Name-clause-none c =
     rw c.in-Name.is (if_none c.place_of.result
     (λ none.
     none-sought (is_named name) device_of counter_of name.eui.0 name.fcnt (λ w is. ap (λ (m : WindowName). m.eui.0) (same_window-eq w.name name is)) (λ w is. ap (λ (m : WindowName). m.fcnt) (same_window-eq w.name name is)) c.args.first ps
-    (subst (NoneIsThere (is_named name) c.args.first name.fcnt ps) (c.spots_at-spots.ensures ∙ c.requires.devices name.eui.0) none))
+    (subst (NoneIsThere (is_named name) c.args.first name.fcnt ps) (c.row_at-spots.ensures ∙ c.requires.devices name.eui.0) none))
     (rw c.in-Name.is at c.place_of.ensures.none))
 
 pub returns-in-Frame-clause-none : goal.returns-in-Frame-clause-none
@@ -33,5 +33,5 @@ returns-in-Frame-clause-none c =
     rw c.in-Frame.is (if_none c.place_of-in-Frame.result
     (λ none.
     none-sought (is_of frame) frame_address frame_mic c.address_of.result c.mic_of.result (λ w is. ap address_of (frame-is frame w is) ∙ sym address) (λ w is. ap mic_of (frame-is frame w is) ∙ sym mic) c.args.first ps
-    (subst (NoneIsThere (is_of frame) c.args.first c.mic_of.result ps) (c.spots_at-spots-in-Frame.ensures ∙ c.requires.addresses c.address_of.result) none))
+    (subst (NoneIsThere (is_of frame) c.args.first c.mic_of.result ps) (c.row_at-spots-in-Frame.ensures ∙ c.requires.addresses c.address_of.result) none))
     (rw c.in-Frame.is at c.place_of-in-Frame.ensures.none))

@@ -9,7 +9,7 @@ use Rattle.ns_windows.proofs.windows.Windows.put_last.Goals as goal
 
 pub invariant_of-self-in_err-put : goal.invariant_of-self-in_err-put
 invariant_of-self-in_err-put c =
-    refused-stand c.self.inside.first c.self.inside.places.items c.self.inside.filed c.self.invariant (c.self.inside.first + c.len.result) c.reserve.new.self.items c.put.new.filed c.reserve.ensures.items (ap (λ l. c.self.inside.first + l) (c.len.ensures ∙ c.self.inside.places.ok.0))
+    refused-stand c.self.inside.first c.self.inside.places.items c.self.inside.filed c.self.invariant c.in-Ok.number c.reserve.new.self.items c.put.new.filed c.reserve.ensures.items (c.in-Ok.ensures.1 ∙ ap (λ l. c.self.inside.first + l) (c.len.ensures ∙ c.self.inside.places.ok.0))
     c.in_err-put.ensures.err_devices c.in_err-put.ensures.err_addresses
 
 pub invariant_of-self-2 : goal.invariant_of-self-2
@@ -17,8 +17,8 @@ invariant_of-self-2 c =
     let ps = c.self.inside.places.items in
     let old = c.self.inside.filed in
     let more = c.put.new.filed in
-    let m = c.self.inside.first + c.len.result in
-    let number : m ≡ c.self.inside.first + length ps = ap (λ l. c.self.inside.first + l) (c.len.ensures ∙ c.self.inside.places.ok.0) in
+    let m = c.in-Ok.number in
+    let number : m ≡ c.self.inside.first + length ps = c.in-Ok.ensures.1 ∙ ap (λ l. c.self.inside.first + l) (c.len.ensures ∙ c.self.inside.places.ok.0) in
     let pushed : c.push_back_reserved.new.self.items ≡ ps ++ Some c.args.window ∷ [] = c.push_back_reserved.ensures.items ∙ ap (λ qs. qs ++ Some c.args.window ∷ []) c.reserve.ensures.items in
     pushed-stand c.self.inside.first ps old c.self.invariant c.args.window m c.push_back_reserved.new.self.items more
     (ap (window_named c.args.window.name) c.self.view_is ∙ c.requires.name) (ap (window_of_frame c.args.window.frame) c.self.view_is ∙ c.requires.frame) pushed number
