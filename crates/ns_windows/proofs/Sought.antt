@@ -1,10 +1,10 @@
 -- What is sought among the spots of a key.
-use Rattle.std.proofs.Common.{◌≡◌, ℕ, ◌+◌, ◌-◌, ◌==◌, Bool, true, false, List, find, Option, None, Some, refl, sym, ap, ◌∙◌, arith, inl, inr}
+use Rattle.std.proofs.Common.{◌≡◌, ℕ, ◌+◌, ◌-◌, ◌==◌, Bool, true, false, List, find, Option, None, Some, refl, sym, ◌∙◌, arith, inl, inr}
 use Rattle.std.proofs.lemmas.Bool.{true≢false}
 use Rattle.ns_calls.proofs.LocalLemmas.{bool_tells}
 use Rattle.ns_calls.proofs.Lists.{find-none}
 use Rattle.ns_windows.specs.declared.window.Window.{Window}
-use Rattle.ns_windows.specs.Places.{open_of, window_at, passes_at}
+use Rattle.ns_windows.specs.Places.{open_of, window_at}
 use Rattle.ns_windows.specs.Rows.{spots_of, is_there, NoneIsThere}
 use Rattle.ns_windows.proofs.Opened.{none-at}
 use Rattle.ns_windows.proofs.Spots.{spots-all}

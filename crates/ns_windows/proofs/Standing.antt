@@ -11,14 +11,14 @@ use Rattle.ns_windows.specs.declared.filed.Filed.{Filed}
 use Rattle.ns_windows.specs.declared.rows.Spot.{Spot}
 use Rattle.ns_windows.specs.declared.window.Window.{Window}
 use Rattle.ns_windows.specs.Windows.{is_named, is_of, window_named, window_of_frame, with_copy, with_copy_in, with_copy_of, without, AreApart, AreOfFrames}
-use Rattle.ns_windows.specs.Places.{open_of, window_at, passes_at, places_with_copy, places_without, StartsOpen, Leaves}
+use Rattle.ns_windows.specs.Places.{open_of, window_at, places_with_copy, places_without, StartsOpen, Leaves}
 use Rattle.ns_windows.specs.Rows.{device_of, counter_of, address_of, mic_of, frame_address, frame_mic, spots_of, spots_without, AreInRows, Adds, Takes, Lacks}
 use Rattle.ns_windows.specs.Filed.{AreFiled, Stand}
 use Rattle.ns_windows.proofs.Passing.{none_found}
 use Rattle.ns_windows.proofs.Pairs.{NoTwo-filter}
-use Rattle.ns_windows.proofs.Names.{of_one_name, name-alike, apart-push, copied-apart, copy-name, keep_name, keep_frame, copy-frame}
+use Rattle.ns_windows.proofs.Names.{of_one_name, name-alike, apart-push, copied-apart, copy-name, keep_frame, copy-frame}
 use Rattle.ns_windows.proofs.Frames.{of_one_frame, frame-alike, of_frames-push, of_frames-map}
-use Rattle.ns_windows.proofs.Opened.{open-push, starts-push, passes-there, found-there, open-changed, starts-changed, open-taken, open-left, length-left, filled-is, open-filled, starts-filled, open-length}
+use Rattle.ns_windows.proofs.Opened.{open-push, starts-push, found-there, open-changed, starts-changed, open-taken, open-left, length-left, filled-is, open-filled, starts-filled, open-length}
 use Rattle.ns_windows.proofs.Spots.{spots-push, spots-set, spots-below, spots-taken, spots-left}
 
 -- ---- rows of any key and mark

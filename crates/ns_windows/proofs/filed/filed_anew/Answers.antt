@@ -1,4 +1,4 @@
-use Rattle.std.proofs.Common.{◌≡◌, ℕ, ◌+◌, ◌<◌, suc, map, length, take, get_or, ◌++◌, ◌∷◌, [], List, Option, None, Some, option_to_list, refl, sym, ap, subst, ◌∙◌, arith}
+use Rattle.std.proofs.Common.{◌≡◌, ℕ, ◌+◌, ◌<◌, suc, map, length, take, get_or, ◌++◌, ◌∷◌, [], List, Option, Some, option_to_list, refl, sym, ap, subst, ◌∙◌, arith}
 use Rattle.std.proofs.lemmas.List.{map-append, length-append, append-nil}
 use Rattle.ns_windows.specs.declared.filed.Filed.{Filed}
 use Rattle.ns_windows.specs.declared.window.Window.{Window}

@@ -1,10 +1,7 @@
-use Rattle.std.proofs.Common.{◌≡◌, ℕ, Option, None, Some, true, IfNone, find, sym, ap, subst, ◌∙◌}
-use Rattle.std.specs.Int.{w32, from_le_bytes}
+use Rattle.std.proofs.Common.{◌≡◌, ℕ, Option, None, Some, IfNone, sym, ap, subst, ◌∙◌}
 use Rattle.ns_types.specs.declared.identity.WindowName.{WindowName}
 use Rattle.ns_calls.proofs.NameLemmas.{same_window-eq}
-use Rattle.ns_windows.specs.declared.window.Window.{Window}
 use Rattle.ns_windows.specs.Windows.{is_named, is_of}
-use Rattle.ns_windows.specs.Places.{open_of}
 use Rattle.ns_windows.specs.Rows.{device_of, counter_of, address_of, mic_of, frame_address, frame_mic, NoneIsThere}
 use Rattle.ns_windows.proofs.Frames.{frame-is}
 use Rattle.ns_windows.proofs.Sought.{none-sought}

@@ -1,7 +1,7 @@
-use Rattle.std.proofs.Common.{◌≡◌, ◌+◌, true, None, Some, refl, sym, ap, subst, ◌∙◌}
+use Rattle.std.proofs.Common.{◌≡◌, ◌+◌, true, Some, refl, sym, ap, subst, ◌∙◌}
 use Rattle.ns_windows.specs.declared.window.Window.{Window}
 use Rattle.ns_windows.specs.Windows.{is_named, window_named, without}
-use Rattle.ns_windows.specs.Places.{open_of, window_at, places_without, Leaves}
+use Rattle.ns_windows.specs.Places.{window_at, places_without, Leaves}
 use Rattle.ns_windows.specs.Rows.{device_of, frame_address, Takes}
 use Rattle.ns_windows.proofs.Passing.{none_found, filter-none}
 use Rattle.ns_windows.proofs.Opened.{passes-there}
