@@ -14,11 +14,12 @@ pub(crate) struct Spot {
     pub mark: u32,
 }
 
-/// The spots of the windows of each key, in the order of their opening. A device has at most eight. A row stays when it is empty.
-pub(crate) type Spots = Rows<Spot, 8>;
+/// The spots of the windows of each key, in the order of their opening. A row stays when it is empty. Few devices have more
+/// than two windows at once, so two spots take no memory of their own.
+pub(crate) type Spots = Rows<Spot, 2>;
 
 // Takes the spot of a number out of a row.
-fn take_from(row: &mut SmallVec<Spot, 8>, number: u32)
+fn take_from(row: &mut SmallVec<Spot, 2>, number: u32)
     ensures { row.new.items ≡ spots_without number row.old.items }
 {
     row.retain(|spot| spot.number != number);
