@@ -15,7 +15,7 @@ use crate::own::{Own, Placed};
 use indexmap::IndexMap;
 use ns_calls::Outcome;
 use ns_roster::Roster;
-use ns_rows::{Rows, add, row_at};
+use ns_rows::{Rows, push_at, row_at};
 use ns_sessions::{AnswerDecision, JoinDecision, Recovery};
 use ns_types::{DevAddr, DevEui, DevNonce, Heard, Key, Ticket, WindowName, shard_of};
 use ns_views::DataView;
@@ -29,7 +29,7 @@ pub struct Devices {
     alloc: Global,
     /// The devices at their DevEUIs.
     list: IndexMap<DevEui, Own>,
-    /// The places of the devices of each address, of which few have more than two.
+    /// The places of the devices of each address. Few addresses have more than two devices.
     places: Rows<usize, 2>,
 }
 
@@ -74,7 +74,7 @@ impl Devices {
     {
         let place = self.list.len();
         self.list.reserve(1)?;
-        add(&mut self.places, self.alloc, u64::from(own.addr.0), place)?;
+        push_at(&mut self.places, self.alloc, u64::from(own.addr.0), place)?;
         self.list.insert(own.device.eui, own).unwrap();
         Ok(())
     }

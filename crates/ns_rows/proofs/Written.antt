@@ -13,7 +13,3 @@ module _ {X : Type 0} (old new : List (ℕ × SmallVec X)) (key : ℕ) (w : Smal
   -- where what is written was there, all rows stay
   pub row-same : w.items ≡ row_in old key → (k : ℕ) → row_in new k ≡ row_in old k
   row-same same k = grind (arith, nat_tests, writes k)
-
-  -- where what is written is a change of the row of the key, that row alone changes so
-  pub row-changed : (f : List X → List X) → w.items ≡ f (row_in old key) → (k : ℕ) → row_in new k ≡ cond (key == k) (f (row_in old k)) (row_in old k)
-  row-changed f change k = grind (arith, nat_tests, writes k)

@@ -1,4 +1,4 @@
-//! Rows: for each key the elements that stand at it, in their order.
+//! Rows: for each key, a `u64`, the elements that were added at it, in their order.
 //!
 //! The crate promises that what is added stands behind the others of its key, and that all other keys keep theirs. It stands on no other
 //! crate of this repository.
@@ -11,7 +11,7 @@ use smallvec::SmallVec;
 use std::alloc::{AllocError, Global};
 use std::collections::HashMap;
 
-/// The elements of each key. The first `N` of a key take no memory of their own.
+/// The elements of each key. Up to `N` of a key lie in the table itself, more of them all in a block of memory of their own.
 pub type Rows<T, const N: usize> = HashMap<u64, SmallVec<T, N>>;
 
 /// The elements of a key, none where it is not known.
@@ -25,7 +25,7 @@ pub fn row_at<T, const N: usize>(rows: &Rows<T, N>, key: u64) -> &[T]
 }
 
 /// Adds an element at the end of the row of a key. Where the growth is refused, nothing has changed.
-pub fn add<T: Copy + Default, const N: usize>(
+pub fn push_at<T: Copy + Default, const N: usize>(
     rows: &mut Rows<T, N>,
     alloc: Global,
     key: u64,

@@ -7,13 +7,13 @@ use Rattle.ns_types.specs.declared.identity.WindowName.{WindowName}
 use Rattle.ns_types.specs.declared.heard.Heard.{Heard}
 use Rattle.ns_calls.proofs.NameLemmas.{same_window-refl}
 use Rattle.ns_rows.specs.Rows.{row_in}
-use Rattle.ns_windows.specs.declared.filed.Filed.{Filed}
+use Rattle.ns_windows.specs.declared.index.WindowIndex.{WindowIndex}
 use Rattle.ns_windows.specs.declared.rows.Spot.{Spot}
 use Rattle.ns_windows.specs.declared.window.Window.{Window}
 use Rattle.ns_windows.specs.Windows.{is_named, is_of, window_named, window_of_frame, with_copy, with_copy_in, with_copy_of, without, AreApart, AreOfFrames}
 use Rattle.ns_windows.specs.Places.{open_of, window_at, places_with_copy, places_without, StartsOpen, Leaves}
 use Rattle.ns_windows.specs.Rows.{device_of, counter_of, address_of, mic_of, frame_address, frame_mic, spots_of, spots_without, AreInRows, Adds, Takes, Lacks}
-use Rattle.ns_windows.specs.Filed.{AreFiled, Stand}
+use Rattle.ns_windows.specs.Indexed.{AreIndexed, Agree}
 use Rattle.ns_windows.proofs.Passing.{none_found}
 use Rattle.ns_windows.proofs.Pairs.{NoTwo-filter}
 use Rattle.ns_windows.proofs.Names.{of_one_name, name-alike, apart-push, copied-apart, copy-name, keep_frame, copy-frame}
@@ -40,16 +40,16 @@ module _ (key mark : Window → ℕ) (n : ℕ) (ps : List (Option Window)) (old 
       ∙ sym (spots-taken key mark k n ps i m w at is) ∙ ap (spots_of key mark k n) left.places ∙ spots-left key mark k n left.empty after ∙ ap (λ j. spots_of key mark k j after) (sym left.number)
 
 -- all rows, with a window more
-pub filed-pushed : (n m : ℕ) (ps : List (Option Window)) (w : Window) (old new : Filed) → AreFiled n ps old → m ≡ n + length ps
-    → Adds device_of counter_of m w old.devices.entries new.devices.entries → Adds frame_address frame_mic m w old.addresses.entries new.addresses.entries → AreFiled n (ps ++ Some w ∷ []) new
-filed-pushed n m ps w old new known is devices addresses = record {
+pub indexed-pushed : (n m : ℕ) (ps : List (Option Window)) (w : Window) (old new : WindowIndex) → AreIndexed n ps old → m ≡ n + length ps
+    → Adds device_of counter_of m w old.devices.entries new.devices.entries → Adds frame_address frame_mic m w old.addresses.entries new.addresses.entries → AreIndexed n (ps ++ Some w ∷ []) new
+indexed-pushed n m ps w old new known is devices addresses = record {
   devices = rows-pushed device_of counter_of n ps old.devices.entries new.devices.entries known.devices m w is devices;
   addresses = rows-pushed frame_address frame_mic n ps old.addresses.entries new.addresses.entries known.addresses m w is addresses;
 }
 
 -- ---- all that is said
 
-module _ (n : ℕ) (ps : List (Option Window)) (spots : Filed) (s : Stand n ps spots) where
+module _ (n : ℕ) (ps : List (Option Window)) (spots : WindowIndex) (s : Agree n ps spots) where
   -- the window at a place that has a name or a frame is the one that is found by it
   pub named-there : (name : WindowName) (i : ℕ) (w : Window) → window_at ps i ≡ Some w → is_named name w ≡ true → window_named name (open_of ps) ≡ Some w
   named-there name i w at is = found-there (is_named name) of_one_name (name-alike name) ps i w at is s.names
@@ -69,7 +69,7 @@ module _ (n : ℕ) (ps : List (Option Window)) (spots : Filed) (s : Stand n ps s
   pub copied-open : (frame : List ℕ) (heard : Heard) (i : ℕ) (w : Window) → window_at ps i ≡ Some w → is_of frame w ≡ true → open_of (places_with_copy i heard ps) ≡ with_copy_of frame heard (open_of ps)
   copied-open frame heard i w at is = rw (framed-there frame i w at is) (copied-in heard i w at)
 
-  pub copied-stand : (heard : Heard) (i : ℕ) (w : Window) (after : List (Option Window)) → window_at ps i ≡ Some w → after ≡ places_with_copy i heard ps → Stand n after spots
+  pub copied-stand : (heard : Heard) (i : ℕ) (w : Window) (after : List (Option Window)) → window_at ps i ≡ Some w → after ≡ places_with_copy i heard ps → Agree n after spots
   copied-stand heard i w after at is =
       let set : after ≡ slice_set ps i (Some (with_copy heard w)) = is ∙ copied-places heard i w at in
       let opened : open_of after ≡ with_copy_in w.name heard (open_of ps) = ap open_of is ∙ copied-in heard i w at in
@@ -77,10 +77,10 @@ module _ (n : ℕ) (ps : List (Option Window)) (spots : Filed) (s : Stand n ps s
       record {
         names = subst AreApart (sym opened) (copied-apart w.name heard (open_of ps) s.names);
         frames = subst AreOfFrames (sym opened) (of_frames-map one (keep_frame w.name heard) (open_of ps) s.frames);
-        filed = record {
-          devices = λ k. s.filed.devices k
+        index = record {
+          devices = λ k. s.index.devices k
               ∙ sym (ap (spots_of device_of counter_of k n) set ∙ spots-set device_of counter_of k (with_copy heard) (λ v. ap (λ m. m.eui.0) (copy-name heard v)) (λ v. ap (λ m. m.fcnt) (copy-name heard v)) n ps i w at);
-          addresses = λ k. s.filed.addresses k
+          addresses = λ k. s.index.addresses k
               ∙ sym (ap (spots_of frame_address frame_mic k n) set ∙ spots-set frame_address frame_mic k (with_copy heard) (λ v. ap address_of (copy-frame heard v)) (λ v. ap mic_of (copy-frame heard v)) n ps i w at);
         };
         starts = subst StartsOpen (sym set) (starts-changed ps i (with_copy heard w) s.starts);
@@ -89,30 +89,30 @@ module _ (n : ℕ) (ps : List (Option Window)) (spots : Filed) (s : Stand n ps s
 
   -- ---- with a window more
 
-  pub pushed-stand : (w : Window) (m : ℕ) (after : List (Option Window)) (more : Filed) → window_named w.name (open_of ps) ≡ None → window_of_frame w.frame (open_of ps) ≡ None
+  pub pushed-stand : (w : Window) (m : ℕ) (after : List (Option Window)) (more : WindowIndex) → window_named w.name (open_of ps) ≡ None → window_of_frame w.frame (open_of ps) ≡ None
       → after ≡ ps ++ Some w ∷ [] → m ≡ n + length ps → n + length after < 4294967296
-      → Adds device_of counter_of m w spots.devices.entries more.devices.entries → Adds frame_address frame_mic m w spots.addresses.entries more.addresses.entries → Stand n after more
+      → Adds device_of counter_of m w spots.devices.entries more.devices.entries → Adds frame_address frame_mic m w spots.addresses.entries more.addresses.entries → Agree n after more
   pushed-stand w m after more new_name new_frame is at fits devices addresses =
       let opened : open_of after ≡ open_of ps ++ w ∷ [] = ap open_of is ∙ open-push ps w in
       record {
         names = subst AreApart (sym opened) (apart-push (open_of ps) w s.names (none_found (is_named w.name) (open_of ps) new_name));
         frames = subst AreOfFrames (sym opened) (of_frames-push (open_of ps) w s.frames (none_found (is_of w.frame) (open_of ps) new_frame));
-        filed = subst (λ qs. AreFiled n qs more) (sym is) (filed-pushed n m ps w spots more s.filed at devices addresses);
+        index = subst (λ qs. AreIndexed n qs more) (sym is) (indexed-pushed n m ps w spots more s.index at devices addresses);
         starts = subst StartsOpen (sym is) (starts-push ps w s.starts);
         fits = fits;
       }
 
   -- where a growth was refused
-  pub refused-stand : (m : ℕ) (after : List (Option Window)) (same : Filed) → after ≡ ps → m ≡ n + length ps
+  pub refused-stand : (m : ℕ) (after : List (Option Window)) (same : WindowIndex) → after ≡ ps → m ≡ n + length ps
       → ((k : ℕ) → Lacks m (row_in spots.devices.entries k) → row_in same.devices.entries k ≡ row_in spots.devices.entries k)
-      → ((k : ℕ) → row_in same.addresses.entries k ≡ row_in spots.addresses.entries k) → Stand n after same
+      → ((k : ℕ) → row_in same.addresses.entries k ≡ row_in spots.addresses.entries k) → Agree n after same
   refused-stand m after same is at devices addresses =
-      subst (λ qs. Stand n qs same) (sym is) (record {
+      subst (λ qs. Agree n qs same) (sym is) (record {
         names = s.names;
         frames = s.frames;
-        filed = record {
-          devices = rows-refused device_of counter_of n ps spots.devices.entries same.devices.entries s.filed.devices m at devices;
-          addresses = λ k. addresses k ∙ s.filed.addresses k;
+        index = record {
+          devices = rows-refused device_of counter_of n ps spots.devices.entries same.devices.entries s.index.devices m at devices;
+          addresses = λ k. addresses k ∙ s.index.addresses k;
         };
         starts = s.starts;
         fits = s.fits;
@@ -124,16 +124,16 @@ module _ (n : ℕ) (ps : List (Option Window)) (spots : Filed) (s : Stand n ps s
     pub taken-open : open_of after ≡ without name (open_of ps)
     taken-open = sym (open-left left.empty after) ∙ ap open_of (sym left.places) ∙ open-taken name ps i w at is s.names
 
-    pub taken-stand : (number : ℕ) (fewer : Filed) → number ≡ n + i
-        → Takes device_of number w spots.devices.entries fewer.devices.entries → Takes frame_address number w spots.addresses.entries fewer.addresses.entries → Stand m after fewer
+    pub taken-stand : (number : ℕ) (fewer : WindowIndex) → number ≡ n + i
+        → Takes device_of number w spots.devices.entries fewer.devices.entries → Takes frame_address number w spots.addresses.entries fewer.addresses.entries → Agree m after fewer
     taken-stand number fewer here devices addresses =
         let ends : length (places_without i ps) ≡ left.empty + length after = ap length left.places ∙ length-left left.empty after in
         record {
           names = subst AreApart (sym taken-open) (NoTwo-filter of_one_name (λ v. not (is_named name v)) (open_of ps) s.names);
           frames = subst AreOfFrames (sym taken-open) (NoTwo-filter of_one_frame (λ v. not (is_named name v)) (open_of ps) s.frames);
-          filed = record {
-            devices = rows-taken device_of counter_of n ps spots.devices.entries fewer.devices.entries s.filed.devices i number m w after at here devices left;
-            addresses = rows-taken frame_address frame_mic n ps spots.addresses.entries fewer.addresses.entries s.filed.addresses i number m w after at here addresses left;
+          index = record {
+            devices = rows-taken device_of counter_of n ps spots.devices.entries fewer.devices.entries s.index.devices i number m w after at here devices left;
+            addresses = rows-taken frame_address frame_mic n ps spots.addresses.entries fewer.addresses.entries s.index.addresses i number m w after at here addresses left;
           };
           starts = left.starts;
           fits = omega (arith, s.fits, ends, length-set ps i None, left.number);
@@ -144,13 +144,13 @@ module _ (n : ℕ) (ps : List (Option Window)) (spots : Filed) (s : Stand n ps s
   pub closed-open : (after : List (Option Window)) → after ≡ filter is_some ps → open_of after ≡ open_of ps
   closed-open after is = ap open_of (is ∙ filled-is ps) ∙ open-filled (open_of ps)
 
-  pub closed-stand : (after : List (Option Window)) (anew : Filed) → after ≡ filter is_some ps → AreFiled 0 (map Some (open_of ps)) anew → Stand 0 after anew
-  closed-stand after anew is filed =
+  pub closed-stand : (after : List (Option Window)) (anew : WindowIndex) → after ≡ filter is_some ps → AreIndexed 0 (map Some (open_of ps)) anew → Agree 0 after anew
+  closed-stand after anew is index =
       let filled : after ≡ map Some (open_of ps) = is ∙ filled-is ps in
       record {
         names = subst AreApart (sym (closed-open after is)) s.names;
         frames = subst AreOfFrames (sym (closed-open after is)) s.frames;
-        filed = subst (λ qs. AreFiled 0 qs anew) (sym filled) filed;
+        index = subst (λ qs. AreIndexed 0 qs anew) (sym filled) index;
         starts = subst StartsOpen (sym filled) (starts-filled (open_of ps));
         fits = omega (arith, s.fits, ap length filled, length-map (open_of ps), open-length ps);
       }

@@ -1,5 +1,5 @@
--- Windows at places in a row, in the order of their opening. A window that was closed leaves its place empty.
-use Rattle.std.specs.Prelude.{◌≡◌, ℕ, ◌+◌, Bool, false, List, [], ◌∷◌, ◌++◌, replicate, slice_index_or, slice_set, Option, Some, None, option_map}
+-- Windows at places in a queue, in the order of their opening. A window that was closed leaves its place empty.
+use Rattle.std.specs.Prelude.{◌≡◌, ℕ, ◌+◌, ◌/◌, Bool, false, ◌&&◌, nat_le, nat_lt, length, List, [], ◌∷◌, ◌++◌, replicate, slice_index_or, slice_set, Option, Some, None, option_map}
 use Rattle.std.specs.Option.{option_map_or}
 use Rattle.ns_types.specs.declared.heard.Heard.{Heard}
 use Rattle.ns_windows.specs.declared.places.Sought.{Sought}
@@ -39,6 +39,10 @@ abbrev pub StartsOpen : List (Option Window) → Type 0
 StartsOpen [] = Unit {0}
 StartsOpen (None ∷ ps) = ⊥
 StartsOpen (Some w ∷ ps) = Unit {0}
+
+-- whether the room is full, with 64 places or more, and fewer than half of them have a window
+abbrev pub is_sparse : ℕ → List (Option Window) → Bool
+is_sparse capacity places = nat_le 64 (length places) && nat_le capacity (length places) && nat_lt (length (open_of places)) (length places / 2)
 
 -- empty places before the first window are left out, and the first place has the number that it had
 pub record Leaves (n : ℕ) (before : List (Option Window)) (m : ℕ) (after : List (Option Window)) : Type 0 where

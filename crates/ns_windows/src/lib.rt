@@ -6,7 +6,7 @@
 //! `ns_calls`, and on `ns_rows` for where the windows of a device and of an address are.
 #![tactic(auto)]
 
-mod filed;
+mod index;
 mod places;
 mod rows;
 mod window;

@@ -1,8 +1,9 @@
-//! Windows at places in a row, in the order of their opening.
+//! Windows at places in a queue, in the order of their opening.
 
 ghost use Rattle.std.specs.Prelude.{◌≡◌, true, ◌<◌, ◌+◌, ◌^◌, ◌++◌, length, map, option_map, option_to_list, filter, is_some, IfSome, IfNone, OnOk};
+ghost use Rattle.std.specs.VecDeque.{deque_capacity};
 ghost use Rattle.ns_windows.specs.Windows.{with_copy, addition};
-ghost use Rattle.ns_windows.specs.Places.{window_at, passes, passes_at, places_with_copy, places_without, Leaves};
+ghost use Rattle.ns_windows.specs.Places.{window_at, passes, passes_at, places_with_copy, places_without, is_sparse, Leaves};
 ghost use Rattle.ns_windows.specs.Rows.{NoneIsThere};
 
 use crate::rows::Spot;
@@ -14,6 +15,9 @@ use std::collections::VecDeque;
 
 /// Windows in the order of their opening, each at a place. A window that was closed leaves its place empty.
 pub(crate) type Places = VecDeque<Option<BoxedWindow>>;
+
+// With fewer places the empty ones stay, however few windows are open.
+const FEW: usize = 64;
 
 /// What a window is found by.
 #[derive(Clone, Copy)]
@@ -107,8 +111,8 @@ pub(crate) fn put_name(
     Ok(())
 }
 
-/// Leaves out the empty places before the first window.
-pub(crate) fn leave_empty(places: &mut Places, first: &mut usize)
+/// Removes the empty places before the first window.
+pub(crate) fn remove_leading_empty(places: &mut Places, first: &mut usize)
     requires { first.old + length places.old.items < 2 ^ 64 }
     ensures { Leaves first.old places.old.items first.new places.new.items }
 {
@@ -121,24 +125,26 @@ pub(crate) fn leave_empty(places: &mut Places, first: &mut usize)
     }
 }
 
-/// Leaves out all empty places.
-pub(crate) fn leave_all_empty(places: &mut Places)
+/// Removes all empty places.
+pub(crate) fn remove_empty(places: &mut Places)
     ensures { places.new.items ≡ filter is_some places.old.items }
 {
     places.retain(|place| place.is_some());
 }
 
-/// Whether no place is left before the next growth, and fewer than half of them have a window. Few places stay as they are.
-pub(crate) fn is_sparse(places: &Places) -> bool {
-    const FEW: usize = 64;
+/// Whether the room is full, with 64 places or more, and fewer than half of them have a window.
+pub(crate) fn is_sparse(places: &Places) -> bool
+    ensures { result ≡ is_sparse (deque_capacity places.now) places.now.items }
+{
     if places.len() < FEW || places.len() < places.capacity() {
         return false;
     }
-    let mut windows: usize = 0;
+    let mut windows = 0;
     for at in 0..places.len() {
-        if let Some(Some(_window)) = places.get(at) {
-            windows = windows.saturating_add(1);
-        }
+        let Some(place) = places.get(at) else {
+            unreachable!()
+        };
+        windows += usize::from(place.is_some());
     }
     windows < places.len() / 2
 }

@@ -7,15 +7,16 @@ ghost use Rattle.ns_windows.specs.Rows.{spots_without};
 use ns_rows::Rows;
 use smallvec::SmallVec;
 
-/// Where a window is: the number of its place, and a mark that tells it from most others of its row.
+/// Where a window is. Its place is this number less that of the first place. The mark is its frame counter in the row of a device, and its
+/// MIC in that of an address: few windows of a row have one mark.
 #[derive(Clone, Copy, Default)]
 pub(crate) struct Spot {
     pub number: u32,
     pub mark: u32,
 }
 
-/// The spots of the windows of each key, in the order of their opening. A row stays when it is empty. Few devices have more
-/// than two windows at once, so two spots take no memory of their own.
+/// The spots of the windows of each key, in the order of their opening. A row that is empty stays, until the places are numbered anew. Few
+/// devices have more than two windows at once.
 pub(crate) type Spots = Rows<Spot, 2>;
 
 // Takes the spot of a number out of a row.

@@ -1,12 +1,12 @@
-//! Open windows by their names and by their frames.
+//! The open windows of a shard in a queue, found by the spots of their device and of their address.
 
 ghost use Rattle.std.specs.Prelude.{◌≡◌, [], ◌∷◌, ◌++◌, None, is_some, map, option_map, IfOk, OnOk, OnErr};
 ghost use Rattle.ns_calls.specs.Queries.{first};
 ghost use Rattle.ns_windows.specs.Windows.{window_named, window_of_frame, new_window, count, addition, with_copy_of, without};
 
-use crate::filed::{Filed, count_of, filed_anew, find, no_spots, put, take};
+use crate::index::{WindowIndex, count_of, find, no_spots, put, reindexed, take};
 use crate::places::{
-    Places, Sought, add_at, is_sparse, leave_all_empty, leave_empty, put_name, take_at,
+    Places, Sought, add_at, is_sparse, put_name, remove_empty, remove_leading_empty, take_at,
 };
 use crate::window::{Addition, BoxedWindow, Window};
 use ns_calls::DataFrame;
@@ -15,10 +15,10 @@ use std::alloc::{AllocError, Global};
 use std::collections::VecDeque;
 use std::marker::Model;
 
-// Of how many closed windows the memory is kept.
+// The memory of so many closed windows is kept.
 const MOST_CLOSED: usize = 64;
 
-// Above this the number of the first place falls to 0 again.
+// Where the number of the first place is above this, the next opening numbers the places from 0 again, if there is memory for it.
 const MOST_FIRST: usize = 1 << 31;
 
 /// Open windows, in the order of their opening.
@@ -29,8 +29,8 @@ pub struct Windows {
     places: Places,
     /// The number of the first place. Those of the others follow.
     first: usize,
-    /// The numbers of the places of the windows, by device and by address.
-    filed: Filed,
+    /// The spots of the windows, by device and by address.
+    index: WindowIndex,
     /// Closed windows, in whose memory others are opened.
     closed: Vec<BoxedWindow>,
 }
@@ -39,13 +39,13 @@ impl Model for Windows {
     ghost use Rattle.std.specs.Prelude.{List};
     ghost use Rattle.ns_windows.specs.declared.window.Window.{Window};
     ghost use Rattle.ns_windows.specs.Places.{open_of};
-    ghost use Rattle.ns_windows.specs.Filed.{Stand};
+    ghost use Rattle.ns_windows.specs.Indexed.{Agree};
 
     ghost Value = { List Window };
 
     ghost view = { λ w. open_of w.places.items };
 
-    ghost invariant = { λ w. Stand w.first w.places.items w.filed };
+    ghost invariant = { λ w. Agree w.first w.places.items w.index };
 }
 
 impl Windows {
@@ -57,7 +57,7 @@ impl Windows {
             alloc,
             places: VecDeque::new(alloc),
             first: 0,
-            filed: no_spots(alloc),
+            index: no_spots(alloc),
             closed: Vec::new(alloc),
         }
     }
@@ -66,7 +66,7 @@ impl Windows {
     pub fn count(&self, eui: DevEui) -> usize
         ensures { result ≡ count eui self.now }
     {
-        count_of(&self.filed, eui)
+        count_of(&self.index, eui)
     }
 
     /// The name of the window that was opened first.
@@ -97,7 +97,7 @@ impl Windows {
     pub fn is_open(&self, name: &WindowName) -> bool
         ensures { result ≡ is_some (window_named name.now self.now) }
     {
-        find(&self.places, self.first, &self.filed, Sought::Name(name)).is_some()
+        find(&self.places, self.first, &self.index, Sought::Name(name)).is_some()
     }
 
     /// Adds a copy to the window of a frame of equal bytes, where there is one, and where it has fewer than 16.
@@ -105,7 +105,7 @@ impl Windows {
         ensures result { result ≡ option_map addition (window_of_frame frame.now self.old) }
         ensures windows { self.new ≡ with_copy_of frame.now heard.now self.old }
     {
-        let place = find(&self.places, self.first, &self.filed, Sought::Frame(frame))?;
+        let place = find(&self.places, self.first, &self.index, Sought::Frame(frame))?;
         add_at(&mut self.places, place, heard)
     }
 
@@ -145,7 +145,7 @@ impl Windows {
         self.put_boxed(window)
     }
 
-    /// Takes the memory of a window that was closed, for one that is opened later, where there is room for it. It takes no memory.
+    /// Keeps the memory of a closed window for one that is opened later, where there is room for it. It allocates nothing.
     pub fn reuse(&mut self, window: BoxedWindow)
         ensures { self.new ≡ self.old }
     {
@@ -154,17 +154,17 @@ impl Windows {
         }
     }
 
-    // Leaves out all empty places, where memory is there for it.
+    // Removes all empty places, and numbers the others from 0. Where memory for the new tables is refused, nothing changes.
     #[inline(never)]
-    fn close_up(&mut self)
+    fn compact(&mut self)
         ensures { self.new ≡ self.old }
     {
-        let Ok(filed) = filed_anew(self.alloc, &self.places) else {
+        let Ok(index) = reindexed(self.alloc, &self.places) else {
             return;
         };
-        leave_all_empty(&mut self.places);
+        remove_empty(&mut self.places);
         self.first = 0;
-        self.filed = filed;
+        self.index = index;
     }
 
     // Adds a window at the end. Where the growth is refused, nothing has changed.
@@ -176,12 +176,12 @@ impl Windows {
         ensures err { OnErr result (self.new ≡ self.old) }
     {
         if is_sparse(&self.places) || self.first > MOST_FIRST {
-            self.close_up();
+            self.compact();
         }
         self.put_last(window)
     }
 
-    // The same at a further place.
+    // The same, where no places are removed before.
     #[inline(always)]
     fn put_last(&mut self, window: BoxedWindow) -> Result<(), AllocError>
         requires name { window_named window.name self.old ≡ None }
@@ -189,6 +189,7 @@ impl Windows {
         ensures ok { OnOk result (self.new ≡ self.old ++ window ∷ []) }
         ensures err { OnErr result (self.new ≡ self.old) }
     {
+        // All numbers have 32 bits, also that behind the last place.
         let Ok(number) = u32::try_from(self.first + self.places.len()) else {
             return Err(AllocError);
         };
@@ -196,12 +197,12 @@ impl Windows {
             return Err(AllocError);
         }
         self.places.reserve(1)?;
-        put(&mut self.filed, self.alloc, window.as_ref(), number)?;
+        put(&mut self.index, self.alloc, window.as_ref(), number)?;
         self.places.push_back_reserved(Some(window));
         Ok(())
     }
 
-    /// Takes the window of a name out. It takes no memory.
+    /// Removes and gives the window of a name. It allocates nothing.
     pub fn take(&mut self, name: &WindowName) -> Option<Window>
         ensures result { result ≡ window_named name.now self.old }
         ensures windows { self.new ≡ without name.now self.old }
@@ -209,20 +210,20 @@ impl Windows {
         Some(self.take_boxed(name)?.into_inner())
     }
 
-    /// The same, where the window lies.
+    /// The same, in the memory of the window.
     #[inline(always)]
     pub fn take_boxed(&mut self, name: &WindowName) -> Option<BoxedWindow>
         ensures result { result ≡ window_named name.now self.old }
         ensures windows { self.new ≡ without name.now self.old }
     {
-        let place = find(&self.places, self.first, &self.filed, Sought::Name(name))?;
+        let place = find(&self.places, self.first, &self.index, Sought::Name(name))?;
         let window = take_at(&mut self.places, place)?;
         take(
-            &mut self.filed,
+            &mut self.index,
             window.as_ref(),
             (self.first + place) as u32,
         );
-        leave_empty(&mut self.places, &mut self.first);
+        remove_leading_empty(&mut self.places, &mut self.first);
         Some(window)
     }
 }

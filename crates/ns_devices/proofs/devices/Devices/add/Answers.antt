@@ -23,7 +23,7 @@ invariant_of-self-2 c =
     record {
       euis = euis-push c.self.inside.list.entries c.args.own c.self.invariant.euis;
       apart = rw (entries c) at c.insert.ensures.unique;
-      places = places-added c.self.inside.list.entries c.self.inside.places.entries c.add.new.rows.entries c.args.own c.self.invariant (rw (c.len-place.ensures.len, c.from.ensures) at c.in_ok-add.ensures.ok);
+      places = places-added c.self.inside.list.entries c.self.inside.places.entries c.push_at.new.rows.entries c.args.own c.self.invariant (rw (c.len-place.ensures.len, c.from.ensures) at c.in_ok-push_at.ensures.ok);
     }
 
 pub returns-clause-ok : goal.returns-clause-ok

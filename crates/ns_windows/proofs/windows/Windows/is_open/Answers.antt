@@ -14,4 +14,4 @@ returns c = c.is_some.ensures ∙ by c.find.result c.find.ensures.found c.find.e
     by None found none = sym (ap (λ (r : Option Window). is_some r) none)
     by (Some place) found none =
         let there = passes-there (is_named c.args.name.now) c.self.inside.places.items place found in
-        sym (ap (λ (r : Option Window). is_some r) (named-there c.self.inside.first c.self.inside.places.items c.self.inside.filed c.self.invariant c.args.name.now place there.0 there.1 there.2))
+        sym (ap (λ (r : Option Window). is_some r) (named-there c.self.inside.first c.self.inside.places.items c.self.inside.index c.self.invariant c.args.name.now place there.0 there.1 there.2))

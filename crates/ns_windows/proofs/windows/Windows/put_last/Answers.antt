@@ -9,14 +9,14 @@ use Rattle.ns_windows.proofs.windows.Windows.put_last.Goals as goal
 
 pub invariant_of-self-in_err-put : goal.invariant_of-self-in_err-put
 invariant_of-self-in_err-put c =
-    refused-stand c.self.inside.first c.self.inside.places.items c.self.inside.filed c.self.invariant c.in-Ok.number c.reserve.new.self.items c.put.new.filed c.reserve.ensures.items (c.in-Ok.ensures.1 ∙ ap (λ l. c.self.inside.first + l) (c.len.ensures ∙ c.self.inside.places.ok.0))
+    refused-stand c.self.inside.first c.self.inside.places.items c.self.inside.index c.self.invariant c.in-Ok.number c.reserve.new.self.items c.put.new.index c.reserve.ensures.items (c.in-Ok.ensures.1 ∙ ap (λ l. c.self.inside.first + l) (c.len.ensures ∙ c.self.inside.places.ok.0))
     c.in_err-put.ensures.err_devices c.in_err-put.ensures.err_addresses
 
 pub invariant_of-self-2 : goal.invariant_of-self-2
 invariant_of-self-2 c =
     let ps = c.self.inside.places.items in
-    let old = c.self.inside.filed in
-    let more = c.put.new.filed in
+    let old = c.self.inside.index in
+    let more = c.put.new.index in
     let m = c.in-Ok.number in
     let number : m ≡ c.self.inside.first + length ps = c.in-Ok.ensures.1 ∙ ap (λ l. c.self.inside.first + l) (c.len.ensures ∙ c.self.inside.places.ok.0) in
     let pushed : c.push_back_reserved.new.self.items ≡ ps ++ Some c.args.window ∷ [] = c.push_back_reserved.ensures.items ∙ ap (λ qs. qs ++ Some c.args.window ∷ []) c.reserve.ensures.items in

@@ -4,12 +4,12 @@ ghost use Rattle.std.specs.Prelude.{◌≡◌, true, ℕ, ◌<◌, ◌^◌, [], 
 ghost use Rattle.ns_rows.specs.Rows.{row_in};
 ghost use Rattle.ns_windows.specs.Places.{open_of, passes, passes_at};
 ghost use Rattle.ns_windows.specs.Rows.{device_of, counter_of, address_of, mic_of, frame_address, frame_mic, Adds, Takes, Lacks};
-ghost use Rattle.ns_windows.specs.Filed.{AreFiled};
+ghost use Rattle.ns_windows.specs.Indexed.{AreIndexed};
 
 use crate::places::{Places, Sought, place_of};
 use crate::rows::{Spot, Spots, take_spot};
 use crate::window::Window;
-use ns_rows::{add, row_at};
+use ns_rows::{push_at, row_at};
 use ns_types::DevEui;
 use ns_views::DataView;
 use std::alloc::{AllocError, Global};
@@ -17,7 +17,7 @@ use std::collections::HashMap;
 
 /// The spots of windows: of each device, where the mark is the frame counter, and of each address, where it is the MIC.
 #[derive(Drop)]
-pub(crate) struct Filed {
+pub(crate) struct WindowIndex {
     pub devices: Spots,
     pub addresses: Spots,
 }
@@ -37,100 +37,105 @@ fn mic_of(frame: &DataView) -> u32
 }
 
 /// No spots.
-pub(crate) fn no_spots(alloc: Global) -> Filed
+pub(crate) fn no_spots(alloc: Global) -> WindowIndex
     ensures devices { (k : ℕ) → row_in result.devices.entries k ≡ [] }
     ensures addresses { (k : ℕ) → row_in result.addresses.entries k ≡ [] }
 {
-    Filed {
+    WindowIndex {
         devices: HashMap::new(alloc),
         addresses: HashMap::new(alloc),
     }
 }
 
 /// How many windows of a device are at places.
-pub(crate) fn count_of(filed: &Filed, eui: DevEui) -> usize
-    ensures { result ≡ length (row_in filed.now.devices.entries eui.0) }
+pub(crate) fn count_of(index: &WindowIndex, eui: DevEui) -> usize
+    ensures { result ≡ length (row_in index.now.devices.entries eui.0) }
 {
-    row_at(&filed.devices, eui.0).len()
+    row_at(&index.devices, eui.0).len()
 }
 
-/// Files a window that is at a place of this number. Where the growth is refused, rows without that number are as before.
+/// Adds the spots of a window whose place has this number. Where a growth is refused, rows without that number are as before.
 pub(crate) fn put(
-    filed: &mut Filed,
+    index: &mut WindowIndex,
     alloc: Global,
     window: &Window,
     number: u32,
 ) -> Result<(), AllocError>
-    ensures devices { OnOk result (Adds device_of counter_of number window.now filed.old.devices.entries filed.new.devices.entries) }
-    ensures addresses { OnOk result (Adds frame_address frame_mic number window.now filed.old.addresses.entries filed.new.addresses.entries) }
-    ensures err_devices { OnErr result ((k : ℕ) → Lacks number (row_in filed.old.devices.entries k) → row_in filed.new.devices.entries k ≡ row_in filed.old.devices.entries k) }
-    ensures err_addresses { OnErr result ((k : ℕ) → row_in filed.new.addresses.entries k ≡ row_in filed.old.addresses.entries k) }
+    ensures devices { OnOk result (Adds device_of counter_of number window.now index.old.devices.entries index.new.devices.entries) }
+    ensures addresses { OnOk result (Adds frame_address frame_mic number window.now index.old.addresses.entries index.new.addresses.entries) }
+    ensures err_devices { OnErr result ((k : ℕ) → Lacks number (row_in index.old.devices.entries k) → row_in index.new.devices.entries k ≡ row_in index.old.devices.entries k) }
+    ensures err_addresses { OnErr result ((k : ℕ) → row_in index.new.addresses.entries k ≡ row_in index.old.addresses.entries k) }
 {
     let eui = window.name.eui.0;
     let spot = Spot {
         number,
         mark: window.name.fcnt,
     };
-    add(&mut filed.devices, alloc, eui, spot)?;
+    push_at(&mut index.devices, alloc, eui, spot)?;
     let frame = window.frame.view();
     let spot = Spot {
         number,
         mark: mic_of(&frame),
     };
-    if add(&mut filed.addresses, alloc, address_of(&frame), spot).is_err() {
-        take_spot(&mut filed.devices, eui, number);
+    if push_at(&mut index.addresses, alloc, address_of(&frame), spot).is_err() {
+        take_spot(&mut index.devices, eui, number);
         return Err(AllocError);
     }
     Ok(())
 }
 
 /// Takes the spots of a window out, whose place has this number. It takes no memory.
-pub(crate) fn take(filed: &mut Filed, window: &Window, number: u32)
-    ensures devices { Takes device_of number window.now filed.old.devices.entries filed.new.devices.entries }
-    ensures addresses { Takes frame_address number window.now filed.old.addresses.entries filed.new.addresses.entries }
+pub(crate) fn take(index: &mut WindowIndex, window: &Window, number: u32)
+    ensures devices { Takes device_of number window.now index.old.devices.entries index.new.devices.entries }
+    ensures addresses { Takes frame_address number window.now index.old.addresses.entries index.new.addresses.entries }
 {
-    take_spot(&mut filed.devices, window.name.eui.0, number);
+    take_spot(&mut index.devices, window.name.eui.0, number);
     take_spot(
-        &mut filed.addresses,
+        &mut index.addresses,
         address_of(&window.frame.view()),
         number,
     );
 }
 
 /// The place of the window that is sought, where the first place has this number.
-pub(crate) fn find(places: &Places, first: usize, filed: &Filed, sought: Sought) -> Option<usize>
-    requires { AreFiled first places.now.items filed.now }
+pub(crate) fn find(
+    places: &Places,
+    first: usize,
+    index: &WindowIndex,
+    sought: Sought,
+) -> Option<usize>
+    requires { AreIndexed first places.now.items index.now }
     ensures found { IfSome result (λ place. passes_at (passes sought.entry) place places.now.items ≡ true) }
     ensures none { IfNone result (find (passes sought.entry) (open_of places.now.items) ≡ None) }
 {
     match sought {
         Sought::Name(name) => {
-            let spots = row_at(&filed.devices, name.eui.0);
+            let spots = row_at(&index.devices, name.eui.0);
             place_of(places, first, spots, name.fcnt, sought)
         }
         Sought::Frame(frame) => {
             let frame = frame.view();
-            let spots = row_at(&filed.addresses, address_of(&frame));
+            let spots = row_at(&index.addresses, address_of(&frame));
             place_of(places, first, spots, mic_of(&frame), sought)
         }
     }
 }
 
-/// The spots of the windows at places, where the places of windows alone are counted, from 0 on. `AllocError` where a growth was refused.
-pub(crate) fn filed_anew(alloc: Global, places: &Places) -> Result<Filed, AllocError>
+/// The spots of the windows at places, where windows alone are numbered, from 0 on. `AllocError` where a growth was refused.
+pub(crate) fn reindexed(alloc: Global, places: &Places) -> Result<WindowIndex, AllocError>
     requires { length places.now.items < 2 ^ 32 }
-    ensures { IfOk result (λ filed. AreFiled 0 (map Some (open_of places.now.items)) filed) }
+    ensures { IfOk result (λ index. AreIndexed 0 (map Some (open_of places.now.items)) index) }
 {
-    let mut filed = no_spots(alloc);
+    let mut index = no_spots(alloc);
     let mut number = 0;
     for at in 0..places.len() {
         let Some(place) = places.get(at) else {
             unreachable!()
         };
         if let Some(window) = place {
-            put(&mut filed, alloc, window.as_ref(), number)?;
+            put(&mut index, alloc, window.as_ref(), number)?;
             number += 1;
         }
     }
-    Ok(filed)
+    Ok(index)
 }

@@ -5,7 +5,7 @@ use Rattle.ns_windows.specs.Windows.{is_named, is_of}
 use Rattle.ns_windows.specs.Rows.{device_of, counter_of, address_of, mic_of, frame_address, frame_mic, NoneIsThere}
 use Rattle.ns_windows.proofs.Frames.{frame-is}
 use Rattle.ns_windows.proofs.Sought.{none-sought}
-use Rattle.ns_windows.proofs.filed.find.Goals as goal
+use Rattle.ns_windows.proofs.index.find.Goals as goal
 
 if_none : {P Q : Type 0} (o : Option ℕ) → (P → Q) → IfNone o P → IfNone o Q
 if_none None f holds = f holds

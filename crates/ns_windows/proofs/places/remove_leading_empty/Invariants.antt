@@ -1,6 +1,6 @@
 use Rattle.std.proofs.Common.{length}
 use Rattle.ns_windows.proofs.Opened.{Left}
-use Rattle.ns_windows.proofs.places.leave_empty.Given as goal
+use Rattle.ns_windows.proofs.places.remove_leading_empty.Given as goal
 
 -- so many places were left out, and those that stay are fewer
 abbrev pub invariant-loop-place : goal.invariant-loop-place

@@ -3,7 +3,7 @@ use Rattle.std.specs.Option.{option_map_or}
 use Rattle.smallvec.specs.SmallVec.{SmallVec}
 use Rattle.ns_rows.specs.Rows.{row_in}
 use Rattle.ns_rows.proofs.Written.{row-added, row-same}
-use Rattle.ns_rows.proofs.add.Goals as goal
+use Rattle.ns_rows.proofs.push_at.Goals as goal
 
 on_err : {A E P : Type 0} (r : Result A E) → P → OnErr r P
 on_err (Ok x) holds = tt

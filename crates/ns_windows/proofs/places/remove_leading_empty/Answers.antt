@@ -1,7 +1,7 @@
 use Rattle.std.proofs.Common.{◌<◌, None, ◌∷◌, List, Option, refl, sym, ap, subst, ◌∙◌}
 use Rattle.ns_windows.specs.declared.window.Window.{Window}
 use Rattle.ns_windows.proofs.Opened.{left-more, starts-empty}
-use Rattle.ns_windows.proofs.places.leave_empty.Goals as goal
+use Rattle.ns_windows.proofs.places.remove_leading_empty.Goals as goal
 
 pub loop-place-preserved : goal.loop-place-preserved
 loop-place-preserved c =
