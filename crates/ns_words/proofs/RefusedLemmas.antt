@@ -1,6 +1,6 @@
 -- Lemmas on values that an option cannot have.
-use Rattle.std.proofs.Common.{◌≡◌, ◌<◌, ◌^◌, ℕ, List, [], true, Option, Some, None, Ok, Err, Result, option_map, is_some, refl, sym, ap, subst, ◌∙◌, arith, inl, inr}
-use Rattle.std.specs.Prelude.{IfErr, codes, find}
+use Rattle.std.proofs.Common.{◌≡◌, ◌≢◌, ◌<◌, ◌^◌, ℕ, List, [], true, Option, Some, None, Ok, Err, Result, option_map, is_some, refl, sym, ap, subst, ◌∙◌, arith, inl, inr}
+use Rattle.std.specs.Prelude.{IfErr, IfOk, codes, find}
 use Rattle.std.specs.Result.{IsErrAnd}
 use Rattle.std.specs.Str.{bytes_eq}
 use Rattle.std.specs.Option.{ok_or}
@@ -18,8 +18,10 @@ use Rattle.ns_words.specs.declared.options.BadWords.{BadWords}
 use Rattle.ns_words.specs.declared.options.BadWords.TheVariants.{NoMemory, NotText, BadValue, Shown}
 use Rattle.ns_words.specs.declared.options.OptionName.{OptionName}
 use Rattle.ns_words.specs.declared.options.OptionName.TheVariants.{Output}
-use Rattle.ns_words.specs.Asked.{IsNumber}
-use Rattle.ns_words.specs.Refused.{HasBadValue, HasNoAddr, HasNoCount, IsNoOutput, IsOfClap, IsRefusal, IsRefused, IsRefusedBehind, IsThere}
+use Rattle.ns_words.specs.Asked.{IsAsked, IsDoable, IsNumber}
+use Rattle.ns_words.specs.declared.options.Asked.{Asked}
+use Rattle.clap.specs.declared.error.kind.ErrorKind.TheVariants.{OutOfMemory}
+use Rattle.ns_words.specs.Refused.{HasBadValue, HasNoAddr, HasNoCount, IsNoOutput, IsOfClap, IsRead, IsReadBehind, IsRefusal, IsRefused, IsRefusedBehind, IsThere, IsTold}
 use Rattle.ns_words.specs.Commands.{program}
 
 -- no value was read: what the option's text says is none
@@ -95,10 +97,54 @@ made_err (Err x) P Q f is = f x is
 pub from_err : {T E : Type 0} (r : Result T E) (P : E → Type 0) (e : E) → P e → IsErrAnd r (λ x. x ≡ e) → IfErr r P
 from_err r P e p is = made_err r P (λ x. x ≡ e) (λ x is. subst P (sym is) p) is
 
--- an error that a `?` passes on, of a value that an option cannot have
-pub refused_for : {T : Type 0} (r : Result T BadWords) (rows : List Row) (name : OptionName) (bad : BadWords) → bad ≡ BadValue name → HasBadValue name rows
-    → IsErrAnd r (λ x. x ≡ bad) → IfErr r (IsRefused rows)
-refused_for r rows name bad is has made = from_err r (IsRefused rows) bad (subst (IsRefused rows) (sym is) has) made
+-- an error that a `?` passes on, and one of a value that an option cannot have
+pub read_on : {T : Type 0} (r : Result T BadWords) (rows : List Row) (P : T → Type 0) (bad : BadWords) → IsRefused rows bad → IsErrAnd r (λ x. x ≡ bad)
+    → IsRead rows P r
+read_on (Ok x) rows P bad h made = absurd made
+read_on (Err x) rows P bad h made = subst (IsRefused rows) (sym made) h
+
+pub refused_for : {T : Type 0} (r : Result T BadWords) (rows : List Row) (P : T → Type 0) (name : OptionName) (bad : BadWords) → bad ≡ BadValue name
+    → HasBadValue name rows → IsErrAnd r (λ x. x ≡ bad) → IsRead rows P r
+refused_for r rows P name bad is has made = read_on r rows P bad (subst (IsRefused rows) (sym is) has) made
+
+-- and behind a command's name
+pub behind_on : (r : Result Asked BadWords) (name : Text) (rows : List Row) (bad : BadWords) → IsRefusedBehind name rows bad → IsErrAnd r (λ x. x ≡ bad)
+    → IsReadBehind name rows r
+behind_on (Ok x) name rows bad h made = absurd made
+behind_on (Err x) name rows bad h made = subst (IsRefusedBehind name rows) (sym made) h
+
+-- what was read behind a command's name can be done, and what was refused is told
+pub behind_doable : (r : Result Asked BadWords) (name : Text) (rows : List Row) → IsReadBehind name rows r → IfOk r IsDoable
+behind_doable (Ok asked) name rows h = h.0
+behind_doable (Err bad) name rows h = tt
+
+pub behind_told : (r : Result Asked BadWords) (name : Text) (rows : List Row) → IsReadBehind name rows r → IfErr r IsTold
+behind_told (Ok asked) name rows h = tt
+behind_told (Err NoMemory) name rows h = tt
+behind_told (Err NotText) name rows h = h
+behind_told (Err (BadValue option)) name rows h = tt
+behind_told (Err (Shown error)) name rows h = absurd h
+
+pub behind_refused : (r : Result Asked BadWords) (words : List Text) (name : Text) (rows : List Row) → fault_of program words ≡ []
+    → subcommand_of program words ≡ Some (name, rows) → IsReadBehind name rows r → IfErr r (IsRefusal words)
+behind_refused (Ok asked) words name rows none named h = tt
+behind_refused (Err bad) words name rows none named h = refusal_behind words name rows bad none named h
+
+pub behind_asked : (r : Result Asked BadWords) (words : List Text) (name : Text) (rows : List Row) → fault_of program words ≡ []
+    → subcommand_of program words ≡ Some (name, rows) → IsReadBehind name rows r → IfOk r (IsAsked words)
+behind_asked (Ok asked) words name rows none named h = (none, (rows, named ∙ ap (λ (n : Text). Some (n, rows)) h.1, h.2))
+behind_asked (Err bad) words name rows none named h = tt
+
+-- what clap refuses is told, and asks for nothing
+pub told_of_clap : (error : Error) (bad : BadWords) → IsOfClap error bad → IsTold bad
+told_of_clap error NoMemory h = tt
+told_of_clap error NotText h = h
+told_of_clap error (BadValue option) h = tt
+told_of_clap error (Shown shown) h = subst (λ (e : Error). kind_of e ≢ OutOfMemory) (sym h.0) h.1
+
+pub no_ok : {T E : Type 0} (r : Result T E) (P : T → Type 0) (Q : E → Type 0) → IsErrAnd r Q → IfOk r P
+no_ok (Ok x) P Q made = absurd made
+no_ok (Err x) P Q made = tt
 
 -- what is refused behind `serve`, and behind `replay`
 pub refused_serve : (name : Text) (rows : List Row) (bad : BadWords) → name ≡ codes "serve" → IsRefused rows bad → IsRefusedBehind name rows bad

@@ -12,8 +12,11 @@ use Rattle.ns_serve_parts.specs.declared.options.ServeOptions.{ServeOptions}
 use Rattle.ns_words.specs.declared.options.Asked.{Asked}
 use Rattle.ns_words.specs.declared.options.Asked.TheVariants.{Replay, Serve, Compact}
 use Rattle.ns_words.specs.declared.options.Recorded.{Recorded}
+use Rattle.ns_words.specs.declared.options.Addresses.{Addresses}
+use Rattle.ns_words.specs.declared.options.Workers.{Workers}
+use Rattle.ns_words.specs.declared.options.Limits.{Limits}
 use Rattle.ns_words.specs.declared.options.OptionName.{OptionName}
-use Rattle.ns_words.specs.declared.options.OptionName.TheVariants.{Join, Host, Listen, Forwarders, Power, Status, Workers, JoinWorkers, Window, StopAfter, Trim, Record}
+use Rattle.ns_words.specs.declared.options.OptionName.TheVariants.{Join, Host, Listen, Forwarders, Power, Status, JoinWorkers, Window, StopAfter, Trim, Record}
 use Rattle.ns_words.specs.declared.options.OptionName.TheVariants as name
 use Rattle.ns_words.specs.Commands.{program}
 
@@ -25,7 +28,7 @@ name_of Listen = codes "listen"
 name_of Forwarders = codes "forwarders"
 name_of Power = codes "power"
 name_of Status = codes "status"
-name_of Workers = codes "workers"
+name_of name.Workers = codes "workers"
 name_of JoinWorkers = codes "join-workers"
 name_of Window = codes "window"
 name_of StopAfter = codes "stop-after"
@@ -88,11 +91,34 @@ pub record HasOptions (rows : List Row) (o : ServeOptions) : Type 0 where
   pub events : IsFlag (codes "events") rows o.events
   pub closing : IsFlag (codes "closing") rows o.closing
 
+-- the options about addresses, about threads, and about limits
+pub record HasAddresses (rows : List Row) (a : Addresses) : Type 0 where
+  pub join : IsAddr (codes "join") rows a.join
+  pub host : first_of (codes "host") rows ≡ Some (host_text a.host)
+  pub listen : IsAddrIfGiven (codes "listen") rows a.listen
+  pub forwarders : IsAddrIfGiven (codes "forwarders") rows a.forwarders
+  pub power : IsCount (codes "power") 27 rows a.power
+
+pub record HasWorkers (rows : List Row) (w : Workers) : Type 0 where
+  pub status : IsAddrIfGiven (codes "status") rows w.status
+  pub workers : IsCount (codes "workers") 16 rows w.workers
+  pub join_workers : IsCount (codes "join-workers") 16 rows w.join_workers
+
+pub record HasLimits (rows : List Row) (l : Limits) : Type 0 where
+  pub window_ms : IsCount (codes "window") 60000 rows l.window_ms
+  pub stop_after : IsNumberIfGiven (codes "stop-after") rows l.stop_after
+  pub stop_at_end : IsFlag (codes "stop-at-end-of-input") rows l.stop_at_end
+  pub trim : IsNumberOrNever (codes "trim") rows l.trim
+
 -- and what it is put down in, which is nothing where the closing roster is asked for
 pub record HasRecord (rows : List Row) (r : Recorded) : Type 0 where
   pub folder : option_map (λ f. f.now) r.folder ≡ first_of (codes "record") rows
   pub sync : IsFlag (codes "sync") rows r.sync
   pub alone : is_some r.folder ≡ true → IsFlag (codes "closing") rows false
+
+-- the roster's file
+abbrev pub HasRoster : List Row → Text → Type 0
+HasRoster rows path = first_of (codes "ROSTER") rows ≡ Some path
 
 -- what was found behind a command's name
 abbrev pub IsAskedBy : List Row → Asked → Type 0

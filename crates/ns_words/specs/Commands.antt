@@ -1,11 +1,17 @@
 -- The program's command line, as clap reads it: its commands, their options, and what stands where a word leaves an option out.
 use Rattle.std.specs.Prelude.{◌≡◌, ℕ, List, [], ◌∷◌, Some, true, false, codes, fold}
 use Rattle.clap.specs.Words.{App, Rule, Text, app_of, new_app, new_rule, rule_of, with_rule, with_subcommand}
+use Rattle.clap.specs.Walk.{texts}
 use Rattle.clap.specs.declared.builder.arg.Arg.{Arg}
 use Rattle.clap.specs.declared.builder.command.Command.{Command}
 use Rattle.clap.specs.declared.builder.command.Command.TheViews.{out-Command}
 use Rattle.clap.specs.declared.builder.action.ArgAction.TheVariants.{Set, SetTrue}
 use Rattle.clap.specs.declared.builder.value_parser.ValueParser.TheVariants.{Unsigned}
+use Rattle.ns_words.specs.declared.options.Argument.{Argument}
+use Rattle.ns_words.specs.declared.options.Form.{Form}
+use Rattle.ns_words.specs.declared.options.Form.TheVariants.{Place, Switch, Number}
+use Rattle.ns_words.specs.declared.options.Form.TheVariants as form
+use Rattle.ns_words.specs.declared.options.Subcommand.{Subcommand}
 
 -- the roster's file, which each command needs
 abbrev pub roster_rule : Rule
@@ -113,3 +119,31 @@ IsArg rule arg = (rule_of arg ≡ rule) × (arg.global ≡ false)
 abbrev pub AreAdded : App → List Arg → App → Type 0
 AreAdded old [] new = old ≡ new
 AreAdded old (arg ∷ args) new = (arg.global ≡ false) × AreAdded (with_rule old (rule_of arg)) args new
+
+-- the commands, with no argument that holds for the commands below them, added in turn to the first command make the second
+abbrev pub AreBelow : App → List Command → App → Type 0
+AreBelow old [] new = old ≡ new
+AreBelow old (c ∷ cs) new = ((out-Command c).has_globals ≡ false) × AreBelow (with_subcommand old (app_of c).top) cs new
+
+-- an argument in this form and of this name, and how it is read otherwise
+abbrev pub formed : Form → Text → Rule → Rule
+formed Place name rule = record rule { action = Some Set }
+formed Switch name rule = record rule { long = Some name; action = Some SetTrue }
+formed (form.Text value) name rule = record rule { long = Some name; value_names = 1; action = Some Set }
+formed (Number value most) name rule = record rule { long = Some name; value_names = 1; action = Some Set; parser = Some (Unsigned 1 most) }
+
+-- how an argument is read, and a command with such arguments and one with such commands below it
+abbrev pub plain_rule : Argument → Rule
+plain_rule a = record (new_rule a.name.now) { required = a.required; defaults = texts a.defaults.now }
+
+abbrev pub rule_by : Argument → Rule
+rule_by a = formed a.form a.name.now (plain_rule a)
+
+abbrev pub with_arguments : App → List Argument → App
+with_arguments = fold (λ app a. with_rule app (rule_by a))
+
+abbrev pub app_by : Subcommand → App
+app_by c = with_arguments (new_app c.name.now) c.arguments.now
+
+abbrev pub with_subcommands : App → List Subcommand → App
+with_subcommands = fold (λ app c. with_subcommand app (app_by c).top)

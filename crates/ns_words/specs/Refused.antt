@@ -1,6 +1,6 @@
 -- When reading the command line is refused: by clap, for a fault that the words have by the program's rules, and else for a value that an
 -- option cannot have.
-use Rattle.std.specs.Prelude.{◌≡◌, ◌≢◌, ◌⊎◌, ℕ, List, [], true, false, Some, None, is_some, codes, ⊤}
+use Rattle.std.specs.Prelude.{◌≡◌, ◌≢◌, ◌⊎◌, ℕ, List, [], true, false, Result, Ok, Err, Some, None, is_some, codes, ⊤}
 use Rattle.std.specs.declared.net.socket_addr.SocketAddr.{SocketAddr}
 use Rattle.clap.specs.Values.{kind_of}
 use Rattle.clap.specs.Words.{IsAmong, Row, Text, all_of, fault_of, first_of, one_of, subcommand_of}
@@ -11,7 +11,8 @@ use Rattle.ns_words.specs.declared.options.BadWords.{BadWords}
 use Rattle.ns_words.specs.declared.options.BadWords.TheVariants.{NoMemory, NotText, BadValue, Shown}
 use Rattle.ns_words.specs.declared.options.OptionName.{OptionName}
 use Rattle.ns_words.specs.declared.options.OptionName.TheVariants.{Join, Host, Listen, Forwarders, Power, Status, Workers, JoinWorkers, Window, StopAfter, Trim, Record, Output}
-use Rattle.ns_words.specs.Asked.{IsAddr, IsCount}
+use Rattle.ns_words.specs.Asked.{IsAddr, IsAskedBy, IsCount, IsDoable, command_of}
+use Rattle.ns_words.specs.declared.options.Asked.{Asked}
 use Rattle.ns_words.specs.Commands.{program}
 
 -- the option is there, with a value of its own or with none
@@ -81,6 +82,16 @@ IsRefusedBehind name rows NoMemory =
     (first_of (codes "ROSTER") rows ≡ None) ⊎ ((name ≡ codes "compact") × (first_of (codes "DIR") rows ≡ None)) ⊎ (¬ IsCommandName name)
 IsRefusedBehind name rows NotText = ⊥
 IsRefusedBehind name rows (Shown error) = ⊥
+
+-- what is read of the options is this, or one of them is refused
+abbrev pub IsRead : {T : Type 0} → List Row → (T → Type 0) → Result T BadWords → Type 0
+IsRead rows P (Ok x) = P x
+IsRead rows P (Err bad) = IsRefused rows bad
+
+-- and the same behind a command's name
+abbrev pub IsReadBehind : Text → List Row → Result Asked BadWords → Type 0
+IsReadBehind name rows (Ok asked) = IsDoable asked × (name ≡ command_of asked) × IsAskedBy rows asked
+IsReadBehind name rows (Err bad) = IsRefusedBehind name rows bad
 
 -- what becomes of an error of clap's: want of memory is told as such, and any other is shown
 abbrev pub IsOfClap : Error → BadWords → Type 0

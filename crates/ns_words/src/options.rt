@@ -2,11 +2,11 @@
 
 ghost use Rattle.std.specs.Prelude.{◌≡◌, ◌<◌, ◌≤◌, codes, false, IfErr, IfOk, Some, map, string_bytes};
 ghost use Rattle.ns_exchange.specs.HostText.{host_text};
-ghost use Rattle.clap.specs.Words.{app_of, first_of, found_of, new_app, rows_of, rule_of, with_rule};
-ghost use Rattle.ns_words.specs.Asked.{HasOptions, HasRecord, IsAddr, IsAddrIfGiven, IsAsked, IsAskedBy, IsDoable, IsFlag, IsNumber, IsNumberIfGiven, IsNumberOrNever, IsOutput, IsServed, command_of, name_of};
+ghost use Rattle.clap.specs.Words.{app_of, first_of, found_of, new_app, rows_of};
+ghost use Rattle.ns_words.specs.Asked.{HasAddresses, HasLimits, HasOptions, HasRecord, HasRoster, HasWorkers, IsAddr, IsAddrIfGiven, IsAsked, IsDoable, IsFlag, IsNumber, IsNumberIfGiven, IsNumberOrNever, IsOutput, IsServed, name_of};
 ghost use Rattle.ns_words.specs.declared.options.BadWords.TheVariants as refusal;
-ghost use Rattle.ns_words.specs.Commands.{AreAdded, IsArg, IsCommand, address_rules, closing_rule, compact_app, events_rule, folder_rule, limit_rules, number_rule, option_rule, output_rules, program, record_rules, replay_app, roster_rule, serve_app, status_rule, switch_rule, with_rules, worker_rules};
-ghost use Rattle.ns_words.specs.Refused.{HasNoAddr, HasNoCount, HasNoHost, IsNoOutput, IsNotNever, IsOfClap, IsRefusal, IsRefused, IsRefusedBehind, IsThere, IsTold};
+ghost use Rattle.ns_words.specs.Commands.{AreAdded, AreBelow, IsArg, IsCommand, formed, named_app, plain_rule, program, rule_by, with_arguments, with_subcommands};
+ghost use Rattle.ns_words.specs.Refused.{HasNoAddr, HasNoCount, HasNoHost, IsNoOutput, IsNotNever, IsOfClap, IsRead, IsReadBehind, IsRefusal, IsRefused, IsThere, IsTold};
 
 use clap::builder::ValueParser;
 use clap::error::ErrorKind;
@@ -169,293 +169,337 @@ impl From<clap::Error> for BadWords {
     }
 }
 
-// The roster's file, which each command needs.
-fn roster<'a>(alloc: Global) -> Arg<'a>
-    ensures rule { rule_of result ≡ roster_rule }
-    ensures here { result.global ≡ false }
-{
-    Arg::new(alloc, "ROSTER")
-        .required(true)
-        .action(ArgAction::Set)
-        .help("The roster's file")
+// A command of the program.
+struct Subcommand {
+    name: &'static str,
+    about: &'static str,
+    arguments: &'static [Argument],
 }
+
+// An argument of a command.
+struct Argument {
+    // Its name, which is an option's behind `--`.
+    name: &'static str,
+    // What it is among the words.
+    form: Form,
+    // Whether each use of the command needs it.
+    required: bool,
+    // The value that it has where it is left out, if any.
+    defaults: &'static [&'static str],
+    help: &'static str,
+}
+
+// What an argument is among the words.
+enum Form {
+    // A word at its place.
+    Place,
+    // An option without a value.
+    Switch,
+    // An option with a text, which the help calls this.
+    Text(&'static str),
+    // An option with a number from 1 to this.
+    Number(&'static str, u64),
+}
+
+// The roster's file, which each command needs.
+const ROSTER: Argument = Argument {
+    name: "ROSTER",
+    form: Form::Place,
+    required: true,
+    defaults: &[],
+    help: "The roster's file",
+};
 
 // The folder of a record.
-fn folder<'a>(alloc: Global) -> Arg<'a>
-    ensures rule { rule_of result ≡ folder_rule }
-    ensures here { result.global ≡ false }
+const FOLDER: Argument = Argument {
+    name: "DIR",
+    form: Form::Place,
+    required: true,
+    defaults: &[],
+    help: "The folder of the record",
+};
+
+// The join server, and where gateways are heard.
+const JOIN: Argument = Argument {
+    name: "join",
+    form: Form::Text("ADDR"),
+    required: true,
+    defaults: &[],
+    help: "The join server's address, as 127.0.0.1:8080",
+};
+
+const HOST: Argument = Argument {
+    name: "host",
+    form: Form::Text("NAME"),
+    required: false,
+    defaults: &["localhost"],
+    help: "The host that requests to it name",
+};
+
+const LISTEN: Argument = Argument {
+    name: "listen",
+    form: Form::Text("ADDR"),
+    required: false,
+    defaults: &[],
+    help: "The address for the server's own datagrams; 127.0.0.1:1700 without --forwarders",
+};
+
+const FORWARDERS: Argument = Argument {
+    name: "forwarders",
+    form: Form::Text("ADDR"),
+    required: false,
+    defaults: &[],
+    help: "The address at which packet forwarders are heard",
+};
+
+const POWER: Argument = Argument {
+    name: "power",
+    form: Form::Number("DBM", 27),
+    required: false,
+    defaults: &["14"],
+    help: "The power of the downlinks that forwarders send, 1 to 27 dBm",
+};
+
+// How many threads there are.
+const WORKERS: Argument = Argument {
+    name: "workers",
+    form: Form::Number("N", 16),
+    required: false,
+    defaults: &["4"],
+    help: "How many threads hear gateways, 1 to 16",
+};
+
+const JOIN_WORKERS: Argument = Argument {
+    name: "join-workers",
+    form: Form::Number("N", 16),
+    required: false,
+    defaults: &["1"],
+    help: "How many threads ask the join server, 1 to 16",
+};
+
+// When a window is closed, the server stops, and a shard is trimmed.
+const WINDOW: Argument = Argument {
+    name: "window",
+    form: Form::Number("MS", 60_000),
+    required: false,
+    defaults: &["200"],
+    help: "How long copies are gathered, 1 to 60000 ms; those of a join 1000 at most",
+};
+
+const STOP_AFTER: Argument = Argument {
+    name: "stop-after",
+    form: Form::Number("N", 4_294_967_295),
+    required: false,
+    defaults: &[],
+    help: "After how many datagrams to stop, 1 to 4294967295; without it, never",
+};
+
+const STOP_AT_END: Argument = Argument {
+    name: "stop-at-end-of-input",
+    form: Form::Switch,
+    required: false,
+    defaults: &[],
+    help: "Stops at the end of standard input, of which nothing else is used",
+};
+
+const TRIMS: Argument = Argument {
+    name: "trim",
+    form: Form::Text("N"),
+    required: false,
+    defaults: &[TRIM],
+    help: "After how many entries a shard is trimmed, 1 to 4294967295, or never",
+};
+
+// What the calls of the server are put down in.
+const RECORD: Argument = Argument {
+    name: "record",
+    form: Form::Text("DIR"),
+    required: false,
+    defaults: &[],
+    help: "A folder that is there, for the record with which the next run goes on; not with --closing",
+};
+
+const SYNC: Argument = Argument {
+    name: "sync",
+    form: Form::Switch,
+    required: false,
+    defaults: &[],
+    help: "Brings the record to the disk before what rests on it leaves the server",
+};
+
+// How uplinks are written, and what else is.
+const OUTPUT: Argument = Argument {
+    name: "output",
+    form: Form::Text("FORM"),
+    required: false,
+    defaults: &["lines"],
+    help: "How uplinks are written: lines, or json for JSON objects",
+};
+
+const EVENTS: Argument = Argument {
+    name: "events",
+    form: Form::Switch,
+    required: false,
+    defaults: &[],
+    help: "Writes joins and acknowledgements too, each as a JSON object on a line",
+};
+
+const STATUS: Argument = Argument {
+    name: "status",
+    form: Form::Text("ADDR"),
+    required: false,
+    defaults: &[],
+    help: "The address at which HTTP tells the status, as 127.0.0.1:9108; without it, none",
+};
+
+const CLOSING: Argument = Argument {
+    name: "closing",
+    form: Form::Switch,
+    required: false,
+    defaults: &[],
+    help: "Writes at the end the roster from which the next run begins",
+};
+
+// The command that answers recorded steps, the one that compacts a record, and the one that serves gateways.
+const COMMANDS: [Subcommand; 3] = [
+    Subcommand {
+        name: "replay",
+        about: "Answers the step lines of standard input",
+        arguments: &[ROSTER, OUTPUT, CLOSING],
+    },
+    Subcommand {
+        name: "compact",
+        about: "Makes a record shorter that no server runs on; later answers are the same",
+        arguments: &[ROSTER, FOLDER],
+    },
+    Subcommand {
+        name: "serve",
+        about: "Serves gateways over UDP, with a join server over HTTP",
+        arguments: &[
+            ROSTER,
+            JOIN,
+            HOST,
+            LISTEN,
+            FORWARDERS,
+            POWER,
+            WORKERS,
+            JOIN_WORKERS,
+            WINDOW,
+            STOP_AFTER,
+            STOP_AT_END,
+            TRIMS,
+            RECORD,
+            SYNC,
+            OUTPUT,
+            EVENTS,
+            STATUS,
+            CLOSING,
+        ],
+    },
+];
+
+// The argument, in no form yet.
+fn plain<'a>(alloc: Global, argument: &Argument) -> Arg<'a>
+    ensures { IsArg (plain_rule argument.now) result }
 {
-    Arg::new(alloc, "DIR")
-        .required(true)
-        .action(ArgAction::Set)
-        .help("The folder of the record")
+    Arg::new(alloc, argument.name)
+        .required(argument.required)
+        .default_values(argument.defaults)
+        .help(argument.help)
 }
 
-// An option with a text.
-fn option<'a>(alloc: Global, name: &'a str, value: &'a str, help: &'a str) -> Arg<'a>
-    ensures rule { rule_of result ≡ option_rule name.entry.now }
-    ensures here { result.global ≡ false }
+// An option with a value.
+fn option<'a>(alloc: Global, argument: &Argument, value: &'static str) -> Arg<'a>
+    ensures { IsArg (formed (Form.Text value.entry) argument.now.name.now (plain_rule argument.now)) result }
 {
-    Arg::new(alloc, name)
-        .long(name)
+    plain(alloc, argument)
+        .long(argument.name)
         .value_name(value)
         .action(ArgAction::Set)
-        .help(help)
 }
 
 // An option with a number from 1 to this.
-fn number<'a>(alloc: Global, name: &'a str, value: &'a str, most: u64, help: &'a str) -> Arg<'a>
-    ensures rule { rule_of result ≡ number_rule name.entry.now most }
-    ensures here { result.global ≡ false }
+fn number<'a>(alloc: Global, argument: &Argument, value: &'static str, most: u64) -> Arg<'a>
+    ensures { IsArg (formed (Form.Number value.entry most) argument.now.name.now (plain_rule argument.now)) result }
 {
-    option(alloc, name, value, help).value_parser(ValueParser::unsigned(1, most))
+    option(alloc, argument, value).value_parser(ValueParser::unsigned(1, most))
 }
 
 // An option without a value.
-fn switch<'a>(alloc: Global, name: &'a str, help: &'a str) -> Arg<'a>
-    ensures rule { rule_of result ≡ switch_rule name.entry.now }
-    ensures here { result.global ≡ false }
+fn switch<'a>(alloc: Global, argument: &Argument) -> Arg<'a>
+    ensures { IsArg (formed Form.Switch argument.now.name.now (plain_rule argument.now)) result }
 {
-    Arg::new(alloc, name)
-        .long(name)
+    plain(alloc, argument)
+        .long(argument.name)
         .action(ArgAction::SetTrue)
-        .help(help)
 }
 
-// The option that asks for the closing roster.
-fn closing<'a>(alloc: Global) -> Arg<'a>
-    ensures rule { rule_of result ≡ closing_rule }
-    ensures here { result.global ≡ false }
+// The argument, as clap is told of it.
+fn arg_of<'a>(alloc: Global, argument: &Argument) -> Arg<'a>
+    ensures { IsArg (rule_by argument.now) result }
 {
-    let help = "Writes at the end the roster from which the next run begins";
-    switch(alloc, "closing", help)
+    match argument.form {
+        Form::Place => plain(alloc, argument).action(ArgAction::Set),
+        Form::Switch => switch(alloc, argument),
+        Form::Text(value) => option(alloc, argument, value),
+        Form::Number(value, most) => number(alloc, argument, value, most),
+    }
 }
 
-// The option with the address at which the status is told.
-fn status<'a>(alloc: Global) -> Arg<'a>
-    ensures rule { rule_of result ≡ status_rule }
-    ensures here { result.global ≡ false }
+// The arguments.
+fn args_of<'a>(alloc: Global, arguments: &[Argument]) -> Result<Vec<Arg<'a>>, AllocError>
+    ensures { (app : _) → IfOk result (λ args. AreAdded app args.items (with_arguments app arguments.now)) }
 {
-    option(
-        alloc,
-        "status",
-        "ADDR",
-        "The address at which HTTP tells the status, as 127.0.0.1:9108; without it, none",
-    )
-}
-
-// The option that asks for events.
-fn events<'a>(alloc: Global) -> Arg<'a>
-    ensures rule { rule_of result ≡ events_rule }
-    ensures here { result.global ≡ false }
-{
-    let help = "Writes joins and acknowledgements too, each as a JSON object on a line";
-    switch(alloc, "events", help)
-}
-
-// A command with nothing but its help.
-fn command<'a>(alloc: Global, name: &'a str, about: &'a str) -> Command<'a>
-    ensures { IsCommand (new_app name.entry.now) result }
-{
-    Command::new(alloc, name).about(about).after_help(STREAMS)
-}
-
-// Adds an argument behind the others.
-fn add<'a>(args: &mut Vec<Arg<'a>>, arg: Arg<'a>) -> Result<(), AllocError>
-    ensures { (old app : _) (rule : _) → AreAdded old args.old.items app → IsArg rule arg.entry
-        → IfOk result (λ _. AreAdded old args.new.items (with_rule app rule)) }
-{
-    args.push(arg)?;
-    Ok(())
-}
-
-// Adds the arguments: the join server and where gateways are heard.
-fn add_addresses<'a>(alloc: Global, args: &mut Vec<Arg<'a>>) -> Result<(), AllocError>
-    ensures { (old app : _) → AreAdded old args.old.items app → IfOk result (λ _. AreAdded old args.new.items (with_rules app address_rules)) }
-{
-    let join = option(
-        alloc,
-        "join",
-        "ADDR",
-        "The join server's address, as 127.0.0.1:8080",
-    );
-    add(args, join.required(true))?;
-    let host = option(alloc, "host", "NAME", "The host that requests to it name");
-    add(args, host.default_value("localhost"))?;
-    let listen = option(
-        alloc,
-        "listen",
-        "ADDR",
-        "The address for the server's own datagrams; 127.0.0.1:1700 without --forwarders",
-    );
-    add(args, listen)?;
-    let forwarders = option(
-        alloc,
-        "forwarders",
-        "ADDR",
-        "The address at which packet forwarders are heard",
-    );
-    add(args, forwarders)?;
-    let power = number(
-        alloc,
-        "power",
-        "DBM",
-        27,
-        "The power of the downlinks that forwarders send, 1 to 27 dBm",
-    );
-    add(args, power.default_value("14"))
-}
-
-// Adds the arguments: how many threads there are.
-fn add_workers<'a>(alloc: Global, args: &mut Vec<Arg<'a>>) -> Result<(), AllocError>
-    ensures { (old app : _) → AreAdded old args.old.items app → IfOk result (λ _. AreAdded old args.new.items (with_rules app worker_rules)) }
-{
-    let workers = number(
-        alloc,
-        "workers",
-        "N",
-        16,
-        "How many threads hear gateways, 1 to 16",
-    );
-    add(args, workers.default_value("4"))?;
-    let join_workers = number(
-        alloc,
-        "join-workers",
-        "N",
-        16,
-        "How many threads ask the join server, 1 to 16",
-    );
-    add(args, join_workers.default_value("1"))
-}
-
-// Adds the arguments: when a window is closed, the server stops, and a shard is trimmed.
-fn add_limits<'a>(alloc: Global, args: &mut Vec<Arg<'a>>) -> Result<(), AllocError>
-    ensures { (old app : _) → AreAdded old args.old.items app → IfOk result (λ _. AreAdded old args.new.items (with_rules app limit_rules)) }
-{
-    let window = number(
-        alloc,
-        "window",
-        "MS",
-        60_000,
-        "How long copies are gathered, 1 to 60000 ms; those of a join 1000 at most",
-    );
-    add(args, window.default_value("200"))?;
-    let stop_after = number(
-        alloc,
-        "stop-after",
-        "N",
-        4_294_967_295,
-        "After how many datagrams to stop, 1 to 4294967295; without it, never",
-    );
-    add(args, stop_after)?;
-    let stop_at_end = switch(
-        alloc,
-        "stop-at-end-of-input",
-        "Stops at the end of standard input, of which nothing else is used",
-    );
-    add(args, stop_at_end)?;
-    let trim = option(
-        alloc,
-        "trim",
-        "N",
-        "After how many entries a shard is trimmed, 1 to 4294967295, or never",
-    );
-    add(args, trim.default_value(TRIM))
-}
-
-// Adds the arguments: what the calls of the server are put down in.
-fn add_record<'a>(alloc: Global, args: &mut Vec<Arg<'a>>) -> Result<(), AllocError>
-    ensures { (old app : _) → AreAdded old args.old.items app → IfOk result (λ _. AreAdded old args.new.items (with_rules app record_rules)) }
-{
-    let record = option(
-        alloc,
-        "record",
-        "DIR",
-        "A folder that is there, for the record with which the next run goes on; not with --closing",
-    );
-    add(args, record)?;
-    let sync = switch(
-        alloc,
-        "sync",
-        "Brings the record to the disk before what rests on it leaves the server",
-    );
-    add(args, sync)
-}
-
-// Adds the argument: how uplinks are written.
-fn add_output<'a>(alloc: Global, args: &mut Vec<Arg<'a>>) -> Result<(), AllocError>
-    ensures { (old app : _) → AreAdded old args.old.items app → IfOk result (λ _. AreAdded old args.new.items (with_rules app output_rules)) }
-{
-    let output = option(
-        alloc,
-        "output",
-        "FORM",
-        "How uplinks are written: lines, or json for JSON objects",
-    );
-    add(args, output.default_value("lines"))
-}
-
-// Adds the arguments of the command that serves gateways.
-fn add_served<'a>(alloc: Global, args: &mut Vec<Arg<'a>>) -> Result<(), AllocError>
-    ensures { (old : _) → AreAdded old args.old.items (new_app (codes "serve")) → IfOk result (λ _. AreAdded old args.new.items serve_app) }
-{
-    add(args, roster(alloc))?;
-    add_addresses(alloc, args)?;
-    add_workers(alloc, args)?;
-    add_limits(alloc, args)?;
-    add_record(alloc, args)?;
-    add_output(alloc, args)?;
-    add(args, events(alloc))?;
-    add(args, status(alloc))?;
-    add(args, closing(alloc))
-}
-
-// The command that serves gateways.
-fn serve_command<'a>(alloc: Global) -> Result<Command<'a>, AllocError>
-    ensures { IfOk result (IsCommand serve_app) }
-{
-    let about = "Serves gateways over UDP, with a join server over HTTP";
     let mut args = Vec::new(alloc);
-    add_served(alloc, &mut args)?;
-    command(alloc, "serve", about).args(args)
+    for argument in arguments {
+        args.push(arg_of(alloc, argument))?;
+    }
+    Ok(args)
 }
 
-// The command that answers recorded steps.
-fn replay_command<'a>(alloc: Global) -> Result<Command<'a>, AllocError>
-    ensures { IfOk result (IsCommand replay_app) }
+// A command with these arguments.
+fn command<'a>(
+    alloc: Global,
+    name: &'static str,
+    about: &'static str,
+    arguments: &[Argument],
+) -> Result<Command<'a>, AllocError>
+    ensures { IfOk result (IsCommand (with_arguments (new_app name.entry.now) arguments.now)) }
 {
-    let about = "Answers the step lines of standard input";
-    let mut args = Vec::new(alloc);
-    add(&mut args, roster(alloc))?;
-    add_output(alloc, &mut args)?;
-    add(&mut args, closing(alloc))?;
-    command(alloc, "replay", about).args(args)
+    let args = args_of(alloc, arguments)?;
+    Command::new(alloc, name)
+        .about(about)
+        .after_help(STREAMS)
+        .args(args)
 }
 
-// The command that compacts a record.
-fn compact_command<'a>(alloc: Global) -> Result<Command<'a>, AllocError>
-    ensures { IfOk result (IsCommand compact_app) }
+// The commands, each with its arguments.
+fn commands_of<'a>(alloc: Global, rows: &[Subcommand]) -> Result<Vec<Command<'a>>, AllocError>
+    ensures { (app : _) → IfOk result (λ commands. AreBelow app commands.items (with_subcommands app rows.now)) }
 {
-    let about = "Makes a record shorter that no server runs on; later answers are the same";
-    let mut args = Vec::new(alloc);
-    add(&mut args, roster(alloc))?;
-    add(&mut args, folder(alloc))?;
-    command(alloc, "compact", about).args(args)
+    let mut commands = Vec::new(alloc);
+    for row in rows {
+        commands.push(command(alloc, row.name, row.about, row.arguments)?)?;
+    }
+    Ok(commands)
 }
 
 // The program's commands.
+fn subcommands<'a>(alloc: Global) -> Result<Vec<Command<'a>>, AllocError>
+    ensures { IfOk result (λ commands. AreBelow named_app commands.items program) }
+{
+    commands_of(alloc, &COMMANDS)
+}
+
+// The program with its commands.
 fn commands<'a>(alloc: Global) -> Result<Command<'a>, AllocError>
     ensures { IfOk result (λ c. app_of c ≡ program) }
 {
-    let replay = replay_command(alloc)?;
-    let program = command(alloc, "lorawan_ns", "A LoRaWAN network server")
+    let commands = subcommands(alloc)?;
+    command(alloc, "lorawan_ns", "A LoRaWAN network server", &[])?
         .version(VERSION)
         .subcommand_required(true)
-        .subcommand(replay)?;
-    let compact = compact_command(alloc)?;
-    let program = program.subcommand(compact)?;
-    let serve = serve_command(alloc)?;
-    program.subcommand(serve)
+        .subcommands(commands)
 }
 
 // The host that the option names.
@@ -555,26 +599,91 @@ fn flag(found: &ArgMatches<'_>, name: &str) -> bool
     found.get_one(name).unwrap_or(false)
 }
 
-// What the words after `serve` ask for.
-fn serve_options<'a>(found: &ArgMatches<'a>) -> Result<ServeOptions<'a>, BadWords>
-    ensures refused { IfErr result (IsRefused (rows_of (found_of found.now))) }
-    ensures served { IfOk result IsServed }
-    ensures options { IfOk result (HasOptions (rows_of (found_of found.now))) }
+// Where the join server is, and where gateways are heard.
+#[derive(Clone, Copy)]
+struct Addresses<'a> {
+    join: SocketAddr,
+    host: HostName<'a>,
+    listen: Option<SocketAddr>,
+    forwarders: Option<SocketAddr>,
+    power: u8,
+}
+
+// Where the status is told, and how many threads there are.
+#[derive(Clone, Copy)]
+struct Workers {
+    status: Option<SocketAddr>,
+    workers: usize,
+    join_workers: usize,
+}
+
+// When a window is closed, the server stops, and a shard is trimmed.
+#[derive(Clone, Copy)]
+struct Limits {
+    window_ms: u32,
+    stop_after: Option<u32>,
+    stop_at_end: bool,
+    trim: Option<u32>,
+}
+
+// The addresses that the words after `serve` give.
+fn read_addresses<'a>(found: &ArgMatches<'a>) -> Result<Addresses<'a>, BadWords>
+    ensures { IsRead (rows_of (found_of found.now)) (HasAddresses (rows_of (found_of found.now))) result }
 {
-    Ok(ServeOptions {
+    Ok(Addresses {
         join: addr(found, OptionName::Join)?,
         host: host(found)?,
         listen: given_addr(found, OptionName::Listen)?,
         forwarders: given_addr(found, OptionName::Forwarders)?,
         power: count(found, OptionName::Power, 27)? as u8,
+    })
+}
+
+// The threads that they ask for.
+fn read_workers(found: &ArgMatches<'_>) -> Result<Workers, BadWords>
+    ensures { IsRead (rows_of (found_of found.now)) (HasWorkers (rows_of (found_of found.now))) result }
+{
+    Ok(Workers {
         status: given_addr(found, OptionName::Status)?,
         workers: count(found, OptionName::Workers, 16)? as usize,
         join_workers: count(found, OptionName::JoinWorkers, 16)? as usize,
+    })
+}
+
+// The limits that they set.
+fn read_limits(found: &ArgMatches<'_>) -> Result<Limits, BadWords>
+    ensures { IsRead (rows_of (found_of found.now)) (HasLimits (rows_of (found_of found.now))) result }
+{
+    Ok(Limits {
         window_ms: count(found, OptionName::Window, 60_000)?,
         stop_after: given(found, OptionName::StopAfter)?,
         stop_at_end: flag(found, "stop-at-end-of-input"),
         trim: trim(found)?,
-        output: output_of(found)?,
+    })
+}
+
+// What the words after `serve` ask for.
+fn serve_options<'a>(found: &ArgMatches<'a>) -> Result<ServeOptions<'a>, BadWords>
+    ensures { IsRead (rows_of (found_of found.now)) (λ options. IsServed options × HasOptions (rows_of (found_of found.now)) options) result }
+{
+    let addresses = read_addresses(found)?;
+    let workers = read_workers(found)?;
+    let limits = read_limits(found)?;
+    let output = output_of(found)?;
+    Ok(ServeOptions {
+        join: addresses.join,
+        host: addresses.host,
+        listen: addresses.listen,
+        forwarders: addresses.forwarders,
+        power: addresses.power,
+        status: workers.status,
+        workers: workers.workers,
+        join_workers: workers.join_workers,
+        window_ms: limits.window_ms,
+        stop_after: limits.stop_after,
+        stop_at_end: limits.stop_at_end,
+        trim: limits.trim,
+        output,
         events: flag(found, "events"),
         closing: flag(found, "closing"),
     })
@@ -595,26 +704,45 @@ fn record_options<'a>(found: &ArgMatches<'a>) -> Result<Recorded<'a>, BadWords>
     Ok(recorded)
 }
 
+// What the words after `serve` ask for, over the roster of this file.
+fn read_serve<'a>(path: &'a str, found: &ArgMatches<'a>) -> Result<Asked<'a>, BadWords>
+    ensures { HasRoster (rows_of (found_of found.now)) path.entry.now → IsReadBehind (codes "serve") (rows_of (found_of found.now)) result }
+{
+    let options = serve_options(found)?;
+    Ok(Asked::Serve(path, options, record_options(found)?))
+}
+
+// And those after `replay`.
+fn read_replay<'a>(path: &'a str, found: &ArgMatches<'a>) -> Result<Asked<'a>, BadWords>
+    ensures { HasRoster (rows_of (found_of found.now)) path.entry.now → IsReadBehind (codes "replay") (rows_of (found_of found.now)) result }
+{
+    let output = output_of(found)?;
+    Ok(Asked::Replay(path, output, flag(found, "closing")))
+}
+
+// And those after `compact`.
+fn read_compact<'a>(path: &'a str, found: &ArgMatches<'a>) -> Result<Asked<'a>, BadWords>
+    ensures { HasRoster (rows_of (found_of found.now)) path.entry.now → IsReadBehind (codes "compact") (rows_of (found_of found.now)) result }
+{
+    match found.get_str("DIR") {
+        Some(folder) => Ok(Asked::Compact(path, folder)),
+        None => Err(BadWords::NoMemory),
+    }
+}
+
 // What the words behind the name of a command ask for.
 fn read_command<'a>(name: &str, found: &ArgMatches<'a>) -> Result<Asked<'a>, BadWords>
-    ensures refused { IfErr result (IsRefusedBehind name.now (rows_of (found_of found.now))) }
-    ensures doable { IfOk result IsDoable }
-    ensures asked { IfOk result (λ asked. (name.now ≡ command_of asked) × IsAskedBy (rows_of (found_of found.now)) asked) }
+    ensures { IsReadBehind name.now (rows_of (found_of found.now)) result }
 {
     let Some(path) = found.get_str("ROSTER") else {
         return Err(BadWords::NoMemory);
     };
     if name == "serve" {
-        let options = serve_options(found)?;
-        Ok(Asked::Serve(path, options, record_options(found)?))
+        read_serve(path, found)
     } else if name == "replay" {
-        let output = output_of(found)?;
-        Ok(Asked::Replay(path, output, flag(found, "closing")))
+        read_replay(path, found)
     } else if name == "compact" {
-        match found.get_str("DIR") {
-            Some(folder) => Ok(Asked::Compact(path, folder)),
-            None => Err(BadWords::NoMemory),
-        }
+        read_compact(path, found)
     } else {
         Err(BadWords::NoMemory)
     }
