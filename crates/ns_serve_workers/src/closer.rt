@@ -7,8 +7,10 @@ ghost use Rattle.ns_workers.specs.Counts.{RisesByReceipts};
 ghost use Rattle.ns_workers.specs.Lines.{AppendsLines, AppendsLinesFront};
 ghost use Rattle.ns_serve_workers.specs.Turns.{HasClosed, HasReceipts, IsTurn, IsTurnWith};
 
+use crate::around::Around;
+use crate::workers::log_end;
 use crossbeam_channel::{Receiver, RecvTimeoutError};
-use log::{Log, error};
+use log::Log;
 use ns_events::Output as Written;
 use ns_outside::{Calls, CloseJob, Gate, Monitor, Receipt, WorkerFault};
 use ns_serve_parts::{Held, Output, ServeFault, put_under_lock};
@@ -21,11 +23,11 @@ use std::sync::{Mutex, Wait};
 use std::time::{Clock, Duration};
 use std::{mem, thread};
 
-/// How many windows are closed at a time, at most.
-pub(crate) const AT_A_TIME: usize = 64;
+// How many windows are closed at a time, at most.
+const AT_A_TIME: usize = 64;
 
-/// The room for the lines of so many windows, each with its line feed.
-pub(crate) fn room_for(output: Written) -> usize {
+// The room for the lines of so many windows, each with its line feed.
+fn room_for(output: Written) -> usize {
     match output {
         Written::Lines => AT_A_TIME * 1025,
         Written::Json => AT_A_TIME * 6401,
@@ -38,18 +40,53 @@ const NAP_MS: u64 = 100;
 // How long it sleeps at least where a window is not due, so that the windows of a few milliseconds are closed together.
 const LEAST_NAP_MS: u64 = 3;
 
+/// A moment, and whether no gateway worker is left then.
+#[derive(Clone, Copy)]
+pub(crate) struct Moment {
+    at: u64,
+    is_deaf: bool,
+}
+
+impl Moment {
+    // That of now.
+    fn now<R: Clock>(rt: &R, state: &State) -> Moment {
+        Moment {
+            at: now_ms(rt, state),
+            is_deaf: state.is_deaf(),
+        }
+    }
+}
+
 // Whether a time has come. Once no gateway worker is left every time has, since no copy can come then.
-fn has_come(due: u64, now: u64, is_deaf: bool) -> bool
-    ensures { IsTrue result ↔ ((due ≤ now) ⊎ (is_deaf ≡ true)) }
+fn has_come(due: u64, moment: Moment) -> bool
+    ensures { IsTrue result ↔ ((due ≤ moment.at) ⊎ (moment.is_deaf ≡ true)) }
 {
-    due <= now || is_deaf
+    due <= moment.at || moment.is_deaf
+}
+
+/// Waits for times.
+pub(crate) trait Watch<R> {
+    // Waits a while for a time, and gives the moment then, if it has come.
+    fn comes(&self, rt: &R, due: u64) -> Option<Moment>;
+}
+
+impl<R: Clock> Watch<R> for State {
+    fn comes(&self, rt: &R, due: u64) -> Option<Moment> {
+        let begun = Moment::now(rt, self);
+        if has_come(due, begun) {
+            return Some(begun);
+        }
+        let nap = nap_ms(due, begun.at).max(LEAST_NAP_MS);
+        thread::sleep(rt, Duration::from_millis(nap));
+        let now = Moment::now(rt, self);
+        if has_come(due, now) { Some(now) } else { None }
+    }
 }
 
 /// The windows that are to be closed, in the order in which they were opened.
 #[derive(Drop)]
 pub(crate) struct Closings<'a> {
-    state: &'a State,
-    receiver: Receiver<CloseJob>,
+    receiver: &'a Receiver<CloseJob>,
     // One that is not due yet.
     held: Option<CloseJob>,
 }
@@ -61,17 +98,16 @@ pub(crate) enum Turn {
     Close(Vec<CloseJob>),
     /// Nothing is due.
     Idle,
-    /// The server stops.
+    /// No window comes any more.
     End,
 }
 
 impl<'a> Closings<'a> {
     /// The windows that come by a channel.
-    pub fn new(state: &'a State, receiver: Receiver<CloseJob>) -> Closings<'a>
+    pub fn new(receiver: &'a Receiver<CloseJob>) -> Closings<'a>
         ensures { result.held ≡ None }
     {
         Closings {
-            state,
             receiver,
             held: None,
         }
@@ -79,66 +115,53 @@ impl<'a> Closings<'a> {
 
     /// What is to be done next: it is waited for a while.
     #[tactic(auto, using(crate::proofs::TurnLemmas::turn_held, crate::proofs::TurnLemmas::turn_new))]
-    pub fn next<R: Wait + Clock>(&mut self, rt: &R, alloc: Global) -> Result<Turn, AllocError>
+    pub fn next<R: Wait + Clock, T: Watch<R>>(
+        &mut self,
+        rt: &R,
+        alloc: Global,
+        watch: &T,
+    ) -> Result<Turn, AllocError>
         ensures { IfOk result (IsTurn self.old.held self.new.held) }
     {
-        if self.state.is_over() {
-            return Ok(Turn::End);
-        }
         if let Some(first) = self.held.take() {
-            return self.turn_with(rt, alloc, first);
+            return self.turn_with(rt, alloc, watch, first);
         }
         match self
             .receiver
             .recv_timeout(rt, Duration::from_millis(NAP_MS))
         {
-            Ok(first) => self.turn_with(rt, alloc, first),
+            Ok(first) => self.turn_with(rt, alloc, watch, first),
             Err(RecvTimeoutError::Timeout) => Ok(Turn::Idle),
             Err(RecvTimeoutError::Disconnected) => Ok(Turn::End),
         }
     }
 
     // What is to be done where this job is the next one.
-    fn turn_with<R: Wait + Clock>(
+    fn turn_with<R: Wait, T: Watch<R>>(
         &mut self,
         rt: &R,
         alloc: Global,
+        watch: &T,
         first: CloseJob,
     ) -> Result<Turn, AllocError>
         requires { self.old.held ≡ None }
         ensures { IfOk result (IsTurnWith first self.new.held) }
     {
-        let Some(now) = self.comes(rt, first.due) else {
+        let Some(moment) = watch.comes(rt, first.due) else {
             self.held = Some(first);
             return Ok(Turn::Idle);
         };
-        Ok(Turn::Close(self.batch(rt, alloc, first, now)?))
-    }
-
-    // Waits a while for a time, and gives the moment then, if it has come.
-    fn comes<R: Clock>(&self, rt: &R, due: u64) -> Option<u64> {
-        let begun = now_ms(rt, self.state);
-        if has_come(due, begun, self.state.is_deaf()) {
-            return Some(begun);
-        }
-        let nap = nap_ms(due, begun).max(LEAST_NAP_MS);
-        thread::sleep(rt, Duration::from_millis(nap));
-        let now = now_ms(rt, self.state);
-        if has_come(due, now, self.state.is_deaf()) {
-            Some(now)
-        } else {
-            None
-        }
+        Ok(Turn::Close(self.batch(rt, alloc, first, moment)?))
     }
 
     // This job, which is due, and those behind it that are due at this moment.
     #[tactic(auto, using(crate::proofs::TurnLemmas::first_stays))]
-    fn batch<R: Wait + Clock>(
+    fn batch<R: Wait>(
         &mut self,
         rt: &R,
         alloc: Global,
         first: CloseJob,
-        now: u64,
+        moment: Moment,
     ) -> Result<Vec<CloseJob>, AllocError>
         requires { self.old.held ≡ None }
         ensures count { IfOk result (λ jobs. (0 < vec_len jobs) × (vec_len jobs ≤ 64)) }
@@ -150,7 +173,7 @@ impl<'a> Closings<'a> {
             let Ok(job) = self.receiver.try_recv(rt) else {
                 break;
             };
-            if !has_come(job.due, now, self.state.is_deaf()) {
+            if !has_come(job.due, moment) {
                 self.held = Some(job);
                 break;
             }
@@ -185,16 +208,19 @@ fn close_all<S: Calls<R>, R: Wait + Clock + Log, G: Gate<R>, M: Monitor<R>>(
     run_closer(receipts, shared, pass, timer, &mut jobs, down, held, limit)
 }
 
-// Logs why the closer ends.
-fn log_end<R: Log>(rt: &R, why: &str) {
-    error!(rt; "closer: {why}");
+/// Logs for what the closer had no memory, and gives the fault.
+pub(crate) fn no_memory<R: Log>(rt: &R, why: &str) -> ServeFault
+    ensures { result ≡ ServeFault.NoMemory }
+{
+    log_end(rt, "closer", why);
+    ServeFault::NoMemory
 }
 
 // Logs that what it wrote did not go out, and gives the fault.
 fn unwritten<R: Log>(rt: &R) -> ServeFault
     ensures { result ≡ ServeFault.Io }
 {
-    log_end(rt, "standard output or the record failed");
+    log_end(rt, "closer", "standard output or the record failed");
     ServeFault::Io
 }
 
@@ -204,8 +230,7 @@ fn fault_of<R: Log>(rt: &R, fault: Option<WorkerFault>, is_written: bool) -> Opt
     ensures memory { result ≡ Some ServeFault.Io → IsNone fault }
 {
     if fault.is_some() {
-        log_end(rt, "no memory to close a window");
-        return Some(ServeFault::NoMemory);
+        return Some(no_memory(rt, "no memory to close a window"));
     }
     if is_written {
         None
@@ -214,8 +239,35 @@ fn fault_of<R: Log>(rt: &R, fault: Option<WorkerFault>, is_written: bool) -> Opt
     }
 }
 
-/// Closes the windows of these jobs, sends their downlinks and writes their lines, also where it meets a fault, which it gives. The receipts
-/// are put in the place of others, in their memory.
+/// What the closer keeps from turn to turn.
+#[derive(Drop)]
+pub(crate) struct Closer<'a> {
+    pub closings: Closings<'a>,
+    // The downlinks and the lines of one turn.
+    pub later: Later<'a>,
+    pub held: Held,
+    // In whose memory the receipts of the next turn are put.
+    pub receipts: Vec<Receipt>,
+}
+
+impl<'a> Closer<'a> {
+    /// The closer of the windows that come by a channel, with room for one turn.
+    pub fn new(state: &'a State, closes: &'a Receiver<CloseJob>) -> Result<Closer<'a>, AllocError>
+        ensures { IfOk result (λ c. c.held.failed ≡ false) }
+    {
+        let alloc = state.alloc();
+        let held = Held::new(alloc, room_for(state.uplinks()))?;
+        let later = Later::new(alloc, state, AT_A_TIME)?;
+        Ok(Closer {
+            closings: Closings::new(closes),
+            later,
+            held,
+            receipts: Vec::new(alloc),
+        })
+    }
+}
+
+/// Closes the windows of these jobs, sends their downlinks and writes their lines, also where it meets a fault, which it gives.
 pub(crate) fn close_and_write<
     S: Calls<R>,
     R: Wait + Clock + Log,
@@ -223,28 +275,33 @@ pub(crate) fn close_and_write<
     M: Monitor<R>,
     W: Sink,
 >(
-    receipts: &mut Vec<Receipt>,
-    shared: &Shared<'_, S, R, G, M>,
+    around: &Around<'_, S, R, G, M, W>,
     pass: &mut S::Pass,
-    state: &State,
-    output: &Mutex<Output<W>>,
+    closer: &mut Closer<'_>,
     jobs: Vec<CloseJob>,
-    later: &mut Later<'_>,
-    held: &mut Held,
 ) -> Option<ServeFault>
-    requires { held.old.failed ≡ false }
-    ensures sound { held.new.failed ≡ false }
+    requires { closer.old.held.failed ≡ false }
+    ensures sound { closer.new.held.failed ≡ false }
     ensures receipts { HasReceipts S.roster (S.made pass.old) (S.made pass.new) }
     ensures closed { result ≡ None → vec_len jobs < 2 ^ 32 → HasClosed S.roster jobs.items (S.made pass.old) (S.made pass.new) }
 {
-    let timer = SinceMoment::now(shared.rt, state);
-    let room = mem::replace(receipts, Vec::new(state.alloc()));
-    let ended = close_all(room, shared, pass, &timer, later, jobs, held);
-    later.send_all(shared.rt);
-    let is_written = put_under_lock(shared.rt, output, held.lines()).is_ok();
-    held.clear();
-    *receipts = ended.receipts;
-    fault_of(shared.rt, ended.fault, is_written)
+    let (rt, state) = (around.rt, around.state);
+    let timer = SinceMoment::now(rt, state);
+    let room = mem::replace(&mut closer.receipts, Vec::new(state.alloc()));
+    let ended = close_all(
+        room,
+        &around.shared(),
+        pass,
+        &timer,
+        &mut closer.later,
+        jobs,
+        &mut closer.held,
+    );
+    closer.later.send_all(rt);
+    let is_written = put_under_lock(rt, around.output, closer.held.lines()).is_ok();
+    closer.held.clear();
+    closer.receipts = ended.receipts;
+    fault_of(rt, ended.fault, is_written)
 }
 
 /// Writes the joins and acknowledgements that were told, and gives the fault where they could not be.

@@ -1,20 +1,18 @@
 //! The closer, from its start to its end.
-ghost use Rattle.std.specs.Prelude.{◌≡◌, false, IfOk};
+ghost use Rattle.std.specs.Prelude.{◌≡◌, false};
 ghost use Rattle.ns_serve_workers.specs.Turns.{HasReceipts};
 
 use crate::around::Around;
-use crate::closer::{AT_A_TIME, Closings, Turn, close_and_write, room_for, write_notices};
-use crate::kits::CloserKit;
+use crate::closer::{Closer, Turn, close_and_write, no_memory, write_notices};
+use crate::kits::PassKit;
+use crate::threads::Lead;
 use crate::workers::Back;
 use crossbeam_channel::Receiver;
 use log::{Log, error};
-use ns_outside::{Calls, CloseJob, Gate, Monitor, Receipt};
-use ns_serve_parts::{Held, Made, ServeFault};
-use ns_serve_sockets::Later;
-use ns_serve_state::State;
+use ns_outside::{Calls, CloseJob, Gate, Monitor};
+use ns_serve_parts::{Made, ServeFault};
+use ns_serve_state::rest_record;
 use ns_types::Sink;
-use ns_workers::Shared;
-use std::alloc::AllocError;
 use std::sync::Wait;
 use std::time::Clock;
 
@@ -23,53 +21,51 @@ pub trait AfterTurn<R> {
     fn after_turn(&mut self, rt: &R, made: &Made);
 }
 
-/// The closer, from its start to its end.
-pub(crate) fn closer_thread<
+/// What the closer takes along.
+#[derive(Drop)]
+pub(crate) struct CloserKit<'c, 'a, S: Calls<R>, R, G, M, W, A> {
+    pub around: &'c Around<'a, S, R, G, M, W>,
+    pub own: PassKit<S, R>,
+    /// The windows that are to be closed.
+    pub closes: &'c Receiver<CloseJob>,
+    /// Who is told of its turns.
+    pub after: A,
+}
+
+// Logs that a thread could not be made.
+fn log_unmade<R: Log>(rt: &R) {
+    error!(rt; "a thread could not be made");
+}
+
+impl<
+    'c,
+    'a,
     S: Calls<R>,
     R: Wait + Clock + Log,
     G: Gate<R>,
     M: Monitor<R>,
     W: Sink,
     A: AfterTurn<R> + Drop,
->(
-    around: &Around<'_, S, R, G, M, W>,
-    kit: CloserKit<S, R>,
-    closes: Receiver<CloseJob>,
-    after: A,
-) -> Back<S, R> {
-    let CloserKit { mut pass } = kit;
-    let fault = close_to_end(around, &mut pass, closes, after);
-    if fault.is_some() {
-        around.state.break_off();
-    }
-    Back { pass, fault }
-}
-
-// What the closer keeps from turn to turn.
-#[derive(Drop)]
-struct Closer<'a> {
-    closings: Closings<'a>,
-    // The downlinks and the lines of one turn.
-    later: Later<'a>,
-    held: Held,
-    // In whose memory the receipts of the next turn are put.
-    receipts: Vec<Receipt>,
-}
-
-impl<'a> Closer<'a> {
-    // The closer of the windows that come by a channel, with room for one turn.
-    fn new(state: &'a State, closes: Receiver<CloseJob>) -> Result<Closer<'a>, AllocError>
-        ensures { IfOk result (λ c. c.held.failed ≡ false) }
-    {
-        let alloc = state.alloc();
-        let held = Held::new(alloc, room_for(state.uplinks()))?;
-        let later = Later::new(alloc, state, AT_A_TIME)?;
-        Ok(Closer {
-            closings: Closings::new(state, closes),
-            later,
-            held,
-            receipts: Vec::new(alloc),
-        })
+> Lead<Back<S, R>> for CloserKit<'c, 'a, S, R, G, M, W, A> {
+    // The closer, from its start to its end. Where a thread could not be made, all others are to stop.
+    fn lead(self, is_whole: bool) -> Back<S, R> {
+        let CloserKit {
+            around,
+            own,
+            closes,
+            after,
+        } = self;
+        if !is_whole {
+            log_unmade(around.rt);
+            around.state.break_off();
+        }
+        let PassKit { mut pass } = own;
+        let fault = close_to_end(around, &mut pass, closes, after);
+        if fault.is_some() {
+            around.state.break_off();
+        }
+        rest_record(around.state);
+        Back { pass, fault }
     }
 }
 
@@ -77,7 +73,6 @@ impl<'a> Closer<'a> {
 #[tactic(auto, using(crate::proofs::ReceiptLemmas::receipts_none))]
 fn close_turn<S: Calls<R>, R: Wait + Clock + Log, G: Gate<R>, M: Monitor<R>, W: Sink>(
     around: &Around<'_, S, R, G, M, W>,
-    shared: &Shared<'_, S, R, G, M>,
     pass: &mut S::Pass,
     closer: &mut Closer<'_>,
 ) -> Result<bool, ServeFault>
@@ -86,40 +81,23 @@ fn close_turn<S: Calls<R>, R: Wait + Clock + Log, G: Gate<R>, M: Monitor<R>, W: 
     ensures receipts { HasReceipts S.roster (S.made pass.old) (S.made pass.new) }
 {
     let (rt, state) = (around.rt, around.state);
-    match closer.closings.next(rt, around.alloc) {
+    if state.is_over() {
+        return Ok(false);
+    }
+    match closer.closings.next(rt, around.alloc, state) {
         Ok(Turn::Close(jobs)) => {
-            let fault = close_and_write(
-                &mut closer.receipts,
-                shared,
-                pass,
-                state,
-                around.output,
-                jobs,
-                &mut closer.later,
-                &mut closer.held,
-            );
-            ended(fault)?;
+            if let Some(fault) = close_and_write(around, pass, closer, jobs) {
+                return Err(fault);
+            }
         }
         Ok(Turn::Idle) => {}
         Ok(Turn::End) => return Ok(false),
-        Err(_) => return Err(no_room(rt, "its jobs")),
+        Err(_) => return Err(no_memory(rt, "no memory for its jobs")),
     }
-    ended(write_notices(rt, state, around.output))?;
-    Ok(true)
-}
-
-// The fault, if there is one.
-fn ended(fault: Option<ServeFault>) -> Result<(), ServeFault> {
-    match fault {
+    match write_notices(rt, state, around.output) {
         Some(fault) => Err(fault),
-        None => Ok(()),
+        None => Ok(true),
     }
-}
-
-// Logs what the closer had no memory for, and gives the fault.
-fn no_room<R: Log>(rt: &R, what: &str) -> ServeFault {
-    error!(rt; "closer: no memory for {what}");
-    ServeFault::NoMemory
 }
 
 // Closes windows until the server stops, and tells of each turn.
@@ -139,9 +117,8 @@ fn close_turns<
     requires { closer.old.held.failed ≡ false }
     ensures { HasReceipts S.roster (S.made pass.old) (S.made pass.new) }
 {
-    let shared = around.shared();
     for _turn in around.rt.forever() {
-        match close_turn(around, &shared, pass, closer) {
+        match close_turn(around, pass, closer) {
             Ok(true) => after.after_turn(around.rt, &around.state.made),
             Ok(false) => return None,
             Err(fault) => return Some(fault),
@@ -162,13 +139,13 @@ fn close_to_end<
 >(
     around: &Around<'_, S, R, G, M, W>,
     pass: &mut S::Pass,
-    closes: Receiver<CloseJob>,
+    closes: &Receiver<CloseJob>,
     mut after: A,
 ) -> Option<ServeFault>
     ensures { HasReceipts S.roster (S.made pass.old) (S.made pass.new) }
 {
     match Closer::new(around.state, closes) {
         Ok(mut closer) => close_turns(around, pass, &mut closer, &mut after),
-        Err(_) => Some(no_room(around.rt, "lines")),
+        Err(_) => Some(no_memory(around.rt, "no memory for lines")),
     }
 }

@@ -1,25 +1,24 @@
 //! The threads of a server, from the first start to the last end.
-ghost use Rattle.std.specs.Prelude.{◌≡◌, ◌+◌, ◌⊎◌, ◌++◌, ◌∷◌, ◌<◌, ◌^◌, [], All, vec_len, Some, Ok, Err, IsNone, IfOk, IfSome};
+ghost use Rattle.std.specs.Prelude.{◌≡◌, ◌+◌, ◌⊎◌, ◌++◌, ◌∷◌, ◌<◌, ◌^◌, [], All, vec_len, true, Some, Ok, Err, IsNone, IfOk, IfSome};
 ghost use Rattle.ns_tally.specs.Tally.{none_made};
 ghost use Rattle.ns_serve_parts.specs.Ends.{IsWorse};
 ghost use Rattle.ns_serve_workers.specs.Turns.{HasReceipts};
 
 use crate::around::Around;
-use crate::closing::{AfterTurn, closer_thread};
-use crate::kits::{Kits, kits_of};
-use crate::threads::{Handles, KeeperKit, join_helpers, start_threads};
+use crate::closing::{AfterTurn, CloserKit};
+use crate::kits::{GatewayEnds, Kits, gateway_ends, kits_of};
+use crate::threads::{Handles, HelperKit, Ran, Starts, join_helpers, run_threads};
 use crate::workers::Back;
 use crossbeam_channel::{Receiver, Sender, unbounded};
-use log::{Log, error};
+use log::Log;
 use ns_outside::{Calls, CloseJob, Gate, Monitor};
 use ns_record_files::Upkeep;
 use ns_serve_parts::{ServeFault, ServeOptions};
-use ns_serve_state::{State, hand_on, rest_record};
+use ns_serve_state::{State, hand_on};
 use ns_types::{Sink, Ticket, WindowName};
 use std::alloc::{AllocError, Global};
 use std::net::{Net, TcpListener, TcpStream};
 use std::sync::Wait;
-use std::thread;
 use std::thread::{JoinHandle, Threads};
 use std::time::Clock;
 
@@ -88,38 +87,54 @@ fn join_all<S: Calls<R>, R: Threads + Wait>(
     }
 }
 
-// Keeps what the closer brought back, and, as they end, what all other threads bring back.
-fn join_threads<S: Calls<R>, R: Threads + Wait>(
-    rt: &R,
-    ends: &mut Ends<S, R>,
-    closer: Back<S, R>,
-    handles: Handles<Back<S, R>>,
-)
-    ensures none { IsNone ends.new.fault → IsNone ends.old.fault × IsNone closer.fault }
+// Keeps what the closer brought back, and what all other threads do. That one could not be made is want of memory.
+fn join_threads<S: Calls<R>, R: Threads + Wait>(rt: &R, ends: &mut Ends<S, R>, ran: Ran<Back<S, R>>)
+    ensures none { IsNone ends.new.fault → IsNone ends.old.fault × IsNone ran.own.fault × (ran.is_whole ≡ true) }
     ensures memory { ends.old.fault ≡ Some ServeFault.NoMemory → ends.new.fault ≡ Some ServeFault.NoMemory }
-    ensures kept { IsNone ends.new.fault → vec_len ends.new.passes ≡ vec_len ends.old.passes + 1 + vec_len handles.gateways + vec_len handles.joiners }
+    ensures kept { IsNone ends.new.fault → vec_len ends.new.passes ≡ vec_len ends.old.passes + 1 + vec_len ran.handles.gateways + vec_len ran.handles.joiners }
 {
+    let Ran {
+        own,
+        handles,
+        is_whole,
+    } = ran;
     let Handles {
         gateways,
         joiners,
         helpers,
     } = handles;
-    keep(ends, closer);
+    if !is_whole {
+        ends.fault = Some(ServeFault::NoMemory);
+    }
+    keep(ends, own);
     join_all(rt, ends, gateways);
     join_all(rt, ends, joiners);
     join_helpers(rt, helpers);
 }
 
-// The channel of the windows that are to be closed, with those that are open already; the open tickets are put where join workers take them.
+// The ends of the channel: what gateway workers take along, and where the windows come that are to be closed.
+#[derive(Drop)]
+struct Channel {
+    ends: Vec<GatewayEnds>,
+    closes: Receiver<CloseJob>,
+}
+
+// The channel of the windows that are to be closed, with those that are open already, and with ends for so many gateway workers; the open
+// tickets are put where join workers take them.
 fn channel_of<R: Wait + Clock>(
     rt: &R,
     state: &State,
+    gateways: usize,
     windows: Vec<WindowName>,
     tickets: Vec<Ticket>,
-) -> Result<(Sender<CloseJob>, Receiver<CloseJob>), AllocError> {
-    let (close_sender, close_receiver) = unbounded::<CloseJob, Global>(state.alloc())?;
+) -> Result<Channel, AllocError>
+    ensures { IfOk result (λ c. vec_len c.ends ≡ gateways) }
+{
+    let alloc = state.alloc();
+    let (close_sender, closes) = unbounded::<CloseJob, Global>(alloc)?;
     hand_on(rt, state, windows, tickets, &close_sender)?;
-    Ok((close_sender, close_receiver))
+    let ends = gateway_ends(alloc, &close_sender, state, gateways)?;
+    Ok(Channel { ends, closes })
 }
 
 // Room for what the threads bring back, before any is made.
@@ -137,8 +152,8 @@ fn room_for_workers<S: Calls<R>, R>(
 ) -> Result<Room<S, R>, AllocError>
     requires { gateways + joiners < 2 ^ 63 }
 {
-    let handles = Handles::room(alloc, gateways, joiners)?;
     let passes = Vec::with_capacity(alloc, gateways + joiners + 1)?;
+    let handles = Handles::room(alloc, gateways, joiners)?;
     let ends = Ends {
         passes,
         fault: None,
@@ -146,20 +161,35 @@ fn room_for_workers<S: Calls<R>, R>(
     Ok(Room { handles, ends })
 }
 
-// What the threads begin with: their kits, the channel of the windows that are to be closed, and room for what they bring back.
+// What the threads begin with: their kits, where the windows come that are to be closed, and room for what they bring back.
 #[derive(Drop)]
 struct Prepared<S: Calls<R>, R> {
     kits: Kits<S, R>,
     closes: Receiver<CloseJob>,
-    // The channel stays open until the last gateway worker has ended.
-    open: Receiver<CloseJob>,
     room: Room<S, R>,
+}
+
+// What the threads begin with that have these ends of the channel, and so many join workers.
+fn prepare_kits<S: Calls<R>, R>(
+    alloc: Global,
+    passes: Vec<S::Pass>,
+    channel: Channel,
+    joiners: usize,
+) -> Result<Prepared<S, R>, AllocError>
+    requires count { vec_len passes ≡ vec_len channel.ends + joiners + 1 }
+    requires unused { All (λ p. S.made p ≡ none_made) passes.items }
+{
+    // Their number says that the counts of workers fit.
+    let _count = passes.len();
+    let Channel { ends, closes } = channel;
+    let room = room_for_workers::<S, R>(alloc, ends.len(), joiners)?;
+    let kits = kits_of::<S, R>(alloc, passes, joiners, ends)?;
+    Ok(Prepared { kits, closes, room })
 }
 
 // What as many threads begin with as are asked for.
 fn prepare<S: Calls<R>, R: Wait + Clock>(
     rt: &R,
-    alloc: Global,
     state: &State,
     passes: Vec<S::Pass>,
     options: &ServeOptions<'_>,
@@ -169,17 +199,8 @@ fn prepare<S: Calls<R>, R: Wait + Clock>(
     requires count { vec_len passes ≡ options.now.workers + options.now.join_workers + 1 }
     requires unused { All (λ p. S.made p ≡ none_made) passes.items }
 {
-    // Their number says that the counts of workers fit.
-    let _count = passes.len();
-    let (sender, closes) = channel_of(rt, state, windows, tickets)?;
-    let kits = kits_of::<S, R>(alloc, passes, &sender, state, options)?;
-    drop(sender);
-    Ok(Prepared {
-        kits,
-        open: closes.clone()?,
-        closes,
-        room: room_for_workers::<S, R>(alloc, options.workers, options.join_workers)?,
-    })
+    let channel = channel_of(rt, state, options.workers, windows, tickets)?;
+    prepare_kits::<S, R>(state.alloc(), passes, channel, options.join_workers)
 }
 
 /// Runs all workers to their ends. The closer runs in the thread of the caller, and `after` is told of each of its turns. `AllocError` where
@@ -207,27 +228,12 @@ where
     requires unused { All (λ p. S.made p ≡ none_made) passes.items }
     ensures { IfOk result (λ ends. All (λ p. ∥ HasReceipts S.roster none_made (S.made p) ∥₁) ends.passes.items) }
 {
-    let Prepared {
-        kits,
-        closes,
-        open,
-        room,
-    } = prepare::<S, R>(
-        around.rt,
-        around.alloc,
-        around.state,
-        passes,
-        options,
-        windows,
-        tickets,
-    )?;
-    let ends = run_kits(around, kits, closes, room, after, upkeep);
-    drop(open);
-    Ok(ends)
+    let prepared = prepare::<S, R>(around.rt, around.state, passes, options, windows, tickets)?;
+    Ok(run_prepared(around, prepared, after, upkeep))
 }
 
-// Runs the workers of these kits to their ends.
-fn run_kits<
+// Runs the workers that are prepared to their ends.
+fn run_prepared<
     S: Calls<R> + Sync,
     R: Threads + Wait + Clock + Net<Listener = TcpListener, Stream = TcpStream> + Log + Sync,
     G: Gate<R> + Sync,
@@ -235,48 +241,33 @@ fn run_kits<
     W: Sink + Send,
     A: AfterTurn<R> + Drop,
     U: Upkeep + Send + Drop,
->(
-    around: &Around<'_, S, R, G, M, W>,
-    kits: Kits<S, R>,
-    close_receiver: Receiver<CloseJob>,
-    room: Room<S, R>,
-    after: A,
-    upkeep: U,
-) -> Ends<S, R>
+>(around: &Around<'_, S, R, G, M, W>, prepared: Prepared<S, R>, after: A, upkeep: U) -> Ends<S, R>
 where
     S::Pass: Send,
-    ensures { All (λ p. ∥ HasReceipts S.roster none_made (S.made p) ∥₁) result.passes.items }
 {
-    let (rt, state) = (around.rt, around.state);
-    state.begin_gateways(kits.gateways.len() as u64);
-    thread::scope(thread::scope_env(), rt, |scope| {
-        let Room {
-            mut handles,
-            mut ends,
-        } = room;
-        let Kits {
-            closer,
-            joins,
-            gateways,
-        } = kits;
-        let is_whole = start_threads(
-            scope,
-            around,
-            joins,
-            gateways,
-            state.is_told(),
-            KeeperKit { upkeep },
-            state.is_recorded(),
-            &mut handles,
-        );
-        if !is_whole {
-            error!(rt; "a thread could not be made");
-            ends.fault = Some(ServeFault::NoMemory);
-            state.break_off();
-        }
-        let back = closer_thread(around, closer, close_receiver, after);
-        rest_record(state);
-        join_threads(rt, &mut ends, back, handles);
-        ends
-    })
+    let state = around.state;
+    // The channel stays open until the last gateway worker has ended.
+    let Prepared { kits, closes, room } = prepared;
+    let Room { handles, mut ends } = room;
+    let Kits {
+        closer,
+        joins,
+        gateways,
+    } = kits;
+    state.begin_gateways(gateways.len() as u64);
+    let starts = Starts {
+        joins,
+        gateways,
+        teller: state.is_told().then_some(HelperKit::Teller),
+        keeper: state.is_recorded().then_some(HelperKit::Keeper(upkeep)),
+    };
+    let closer = CloserKit {
+        around,
+        own: closer,
+        closes: &closes,
+        after,
+    };
+    let ran = run_threads(around.rt, around, starts, closer, handles);
+    join_threads(around.rt, &mut ends, ran);
+    ends
 }

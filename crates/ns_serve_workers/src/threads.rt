@@ -2,17 +2,12 @@
 ghost use Rattle.std.specs.Prelude.{◌≡◌, ◌+◌, true, vec_len};
 
 use crate::around::Around;
-use crate::kits::{GatewayKit, JoinKit};
-use crate::workers::{Back, gateway_thread, join_thread};
-use log::Log;
-use ns_outside::{Calls, Gate, Monitor};
 use ns_record_files::Upkeep;
 use ns_serve_state::look_after_record;
 use ns_serve_status::tell;
-use ns_types::Sink;
 use std::alloc::{AllocError, Global};
-use std::net::{Net, TcpListener, TcpStream};
 use std::sync::Wait;
+use std::thread;
 use std::thread::{JoinHandle, Scope, Threads};
 use std::time::Clock;
 
@@ -21,49 +16,27 @@ pub(crate) trait Work<K, O> {
     fn work(&self, kit: K) -> O;
 }
 
-impl<'a, S: Calls<R>, R: Wait + Clock + Log, G: Gate<R>, M: Monitor<R>, W: Sink> Work<
-    GatewayKit<S, R>,
-    Back<S, R>,
-> for Around<'a, S, R, G, M, W> {
-    fn work(&self, kit: GatewayKit<S, R>) -> Back<S, R> {
-        gateway_thread(self, kit)
-    }
+/// What the thread takes along that starts the others: what it does with it, where all were made or not, and what it brings back.
+pub(crate) trait Lead<O> {
+    fn lead(self, is_whole: bool) -> O;
 }
 
-impl<
-    'a,
-    S: Calls<R>,
-    R: Wait + Clock + Log + Net<Listener = TcpListener, Stream = TcpStream>,
-    G: Gate<R>,
-    M: Monitor<R>,
-    W: Sink,
-> Work<JoinKit<S, R>, Back<S, R>> for Around<'a, S, R, G, M, W> {
-    fn work(&self, kit: JoinKit<S, R>) -> Back<S, R> {
-        join_thread(self, kit)
-    }
-}
-
-// What who tells the status takes along.
+/// What a thread takes along that brings nothing back.
 #[derive(Drop)]
-struct TellerKit;
-
-impl<'a, S, R: Wait + Clock, G, M, W> Work<TellerKit, ()> for Around<'a, S, R, G, M, W> {
-    fn work(&self, _kit: TellerKit) {
-        tell(self.rt, self.alloc, self.state);
-    }
+pub(crate) enum HelperKit<U> {
+    /// That of who tells the status.
+    Teller,
+    /// That of who looks after the record.
+    Keeper(U),
 }
 
-/// What who looks after the record takes along.
-#[derive(Drop)]
-pub(crate) struct KeeperKit<U> {
-    pub upkeep: U,
-}
-
-impl<'a, S, R: Wait + Clock, G, M, W, U: Upkeep + Drop> Work<KeeperKit<U>, ()>
+impl<'a, S, R: Wait + Clock, G, M, W, U: Upkeep + Drop> Work<HelperKit<U>, ()>
     for Around<'a, S, R, G, M, W> {
-    fn work(&self, kit: KeeperKit<U>) {
-        let KeeperKit { upkeep } = kit;
-        look_after_record(self.rt, self.state, upkeep);
+    fn work(&self, kit: HelperKit<U>) {
+        match kit {
+            HelperKit::Teller => tell(self.rt, self.alloc, self.state),
+            HelperKit::Keeper(upkeep) => look_after_record(self.rt, self.state, upkeep),
+        }
     }
 }
 
@@ -96,17 +69,16 @@ fn start_all<'s, E, A: Work<K, O> + Sync, K: Send + Drop + 's, O: Send + Drop + 
     true
 }
 
-// Starts a thread that brings nothing back, where it is wanted, and says whether it was made.
-fn start_helper<'s, E, A: Work<K, ()> + Sync, K: Send + Drop + 's>(
+// Starts a thread that brings nothing back, where there is a kit for it, and says whether it was made.
+fn start_helper<'s, E, A: Work<H, ()> + Sync, H: Send + Drop + 's>(
     scope: &Scope<'s, E>,
     around: &'s A,
-    kit: K,
-    is_wanted: bool,
+    kit: Option<H>,
     helpers: &mut Vec<JoinHandle<()>>,
 ) -> bool {
-    if !is_wanted {
+    let Some(kit) = kit else {
         return true;
-    }
+    };
     let Some(handle) = start_thread(scope, around, kit) else {
         return false;
     };
@@ -140,32 +112,71 @@ impl<O: Drop> Handles<O> {
     }
 }
 
-/// Starts all join workers, all gateway workers, who tells the status where it is told and who looks after the record where there is one,
-/// and says whether all were made. What those take along that were not made is dropped: a sender among it would keep the closer's channel
-/// open.
-pub(crate) fn start_threads<
+/// What the threads take along that are to be started.
+#[derive(Drop)]
+pub(crate) struct Starts<J, G, H> {
+    pub joins: Vec<J>,
+    pub gateways: Vec<G>,
+    /// That of who tells the status, where it is told.
+    pub teller: Option<H>,
+    /// That of who looks after the record, where there is one.
+    pub keeper: Option<H>,
+}
+
+// Starts a thread for each kit, and says whether all were made. What those take along that were not made is dropped: a sender among it
+// would keep the closer's channel open.
+fn start_threads<
     's,
     E,
-    A: Work<J, O> + Work<G, O> + Work<TellerKit, ()> + Work<K, ()> + Sync,
+    A: Work<J, O> + Work<G, O> + Work<H, ()> + Sync,
     J: Send + Drop + 's,
     G: Send + Drop + 's,
-    K: Send + Drop + 's,
+    H: Send + Drop + 's,
     O: Send + Drop + 's,
->(
-    scope: &Scope<'s, E>,
-    around: &'s A,
-    join_kits: Vec<J>,
-    gateway_kits: Vec<G>,
-    is_told: bool,
-    keeper: K,
-    is_kept: bool,
-    handles: &mut Handles<O>,
-) -> bool
-    ensures joiners { result ≡ true → vec_len handles.new.joiners ≡ vec_len handles.old.joiners + vec_len join_kits }
-    ensures gateways { result ≡ true → vec_len handles.new.gateways ≡ vec_len handles.old.gateways + vec_len gateway_kits }
+>(scope: &Scope<'s, E>, around: &'s A, starts: Starts<J, G, H>, handles: &mut Handles<O>) -> bool
+    ensures joiners { result ≡ true → vec_len handles.new.joiners ≡ vec_len handles.old.joiners + vec_len starts.joins }
+    ensures gateways { result ≡ true → vec_len handles.new.gateways ≡ vec_len handles.old.gateways + vec_len starts.gateways }
 {
-    start_all(scope, around, join_kits, &mut handles.joiners)
-        && start_all(scope, around, gateway_kits, &mut handles.gateways)
-        && start_helper(scope, around, TellerKit, is_told, &mut handles.helpers)
-        && start_helper(scope, around, keeper, is_kept, &mut handles.helpers)
+    let Starts {
+        joins,
+        gateways,
+        teller,
+        keeper,
+    } = starts;
+    start_all(scope, around, joins, &mut handles.joiners)
+        && start_all(scope, around, gateways, &mut handles.gateways)
+        && start_helper(scope, around, teller, &mut handles.helpers)
+        && start_helper(scope, around, keeper, &mut handles.helpers)
+}
+
+/// What the thread brings back that started the others, and these.
+#[derive(Drop)]
+pub(crate) struct Ran<O> {
+    pub own: O,
+    pub handles: Handles<O>,
+    /// Whether all were made.
+    pub is_whole: bool,
+}
+
+/// Starts all join workers, all gateway workers, who tells the status where it is told and who looks after the record where there is one,
+/// does in this thread what is its own, and comes back when all have ended.
+pub(crate) fn run_threads<
+    R: Threads + Wait,
+    A: Work<J, O> + Work<G, O> + Work<H, ()> + Sync,
+    J: Send + Drop,
+    G: Send + Drop,
+    H: Send + Drop,
+    L: Lead<O> + Drop,
+    O: Send + Drop,
+>(rt: &R, around: &A, starts: Starts<J, G, H>, own: L, handles: Handles<O>) -> Ran<O> {
+    thread::scope(thread::scope_env(), rt, |scope| {
+        let mut handles = handles;
+        let is_whole = start_threads(scope, around, starts, &mut handles);
+        let own = own.lead(is_whole);
+        Ran {
+            own,
+            handles,
+            is_whole,
+        }
+    })
 }

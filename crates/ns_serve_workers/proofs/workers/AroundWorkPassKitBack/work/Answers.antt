@@ -1,4 +1,4 @@
-use Rattle.ns_serve_workers.proofs.workers.join_thread.Goals as goal
+use Rattle.ns_serve_workers.proofs.workers.AroundWorkPassKitBack.work.Goals as goal
 
 pub returns : goal.returns
 returns g c = (
