@@ -2,7 +2,7 @@
 ghost use Rattle.std.specs.Prelude.{None};
 ghost use Rattle.std.specs.Option.{option_map};
 
-use crate::rows::holds;
+use crate::rows::{Row, each_holds};
 use ns_record_files::{Disk, LineText, RecordLines, RecordWriter, Recorder};
 use ns_types::{BLOCKS, Failed, take_all};
 use std::alloc::{AllocError, Global};
@@ -72,29 +72,36 @@ impl Disk for Memory {
 
 // By how many calls were done: what the files have after three batches, how many bytes of the steps are safe, and how many batches are
 // told as written.
-const AFTER: &[(u32, &str, usize, &str, u32)] = &[
-    (0, "on", 0, "", 0),
-    (1, "one\n", 0, "", 0),
-    (2, "one\n", 4, "", 0),
-    (3, "one\nclose", 4, "", 1),
-    (4, "one\nclose 1\nx\n", 4, "", 1),
-    (5, "one\nclose 1\nx\n", 14, "up", 1),
-    (6, "one\nclose 1\nx\nclos", 14, "up 1\n", 2),
-    (7, "one\nclose 1\nx\nclose 2\n", 14, "up 1\n", 2),
-    (8, "one\nclose 1\nx\nclose 2\n", 22, "up 1\nup", 2),
-    (9, "one\nclose 1\nx\nclose 2\n", 22, "up 1\nup 2\n", 3),
+#[derive(Clone, Copy)]
+struct After(u32, &'static str, usize, &'static str, u32);
+
+const AFTER: &[After] = &[
+    After(0, "on", 0, "", 0),
+    After(1, "one\n", 0, "", 0),
+    After(2, "one\n", 4, "", 0),
+    After(3, "one\nclose", 4, "", 1),
+    After(4, "one\nclose 1\nx\n", 4, "", 1),
+    After(5, "one\nclose 1\nx\n", 14, "up", 1),
+    After(6, "one\nclose 1\nx\nclos", 14, "up 1\n", 2),
+    After(7, "one\nclose 1\nx\nclose 2\n", 14, "up 1\n", 2),
+    After(8, "one\nclose 1\nx\nclose 2\n", 22, "up 1\nup", 2),
+    After(9, "one\nclose 1\nx\nclose 2\n", 22, "up 1\nup 2\n", 3),
 ];
 
-// Writes three batches. How many are told as written.
+// Three batches of steps and `up` lines.
+const BATCHES: &[(&str, &str)] = &[
+    ("one\n", ""),
+    ("close 1\nx\n", "up 1\n"),
+    ("close 2\n", "up 2\n"),
+];
+
+// Writes them. How many are told as written.
 fn write_three(writer: &mut RecordWriter<Memory>) -> u32 {
     let mut told = 0u32;
-    for (steps, ups) in [
-        ("one\n", ""),
-        ("close 1\nx\n", "up 1\n"),
-        ("close 2\n", "up 2\n"),
-    ] {
-        let is_told = writer.write(steps.as_bytes(), ups.as_bytes()).is_ok();
-        told = told.wrapping_add(u32::from(is_told));
+    for &(steps, ups) in BATCHES {
+        if writer.write(steps.as_bytes(), ups.as_bytes()).is_ok() {
+            told = told.wrapping_add(1);
+        }
     }
     told
 }
@@ -106,21 +113,19 @@ fn has(disk: &Memory, steps: &str, safe: usize, ups: &str) -> bool {
         && disk.ups.as_slice() == ups.as_bytes()
 }
 
-// Whether three batches leave these bytes where so many calls are done, and so many batches are told as written.
-fn leaves(alloc: Global, done: u32, steps: &str, safe: usize, ups: &str, told: u32) -> bool {
-    let mut writer = RecordWriter::new(Memory::new(alloc, done));
-    let is_told = write_three(&mut writer) == told && writer.has_failed() == (done < 9);
-    is_told && has(&writer.into_disk(), steps, safe, ups)
+impl<R> Row<R> for After {
+    fn holds(&self, _rt: &R, alloc: Global) -> bool {
+        let &After(done, steps, safe, ups, told) = self;
+        let mut writer = RecordWriter::new(Memory::new(alloc, done));
+        let is_told = write_three(&mut writer) == told && writer.has_failed() == (done < 9);
+        is_told && has(&writer.into_disk(), steps, safe, ups)
+    }
 }
 
 /// Where a call of the files fails, they have what was written before and a front of the rest, and each batch after it is refused.
 #[test]
 fn each_call_fails_in_turn(rt: HostRuntime) {
-    let mut number = 1;
-    for &(done, steps, safe, ups, told) in AFTER {
-        let is_so = leaves(rt.alloc(), done, steps, safe, ups, told);
-        number = holds(&rt, is_so, number);
-    }
+    each_holds(&rt, rt.alloc(), AFTER);
 }
 
 // A call of which a record has these lines.
@@ -195,19 +200,22 @@ fn are_written<R: Wait>(rt: &R, recorder: &Recorder<Memory>) -> bool {
         && put(rt, recorder, "d", None)
 }
 
-// Puts lines while there is no memory, of twice as many bytes as a recorder takes room for at first.
-fn put_without_memory<R: Wait>(
-    rt: &R,
-    alloc: Global,
-    recorder: &Recorder<Memory>,
-) -> Result<(), AllocError> {
+// Puts lines, of twice as many bytes as a recorder takes room for at first.
+fn put_many<R: Wait>(rt: &R, recorder: &Recorder<Memory>) {
     let call = Told::new("close 000000000000000d 1 2", None);
-    let mut held = Vec::with_capacity(alloc, BLOCKS)?;
-    take_all(alloc, &mut held)?;
     for _ in 0..10_000u32 {
         recorder.put(rt, &call);
     }
-    Ok(())
+}
+
+// Puts them while there is no memory. Whether there was none.
+fn put_without_memory<R: Wait>(rt: &R, alloc: Global, recorder: &Recorder<Memory>) -> bool {
+    let Ok(mut held) = Vec::with_capacity(alloc, BLOCKS) else {
+        return false;
+    };
+    let is_taken = take_all(alloc, &mut held).is_ok();
+    put_many(rt, recorder);
+    is_taken
 }
 
 // What is done to a recorder.
@@ -226,38 +234,37 @@ fn is_done<R: Wait>(rt: &R, alloc: Global, recorder: &Recorder<Memory>, act: Act
     match act {
         Act::Write => are_written(rt, recorder),
         Act::Fail => !put(rt, recorder, "a", None) && recorder.write(rt).is_err(),
-        Act::Lose => {
-            put_without_memory(rt, alloc, recorder).is_ok() && recorder.write(rt).is_err()
-        }
+        Act::Lose => { put_without_memory(rt, alloc, recorder) && recorder.write(rt).is_err() }
     }
 }
 
 // How many calls of the files are done, what is done to a recorder over them, how many calls there are, and what the files have then.
-type Row = (u32, Act, u32, &'static str, usize, &'static str);
+#[derive(Clone, Copy)]
+struct Left(u32, Act, u32, &'static str, usize, &'static str);
 
-const ACTS: &[Row] = &[
+const ACTS: &[Left] = &[
     // A recorder writes each line once, in the order in which they were put, and calls the files only where lines are there.
-    (9, Act::Write, 6, "b\na\nc\nd\n", 8, "up a\nup c\n"),
+    Left(9, Act::Write, 6, "b\na\nc\nd\n", 8, "up a\nup c\n"),
     // After a failed write every further one fails, also where nothing was put since, and the files are not called again.
-    (0, Act::Fail, 1, "a", 0, ""),
+    Left(0, Act::Fail, 1, "a", 0, ""),
     // Where a line was put for which no memory was left, every write fails from then on, also once there is memory again, and no line of
     // those that were kept is written.
-    (9, Act::Lose, 0, "", 0, ""),
+    Left(9, Act::Lose, 0, "", 0, ""),
 ];
 
-// Whether the files are so then.
-fn is_left<R: Wait>(rt: &R, alloc: Global, row: &Row) -> Result<bool, AllocError> {
-    let &(done, act, calls, steps, safe, ups) = row;
-    let recorder = over_memory(alloc, done)?;
-    let is_done = is_done(rt, alloc, &recorder, act);
-    let disk = recorder.into_disk();
-    Ok(is_done && disk.calls == calls && has(&disk, steps, safe, ups))
+impl<R: Wait> Row<R> for Left {
+    fn holds(&self, rt: &R, alloc: Global) -> bool {
+        let &Left(done, act, calls, steps, safe, ups) = self;
+        let Ok(recorder) = over_memory(alloc, done) else {
+            return false;
+        };
+        let is_done = is_done(rt, alloc, &recorder, act);
+        let disk = recorder.into_disk();
+        is_done && disk.calls == calls && has(&disk, steps, safe, ups)
+    }
 }
 
 #[test]
 fn recorders_write_once_and_forget_no_failure(rt: HostRuntime) {
-    let mut number = 1;
-    for row in ACTS {
-        number = holds(&rt, is_left(&rt, rt.alloc(), row) == Ok(true), number);
-    }
+    each_holds(&rt, rt.alloc(), ACTS);
 }

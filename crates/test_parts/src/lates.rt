@@ -1,13 +1,9 @@
-//! Late copies of frames whose windows were closed, of all shards.
+//! Late copies of frames whose windows were closed, of all shards. A copy is late for 2 s.
 
+use crate::rows::{Row, each_holds};
 use ns_front::{FrameName, Lates};
 use std::alloc::Global;
 use std::sync::Wait;
-
-// No frame is noted, and a copy is late for 2 s.
-fn none(alloc: Global) -> Option<Lates> {
-    Lates::new(alloc, 2000).ok()
-}
 
 // The frame with this counter and MIC of a device of a shard.
 fn frame_of(shard: u8, fcnt: u16, mic: u32) -> FrameName {
@@ -49,7 +45,7 @@ fn are_late_for_2_s<R: Wait>(rt: &R, lates: &Lates) -> bool {
 // Whether no frame is late that differs in its counter, its address or its MIC from the one that is noted.
 fn are_others_in_time<R: Wait>(rt: &R, lates: &Lates) -> bool {
     lates.note(rt, frame_of(3, 7, 8), 5000);
-    for other in [frame_of(3, 9, 8), frame_of(4, 7, 8), frame_of(3, 7, 9)] {
+    for &other in &[frame_of(3, 9, 8), frame_of(4, 7, 8), frame_of(3, 7, 9)] {
         if lates.is_late(rt, other, 5000) || lates.due(rt, other).is_some() {
             return false;
         }
@@ -73,7 +69,7 @@ fn is_first_of_4096_late<R: Wait>(rt: &R, lates: &Lates) -> bool {
 // Notes one more. Whether the first alone is not late any more.
 fn goes_first_alone<R: Wait>(rt: &R, lates: &Lates) -> bool {
     lates.note(rt, frame_of(3, 4096, 4096), 5000);
-    for kept in [1, 1024, 2048, 3072, 4095] {
+    for &kept in &[1, 1024, 2048, 3072, 4095] {
         if !is_late(rt, lates, kept) {
             return false;
         }
@@ -86,19 +82,40 @@ fn are_kept<R: Wait>(rt: &R, lates: &Lates) -> bool {
     is_first_of_4096_late(rt, lates) && goes_first_alone(rt, lates)
 }
 
-// Whether each of these is so where no frame was noted.
-fn is_so<R: Wait>(rt: &R, alloc: Global) -> Option<[bool; 3]> {
-    Some([
-        are_late_for_2_s(rt, &none(alloc)?),
-        are_others_in_time(rt, &none(alloc)?),
-        are_kept(rt, &none(alloc)?),
-    ])
+// What is so where no frame was noted.
+#[derive(Clone, Copy)]
+enum Kept {
+    // A copy is late from the closing of its window on, for just as long as was asked for, in each of the sixteen shards.
+    ForAWhile,
+    // A frame with the same MIC, but another counter or another address, is not late, nor is one with another MIC.
+    Alone,
+    // Of one shard 4,096 frames are kept where four stand in each row: with one more the first of its row goes, and no other.
+    By4096,
 }
 
-/// A copy is late from the closing of its window on, for just as long as was asked for, in each of the sixteen shards; a frame with the
-/// same MIC, but another counter or another address, is not, nor is one with another MIC; and of one shard 4,096 frames are kept where
-/// four stand in each row: with one more the first of its row goes, and no other.
+// Whether it is.
+fn is_so<R: Wait>(rt: &R, lates: &Lates, kept: Kept) -> bool {
+    match kept {
+        Kept::ForAWhile => are_late_for_2_s(rt, lates),
+        Kept::Alone => are_others_in_time(rt, lates),
+        Kept::By4096 => are_kept(rt, lates),
+    }
+}
+
+impl<R: Wait> Row<R> for Kept {
+    fn holds(&self, rt: &R, alloc: Global) -> bool {
+        match Lates::new(alloc, 2000) {
+            Ok(lates) => is_so(rt, &lates, *self),
+            Err(_) => false,
+        }
+    }
+}
+
 #[test]
 fn copies_are_late(rt: HostRuntime) {
-    assert!(rt; is_so(&rt, rt.alloc()) == Some([true; 3]));
+    each_holds(
+        &rt,
+        rt.alloc(),
+        &[Kept::ForAWhile, Kept::Alone, Kept::By4096],
+    );
 }

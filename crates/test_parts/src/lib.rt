@@ -17,6 +17,8 @@ mod keys;
 #[cfg(test)]
 mod lates;
 #[cfg(test)]
+mod loopback;
+#[cfg(test)]
 mod messages;
 #[cfg(test)]
 mod places;

@@ -2,7 +2,7 @@
 
 ghost use Rattle.std.specs.Prelude.{◌<◌};
 
-use crate::rows::{holds, joined};
+use crate::rows::{Row, each_holds, joined};
 use ns_status::{Request, RequestFault, Route, Status, read_request};
 use ns_types::Fuse;
 use std::alloc::{AllocError, Global};
@@ -17,85 +17,100 @@ const METRICS: Result<Request, RequestFault> = Ok(Request {
     is_head: true,
 });
 
-const REQUESTS: &[(&str, Result<Request, RequestFault>)] = &[
-    ("GET /devices HTTP/1.1\r\nHost: a\r\n\r\n", DEVICES),
-    ("GET /devices HTTP/1.0\n\nmore", DEVICES),
-    ("HEAD /metrics HTTP/1.1\r\n\r\n", METRICS),
-    (
+// The front of a head up to its last line.
+const LONG: &str = "GET /devices HTTP/1.1\r\nA: ";
+
+// The front of a text, how many bytes `a` stand behind it, its end, and what it asks for.
+#[derive(Clone, Copy)]
+struct Asked(
+    &'static str,
+    usize,
+    &'static str,
+    Result<Request, RequestFault>,
+);
+
+const REQUESTS: &[Asked] = &[
+    Asked("GET /devices HTTP/1.1\r\nHost: a\r\n\r\n", 0, "", DEVICES),
+    Asked("GET /devices HTTP/1.0\n\nmore", 0, "", DEVICES),
+    Asked("HEAD /metrics HTTP/1.1\r\n\r\n", 0, "", METRICS),
+    Asked(
         "POST /devices HTTP/1.1\r\n\r\n",
+        0,
+        "",
         Err(RequestFault::Refused(Status::NoMethod)),
     ),
-    (
+    Asked(
         "GET /keys HTTP/1.1\r\n\r\n",
+        0,
+        "",
         Err(RequestFault::Refused(Status::NotFound)),
     ),
-    (
+    Asked(
         "GET /devices?a HTTP/1.1\r\n\r\n",
+        0,
+        "",
         Err(RequestFault::Refused(Status::NotFound)),
     ),
-    (
+    Asked(
         "GET  HTTP/1.1\r\n\r\n",
+        0,
+        "",
         Err(RequestFault::Refused(Status::Malformed)),
     ),
-    ("GET / HTTP/1.1\r\nHost: a\r\n", Err(RequestFault::Ended)),
-    ("", Err(RequestFault::Ended)),
+    Asked(
+        "GET / HTTP/1.1\r\nHost: a\r\n",
+        0,
+        "",
+        Err(RequestFault::Ended),
+    ),
+    Asked("", 0, "", Err(RequestFault::Ended)),
+    // A head of 4,096 bytes is read, and one of a byte more is not.
+    Asked(LONG, 4066, "\r\n\r\n", DEVICES),
+    Asked(
+        LONG,
+        4067,
+        "\r\n\r\n",
+        Err(RequestFault::Refused(Status::TooLong)),
+    ),
 ];
 
 // Whether this is asked for by a text of which so many bytes come at once.
-fn is_asked(
-    alloc: Global,
-    text: &str,
-    most: usize,
-    wanted: Result<Request, RequestFault>,
-) -> Result<bool, AllocError>
+fn is_asked(alloc: Global, text: &str, most: usize, wanted: Result<Request, RequestFault>) -> bool
     requires { 0 < most }
 {
-    let input = Vec::from_slice(alloc, text.as_bytes())?;
-    let mut stream = Fuse::new(alloc, input, most, None, None);
-    Ok(read_request(&mut stream) == wanted)
+    match Vec::from_slice(alloc, text.as_bytes()) {
+        Ok(input) => read_request(&mut Fuse::new(alloc, input, most, None, None)) == wanted,
+        Err(_) => false,
+    }
 }
 
 // Whether this is asked for by a text in pieces of each size.
 fn is_asked_in_pieces(alloc: Global, text: &str, wanted: Result<Request, RequestFault>) -> bool {
     for most in 1..40 {
-        if is_asked(alloc, text, most, wanted) != Ok(true) {
+        if !is_asked(alloc, text, most, wanted) {
             return false;
         }
     }
     true
 }
 
-#[test]
-fn requests_in_pieces(rt: HostRuntime) {
-    let mut number = 1;
-    for &(text, wanted) in REQUESTS {
-        number = holds(&rt, is_asked_in_pieces(rt.alloc(), text, wanted), number);
+// A text with so many bytes `a` in it.
+fn text_of(alloc: Global, front: &str, count: usize, end: &str) -> Result<String, AllocError> {
+    let between = "a".repeat(alloc, count)?;
+    joined(alloc, &[front, between.as_str(), end])
+}
+
+impl<R> Row<R> for Asked {
+    fn holds(&self, _rt: &R, alloc: Global) -> bool {
+        let &Asked(front, count, end, wanted) = self;
+        match text_of(alloc, front, count, end) {
+            Ok(text) => is_asked_in_pieces(alloc, text.as_str(), wanted),
+            Err(_) => false,
+        }
     }
 }
 
-// A head with so many bytes in its last line.
-fn head_of(alloc: Global, fill: usize) -> Result<String, AllocError> {
-    let line = "a".repeat(alloc, fill)?;
-    joined(
-        alloc,
-        &["GET /devices HTTP/1.1\r\nA: ", line.as_str(), "\r\n\r\n"],
-    )
-}
-
-// Whether this is asked for by a head with so many bytes in its last line.
-fn is_asked_by(
-    alloc: Global,
-    fill: usize,
-    wanted: Result<Request, RequestFault>,
-) -> Result<bool, AllocError> {
-    let text = head_of(alloc, fill)?;
-    is_asked(alloc, text.as_str(), 1000, wanted)
-}
-
-/// A head of 4,096 bytes is read, and one of a byte more is not.
 #[test]
-fn longest_heads(rt: HostRuntime) {
-    let too_long = Err(RequestFault::Refused(Status::TooLong));
-    assert!(rt; is_asked_by(rt.alloc(), 4066, DEVICES) == Ok(true));
-    assert!(rt; is_asked_by(rt.alloc(), 4067, too_long) == Ok(true));
+fn requests_in_pieces(rt: HostRuntime) {
+    each_holds(&rt, rt.alloc(), REQUESTS);
 }

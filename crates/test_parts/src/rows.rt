@@ -3,10 +3,19 @@
 use std::alloc::{AllocError, Global};
 use std::process::Abort;
 
-/// A row holds, or its number is told. Gives the number of the next.
-pub fn holds<R: Abort>(rt: &R, is_so: bool, number: u32) -> u32 {
-    assert!(rt; is_so, "row {number}");
-    number.wrapping_add(1)
+/// A row of a table.
+pub trait Row<R> {
+    /// Whether it holds.
+    fn holds(&self, rt: &R, alloc: Global) -> bool;
+}
+
+/// Each row of a table holds, or the number of the first that does not is told.
+pub fn each_holds<R: Abort, T: Row<R>>(rt: &R, alloc: Global, rows: &[T]) {
+    let mut number = 1u32;
+    for row in rows {
+        assert!(rt; row.holds(rt, alloc), "row {number}");
+        number = number.wrapping_add(1);
+    }
 }
 
 /// These parts, one behind the other.

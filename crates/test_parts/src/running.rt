@@ -2,7 +2,7 @@
 //! place of others while lines are put, or cannot.
 
 use crate::failures::put;
-use crate::rows::holds;
+use crate::rows::{Row, each_holds};
 use log::sink::Discard;
 use ns_record_files::{
     FilesFault, LaterLines, Lengths, RecordFiles, RecordWriter, Recorder, ShorterSteps, read_again,
@@ -16,86 +16,104 @@ use std::os::unix::fs::{PermissionsExt, symlink};
 use std::rt::Files;
 use std::sync::Wait;
 
-// A record that goes on, and fewer steps for it.
+// Fewer steps for a record that goes on, and the lines that follow them.
 #[derive(Drop)]
-struct Running {
-    recorder: Recorder<RecordFiles>,
+struct Fewer {
     shorter: ShorterSteps,
     later: LaterLines,
+}
+
+// What is done to the files from outside.
+#[derive(Clone, Copy)]
+enum Outside {
+    // Nobody else is able to open them.
+    Lock,
+    // The pipe has the name of the fewer steps.
+    Link,
+    // A folder is made.
+    MakeFolder(&'static str),
+    // What has the first name has the second from then on.
+    Rename(&'static str, &'static str),
 }
 
 // What is done to a record.
 #[derive(Clone, Copy)]
 enum Deed {
-    // A line of steps is put with its `up` line, and written.
-    Put(&'static str, &'static str),
+    // A line of steps is put with its `up` line, and written, or cannot be.
+    Put(&'static str, &'static str, bool),
     // The later lines follow the fewer steps.
     Follow,
-    // The fewer steps take the place of the others.
-    Replace,
-    // They do not.
-    Keep,
+    // The fewer steps take the place of the others, or do not.
+    Replace(bool),
     // The server stops.
     Rest,
     // The fewer steps are taken away.
     Remove,
-    // A folder has the name of the steps.
-    Hide,
-    // The steps have their name again.
-    Show,
-    // Nobody else is able to open the files.
-    Lock,
-    // The pipe has the name of the fewer steps.
-    Link,
-    // A line of steps cannot be written.
-    Fail(&'static str),
+    // This is done to its files.
+    Files(Outside),
 }
 
-// The folder of all runs, its steps, and their name while a folder has theirs.
+// The folder of all runs, its steps, their name while a folder has theirs, and the name of that folder then.
 const PATH: &str = "test_parts_running";
 
 const STEPS: &str = "test_parts_running/steps";
 
 const ASIDE: &str = "test_parts_running/aside";
 
+const FOLDER: &str = "test_parts_running/folder";
+
 // The name of the fewer steps of the folder with the pipe.
 const LINK: &str = "test_parts_sync/steps.new";
 
-const B: Deed = Deed::Put("b", "up b");
+const B: Deed = Deed::Put("b", "up b", true);
 
-const Z: Deed = Deed::Put("z", "up z");
+const Z: Deed = Deed::Put("z", "up z", true);
+
+const LOCK: Deed = Deed::Files(Outside::Lock);
 
 // What is done to a record whose step a is to stay, and the steps and `up` lines that it has then.
-const RUNS: &[(&[Deed], &str, &str)] = &[
+#[derive(Clone, Copy)]
+struct Run(&'static [Deed], &'static str, &'static str);
+
+const RUNS: &[Run] = &[
     // Lines that were put before, while and after the fewer steps are prepared follow them, each once.
-    (
+    Run(
         &[
             B,
             Deed::Follow,
-            Deed::Put("c", "up c"),
-            Deed::Replace,
-            Deed::Put("d", "up d"),
+            Deed::Put("c", "up c", true),
+            Deed::Replace(true),
+            Deed::Put("d", "up d", true),
             Z,
-            Deed::Lock,
+            LOCK,
         ],
         "base\na\nb\nc\nd\nz\n",
         "up a\nup b\nup c\nup d\nup z\n",
     ),
     // Where the fewer steps are not there any more, or the server stops, it goes on with those that it has.
-    (
-        &[B, Deed::Remove, Deed::Keep, Z, Deed::Lock],
+    Run(
+        &[B, Deed::Remove, Deed::Replace(false), Z, LOCK],
         "a\nb\nz\n",
         "up a\nup b\nup z\n",
     ),
-    (
-        &[B, Deed::Rest, Deed::Keep, Z, Deed::Lock],
+    Run(
+        &[B, Deed::Rest, Deed::Replace(false), Z, LOCK],
         "a\nb\nz\n",
         "up a\nup b\nup z\n",
     ),
     // Where the fewer steps cannot be given the name of the others, since a folder has it, they keep their own, and it goes on with those
     // that it has.
-    (
-        &[B, Deed::Hide, Deed::Keep, Deed::Show, Z, Deed::Lock],
+    Run(
+        &[
+            B,
+            Deed::Files(Outside::Rename(STEPS, ASIDE)),
+            Deed::Files(Outside::MakeFolder(STEPS)),
+            Deed::Replace(false),
+            Deed::Files(Outside::Rename(STEPS, FOLDER)),
+            Deed::Files(Outside::Rename(ASIDE, STEPS)),
+            Z,
+            LOCK,
+        ],
         "a\nb\nz\n",
         "up a\nup b\nup z\n",
     ),
@@ -103,9 +121,30 @@ const RUNS: &[(&[Deed], &str, &str)] = &[
 
 // What is done where fewer steps are a pipe, which takes bytes but cannot be brought to a disk: without `sync` a line is written then, and
 // with it it is not.
-const UNSYNCED: &[Deed] = &[Deed::Remove, Deed::Link, B, Deed::Replace, Z];
+const UNSYNCED: &[Deed] = &[
+    Deed::Remove,
+    Deed::Files(Outside::Link),
+    B,
+    Deed::Replace(true),
+    Z,
+];
 
-const SYNCED: &[Deed] = &[Deed::Remove, Deed::Link, B, Deed::Replace, Deed::Fail("z")];
+const SYNCED: &[Deed] = &[
+    Deed::Remove,
+    Deed::Files(Outside::Link),
+    B,
+    Deed::Replace(true),
+    Deed::Put("z", "up z", false),
+];
+
+// Whether a file has these bytes, of which there are fewer than 64.
+fn has(mut file: File, text: &str) -> bool {
+    let mut buf = [0; 64];
+    match file.read(&mut buf) {
+        Ok(count) => count == text.len() && buf.starts_with(text.as_bytes()),
+        Err(_) => false,
+    }
+}
 
 // Whether nobody but its owner may read or write a file.
 fn is_private(file: &File) -> bool {
@@ -147,114 +186,128 @@ impl<R: Wait + Files<File = File> + AllocGlobal> Folder<'_, R> {
         is_put && matches!(lengths, Some(Lengths { steps: 2, ups: 5 }))
     }
 
-    // The record of the folder made anew, with the step a.
-    fn begun(&self, sync: bool) -> Option<Recorder<RecordFiles>> {
-        let writer = RecordWriter::new(self.opened(sync).ok()?);
-        let recorder = Recorder::new(self.rt.alloc(), writer).ok()?;
-        if self.is_begun(&recorder) {
-            Some(recorder)
-        } else {
-            None
+    // A record over the files.
+    fn recorder(&self, sync: bool) -> Option<Recorder<RecordFiles>> {
+        match self.opened(sync) {
+            Ok(files) => Recorder::new(self.rt.alloc(), RecordWriter::new(files)).ok(),
+            Err(_) => None,
         }
     }
 
     // Fewer steps with these bytes.
     fn shorter_of(&self, bytes: &[u8]) -> Option<ShorterSteps> {
-        let steps = ShorterSteps::create(self.rt, &Discard, self.rt.alloc(), self.path).ok()?;
-        steps.file().write_all(bytes).ok()?;
-        Some(steps)
+        let created = ShorterSteps::create(self.rt, &Discard, self.rt.alloc(), self.path);
+        let Ok(steps) = created else {
+            return None;
+        };
+        match steps.file().write_all(bytes) {
+            Ok(()) => Some(steps),
+            Err(_) => None,
+        }
     }
 
     // Fewer steps that have the step a, where others were given up before.
     fn shorter(&self) -> Option<ShorterSteps> {
-        let _given_up = self.shorter_of(b"more bytes than those that take their place")?;
-        self.shorter_of(b"base\na\n")
+        match self.shorter_of(b"more bytes than those that take their place") {
+            Some(_) => self.shorter_of(b"base\na\n"),
+            None => None,
+        }
     }
 
     // The lines behind the step a.
     fn later(&self) -> Option<LaterLines> {
-        let steps = self.read_again("steps").ok()?;
-        LaterLines::new(self.rt.alloc(), steps, 2).ok()
-    }
-
-    // The record of the folder made anew, with the step a, and fewer steps, which have it too.
-    fn running(&self, sync: bool) -> Option<Running> {
-        if !self.is_made() {
-            return None;
+        match self.read_again("steps") {
+            Ok(steps) => LaterLines::new(self.rt.alloc(), steps, 2).ok(),
+            Err(_) => None,
         }
-        Some(Running {
-            recorder: self.begun(sync)?,
-            shorter: self.shorter()?,
-            later: self.later()?,
-        })
     }
 
-    // Puts the fewer steps in the place of the others.
-    fn is_replaced(&self, running: &mut Running) -> bool {
-        let (shorter, later) = (&running.shorter, &mut running.later);
-        let replaced = running.recorder.replace(self.rt, &Discard, shorter, later);
+    // Fewer steps for a record that has the step a.
+    fn fewer(&self) -> Option<Fewer> {
+        let shorter = self.shorter()?;
+        match self.later() {
+            Some(later) => Some(Fewer { shorter, later }),
+            None => None,
+        }
+    }
+
+    // Whether the fewer steps were put in the place of the others.
+    fn is_replaced(&self, recorder: &Recorder<RecordFiles>, fewer: &mut Fewer) -> bool {
+        let replaced = recorder.replace(self.rt, &Discard, &fewer.shorter, &mut fewer.later);
         replaced.is_ok()
     }
 
-    // Whether this was done.
-    fn is_done(&self, running: &mut Running, deed: Deed) -> bool {
+    // Whether the files are in use.
+    fn is_locked(&self) -> bool {
+        matches!(self.opened(true), Err(FilesFault::InUse))
+    }
+
+    // Whether this was done to the files.
+    fn is_done_outside(&self, deed: Outside) -> bool {
         match deed {
-            Deed::Put(step, up) => return put(self.rt, &running.recorder, step, Some(up)),
-            Deed::Follow => return running.later.follow(&Discard, &running.shorter).is_ok(),
-            Deed::Replace => return self.is_replaced(running),
-            Deed::Keep => return !self.is_replaced(running),
-            Deed::Hide => return self.is_hidden(),
-            Deed::Show => return self.is_shown(),
-            Deed::Lock => return matches!(self.opened(true), Err(FilesFault::InUse)),
-            Deed::Link => return symlink(self.rt, self.pipe, LINK).is_ok(),
-            Deed::Fail(step) => return !put(self.rt, &running.recorder, step, None),
-            Deed::Rest => running.recorder.rest(),
-            Deed::Remove => running.shorter.remove(self.rt),
+            Outside::Lock => self.is_locked(),
+            Outside::Link => symlink(self.rt, self.pipe, LINK).is_ok(),
+            Outside::MakeFolder(path) => fs::create_dir(self.rt, path).is_ok(),
+            Outside::Rename(from, to) => fs::rename(self.rt, from, to).is_ok(),
         }
-        true
     }
 
-    // Gives the name of the steps to a folder.
-    fn is_hidden(&self) -> bool {
-        fs::rename(self.rt, STEPS, ASIDE).is_ok() && fs::create_dir(self.rt, STEPS).is_ok()
+    // Whether this was done.
+    fn is_done(&self, recorder: &Recorder<RecordFiles>, fewer: &mut Fewer, deed: Deed) -> bool {
+        match deed {
+            Deed::Put(step, up, is_put) => put(self.rt, recorder, step, Some(up)) == is_put,
+            Deed::Follow => fewer.later.follow(&Discard, &fewer.shorter).is_ok(),
+            Deed::Replace(is_replaced) => self.is_replaced(recorder, fewer) == is_replaced,
+            Deed::Rest => {
+                recorder.rest();
+                true
+            }
+            Deed::Remove => {
+                fewer.shorter.remove(self.rt);
+                true
+            }
+            Deed::Files(deed) => self.is_done_outside(deed),
+        }
     }
 
-    // Gives their name back to the steps.
-    fn is_shown(&self) -> bool {
-        fs::remove_dir(self.rt, STEPS).is_ok() && fs::rename(self.rt, ASIDE, STEPS).is_ok()
-    }
-
-    // Whether all of it was done.
-    fn are_done(&self, running: &mut Running, deeds: &[Deed]) -> bool {
+    // Whether all of it was done with these fewer steps.
+    fn are_done_with(
+        &self,
+        recorder: &Recorder<RecordFiles>,
+        fewer: &mut Fewer,
+        deeds: &[Deed],
+    ) -> bool {
         for &deed in deeds {
-            if !self.is_done(running, deed) {
+            if !self.is_done(recorder, fewer, deed) {
                 return false;
             }
         }
         true
     }
 
-    // The same of the record made anew, whose files are closed then.
-    fn are_done_anew(&self, sync: bool, deeds: &[Deed]) -> Option<bool> {
-        let mut running = self.running(sync)?;
-        let are_done = self.are_done(&mut running, deeds);
-        let Running {
-            recorder,
-            shorter: _,
-            later: _,
-        } = running;
-        let _ = recorder.into_disk();
-        Some(are_done)
+    // Whether all of it was done to a record that has the step a, with fewer steps, which have it too.
+    fn are_done(&self, recorder: &Recorder<RecordFiles>, deeds: &[Deed]) -> bool {
+        match self.fewer() {
+            Some(mut fewer) => self.are_done_with(recorder, &mut fewer, deeds),
+            None => false,
+        }
     }
 
-    // Whether a file has these bytes, of which there are fewer than 64.
-    fn has(&self, name: &str, text: &str) -> bool {
-        let mut buf = [0; 64];
-        let Ok(mut file) = self.read_again(name) else {
+    // The same of the record made anew, whose files are closed then.
+    fn are_done_anew(&self, sync: bool, deeds: &[Deed]) -> bool {
+        if !self.is_made() {
             return false;
-        };
-        match file.read(&mut buf) {
-            Ok(count) => count == text.len() && buf.starts_with(text.as_bytes()),
+        }
+        match self.recorder(sync) {
+            Some(recorder) => self.is_begun(&recorder) && self.are_done(&recorder, deeds),
+            None => false,
+        }
+    }
+
+    // Whether a file has these bytes.
+    fn has(&self, name: &str, text: &str) -> bool {
+        match self.read_again(name) {
+            Ok(file) => has(file, text),
             Err(_) => false,
         }
     }
@@ -279,14 +332,12 @@ impl<R: Wait + Files<File = File> + AllocGlobal> Folder<'_, R> {
 
     // Whether each write brings the steps to the disk with `sync` alone.
     fn is_brought_if_asked(&self) -> bool {
-        self.are_done_anew(false, UNSYNCED) == Some(true)
-            && self.are_done_anew(true, SYNCED) == Some(true)
-            && self.is_removed()
+        self.are_done_anew(false, UNSYNCED) && self.are_done_anew(true, SYNCED) && self.is_removed()
     }
 
     // Whether all of it is done to the record made anew, and leaves these bytes in files for their owner alone.
     fn leaves(&self, deeds: &[Deed], steps: &str, ups: &str) -> bool {
-        self.are_done_anew(true, deeds) == Some(true)
+        self.are_done_anew(true, deeds)
             && self.has_both(steps, ups)
             && self.is_private("steps")
             && self.is_private("up")
@@ -309,18 +360,22 @@ impl<R: Wait + Files<File = File> + AllocGlobal> Folder<'_, R> {
     }
 }
 
+impl<R: Wait + Files<File = File> + AllocGlobal> Row<R> for Run {
+    fn holds(&self, rt: &R, _alloc: Global) -> bool {
+        let &Run(deeds, steps, ups) = self;
+        let folder = Folder {
+            rt,
+            path: PATH,
+            pipe: "",
+        };
+        folder.leaves(deeds, steps, ups)
+    }
+}
+
 /// Fewer steps take the place of others, or these stay; the files have the lock, and are for their owner alone.
 #[test]
 fn lines_follow_the_steps_that_go_on(rt: HostRuntime) {
-    let folder = Folder {
-        rt: &rt,
-        path: PATH,
-        pipe: "",
-    };
-    let mut number = 1;
-    for &(deeds, steps, ups) in RUNS {
-        number = holds(&rt, folder.leaves(deeds, steps, ups), number);
-    }
+    each_holds(&rt, rt.alloc(), RUNS);
 }
 
 // The name of this end of a pipe.
@@ -328,23 +383,33 @@ fn name_of(alloc: Global, writer: &PipeWriter) -> Option<String> {
     format!(in alloc; "/proc/self/fd/{}", writer.as_raw_fd()).ok()
 }
 
-// Whether each write brings the steps to the disk if asked, where these are a pipe.
-fn are_brought_if_asked<R: Wait + Files<File = File> + AllocGlobal>(rt: &R) -> Option<bool> {
-    let (_reader, writer) = pipe(rt).ok()?;
-    let end = name_of(rt.alloc(), &writer)?;
-    let folder = Folder {
-        rt,
-        path: "test_parts_sync",
-        pipe: end.as_str(),
-    };
-    Some(folder.is_brought_if_asked())
+// Whether each write brings the steps to the disk if asked, where these are the pipe of this end.
+fn are_brought_to<R>(rt: &R, writer: &PipeWriter) -> bool
+where
+    R: Wait + Files<File = File> + AllocGlobal,
+{
+    match name_of(rt.alloc(), writer) {
+        Some(end) => {
+            let folder = Folder {
+                rt,
+                path: "test_parts_sync",
+                pipe: end.as_str(),
+            };
+            folder.is_brought_if_asked()
+        }
+        None => false,
+    }
 }
 
 /// With `sync`, and not without it, each write brings the steps to the disk, also once fewer took their place: these are a pipe here, which
 /// takes bytes but cannot be brought to a disk.
 #[test]
 fn steps_are_brought_to_the_disk_if_asked(rt: HostRuntime) {
-    assert!(rt; are_brought_if_asked(&rt) == Some(true));
+    let are_brought = match pipe(&rt) {
+        Ok((_reader, writer)) => are_brought_to(&rt, &writer),
+        Err(_) => false,
+    };
+    assert!(rt; are_brought);
 }
 
 /// Zeros at the ends, which a crash of the machine may leave, are cut off.

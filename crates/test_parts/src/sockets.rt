@@ -2,15 +2,16 @@
 //! downlinks, and how often each thing is counted.
 
 use crate::keys::zero_keys;
-use crate::rows::{holds, joined};
-use ns_forwarder::{Clock, ForwarderFault, Outcome, read_message};
+use crate::loopback::socket;
+use crate::rows::{Row, each_holds, joined};
+use ns_forwarder::{Clock, ForwarderFault, Head, Outcome, read_message};
 use ns_forwarder_socket::{Event, Forwarders, Gateways, Pending, Route, Taken, outcome_name, take};
 use ns_types::{GatewayId, Target};
 use std::alloc::{AllocError, Global};
 use std::net::{IpAddr, Ipv4Addr, Net, SocketAddr, UdpSocket};
 use std::num::NonZeroUsize;
 use std::sync::Wait;
-use std::time::{self, Duration, Instant};
+use std::time::{self, Instant};
 
 // A push of gateway 9 with two frames, and an item without a CRC between them.
 const PUSH: &[u8] =
@@ -27,30 +28,39 @@ const TOO_LATE: &[u8] =
     b"\x02\x07\x08\x05\0\0\0\0\0\0\0\x01{\"txpk_ack\":{\"error\":\"TOO_LATE\"}}";
 
 // What is told of a downlink, by the protocol's word and by the name of its count.
-const TOLD: [(Outcome, &str, &str); 9] = [
-    (Outcome::Sent, "NONE", "tx_ok"),
-    (Outcome::TooLate, "TOO_LATE", "TOO_LATE"),
-    (Outcome::TooEarly, "TOO_EARLY", "TOO_EARLY"),
-    (
+#[derive(Clone, Copy)]
+struct Told(Outcome, &'static str, &'static str);
+
+const TOLD: &[Told] = &[
+    Told(Outcome::Sent, "NONE", "tx_ok"),
+    Told(Outcome::TooLate, "TOO_LATE", "TOO_LATE"),
+    Told(Outcome::TooEarly, "TOO_EARLY", "TOO_EARLY"),
+    Told(
         Outcome::CollisionPacket,
         "COLLISION_PACKET",
         "COLLISION_PACKET",
     ),
-    (
+    Told(
         Outcome::CollisionBeacon,
         "COLLISION_BEACON",
         "COLLISION_BEACON",
     ),
-    (Outcome::TxFreq, "TX_FREQ", "TX_FREQ"),
-    (Outcome::TxPower, "TX_POWER", "TX_POWER"),
-    (Outcome::GpsUnlocked, "GPS_UNLOCKED", "GPS_UNLOCKED"),
-    (Outcome::Other, "made up", "tx_other"),
+    Told(Outcome::TxFreq, "TX_FREQ", "TX_FREQ"),
+    Told(Outcome::TxPower, "TX_POWER", "TX_POWER"),
+    Told(Outcome::GpsUnlocked, "GPS_UNLOCKED", "GPS_UNLOCKED"),
+    Told(Outcome::Other, "made up", "tx_other"),
 ];
 
-// A gateway asks for downlinks by messages of this version.
-fn pull(version: u8, gateway: u8) -> [u8; 12] {
-    [version, 7, 8, 2, 0, 0, 0, 0, 0, 0, 0, gateway]
-}
+// Gateways 1, 2 and 9 ask for downlinks by messages of version 2, and gateway 10 by one of version 1.
+const PULLS: &[[u8; 12]] = &[
+    [2, 7, 8, 2, 0, 0, 0, 0, 0, 0, 0, 1],
+    [2, 7, 8, 2, 0, 0, 0, 0, 0, 0, 0, 2],
+    PULL_OF_9,
+];
+
+const PULL_OF_9: [u8; 12] = [2, 7, 8, 2, 0, 0, 0, 0, 0, 0, 0, 9];
+
+const PULL_OF_10: [u8; 12] = [1, 7, 8, 2, 0, 0, 0, 0, 0, 0, 0, 10];
 
 // The push with items that are left out, and spaces behind it up to this length.
 fn spaced(alloc: Global, len: usize) -> Result<Vec<u8>, AllocError> {
@@ -60,14 +70,22 @@ fn spaced(alloc: Global, len: usize) -> Result<Vec<u8>, AllocError> {
     Ok(bytes)
 }
 
-// Takes a message that came from this address, and keeps what it tells of its gateway.
-fn hear(alloc: Global, gateways: &mut Gateways, bytes: &[u8], peer: SocketAddr) -> bool {
+// The head of a message, and what it tells of its gateway.
+fn take_in(alloc: Global, bytes: &[u8]) -> Option<(Head, Taken)> {
     let Ok(read) = read_message(bytes) else {
-        return false;
+        return None;
     };
     match take(alloc, &read, Clock::default(), 5) {
-        Ok(taken) => gateways.note(&read.head(), &taken, peer).is_ok(),
-        Err(_) => false,
+        Ok(taken) => Some((read.head(), taken)),
+        Err(_) => None,
+    }
+}
+
+// Takes a message that came from this address, and keeps what it tells of its gateway.
+fn hear(alloc: Global, gateways: &mut Gateways, bytes: &[u8], peer: SocketAddr) -> bool {
+    match take_in(alloc, bytes) {
+        Some((head, taken)) => gateways.note(&head, &taken, peer).is_ok(),
+        None => false,
     }
 }
 
@@ -83,8 +101,8 @@ fn none(alloc: Global) -> Option<Gateways> {
 
 // Whether each of three gateways asks for downlinks.
 fn have_asked(alloc: Global, gateways: &mut Gateways) -> bool {
-    for gateway in [1, 2, 9] {
-        if !hear(alloc, gateways, &pull(2, gateway), at(1700)) {
+    for pull in PULLS {
+        if !hear(alloc, gateways, pull, at(1700)) {
             return false;
         }
     }
@@ -97,7 +115,7 @@ fn are_routed(gateways: &Gateways) -> bool {
         addr: at(1700),
         version: 2,
     });
-    for (gateway, want) in [(1, None), (2, route), (9, route)] {
+    for &(gateway, want) in &[(1, None), (2, route), (9, route)] {
         if gateways.gateway(GatewayId(gateway)).route != want {
             return false;
         }
@@ -128,34 +146,25 @@ fn what_is_known_of_gateways_is_kept(rt: HostRuntime) {
     assert!(rt; are_kept);
 }
 
-// Whether a message tells that a downlink was too late.
-fn is_too_late(alloc: Global, bytes: &[u8]) -> bool {
-    match read_message(bytes) {
-        Ok(read) => matches!(
-            take(alloc, &read, Clock::default(), 5),
-            Ok(Taken::Told(Outcome::TooLate))
-        ),
-        Err(_) => false,
+// What a message tells of a downlink.
+fn outcome_of(alloc: Global, bytes: &[u8]) -> Option<Outcome> {
+    match take_in(alloc, bytes) {
+        Some((_, Taken::Told(outcome))) => Some(outcome),
+        _ => None,
     }
 }
 
 #[test]
 fn a_tx_ack_is_told(rt: HostRuntime) {
-    assert!(rt; is_too_late(rt.alloc(), TOO_LATE));
+    assert!(rt; outcome_of(rt.alloc(), TOO_LATE) == Some(Outcome::TooLate));
 }
 
-// A socket of this machine, whose receives wait 5 s.
-fn local<R: Net>(rt: &R) -> Option<UdpSocket> {
-    let addr = SocketAddr::new(IpAddr::V4(Ipv4Addr::new(127, 0, 0, 1)), 0);
-    let socket = UdpSocket::bind(rt, addr).ok()?;
-    socket.set_read_timeout(Some(Duration::from_secs(5))).ok()?;
-    Some(socket)
-}
-
-// The forwarders of a socket of this machine.
-fn server<R: time::Clock>(rt: &R, alloc: Global, socket: UdpSocket) -> Option<Forwarders> {
-    let (keys, start) = (zero_keys()?, Instant::now(rt).ok()?);
-    Forwarders::new(alloc, keys, socket, start, 27).ok()
+// The forwarders of this socket.
+fn forwarders<R: time::Clock>(rt: &R, alloc: Global, socket: UdpSocket) -> Option<Forwarders> {
+    match (zero_keys(), Instant::now(rt)) {
+        (Some(keys), Ok(start)) => Forwarders::new(alloc, keys, socket, start, 27).ok(),
+        _ => None,
+    }
 }
 
 // How the datagram of the first frame begins, the whole datagram of the second, and how that of the third begins, after a wrap of the
@@ -187,7 +196,43 @@ const FRONT: &str = "\x02\x07\x08\x05\0\0\0\0\0\0\0\x09{\"txpk_ack\":{\"error\":
 const COUNTS: &str =
     " push 3 pull 2 tx_ack 45 acknowledged 5 frames 3 no_memory 0 F1 1 F2 0 F3 0 F4 0 F5 0 F6 1 F7 4 F8 2 F9 1 F10 3 F11 0 tx_ok 1 TOO_LATE 2 TOO_EARLY 3 COLLISION_PACKET 4 COLLISION_BEACON 5 TX_FREQ 6 TX_POWER 7 GPS_UNLOCKED 8 tx_other 9";
 
-// The server, and the socket of both gateways.
+// The acknowledgement of a push.
+const ACK: Option<[u8; 4]> = Some([2, 7, 8, 1]);
+
+// A part of the exchange.
+#[derive(Clone, Copy)]
+enum Turn {
+    // This comes of a message of the gateway, or of the one before, with these bytes at the front of the buffer, and the gateway is answered
+    // so.
+    Heard(Option<&'static [u8]>, Event, &'static [u8], Option<[u8; 4]>),
+    // The same of a push with so many bytes.
+    Spaced(usize, Event, &'static [u8], Option<[u8; 4]>),
+    // Downlinks have no route to this gateway.
+    Lost(u64),
+    // A downlink reaches this gateway, with this head.
+    Down(u64, [u8; 4]),
+}
+
+const TURNS: &[Turn] = &[
+    // The frames of a push become datagrams one after the other, and each push is acknowledged, also one of another body.
+    Turn::Heard(Some(PUSH), Event::Datagram(29), &FIRST, ACK),
+    Turn::Heard(None, Event::Datagram(30), &SECOND, None),
+    Turn::Heard(Some(OTHER), Event::Refused(ForwarderFault::Body), &[], ACK),
+    // A push of 16,384 bytes is heard, by the clock of the one before it. A longer one is not heard, nor is it acknowledged: the next answer
+    // is that to the message after it.
+    Turn::Spaced(16_384, Event::Datagram(29), &THIRD, ACK),
+    Turn::Spaced(16_385, Event::Refused(ForwarderFault::TooLong), &[], None),
+    // A pull is acknowledged, and downlinks had no route before. Each downlink has the next token, or none by version 1.
+    Turn::Lost(9),
+    Turn::Heard(Some(&PULL_OF_9), Event::Message, &[], Some([2, 7, 8, 4])),
+    Turn::Down(9, [2, 0, 0, 3]),
+    Turn::Down(9, [2, 0, 1, 3]),
+    Turn::Lost(10),
+    Turn::Heard(Some(&PULL_OF_10), Event::Message, &[], Some([1, 7, 8, 4])),
+    Turn::Down(10, [1, 0, 0, 3]),
+];
+
+// The server, the socket of both gateways, and a push that is a byte longer than the longest.
 #[derive(Drop)]
 struct Exchange<'a, R> {
     rt: &'a R,
@@ -195,6 +240,7 @@ struct Exchange<'a, R> {
     forwarders: &'a Forwarders,
     server: SocketAddr,
     gateway: &'a UdpSocket,
+    longer: &'a [u8],
 }
 
 impl<R: Wait + time::Clock> Exchange<'_, R> {
@@ -205,16 +251,6 @@ impl<R: Wait + time::Clock> Exchange<'_, R> {
             Ok(event) => event == want && buf.starts_with(datagram),
             Err(_) => false,
         }
-    }
-
-    // Sends a message of the gateway.
-    fn is_sent(&self, message: &[u8]) -> bool {
-        self.gateway.send_to(message, self.server).is_ok()
-    }
-
-    // Whether this comes of a message of the gateway.
-    fn is_taken(&self, pending: &mut Pending, message: &[u8], want: Event) -> bool {
-        self.is_sent(message) && self.is_next(pending, want, &[])
     }
 
     // Whether the gateway is answered by this.
@@ -230,42 +266,57 @@ impl<R: Wait + time::Clock> Exchange<'_, R> {
         }
     }
 
-    // Whether a push of the gateway is acknowledged.
-    fn is_acknowledged(&self) -> bool {
-        self.is_answered([2, 7, 8, 1], &[])
+    // Whether this comes of a message of the gateway.
+    fn is_taken(&self, pending: &mut Pending, message: &[u8], want: Event, front: &[u8]) -> bool {
+        self.gateway.send_to(message, self.server).is_ok() && self.is_next(pending, want, front)
     }
 
-    // The frames of a push become datagrams one after the other, and each push is acknowledged, also one of another body.
-    fn pushes_are_heard(&self, pending: &mut Pending) -> bool {
-        self.is_sent(PUSH)
-            && self.is_next(pending, Event::Datagram(29), &FIRST)
-            && self.is_acknowledged()
-            && self.is_next(pending, Event::Datagram(30), &SECOND)
-            && self.is_taken(pending, OTHER, Event::Refused(ForwarderFault::Body))
-            && self.is_acknowledged()
+    // Whether the gateway is acknowledged so, if it is to be.
+    fn is_acknowledged(&self, ack: Option<[u8; 4]>) -> bool {
+        match ack {
+            Some(head) => self.is_answered(head, &[]),
+            None => true,
+        }
     }
 
-    // A push of 16,384 bytes is heard, by the clock of the one before it.
-    fn longest_push_is_heard(&self, pending: &mut Pending, longer: &[u8]) -> bool {
-        let Some(longest) = longer.get(..16_384) else {
-            return false;
-        };
-        self.is_sent(longest)
-            && self.is_next(pending, Event::Datagram(29), &THIRD)
-            && self.is_acknowledged()
+    // Whether this comes of a push with so many bytes.
+    fn is_spaced(&self, pending: &mut Pending, len: usize, want: Event, front: &[u8]) -> bool {
+        match self.longer.get(..len) {
+            Some(message) => self.is_taken(pending, message, want, front),
+            None => false,
+        }
     }
 
-    // A longer one is not heard, nor is it acknowledged: the next answer is that to the message after it.
-    fn longer_push_is_refused(&self, pending: &mut Pending, longer: &[u8]) -> bool {
-        self.is_taken(pending, longer, Event::Refused(ForwarderFault::TooLong))
+    // Whether there is no route to this gateway.
+    fn is_lost(&self, gateway: u64) -> bool {
+        self.forwarders.route(self.rt, GatewayId(gateway)).is_none()
     }
 
-    // A pull is acknowledged, and downlinks had no route before.
-    fn pull_is_heard(&self, pending: &mut Pending, version: u8, gateway: u8) -> bool {
-        let number = GatewayId(u64::from(gateway));
-        self.forwarders.route(self.rt, number).is_none()
-            && self.is_taken(pending, &pull(version, gateway), Event::Message)
-            && self.is_answered([version, 7, 8, 4], &[])
+    // Whether it comes so.
+    fn is_so(&self, pending: &mut Pending, turn: Turn) -> bool {
+        match turn {
+            Turn::Heard(Some(message), want, front, ack) => {
+                self.is_taken(pending, message, want, front) && self.is_acknowledged(ack)
+            }
+            Turn::Heard(None, want, front, ack) => {
+                self.is_next(pending, want, front) && self.is_acknowledged(ack)
+            }
+            Turn::Spaced(len, want, front, ack) => {
+                self.is_spaced(pending, len, want, front) && self.is_acknowledged(ack)
+            }
+            Turn::Lost(gateway) => self.is_lost(gateway),
+            Turn::Down(gateway, head) => self.downlink_is_sent(gateway, head),
+        }
+    }
+
+    // Whether all of it does.
+    fn are_so(&self, pending: &mut Pending) -> bool {
+        for &turn in TURNS {
+            if !self.is_so(pending, turn) {
+                return false;
+            }
+        }
+        true
     }
 
     // A downlink reaches the gateway, with this head.
@@ -293,22 +344,12 @@ impl<R: Wait + time::Clock> Exchange<'_, R> {
             && !self.forwarders.send(self.alloc, nowhere, &TARGET, &[1])
     }
 
-    // Each downlink has the next token, or none by version 1.
-    fn downlinks_are_sent(&self, pending: &mut Pending) -> bool {
-        self.pull_is_heard(pending, 2, 9)
-            && self.downlink_is_sent(9, [2, 0, 0, 3])
-            && self.downlink_is_sent(9, [2, 0, 1, 3])
-            && self.pull_is_heard(pending, 1, 10)
-            && self.downlink_is_sent(10, [1, 0, 0, 3])
-            && self.others_are_not_sent()
-    }
-
     // Gateway 9 tells this of a downlink.
     fn is_told(&self, pending: &mut Pending, word: &str, want: Outcome) -> bool {
         match joined(self.alloc, &[FRONT, word, "\"}}"]) {
             Ok(message) => {
                 let told = Event::Told(GatewayId(9), want);
-                self.is_taken(pending, message.as_str().as_bytes(), told)
+                self.is_taken(pending, message.as_str().as_bytes(), told, &[])
             }
             Err(_) => false,
         }
@@ -316,7 +357,7 @@ impl<R: Wait + time::Clock> Exchange<'_, R> {
 
     // It tells the first outcome once, the second twice, and so on.
     fn outcomes_are_told(&self, pending: &mut Pending) -> bool {
-        for (place, &(outcome, word, _)) in TOLD.iter().enumerate() {
+        for (place, &Told(outcome, word, _)) in TOLD.iter().enumerate() {
             for _ in 0..=place {
                 if !self.is_told(pending, word, outcome) {
                     return false;
@@ -334,56 +375,84 @@ impl<R: Wait + time::Clock> Exchange<'_, R> {
         }
     }
 
-    // All of it, one after the other, with a push that is a byte longer than the longest.
-    fn is_held(&self, pending: &mut Pending, longer: &[u8]) -> bool {
-        self.pushes_are_heard(pending)
-            && self.longest_push_is_heard(pending, longer)
-            && self.longer_push_is_refused(pending, longer)
-            && self.downlinks_are_sent(pending)
+    // All of it, one after the other.
+    fn is_held(&self, pending: &mut Pending) -> bool {
+        self.are_so(pending)
+            && self.others_are_not_sent()
             && self.outcomes_are_told(pending)
             && self.is_counted()
+    }
+
+    // The same from the beginning on.
+    fn is_held_anew(&self) -> bool {
+        match Pending::new(self.alloc) {
+            Ok(mut pending) => self.is_held(&mut pending),
+            Err(_) => false,
+        }
+    }
+}
+
+impl<R> Row<R> for Told {
+    fn holds(&self, _rt: &R, _alloc: Global) -> bool {
+        outcome_name(self.0) == self.2
     }
 }
 
 /// Each outcome has the name by which it is counted.
 #[test]
 fn outcomes_have_names(rt: HostRuntime) {
-    let mut number = 1;
-    for &(outcome, _, name) in &TOLD {
-        number = holds(&rt, outcome_name(outcome) == name, number);
-    }
+    each_holds(&rt, rt.alloc(), TOLD);
 }
 
-// All of it, between a gateway and the forwarders of the server.
+// All of it, between this gateway and the forwarders of the server.
 fn is_held<R: Wait + time::Clock>(
     rt: &R,
     alloc: Global,
     gateway: &UdpSocket,
     forwarders: &Forwarders,
     server: SocketAddr,
-) -> Result<bool, AllocError> {
-    let exchange = Exchange {
-        rt,
-        alloc,
-        forwarders,
-        server,
-        gateway,
+) -> bool {
+    match spaced(alloc, 16_385) {
+        Ok(longer) => {
+            let exchange = Exchange {
+                rt,
+                alloc,
+                forwarders,
+                server,
+                gateway,
+                longer: longer.as_slice(),
+            };
+            exchange.is_held_anew()
+        }
+        Err(_) => false,
+    }
+}
+
+// The same, where the server has this socket.
+fn is_held_by<R: Wait + time::Clock>(
+    rt: &R,
+    alloc: Global,
+    gateway: &UdpSocket,
+    socket: UdpSocket,
+) -> bool {
+    let Ok(server) = socket.local_addr() else {
+        return false;
     };
-    let longer = spaced(alloc, 16_385)?;
-    let mut pending = Pending::new(alloc)?;
-    Ok(exchange.is_held(&mut pending, longer.as_slice()))
+    match forwarders(rt, alloc, socket) {
+        Some(forwarders) => is_held(rt, alloc, gateway, &forwarders, server),
+        None => false,
+    }
 }
 
 // The same between two sockets of this machine.
-fn is_held_here<R: Net + Wait + time::Clock>(rt: &R, alloc: Global) -> Option<bool> {
-    let gateway = local(rt)?;
-    let socket = local(rt)?;
-    let addr = socket.local_addr().ok()?;
-    let forwarders = server(rt, alloc, socket)?;
-    is_held(rt, alloc, &gateway, &forwarders, addr).ok()
+fn is_held_here<R: Net + Wait + time::Clock>(rt: &R, alloc: Global) -> bool {
+    match (socket(rt, 0), socket(rt, 0)) {
+        (Some(gateway), Some(server)) => is_held_by(rt, alloc, &gateway, server),
+        _ => false,
+    }
 }
 
 #[test]
 fn a_forwarder_is_heard_and_answered(rt: HostRuntime) {
-    assert!(rt; is_held_here(&rt, rt.alloc()) == Some(true));
+    assert!(rt; is_held_here(&rt, rt.alloc()));
 }

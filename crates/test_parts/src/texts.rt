@@ -5,7 +5,7 @@ use ns_status::{
     put_front, put_gateways, put_metrics,
 };
 use ns_types::{DevAddr, DevEui, GatewayId};
-use std::alloc::{AllocError, Global};
+use std::alloc::Global;
 
 // A device of which nothing was heard, and one that was heard since.
 const SILENT: Device = Device {
@@ -29,45 +29,28 @@ const HEARD: Device = Device {
     }),
 };
 
-// The text of a list of both.
-fn devices(alloc: Global) -> Result<String, AllocError> {
-    let mut text = String::new(alloc);
-    put_front(&mut text, "devices", 61_000, 1_764_017_000_123)?;
-    put_devices(alloc, &mut text, true, &[(DevEui(13), SILENT)])?;
-    put_devices(alloc, &mut text, false, &[(DevEui(14), HEARD)])?;
-    put_end(&mut text)?;
-    Ok(text)
-}
-
-const DEVICES: &str =
-    "{\"nowMs\":61000,\"startMs\":1764017000123,\"devices\":[\n{\"devAddr\":\"49be7df1\",\"devEui\":\"000000000000000d\",\"fCnt\":null,\"gatewayId\":null,\"heardMs\":null,\"missed\":0,\"session\":1,\"sinceMs\":1500},\n{\"devAddr\":\"49be7df1\",\"devEui\":\"000000000000000e\",\"fCnt\":9,\"gatewayId\":\"00000000000000a1\",\"heardMs\":60000,\"missed\":7,\"session\":2,\"sinceMs\":1500}\n]}\n";
-
 const GATEWAY: Gateway = Gateway {
     frames: 5,
     at_ms: 60_000,
 };
 
-// The text of a row of a gateway.
-fn gateways(alloc: Global) -> Result<String, AllocError> {
-    let mut text = String::new(alloc);
-    put_gateways(alloc, &mut text, true, &[(GatewayId(0xa1), GATEWAY)])?;
-    Ok(text)
+// Puts a list of both devices, and behind it the row of a gateway. Whether there was memory for it.
+fn put_both(alloc: Global, text: &mut String) -> bool {
+    put_front(text, "devices", 61_000, 1_764_017_000_123).is_ok()
+        && put_devices(alloc, text, true, &[(DevEui(13), SILENT)]).is_ok()
+        && put_devices(alloc, text, false, &[(DevEui(14), HEARD)]).is_ok()
+        && put_end(text).is_ok()
+        && put_gateways(alloc, text, true, &[(GatewayId(0xa1), GATEWAY)]).is_ok()
 }
 
-const GATEWAYS: &str = "\n{\"frames\":5,\"gatewayId\":\"00000000000000a1\",\"heardMs\":60000}";
-
-// Whether a text is this one.
-fn is_text(text: Result<String, AllocError>, wanted: &str) -> bool {
-    match text {
-        Ok(text) => text.as_str() == wanted,
-        Err(_) => false,
-    }
-}
+const BOTH: &str =
+    "{\"nowMs\":61000,\"startMs\":1764017000123,\"devices\":[\n{\"devAddr\":\"49be7df1\",\"devEui\":\"000000000000000d\",\"fCnt\":null,\"gatewayId\":null,\"heardMs\":null,\"missed\":0,\"session\":1,\"sinceMs\":1500},\n{\"devAddr\":\"49be7df1\",\"devEui\":\"000000000000000e\",\"fCnt\":9,\"gatewayId\":\"00000000000000a1\",\"heardMs\":60000,\"missed\":7,\"session\":2,\"sinceMs\":1500}\n]}\n\n{\"frames\":5,\"gatewayId\":\"00000000000000a1\",\"heardMs\":60000}";
 
 #[test]
 fn lists(rt: HostRuntime) {
-    assert!(rt; is_text(devices(rt.alloc()), DEVICES));
-    assert!(rt; is_text(gateways(rt.alloc()), GATEWAYS));
+    let mut text = String::new(rt.alloc());
+    let is_put = put_both(rt.alloc(), &mut text);
+    assert!(rt; is_put && text.as_str() == BOTH);
 }
 
 const TOTALS: Totals = Totals {
@@ -106,16 +89,11 @@ fn has_parts(text: &str) -> bool {
     text.starts_with(START) && text.contains(REPLIES) && text.ends_with(ENTRIES)
 }
 
-// Whether the text of metrics has them.
-fn has_parts_of_metrics(alloc: Global) -> Result<bool, AllocError> {
-    let mut text = String::new(alloc);
-    put_metrics(&mut text, &TOTALS, LISTS)?;
-    Ok(has_parts(text.as_str()))
-}
-
 #[test]
 fn metrics(rt: HostRuntime) {
-    assert!(rt; has_parts_of_metrics(rt.alloc()) == Ok(true));
+    let mut text = String::new(rt.alloc());
+    let is_put = put_metrics(&mut text, &TOTALS, LISTS).is_ok();
+    assert!(rt; is_put && has_parts(text.as_str()));
 }
 
 const HEAD: &str =

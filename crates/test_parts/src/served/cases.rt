@@ -1,29 +1,49 @@
 //! What is tried on a state.
 
-use crate::served::shared::{left_open, line_times, waiting_downlink};
-use crate::served::sockets::{failures, late_copies, longest_downlink, own_socket};
+use crate::served::shared::{are_handed_on, is_sent_once, line_has_its_times};
+use crate::served::sockets::{are_late_for_a_while, is_waited_out, longest_leaves, own_socket};
 use crate::served::standing::Standing;
-use crate::served::states::{local, roster, state_with};
-use crate::served::told::{PORT, logged, told};
-use ns_serve_state::{State, Status};
+use crate::served::states::state_with;
+use crate::served::told::{LOGGED, PORT, is_told, log_all};
+use ns_serve_state::State;
 use std::alloc::Global;
 use std::net::{Net, TcpListener, TcpStream};
-use std::process::Abort;
 use std::sync::Wait;
 use std::thread::Threads;
 use std::time::Clock;
 
-/// A part of a server that does not run. Each function of them gives None where it could not be tried.
-pub enum Case {
+// What is so of a server that does not run.
+#[derive(Clone, Copy, PartialEq, Eq)]
+enum Case {
+    // Of what an earlier life left open, a window is due once copies were waited for, and a ticket is given at once, too old to be asked
+    // about.
     LeftOpen,
+    // A downlink that waits is sent with the first batch alone.
     WaitingDownlink,
+    // An uplink was heard as long before its line is written as its window was open and then waited.
     LineTimes,
+    // A copy of a frame is given until its window is closed, is late for two seconds, and is given after that.
     LateCopies,
+    // The longest Join-Accept, of 33 bytes, goes to where its gateway was heard.
     LongestDownlink,
+    // A worker waits out more than 100 failures where a datagram came in between.
     Failures,
+    // The counts are logged by their names, all datagrams but those that were too many.
     Logged,
+    // All devices that have joined are told, and no others, where none of the first 64 has; and each number under its name.
     Told,
 }
+
+const CASES: &[Case] = &[
+    Case::LeftOpen,
+    Case::WaitingDownlink,
+    Case::LineTimes,
+    Case::LateCopies,
+    Case::LongestDownlink,
+    Case::Failures,
+    Case::Logged,
+    Case::Told,
+];
 
 impl Case {
     // Whether the server has a socket of its own.
@@ -42,58 +62,57 @@ impl Case {
         }
     }
 
-    // Tries it on a state.
-    fn on<R>(&self, rt: &Standing<'_, R>, alloc: Global, state: &State) -> Option<()>
+    // Whether it is so of a state.
+    fn is_so_of<R>(&self, rt: &Standing<'_, R>, alloc: Global, state: &State) -> bool
     where
-        R: Threads + Wait + Clock + Net<Listener = TcpListener, Stream = TcpStream> + Abort + Sync,
+        R: Threads + Wait + Clock + Net<Listener = TcpListener, Stream = TcpStream> + Sync,
     {
         match self {
-            Case::LeftOpen => left_open(rt, alloc, state),
-            Case::WaitingDownlink => waiting_downlink(rt, alloc, state),
-            Case::LineTimes => line_times(rt, state),
-            Case::LateCopies => late_copies(rt, state),
-            Case::LongestDownlink => longest_downlink(rt, state),
-            Case::Failures => failures(rt, state),
-            Case::Logged => logged(rt, state),
-            Case::Told => told(rt, alloc, state),
+            Case::LeftOpen => are_handed_on(rt, alloc, state),
+            Case::WaitingDownlink => is_sent_once(rt, alloc, state),
+            Case::LineTimes => line_has_its_times(rt, state),
+            Case::LateCopies => are_late_for_a_while(rt, state),
+            Case::LongestDownlink => longest_leaves(rt, state),
+            Case::Failures => is_waited_out(rt, state),
+            Case::Logged => log_all(rt, state),
+            Case::Told => is_told(rt, alloc, state),
         }
     }
 
-    // A new state for it.
-    fn state<R>(&self, rt: &Standing<'_, R>, alloc: Global) -> Option<State>
+    // Whether it is so of a new state.
+    fn is_so<R>(&self, rt: &Standing<'_, R>, alloc: Global) -> bool
     where
-        R: Wait + Clock + Net<Listener = TcpListener, Stream = TcpStream>,
+        R: Threads + Wait + Clock + Net<Listener = TcpListener, Stream = TcpStream> + Sync,
     {
-        let own = own_socket(rt.host(), self.has_socket())?;
-        let status = status(rt, alloc, self.port())?;
-        state_with(rt, alloc, own, status)
+        let own = own_socket(rt.host(), self.has_socket());
+        match state_with(rt, alloc, own, self.port()) {
+            Some(state) => {
+                let is_so = self.is_so_of(rt, alloc, &state);
+                drop(state);
+                is_so
+            }
+            None => false,
+        }
     }
-
-    // Tries it on a new state.
-    fn on_new<R>(&self, rt: &Standing<'_, R>, alloc: Global) -> Option<()>
+    // Whether it is so where nothing happened before, and is logged as it is to be.
+    fn holds<R>(&self, rt: &R, alloc: Global) -> bool
     where
-        R: Threads + Wait + Clock + Net<Listener = TcpListener, Stream = TcpStream> + Abort + Sync,
+        R: Threads + Wait + Clock + Net<Listener = TcpListener, Stream = TcpStream> + Sync,
     {
-        let state = self.state(rt, alloc)?;
-        self.on(rt, alloc, &state)
-    }
-
-    /// Tries it, and gives what was logged.
-    pub fn tried<R>(&self, rt: &R, alloc: Global) -> Option<Vec<u8>>
-    where
-        R: Threads + Wait + Clock + Net<Listener = TcpListener, Stream = TcpStream> + Abort + Sync,
-    {
-        let standing = Standing::new(rt, alloc).ok()?;
-        self.on_new(&standing, alloc)?;
-        Some(standing.into_lines())
+        let Ok(standing) = Standing::new(rt, alloc) else {
+            return false;
+        };
+        let is_so = self.is_so(&standing, alloc);
+        let lines = standing.into_lines();
+        is_so && (*self != Case::Logged || lines.as_slice() == LOGGED)
     }
 }
 
-// The status of a server that tells it at this port, if at one.
-fn status<R>(rt: &Standing<'_, R>, alloc: Global, port: Option<u16>) -> Option<Option<Status>>
-where
-    R: Wait + Clock + Net<Listener = TcpListener, Stream = TcpStream>,
-{
-    let roster = roster(alloc)?;
-    Status::open(rt, alloc, &roster, port.map(local)).ok()
+#[test]
+fn parts_of_a_server(rt: HostRuntime) {
+    let mut number = 1u32;
+    for case in CASES {
+        assert!(rt; case.holds(&rt, rt.alloc()), "case {number}");
+        number = number.wrapping_add(1);
+    }
 }

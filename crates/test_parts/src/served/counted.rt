@@ -4,12 +4,15 @@ use crate::served::states::TICKET;
 use ns_calls::Reply;
 use ns_link::LinkFault;
 use ns_outside::Refused;
+use ns_serve_parts::Counts;
 use ns_serve_state::State;
 use ns_types::{DevAddr, DevEui, DevNonce, WindowName};
 use ns_views::ViewFault;
 use std::sync::atomic::Ordering;
 
 const EUI: DevEui = DevEui(13);
+
+const ADDR: DevAddr = DevAddr(0x49be_7df1);
 
 const NONCE: DevNonce = DevNonce(1);
 
@@ -25,70 +28,95 @@ pub fn accepted(eui: DevEui) -> Reply {
     Reply::Accepted {
         eui,
         session: 1,
-        addr: DevAddr(0x49be_7df1),
+        addr: ADDR,
     }
 }
 
-// Counts each refusal, from 21 times on.
-fn count_refusals(state: &State) {
-    let refusals = [
-        (Refused::Link(LinkFault::Short), 21),
-        (Refused::Link(LinkFault::Version), 22),
-        (Refused::Link(LinkFault::Kind), 23),
-        (Refused::Link(LinkFault::Length), 24),
-        (Refused::Link(LinkFault::Frequency), 25),
-        (Refused::Link(LinkFault::DataRate), 26),
-        (Refused::View(ViewFault::TooShort), 27),
-        (Refused::View(ViewFault::Major), 28),
-        (Refused::View(ViewFault::FrameType), 29),
-        (Refused::View(ViewFault::Options), 30),
-        (Refused::View(ViewFault::JoinLength), 31),
-        (Refused::View(ViewFault::TooLong), 32),
-    ];
-    for (why, times) in refusals {
+// Refusals, and how often each comes, from 21 times on.
+const REFUSALS: &[(Refused, u32)] = &[
+    (Refused::Link(LinkFault::Short), 21),
+    (Refused::Link(LinkFault::Version), 22),
+    (Refused::Link(LinkFault::Kind), 23),
+    (Refused::Link(LinkFault::Length), 24),
+    (Refused::Link(LinkFault::Frequency), 25),
+    (Refused::Link(LinkFault::DataRate), 26),
+    (Refused::View(ViewFault::TooShort), 27),
+    (Refused::View(ViewFault::Major), 28),
+    (Refused::View(ViewFault::FrameType), 29),
+    (Refused::View(ViewFault::Options), 30),
+    (Refused::View(ViewFault::JoinLength), 31),
+    (Refused::View(ViewFault::TooLong), 32),
+];
+
+// Replies, and how often each comes: 42 windows and 18 tickets are open then.
+const REPLIES: &[(Reply, u32)] = &[
+    (Reply::Opened { window: WINDOW }, 40),
+    (
+        Reply::Copied {
+            window: WINDOW,
+            place: 1,
+        },
+        2,
+    ),
+    (Reply::Crowded { window: WINDOW }, 3),
+    (
+        Reply::Old {
+            eui: EUI,
+            session: 1,
+            fcnt: 2,
+        },
+        4,
+    ),
+    (Reply::NoSession, 5),
+    (Reply::Busy { eui: EUI }, 6),
+    (Reply::Ask { ticket: TICKET }, 60),
+    (Reply::JoinCopied { place: 1 }, 8),
+    (Reply::JoinCrowded, 9),
+    (Reply::NonceOld { greatest: NONCE }, 10),
+    (Reply::NoDevice, 11),
+    (Reply::JoinBusy, 12),
+    (
+        Reply::Accepted {
+            eui: EUI,
+            session: 1,
+            addr: ADDR,
+        },
+        13,
+    ),
+    (Reply::JoinRefused, 14),
+    (Reply::JoinStale { greatest: NONCE }, 15),
+    (Reply::NoTicket, 16),
+    (
+        Reply::Closed {
+            window: WINDOW,
+            ack: None,
+        },
+        17,
+    ),
+    (Reply::NoWindow, 18),
+    (Reply::Again { window: WINDOW }, 19),
+];
+
+// Counts each refusal.
+fn count_refusals(counts: &Counts) {
+    for &(why, times) in REFUSALS {
         for _ in 0..times {
-            state.counts.refused(why);
+            counts.refused(why);
         }
     }
 }
 
-// Counts each reply: 42 windows and 18 tickets are open.
-fn count_replies(state: &State) {
-    let (eui, window, greatest) = (EUI, WINDOW, NONCE);
-    let (session, fcnt) = (1, 2);
-    let replies = [
-        (Reply::Opened { window }, 40),
-        (Reply::Copied { window, place: 1 }, 2),
-        (Reply::Crowded { window }, 3),
-        (Reply::Old { eui, session, fcnt }, 4),
-        (Reply::NoSession, 5),
-        (Reply::Busy { eui }, 6),
-        (Reply::Ask { ticket: TICKET }, 60),
-        (Reply::JoinCopied { place: 1 }, 8),
-        (Reply::JoinCrowded, 9),
-        (Reply::NonceOld { greatest }, 10),
-        (Reply::NoDevice, 11),
-        (Reply::JoinBusy, 12),
-        (accepted(eui), 13),
-        (Reply::JoinRefused, 14),
-        (Reply::JoinStale { greatest }, 15),
-        (Reply::NoTicket, 16),
-        (Reply::Closed { window, ack: None }, 17),
-        (Reply::NoWindow, 18),
-        (Reply::Again { window }, 19),
-    ];
-    for (reply, times) in replies {
-        for _ in 0..times {
-            state.counts.replied(&reply);
+// Counts each reply.
+fn count_replies(counts: &Counts) {
+    for (reply, times) in REPLIES {
+        for _ in 0..*times {
+            counts.replied(reply);
         }
     }
 }
 
-/// Counts each thing, so that no two have the same number. Of more datagrams than the server takes came 1,003.
-pub fn count_all(state: &State) {
-    count_refusals(state);
-    count_replies(state);
-    let counts = &state.counts;
+// Counts each thing else, from 101 times on.
+fn count_others(counts: &Counts) {
     let others = [
         &counts.dropped,
         &counts.late,
@@ -101,6 +129,13 @@ pub fn count_all(state: &State) {
     for (counter, n) in others.iter().zip(101..) {
         counter.store(n, Ordering::SeqCst);
     }
+}
+
+/// Counts each thing, so that no two have the same number. Of more datagrams than the server takes came 1,003.
+pub fn count_all(state: &State) {
+    count_refusals(&state.counts);
+    count_replies(&state.counts);
+    count_others(&state.counts);
     state.read.store(1003, Ordering::SeqCst);
     for _ in 0..3 {
         state.made.add_one(2);

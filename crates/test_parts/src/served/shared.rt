@@ -1,9 +1,8 @@
 //! What an earlier life left open, downlinks that wait, and the times of a line.
 
-use crate::served::cases::Case;
 use crate::served::standing::Standing;
 use crate::served::states::{TICKET, downlink};
-use crossbeam_channel::unbounded;
+use crossbeam_channel::{Sender, unbounded};
 use ns_calls::Bytes;
 use ns_events::{Times, Utc};
 use ns_outside::{AskJob, CloseJob, Downlinks, JobSource, Next, Timer};
@@ -11,118 +10,94 @@ use ns_serve_sockets::Later;
 use ns_serve_state::{FromQueue, SinceStart, State, hand_on};
 use ns_types::{DevEui, WindowName};
 use std::alloc::Global;
-use std::process::Abort;
 use std::sync::Wait;
 use std::sync::atomic::Ordering;
-use std::test::*;
 use std::time::Clock;
 
-/// Of what an earlier life left open, a window is due once copies were waited for, and a ticket is given at once, too old to be asked
-/// about.
-#[test]
-fn left_open_is_handed_on(rt: HostRuntime) {
-    assert!(rt; Case::LeftOpen.tried(&rt, rt.alloc()).is_some());
-}
-
-const NAME: WindowName = WindowName {
-    eui: DevEui(13),
-    session: 1,
-    fcnt: 2,
-    round: 1,
+// The job of a window that an earlier life left open with a ticket.
+const CLOSED: CloseJob = CloseJob {
+    name: WindowName {
+        eui: DevEui(13),
+        session: 1,
+        fcnt: 2,
+        round: 1,
+    },
+    due: 7000,
 };
 
-// The job of a window that an earlier life left open with a ticket.
-fn handed_on<R: Wait + Clock>(
+// The job of the ticket.
+const LOST: AskJob = AskJob {
+    ticket: TICKET,
+    since: 0,
+    due: 0,
+};
+
+// Whether such a window and the ticket are handed on.
+fn hand_on_both<R: Wait + Clock>(
     rt: &Standing<'_, R>,
     alloc: Global,
     state: &State,
-) -> Option<CloseJob> {
-    let windows = Vec::from_slice(alloc, &[NAME]).ok()?;
-    let tickets = Vec::from_slice(alloc, &[TICKET]).ok()?;
-    let (sender, receiver) = unbounded::<CloseJob, Global>(alloc).ok()?;
-    hand_on(rt, state, windows, tickets, &sender).ok()?;
-    receiver.try_recv(rt).ok()
+    closes: &Sender<CloseJob>,
+) -> bool {
+    let windows = Vec::from_slice(alloc, &[CLOSED.name]);
+    let tickets = Vec::from_slice(alloc, &[TICKET]);
+    match (windows, tickets) {
+        (Ok(windows), Ok(tickets)) => hand_on(rt, state, windows, tickets, closes).is_ok(),
+        _ => false,
+    }
 }
 
-/// Tries `Case::LeftOpen`.
-pub fn left_open<R: Wait + Clock + Abort>(
-    standing: &Standing<'_, R>,
-    alloc: Global,
-    state: &State,
-) -> Option<()> {
-    let rt = standing.host();
-    let job = handed_on(standing, alloc, state)?;
-    assert!(rt;
-        job == CloseJob {
-            name: NAME,
-            due: 7000
+// Whether that job comes of the window.
+fn is_closed<R: Wait + Clock>(rt: &Standing<'_, R>, alloc: Global, state: &State) -> bool {
+    match unbounded::<CloseJob, Global>(alloc) {
+        Ok((sender, receiver)) => {
+            hand_on_both(rt, alloc, state, &sender) && receiver.try_recv(rt).ok() == Some(CLOSED)
         }
-    );
+        Err(_) => false,
+    }
+}
+
+/// Whether a window and a ticket that an earlier life left open become jobs.
+pub fn are_handed_on<R: Wait + Clock>(rt: &Standing<'_, R>, alloc: Global, state: &State) -> bool {
     let mut queue = FromQueue { state };
-    let lost = AskJob {
-        ticket: TICKET,
-        since: 0,
-        due: 0,
+    is_closed(rt, alloc, state) && queue.take(rt) == Next::Job(LOST) && queue.take(rt) == Next::End
+}
+
+/// Whether a downlink is taken, and of two batches is sent with one, which is counted, since it has nowhere to go.
+pub fn is_sent_once<R: Wait + Clock>(rt: &Standing<'_, R>, alloc: Global, state: &State) -> bool {
+    let Ok(mut later) = Later::new(alloc, state, 1) else {
+        return false;
     };
-    assert!(rt; queue.take(standing) == Next::Job(lost));
-    assert!(rt; queue.take(standing) == Next::End);
-    Some(())
-}
-
-/// A downlink that waits is sent with the first batch alone.
-#[test]
-fn waiting_downlink_is_sent_once(rt: HostRuntime) {
-    assert!(rt; Case::WaitingDownlink.tried(&rt, rt.alloc()).is_some());
-}
-
-// Whether a downlink is taken, of which two batches are sent.
-fn sent_twice<R: Wait + Clock>(rt: &Standing<'_, R>, alloc: Global, state: &State) -> Option<bool> {
-    let mut later = Later::new(alloc, state, 1).ok()?;
     let is_taken = later.send(rt, &downlink(Bytes::of(&[0x60; 12])));
     later.send_all(rt);
     later.send_all(rt);
-    Some(is_taken)
+    is_taken && state.counts.unsent.load(Ordering::SeqCst) == 1
 }
 
-/// Tries `Case::WaitingDownlink`.
-pub fn waiting_downlink<R: Wait + Clock + Abort>(
-    standing: &Standing<'_, R>,
-    alloc: Global,
-    state: &State,
-) -> Option<()> {
-    let is_taken = sent_twice(standing, alloc, state)?;
-    assert!(standing.host(); is_taken && state.counts.unsent.load(Ordering::SeqCst) == 1);
-    Some(())
-}
+// When a line is written, and when what it tells was heard.
+const WRITTEN: Utc = Utc {
+    year: 2025,
+    month: 11,
+    day: 24,
+    hour: 20,
+    minute: 43,
+    second: 20,
+    millisecond: 123,
+};
 
-/// An uplink was heard as long before its line is written as its window was open and then waited.
-#[test]
-fn line_tells_when_it_was_heard(rt: HostRuntime) {
-    assert!(rt; Case::LineTimes.tried(&rt, rt.alloc()).is_some());
-}
+const HEARD: Utc = Utc {
+    second: 17,
+    millisecond: 623,
+    ..WRITTEN
+};
 
-/// Tries `Case::LineTimes`.
-pub fn line_times<R: Wait + Clock + Abort>(
-    standing: &Standing<'_, R>,
-    state: &State,
-) -> Option<()> {
-    let rt = standing.host();
-    standing.stand_at(500);
-    let written = Utc {
-        year: 2025,
-        month: 11,
-        day: 24,
-        hour: 20,
-        minute: 43,
-        second: 20,
-        millisecond: 123,
-    };
-    let heard = Utc {
-        second: 17,
-        millisecond: 623,
-        ..written
-    };
-    let times = SinceStart { state }.times(standing, 5000);
-    assert!(rt; times == Some(Times { heard, written }));
-    Some(())
+/// Whether a line has these times half a second after its window was closed.
+pub fn line_has_its_times<R: Wait + Clock>(rt: &Standing<'_, R>, state: &State) -> bool {
+    rt.stand_at(500);
+    let times = SinceStart { state }.times(rt, 5000);
+    times
+        == Some(Times {
+            heard: HEARD,
+            written: WRITTEN,
+        })
 }

@@ -1,19 +1,17 @@
 //! Datagrams of a gateway over loopback, and a downlink to it.
 
-use crate::served::cases::Case;
+use crate::loopback::{local, socket};
 use crate::served::standing::Standing;
-use crate::served::states::{downlink, local};
+use crate::served::states::downlink;
 use ns_calls::Bytes;
 use ns_front::FrameName;
 use ns_outside::{Datagrams, Downlinks, Received};
 use ns_serve_sockets::{FromSocket, ToSocket};
 use ns_serve_state::State;
-use std::net::{Net, SocketAddr, TcpListener, TcpStream, UdpSocket};
-use std::process::Abort;
+use std::net::{Net, SocketAddr, UdpSocket};
 use std::sync::Wait;
 use std::sync::atomic::Ordering;
-use std::test::*;
-use std::time::{Clock, Duration};
+use std::time::Clock;
 
 // An uplink as the gateway 161 heard it.
 const HEARD: [u8; 45] = [
@@ -29,35 +27,31 @@ const NAME: FrameName = FrameName {
     mic: 0xefab_2367,
 };
 
-// A socket of this host, whose receives wait five seconds.
-fn socket<R: Net>(rt: &R, port: u16) -> Option<UdpSocket> {
-    let socket = UdpSocket::bind(rt, local(port)).ok()?;
-    socket
-        .set_read_timeout(Some(Duration::from_millis(5000)))
-        .ok()?;
-    Some(socket)
-}
-
 /// A server's socket of its own, if it has one.
-pub fn own_socket<R: Net>(rt: &R, has_one: bool) -> Option<Option<(UdpSocket, SocketAddr)>> {
-    if has_one {
-        Some(Some((socket(rt, 0)?, local(0))))
-    } else {
-        Some(None)
+pub fn own_socket<R: Net>(rt: &R, has_one: bool) -> Option<(UdpSocket, SocketAddr)> {
+    if !has_one {
+        return None;
+    }
+    match socket(rt, 0) {
+        Some(socket) => Some((socket, local(0))),
+        None => None,
     }
 }
 
-// A gateway's socket at this port, which sends to that of a state.
-fn gateway<R: Net>(rt: &R, state: &State, port: u16) -> Option<UdpSocket> {
-    let (own, _) = state.own.as_ref()?;
-    let server = own.local_addr().ok()?;
+// A gateway's socket at this port, which sends to this socket of a server.
+fn gateway<R: Net>(rt: &R, own: &UdpSocket, port: u16) -> Option<UdpSocket> {
+    let Ok(server) = own.local_addr() else {
+        return None;
+    };
     let gateway = socket(rt, port)?;
-    gateway.connect(server).ok()?;
-    Some(gateway)
+    match gateway.connect(server) {
+        Ok(()) => Some(gateway),
+        Err(_) => None,
+    }
 }
 
 // What is received at these times of copies whose window was closed at 0.
-const COPIES: [(u64, Received); 5] = [
+const COPIES: &[(u64, Received)] = &[
     (0, Received::Got(45)),
     (1999, Received::Got(45)),
     (2000, Received::Idle),
@@ -65,93 +59,80 @@ const COPIES: [(u64, Received); 5] = [
     (4000, Received::Got(45)),
 ];
 
-/// A copy of a frame is given until its window is closed, is late for two seconds, and is given after that.
-#[test]
-fn copy_is_late_for_a_while(rt: HostRuntime) {
-    assert!(rt; Case::LateCopies.tried(&rt, rt.alloc()).is_some());
-}
-
-// What is received of a copy at this time.
-fn copy_at<R: Wait + Clock>(
+// Whether this is received of a copy at this time.
+fn is_received<R: Wait + Clock>(
     rt: &Standing<'_, R>,
     from: &mut FromSocket<'_>,
     gateway: &UdpSocket,
-    ms: u64,
-) -> Option<Received> {
+    (ms, want): (u64, Received),
+) -> bool {
     let mut buf = [0u8; 512];
     rt.stand_at(ms);
-    gateway.send(&HEARD).ok()?;
-    Some(from.next(rt, &mut buf))
+    gateway.send(&HEARD).is_ok() && from.next(rt, &mut buf) == want
 }
 
-// Receives a copy at each of those times. The first time at which something else is received than is told.
-fn copies<R: Wait + Clock>(
+// Whether a copy is received at each of those times as it is told.
+fn are_received<R: Wait + Clock>(
+    rt: &Standing<'_, R>,
+    from: &mut FromSocket<'_>,
+    gateway: &UdpSocket,
+) -> bool {
+    for &copy in COPIES {
+        if !is_received(rt, from, gateway, copy) {
+            return false;
+        }
+    }
+    true
+}
+
+/// Whether copies of a frame are late for a while, and counted then.
+pub fn are_late_for_a_while<R: Wait + Clock + Net>(rt: &Standing<'_, R>, state: &State) -> bool {
+    let Some((own, _)) = &state.own else {
+        return false;
+    };
+    state.lates.note(rt, NAME, 7000);
+    let are_received = match gateway(rt.host(), own, 0) {
+        Some(gateway) => are_received(rt, &mut FromSocket::new(state, None), &gateway),
+        None => false,
+    };
+    are_received && state.counts.late.load(Ordering::SeqCst) == 2
+}
+
+// How many bytes a gateway gets.
+fn count_bytes(gateway: &UdpSocket) -> usize {
+    let mut buf = [0u8; 512];
+    gateway.recv(&mut buf).unwrap_or(0)
+}
+
+// Whether a gateway gets the longest downlink once it was heard.
+fn is_longest_sent<R: Wait + Clock>(
     rt: &Standing<'_, R>,
     state: &State,
     gateway: &UdpSocket,
-) -> Option<Option<u64>> {
+) -> bool {
     let mut from = FromSocket::new(state, None);
-    for (ms, want) in &COPIES {
-        if copy_at(rt, &mut from, gateway, *ms)? != *want {
-            return Some(Some(*ms));
-        }
+    is_received(rt, &mut from, gateway, (0, Received::Got(45)))
+        && ToSocket { state }.send(rt, &downlink(Bytes::of(&[0x20; 33])))
+        && count_bytes(gateway) == 61
+}
+
+/// Whether the longest downlink leaves.
+pub fn longest_leaves<R: Wait + Clock + Net>(rt: &Standing<'_, R>, state: &State) -> bool {
+    let Some((own, _)) = &state.own else {
+        return false;
+    };
+    match gateway(rt.host(), own, 0) {
+        Some(gateway) => is_longest_sent(rt, state, &gateway),
+        None => false,
     }
-    Some(None)
-}
-
-/// Tries `Case::LateCopies`.
-pub fn late_copies<R>(standing: &Standing<'_, R>, state: &State) -> Option<()>
-where
-    R: Wait + Clock + Net<Listener = TcpListener, Stream = TcpStream> + Abort,
-{
-    let rt = standing.host();
-    state.lates.note(standing, NAME, 7000);
-    let wrong = copies(standing, state, &gateway(rt, state, 0)?)?;
-    assert!(rt; wrong.is_none());
-    assert!(rt; state.counts.late.load(Ordering::SeqCst) == 2);
-    Some(())
-}
-
-/// The longest Join-Accept, of 33 bytes, goes to where its gateway was heard.
-#[test]
-fn longest_downlink_leaves(rt: HostRuntime) {
-    assert!(rt; Case::LongestDownlink.tried(&rt, rt.alloc()).is_some());
-}
-
-// How many bytes a gateway gets of a downlink of this frame, once it was heard.
-fn downlink_bytes<R>(rt: &Standing<'_, R>, state: &State, frame: Bytes<33>) -> Option<usize>
-where
-    R: Wait + Clock + Net<Listener = TcpListener, Stream = TcpStream>,
-{
-    let gateway = gateway(rt.host(), state, 0)?;
-    let got = copy_at(rt, &mut FromSocket::new(state, None), &gateway, 0)?;
-    let is_sent = ToSocket { state }.send(rt, &downlink(frame));
-    if got != Received::Got(45) || !is_sent {
-        return None;
-    }
-    let mut buf = [0u8; 512];
-    gateway.recv(&mut buf).ok()
-}
-
-/// Tries `Case::LongestDownlink`.
-pub fn longest_downlink<R>(standing: &Standing<'_, R>, state: &State) -> Option<()>
-where
-    R: Wait + Clock + Net<Listener = TcpListener, Stream = TcpStream> + Abort,
-{
-    let bytes = downlink_bytes(standing, state, Bytes::of(&[0x20; 33]))?;
-    assert!(standing.host(); bytes == 61);
-    Some(())
 }
 
 // Whether none of 51 receives is the last, each after a datagram to a gateway that is not there, which makes it fail.
 fn goes_on<R: Wait + Clock>(
     rt: &Standing<'_, R>,
-    state: &State,
+    own: &UdpSocket,
     from: &mut FromSocket<'_>,
 ) -> bool {
-    let Some((own, _)) = &state.own else {
-        return false;
-    };
     let mut buf = [0u8; 512];
     for _ in 0..51 {
         if own.send(&[0]).is_err() || from.next(rt, &mut buf) != Received::Idle {
@@ -161,46 +142,50 @@ fn goes_on<R: Wait + Clock>(
     true
 }
 
-/// A worker waits out more than 100 failures where a datagram came in between.
-#[test]
-fn failures_are_counted_in_a_row(rt: HostRuntime) {
-    assert!(rt; Case::Failures.tried(&rt, rt.alloc()).is_some());
+// The port of a gateway to which a server's own socket sends, and which is there no more.
+fn lost_gateway<R: Net>(rt: &R, own: &UdpSocket) -> Option<u16> {
+    let lost = socket(rt, 0)?;
+    let Ok(there) = lost.local_addr() else {
+        return None;
+    };
+    match own.connect(there) {
+        Ok(()) => Some(there.port()),
+        Err(_) => None,
+    }
 }
 
-// The port of a gateway to which a state's own socket sends, and which is there no more.
-fn lost_gateway<R: Net>(rt: &R, state: &State) -> Option<u16> {
-    let (own, _) = state.own.as_ref()?;
-    let there = socket(rt, 0)?.local_addr().ok()?;
-    own.connect(there).ok()?;
-    Some(there.port())
-}
-
-// What is received of a gateway at this port, which is there for that time alone.
-fn received<R>(
+// Whether a gateway at this port is heard, which is there for that time alone.
+fn is_heard_at<R: Wait + Clock + Net>(
     rt: &Standing<'_, R>,
-    state: &State,
+    own: &UdpSocket,
     from: &mut FromSocket<'_>,
     port: u16,
-) -> Option<Received>
-where
-    R: Wait + Clock + Net<Listener = TcpListener, Stream = TcpStream>,
-{
-    let gateway = gateway(rt.host(), state, port)?;
-    copy_at(rt, from, &gateway, 0)
+) -> bool {
+    match gateway(rt.host(), own, port) {
+        Some(gateway) => is_received(rt, from, &gateway, (0, Received::Got(45))),
+        None => false,
+    }
 }
 
-/// Tries `Case::Failures`.
-pub fn failures<R>(standing: &Standing<'_, R>, state: &State) -> Option<()>
-where
-    R: Wait + Clock + Net<Listener = TcpListener, Stream = TcpStream> + Abort,
-{
-    let rt = standing.host();
-    let port = lost_gateway(rt, state)?;
-    let mut from = FromSocket::new(state, None);
-    let goes_on_first = goes_on(standing, state, &mut from);
-    let got = received(standing, state, &mut from, port)?;
-    let goes_on_then = goes_on(standing, state, &mut from);
-    assert!(rt; goes_on_first && got == Received::Got(45) && goes_on_then);
-    assert!(rt; state.counts.unreceived.load(Ordering::SeqCst) == 102);
-    Some(())
+// Whether receives go on that fail 51 times before a datagram comes, and 51 times after it.
+fn goes_on_between<R: Wait + Clock + Net>(
+    rt: &Standing<'_, R>,
+    own: &UdpSocket,
+    from: &mut FromSocket<'_>,
+) -> bool {
+    match lost_gateway(rt.host(), own) {
+        Some(port) => {
+            goes_on(rt, own, from) && is_heard_at(rt, own, from, port) && goes_on(rt, own, from)
+        }
+        None => false,
+    }
+}
+
+/// Whether more than 100 failures are waited out, and counted.
+pub fn is_waited_out<R: Wait + Clock + Net>(rt: &Standing<'_, R>, state: &State) -> bool {
+    let Some((own, _)) = &state.own else {
+        return false;
+    };
+    goes_on_between(rt, own, &mut FromSocket::new(state, None))
+        && state.counts.unreceived.load(Ordering::SeqCst) == 102
 }

@@ -1,5 +1,6 @@
 //! The state of a server that does not run.
 
+use crate::loopback::local;
 use crate::served::standing::Standing;
 use ns_calls::{Bytes, Downlink};
 use ns_events::Output;
@@ -9,7 +10,7 @@ use ns_serve_parts::{Made, PLACES, ServeOptions};
 use ns_serve_state::{State, Status};
 use ns_types::{GatewayId, Target, Ticket};
 use std::alloc::{AllocError, Global};
-use std::net::{SocketAddr, UdpSocket};
+use std::net::{Net, SocketAddr, TcpListener, TcpStream, UdpSocket};
 use std::sync::Wait;
 use std::time::Clock;
 
@@ -18,13 +19,8 @@ pub const TICKET: Ticket = Ticket([
     0, 4, 3, 2, 1, 4, 3, 2, 1, 13, 0, 0, 0, 0, 0, 0, 0, 1, 0, 1, 0, 0, 0,
 ]);
 
-/// How many devices there are.
-pub const DEVICES: u64 = 150;
-
-/// An address of this host.
-pub fn local(port: u16) -> SocketAddr {
-    SocketAddr::from(([127, 0, 0, 1], port))
-}
+// How many devices there are.
+const DEVICES: u64 = 150;
 
 /// Options with neither an address for gateways nor one for forwarders, a window of 2 s, and a stop after 1,000 datagrams.
 pub fn options() -> Option<ServeOptions<'static>> {
@@ -48,6 +44,15 @@ pub fn options() -> Option<ServeOptions<'static>> {
     })
 }
 
+// Puts a device, whose slot is the number of its `dev_eui`.
+fn put_device(alloc: Global, text: &mut String, eui: u64) -> Result<(), AllocError> {
+    let comma = if eui == 1 { "" } else { "," };
+    let device = format!(in alloc;
+        "{comma}{{\"dev_eui\":\"{eui:016x}\",\"join_eui\":\"0102030401020304\",\"slot\":{eui}}}"
+    )?;
+    text.push_str(device.as_str())
+}
+
 // The text of a roster with the devices 1 to 150, and an RX1 delay of 1 s.
 fn roster_text(alloc: Global) -> Result<String, AllocError> {
     let mut text = String::from_str(
@@ -55,31 +60,35 @@ fn roster_text(alloc: Global) -> Result<String, AllocError> {
         "{\"version\":1,\"net_id\":\"000024\",\"rx1_offset\":0,\"rx_delay\":1,\"devices\":[",
     )?;
     for eui in 1..=DEVICES {
-        let comma = if eui == 1 { "" } else { "," };
-        let device = format!(in alloc;
-            "{comma}{{\"dev_eui\":\"{eui:016x}\",\"join_eui\":\"0102030401020304\",\"slot\":{eui}}}"
-        )?;
-        text.push_str(device.as_str())?;
+        put_device(alloc, &mut text, eui)?;
     }
     text.push_str("]}")?;
     Ok(text)
 }
 
-/// The roster.
-pub fn roster(alloc: Global) -> Option<Roster> {
-    let text = roster_text(alloc).ok()?;
-    Roster::read(alloc, text.as_str().as_bytes()).ok()
+// The roster.
+fn roster(alloc: Global) -> Option<Roster> {
+    match roster_text(alloc) {
+        Ok(text) => Roster::read(alloc, text.as_str().as_bytes()).ok(),
+        Err(_) => None,
+    }
 }
 
-/// A state without a record, with this socket of its own and this status.
-pub fn state_with<R: Wait + Clock>(
+/// A state without a record, with this socket of its own and a status that is told at this port.
+pub fn state_with<R>(
     rt: &Standing<'_, R>,
     alloc: Global,
     own: Option<(UdpSocket, SocketAddr)>,
-    status: Option<Status>,
-) -> Option<State> {
+    port: Option<u16>,
+) -> Option<State>
+where
+    R: Wait + Clock + Net<Listener = TcpListener, Stream = TcpStream>,
+{
     let options = options()?;
     let roster = roster(alloc)?;
+    let Ok(status) = Status::open(rt, alloc, &roster, port.map(local)) else {
+        return None;
+    };
     let made = Made::of(&[0; PLACES]);
     State::new(rt, alloc, own, None, &roster, &options, made, None, status).ok()
 }

@@ -1,9 +1,8 @@
 //! What is logged of the counts, and what is told over HTTP.
 
-use crate::served::cases::Case;
+use crate::loopback::local;
 use crate::served::counted::{accepted, count_all};
 use crate::served::standing::Standing;
-use crate::served::states::local;
 use ns_outside::Receipt;
 use ns_serve_state::{State, Status, log_counts};
 use ns_serve_status::tell;
@@ -11,10 +10,8 @@ use ns_types::DevEui;
 use std::alloc::Global;
 use std::io::{Read, Write};
 use std::net::{Net, TcpListener, TcpStream};
-use std::process::Abort;
 use std::sync::Wait;
 use std::sync::atomic::Ordering;
-use std::test::*;
 use std::thread;
 use std::thread::Threads;
 use std::time::{Clock, Duration};
@@ -22,36 +19,42 @@ use std::time::{Clock, Duration};
 /// Where the status is told.
 pub const PORT: u16 = 17091;
 
-/// The counts are logged by their names, all datagrams but those that were too many.
-#[test]
-fn counts_are_logged(rt: HostRuntime) {
-    let want =
-        b"[INFO  ns_serve_parts::counts] datagrams: read 1000 dropped 101 late 102 failed receives 103 G1 21 G2 22 G3 23 G4 24 G5 25 G6 26 V1 27 V2 28 V3 29 V4 30 V5 31 V6 32\n[INFO  ns_serve_parts::counts] replies: opened 40 copied 2 crowded 3 old 4 nosession 5 busy 6 ask 60 joincopied 8 joincrowded 9 nonceold 10 nodevice 11 joinbusy 12 accepted 13 joinrefused 14 joinstale 15 noticket 16 closed 17 nowindow 18 again 19 unanswered 104 unsent 105 stale tickets 106\n[WARN  ns_serve_parts::counts] standard output failed: 107 lines did not reach it\n";
-    let lines = Case::Logged.tried(&rt, rt.alloc());
-    assert!(rt; lines.is_some_and(|lines| lines.as_slice() == want.as_slice()));
-}
+/// How the counts are logged.
+pub const LOGGED: &[u8] =
+    b"[INFO  ns_serve_parts::counts] datagrams: read 1000 dropped 101 late 102 failed receives 103 G1 21 G2 22 G3 23 G4 24 G5 25 G6 26 V1 27 V2 28 V3 29 V4 30 V5 31 V6 32\n[INFO  ns_serve_parts::counts] replies: opened 40 copied 2 crowded 3 old 4 nosession 5 busy 6 ask 60 joincopied 8 joincrowded 9 nonceold 10 nodevice 11 joinbusy 12 accepted 13 joinrefused 14 joinstale 15 noticket 16 closed 17 nowindow 18 again 19 unanswered 104 unsent 105 stale tickets 106\n[WARN  ns_serve_parts::counts] standard output failed: 107 lines did not reach it\n";
 
-/// Tries `Case::Logged`.
-pub fn logged<R: Wait + Clock>(rt: &Standing<'_, R>, state: &State) -> Option<()> {
+/// Counts each thing, and logs the counts.
+pub fn log_all<R: Wait + Clock>(rt: &Standing<'_, R>, state: &State) -> bool {
     count_all(state);
     log_counts(rt, state);
-    Some(())
+    true
 }
 
 // All that comes back.
 fn read(alloc: Global, mut stream: &TcpStream) -> Option<String> {
     let mut bytes: Vec<u8> = Vec::new(alloc);
-    stream.read_to_end(&mut bytes).ok()?;
-    String::from_utf8_lossy(alloc, bytes.as_slice()).ok()
+    match stream.read_to_end(&mut bytes) {
+        Ok(_) => String::from_utf8_lossy(alloc, bytes.as_slice()).ok(),
+        Err(_) => None,
+    }
+}
+
+// Sends a request. Whether it is sent.
+fn is_sent(mut stream: &TcpStream, request: &str) -> bool {
+    stream
+        .set_read_timeout(Some(Duration::from_secs(5)))
+        .is_ok()
+        && stream.write_all(request.as_bytes()).is_ok()
 }
 
 // What is answered to this request.
 fn answer<R: Net<Stream = TcpStream>>(rt: &R, alloc: Global, request: &str) -> Option<String> {
-    let stream = TcpStream::connect(rt, local(PORT)).ok()?;
-    stream
-        .set_read_timeout(Some(Duration::from_millis(5000)))
-        .ok()?;
-    { &stream }.write_all(request.as_bytes()).ok()?;
+    let Ok(stream) = TcpStream::connect(rt, local(PORT)) else {
+        return None;
+    };
+    if !is_sent(&stream, request) {
+        return None;
+    }
     read(alloc, &stream)
 }
 
@@ -59,7 +62,7 @@ fn answer<R: Net<Stream = TcpStream>>(rt: &R, alloc: Global, request: &str) -> O
 const DEVICES: &str =
     "\r\n\r\n{\"nowMs\":5000,\"startMs\":1764016995123,\"devices\":[\n{\"devAddr\":\"49be7df1\",\"devEui\":\"0000000000000046\",\"fCnt\":null,\"gatewayId\":null,\"heardMs\":null,\"missed\":0,\"session\":1,\"sinceMs\":4000},\n{\"devAddr\":\"49be7df1\",\"devEui\":\"000000000000008c\",\"fCnt\":null,\"gatewayId\":null,\"heardMs\":null,\"missed\":0,\"session\":1,\"sinceMs\":4000}\n]}\n";
 
-const METRICS: [&str; 16] = [
+const METRICS: &[&str] = &[
     "\nlorawan_ns_start_time_seconds 1764017000\n",
     "\nlorawan_ns_open_windows 42\n",
     "\nlorawan_ns_open_tickets 18\n",
@@ -78,61 +81,59 @@ const METRICS: [&str; 16] = [
     "\nlorawan_ns_entries_total{shard=\"2\"} 3\n",
 ];
 
-// The first of these lines that a text does not have.
-fn missing(text: &str) -> Option<&'static str> {
+// Whether a text has each of these lines.
+fn has_metrics(text: &str) -> bool {
     for line in METRICS {
         if !text.contains(line) {
-            return Some(line);
+            return false;
         }
     }
-    None
+    true
 }
 
-// Asks for the devices and for the counts.
-fn ask_both<R: Net<Stream = TcpStream> + Abort>(rt: &R, alloc: Global) -> Option<()> {
-    let devices = answer(rt, alloc, "GET /devices HTTP/1.1\r\n\r\n")?;
-    assert!(rt; devices.as_str().ends_with(DEVICES));
-    let metrics = answer(rt, alloc, "GET /metrics HTTP/1.1\r\n\r\n")?;
-    assert!(rt; missing(metrics.as_str()).is_none());
-    Some(())
+// Asks for the devices and for the counts. Whether they are told.
+fn are_told<R: Net<Stream = TcpStream>>(rt: &R, alloc: Global) -> bool {
+    let devices = answer(rt, alloc, "GET /devices HTTP/1.1\r\n\r\n");
+    let metrics = answer(rt, alloc, "GET /metrics HTTP/1.1\r\n\r\n");
+    match (devices, metrics) {
+        (Some(devices), Some(metrics)) => {
+            devices.as_str().ends_with(DEVICES) && has_metrics(metrics.as_str())
+        }
+        _ => false,
+    }
 }
 
 // The same, after which no more is told.
-fn ask<R: Net<Stream = TcpStream> + Abort>(rt: &R, alloc: Global, state: &State) -> Option<()> {
-    let is_told = ask_both(rt, alloc);
+fn are_told_last<R: Net<Stream = TcpStream>>(rt: &R, alloc: Global, state: &State) -> bool {
+    let are_told = are_told(rt, alloc);
     state.break_off();
-    is_told
+    are_told
 }
 
 // Of 150 devices, 70 and 140 have joined.
 fn have_joined<R: Wait + Clock>(rt: &Standing<'_, R>, status: &Status) {
     let mut receipt = Receipt::empty();
-    for eui in [70, 140] {
+    for &eui in &[70, 140] {
         receipt.entry.reply = accepted(DevEui(eui));
         status.note(rt, &receipt, 4000);
     }
 }
 
-/// Tries `Case::Told`.
-pub fn told<R>(standing: &Standing<'_, R>, alloc: Global, state: &State) -> Option<()>
+/// Whether the status is told.
+pub fn is_told<R>(standing: &Standing<'_, R>, alloc: Global, state: &State) -> bool
 where
-    R: Threads + Wait + Clock + Net<Listener = TcpListener, Stream = TcpStream> + Abort + Sync,
+    R: Threads + Wait + Clock + Net<Listener = TcpListener, Stream = TcpStream> + Sync,
 {
-    let rt = standing.host();
-    let status = state.status.as_ref()?;
+    let Some(status) = &state.status else {
+        return false;
+    };
     count_all(state);
     have_joined(standing, status);
     state.gateways.store(1, Ordering::SeqCst);
-    let (_, is_told) = thread::join(
-        rt,
+    let (_, are_told) = thread::join(
+        standing.host(),
         || tell(standing, alloc, state),
-        || ask(rt, alloc, state),
+        || are_told_last(standing.host(), alloc, state),
     );
-    is_told
-}
-
-/// All devices that have joined are told, and no others, where none of the first 64 has; and each number under its name.
-#[test]
-fn status_is_told(rt: HostRuntime) {
-    assert!(rt; Case::Told.tried(&rt, rt.alloc()).is_some());
+    are_told
 }
