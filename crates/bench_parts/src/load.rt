@@ -4,7 +4,7 @@ ghost use Rattle.std.specs.Prelude.{◌≡◌, ◌<◌, vec_len, IfOk};
 
 use ns_calls::Call;
 use std::alloc::{AllocError, Global};
-use test_threads::{closing, join, join_reply, uplink};
+use test_device::traffic::{closing, join, join_reply, uplink};
 
 /// How much traffic there is: each device joins, and then the frames come, the first of each device, the second and so on, each as three
 /// gateways hear it, and the closing of its window. Every second frame is to be acknowledged.

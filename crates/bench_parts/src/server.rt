@@ -19,7 +19,7 @@ use std::io;
 use std::sync::{Arc, Wait};
 use std::thread::Threads;
 use std::time::Clock;
-use test_threads::roster;
+use test_device::traffic::roster;
 
 // The ways by which calls are made.
 #[derive(Clone, Copy)]

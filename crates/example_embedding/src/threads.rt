@@ -23,7 +23,7 @@ use std::io;
 use std::marker::Brand;
 use std::sync::{Arc, Wait};
 use std::thread::Threads;
-use test_threads::roster;
+use test_device::traffic::roster;
 
 /// How many devices there are. Each worker hears two uplinks of each.
 pub const DEVICES: u32 = 3;

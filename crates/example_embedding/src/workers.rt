@@ -1,14 +1,15 @@
 //! What each worker does: its devices join, and then it hears an uplink of each device. And what is done between two rounds of them: trims.
 
 use crate::threads::DEVICES;
-use ns_outside::Receipt;
+use ns_calls::Call;
+use ns_outside::{Open, Receipt};
 use ns_server::{Naming, Pass, Server};
 use ns_shard::TrimFault;
 use std::alloc::{AllocError, Global};
 use std::sync::Wait;
 use std::thread;
 use std::thread::Threads;
-use test_threads::{join, join_reply, make, parted, uplink};
+use test_device::traffic::{join, join_reply, uplink};
 
 /// Lends the server to a thread for each pass, and waits for all of them. The passes come back; the receipts go behind the others.
 pub fn round<B: Naming + Send + Sync, R: Threads + Wait + Sync>(
@@ -24,7 +25,12 @@ pub fn round<B: Naming + Send + Sync, R: Threads + Wait + Sync>(
         passes,
         &|pass| { work(rt, alloc, server, pass, counter) },
     )?;
-    parted(alloc, done, receipts)
+    let mut passes = Vec::new(alloc);
+    for (pass, mut mine) in done {
+        passes.push(pass)?;
+        receipts.append(&mut mine)?;
+    }
+    Ok(passes)
 }
 
 /// Trims one shard after the other: how many entries came out. Each is dropped here; a caller that wants to keep them writes them down.
@@ -40,6 +46,18 @@ pub fn trim_all<B: Naming, R: Wait>(
         count = count.wrapping_add(dropped.entries.len());
     }
     Ok(count)
+}
+
+// Makes a call, and keeps its receipt. Where memory is refused, no entry was made, or its receipt is not kept.
+fn make<B: Naming, R: Wait>(
+    rt: &R,
+    server: &Server<B>,
+    pass: &mut Pass<B>,
+    call: Call,
+    receipts: &mut Vec<Receipt>,
+) -> Result<(), AllocError> {
+    receipts.push(server.call(rt, pass, call, &Open)?)?;
+    Ok(())
 }
 
 // All devices join, and the uplink with this counter of each is heard. Calls that another worker made first are answered as copies, or as too late.

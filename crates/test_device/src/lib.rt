@@ -4,7 +4,7 @@
 //! answers E1, E2 and E3 in this order and exactly where they hold, and leaves the device as it was;
 //! `created_accepts_are_taken` says that a device takes each Join-Accept that `JoinAcceptCreator` makes under its AppKey, and
 //! then has exactly the session keys of the fields. `write_uplink` is `uplink` without the loan, and says what it leaves in
-//! the buffer. Nothing of it takes memory.
+//! the buffer. Nothing of it takes memory. `traffic` has the calls of many such devices, without a join server.
 //!
 //! `TestJoinServer` answers a JoinReq's text with the text of a JoinAns: a Join-Accept of the request's fields and the session
 //! keys, `MICFailed`, or `Other`. `join_ans` of `ns_joinwire` reads that text as this answer, and the device with this AppKey
@@ -12,8 +12,8 @@
 //! refusal leaves the server as it was.
 //!
 //! Stands on `ns_types` for identities and keys, on `ns_aes_cmac` for the law of AES-128, on `ns_secure` for MICs, ciphers
-//! and session keys, on `ns_creator` for the frames, on `ns_roster` and `ns_joinwire` for the fields of JSON, and on
-//! `serde_json`, `hex` and `thiserror` of the kit.
+//! and session keys, on `ns_creator` for the frames, on `ns_calls` and `ns_views` for calls of these, on `ns_roster` and
+//! `ns_joinwire` for the fields of JSON, and on `serde_json`, `hex` and `thiserror` of the kit.
 #![tactic(auto)]
 
 mod answer;
@@ -24,6 +24,7 @@ mod join_server;
 mod laws;
 mod request;
 mod session;
+pub mod traffic;
 
 pub use device::TestDevice;
 pub use fault::DeviceFault;

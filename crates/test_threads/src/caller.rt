@@ -1,12 +1,12 @@
-//! A worker of a server as its tests call it, and what a server leaves. Whoever is generic over `Caller` or `Ended` has no type of the
-//! server in it, and is cheap to prove.
+//! What tests ask of a server, of one of its workers, and of what a server leaves. Whoever is generic over `Serves`, `Caller` or `Ended`
+//! has no type of the server in it, and is cheap to prove.
 
 ghost use Rattle.std.specs.Prelude.{◌<◌};
 
 use crate::gate_tests::{Visited, is_past};
-use crate::work::make;
+use crate::work::Told;
 use ns_calls::{Call, Entry, Reply};
-use ns_outside::{Open, Receipt};
+use ns_outside::Receipt;
 use ns_server::{Naming, Pass, Server, Settled, Trim};
 use ns_shard::{Dropped, TrimFault};
 use std::alloc::Global;
@@ -42,16 +42,68 @@ impl Trimmed {
     }
 }
 
-/// Makes calls, and trims.
-pub trait Caller {
-    /// The receipt of a call, where memory was not refused.
-    fn call(&mut self, call: Call) -> Option<Receipt>;
+/// A server, as the workers of a test call it.
+pub trait Serves<R> {
+    /// The right of one worker to make calls.
+    type Pass: Drop;
 
     /// The receipt of a call that visits a gate, where memory was not refused.
-    fn visit(&mut self, call: Call, gate: Visited<'_>) -> Option<Receipt>;
+    fn visit(
+        &self,
+        rt: &R,
+        pass: &mut Self::Pass,
+        call: Call,
+        gate: Visited<'_>,
+    ) -> Option<Receipt>;
 
-    /// Makes a call, and keeps its receipt, where there is memory and the gate was told of it.
-    fn keep(&mut self, call: Call, receipts: &mut Vec<Receipt>) -> Option<()>;
+    /// How many entries of a shard were made with a pass.
+    fn made_with(&self, pass: &Self::Pass, shard: u8) -> u64
+        requires { shard < 16 };
+
+    /// Trims a shard, in the memory of its entries or not.
+    fn trim_shard(
+        &self,
+        rt: &R,
+        alloc: Global,
+        shard: u8,
+        in_place: bool,
+    ) -> Result<Trimmed, TrimFault>;
+}
+
+impl<B: Naming, R: Wait + Clock> Serves<R> for Server<B> {
+    type Pass = Pass<B>;
+
+    fn visit(&self, rt: &R, pass: &mut Pass<B>, call: Call, gate: Visited<'_>) -> Option<Receipt> {
+        self.call(rt, pass, call, &gate).ok()
+    }
+
+    fn made_with(&self, pass: &Pass<B>, shard: u8) -> u64 {
+        pass.made(shard)
+    }
+
+    fn trim_shard(
+        &self,
+        rt: &R,
+        alloc: Global,
+        shard: u8,
+        in_place: bool,
+    ) -> Result<Trimmed, TrimFault> {
+        if shard >= 16 {
+            return Err(TrimFault::Full);
+        }
+        if in_place {
+            let trim = self.trim_in_place(rt, alloc, shard)?;
+            return Ok(Trimmed::counted(alloc, trim));
+        }
+        let dropped = self.trim(rt, alloc, shard)?;
+        Ok(Trimmed::handed_out(dropped))
+    }
+}
+
+/// Makes calls, and trims.
+pub trait Caller {
+    /// The receipt of a call that visits a gate, where memory was not refused.
+    fn visit(&mut self, call: Call, gate: Visited<'_>) -> Option<Receipt>;
 
     /// How many entries of a shard it has made.
     fn made(&self, shard: u8) -> u64
@@ -66,40 +118,24 @@ pub trait Caller {
 
 /// A worker with its pass.
 #[derive(Drop)]
-pub struct Worker<'a, B: Naming, R> {
+pub struct Worker<'a, S: Serves<R>, R> {
     pub rt: &'a R,
     pub alloc: Global,
-    pub server: &'a Server<B>,
-    pub pass: &'a mut Pass<B>,
+    pub server: &'a S,
+    pub pass: &'a mut S::Pass,
 }
 
-impl<'a, B: Naming, R: Wait + Clock> Caller for Worker<'a, B, R> {
-    fn call(&mut self, call: Call) -> Option<Receipt> {
-        self.server.call(self.rt, self.pass, call, &Open).ok()
-    }
-
+impl<'a, S: Serves<R>, R: Clock> Caller for Worker<'a, S, R> {
     fn visit(&mut self, call: Call, gate: Visited<'_>) -> Option<Receipt> {
-        self.server.call(self.rt, self.pass, call, &gate).ok()
-    }
-
-    fn keep(&mut self, call: Call, receipts: &mut Vec<Receipt>) -> Option<()> {
-        make(self.rt, self.server, self.pass, call, receipts).ok()
+        self.server.visit(self.rt, self.pass, call, gate)
     }
 
     fn made(&self, shard: u8) -> u64 {
-        self.pass.made(shard)
+        self.server.made_with(self.pass, shard)
     }
 
     fn trim(&mut self, shard: u8, in_place: bool) -> Result<Trimmed, TrimFault> {
-        if shard >= 16 {
-            return Err(TrimFault::Full);
-        }
-        if in_place {
-            let trim = self.server.trim_in_place(self.rt, self.alloc, shard)?;
-            return Ok(Trimmed::counted(self.alloc, trim));
-        }
-        let dropped = self.server.trim(self.rt, self.alloc, shard)?;
-        Ok(Trimmed::handed_out(dropped))
+        self.server.trim_shard(self.rt, self.alloc, shard, in_place)
     }
 
     fn is_past(&self, number: &AtomicU64, first: u64) -> bool {
@@ -107,9 +143,21 @@ impl<'a, B: Naming, R: Wait + Clock> Caller for Worker<'a, B, R> {
     }
 }
 
+/// The receipt of a call, where memory was not refused.
+pub fn receipt_of<C: Caller>(caller: &mut C, call: Call) -> Option<Receipt> {
+    caller.visit(call, Visited::Open)
+}
+
 /// The reply to a call, where memory was not refused.
 pub fn reply_to<C: Caller>(caller: &mut C, call: Call) -> Option<Reply> {
-    Some(caller.call(call)?.entry.reply)
+    Some(receipt_of(caller, call)?.entry.reply)
+}
+
+/// Makes a call, and keeps its receipt, where there is memory and the gate was told of it.
+pub fn keep<C: Caller>(caller: &mut C, call: Call, receipts: &mut Vec<Receipt>) -> Option<()> {
+    let gate = Told::new();
+    let receipt = caller.visit(call, Visited::Told(&gate))?;
+    gate.keep(receipt, receipts).ok()
 }
 
 /// The histories of a server that has ended.
@@ -118,12 +166,8 @@ pub trait Ended {
     fn history(&self, shard: u8) -> &[Entry]
         requires { shard < 16 };
 
-    /// How many entries of a shard were made before its last trim.
-    fn mark(&self, shard: u8) -> u64
-        requires { shard < 16 };
-
-    /// How many entries of a shard its trims dropped.
-    fn dropped(&self, shard: u8) -> u64
+    /// How many entries of a shard were made before its last trim, how many its trims dropped, and how many there are.
+    fn counts(&self, shard: u8) -> (u64, u64, u64)
         requires { shard < 16 };
 
     /// How many entries were made in all shards.
@@ -141,12 +185,9 @@ impl<B: Naming> Ended for Settled<B> {
         self.history(shard)
     }
 
-    fn mark(&self, shard: u8) -> u64 {
-        self.mark(shard)
-    }
-
-    fn dropped(&self, shard: u8) -> u64 {
-        self.dropped(shard)
+    fn counts(&self, shard: u8) -> (u64, u64, u64) {
+        let count = self.history(shard).len() as u64;
+        (self.mark(shard), self.dropped(shard), count)
     }
 
     fn total(&self) -> u128 {

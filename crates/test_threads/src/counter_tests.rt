@@ -1,12 +1,13 @@
 //! Sessions of many uplinks, each opened and closed.
 
-use crate::traffic::keys;
 use crate::written::Run;
+use itoa::Buffer;
 use ns_creator::DataCreator;
 use ns_secure::Dir;
 use ns_types::DevAddr;
 use std::alloc::{AllocError, Global};
 use std::test::*;
+use test_device::traffic::keys;
 
 /// A Join-Request and its answer, and what comes of them.
 pub const JOIN: &str =
@@ -49,34 +50,50 @@ fn hear(run: &mut Run, alloc: Global, counter: u32) -> Result<(), AllocError> {
 // It is heard and its window closed.
 fn open_and_close(run: &mut Run, alloc: Global, counter: u32) -> Result<(), AllocError> {
     hear(run, alloc, counter)?;
-    let name = format!(in alloc; "000000000000000d 1 {counter}")?;
-    let name = name.as_str();
-    run.step(&[b"close ", name.as_bytes()])?;
-    run.line(&["opened ", name])?;
-    run.line(&["closed ", name, " -"])?;
-    run.line(&["up ", name, " 1 plain - 74657374 1 00000000000000a1"])
+    let mut buffer = Buffer::new();
+    close(run, buffer.format(counter).as_bytes())
+}
+
+// The window of a counter is closed, which was opened before.
+fn close(run: &mut Run, counter: &[u8]) -> Result<(), AllocError> {
+    run.step(&[b"close 000000000000000d 1 ", counter])?;
+    run.line(&[b"opened 000000000000000d 1 ", counter])?;
+    run.line(&[b"closed 000000000000000d 1 ", counter, b" -"])?;
+    run.line(&[
+        b"up 000000000000000d 1 ",
+        counter,
+        b" 1 plain - 74657374 1 00000000000000a1",
+    ])
+}
+
+// Whether uplinks of so many counters are each opened and closed, from a first one on by steps. Behind the greatest of all none is new.
+fn are_opened(alloc: Global, first: u32, step: u32, count: u32) -> Result<bool, AllocError> {
+    let mut run = Run::new(alloc, JOIN, JOINED)?;
+    let mut counter = first;
+    for _ in 0..count {
+        open_and_close(&mut run, alloc, counter)?;
+        counter = counter.wrapping_add(step);
+    }
+    if counter.wrapping_sub(step) == u32::MAX {
+        none_is_new(&mut run, alloc)?;
+    }
+    Ok(run.is_right(alloc))
+}
+
+// The greatest counter is heard again, and the least.
+fn none_is_new(run: &mut Run, alloc: Global) -> Result<(), AllocError> {
+    hear(run, alloc, u32::MAX)?;
+    hear(run, alloc, 0)?;
+    run.line(&[b"old 000000000000000d 1 4294967295\nnosession"])
 }
 
 #[test]
-fn fifty_thousand_uplinks(rt: HostRuntime) -> Result<(), Fail> {
-    let mut run = Run::new(rt.alloc(), JOIN, JOINED)?;
-    for counter in 0..50_000u32 {
-        open_and_close(&mut run, rt.alloc(), counter)?;
-    }
-    assert!(rt; run.is_right(rt.alloc()) == Some(true));
-    Ok(())
+fn fifty_thousand_uplinks(rt: HostRuntime) {
+    assert!(rt; are_opened(rt.alloc(), 0, 1, 50_000) == Ok(true));
 }
 
 /// The uplinks of the low half ffff up to the greatest counter, after which none is new.
 #[test]
-fn uplinks_up_to_the_last_counter(rt: HostRuntime) -> Result<(), Fail> {
-    let mut run = Run::new(rt.alloc(), JOIN, JOINED)?;
-    for high in 0..65_536u32 {
-        open_and_close(&mut run, rt.alloc(), high << 16 | 0xffff)?;
-    }
-    hear(&mut run, rt.alloc(), u32::MAX)?;
-    hear(&mut run, rt.alloc(), 0)?;
-    run.line(&["old 000000000000000d 1 4294967295\nnosession"])?;
-    assert!(rt; run.is_right(rt.alloc()) == Some(true));
-    Ok(())
+fn uplinks_up_to_the_last_counter(rt: HostRuntime) {
+    assert!(rt; are_opened(rt.alloc(), 0xffff, 0x1_0000, 65_536) == Ok(true));
 }

@@ -1,31 +1,41 @@
 //! Gates: a call of one shard held while all other shards answer, and two calls of one shard in turn.
 
-use crate::caller::Caller;
+use crate::caller::{Caller, receipt_of};
 use crate::served::Work;
-use crate::traffic;
 use crate::trial::{Trial, with_workers};
 use crate::work::Told;
-use ns_outside::{Gate, Receipt};
+use ns_outside::{Gate, Open, Receipt};
 use std::rt::Clock;
 use std::sync::atomic::{AtomicU64, Ordering};
 use std::test::*;
 use std::thread;
 use std::time::Duration;
+use test_device::traffic;
 
 /// A call of one shard is held while all other shards answer.
 #[test]
-fn two_shards_at_once(rt: HostRuntime) -> Result<(), Fail> {
+fn two_shards_at_once(rt: HostRuntime) {
     let gate = Until::new();
-    let work = Work::AtOnce(&gate);
-    with_workers(&rt, rt.alloc(), 16, 2, Trial::InThreads(work))
+    with_workers(
+        &rt,
+        rt.alloc(),
+        16,
+        2,
+        Trial::InThreads(Work::AtOnce(&gate)),
+    );
 }
 
 /// Two calls of one shard come one after the other.
 #[test]
-fn one_shard_in_turn(rt: HostRuntime) -> Result<(), Fail> {
+fn one_shard_in_turn(rt: HostRuntime) {
     let gate = Turns::new();
-    let work = Work::InTurn(&gate);
-    with_workers(&rt, rt.alloc(), 16, 2, Trial::InThreads(work))
+    with_workers(
+        &rt,
+        rt.alloc(),
+        16,
+        2,
+        Trial::InThreads(Work::InTurn(&gate)),
+    );
 }
 
 /// Waits until a number is another than this one, for ten seconds at most. Whether it is.
@@ -67,7 +77,7 @@ impl Until {
         }
         let _ = caller.is_past(&self.number, 77);
         for device in 1..16u32 {
-            put(caller.call(traffic::join(device, 1)), receipts)?;
+            put(receipt_of(caller, traffic::join(device, 1)), receipts)?;
         }
         self.flag.store(1, Ordering::SeqCst);
         Some(())
@@ -182,6 +192,7 @@ fn put(receipt: Option<Receipt>, receipts: &mut Vec<Receipt>) -> Option<()> {
 /// The gate that a call visits.
 #[derive(Clone, Copy)]
 pub enum Visited<'a> {
+    Open,
     Told(&'a Told),
     Until(&'a Until),
     Turns(&'a Turns),
@@ -190,6 +201,7 @@ pub enum Visited<'a> {
 impl<R: Clock> Gate<R> for Visited<'_> {
     fn before(&self, rt: &R, shard: u8) {
         match self {
+            Visited::Open => Open.before(rt, shard),
             Visited::Told(gate) => gate.before(rt, shard),
             Visited::Until(gate) => gate.before(rt, shard),
             Visited::Turns(gate) => gate.before(rt, shard),
@@ -198,6 +210,7 @@ impl<R: Clock> Gate<R> for Visited<'_> {
 
     fn visit(&self, rt: &R, shard: u8, number: u64) {
         match self {
+            Visited::Open => Open.visit(rt, shard, number),
             Visited::Told(gate) => gate.visit(rt, shard, number),
             Visited::Until(gate) => gate.visit(rt, shard, number),
             Visited::Turns(gate) => gate.visit(rt, shard, number),
@@ -206,6 +219,7 @@ impl<R: Clock> Gate<R> for Visited<'_> {
 
     fn made(&self, rt: &R, receipt: &Receipt) {
         match self {
+            Visited::Open => Open.made(rt, receipt),
             Visited::Told(gate) => gate.made(rt, receipt),
             Visited::Until(gate) => gate.made(rt, receipt),
             Visited::Turns(gate) => gate.made(rt, receipt),

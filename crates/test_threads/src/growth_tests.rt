@@ -6,14 +6,18 @@
 use crate::caller::{Caller, reply_to};
 use crate::gate_tests::Visited;
 use crate::series::{DEVICE, Series, done_of};
-use crate::traffic::{closing, join, join_reply, uplink};
-use crate::trial::{Trial, is_made, on_server, shared_roster};
+use crate::trial::{Outcome, Trial, is_made, on_server, shared_roster};
 use crate::work::Told;
 use ns_calls::{Call, Reply};
+use ns_roster::Roster;
 use ns_shard::TrimFault;
 use ns_types::{BLOCKS, take_all};
 use std::alloc::Global;
+use std::rt::Clock;
+use std::sync::{Arc, Wait};
 use std::test::*;
+use std::thread::Threads;
+use test_device::traffic::{closing, join, join_reply, uplink};
 
 // All memory that is left, taken.
 fn taken(alloc: Global) -> Option<Vec<Vec<u8>>> {
@@ -27,17 +31,19 @@ fn told<C: Caller>(caller: &mut C, call: Call, gate: &Told) -> Option<Reply> {
     Some(caller.visit(call, Visited::Told(gate))?.entry.reply)
 }
 
-// Makes a call until it is answered, with one block of memory more given back before each time. The reply, and whether memory was
-// refused before. None where a refused call was counted, or told at the gate.
+// Makes the call at a place of the run until it is answered, with one block of memory more given back before each time. Whether the
+// reply is as it is with memory, and memory was refused before where an entry or a window is the first. None where a refused call was
+// counted, or told at the gate.
 fn until_answered<C: Caller>(
     caller: &mut C,
     call: &Call,
+    place: u32,
     held: &mut Vec<Vec<u8>>,
-) -> Option<(Reply, bool)> {
+) -> Option<bool> {
     let (made, gate) = (caller.made(13), Told::new());
     for refusals in 0..BLOCKS {
         if let Some(reply) = told(caller, *call, &gate) {
-            return Some((reply, refusals > 0));
+            return Some(is_at(place, &reply, refusals > 0));
         }
         if caller.made(13) != made || gate.entries() > 0 {
             return None;
@@ -71,45 +77,70 @@ fn is_at(place: u32, reply: &Reply, refused: bool) -> bool {
     }
 }
 
-// Whether the run's call at a place is answered as it is with memory.
-fn is_answered<C: Caller>(caller: &mut C, place: u32, held: &mut Vec<Vec<u8>>) -> Option<bool> {
-    let (reply, refused) = until_answered(caller, &call_at(place)?, held)?;
-    Some(is_at(place, &reply, refused))
+// Whether the run's call at a place is answered as it is with memory, where all of it is taken before.
+fn is_answered<C: Caller>(
+    alloc: Global,
+    caller: &mut C,
+    place: u32,
+    held: &mut Vec<Vec<u8>>,
+) -> Option<bool> {
+    take_all(alloc, held).ok()?;
+    until_answered(caller, &call_at(place)?, place, held)
 }
 
 /// A refused call leaves the pass as it was and is not told at the gate, and the sum counts only what succeeded.
 #[test]
-fn calls_refused_until_memory_is_back(rt: HostRuntime) -> Result<(), Fail> {
-    on_server(&rt, rt.alloc(), 16, Trial::Refused)
+fn calls_refused_until_memory_is_back(rt: HostRuntime) {
+    on_server(&rt, rt.alloc(), 16, Trial::Refused);
 }
 
 /// The calls of a run, with all memory taken before each, are answered as they are with memory. How many entries were made.
 pub fn calls_refused<C: Caller>(alloc: Global, caller: &mut C) -> Option<u64> {
     let mut held = taken(alloc)?;
     for place in 0..6u32 {
-        take_all(alloc, &mut held).ok()?;
-        if is_answered(caller, place, &mut held) != Some(true) {
+        if is_answered(alloc, caller, place, &mut held) != Some(true) {
             return None;
         }
     }
     Some(6)
 }
 
+// Whether there is memory for a new server of four workers.
+fn is_new<R: Threads + Wait + Clock + Sync>(
+    rt: &R,
+    alloc: Global,
+    roster: &Arc<Roster>,
+) -> Option<bool> {
+    let roster = roster.clone().ok()?;
+    is_made(
+        rt,
+        alloc,
+        roster,
+        4,
+        Trial::Unused,
+        &mut Outcome::new(alloc),
+    )
+    .ok()
+}
+
+// How often a new server is refused memory, with one block given back before each time but the first, until it is made. None where all
+// were given back.
+fn refusals<R: Threads + Wait + Clock + Sync>(rt: &R, alloc: Global) -> Option<usize> {
+    let roster = shared_roster(alloc, 0, 1, 40)?;
+    let mut held = taken(alloc)?;
+    for refused in 0..BLOCKS {
+        if is_new(rt, alloc, &roster)? {
+            return (!held.is_empty()).then_some(refused);
+        }
+        held.pop()?;
+    }
+    None
+}
+
 /// A new server is refused memory more than once, and then made.
 #[test]
-fn server_refused_until_memory_is_back(rt: HostRuntime) -> Result<(), Fail> {
-    let roster = shared_roster(rt.alloc(), 40)?;
-    let mut held = taken(rt.alloc()).ok_or("no memory")?;
-    let mut refused = 0u32;
-    for _ in 0..BLOCKS {
-        if is_made(&rt, rt.alloc(), roster.clone()?, 4, Trial::Unused)? {
-            break;
-        }
-        refused = refused.wrapping_add(1);
-        let _ = held.pop();
-    }
-    assert!(rt; refused > 1 && held.len() > 0);
-    Ok(())
+fn server_refused_until_memory_is_back(rt: HostRuntime) {
+    assert!(rt; refusals(&rt, rt.alloc()).is_some_and(|refused| refused > 1));
 }
 
 // Closes a window that is not open until memory is refused. How often it was answered.
@@ -127,8 +158,8 @@ fn until_refused<C: Caller>(caller: &mut C) -> Option<u64> {
 /// With eight windows and four tickets of one device open and all memory gone, each is closed or answered; a closing that finds no
 /// window needs memory.
 #[test]
-fn closings_take_no_memory(rt: HostRuntime) -> Result<(), Fail> {
-    on_server(&rt, rt.alloc(), 16, Trial::Closings)
+fn closings_take_no_memory(rt: HostRuntime) {
+    on_server(&rt, rt.alloc(), 16, Trial::Closings);
 }
 
 /// Eight windows and four tickets are opened, and closed and answered with all memory gone; then closings are answered until memory is
@@ -159,8 +190,8 @@ fn is_trimmed_at_last<C: Caller>(caller: &mut C, held: &mut Vec<Vec<u8>>) -> Opt
 /// With eight windows and four tickets of one device open, a trim is refused memory (Z2, and never Z1); then it hands out the one entry
 /// that it would have handed out at first, and the windows and tickets are still open.
 #[test]
-fn trim_refused_until_memory_is_back(rt: HostRuntime) -> Result<(), Fail> {
-    on_server(&rt, rt.alloc(), 16, Trial::TrimRefused)
+fn trim_refused_until_memory_is_back(rt: HostRuntime) {
+    on_server(&rt, rt.alloc(), 16, Trial::TrimRefused);
 }
 
 /// A trim with all memory gone, between the openings and the closings. How many entries were made.

@@ -6,22 +6,18 @@
 
 use crate::caller::{Caller, Ended};
 use crate::series::{Series, WINDOWS, closing_at, done_of};
-use crate::traffic::roster_of;
-use crate::trial::{Trial, is_made, on_server};
-use std::sync::Arc;
+use crate::trial::{Trial, on_roster, on_server, shared_roster};
 use std::test::*;
 
 #[test]
-fn long_trims_of_each_shard(rt: HostRuntime) -> Result<(), Fail> {
-    on_server(&rt, rt.alloc(), 16, Trial::LongTrims)
+fn long_trims_of_each_shard(rt: HostRuntime) {
+    on_server(&rt, rt.alloc(), 16, Trial::LongTrims);
 }
 
 #[test]
-fn windows_of_65536_devices(rt: HostRuntime) -> Result<(), Fail> {
-    let roster = Arc::new(rt.alloc(), roster_of(rt.alloc(), 13, 16, 65_536)?)?;
-    let made = is_made(&rt, rt.alloc(), roster, 1, Trial::ManyWindows)?;
-    assert!(rt; made);
-    Ok(())
+fn windows_of_65536_devices(rt: HostRuntime) {
+    let roster = shared_roster(rt.alloc(), 13, 16, 65_536);
+    on_roster(&rt, rt.alloc(), roster, 1, Trial::ManyWindows);
 }
 
 // Whether so many entries were made in a shard before its trim, and so many come out, or none where it is in place and counts them.
@@ -83,9 +79,7 @@ pub fn long_trims<C: Caller>(caller: &mut C) -> Option<u64> {
 pub fn are_left_twice<E: Ended>(settled: &mut E) -> bool {
     for shard in 0..16u8 {
         let (_, end) = marks(shard);
-        if settled.history(shard).len() != 2
-            || (settled.mark(shard), settled.dropped(shard)) != (end, end.wrapping_sub(2))
-        {
+        if settled.counts(shard) != (end, end.wrapping_sub(2), 2) {
             return false;
         }
     }

@@ -1,15 +1,8 @@
-//! Traffic of many devices as calls, the tests that make them on one server from several threads, tests at the largest sizes that the
-//! server is for, also of `ns_replay`, and those of the workers (`ns_workers`): gateway workers, join workers and closers.
+//! Tests that make the calls of whole runs (`traffic` of `test_device`) on one server from several threads, tests at the largest sizes that
+//! the server is for, also of `ns_replay`, and those of the workers (`ns_workers`): gateway workers, join workers and closers.
 //!
-//! The calls are those of whole runs: each device asks to join, its join is answered, its uplinks are heard and closed. Benchmarks and
-//! examples make the same calls. Tests of what crates give in public stand here so that none of these is proved once more for them.
+//! They call what those crates give in public, and stand here so that none of these is proved once more for its tests.
 #![tactic(auto)]
-
-mod traffic;
-mod work;
-
-pub use traffic::{closing, join, join_reply, roster, uplink};
-pub use work::{make, parted};
 
 #[cfg(test)]
 mod caller;
@@ -39,6 +32,8 @@ mod tests;
 mod trial;
 #[cfg(test)]
 mod trim_tests;
+#[cfg(test)]
+mod work;
 #[cfg(test)]
 mod workers;
 #[cfg(test)]

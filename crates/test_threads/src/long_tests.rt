@@ -1,7 +1,8 @@
 //! A long run with trims at random places, beside the same run without.
 
-use crate::caller::Caller;
-use crate::traffic::{closing, join, join_reply, roster, uplink};
+ghost use Rattle.std.specs.Prelude.{◌<◌};
+
+use crate::caller::{Caller, receipt_of};
 use crate::trial::{Left, Trial, on_server};
 use ns_calls::{Answer, Call, Reply, shard_of_call};
 use ns_outside::Receipt;
@@ -10,6 +11,7 @@ use ns_types::WindowName;
 use std::alloc::{AllocError, Global};
 use std::sync::Arc;
 use std::test::*;
+use test_device::traffic::{closing, join, join_reply, roster, uplink};
 
 // How many calls are made.
 const CALLS: u32 = 100_000;
@@ -128,6 +130,16 @@ fn is_told(receipt: &Receipt, answer: &Answer) -> bool {
         && receipt.downlink == answer.downlink
 }
 
+// Whether a shard answers a call, which is one of its own, as a receipt tells.
+fn is_alike(shard: &mut Shard, receipt: &Receipt, call: &Call) -> Result<bool, AllocError> {
+    if shard.index() != shard_of_call(call) {
+        return Ok(false);
+    }
+    let number = shard.made();
+    let answer = shard.apply(*call)?;
+    Ok(is_told(receipt, &answer) && receipt.entry.number == number)
+}
+
 impl Both {
     // Nothing was made yet.
     fn new(alloc: Global) -> Option<Both> {
@@ -153,33 +165,40 @@ impl Both {
         if let Reply::Opened { window } | Reply::Again { window } = receipt.entry.reply {
             self.open.push(window)?;
         }
-        let place = shard_of_call(call);
-        let Some(shard) = self.shards.get_mut(usize::from(place)) else {
-            return Ok(false);
-        };
-        if shard.index() != place {
-            return Ok(false);
+        match self.shards.get_mut(usize::from(shard_of_call(call))) {
+            Some(shard) => is_alike(shard, receipt, call),
+            None => Ok(false),
         }
-        let number = shard.made();
-        let answer = shard.apply(*call)?;
-        Ok(is_told(receipt, &answer) && receipt.entry.number == number)
+    }
+
+    // How many entries a shard has made.
+    fn made(&self, place: usize) -> u64 {
+        self.shards.get(place).map_or(0, |shard| shard.made())
     }
 
     // Trims a shard of the server. Whether the mark is how many entries were made, and 208 of each device are left at most.
     fn trim<C: Caller>(&mut self, caller: &mut C, index: u8) -> Option<bool> {
-        let place = usize::from(index % 16);
         let trimmed = caller.trim(index, false).ok()?;
-        let count = trimmed.entries.len() as u64;
-        let made = self.shards.get(place)?.made();
-        self.dropped[place] = self.dropped[place].wrapping_add(count);
+        let (mark, count) = (trimmed.mark, trimmed.entries.len() as u64);
+        drop(trimmed);
+        Some(self.is_marked(usize::from(index % 16), mark, count))
+    }
+
+    // Whether as many entries of a shard were made as its trim's mark says, and few are left of them, of which it dropped so many.
+    fn is_marked(&mut self, place: usize, mark: u64, count: u64) -> bool
+        requires { place < 16 }
+    {
+        let made = self.made(place);
+        let dropped = self.dropped[place].wrapping_add(count);
+        self.dropped[place] = dropped;
         self.counts.trims = self.counts.trims.wrapping_add(1);
-        Some(trimmed.mark == made && made.wrapping_sub(self.dropped[place]) <= 624)
+        mark == made && made.wrapping_sub(dropped) <= 624
     }
 
     // Makes a call at a place on both, and now and then a trim. Whether it is answered alike.
     fn step<C: Caller>(&mut self, caller: &mut C, random: &mut Random, place: u32) -> Option<bool> {
         if let Some(call) = call_at(random, &mut self.open, place) {
-            let receipt = caller.call(call)?;
+            let receipt = receipt_of(caller, call)?;
             if self.is_answered(&receipt, &call) != Ok(true) {
                 return None;
             }
@@ -193,16 +212,15 @@ impl Both {
     // How many entries the trims dropped of each shard, and how many they left.
     fn put_left(&self, left: &mut Left) {
         for place in 0..16usize {
-            let made = self.shards.get(place).map_or(0, |shard| shard.made());
-            left.dropped[place] = self.dropped[place];
-            left.has[place] = made.wrapping_sub(self.dropped[place]);
+            let dropped = self.dropped[place];
+            left[place] = (dropped, self.made(place).wrapping_sub(dropped));
         }
     }
 }
 
 #[test]
-fn a_long_run_with_trims(rt: HostRuntime) -> Result<(), Fail> {
-    on_server(&rt, rt.alloc(), DEVICES, Trial::LongRun)
+fn a_long_run_with_trims(rt: HostRuntime) {
+    on_server(&rt, rt.alloc(), DEVICES, Trial::LongRun);
 }
 
 /// The calls, with trims, beside the same calls without. How many entries were made, and what is to be left.

@@ -36,64 +36,79 @@ fn names(devices: Devices, number: u32) -> (u32, u32) {
     }
 }
 
-// Puts the field of a last nonce.
-fn push_nonce(text: &mut String, alloc: Global, nonce: Option<u32>) -> Result<(), AllocError> {
+// The field of a last nonce.
+fn nonce_text(alloc: Global, nonce: Option<u32>) -> Result<String, AllocError> {
     match nonce {
-        Some(nonce) => { text.push_str(format!(in alloc; "\"last_nonce\":{nonce},")?.as_str()) }
-        None => Ok(()),
+        Some(nonce) => format!(in alloc; "\"last_nonce\":{nonce},"),
+        None => Ok(String::new(alloc)),
     }
+}
+
+// A device, in the form of a closing roster.
+fn device_text(alloc: Global, devices: Devices, number: u32) -> Result<String, AllocError> {
+    let (eui, slot) = names(devices, number);
+    let nonce = nonce_text(alloc, nonce(devices, number))?;
+    format!(in alloc;
+        "{{\"dev_eui\":\"{eui:016x}\",\"join_eui\":\"0102030401020304\",{nonce}\"slot\":{slot}}}"
+    )
+}
+
+// Puts a device behind the others.
+fn push_device(
+    text: &mut String,
+    alloc: Global,
+    devices: Devices,
+    number: u32,
+) -> Result<(), AllocError> {
+    if number > 0 {
+        text.push_str(",")?;
+    }
+    text.push_str(device_text(alloc, devices, number)?.as_str())
 }
 
 // A roster of so many devices, in the form of a closing roster.
 fn text(alloc: Global, devices: Devices, count: u32) -> Result<String, AllocError> {
     let mut text = String::from_str(alloc, "{\"devices\":[")?;
     for number in 0..count {
-        if number > 0 {
-            text.push_str(",")?;
-        }
-        let (eui, slot) = names(devices, number);
-        push_device(&mut text, alloc, eui, nonce(devices, number), slot)?;
+        push_device(&mut text, alloc, devices, number)?;
     }
     text.push_str("],\"net_id\":\"000024\",\"rx1_offset\":0,\"rx_delay\":1,\"version\":2}")?;
     Ok(text)
 }
 
-// Puts a device.
-fn push_device(
-    text: &mut String,
-    alloc: Global,
-    eui: u32,
-    nonce: Option<u32>,
-    slot: u32,
-) -> Result<(), AllocError> {
-    let front = format!(in alloc;
-        "{{\"dev_eui\":\"{eui:016x}\",\"join_eui\":\"0102030401020304\","
-    )?;
-    text.push_str(front.as_str())?;
-    push_nonce(text, alloc, nonce)?;
-    text.push_str(format!(in alloc; "\"slot\":{slot}}}")?.as_str())
+// Lines, and then the line of a closing roster.
+fn closed(alloc: Global, lines: &str, devices: Devices, count: u32) -> Result<String, AllocError> {
+    let mut all = String::from_str(alloc, lines)?;
+    all.push_str(text(alloc, devices, count)?.as_str())?;
+    all.push_str("\n")?;
+    Ok(all)
 }
 
 // Whether a run of no steps writes the roster of so many devices as it is.
 fn is_written_again(alloc: Global, count: u32) -> Option<bool> {
     let roster = text(alloc, Devices::Numbered, count).ok()?;
-    let mut lines = text(alloc, Devices::Numbered, count).ok()?;
-    lines.push_str("\n").ok()?;
+    let lines = closed(alloc, "", Devices::Numbered, count).ok()?;
     is_written(alloc, roster.as_str(), true, b"", 1, lines.as_bytes())
+}
+
+// Whether the recorded run over 65,536 devices writes these lines, of which the closing roster is the last or none.
+fn is_recorded(alloc: Global, closing: bool, lines: &str) -> Option<bool> {
+    let roster = text(alloc, Devices::Crowded, 65_536).ok()?;
+    let (steps, lines) = (STEPS.as_bytes(), lines.as_bytes());
+    is_written(alloc, roster.as_str(), closing, steps, 1 << 20, lines)
+}
+
+// The same with the closing roster.
+fn is_recorded_closed(alloc: Global) -> Option<bool> {
+    let lines = closed(alloc, LINES, Devices::Joined, 65_536).ok()?;
+    is_recorded(alloc, true, lines.as_str())
 }
 
 /// The recorded run over many devices writes its lines, and then its closing roster.
 #[test]
-fn the_recorded_run_over_65536_devices(rt: HostRuntime) -> Result<(), Fail> {
-    let alloc = rt.alloc();
-    let roster = text(alloc, Devices::Crowded, 65_536)?;
-    let (roster, steps) = (roster.as_str(), STEPS.as_bytes());
-    assert!(rt; is_written(alloc, roster, false, steps, 1 << 20, LINES.as_bytes()) == Some(true));
-    let mut closed = String::from_str(alloc, LINES)?;
-    closed.push_str(text(alloc, Devices::Joined, 65_536)?.as_str())?;
-    closed.push_str("\n")?;
-    assert!(rt; is_written(alloc, roster, true, steps, 1 << 20, closed.as_bytes()) == Some(true));
-    Ok(())
+fn the_recorded_run_over_65536_devices(rt: HostRuntime) {
+    assert!(rt; is_recorded(rt.alloc(), false, LINES) == Some(true));
+    assert!(rt; is_recorded_closed(rt.alloc()) == Some(true));
 }
 
 #[test]
@@ -103,10 +118,13 @@ fn rosters_are_written_as_they_are(rt: HostRuntime) {
     }
 }
 
+// Why a roster of so many devices is refused, where it is.
+fn fault_of(alloc: Global, count: u32) -> Option<RosterFault> {
+    let more = text(alloc, Devices::Numbered, count).ok()?;
+    Roster::read(alloc, more.as_bytes()).err()
+}
+
 #[test]
-fn one_device_too_many(rt: HostRuntime) -> Result<(), Fail> {
-    let more = text(rt.alloc(), Devices::Numbered, 65_537)?;
-    let fault = Roster::read(rt.alloc(), more.as_bytes()).err();
-    assert!(rt; fault == Some(RosterFault::TooMany));
-    Ok(())
+fn one_device_too_many(rt: HostRuntime) {
+    assert!(rt; fault_of(rt.alloc(), 65_537) == Some(RosterFault::TooMany));
 }

@@ -1,8 +1,8 @@
 //! Series of calls by one pass, and how many of them did what they are for.
 
 use crate::caller::{Caller, reply_to};
-use crate::traffic::{closing, join, join_reply, uplink};
 use ns_calls::{Call, Reply};
+use test_device::traffic::{closing, join, join_reply, uplink};
 
 /// The device of most tests, which is its shard too.
 pub const DEVICE: u32 = 13;

@@ -1,18 +1,15 @@
 //! What the workers of a server do, each in a thread of its own.
 
-use crate::caller::Caller;
+use crate::caller::{Caller, Serves, keep};
 use crate::gate_tests::{Turns, Until};
-use crate::traffic;
 use crate::trial::{Outcome, Trial, by_last, by_pass};
-use crate::work::parted;
 use ns_calls::Call;
 use ns_outside::Receipt;
-use ns_server::{Naming, Pass, Server};
 use std::alloc::{AllocError, Global};
 use std::rt::Clock;
-use std::sync::Wait;
 use std::thread;
 use std::thread::Threads;
+use test_device::traffic;
 
 /// What a worker does.
 #[derive(Clone, Copy)]
@@ -56,7 +53,7 @@ impl<'a> Work<'a> {
     pub fn begin<C: Caller>(self, caller: &mut C, receipts: &mut Vec<Receipt>) -> Option<()> {
         match self {
             Work::Hear => make_all(caller, Work::Join, receipts),
-            Work::InTurn(_) => caller.keep(traffic::join(0, 1), receipts),
+            Work::InTurn(_) => keep(caller, traffic::join(0, 1), receipts),
             _ => Some(()),
         }
     }
@@ -89,7 +86,7 @@ fn make_all<C: Caller>(caller: &mut C, work: Work, receipts: &mut Vec<Receipt>) 
     for place in 0..work.calls() {
         random = random.wrapping_mul(1_664_525).wrapping_add(1_013_904_223);
         if let Some(call) = work.call_at(place, random) {
-            caller.keep(call, receipts)?;
+            keep(caller, call, receipts)?;
         }
         if let Some(last) = receipts.last() {
             random ^= (last.entry.number % 65_536) as u32;
@@ -100,16 +97,16 @@ fn make_all<C: Caller>(caller: &mut C, work: Work, receipts: &mut Vec<Receipt>) 
 
 // What all threads share.
 #[derive(Drop)]
-struct Shared<'a, B: Naming, R> {
+struct Shared<'a, S, R> {
     rt: &'a R,
     alloc: Global,
-    server: &'a Server<B>,
+    server: &'a S,
     work: Work<'a>,
 }
 
-impl<'a, B: Naming, R: Wait + Clock> Shared<'a, B, R> {
+impl<'a, S: Serves<R>, R: Clock> Shared<'a, S, R> {
     // What one worker does with its pass.
-    fn work_one(&self, pass: Pass<B>) -> (Pass<B>, Vec<Receipt>) {
+    fn work_one(&self, pass: S::Pass) -> (S::Pass, Vec<Receipt>) {
         let mut pass = pass;
         let mut outcome = Outcome::new(self.alloc);
         let trial = Trial::InThreads(self.work);
@@ -125,15 +122,18 @@ impl<'a, B: Naming, R: Wait + Clock> Shared<'a, B, R> {
     }
 }
 
-/// Lets a thread with each pass do the work. The passes when all have ended, and the receipts of all calls in the outcome.
-pub fn served<B: Naming + Send + Sync, R: Threads + Wait + Clock + Sync>(
+/// Makes what comes before the threads, and lets a thread with each pass do the work. The pass and the receipts of each.
+pub fn served<S: Serves<R> + Sync, R: Threads + Clock + Sync>(
     rt: &R,
     alloc: Global,
-    server: &Server<B>,
-    mut passes: Vec<Pass<B>>,
+    server: &S,
+    mut passes: Vec<S::Pass>,
     work: Work,
     outcome: &mut Outcome,
-) -> Result<Vec<Pass<B>>, AllocError> {
+) -> Result<Vec<(S::Pass, Vec<Receipt>)>, AllocError>
+where
+    S::Pass: Send,
+{
     by_last(rt, alloc, server, &mut passes, Trial::Begun(work), outcome);
     if outcome.made.is_none() {
         return Err(AllocError);
@@ -144,14 +144,5 @@ pub fn served<B: Naming + Send + Sync, R: Threads + Wait + Clock + Sync>(
         server,
         work,
     };
-    parted(alloc, all_work(rt, &shared, passes)?, &mut outcome.receipts)
-}
-
-// Lends what is shared to a thread for each pass.
-fn all_work<B: Naming + Send + Sync, R: Threads + Wait + Clock + Sync>(
-    rt: &R,
-    shared: &Shared<'_, B, R>,
-    passes: Vec<Pass<B>>,
-) -> Result<Vec<(Pass<B>, Vec<Receipt>)>, AllocError> {
     thread::map_vec(rt, passes, &|pass| shared.work_one(pass))
 }

@@ -1,32 +1,30 @@
 //! Workers in threads of their own: their receipts, the sum, the drain, and a pass that is missing.
 
-use crate::caller::{Caller, Ended};
+use crate::caller::{Caller, Ended, receipt_of};
 use crate::served::Work;
-use crate::traffic;
-use crate::trial::{Trial, settled_by, with_workers};
+use crate::trial::{Trial, with_workers};
 use ns_calls::Reply;
 use ns_outside::Receipt;
-use ns_server::{Naming, Pass, Server, SettleFault, Settled};
 use std::alloc::AllocError;
 use std::mem;
 use std::test::*;
+use test_device::traffic;
 
 /// 100 devices join, and each of four workers hears one frame of each.
 #[test]
-fn four_workers(rt: HostRuntime) -> Result<(), Fail> {
-    with_workers(&rt, rt.alloc(), 100, 4, Trial::InThreads(Work::Hear))
+fn four_workers(rt: HostRuntime) {
+    with_workers(&rt, rt.alloc(), 100, 4, Trial::InThreads(Work::Hear));
 }
 
 /// Each worker makes 40 calls at random, so many together.
 #[test]
-fn random_calls(rt: HostRuntime) -> Result<(), Fail> {
+fn random_calls(rt: HostRuntime) {
     for (workers, calls) in [(1usize, 40usize), (2, 80), (16, 640), (64, 2560)] {
         if workers > 0 && workers <= 64 {
             let trial = Trial::InThreads(Work::Wander(calls));
-            with_workers(&rt, rt.alloc(), 48, workers, trial)?;
+            with_workers(&rt, rt.alloc(), 48, workers, trial);
         }
     }
-    Ok(())
 }
 
 /// Whether what workers have done is as it is to be.
@@ -46,7 +44,7 @@ pub fn are_right<E: Ended>(
 
 // The receipts of a day, also with one that is wrong.
 fn day<E: Ended>(settled: &mut E, receipts: &mut Vec<Receipt>) -> Option<bool> {
-    let is_right = (settled.total(), receipts.len()) == (600, 600)
+    let is_right = are_all(settled, receipts.as_slice(), 600)
         && are_counted(receipts.as_slice())
         && changed_is_found(settled, receipts)?
         && again_is_found(settled, receipts)?
@@ -90,13 +88,19 @@ fn change(receipts: &mut Vec<Receipt>, reply: Reply) -> Option<Reply> {
     Some(mem::replace(&mut receipts.get_mut(250)?.entry.reply, reply))
 }
 
-// Whether all receipts pass, and one whose reply is changed is found at its place.
+// Whether so many entries were made, as many receipts are there, and all pass.
+fn are_all<E: Ended>(settled: &E, receipts: &[Receipt], count: usize) -> bool {
+    receipts.len() == count
+        && settled.total() == count as u128
+        && is_found(settled, receipts, Ok(()))
+}
+
+// Whether a receipt whose reply is changed is found at its place.
 fn changed_is_found<E: Ended>(settled: &E, receipts: &mut Vec<Receipt>) -> Option<bool> {
-    let is_right = is_found(settled, receipts.as_slice(), Ok(()));
     let reply = change(receipts, Reply::JoinBusy)?;
     let is_wrong = is_found(settled, receipts.as_slice(), Err(250));
     let _ = change(receipts, reply)?;
-    Some(is_right && is_wrong)
+    Some(is_wrong)
 }
 
 // Whether a receipt put again is found at the end.
@@ -108,12 +112,17 @@ fn again_is_found<E: Ended>(settled: &E, receipts: &mut Vec<Receipt>) -> Option<
     Some(is_wrong)
 }
 
+// Takes away the downlink of the last of 700 receipts.
+fn lose_downlink(receipts: &mut Vec<Receipt>) -> Option<()> {
+    receipts.get_mut(699)?.downlink = None;
+    Some(())
+}
+
 // Closes what is open, and all receipts pass; one that has lost its downlink is found.
 fn drained_pass<E: Ended>(settled: &mut E, receipts: &mut Vec<Receipt>) -> Option<bool> {
     drained(settled, receipts).ok()?;
-    let is_right = (settled.total(), receipts.len()) == (700, 700)
-        && is_found(settled, receipts.as_slice(), Ok(()));
-    receipts.get_mut(699)?.downlink = None;
+    let is_right = are_all(settled, receipts.as_slice(), 700);
+    lose_downlink(receipts)?;
     Some(is_right && is_found(settled, receipts.as_slice(), Err(699)))
 }
 
@@ -134,46 +143,24 @@ fn random_run<E: Ended>(
     receipts: &mut Vec<Receipt>,
     calls: usize,
 ) -> Option<bool> {
-    let is_right = receipts.len() == calls && is_found(settled, receipts.as_slice(), Ok(()));
+    let is_right = are_all(settled, receipts.as_slice(), calls);
     drained(settled, receipts).ok()?;
-    let is_counted = settled.total() == receipts.len() as u128;
-    Some(is_right && is_counted && is_found(settled, receipts.as_slice(), Ok(())))
+    Some(is_right && are_all(settled, receipts.as_slice(), receipts.len()))
 }
 
 /// One of two passes is not given back at first.
 #[test]
-fn a_pass_is_missing(rt: HostRuntime) -> Result<(), Fail> {
-    with_workers(&rt, rt.alloc(), 1, 2, Trial::HeldBack)
+fn a_pass_is_missing(rt: HostRuntime) {
+    with_workers(&rt, rt.alloc(), 1, 2, Trial::HeldBack);
 }
 
 /// Makes one call. How many entries were made, where the pass counts it.
 pub fn makes_one<C: Caller>(caller: &mut C) -> Option<u64> {
-    let is_made = caller.call(traffic::join(0, 1)).is_some();
+    let is_made = receipt_of(caller, traffic::join(0, 1)).is_some();
     (is_made && caller.made(0) == 1).then_some(1)
-}
-
-/// Settles a server, which fails without one of its passes and gives all back, and then with it.
-pub fn held_back<B: Naming>(
-    server: Server<B>,
-    mut passes: Vec<Pass<B>>,
-) -> Result<Settled<B>, Fail> {
-    let one = passes.pop();
-    match server.settle(passes) {
-        Ok(_) => Err(Fail::from("a pass was missing")),
-        Err(fault) => given_back(fault, one),
-    }
-}
-
-// Gives back the pass that was missing, and settles the server.
-fn given_back<B: Naming>(fault: SettleFault<B>, one: Option<Pass<B>>) -> Result<Settled<B>, Fail> {
-    let SettleFault { server, mut passes } = fault;
-    if let Some(one) = one {
-        let _ = passes.push(one).is_ok();
-    }
-    settled_by(server, passes)
 }
 
 /// Whether one entry was made, in shard 0.
 pub fn has_one<E: Ended>(settled: &E) -> bool {
-    settled.total() == 1 && settled.history(0).len() == 1 && settled.history(1).len() == 0
+    settled.total() == 1 && settled.counts(0) == (0, 0, 1) && settled.counts(1) == (0, 0, 0)
 }

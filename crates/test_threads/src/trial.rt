@@ -5,17 +5,18 @@ ghost use Rattle.std.specs.Arc.{arc_value};
 ghost use Rattle.ns_shard.specs.State.{no_entries};
 ghost use Rattle.ns_tally.specs.Tally.{AreNamed};
 
-use crate::caller::{Caller, Ended, Worker};
+use crate::caller::{Caller, Ended, Serves, Worker};
 use crate::growth_tests::{calls_refused, closed_without, trim_refused};
 use crate::large_tests::{are_left_twice, is_half_open, long_trims, many_windows};
 use crate::long_tests::long_run;
 use crate::served::{Work, served};
-use crate::tests::{are_right, has_one, held_back, makes_one};
-use crate::traffic;
+use crate::tests::{are_right, has_one, makes_one};
 use crate::trim_tests::Run;
+use crate::work::parted;
+use crate::workers::{Runs, run_on, tell_replies};
 use ns_outside::Receipt;
 use ns_roster::Roster;
-use ns_server::{Naming, Pass, Server, Settled};
+use ns_server::{Naming, Pass, Server, SettleFault, Settled};
 use ns_tally::Blanks;
 use std::alloc::{AllocError, Global};
 use std::marker::Brand;
@@ -24,6 +25,7 @@ use std::rt::Clock;
 use std::sync::{Arc, Wait};
 use std::test::*;
 use std::thread::Threads;
+use test_device::traffic::roster_of;
 
 /// What a test does with a new server and the passes of its workers.
 #[derive(Clone, Copy)]
@@ -32,6 +34,8 @@ pub enum Trial<'a> {
     InThreads(Work<'a>),
     // What is made before such threads begin.
     Begun(Work<'a>),
+    // One worker runs over memory, or two beside each other.
+    Workers(Runs<'a>),
     HeldBack,
     Refused,
     Closings,
@@ -44,32 +48,25 @@ pub enum Trial<'a> {
 }
 
 /// Of each shard, how many entries are to be dropped in the end, and how many it is to have.
-#[derive(Clone, Copy)]
-pub struct Left {
-    pub dropped: [u64; 16],
-    pub has: [u64; 16],
-}
+pub type Left = [(u64, u64); 16];
 
-impl Left {
-    // Whether a server's histories are so.
-    fn is_of<E: Ended>(&self, settled: &E) -> bool {
-        for shard in 0..16u8 {
-            let place = usize::from(shard);
-            if settled.dropped(shard) != self.dropped[place]
-                || settled.history(shard).len() as u64 != self.has[place]
-            {
-                return false;
-            }
+// Whether a server's histories are so.
+fn are_left<E: Ended>(settled: &E, left: &Left) -> bool {
+    for shard in 0..16u8 {
+        let (_, dropped, has) = settled.counts(shard);
+        if (dropped, has) != left[usize::from(shard)] {
+            return false;
         }
-        true
     }
+    true
 }
 
-/// What comes of a trial, beside what the server is left with: the receipts of workers, of a trial by one worker how many entries were
-/// made, where all is as it is to be, and of a long run what is to be left.
+/// What comes of a trial, beside what the server is left with: the receipts of workers in threads, what the runs of workers tell, of a
+/// trial by one worker how many entries were made, where all is as it is to be, and of a long run what is to be left.
 #[derive(Drop)]
 pub struct Outcome {
     pub receipts: Vec<Receipt>,
+    pub told: String,
     pub made: Option<u64>,
     pub left: Left,
 }
@@ -79,11 +76,9 @@ impl Outcome {
     pub fn new(alloc: Global) -> Outcome {
         Outcome {
             receipts: Vec::new(alloc),
+            told: String::new(alloc),
             made: None,
-            left: Left {
-                dropped: [0; 16],
-                has: [0; 16],
-            },
+            left: [(0, 0); 16],
         }
     }
 
@@ -100,6 +95,10 @@ impl Outcome {
     fn is_right<E: Ended>(&mut self, settled: &mut E, trial: Trial) -> bool {
         match trial {
             Trial::InThreads(work) => are_right(settled, &mut self.receipts, work) == Some(true),
+            Trial::Workers(_) => {
+                let told = tell_replies(&mut self.told, settled);
+                self.made.and(told).is_some()
+            }
             _ => {
                 let total = settled.total();
                 self.made.map(u128::from) == Some(total) && is_left(settled, trial, &self.left)
@@ -127,8 +126,11 @@ fn made_by<C: Caller>(alloc: Global, caller: &mut C, trial: Trial, left: &mut Le
 fn is_left<E: Ended>(settled: &mut E, trial: Trial, left: &Left) -> bool {
     match trial {
         Trial::HeldBack => has_one(settled),
-        Trial::TrimRefused => (settled.mark(13), settled.dropped(13)) == (14, 1),
-        Trial::LongRun => left.is_of(settled),
+        Trial::TrimRefused => {
+            let (mark, dropped, _) = settled.counts(13);
+            (mark, dropped) == (14, 1)
+        }
+        Trial::LongRun => are_left(settled, left),
         Trial::Trimmed(run) => run.is_left(settled),
         Trial::LongTrims => are_left_twice(settled),
         Trial::ManyWindows => is_half_open(settled),
@@ -137,11 +139,11 @@ fn is_left<E: Ended>(settled: &mut E, trial: Trial, left: &Left) -> bool {
 }
 
 /// Makes what the worker with this pass makes of a trial.
-pub fn by_pass<B: Naming, R: Wait + Clock>(
+pub fn by_pass<S: Serves<R>, R: Clock>(
     rt: &R,
     alloc: Global,
-    server: &Server<B>,
-    pass: &mut Pass<B>,
+    server: &S,
+    pass: &mut S::Pass,
     trial: Trial,
     outcome: &mut Outcome,
 ) {
@@ -155,11 +157,11 @@ pub fn by_pass<B: Naming, R: Wait + Clock>(
 }
 
 /// The same by the last of the workers, if there is one.
-pub fn by_last<B: Naming, R: Wait + Clock>(
+pub fn by_last<S: Serves<R>, R: Clock>(
     rt: &R,
     alloc: Global,
-    server: &Server<B>,
-    passes: &mut Vec<Pass<B>>,
+    server: &S,
+    passes: &mut Vec<S::Pass>,
     trial: Trial,
     outcome: &mut Outcome,
 ) {
@@ -178,7 +180,22 @@ fn made<B: Naming + Send + Sync, R: Threads + Wait + Clock + Sync>(
     outcome: &mut Outcome,
 ) -> Result<Vec<Pass<B>>, AllocError> {
     match trial {
-        Trial::InThreads(work) => served(rt, alloc, server, passes, work, outcome),
+        Trial::InThreads(work) => {
+            let done = served(rt, alloc, server, passes, work, outcome)?;
+            parted(alloc, done, &mut outcome.receipts)
+        }
+        Trial::Workers(runs) => {
+            let ran = run_on(
+                rt,
+                alloc,
+                server,
+                passes.as_mut_slice(),
+                &mut outcome.told,
+                runs,
+            );
+            outcome.made = ran.and(Some(0));
+            Ok(passes)
+        }
         _ => {
             by_last(rt, alloc, server, &mut passes, trial, outcome);
             Ok(passes)
@@ -186,36 +203,49 @@ fn made<B: Naming + Send + Sync, R: Threads + Wait + Clock + Sync>(
     }
 }
 
-// Settles the server of a trial.
-fn settled<B: Naming>(
-    server: Server<B>,
-    passes: Vec<Pass<B>>,
-    trial: Trial,
-) -> Result<Settled<B>, Fail> {
+// The pass that a trial holds back at first, if it holds one.
+fn held_back<P: Drop>(passes: &mut Vec<P>, trial: Trial) -> Option<P> {
     match trial {
-        Trial::HeldBack => held_back(server, passes),
-        _ => settled_by(server, passes),
+        Trial::HeldBack => passes.pop(),
+        _ => None,
     }
 }
 
-// Makes the trial, and settles the server. Whether all is as it is to be.
+// Settles the server of a trial. What is not as it is to be, if anything.
+fn is_settled<B: Naming>(
+    server: Server<B>,
+    mut passes: Vec<Pass<B>>,
+    trial: Trial,
+    outcome: &mut Outcome,
+) -> Result<(), &'static str> {
+    let held = held_back(&mut passes, trial);
+    let mut settled = settled(server, passes, held)?;
+    let is_right = outcome.is_right(&mut settled, trial);
+    drop(settled);
+    is_right.then_some(()).ok_or("not all is as it is to be")
+}
+
+// Makes the trial, and settles the server. What is not as it is to be, if anything.
 fn is_right<B: Naming + Send + Sync, R: Threads + Wait + Clock + Sync>(
     rt: &R,
     alloc: Global,
     server: Server<B>,
     passes: Vec<Pass<B>>,
     trial: Trial,
-) -> Result<bool, Fail> {
-    let mut outcome = Outcome::new(alloc);
-    let passes = made(rt, alloc, &server, passes, trial, &mut outcome)?;
-    let mut settled = settled(server, passes, trial)?;
-    Ok(outcome.is_right(&mut settled, trial))
+    outcome: &mut Outcome,
+) -> Result<(), &'static str> {
+    match made(rt, alloc, &server, passes, trial, outcome) {
+        Ok(passes) => is_settled(server, passes, trial, outcome),
+        Err(AllocError) => {
+            drop(server);
+            Err("no memory")
+        }
+    }
 }
 
-/// A roster of this many devices.
-pub fn shared_roster(alloc: Global, devices: u32) -> Result<Arc<Roster>, Fail> {
-    let roster = traffic::roster(alloc, devices)?;
-    Ok(Arc::new(alloc, roster)?)
+/// A roster of this many devices, with the numbers from a first one on, by steps.
+pub fn shared_roster(alloc: Global, first: u32, step: u32, devices: u32) -> Option<Arc<Roster>> {
+    Arc::new(alloc, roster_of(alloc, first, step, devices).ok()?).ok()
 }
 
 /// Makes a trial on a new server of so many devices, by one worker.
@@ -224,8 +254,8 @@ pub fn on_server<R: Threads + Wait + Abort + Clock + Sync>(
     alloc: Global,
     devices: u32,
     trial: Trial,
-) -> Result<(), Fail> {
-    with_workers(rt, alloc, devices, 1, trial)
+) {
+    with_workers(rt, alloc, devices, 1, trial);
 }
 
 /// The same by so many workers.
@@ -235,44 +265,73 @@ pub fn with_workers<R: Threads + Wait + Abort + Clock + Sync>(
     devices: u32,
     workers: usize,
     trial: Trial,
-) -> Result<(), Fail>
+)
     requires { (0 < workers) × (workers ≤ 64) }
 {
-    let roster = shared_roster(alloc, devices)?;
-    let is_made = is_made(rt, alloc, roster, workers, trial)?;
-    assert!(rt; is_made);
-    Ok(())
+    on_roster(
+        rt,
+        alloc,
+        shared_roster(alloc, 0, 1, devices),
+        workers,
+        trial,
+    );
+}
+
+/// The same on a new server of this roster.
+pub fn on_roster<R: Threads + Wait + Abort + Clock + Sync>(
+    rt: &R,
+    alloc: Global,
+    roster: Option<Arc<Roster>>,
+    workers: usize,
+    trial: Trial,
+)
+    requires { (0 < workers) × (workers ≤ 64) }
+{
+    let made = is_made_on(rt, alloc, roster, workers, trial);
+    assert!(rt; made == Ok(true), "{made:?}");
+}
+
+// Whether there is memory for a new server of this roster; then the trial was made on it.
+fn is_made_on<R: Threads + Wait + Clock + Sync>(
+    rt: &R,
+    alloc: Global,
+    roster: Option<Arc<Roster>>,
+    workers: usize,
+    trial: Trial,
+) -> Result<bool, &'static str>
+    requires { (0 < workers) × (workers ≤ 64) }
+{
+    match roster {
+        Some(roster) => is_made(rt, alloc, roster, workers, trial, &mut Outcome::new(alloc)),
+        None => Err("no roster"),
+    }
 }
 
 /// Whether there is memory for a new server of this roster; then the trial was made on it.
-pub fn is_made<R: Threads + Wait + Abort + Clock + Sync>(
+pub fn is_made<R: Threads + Wait + Clock + Sync>(
     rt: &R,
     alloc: Global,
     roster: Arc<Roster>,
     workers: usize,
     trial: Trial,
-) -> Result<bool, Fail>
+    outcome: &mut Outcome,
+) -> Result<bool, &'static str>
     requires { (0 < workers) × (workers ≤ 64) }
 {
-    named::<Brand, R>(
-        rt,
-        alloc,
-        roster,
-        Blanks::new(workers as u64),
-        workers,
-        trial,
-    )
+    let blanks = Blanks::new(workers as u64);
+    named::<Brand, R>(rt, alloc, roster, blanks, workers, trial, outcome)
 }
 
 // The same for a server that has a name.
-fn named<B: Naming + Send + Sync, R: Threads + Wait + Abort + Clock + Sync>(
+fn named<B: Naming + Send + Sync, R: Threads + Wait + Clock + Sync>(
     rt: &R,
     alloc: Global,
     roster: Arc<Roster>,
     blanks: Blanks,
     workers: usize,
     trial: Trial,
-) -> Result<bool, Fail>
+    outcome: &mut Outcome,
+) -> Result<bool, &'static str>
     requires workers { (0 < workers) × (workers ≤ 64) }
     requires names { AreNamed B.ledger blanks.names }
     requires parts { (blanks.parts ≡ workers) × (B.workers ≡ workers) }
@@ -281,18 +340,49 @@ fn named<B: Naming + Send + Sync, R: Threads + Wait + Abort + Clock + Sync>(
 {
     match Server::<B>::new(alloc, roster, workers, blanks) {
         Ok((server, passes)) => {
-            let is_right = is_right(rt, alloc, server, passes, trial)?;
-            assert!(rt; is_right);
-            Ok(true)
+            is_right(rt, alloc, server, passes, trial, outcome).and(Ok(true))
         }
         Err(AllocError) => Ok(false),
     }
 }
 
-/// The histories of a server to which all passes are given back.
-pub fn settled_by<B: Naming>(server: Server<B>, passes: Vec<Pass<B>>) -> Result<Settled<B>, Fail> {
+// Settles a server, which fails where a pass is held back, and gives all back; and then with that pass.
+fn settled<B: Naming>(
+    server: Server<B>,
+    passes: Vec<Pass<B>>,
+    held: Option<Pass<B>>,
+) -> Result<Settled<B>, &'static str> {
+    match server.settle(passes) {
+        Ok(settled) => match held {
+            None => Ok(settled),
+            Some(pass) => {
+                drop(settled);
+                drop(pass);
+                Err("a pass was missing")
+            }
+        },
+        Err(SettleFault { server, passes }) => settled_at_last(server, whole(passes, held)),
+    }
+}
+
+// Passes with the one that was held back.
+fn whole<P: Drop>(mut passes: Vec<P>, held: Option<P>) -> Vec<P> {
+    if let Some(pass) = held {
+        let _ = passes.push(pass).is_ok();
+    }
+    passes
+}
+
+// Settles a server to which all passes are given back.
+fn settled_at_last<B: Naming>(
+    server: Server<B>,
+    passes: Vec<Pass<B>>,
+) -> Result<Settled<B>, &'static str> {
     match server.settle(passes) {
         Ok(settled) => Ok(settled),
-        Err(_) => Err(Fail::from("a pass is missing")),
+        Err(fault) => {
+            drop(fault);
+            Err("a pass is missing")
+        }
     }
 }

@@ -1,10 +1,7 @@
 //! What each worker of a server does with a call, and what comes of all workers.
 
-use ns_calls::Call;
 use ns_outside::{Gate, Receipt};
-use ns_server::{Naming, Pass, Server};
 use std::alloc::{AllocError, Global};
-use std::sync::Wait;
 use std::sync::atomic::{AtomicU64, Ordering};
 
 /// What a gate is told before a call's lock is taken, at the visit, and once the entry is made; and of how many entries.
@@ -44,6 +41,15 @@ impl Told {
             && self.made.load(Ordering::SeqCst) == number
             && self.entries() == 1
     }
+
+    /// Keeps a receipt where it was told of its entry so, and there is memory.
+    pub fn keep(&self, receipt: Receipt, receipts: &mut Vec<Receipt>) -> Result<(), AllocError> {
+        if !self.is_of(&receipt) {
+            return Err(AllocError);
+        }
+        receipts.push(receipt)?;
+        Ok(())
+    }
 }
 
 impl<R> Gate<R> for Told {
@@ -62,36 +68,16 @@ impl<R> Gate<R> for Told {
     }
 }
 
-/// Makes a call, and keeps its receipt where there is memory for it, and where the gate was told of its shard and of its entry's number,
-/// before it was made and after.
-pub fn make<B: Naming, R: Wait>(
-    rt: &R,
-    server: &Server<B>,
-    pass: &mut Pass<B>,
-    call: Call,
-    receipts: &mut Vec<Receipt>,
-) -> Result<(), AllocError> {
-    let gate = Told::new();
-    let receipt = server.call(rt, pass, call, &gate)?;
-    if !gate.is_of(&receipt) {
-        return Err(AllocError);
-    }
-    receipts.push(receipt)?;
-    Ok(())
-}
-
 /// The passes of all workers; their receipts go behind the others.
-pub fn parted<B: Naming>(
+pub fn parted<P: Drop>(
     alloc: Global,
-    mut done: Vec<(Pass<B>, Vec<Receipt>)>,
+    done: Vec<(P, Vec<Receipt>)>,
     receipts: &mut Vec<Receipt>,
-) -> Result<Vec<Pass<B>>, AllocError> {
+) -> Result<Vec<P>, AllocError> {
     let mut passes = Vec::new(alloc);
-    'workers: while let Some((pass, mut mine)) = done.pop() {
+    for (pass, mut mine) in done {
         passes.push(pass)?;
-        'receipts: while let Some(receipt) = mine.pop() {
-            receipts.push(receipt)?;
-        }
+        receipts.append(&mut mine)?;
     }
     Ok(passes)
 }

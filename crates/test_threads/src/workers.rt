@@ -8,3 +8,5 @@ mod runs;
 mod served;
 mod tests;
 mod told;
+
+pub use served::{Runs, run_on, tell_replies};

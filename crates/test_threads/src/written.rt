@@ -13,6 +13,12 @@ use std::sync::Arc;
 pub const ONE_DEVICE: &str =
     r#"{"version":1,"net_id":"000024","rx1_offset":0,"rx_delay":1,"devices":[{"dev_eui":"000000000000000d","join_eui":"0102030401020304","slot":1998321}]}"#;
 
+/// A roster to share. None where it is none, or there is no memory.
+pub fn read_roster(alloc: Global, text: &str) -> Option<Arc<Roster>> {
+    let roster = Roster::read(alloc, text.as_bytes()).ok()?;
+    Arc::new(alloc, roster).ok()
+}
+
 /// Whether a run of these steps, of which a read gives at most so many bytes, writes these lines. None where there is no memory.
 pub fn is_written(
     alloc: Global,
@@ -24,8 +30,7 @@ pub fn is_written(
 ) -> Option<bool>
     requires { 0 < most }
 {
-    let roster = Roster::read(alloc, roster.as_bytes()).ok()?;
-    let roster = Arc::new(alloc, roster).ok()?;
+    let roster = read_roster(alloc, roster)?;
     let steps = Vec::from_slice(alloc, steps).ok()?;
     let mut reader = Fuse::new(alloc, steps, most, None, None);
     let mut writer = Fuse::new(alloc, Vec::new(alloc), 1 << 20, None, None);
@@ -39,6 +44,15 @@ pub fn is_written(
     )
     .ok()?;
     Some(writer.written() == lines)
+}
+
+// A line of these parts.
+fn push_line(lines: &mut Vec<u8>, parts: &[&[u8]]) -> Result<(), AllocError> {
+    for part in parts {
+        lines.extend_from_slice(part)?;
+    }
+    lines.push(b'\n')?;
+    Ok(())
 }
 
 /// A run of one device: its steps, and the lines that are to be written.
@@ -59,31 +73,17 @@ impl Run {
 
     /// A step line of these parts.
     pub fn step(&mut self, parts: &[&[u8]]) -> Result<(), AllocError> {
-        for part in parts {
-            self.steps.extend_from_slice(part)?;
-        }
-        self.steps.push(b'\n')?;
-        Ok(())
+        push_line(&mut self.steps, parts)
     }
 
     /// A line of these parts that is to be written.
-    pub fn line(&mut self, parts: &[&str]) -> Result<(), AllocError> {
-        for part in parts {
-            self.lines.extend_from_slice(part.as_bytes())?;
-        }
-        self.lines.push(b'\n')?;
-        Ok(())
+    pub fn line(&mut self, parts: &[&[u8]]) -> Result<(), AllocError> {
+        push_line(&mut self.lines, parts)
     }
 
     /// Whether it writes just these lines.
-    pub fn is_right(&self, alloc: Global) -> Option<bool> {
-        is_written(
-            alloc,
-            ONE_DEVICE,
-            false,
-            self.steps.as_slice(),
-            1 << 20,
-            self.lines.as_slice(),
-        )
+    pub fn is_right(&self, alloc: Global) -> bool {
+        let (steps, lines) = (self.steps.as_slice(), self.lines.as_slice());
+        is_written(alloc, ONE_DEVICE, false, steps, 1 << 20, lines) == Some(true)
     }
 }

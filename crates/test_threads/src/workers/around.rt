@@ -202,13 +202,13 @@ pub struct Scarce<S> {
 
 impl<S: Drop> Scarce<S> {
     /// A source behind which memory goes and comes.
-    pub fn new(alloc: Global, source: S, faults: Faults) -> Option<Scarce<S>> {
+    pub fn new(alloc: Global, source: S, faults: &Faults) -> Option<Scarce<S>> {
         Some(Scarce {
             alloc,
             source,
             held: Vec::with_capacity(alloc, BLOCKS).ok()?,
             turn: 0,
-            faults,
+            faults: *faults,
         })
     }
 

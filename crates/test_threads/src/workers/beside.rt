@@ -1,5 +1,6 @@
 //! Workers on two threads, of which one is held at its gate.
 
+use crate::gate_tests::is_past;
 use crate::workers::runs::{Bench, Run, Runner, run_all};
 use crate::workers::told::tell;
 use ns_outside::{Calls, Gate, Receipt};
@@ -7,7 +8,7 @@ use std::sync::Wait;
 use std::sync::atomic::{AtomicU64, Ordering};
 use std::thread;
 use std::thread::Threads;
-use std::time::{Clock, Duration};
+use std::time::Clock;
 
 /// Holds a call at its gate until the flag is up, for ten seconds at most, and counts the entries of shard 13.
 #[derive(Drop)]
@@ -40,13 +41,9 @@ impl Until {
 
 impl<R: Clock> Gate<R> for Until {
     fn visit(&self, rt: &R, _shard: u8, _number: u64) {
-        for _ in 0..10_000 {
-            if self.flag.load(Ordering::SeqCst) == 1 {
-                return;
-            }
-            let _ = thread::sleep(rt, Duration::from_millis(1));
+        if !is_past(rt, &self.flag, 0) {
+            self.late.store(1, Ordering::SeqCst);
         }
-        self.late.store(1, Ordering::SeqCst);
     }
 
     fn made(&self, _rt: &R, receipt: &Receipt) {

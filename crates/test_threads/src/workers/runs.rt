@@ -7,7 +7,7 @@ use crate::workers::told::{fault_number, tell, tell_jobs, tell_out, tell_window}
 use ns_calls::{Call, Reply};
 use ns_events::Output;
 use ns_exchange::HostName;
-use ns_outside::{AskJob, Calls, CloseJob};
+use ns_outside::{AskJob, Calls, CloseJob, Receipt};
 use ns_roster::Roster;
 use ns_types::{BLOCKS, DevEui, Fuse, Ticket, WindowName, take_rest};
 use ns_workers::{
@@ -110,7 +110,25 @@ impl<S: Calls<R>, R: Wait + Clock> Runner for Bench<'_, S, R> {
         work: Work,
         faults: Faults,
     ) -> Option<usize> {
-        run_one(self, pass, log, time, work, faults)
+        let alloc = self.alloc;
+        let (step, asks) = work.around();
+        let around = Around::new(alloc, time, step, asks);
+        let mut down = Sent::new(alloc, !faults.downlinks)?;
+        let sent = &mut down;
+        let shared = Shared {
+            output: Output::Lines,
+            rt: self.rt,
+            server: self.server,
+            gate: self.gate,
+            monitor: &around,
+        };
+        let ran = match work {
+            Work::Serve(list, room) => serve(alloc, &shared, pass, log, sent, list, room, &faults),
+            Work::Answer(asks) => answer(alloc, &shared, pass, self.known, log, sent, asks, faults),
+            Work::Close(due, limits) => close_all(alloc, &shared, pass, log, due, limits, &faults),
+        };
+        ran?;
+        Some(down.sent.len())
     }
 
     fn made(&self) -> u64 {
@@ -126,38 +144,46 @@ impl<S: Calls<R>, R: Wait + Clock> Runner for Bench<'_, S, R> {
     }
 }
 
-// The datagram that gateway a1 makes of a frame, with another byte at this place.
-fn changed(alloc: Global, frame: &[u8], place: usize, byte: u8) -> Option<Vec<u8>> {
-    let mut datagram = heard(alloc, frame)?;
-    *datagram.get_mut(place)? = byte;
-    Some(datagram)
-}
-
-// Adds the datagrams of one line of a list.
-fn put_datagrams(alloc: Global, all: &mut Vec<Vec<u8>>, reads: Reads) -> Option<()> {
-    match reads {
-        Reads::Frame(frame, times) => {
-            for _ in 0..times {
-                all.push(heard(alloc, frame)?).ok()?;
-            }
-            Some(())
+impl Reads {
+    // How many datagrams they are.
+    fn times(self) -> u32 {
+        match self {
+            Reads::Frame(_, times) => times,
+            _ => 1,
         }
-        Reads::Changed(frame, place, byte) => all.push(changed(alloc, frame, place, byte)?).ok(),
-        Reads::Ones(length) => all.push(vec![in alloc; 1u8; length].ok()?).ok(),
+    }
+
+    // One of the datagrams.
+    fn datagram(self, alloc: Global) -> Option<Vec<u8>> {
+        match self {
+            Reads::Frame(frame, _) => heard(alloc, frame),
+            Reads::Changed(frame, place, byte) => {
+                let mut datagram = heard(alloc, frame)?;
+                *datagram.get_mut(place)? = byte;
+                Some(datagram)
+            }
+            Reads::Ones(length) => vec![in alloc; 1u8; length].ok(),
+        }
     }
 }
 
-// Datagrams.
-fn datagrams(alloc: Global, list: &[Reads]) -> Option<Vec<Vec<u8>>> {
+// Datagrams, as a source gives them.
+fn datagrams(alloc: Global, list: &[Reads], faults: &Faults) -> Option<Scarce<ListedDatagrams>> {
     let mut all = Vec::new(alloc);
     for reads in list {
-        put_datagrams(alloc, &mut all, *reads)?;
+        for _ in 0..reads.times() {
+            all.push(reads.datagram(alloc)?).ok()?;
+        }
     }
-    Some(all)
+    Scarce::new(alloc, ListedDatagrams::new(all, faults.source), faults)
 }
 
-// The jobs that close windows.
-fn closings(alloc: Global, windows: &[Due]) -> Option<Vec<CloseJob>> {
+// The jobs that close windows, as a source gives them.
+fn closings(
+    alloc: Global,
+    windows: &[Due],
+    faults: &Faults,
+) -> Option<Scarce<ListedJobs<CloseJob>>> {
     let mut jobs = Vec::new(alloc);
     for &(eui, fcnt, due, times) in windows {
         let name = WindowName {
@@ -170,7 +196,7 @@ fn closings(alloc: Global, windows: &[Due]) -> Option<Vec<CloseJob>> {
             jobs.push(CloseJob { name, due }).ok()?;
         }
     }
-    Some(jobs)
+    Scarce::new(alloc, ListedJobs::new(jobs, faults.source), faults)
 }
 
 // Runs a gateway worker.
@@ -182,11 +208,10 @@ fn serve<S: Calls<R>, R: Wait + Clock>(
     down: &mut Sent,
     list: &[Reads],
     room: usize,
-    faults: Faults,
+    faults: &Faults,
 ) -> Option<()> {
     let around = shared.monitor;
-    let source = ListedDatagrams::new(datagrams(alloc, list)?, faults.source);
-    let mut source = Scarce::new(alloc, source, faults)?;
+    let mut source = datagrams(alloc, list, faults)?;
     let mut jobs = Put::new(alloc, room);
     let mut sink = Fuse::new(alloc, Vec::new(alloc), 2000, None, faults.writes);
     let served = run_gateway(
@@ -244,7 +269,7 @@ fn answer<S: Calls<R>, R: Wait + Clock>(
     let around = shared.monitor;
     let host = HostName::new("js.local")?;
     let jobs = ListedJobs::new(askings(alloc, asks)?, faults.source);
-    let mut jobs = Scarce::new(alloc, jobs, faults)?;
+    let mut jobs = Scarce::new(alloc, jobs, &faults)?;
     let joined = run_join(
         alloc, shared, pass, around, around, &mut jobs, down, known, host,
     );
@@ -281,6 +306,17 @@ fn close<S: Calls<R>, R: Wait + Clock>(
     tell_closed(log, &ended, &sink, &down, around)
 }
 
+// Tells a receipt of a closer, with 1 where its window was not open.
+fn tell_closing(log: &mut String, receipt: &Receipt) -> Option<()> {
+    match &receipt.entry.call {
+        Call::Close { window } => {
+            let is_late = receipt.entry.reply == Reply::NoWindow;
+            tell_window(log, "close", window, u64::from(is_late))
+        }
+        _ => Some(()),
+    }
+}
+
 // Tells the first four receipts of a closer, each with 1 where its window was not open; how it ended, with how many receipts; and what
 // went out.
 fn tell_closed(
@@ -291,10 +327,7 @@ fn tell_closed(
     around: &Around,
 ) -> Option<()> {
     for receipt in ended.receipts.iter().take(4) {
-        if let Call::Close { window } = &receipt.entry.call {
-            let is_late = receipt.entry.reply == Reply::NoWindow;
-            tell_window(log, "close", window, u64::from(is_late))?;
-        }
+        tell_closing(log, receipt)?;
     }
     let count = ended.receipts.len() as u64;
     tell(log, "ended", &[fault_number(ended.fault), count])?;
@@ -309,44 +342,13 @@ fn close_all<S: Calls<R>, R: Wait + Clock>(
     log: &mut String,
     windows: &[Due],
     limits: &[u32],
-    faults: Faults,
+    faults: &Faults,
 ) -> Option<()> {
-    let jobs = ListedJobs::new(closings(alloc, windows)?, faults.source);
-    let mut jobs = Scarce::new(alloc, jobs, faults)?;
+    let mut jobs = closings(alloc, windows, faults)?;
     for limit in limits {
         close(alloc, shared, pass, log, &mut jobs, *limit, faults.writes)?;
     }
     Some(())
-}
-
-// Runs a worker from a time on. How many downlinks a gateway worker or a join worker sent.
-fn run_one<S: Calls<R>, R: Wait + Clock>(
-    bench: &Bench<'_, S, R>,
-    pass: &mut S::Pass,
-    log: &mut String,
-    time: u64,
-    work: Work,
-    faults: Faults,
-) -> Option<usize> {
-    let alloc = bench.alloc;
-    let (step, asks) = work.around();
-    let around = Around::new(alloc, time, step, asks);
-    let mut down = Sent::new(alloc, !faults.downlinks)?;
-    let sent = &mut down;
-    let shared = Shared {
-        output: Output::Lines,
-        rt: bench.rt,
-        server: bench.server,
-        gate: bench.gate,
-        monitor: &around,
-    };
-    let ran = match work {
-        Work::Serve(list, room) => serve(alloc, &shared, pass, log, sent, list, room, faults),
-        Work::Answer(asks) => answer(alloc, &shared, pass, bench.known, log, sent, asks, faults),
-        Work::Close(due, limits) => close_all(alloc, &shared, pass, log, due, limits, faults),
-    };
-    ran?;
-    Some(down.sent.len())
 }
 
 // Takes all memory but 64 MB, so that it takes less time to take the rest again and again.

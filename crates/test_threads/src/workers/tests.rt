@@ -4,6 +4,8 @@
 //! windows that it closed, each with 1 where it was not open, its lines, its downlinks, and the numbers of `Around`; and then the replies
 //! of shards 13 and 14.
 
+ghost use Rattle.std.specs.Prelude.{◌<◌, ◌≤◌};
+
 use crate::workers::around::{Asked, Faults, NONE};
 use crate::workers::frames::{
     ANSWER_1, BRACES, JOIN_0E, JOIN_0F, JOIN_1, JOIN_2, JOIN_SECOND, THREE_1, THREE_2, THREE_3,
@@ -576,7 +578,9 @@ fn other_text<R: Threads + Wait + Clock + Sync>(
     alloc: Global,
     workers: usize,
     cases: &[Case],
-) -> Option<String> {
+) -> Option<String>
+    requires { (0 < workers) × (workers ≤ 64) }
+{
     for &(runs, front, back) in cases {
         let text = told(rt, alloc, workers, runs);
         if text.as_str().strip_prefix(front) != Some(back) {
@@ -592,7 +596,9 @@ fn tell_so<R: Abort + Threads + Wait + Clock + Sync>(
     alloc: Global,
     workers: usize,
     cases: &[Case],
-) {
+)
+    requires { (0 < workers) × (workers ≤ 64) }
+{
     let other = other_text(rt, alloc, workers, cases);
     assert!(rt; other.is_none(), "{other:?}");
 }

@@ -2,7 +2,7 @@
 
 use crate::workers::around::{Around, Sent};
 use itoa::Buffer;
-use ns_calls::{Entry, Reply};
+use ns_calls::{Downlink, Entry, Reply};
 use ns_lines::{Line, put_downlink};
 use ns_outside::{AskJob, CloseJob, Job, WorkerFault};
 use ns_types::{Ticket, WindowName};
@@ -65,6 +65,13 @@ pub fn tell_jobs(log: &mut String, jobs: &[Job]) -> Option<()> {
     Some(())
 }
 
+// Tells a downlink.
+fn tell_downlink(log: &mut String, downlink: &Downlink) -> Option<()> {
+    let mut line = Line::new();
+    put_downlink(&mut line, downlink);
+    tell(log, line.as_str(), &[])
+}
+
 /// Tells lines, downlinks, and the numbers of what is around from a place on.
 pub fn tell_out(
     log: &mut String,
@@ -75,35 +82,50 @@ pub fn tell_out(
 ) -> Option<()> {
     log.push_str(str::from_utf8(lines).ok()?).ok()?;
     for downlink in down.sent.iter() {
-        let mut line = Line::new();
-        put_downlink(&mut line, downlink);
-        tell(log, line.as_str(), &[])?;
+        tell_downlink(log, downlink)?;
     }
     tell(log, "told", &around.told(from))
 }
 
-// Tells a reply.
-fn tell_reply(log: &mut String, reply: &Reply) -> Option<()> {
-    match reply {
-        Reply::Opened { window } => tell_window(log, "opened", window, 0),
-        Reply::Again { window } => tell_window(log, "again", window, 0),
-        Reply::Copied { window, place } => tell_window(log, "copied", window, u64::from(*place)),
-        Reply::Closed { window, ack: None } => tell_window(log, "closed", window, 0),
+// The word of a reply that has a window, the window, and one more number.
+fn window_of(reply: &Reply) -> Option<(&'static str, WindowName, u64)> {
+    match *reply {
+        Reply::Opened { window } => Some(("opened", window, 0)),
+        Reply::Again { window } => Some(("again", window, 0)),
+        Reply::Copied { window, place } => Some(("copied", window, u64::from(place))),
+        Reply::Closed { window, ack: None } => Some(("closed", window, 0)),
         Reply::Closed {
             window,
             ack: Some(number),
-        } => tell_window(log, "acknowledged", window, u64::from(*number)),
+        } => Some(("acknowledged", window, u64::from(number))),
+        _ => None,
+    }
+}
+
+// The word of a reply that has no numbers.
+fn word_of(reply: &Reply) -> &'static str {
+    match reply {
+        Reply::JoinRefused => "joinrefused",
+        Reply::NoTicket => "noticket",
+        Reply::NoWindow => "nowindow",
+        Reply::NoDevice => "nodevice",
+        _ => "another reply",
+    }
+}
+
+// Tells a reply.
+fn tell_reply(log: &mut String, reply: &Reply) -> Option<()> {
+    if let Some((word, window, last)) = window_of(reply) {
+        return tell_window(log, word, &window, last);
+    }
+    match reply {
         Reply::Ask { ticket } => tell_ticket(log, "ask", ticket, 0, 0),
         Reply::Accepted { eui, session, addr } => tell(
             log,
             "accepted",
             &[eui.0, u64::from(*session), u64::from(addr.0)],
         ),
-        Reply::JoinRefused => tell(log, "joinrefused", &[]),
-        Reply::NoTicket => tell(log, "noticket", &[]),
-        Reply::NoWindow => tell(log, "nowindow", &[]),
-        Reply::NoDevice => tell(log, "nodevice", &[]),
-        _ => tell(log, "another reply", &[]),
+        _ => tell(log, word_of(reply), &[]),
     }
 }
 

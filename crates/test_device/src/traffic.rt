@@ -1,4 +1,6 @@
-//! Calls of devices that are numbered from 0. The DevEUI and the slot of a device are its number, and all sessions have the same keys.
+//! The calls of whole runs: each device asks to join, its join is answered, its uplinks are heard and closed.
+//!
+//! Devices are numbered from 0. The DevEUI and the slot of a device are its number, and all sessions have the same keys.
 
 ghost use Rattle.std.specs.Prelude.{◌≡◌, ◌≤◌, ◌<◌};
 
@@ -26,7 +28,7 @@ pub fn roster(alloc: Global, devices: u32) -> Result<Roster, RosterFault> {
 }
 
 /// A roster of this many devices, with the numbers from a first one on, by steps.
-pub(crate) fn roster_of(
+pub fn roster_of(
     alloc: Global,
     first: u32,
     step: u32,
@@ -41,13 +43,23 @@ fn roster_text(alloc: Global, first: u32, step: u32, devices: u32) -> Result<Str
     text.push_str(r#"{"version":1,"net_id":"000024","rx1_offset":0,"rx_delay":1,"devices":["#)?;
     let (mut device, mut comma) = (first, "");
     for _ in 0..devices {
-        text.push_str(comma)?;
-        text.push_str(device_text(alloc, device)?.as_str())?;
+        push_device(&mut text, alloc, comma, device)?;
         device = device.wrapping_add(step);
         comma = ",";
     }
     text.push_str("]}")?;
     Ok(text)
+}
+
+// Puts a device of a roster behind a comma.
+fn push_device(
+    text: &mut String,
+    alloc: Global,
+    comma: &str,
+    device: u32,
+) -> Result<(), AllocError> {
+    text.push_str(comma)?;
+    text.push_str(device_text(alloc, device)?.as_str())
 }
 
 // A device of a roster.
@@ -80,7 +92,7 @@ fn ticket(device: u32, nonce: u16) -> Ticket {
 }
 
 /// The keys of all sessions.
-pub(crate) fn keys() -> Keys {
+pub fn keys() -> Keys {
     Keys {
         nwk: NWK,
         app: APP,
@@ -98,13 +110,23 @@ pub fn join(device: u32, nonce: u16) -> Call {
 
 /// The join server's answer to it.
 pub fn join_reply(device: u32, nonce: u16) -> Call {
+    join_end(device, nonce, Outcome::Success(answer(NWK, Some(APP))))
+}
+
+/// A JoinAns with these session keys.
+pub fn answer(nwk: Key, app: Option<Key>) -> JoinAns {
+    JoinAns {
+        accept: JoinAccept::Plain([0x20; 17]),
+        nwk,
+        app,
+    }
+}
+
+/// What came of the Join-Request of a device with this nonce.
+pub fn join_end(device: u32, nonce: u16, outcome: Outcome) -> Call {
     Call::JoinReply {
         ticket: ticket(device, nonce),
-        outcome: Outcome::Success(JoinAns {
-            accept: JoinAccept::Plain([0x20; 17]),
-            nwk: NWK,
-            app: Some(APP),
-        }),
+        outcome,
     }
 }
 
@@ -138,12 +160,17 @@ pub fn uplink(device: u32, counter: u32, confirmed: bool, gateway: u8) -> Option
 
 /// The closing of the window of a device's uplink.
 pub fn closing(device: u32, session: u32, counter: u32) -> Call {
+    closing_of(device, session, counter, 1)
+}
+
+/// The closing of a later window of it.
+pub fn closing_of(device: u32, session: u32, counter: u32, round: u32) -> Call {
     Call::Close {
         window: WindowName {
             eui: DevEui(u64::from(device)),
             session,
             fcnt: counter,
-            round: 1,
+            round,
         },
     }
 }
