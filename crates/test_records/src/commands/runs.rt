@@ -1,6 +1,6 @@
 //! What runs write to standard output, and what the program's runtime hands on.
 
-use crate::stand_in::{LIMIT, SINCE_1970, SINCE_START, StandIn};
+use crate::commands::stand_in::{LIMIT, SINCE_1970, SINCE_START, StandIn};
 use log::info;
 use log::sink::Discard;
 use ns_commands::{Logging, Timed, VARIABLE, compact, run_replay};
@@ -56,7 +56,7 @@ fn writes(stand_in: &StandIn<HostRuntime>, row: (Output, bool, &str, &str)) -> b
     let outcome = run_replay(
         stand_in,
         &Discard,
-        "test_commands_closing.json",
+        "test_records_closing.json",
         uplinks,
         closing,
     );
@@ -66,7 +66,7 @@ fn writes(stand_in: &StandIn<HostRuntime>, row: (Output, bool, &str, &str)) -> b
 // What `replay` writes: uplinks as lines or as objects, and the closing roster only where it is asked for.
 #[test]
 fn closing_rosters(rt: HostRuntime) {
-    let path = "test_commands_closing.json";
+    let path = "test_records_closing.json";
     assert!(rt; fs::write(&rt, path, ROSTER.as_bytes()).is_ok());
     for row in REPLAYS {
         assert!(rt;
@@ -95,8 +95,8 @@ fn take_away(rt: &HostRuntime, path: &str, folder: &str) -> io::Result<()> {
 // What `compact` prints of these six lines, of which it leaves out the two copies.
 #[test]
 fn lines_before_and_after(rt: HostRuntime) {
-    let (path, folder) = ("test_commands_compact.json", "test_commands_compact");
-    assert!(rt; make(&rt, path, folder, "test_commands_compact/steps").is_ok());
+    let (path, folder) = ("test_records_compact.json", "test_records_compact");
+    assert!(rt; make(&rt, path, folder, "test_records_compact/steps").is_ok());
     let stand_in = StandIn::new(rt, rt.alloc(), "");
     let done = compact(&stand_in, &Discard, path, folder).is_ok();
     assert!(rt; done && stand_in.has_printed(&["compacted 6 4\n"]));
@@ -145,7 +145,7 @@ fn the_wrapper_hands_on(rt: HostRuntime) {
     assert!(rt; refusals(&logging) == wanted);
     info!(logging; "heard {}", 2);
     assert!(rt;
-        stand_in.has_told("[2026-11-24T09:30:00.125Z INFO  test_commands::runs] heard 2\n")
+        stand_in.has_told("[2026-11-24T09:30:00.125Z INFO  test_records::commands::runs] heard 2\n")
     );
     assert!(rt; VARIABLE == "RUST_LOG");
 }
