@@ -5,16 +5,17 @@ gateways that are packet forwarders.
 
     rustc -O --edition 2021 -o PLAIN bench/plain_server/main.rs
     python3 bench/serve.py PROGRAM PLAIN [--workers N,..] [--devices N] [--copies N] [--frames N] [--confirmed SHARE] [--window MS]
-                           [--seconds S] [--senders N] [--runs N] [--rate N] [--folder FOLDER]
+                           [--seconds S] [--senders N] [--runs N] [--rate N] [--own] [--folder FOLDER]
 
 Devices join (no part of what is measured), and send frames of 16 bytes, each heard by some gateways. All datagrams are made before
 the clock starts. First the senders send as fast as they can for some seconds: what the server takes a second of it, the rest being
 dropped by the system before its socket, is its top rate. Then they send at half of that: how many datagrams the system dropped, and
 the time from the first datagram of a confirmed frame to its acknowledgement, less the window. Processor time is that of the server's
-process, user and system, from /proc. Of several runs the one with the least processor time a datagram is told. Lines go to a file
-in a temporary folder below FOLDER. With --rate so many datagrams a second are sent in place of half of the top rate, which is not
-sought then. Behind the table stands what the program holds of rosters of three sizes. It ends with status 1 where an acknowledgement was not what it must be, or is missing at half of
-the top rate though no datagram was dropped.
+process, user and system, from /proc. Of several runs, in which the programs take turns, the one with the least processor time a datagram is
+told. Lines go to a file in a temporary folder below FOLDER. With --rate so many datagrams a second are sent in place of half of the top
+rate, which is not sought then. --own leaves out packet forwarders and the program that only receives. Behind the table stands what the
+program holds of rosters of three sizes. It ends with status 1 where an acknowledgement was not what it must be, or is missing at half of the
+top rate though no datagram was dropped.
 """
 import argparse
 import json
@@ -28,6 +29,9 @@ from network.servers import Joins, Serve  # noqa: E402
 
 HEAD = ('Program', 'Workers', 'Top, datagrams a second', 'Dropped', 'us each', 'of it user', 'Half: sent a second', 'Dropped', 'us each',
         'Delay ms, median', '99 in 100', 'Most', 'Bytes a datagram')
+
+# The servers that hear own datagrams.
+OWN = ('proved', 'plain', 'plain, asked')
 
 
 def row(cells):
@@ -53,13 +57,9 @@ class Measured:
             finally:
                 server.close()
 
-    def best(self, rate):
-        return min((self.run(rate, self.options.seconds) for _ in range(self.options.runs)), key=load.Took.cost)
-
-    def rows(self, workers):
-        """Measures and prints the row; the run at the top rate, or at the rate that is asked for, and whether what came back was right."""
-        top = None if self.options.rate else self.best(0)
-        half = self.best(self.options.rate or top.taken() / top.seconds / 2)
+    def tell(self, workers, top, half):
+        """Prints the row of the run at the top rate, if there is one, and of that at half of it or at the rate that is asked for: whether what
+        came back was right."""
         cells = ['-'] * 4 if top is None else [
             format(round(top.taken() / top.seconds, -2), ',.0f'), '%.0f%%' % (100 * top.dropped / top.sent), '%.2f' % top.cost(),
             '%.2f' % (1e6 * top.user / top.taken())]
@@ -71,7 +71,21 @@ class Measured:
         wrong = half.wrong + (top.wrong if top else 0)
         if wrong or missing:
             print('%d wrong acknowledgements, %d missing' % (wrong, missing), file=sys.stderr)
-        return top or half, not (wrong or missing)
+        return not (wrong or missing)
+
+
+def best_of(programs, rates, options):
+    """The best run of each program at its rate, where they take turns."""
+    runs = [[one.run(rate, options.seconds) for one, rate in zip(programs, rates)] for _ in range(options.runs)]
+    return [min(of_one, key=load.Took.cost) for of_one in zip(*runs)]
+
+
+def ratios(names, found):
+    """What each program takes beside another, where both were measured."""
+    cost = {name: took.cost() for name, took in zip(names, found)}
+    pairs = (('proved', 'plain'), ('proved', 'plain, asked'), ('plain, asked', 'plain'), ('plain', 'receives only'),
+             ('proved, packet forwarders', 'proved'))
+    return ', '.join('%s to %s %.2f' % (one, other, cost[one] / cost[other]) for one, other in pairs if one in cost and other in cost)
 
 
 def at_rest(program, folder):
@@ -99,6 +113,7 @@ def options_of():
     for name, kind, default in (('devices', int, 4096), ('copies', int, 3), ('frames', int, 0), ('confirmed', float, 0.1),
                                 ('window', int, 200), ('seconds', float, 2), ('senders', int, 2), ('runs', int, 1), ('rate', float, 0)):
         parser.add_argument('--' + name, type=kind, default=default)
+    parser.add_argument('--own', action='store_true')
     parser.add_argument('--folder', metavar='FOLDER')
     return parser.parse_args()
 
@@ -119,21 +134,20 @@ def main():
         for workers in options.workers.split(','):
             more = ['--workers', workers, '--listen', '127.0.0.1:0']
             serves = more + ['--window', str(options.window), '--join-workers', '4', '--join', '%s:%d' % joins.where]
-            found = []
-            for name, words, answers in (
-                    ('proved', [options.program, 'serve', roster] + serves, True),
-                    ('proved, packet forwarders', [options.program, 'serve', roster] + [
-                        '--forwarders' if word == '--listen' else word for word in serves], True),
-                    ('plain', [options.plain, 'serve', roster] + serves, True),
-                    ('plain, asked', [options.plain, 'serve', roster] + serves + ['--asked'], True),
-                    ('receives only', [options.plain, 'receive'] + more, False)):
-                top, right = Measured(name, words, answers, options, folder).rows(workers)
-                is_right = is_right and right
-                found.append(top.cost())
-            print('\n%s workers: proved to plain %.2f, to plain that is asked for the same %.2f, this to plain %.2f, plain to a bare receiver %.2f, '
-                  'packet forwarders to own datagrams %.2f (processor time a datagram at %s)\n' % (
-                      workers, found[0] / found[2], found[0] / found[3], found[3] / found[2], found[2] / found[4], found[1] / found[0],
-                      'that rate' if options.rate else 'the top rate'), flush=True)
+            programs = [Measured(name, words, answers, options, folder) for name, words, answers in (
+                ('proved', [options.program, 'serve', roster] + serves, True),
+                ('proved, packet forwarders', [options.program, 'serve', roster] + [
+                    '--forwarders' if word == '--listen' else word for word in serves], True),
+                ('plain', [options.plain, 'serve', roster] + serves, True),
+                ('plain, asked', [options.plain, 'serve', roster] + serves + ['--asked'], True),
+                ('receives only', [options.plain, 'receive'] + more, False)) if not options.own or name in OWN]
+            tops = [None] * len(programs) if options.rate else best_of(programs, [0] * len(programs), options)
+            halves = best_of(programs, [options.rate or top.taken() / top.seconds / 2 for top in tops], options)
+            for one, top, half in zip(programs, tops, halves):
+                is_right = one.tell(workers, top, half) and is_right
+            print('\n%s workers: %s (processor time a datagram at %s)\n' % (
+                workers, ratios([one.name for one in programs], halves if options.rate else tops),
+                'that rate' if options.rate else 'the top rate'), flush=True)
         print('at rest: %s' % at_rest(options.program, folder))
     joins.close()
     print('load average at the end %.1f' % os.getloadavg()[0])
