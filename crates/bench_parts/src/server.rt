@@ -117,11 +117,7 @@ fn time_server<R: Threads + Wait + Clock + Print + Eprint + Sync>(
 }
 
 // The same of devices of one shard, which is then trimmed.
-fn time_trim<R: Wait + Clock + Print + Eprint>(
-    rt: &R,
-    alloc: Global,
-    load: Load,
-) -> anyhow::Result<()> {
+fn time_trim<R: Clock + Print + Eprint>(rt: &R, alloc: Global, load: Load) -> anyhow::Result<()> {
     let roster = shared(alloc, load.devices.wrapping_mul(16))?;
     let trims = time_trims(rt, alloc, roster, load)?;
     println!(rt;

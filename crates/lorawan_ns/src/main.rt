@@ -3,8 +3,8 @@
 //! `lorawan_ns replay ROSTER` reads step lines from standard input and writes the lines of their answers to standard output. The
 //! contract of `replay` in `ns_replay` says what is written. `lorawan_ns serve ROSTER --join ADDR` hears gateways over UDP and writes
 //! their uplinks: `serve` of `ns_serve` does it, with threads and sockets. `lorawan_ns compact ROSTER DIR` makes a record shorter:
-//! `ns_compact` does it. Here is what a run does: what the words ask for, as `ns_words` reads them. The commands beside `serve`, the texts
-//! of faults, log lines and the exit statuses are those of `ns_commands`. The program stands on these, on `ns_serve` and
+//! `ns_upkeep` does it, and while `serve` goes on. Here is what a run does: what the words ask for, as `ns_words` reads them. `replay`, the
+//! texts of faults, log lines and the exit statuses are those of `ns_commands`. The program stands on these, on `ns_serve` and
 //! `ns_serve_shards`, on `ns_record_files` for the upkeep of a record, on `ns_roster`, on `ns_types` for streams, and on `log` of the kit.
 #![tactic(auto)]
 
@@ -17,13 +17,14 @@ ghost use Rattle.ns_commands.specs.Status.{IsRun};
 use log::filter::FilteredLog;
 use log::{Log, error};
 use ns_commands::{
-    End, Fault, Logging, Timed, VARIABLE, compact, concluded, ended, keeper, kept_record,
-    of_record, of_serve, open_record, read_filter, read_roster, run_replay, words,
+    End, Fault, Logging, Timed, VARIABLE, concluded, ended, kept_record, of_record, of_serve,
+    open_record, read_filter, read_roster, run_replay, words,
 };
 use ns_record_files::Upkeep;
 use ns_roster::Roster;
 use ns_serve::{Begun, EndOfInput, ServeOptions, Stop, WaitingWriter, serve};
 use ns_types::OverStd;
+use ns_upkeep::{compact, keeper};
 use ns_words::{Asked, Recorded, read_words};
 use std::fs::{File, OpenOptions};
 use std::io;

@@ -2,10 +2,10 @@
 
 use crate::lines::Made;
 use ns_calls::{Call, shard_of_call};
-use ns_replay::step;
 use ns_resume::{RecordFault, TRIM_FROM, trim_if_due};
 use ns_roster::Roster;
 use ns_shard::{Shard, call_of, new_shards};
+use ns_steps::step;
 use std::alloc::Global;
 use std::sync::Arc;
 

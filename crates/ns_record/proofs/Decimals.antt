@@ -7,8 +7,8 @@ use Rattle.std.proofs.lemmas.Bool.Decides.{nat_tests}
 use Rattle.std.proofs.lemmas.List.{take_all}
 use Rattle.std.proofs.lemmas.Fmt.{decimal_nonempty, digits_decimal, digits_value-decimal}
 use Rattle.std.proofs.lemmas.Str.Parse.{IsDigitsTest, FoldsDigits, IsNumeralModel, numerals_by_fold}
-use Rattle.ns_replay.specs.StepLines.{is_digit, decimal_value, number}
-use Rattle.ns_replay.proofs.Digits.{number_of_digits}
+use Rattle.ns_steps.specs.StepLines.{is_digit, decimal_value, number}
+use Rattle.ns_steps.proofs.Digits.{number_of_digits}
 
 abbrev AreDigits : List ℕ → Type 0
 AreDigits ds = list_all is_digit ds ≡ true

@@ -13,7 +13,7 @@ use Rattle.ns_calls.specs.declared.accept.JoinAccept.TheVariants.{Plain, WithCha
 use Rattle.ns_calls.specs.Accept.{accept_bytes, accept_of}
 use Rattle.ns_roster.specs.Field.{without_0x, hex_bytes}
 use Rattle.ns_roster.proofs.HexLemmas.{hex_bytes-encode_lower}
-use Rattle.ns_replay.proofs.SpelledLemmas.{ok-is}
+use Rattle.ns_steps.proofs.SpelledLemmas.{ok-is}
 use Rattle.ns_joinwire.specs.Parts.{is_join_accept, frame_of, join_accept_of}
 
 -- the bytes that a text of hex spells

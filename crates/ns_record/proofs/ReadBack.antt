@@ -43,10 +43,10 @@ use Rattle.ns_joinwire.proofs.SpelledLemmas.{answer-spelled, spelled-answer}
 use Rattle.ns_shard.specs.declared.step.Act.{Act}
 use Rattle.ns_shard.specs.declared.step.Act.TheVariants.{Datagram, Answer, Lost, Close}
 use Rattle.ns_shard.specs.Taken.{call_of, outcome_of}
-use Rattle.ns_replay.specs.StepLines.{raw_lines, number, step, steps}
-use Rattle.ns_replay.proofs.LineLemmas.{raw_lines_nil, raw_lines_ended}
-use Rattle.ns_replay.specs.Spelled.{SpellsStep, SpellsCounter}
-use Rattle.ns_replay.proofs.SpelledLemmas.{spelled-step}
+use Rattle.ns_steps.specs.StepLines.{raw_lines, number, step, steps}
+use Rattle.ns_steps.proofs.LineLemmas.{raw_lines_nil, raw_lines_ended}
+use Rattle.ns_steps.specs.Spelled.{SpellsStep, SpellsCounter}
+use Rattle.ns_steps.proofs.SpelledLemmas.{spelled-step}
 use Rattle.ns_record.specs.StepText.{key_text, app_text, accept_text, join_text, heard_text, lost_text, answer_text, close_text, step_text, IsTicket, IsName, IsWhole, record_text, IsOfAStep, ReadsBack, AreReadBack}
 use Rattle.ns_record.proofs.Plain.{plain, both, unended, no_return, no_feed, ascii, hex_plain, decimal_plain}
 use Rattle.ns_record.proofs.Decimals.{number-decimal}

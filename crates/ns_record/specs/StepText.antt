@@ -19,7 +19,7 @@ use Rattle.ns_lines.specs.Text.{window_text}
 use Rattle.ns_shard.specs.declared.step.Act.{Act}
 use Rattle.ns_shard.specs.declared.step.Act.TheVariants.{Datagram, Answer, Lost, Close}
 use Rattle.ns_shard.specs.Taken.{call_of}
-use Rattle.ns_replay.specs.StepLines.{step, steps}
+use Rattle.ns_steps.specs.StepLines.{step, steps}
 
 -- ---- the text of a JoinAns that says just this (TS002, JoinAns; this server's profile)
 

@@ -11,8 +11,8 @@ use Rattle.ns_shard.specs.NextRun.{greatest_among, greatest_after, closing_roste
 use Rattle.ns_shard.specs.Steps.{AreAfter}
 use Rattle.ns_events.specs.declared.output.Output.{Output}
 use Rattle.ns_replay.specs.declared.reading.Answers.{Answers}
-use Rattle.ns_replay.specs.Output.{ended, closing_line, output}
-use Rattle.ns_replay.specs.StepLines.{steps}
+use Rattle.ns_replay.specs.Output.{closing_line, output}
+use Rattle.ns_steps.specs.StepLines.{steps, ended}
 use Rattle.ns_replay.specs.Private.Found.{Has}
 use Rattle.ns_replay.specs.Private.Lines.{steps_in}
 

@@ -13,11 +13,11 @@ use Rattle.ns_shard.specs.declared.step.Act.{Act}
 use Rattle.ns_shard.specs.declared.step.Step.{Step}
 use Rattle.ns_shard.specs.Steps.{AreAfter, step_taken}
 use Rattle.ns_replay.specs.declared.reading.Answers.{Answers}
-use Rattle.ns_replay.specs.StepLines.{step, steps}
-use Rattle.ns_replay.specs.Output.{step_of, all_lines, lines_of, ended, text_of}
+use Rattle.ns_steps.specs.StepLines.{step, steps, step_of, ended}
+use Rattle.ns_replay.specs.Output.{all_lines, lines_of, text_of}
 use Rattle.ns_replay.specs.Private.Lines.{line_taken, steps_in}
 use Rattle.ns_replay.specs.Private.Found.{Has, FoundIn}
-use Rattle.ns_replay.proofs.LineLemmas.{Unended, raw_lines_nil, raw_lines_ended, raw_lines_last}
+use Rattle.ns_steps.proofs.LineLemmas.{Unended, raw_lines_nil, raw_lines_ended, raw_lines_last}
 
 -- ---- one line more
 

@@ -1,10 +1,3 @@
-pub mod HexTextLemmas
-pub mod HexDigits
-pub mod LineLemmas
-pub mod SpelledLemmas
-pub mod SpelledLines
 pub mod FoundLemmas
 pub mod FrontLemmas
-pub mod Digits
-pub mod FirstByte
 pub mod ClosingLemmas

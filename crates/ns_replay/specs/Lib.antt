@@ -1,5 +1,2 @@
-pub mod HexText
-pub mod StepLines
-pub mod Spelled
 pub mod Output
 pub mod Private

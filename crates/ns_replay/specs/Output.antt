@@ -15,11 +15,7 @@ use Rattle.ns_shard.specs.declared.run.Taken.{Taken}
 use Rattle.ns_shard.specs.declared.run.Taken.TheVariants.{Link, View, Made}
 use Rattle.ns_shard.specs.Steps.{step_taken}
 use Rattle.ns_shard.specs.NextRun.{closing_roster}
-use Rattle.ns_replay.specs.StepLines.{steps}
-
--- the step of a line, made by the one worker of a recorded run
-abbrev pub step_of : Act → Step
-step_of act = record { worker = 0; act = act }
+use Rattle.ns_steps.specs.StepLines.{steps, step_of, ended}
 
 -- what comes of lines, one after the other, after the steps of the lines before them: nothing where a line is no step line
 abbrev pub all_lines : Network → List Step → List (Option Act) → List (Option Taken)
@@ -42,10 +38,6 @@ lines_of uplinks None = refusal_text (codes "refused line") None ∷ []
 lines_of uplinks (Some (Link fault)) = refusal_text (codes "refused G") (Some (link_fault.number fault)) ∷ []
 lines_of uplinks (Some (View fault)) = refusal_text (codes "refused V") (Some (view_fault.number fault)) ∷ []
 lines_of uplinks (Some (Made shard number answer)) = answer_lines uplinks answer
-
--- a line with its line feed
-abbrev pub ended : List ℕ → List ℕ
-ended line = line ++ 10 ∷ []
 
 abbrev pub text_of : Output → Option Taken → List ℕ
 text_of uplinks taken = flat_map ended (lines_of uplinks taken)

@@ -1,4 +1,3 @@
 -- For private clauses alone: no promise rests on these.
 pub mod Lines
-pub mod HexDigits
 pub mod Found

@@ -1,23 +1,10 @@
-//! Laws of step lines, as contracts of functions that do nothing.
+//! A law of what is written, as the contract of a function that does nothing.
 
-ghost use Rattle.std.specs.Prelude.{◌≡◌, ◌↔◌, ℕ, List, Some};
+ghost use Rattle.std.specs.Prelude.{◌≡◌};
 ghost use Rattle.ns_calls.specs.declared.answer.Answer.{Answer};
 ghost use Rattle.ns_lines.specs.Text.{text};
 ghost use Rattle.ns_events.specs.declared.output.Output.TheVariants.{Lines};
 ghost use Rattle.ns_replay.specs.Output.{answer_lines};
-ghost use Rattle.ns_shard.specs.declared.step.Act.{Act};
-ghost use Rattle.ns_replay.specs.Spelled.{AreLines, Spells};
-ghost use Rattle.ns_replay.specs.StepLines.{raw_lines, step};
-
-/// The lines of a text are those that it spells: each but perhaps the last has a line feed behind it, and none has one in it.
-pub fn lines_are_spelled()
-    ensures { (text : List ℕ) (lines : List (List ℕ)) → (raw_lines text ≡ lines) ↔ AreLines text lines }
-{}
-
-/// A line asks for a step exactly where it spells that step.
-pub fn steps_are_spelled()
-    ensures { (line : List ℕ) (act : Act) → (step line ≡ Some act) ↔ Spells line act }
-{}
 
 /// As lines, what is written of an answer is its text, as `lines` of `ns_lines` gives it.
 pub fn lines_are_the_text()

@@ -8,16 +8,16 @@ ghost use Rattle.ns_events.specs.declared.output.Output.{Output};
 ghost use Rattle.ns_shard.specs.declared.step.Act.{Act};
 ghost use Rattle.ns_shard.specs.declared.step.Step.{Step};
 ghost use Rattle.ns_shard.specs.Steps.{AreAfter, AreReached};
-ghost use Rattle.ns_replay.specs.StepLines.{step, steps};
+ghost use Rattle.ns_steps.specs.StepLines.{step, steps};
 ghost use Rattle.ns_replay.specs.Private.Lines.{line_taken, steps_in};
 ghost use Rattle.ns_replay.specs.Private.Found.{Has, FoundIn, Longer};
 
-use crate::step_lines::{place_of, step};
 use crate::taken::put_taken;
 use ns_events::Output;
 use ns_lines::Line;
 use ns_roster::Roster;
 use ns_shard::{Act, Shards, Step, Taken};
+use ns_steps::{place_of, step};
 use ns_types::{ReadFault, Source};
 use std::alloc::{AllocError, Global};
 use std::sync::Arc;

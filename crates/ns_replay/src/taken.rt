@@ -4,7 +4,8 @@ ghost use Rattle.std.specs.Prelude.{◌≡◌, ◌≤◌, ◌++◌, None, length
 ghost use Rattle.std.specs.Option.{option_to_list};
 ghost use Rattle.ns_events.specs.Output.{line_of};
 ghost use Rattle.ns_events.specs.Uplink.{uplink_json};
-ghost use Rattle.ns_replay.specs.Output.{refusal_text, ended, answer_lines, text_of};
+ghost use Rattle.ns_steps.specs.StepLines.{ended};
+ghost use Rattle.ns_replay.specs.Output.{refusal_text, answer_lines, text_of};
 
 use itoa::Buffer;
 use ns_calls::Uplink;

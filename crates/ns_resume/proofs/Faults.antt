@@ -13,7 +13,7 @@ use Rattle.ns_shard.specs.declared.step.Step.{Step}
 use Rattle.ns_shard.specs.State.{State}
 use Rattle.ns_shard.specs.Steps.{call_taken, shard_history}
 use Rattle.ns_shard.proofs.Entries.{answer-is}
-use Rattle.ns_replay.specs.Output.{ended}
+use Rattle.ns_steps.specs.StepLines.{ended}
 use Rattle.ns_record.specs.StepText.{ReadsBack}
 use Rattle.ns_resume.specs.declared.fault.RecordFault.{RecordFault}
 use Rattle.ns_resume.specs.declared.fault.RecordFault.TheVariants.{NoStep, NoFit}

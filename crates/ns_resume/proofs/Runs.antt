@@ -14,8 +14,7 @@ use Rattle.ns_calls.specs.Shards.{shard_of_call}
 use Rattle.ns_shard.specs.declared.step.Step.{Step}
 use Rattle.ns_shard.specs.Steps.{shard_history, step_taken, AreAfter}
 use Rattle.ns_shard.specs.declared.run.Taken.TheVariants.{Made}
-use Rattle.ns_replay.specs.StepLines.{step}
-use Rattle.ns_replay.specs.Output.{ended, step_of}
+use Rattle.ns_steps.specs.StepLines.{ended, step, step_of}
 use Rattle.ns_record.specs.StepText.{ReadsBack}
 use Rattle.ns_resume.specs.declared.run.Resumed.{Resumed}
 use Rattle.ns_resume.specs.declared.run.Running.{Running}

@@ -2,7 +2,7 @@
 use Rattle.std.proofs.Common.{◌≡◌, ℕ, List, [], ◌∷◌, ◌++◌, length, length-append, Option, refl, sym, ap, ◌∙◌, append_assoc, append-nil, arith}
 use Rattle.std.proofs.KnownBytes.{Consumes-nil}
 use Rattle.std.proofs.lemmas.List.{nil_from_length}
-use Rattle.ns_replay.specs.Output.{ended}
+use Rattle.ns_steps.specs.StepLines.{ended}
 use Rattle.ns_resume.specs.Resumed.{AreUps}
 use Rattle.ns_resume.specs.Private.Ups.{GoOn}
 use Rattle.ns_resume.specs.declared.ups.Ups.{Ups}

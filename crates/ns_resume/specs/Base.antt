@@ -2,7 +2,7 @@
 use Rattle.std.specs.Prelude.{ℕ, List, [], ◌++◌, codes, Option, None, Some}
 use Rattle.std.specs.Int.{w64, to_be_bytes}
 use Rattle.hex.specs.Hex.{encode_lower}
-use Rattle.ns_replay.specs.Output.{ended}
+use Rattle.ns_steps.specs.StepLines.{ended}
 use Rattle.ns_resume.specs.declared.base.Base.{Base}
 
 -- `base LINES UPS`, each number of sixteen hex digits

@@ -17,8 +17,7 @@ use Rattle.ns_shard.specs.declared.run.Taken.{Taken}
 use Rattle.ns_shard.specs.declared.run.Taken.TheVariants.{Link, View, Made}
 use Rattle.ns_shard.specs.State.{State, Keeps, seen, open_tickets_in, after_trim}
 use Rattle.ns_shard.specs.Steps.{shard_history, step_taken, all_taken}
-use Rattle.ns_replay.specs.StepLines.{step}
-use Rattle.ns_replay.specs.Output.{ended, step_of}
+use Rattle.ns_steps.specs.StepLines.{ended, step, step_of}
 use Rattle.ns_resume.specs.declared.fault.RecordFault.{RecordFault}
 use Rattle.ns_resume.specs.declared.fault.RecordFault.TheVariants.{NoStep, NoFit}
 use Rattle.ns_resume.specs.declared.run.Resumed.{Resumed}

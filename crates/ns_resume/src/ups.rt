@@ -2,7 +2,7 @@
 
 ghost use Rattle.std.specs.Prelude.{◌≡◌, ℕ, List, [], ◌++◌, OnOk, IfOk, IfErr};
 ghost use Rattle.std.specs.Io.KnownBytes.{Consumes};
-ghost use Rattle.ns_replay.specs.Output.{ended};
+ghost use Rattle.ns_steps.specs.StepLines.{ended};
 ghost use Rattle.ns_resume.specs.Resumed.{AreUps, IsAllOf};
 ghost use Rattle.ns_resume.specs.Private.Ups.{GoOn};
 ghost use Rattle.ns_resume.specs.Private.Lines.{feed_of, is_front, IsFrontOf};

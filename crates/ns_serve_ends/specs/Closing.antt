@@ -4,7 +4,8 @@ use Rattle.ns_roster.specs.Network.{Network}
 use Rattle.ns_roster.specs.Closing.{network_text, with_greatest}
 use Rattle.ns_shard.specs.State.{State}
 use Rattle.ns_server.specs.Settled.{greatest_of}
-use Rattle.ns_serve_parts.specs.Output.{line, settled_line}
+use Rattle.ns_serve_parts.specs.Lines.{line}
+use Rattle.ns_serve_streams.specs.Output.{settled_line}
 
 -- the text of the closing roster
 abbrev pub roster_text : Network → List State → List ℕ

@@ -4,7 +4,7 @@ ghost use Rattle.std.specs.Io.KnownBytes.{Appends, append_known};
 ghost use Rattle.ns_server.specs.Drain.{NoneOpen, EachIsClosed};
 ghost use Rattle.ns_workers.specs.Lines.{AppendsLine};
 ghost use Rattle.ns_serve_ends.specs.Closing.{last_lines};
-ghost use Rattle.ns_serve_parts.specs.Output.{Grows, EndsIn, Sends};
+ghost use Rattle.ns_serve_streams.specs.Output.{Grows, EndsIn, Sends};
 
 use crate::closing::closing_text;
 use crate::fault::no_memory;
@@ -15,9 +15,11 @@ use ns_lines::up_line;
 use ns_outside::{Downlinks, Receipt};
 use ns_roster::Roster;
 use ns_serve_events::record_call;
-use ns_serve_parts::{Output, ServeFault};
+use ns_serve_parts::ServeFault;
+use ns_serve_queues::{note_event, take_notices, times_of};
 use ns_serve_sockets::ToSocket;
-use ns_serve_state::{State, log_unsent, note_event, now_ms, take_notices, times_of};
+use ns_serve_state::{State, log_unsent, now_ms};
+use ns_serve_streams::Output;
 use ns_server::{Naming, Settled};
 use ns_types::Sink;
 use std::alloc::Global;
@@ -46,7 +48,7 @@ fn put_uplink<R: Clock, W: Sink>(
 }
 
 // Puts the closing of a window down, writes what goes up with it, and sends what goes down.
-#[tactic(auto, using(ns_serve_parts::proofs::OutputLemmas::sends_none, ns_workers::proofs::WrittenLines::line_none))]
+#[tactic(auto, using(ns_serve_streams::proofs::OutputLemmas::sends_none, ns_workers::proofs::WrittenLines::line_none))]
 fn hand_out<R: Wait + Clock + Log, W: Sink, D: Downlinks<R>>(
     rt: &R,
     state: &State,
@@ -74,7 +76,7 @@ fn hand_out<R: Wait + Clock + Log, W: Sink, D: Downlinks<R>>(
 }
 
 // Adds the joins and acknowledgements that were told.
-#[tactic(auto, using(ns_serve_parts::proofs::OutputLemmas::grows_none, ns_serve_parts::proofs::OutputLemmas::grows_more,))]
+#[tactic(auto, using(ns_serve_streams::proofs::OutputLemmas::grows_none, ns_serve_streams::proofs::OutputLemmas::grows_more,))]
 fn put_notices<R: Wait, W: Sink>(
     rt: &R,
     state: &State,
@@ -91,7 +93,7 @@ fn put_notices<R: Wait, W: Sink>(
 }
 
 // Closes all windows that are still open, the oldest of each shard first.
-#[tactic(auto, using(ns_serve_parts::proofs::OutputLemmas::grows_none, crate::proofs::DrainLemmas::grows_some,))]
+#[tactic(auto, using(ns_serve_streams::proofs::OutputLemmas::grows_none, crate::proofs::DrainLemmas::grows_some,))]
 fn drain<B: Naming, R: Wait + Clock + Log, W: Sink>(
     rt: &R,
     state: &State,

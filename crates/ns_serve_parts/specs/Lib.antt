@@ -1,5 +1,5 @@
 pub mod Asks
 pub mod Counts
 pub mod Ends
-pub mod Output
+pub mod Lines
 pub mod Wall

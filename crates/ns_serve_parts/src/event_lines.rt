@@ -1,7 +1,7 @@
 //! The lines of events until they are written.
 ghost use Rattle.std.specs.Prelude.{◌≡◌, ◌++◌, []};
 ghost use Rattle.std.specs.Bool.{OnTrue, OnFalse};
-ghost use Rattle.ns_serve_parts.specs.Output.{line};
+ghost use Rattle.ns_serve_parts.specs.Lines.{line};
 
 use std::alloc::Global;
 use std::mem;

@@ -1,28 +1,24 @@
 //! What all threads of a server over sockets share, and how a thread reaches it.
 //!
-//! `State` has the sockets, the queue of tickets, the counters, the record and the status. Around it stand the workers' clock and jobs, the
-//! lines of joins and acknowledgements (`note_event`), and when the record of their calls is written (`write_record`). Who is told what
-//! happens is `ns_serve_events`', datagrams and downlinks are `ns_serve_sockets`', and answers over HTTP `ns_serve_status`'. Which workers
-//! hear forwarders is a contract; what stands under a lock and what the system does is shown by tests alone.
-//! The crate stands on `ns_serve_parts`, on `ns_outside` for what the workers ask of what stands round them, on `ns_calls`, `ns_events`,
-//! `ns_forwarder`, `ns_forwarder_socket`, `ns_front`, `ns_roster` and `ns_types`, on `ns_record_files` for the record, on `ns_status`, and
-//! on `crossbeam_channel` and `log` of the kit.
+//! `State` has the sockets, the queue of tickets, the counters, the record and the status. Around it stand the clock, what is logged, and
+//! when the record of the workers' calls is written (`write_record`). How workers wait and what they hand each other is `ns_serve_queues`';
+//! who is told what happens `ns_serve_events`'; datagrams and downlinks are `ns_serve_sockets`', and answers over HTTP `ns_serve_status`'.
+//! Which workers hear forwarders is a contract; what stands under a lock and what the system does is shown by tests alone.
+//! The crate stands on `ns_serve_parts`, on `ns_outside` for tickets and receipts, on `ns_calls`, `ns_events`, `ns_forwarder`,
+//! `ns_forwarder_socket`, `ns_front`, `ns_roster` and `ns_types`, on `ns_record_files` for the record, on `ns_status`, and on `log` of the
+//! kit.
 #![tactic(auto)]
 
-mod channels;
 mod clock;
 mod logged;
-mod notices;
 mod queue;
 mod record;
 mod state;
 mod status;
 
-pub use channels::{IntoQueues, hand_on};
-pub use clock::{SinceMoment, SinceStart, closing_of, nap_ms, now_ms, times_of};
+pub use clock::{closing_of, now_ms};
 pub use logged::{Seldoms, log_at, log_counts, log_message, log_seldom, log_unsent};
-pub use notices::{note_event, take_notices};
-pub use queue::FromQueue;
+pub use queue::AskQueue;
 pub use record::{has_failed, log_failure, look_after_record, rest_record, write_record};
 pub use state::State;
 pub use status::{BATCH, Status};

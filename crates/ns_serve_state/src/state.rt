@@ -132,7 +132,7 @@ pub struct State {
     /// Frames whose windows were closed a while ago.
     pub lates: Lates,
     /// The tickets that wait for a join worker.
-    pub(crate) asks: AskQueue,
+    pub asks: AskQueue,
     /// By which gateways devices asked to join.
     pub askers: Mutex<Askers>,
     /// How many entries each shard has.

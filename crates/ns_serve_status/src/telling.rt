@@ -3,8 +3,8 @@
 ghost use Rattle.std.specs.Prelude.{None};
 ghost use Rattle.std.specs.Io.{ReadsAtMost, WritesAtMost};
 
-use ns_serve_parts::write_whole;
 use ns_serve_state::{BATCH, State, Status, now_ms};
+use ns_serve_streams::write_whole;
 use ns_status::{
     Content, Lists, Request, RequestFault, Route, Status as Answer, Totals, head_of, page_text,
     put_devices, put_end, put_front, put_gateways, put_metrics, read_request,

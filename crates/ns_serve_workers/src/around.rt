@@ -3,8 +3,8 @@ ghost use Rattle.std.specs.Prelude.{◌≡◌};
 
 use ns_exchange::HostName;
 use ns_roster::Roster;
-use ns_serve_parts::Output;
 use ns_serve_state::State;
+use ns_serve_streams::Output;
 use ns_workers::Shared;
 use std::alloc::Global;
 use std::net::SocketAddr;

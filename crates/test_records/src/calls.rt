@@ -3,9 +3,9 @@
 use crate::worked::{ROSTER, roster_of};
 use ns_calls::{Answer, Call, shard_of_call};
 use ns_lines::lines;
-use ns_replay::step;
 use ns_roster::Roster;
 use ns_shard::Shard;
+use ns_steps::step;
 use std::alloc::Global;
 use std::sync::Arc;
 

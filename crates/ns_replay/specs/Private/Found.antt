@@ -7,7 +7,7 @@ use Rattle.ns_shard.specs.declared.step.Act.{Act}
 use Rattle.ns_shard.specs.Steps.{AreAfter}
 use Rattle.ns_replay.specs.declared.reading.Answers.{Answers}
 use Rattle.ns_replay.specs.Output.{all_lines, text_of}
-use Rattle.ns_replay.specs.StepLines.{steps}
+use Rattle.ns_steps.specs.StepLines.{steps}
 use Rattle.ns_replay.specs.Private.Lines.{steps_in}
 
 -- the shards are those after the steps of these lines, and the text is what is written of the lines

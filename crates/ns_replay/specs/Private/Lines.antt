@@ -5,7 +5,7 @@ use Rattle.ns_shard.specs.declared.step.Act.{Act}
 use Rattle.ns_shard.specs.declared.step.Step.{Step}
 use Rattle.ns_shard.specs.declared.run.Taken.{Taken}
 use Rattle.ns_shard.specs.Steps.{step_taken}
-use Rattle.ns_replay.specs.Output.{step_of}
+use Rattle.ns_steps.specs.StepLines.{step_of}
 
 abbrev pub steps_in : List (Option Act) → List Step
 steps_in lines = map step_of (filter_map (λ line. line) lines)

@@ -9,7 +9,7 @@ use Rattle.ns_shard.specs.declared.step.Act.{Act}
 use Rattle.ns_shard.specs.declared.step.Step.{Step}
 use Rattle.ns_shard.specs.Taken.{call_of}
 use Rattle.ns_shard.specs.State.{State, answer_in}
-use Rattle.ns_replay.specs.StepLines.{step}
+use Rattle.ns_steps.specs.StepLines.{step}
 use Rattle.ns_resume.specs.Resumed.{IsNoStep, DoesNotFit}
 use Rattle.ns_resume.specs.declared.fault.RecordFault.{RecordFault}
 use Rattle.ns_resume.specs.declared.fault.RecordFault.TheVariants.{NoStep, NoFit}

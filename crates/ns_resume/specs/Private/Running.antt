@@ -10,8 +10,8 @@ use Rattle.ns_lines.specs.Text.{has_line_feed}
 use Rattle.ns_recorded.specs.Recorded.{matters}
 use Rattle.ns_shard.specs.declared.step.Step.{Step}
 use Rattle.ns_shard.specs.State.{State, answer_in, after_call}
-use Rattle.ns_replay.specs.StepLines as lines
-use Rattle.ns_replay.specs.Output.{ended}
+use Rattle.ns_steps.specs.StepLines as lines
+use Rattle.ns_steps.specs.StepLines.{ended}
 use Rattle.ns_resume.specs.Resumed.{AreStepsOf, AreResumed, AllFit, AreUps, MayBeTrimmed, ups_since}
 use Rattle.ns_resume.specs.declared.run.Running.{Running}
 

@@ -4,12 +4,13 @@ use crate::commands::stand_in::StandIn;
 use crate::commands::words::words_of;
 use log::sink::Discard;
 use ns_commands::{
-    End, Fault, compact, concluded, ended, of_reading, of_replay, of_roster, of_serve, read_roster,
-    refused, run_replay, time_text,
+    End, Fault, concluded, ended, of_reading, of_replay, of_roster, of_serve, read_roster, refused,
+    run_replay, time_text,
 };
 use ns_replay::ReplayFault;
 use ns_roster::RosterFault;
 use ns_serve_parts::ServeFault;
+use ns_upkeep::compact;
 use ns_words::{Asked, BadWords, read_words};
 use std::alloc::Global;
 use std::io::ErrorKind;

@@ -3,8 +3,9 @@
 use crate::commands::stand_in::{LIMIT, SINCE_1970, SINCE_START, StandIn};
 use log::info;
 use log::sink::Discard;
-use ns_commands::{Logging, Timed, VARIABLE, compact, run_replay};
+use ns_commands::{Logging, Timed, VARIABLE, run_replay};
 use ns_events::Output;
+use ns_upkeep::compact;
 use std::io::ErrorKind;
 use std::net::{Net, SocketAddr};
 use std::time::{Clock, Duration};

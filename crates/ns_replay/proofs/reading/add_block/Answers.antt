@@ -1,7 +1,7 @@
 use Rattle.std.proofs.Common.{◌≡◌, ◌+◌, ◌++◌, ◌∷◌, [], List, ℕ, take, length, rules, ap, sym, ◌∙◌, subst, append_assoc, arith, inl, inr, ◌≤◌}
 use Rattle.std.proofs.lemmas.List.{take_rest}
 use Rattle.ns_replay.specs.Private.Found.{FoundIn}
-use Rattle.ns_replay.proofs.LineLemmas.{feed_at, unended_before, unended_all}
+use Rattle.ns_steps.proofs.LineLemmas.{feed_at, unended_before, unended_all}
 use Rattle.ns_replay.proofs.FoundLemmas.{found_line, found_part}
 use Rattle.ns_replay.proofs.reading.add_block.Goals as goal
 

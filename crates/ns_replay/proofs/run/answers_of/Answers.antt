@@ -2,8 +2,7 @@ use Rattle.std.proofs.Common.{◌≡◌, ◌++◌, [], cond, rules, subst, IfSom
 use Rattle.std.specs.Arc.{arc_value}
 use Rattle.ns_roster.specs.Closing.{network_text, with_greatest}
 use Rattle.ns_shard.specs.NextRun.{greatest_among}
-use Rattle.ns_replay.specs.Output.{ended}
-use Rattle.ns_replay.specs.StepLines.{steps}
+use Rattle.ns_steps.specs.StepLines.{ended, steps}
 use Rattle.ns_replay.specs.Private.Found.{Has}
 use Rattle.ns_replay.proofs.ClosingLemmas.{answered}
 use Rattle.ns_replay.proofs.run.answers_of.Goals as goal

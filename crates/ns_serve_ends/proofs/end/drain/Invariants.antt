@@ -1,5 +1,5 @@
 use Rattle.std.specs.Io.KnownBytes.{append_known}
-use Rattle.ns_serve_parts.specs.Output.{Grows}
+use Rattle.ns_serve_streams.specs.Output.{Grows}
 use Rattle.ns_serve_ends.proofs.end.drain.Given as goal
 
 abbrev pub invariant-loop-turn : goal.invariant-loop-turn

@@ -6,7 +6,7 @@ use Rattle.ns_roster.specs.Network.{Network}
 use Rattle.ns_calls.specs.declared.answer.Uplink.{Uplink}
 use Rattle.ns_lines.specs.Text.{up_text}
 use Rattle.ns_shard.specs.declared.step.Step.{Step}
-use Rattle.ns_replay.specs.Output.{ended}
+use Rattle.ns_steps.specs.StepLines.{ended}
 use Rattle.ns_resume.specs.declared.ups.Ups.{Ups}
 use Rattle.ns_resume.specs.Resumed.{AreUps}
 use Rattle.ns_resume.specs.Private.Ups.{GoOn}

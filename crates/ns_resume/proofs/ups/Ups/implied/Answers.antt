@@ -1,7 +1,7 @@
 use Rattle.std.proofs.Common.{◌≡◌, ℕ, List, [], ◌∷◌, ◌++◌, length, subst, sym, ap, ◌∙◌, append-nil, arith}
 use Rattle.std.proofs.KnownBytes.{Consumes-nil}
 use Rattle.std.specs.Io.KnownBytes.{Consumes}
-use Rattle.ns_replay.specs.Output.{ended}
+use Rattle.ns_steps.specs.StepLines.{ended}
 use Rattle.ns_resume.specs.declared.ups.Ups.{Ups}
 use Rattle.ns_resume.specs.Resumed.{AreUps}
 use Rattle.ns_resume.specs.Private.Lines.{feed_of}

@@ -1,0 +1,4 @@
+pub mod HexText
+pub mod StepLines
+pub mod Spelled
+pub mod Private
