@@ -1,7 +1,7 @@
 #!/usr/bin/env python3
 """Measures `lorawan_ns serve` over loopback, beside the same server in plain Rust, the same that does also what the interface of the proved
-one asks for (`--asked`), and a program that only receives (all bench/plain_server), with 1, 2 and 4 workers that hear gateways; and with
-gateways that are packet forwarders.
+one asks for (`--asked`), both with workers that rest while others are enough (`--rest`) as those of the proved one and without, and a program
+that only receives (all bench/plain_server), with 1, 2 and 4 workers that hear gateways; and with gateways that are packet forwarders.
 
     rustc -O --edition 2021 -o PLAIN bench/plain_server/main.rs
     python3 bench/serve.py PROGRAM PLAIN [--workers N,..] [--devices N] [--copies N] [--frames N] [--confirmed SHARE] [--window MS]
@@ -31,7 +31,7 @@ HEAD = ('Program', 'Workers', 'Top, datagrams a second', 'Dropped', 'us each', '
         'Delay ms, median', '99 in 100', 'Most', 'Bytes a datagram')
 
 # The servers that hear own datagrams.
-OWN = ('proved', 'plain', 'plain, asked')
+OWN = ('proved', 'plain', 'plain, resting', 'plain, asked', 'plain, asked, resting')
 
 
 def row(cells):
@@ -84,6 +84,7 @@ def ratios(names, found):
     """What each program takes beside another, where both were measured."""
     cost = {name: took.cost() for name, took in zip(names, found)}
     pairs = (('proved', 'plain'), ('proved', 'plain, asked'), ('plain, asked', 'plain'), ('plain', 'receives only'),
+             ('proved', 'plain, resting'), ('proved', 'plain, asked, resting'), ('plain, asked, resting', 'plain, resting'),
              ('proved, packet forwarders', 'proved'))
     return ', '.join('%s to %s %.2f' % (one, other, cost[one] / cost[other]) for one, other in pairs if one in cost and other in cost)
 
@@ -139,8 +140,11 @@ def main():
                 ('proved, packet forwarders', [options.program, 'serve', roster] + [
                     '--forwarders' if word == '--listen' else word for word in serves], True),
                 ('plain', [options.plain, 'serve', roster] + serves, True),
+                ('plain, resting', [options.plain, 'serve', roster] + serves + ['--rest'], True),
                 ('plain, asked', [options.plain, 'serve', roster] + serves + ['--asked'], True),
-                ('receives only', [options.plain, 'receive'] + more, False)) if not options.own or name in OWN]
+                ('plain, asked, resting', [options.plain, 'serve', roster] + serves + ['--asked', '--rest'], True),
+                ('receives only', [options.plain, 'receive'] + more, False))
+                if (not options.own or name in OWN) and (workers != '1' or 'resting' not in name)]
             tops = [None] * len(programs) if options.rate else best_of(programs, [0] * len(programs), options)
             halves = best_of(programs, [options.rate or top.taken() / top.seconds / 2 for top in tops], options)
             for one, top, half in zip(programs, tops, halves):

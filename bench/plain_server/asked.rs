@@ -13,6 +13,7 @@
 //!
 //! Session keys stay expanded, maps hash by one multiplication, and nothing that is not listed is done: no log, no record, no status.
 
+use crate::rest::Pace;
 use crate::serve::{CloseJob, Live};
 use crate::*;
 use std::net::SocketAddr;
@@ -286,9 +287,9 @@ impl Live<'_> {
     /// Answers datagrams.
     pub fn hear_asked(&self, asked: &Asked, closes: &Sender<CloseJob>, asks: &Sender<Ticket>) {
         let (mut buffer, mut receipt, mut noted) = ([0; 512], Receipt::empty(), Noted([(0, None, 0); 64]));
-        let mut call = Receipt::empty().call;
+        let (mut call, mut pace) = (Receipt::empty().call, Pace::default());
         while self.read.load(Ordering::SeqCst) < self.options.stop_after {
-            let Ok((len, peer)) = self.socket.recv_from(&mut buffer) else { continue };
+            let Ok((len, peer)) = self.receive(&mut pace, &mut buffer) else { continue };
             if self.read.fetch_add(1, Ordering::SeqCst) >= self.options.stop_after {
                 break;
             }

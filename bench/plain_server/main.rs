@@ -3,7 +3,8 @@
 //!     rustc -O --edition 2021 -o plain_server bench/plain_server/main.rs
 //!     plain_server replay ROSTER < STEPS     prints what `lorawan_ns replay ROSTER` prints
 //!     plain_server serve ROSTER --join ADDR [--listen ADDR] [--workers N] [--join-workers N] [--window MS] [--stop-after N] [--asked]
-//!                                            does what `lorawan_ns serve` does; with --asked also what its interface asks for (asked.rs)
+//!                  [--rest]                  does what `lorawan_ns serve` does; with --asked also what its interface asks for (asked.rs); with
+//!                                            --rest workers rest while others are enough (rest.rs)
 //!     plain_server receive [--listen ADDR] [--workers N]     receives datagrams by the same calls and does nothing with them
 //!     plain_server sizes                     prints the sizes of its types in bytes
 //!
@@ -25,6 +26,7 @@ mod aes;
 mod asked;
 mod json;
 mod lines;
+mod rest;
 mod serve;
 
 use aes::*;

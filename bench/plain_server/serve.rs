@@ -5,6 +5,7 @@
 //! closer waits.
 
 use crate::asked::Asked;
+use crate::rest::{Pace, Resting};
 use crate::*;
 use std::io::Read;
 use std::net::{SocketAddr, TcpStream, UdpSocket};
@@ -26,15 +27,17 @@ pub struct Options {
     pub stop_after: u64,
     /// Whether all is done that the interface of the proved server asks for (`asked.rs`).
     asked: bool,
+    /// Whether gateway workers rest while the others are enough (`rest.rs`).
+    rest: bool,
 }
 
 impl Options {
     fn read(words: &[&str]) -> Result<Options, String> {
         let addr = SocketAddr::from(([127, 0, 0, 1], 0));
         let window = Duration::from_millis(200);
-        let asked = words.contains(&"--asked");
-        let words: Vec<&str> = words.iter().copied().filter(|word| *word != "--asked").collect();
-        let mut found = Options { join: addr, listen: addr, workers: 4, join_workers: 1, window, stop_after: u64::MAX, asked };
+        let (asked, rest) = (words.contains(&"--asked"), words.contains(&"--rest"));
+        let words: Vec<&str> = words.iter().copied().filter(|word| !["--asked", "--rest"].contains(word)).collect();
+        let mut found = Options { join: addr, listen: addr, workers: 4, join_workers: 1, window, stop_after: u64::MAX, asked, rest };
         for pair in words.chunks(2) {
             let value = *pair.get(1).ok_or("an option without its value")?;
             let bad = |_| format!("bad value: {value}");
@@ -57,7 +60,8 @@ impl Options {
 pub struct Live<'a> {
     pub roster: &'a Roster,
     pub options: Options,
-    pub socket: UdpSocket,
+    socket: UdpSocket,
+    resting: Resting,
     shards: Vec<Mutex<Shard>>,
     pub peers: Mutex<Map<SocketAddr>>,
     pub read: AtomicU64,
@@ -104,10 +108,10 @@ pub fn serve(roster: &Roster, words: &[&str]) -> Result<(), String> {
         true => (Vec::new(), Some(Asked::new(shards_of(roster)))),
     };
     let shards = shards.into_iter().map(Mutex::new).collect();
-    let (peers, read, listening, output) = Default::default();
+    let (peers, read, listening, output, resting) = Default::default();
     let output: Mutex<Vec<u8>> = output;
     let output = Mutex::new(Text(output.into_inner().unwrap()));
-    let live = Live { roster, options, socket, shards, peers, read, listening, output };
+    let live = Live { roster, options, socket, resting, shards, peers, read, listening, output };
     live.listening.store(workers, Ordering::SeqCst);
     let (closes, close_jobs) = channel();
     let (asks, ask_jobs) = channel();
@@ -142,11 +146,27 @@ pub fn serve(roster: &Roster, words: &[&str]) -> Result<(), String> {
 }
 
 impl Live<'_> {
+    /// Receives the next datagram.
+    pub fn receive(&self, pace: &mut Pace, buffer: &mut [u8; 512]) -> io::Result<(usize, SocketAddr)> {
+        if !self.options.rest || self.options.workers == 1 {
+            return self.socket.recv_from(buffer);
+        }
+        if std::mem::take(&mut pace.waited) {
+            self.resting.rest(self.options.workers);
+        }
+        let start = Instant::now();
+        let heard = self.socket.recv_from(buffer)?;
+        if pace.comes(start.elapsed()) {
+            self.resting.wake();
+        }
+        Ok(heard)
+    }
+
     /// Answers datagrams.
     fn hear(&self, closes: &Sender<CloseJob>, asks: &Sender<Ticket>) {
-        let mut buffer = [0; 512];
+        let (mut buffer, mut pace) = ([0; 512], Pace::default());
         while self.read.load(Ordering::SeqCst) < self.options.stop_after {
-            let Ok((len, peer)) = self.socket.recv_from(&mut buffer) else { continue };
+            let Ok((len, peer)) = self.receive(&mut pace, &mut buffer) else { continue };
             if self.read.fetch_add(1, Ordering::SeqCst) >= self.options.stop_after {
                 break;
             }

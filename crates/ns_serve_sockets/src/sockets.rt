@@ -7,6 +7,7 @@ ghost use Rattle.ns_front.specs.Front.{seen_of, NamesFrame};
 ghost use Rattle.ns_front.specs.Noted.{IsNoted};
 ghost use Rattle.ns_serve_sockets.specs.Front.{NotesAt, NotesNamed};
 
+use crate::pace::Pace;
 use log::{Log, error, warn};
 use ns_calls::Downlink;
 use ns_forwarder_socket::{Event, Pending};
@@ -20,7 +21,7 @@ use std::io::{Error, ErrorKind};
 use std::net::{SocketAddr, UdpSocket};
 use std::sync::Wait;
 use std::sync::atomic::Ordering;
-use std::time::{Clock, Duration};
+use std::time::{Clock, Duration, Instant};
 use std::{io, thread};
 
 // The counts are looked at after so many datagrams, and whenever none comes.
@@ -42,6 +43,16 @@ pub struct FromSocket<'a> {
     failures: u32,
     // The gateways that it heard last.
     noted: NotedPeers,
+    // How its last datagrams came.
+    pace: Pace,
+}
+
+// How long ago a receive began, nothing where the clock does not tell.
+fn since<R: Clock>(rt: &R, start: io::Result<Instant>) -> Duration {
+    match start {
+        Ok(start) => start.elapsed(rt).unwrap_or(Duration::ZERO),
+        Err(_) => Duration::ZERO,
+    }
 }
 
 // What follows a receive that gave nothing.
@@ -76,7 +87,28 @@ impl<'a> FromSocket<'a> {
             pending,
             failures: 0,
             noted: NotedPeers::new(),
+            pace: Pace::new(),
         }
+    }
+
+    // Receives one of this server's own datagrams. Where workers rest, one of them is woken after many datagrams that were there before.
+    fn receive_own<R: Wait + Clock>(
+        &mut self,
+        rt: &R,
+        socket: &UdpSocket,
+        buf: &mut [u8; 512],
+    ) -> io::Result<(usize, SocketAddr)>
+        ensures { IfOk result (λ heard. heard.0 ≤ 512) }
+    {
+        if !self.state.has_resting() {
+            return socket.recv_from(buf);
+        }
+        let start = Instant::now(rt);
+        let heard = socket.recv_from(buf)?;
+        if self.pace.comes(since(rt, start)) {
+            self.state.wake(rt);
+        }
+        Ok(heard)
     }
 
     // Receives what comes next, with where it came from if it is one of this server's own datagrams.
@@ -94,7 +126,7 @@ impl<'a> FromSocket<'a> {
         let Some((socket, _)) = &state.own else {
             return Err(Error::from(ErrorKind::NotConnected));
         };
-        let (n, peer) = socket.recv_from(buf)?;
+        let (n, peer) = self.receive_own(rt, socket, buf)?;
         Ok((Event::Datagram(n), Some(peer)))
     }
 
@@ -249,6 +281,9 @@ impl<'a, R: Wait + Clock + Log> Datagrams<R> for FromSocket<'a> {
         let state = self.state;
         if state.is_over() {
             return Received::End;
+        }
+        if self.pace.rests() {
+            state.rest(rt);
         }
         let (event, peer) = match self.receive(rt, buf) {
             Ok(heard) => heard,

@@ -5,6 +5,7 @@ ghost use Rattle.ns_serve_state.specs.Hearing.{hears_forwarders};
 
 use crate::logged::Seldoms;
 use crate::queue::AskQueue;
+use crate::rest::Resting;
 use crate::status::Status;
 use ns_events::Output;
 use ns_forwarder_socket::{Forwarders, Pending};
@@ -16,7 +17,7 @@ use std::alloc::{AllocError, Global};
 use std::collections::hash_map::RandomState;
 use std::net::{SocketAddr, UdpSocket};
 use std::sync::atomic::{AtomicBool, AtomicU64, Ordering};
-use std::sync::{Arc, Mutex};
+use std::sync::{Arc, Mutex, Wait};
 use std::time::{Clock, Instant};
 
 // For how long a copy is late, in milliseconds: RX1's delay and 1 s, since a device repeats a frame at the earliest after RX2, which
@@ -125,6 +126,8 @@ pub struct State {
     pub ended: Arc<AtomicBool>,
     /// How many gateway workers are at work.
     pub gateways: AtomicU64,
+    /// Those of them that rest.
+    resting: Resting,
     /// Where gateways were last heard.
     pub addresses: Mutex<Addresses>,
     /// How often one of these changed or came. It is written under the lock of `addresses`.
@@ -179,6 +182,7 @@ impl State {
             broken: AtomicBool::new(false),
             ended: parts.ended,
             gateways: AtomicU64::new(0),
+            resting: Resting::new(),
             addresses: parts.addresses,
             address_changes: AtomicU64::new(0),
             lates: parts.lates,
@@ -249,6 +253,21 @@ impl State {
     /// A gateway worker has ended.
     pub fn end_gateway(&self) {
         self.gateways.fetch_sub(1, Ordering::SeqCst);
+    }
+
+    /// Whether gateway workers rest while the others are enough: where there are several, and all hear this server's own datagrams.
+    pub fn has_resting(&self) -> bool {
+        self.forwarders.is_none() && self.gateways.load(Ordering::SeqCst) > 1
+    }
+
+    /// A gateway worker rests until another wakes it, 5 ms at most, and not at all where none other hears datagrams.
+    pub fn rest<R: Wait + Clock>(&self, rt: &R) {
+        self.resting.rest(rt, self.gateways.load(Ordering::SeqCst));
+    }
+
+    /// Wakes a gateway worker that rests, if there is one.
+    pub fn wake<R: Wait>(&self, rt: &R) {
+        self.resting.wake(rt);
     }
 
     /// Whether no further datagram or job is to be taken.

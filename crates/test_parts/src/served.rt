@@ -3,6 +3,7 @@
 mod cases;
 mod counted;
 mod parts;
+mod resting;
 mod shared;
 mod sockets;
 mod standing;
