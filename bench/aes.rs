@@ -1,4 +1,4 @@
-// AES-128 by four tables and AES-CMAC in plain Rust, timed in the same way as `bench_parts aes`.
+// AES-128 by four tables and AES-CMAC in plain Rust, timed in the same way as `worked_texts times aes`.
 use std::hint::black_box;
 use std::time::Instant;
 

@@ -1,5 +1,5 @@
 //! When a gateway worker rests, and when it wakes another.
-ghost use Rattle.std.specs.Prelude.{◌≡◌, true, false, ◌<◌, ◌≤◌, ◌↔◌};
+ghost use Rattle.std.specs.Prelude.{◌≡◌, true, false, ◌+◌, ◌<◌, ◌≤◌, ◌⊎◌, ◌↔◌};
 ghost use Rattle.std.specs.Duration.{as_nanos};
 
 use std::time::Duration;
@@ -28,7 +28,8 @@ pub(crate) struct Pace {
 impl Pace {
     /// None came.
     pub fn new() -> Pace
-        ensures { result.waited ≡ false }
+        ensures none { result.there ≡ 0 }
+        ensures waited { result.waited ≡ false }
     {
         Pace {
             there: 0,
@@ -39,6 +40,8 @@ impl Pace {
     /// A datagram came so long after its receive began: whether another worker is to be woken.
     pub fn comes(&mut self, after: Duration) -> bool
         ensures wakes { (result ≡ true) ↔ ((as_nanos after < 10_000) × (63 ≤ self.old.there)) }
+        ensures counts { as_nanos after < 10_000 → self.old.there < 63 → self.new.there ≡ self.old.there + 1 }
+        ensures anew { (10_000 ≤ as_nanos after) ⊎ (63 ≤ self.old.there) → self.new.there ≡ 0 }
         ensures waited { (self.new.waited ≡ true) ↔ ((25_000 ≤ as_nanos after) × (as_nanos after < 1_000_000)) }
     {
         let after = after.as_nanos();
@@ -59,6 +62,7 @@ impl Pace {
     pub fn rests(&mut self) -> bool
         ensures rests { result ≡ self.old.waited }
         ensures once { self.new.waited ≡ false }
+        ensures same { self.new.there ≡ self.old.there }
     {
         let waited = self.waited;
         self.waited = false;

@@ -39,10 +39,16 @@ struct Sent {
 
 /// An answer of which what goes out lies in memory of its own: an uplink in that of its window, or in no more than it needs. Contracts see
 /// the answer.
-#[derive(Drop)]
 pub struct BoxedAnswer {
     reply: Reply,
     sent: Option<Box<Sent>>,
+}
+
+// Proved here once, where a derived one is proved again by each crate that lets an answer go.
+impl Drop for BoxedAnswer {
+    fn drop(self) {
+        let BoxedAnswer { reply: _, sent: _ } = self;
+    }
 }
 
 impl Model for BoxedAnswer {

@@ -26,9 +26,15 @@ use std::sync::Arc;
 
 /// One of the server's sixteen shards: the calls of its devices, in order, with the plain server's replies. Contracts see the
 /// roster, the shard's number, how many entries were made, and the entries.
-#[derive(Drop)]
 pub struct Shard {
     parts: Parts,
+}
+
+// Proved here once, where a derived one is proved again by each crate that lets a shard go.
+impl Drop for Shard {
+    fn drop(self) {
+        let Shard { parts: _ } = self;
+    }
 }
 
 impl Model for Shard {

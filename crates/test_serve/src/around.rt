@@ -14,29 +14,34 @@ use std::sync::atomic::{AtomicU64, Ordering};
 use std::thread::Threads;
 use std::time::{Clock, Duration};
 
+/// The time at which a clock stands, in milliseconds, or 0 where it goes on, and how often it was read.
+#[derive(Drop)]
+pub struct Held {
+    pub ms: AtomicU64,
+    pub reads: AtomicU64,
+}
+
 /// A runtime that logs into memory. Its clock is the runtime's, or stands at a time.
 #[derive(Drop)]
 pub struct Around<'a, R: Wait> {
     rt: &'a R,
     log: FilteredLog<Locked<&'a R, Vec<u8>>>,
-    // The time at which the clock stands, in milliseconds; 0 where it goes on.
-    stands_ms: &'a AtomicU64,
+    held: &'a Held,
 }
 
-/// A runtime that logs these lines into memory, of which there is room for 64 KB, and whose clock stands at this time in milliseconds, or
-/// goes on where it is 0.
+/// A runtime that logs these lines into memory, of which there is room for 64 KB, and whose clock stands where it is held.
 pub fn logging<'a, R: Wait>(
     rt: &'a R,
     alloc: Global,
     lines: &str,
-    stands_ms: &'a AtomicU64,
+    held: &'a Held,
 ) -> Result<Around<'a, R>, AllocError> {
     let filter = Builder::new(alloc).parse(lines)?.build();
     let lines = Locked::new(rt, Vec::with_capacity(alloc, 65_536)?);
     Ok(Around {
         rt,
         log: FilteredLog::new(lines, filter),
-        stands_ms,
+        held,
     })
 }
 
@@ -46,7 +51,7 @@ impl<'a, R: Wait> Around<'a, R> {
         let Around {
             rt: _,
             log,
-            stands_ms: _,
+            held: _,
         } = self;
         log.into_inner().into_inner()
     }
@@ -58,7 +63,8 @@ impl<'a, R: Threads + Wait> Threads for Around<'a, R> {}
 
 impl<'a, R: Clock + Wait> Clock for Around<'a, R> {
     fn monotonic(&self) -> io::Result<Duration> {
-        match self.stands_ms.load(Ordering::SeqCst) {
+        self.held.reads.fetch_add(1, Ordering::SeqCst);
+        match self.held.ms.load(Ordering::SeqCst) {
             0 => self.rt.monotonic(),
             ms => Ok(Duration::from_millis(ms)),
         }

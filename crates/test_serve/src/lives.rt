@@ -5,6 +5,7 @@ ghost use Rattle.std.specs.Prelude.{IfOk};
 ghost use Rattle.std.specs.Arc.{arc_value};
 ghost use Rattle.ns_serve_shards.specs.Begun.{IsBegun};
 
+use crate::around::Held;
 use crate::parties::{ROSTER_A, ROSTER_B, nap};
 use crate::play::Side::Near;
 use crate::play::Step::{
@@ -70,12 +71,12 @@ const BOTH_UPS: &str =
 // A roster without the device.
 const WITHOUT: &str = r#"{"version":1,"net_id":"000024","rx1_offset":0,"rx_delay":1,"devices":[]}"#;
 
-/// How many lives have ended, how often the record of one was looked after, and the time at which the clock stands, in milliseconds, or 0.
+/// How many lives have ended, how often the record of one was looked after, and the clock.
 #[derive(Drop)]
 pub struct Ended {
     pub lives: AtomicU64,
     pub looks: AtomicU64,
-    pub stands_ms: AtomicU64,
+    pub held: Held,
 }
 
 impl Ended {
@@ -84,7 +85,10 @@ impl Ended {
         Ended {
             lives: AtomicU64::new(0),
             looks: AtomicU64::new(0),
-            stands_ms: AtomicU64::new(stands_ms),
+            held: Held {
+                ms: AtomicU64::new(stands_ms),
+                reads: AtomicU64::new(0),
+            },
         }
     }
 

@@ -21,6 +21,9 @@ const PUSH_DATA: [u8; 12] = [2, 0, 8, 0, 0, 0, 0, 0, 0, 0, 0, 0xa1];
 
 const PUSH_ACK: [u8; 4] = [2, 0, 8, 1];
 
+// How often the clock of a server is read before it has looked at all that came.
+const LOOKS: u64 = 20;
+
 /// One of the two sockets of gateways.
 pub enum Side {
     Near,
@@ -260,9 +263,19 @@ impl<'a, R: Clock + Net> Party<'a, R> {
         is(self.begun.elapsed(self.common.rt).ok()? < Duration::from_millis(ms))
     }
 
+    // The clock stands at this time for a second, and longer where the threads of the server have not read it so often by then.
     fn stand(&self, ms: u64) -> Option<()> {
-        self.common.ended.stands_ms.store(ms, Ordering::SeqCst);
-        self.nap(100)
+        let held = &self.common.ended.held;
+        held.ms.store(ms, Ordering::SeqCst);
+        let before = held.reads.load(Ordering::SeqCst);
+        self.nap(100)?;
+        for _ in 0..1_000 {
+            if held.reads.load(Ordering::SeqCst).wrapping_sub(before) >= LOOKS {
+                return Some(());
+            }
+            self.nap(1)?;
+        }
+        None
     }
 
     fn pull(&mut self) -> Option<()> {

@@ -430,7 +430,7 @@ where
 {
     let alloc: Global = host.alloc();
     let mut output: Vec<u8> = Vec::with_capacity(alloc, 4096).ok()?;
-    let around = logging(rt, alloc, trial.levels, &ended.stands_ms).ok()?;
+    let around = logging(rt, alloc, trial.levels, &ended.held).ok()?;
     let common = Common {
         rt: &around,
         host,

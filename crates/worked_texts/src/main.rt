@@ -1,11 +1,15 @@
-//! Makes worked texts, and prints the titles or the answers of each. A word of the arguments is the kind of the texts behind it, and any
-//! other names a text of that kind: a file, or standard input, which is `-`. The form of a kind stands at the head of its module:
+//! Makes worked texts, and prints the titles or the answers of each; and times parts of the server. A word of the arguments is the kind of
+//! the texts behind it, and any other names a text of that kind: a file, or standard input, which is `-`. The form of a kind stands at the
+//! head of its module:
 //!
 //! - `runs`: runs of step lines by `replay`;
 //! - `records`: lives of records;
 //! - `forwarders`: messages of packet forwarders;
 //! - `frames`: questions to the crates for frames, from AES to the device for tests;
 //! - `joins`: rosters, messages to and from join servers, and exchanges with these.
+//!
+//! Behind `times` stand parts that are timed (`times.rt`), for `bench/*.sh`: here, since a program of its own would be linked and compiled
+//! once more.
 #![tactic(auto)]
 
 mod forwarders;
@@ -14,6 +18,7 @@ mod joins;
 mod put;
 mod records;
 mod runs;
+mod times;
 
 use crate::put::pieces;
 use anyhow::bail;
@@ -29,6 +34,7 @@ enum Kind {
     Forwarders,
     Frames,
     Joins,
+    Times,
 }
 
 // The kind that a word names.
@@ -39,6 +45,7 @@ fn kind_of(word: &str) -> Option<Kind> {
         "forwarders" => Some(Kind::Forwarders),
         "frames" => Some(Kind::Frames),
         "joins" => Some(Kind::Joins),
+        "times" => Some(Kind::Times),
         _ => None,
     }
 }
@@ -60,6 +67,8 @@ fn put_made(alloc: Global, kind: Kind, name: &str, pieces: &[&str], out: &mut St
         Kind::Forwarders => forwarders::make(alloc, pieces, out),
         Kind::Frames => frames::make(alloc, pieces, out),
         Kind::Joins => joins::make(alloc, pieces, out),
+        // A part that is timed has no text.
+        Kind::Times => {}
     }
 }
 
@@ -105,6 +114,7 @@ fn main(rt: HostRuntime) -> anyhow::Result<()> {
         let word = word.as_str();
         match (kind_of(word), kind) {
             (Some(named), _) => kind = Some(named),
+            (None, Some(Kind::Times)) => times::time(&rt, word)?,
             (None, Some(kind)) => make_named(&rt, kind, word)?,
             (None, None) => bail!("no kind of text: {word}"),
         }

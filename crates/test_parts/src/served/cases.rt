@@ -1,6 +1,6 @@
 //! What is tried on a state.
 
-use crate::served::resting::one_never_rests;
+use crate::served::resting::some_rest;
 use crate::served::shared::{are_handed_on, is_sent_once, line_has_its_times};
 use crate::served::sockets::{are_late_for_a_while, is_waited_out, longest_leaves, own_socket};
 use crate::served::standing::Standing;
@@ -29,7 +29,7 @@ enum Case {
     LongestDownlink,
     // A worker waits out more than 100 failures where a datagram came in between.
     Failures,
-    // The only gateway worker never rests, and of two one rests until it is woken.
+    // The only gateway worker never rests, and of two one rests until it is woken; as its datagrams come, a worker rests or wakes another.
     Resting,
     // The counts are logged by their names, all datagrams but those that were too many.
     Logged,
@@ -54,7 +54,7 @@ impl Case {
     fn has_socket(&self) -> bool {
         matches!(
             self,
-            Case::LateCopies | Case::LongestDownlink | Case::Failures
+            Case::LateCopies | Case::LongestDownlink | Case::Failures | Case::Resting
         )
     }
 
@@ -78,7 +78,7 @@ impl Case {
             Case::LateCopies => are_late_for_a_while(rt, state),
             Case::LongestDownlink => longest_leaves(rt, state),
             Case::Failures => is_waited_out(rt, state),
-            Case::Resting => one_never_rests(rt, state),
+            Case::Resting => some_rest(rt, state),
             Case::Logged => log_all(rt, state),
             Case::Told => is_told(rt, alloc, state),
         }

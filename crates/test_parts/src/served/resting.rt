@@ -1,69 +1,147 @@
 //! Gateway workers that rest while the others are enough.
 
+use crate::served::sockets::{gateway, is_heard};
 use crate::served::standing::Standing;
+use ns_serve_sockets::FromSocket;
 use ns_serve_state::State;
+use std::net::{Net, UdpSocket};
 use std::sync::Wait;
 use std::sync::atomic::{AtomicBool, Ordering};
 use std::thread;
 use std::thread::Threads;
 use std::time::{Clock, Instant};
 
-// So many rests of 5 ms take half a second.
-const MANY: u32 = 100;
+// How often a worker rests.
+const TIMES: u32 = 50;
 
-// Rests so often, and then says so.
-fn rest_often<R: Wait + Clock>(rt: &R, state: &State, times: u32, done: &AtomicBool) {
-    for _ in 0..times {
-        state.rest(rt);
-    }
-    done.store(true, Ordering::SeqCst);
+// A rest that nobody ends takes 5 ms, and one of less was ended.
+const EARLY_MS: u128 = 4;
+
+// What ends the rests of a worker.
+#[derive(Clone, Copy, PartialEq, Eq)]
+enum EndedBy {
+    Nobody,
+    // A call of `wake`.
+    Wake,
+    // A worker that takes 64 datagrams, each of which was there before.
+    Datagrams,
 }
 
-// Wakes who rests until nobody will.
-fn wake_until<R: Wait>(rt: &R, state: &State, done: &AtomicBool) {
+// How many gateway workers there are, and how many of the rests of one end early.
+const RESTS: &[(u64, EndedBy, u32, u32)] = &[
+    (1, EndedBy::Nobody, TIMES - 5, TIMES),
+    (2, EndedBy::Nobody, 0, 0),
+    (2, EndedBy::Wake, 1, TIMES),
+    (2, EndedBy::Datagrams, 1, TIMES),
+];
+
+// How many rests end early, which are then done.
+fn count_early<R: Wait + Clock>(rt: &R, state: &State, done: &AtomicBool) -> u32 {
+    let mut early = 0u32;
+    for _ in 0..TIMES {
+        let start = Instant::now(rt);
+        state.rest(rt);
+        if start.is_ok_and(|it| it.elapsed(rt).is_ok_and(|took| took.as_millis() < EARLY_MS)) {
+            early = early.wrapping_add(1);
+        }
+    }
+    done.store(true, Ordering::SeqCst);
+    early
+}
+
+// Takes so many datagrams of a gateway.
+fn take<R: Wait + Clock>(
+    rt: &Standing<'_, R>,
+    from: &mut FromSocket<'_>,
+    gateway: &UdpSocket,
+    times: u32,
+) {
+    for _ in 0..times {
+        let _ = is_heard(rt, from, gateway);
+    }
+}
+
+// Ends rests until they are done.
+fn end_rests<R: Wait + Clock>(
+    rt: &Standing<'_, R>,
+    state: &State,
+    gateway: &UdpSocket,
+    ended_by: EndedBy,
+    done: &AtomicBool,
+) {
+    let mut from = FromSocket::new(state, None);
     for _turn in rt.forever() {
         if done.load(Ordering::SeqCst) {
             return;
         }
-        state.wake(rt);
+        match ended_by {
+            EndedBy::Nobody => return,
+            EndedBy::Wake => state.wake(rt),
+            EndedBy::Datagrams => {
+                state.read.store(0, Ordering::SeqCst);
+                take(rt, &mut from, gateway, 64);
+            }
+        }
     }
 }
 
-// How many milliseconds so many rests take, where workers that rest are woken, if they are.
-fn rest_ms<R: Threads + Wait + Clock + Sync>(
-    rt: &R,
+// Whether rests end early as often as is told.
+fn end_so<R: Threads + Wait + Clock + Sync>(
+    rt: &Standing<'_, R>,
     state: &State,
-    times: u32,
-    are_woken: bool,
-) -> Option<u128> {
-    let done = AtomicBool::new(!are_woken);
-    let Ok(start) = Instant::now(rt) else {
-        return None;
-    };
-    thread::join(
-        rt,
-        || rest_often(rt, state, times, &done),
-        || wake_until(rt, state, &done),
+    gateway: &UdpSocket,
+    (workers, ended_by, least, most): (u64, EndedBy, u32, u32),
+) -> bool {
+    state.gateways.store(workers, Ordering::SeqCst);
+    let done = AtomicBool::new(false);
+    let (early, ()) = thread::join(
+        rt.host(),
+        || count_early(rt.host(), state, &done),
+        || end_rests(rt, state, gateway, ended_by, &done),
     );
-    match start.elapsed(rt) {
-        Ok(took) => Some(took.as_millis()),
-        Err(_) => None,
-    }
+    least <= early && early <= most
 }
 
-/// Whether the only worker never rests, and of two one rests for 5 ms, or until it is woken.
-pub fn one_never_rests<R: Threads + Wait + Clock + Sync>(
-    standing: &Standing<'_, R>,
+// Whether all rests end so.
+fn all_end_so<R: Threads + Wait + Clock + Sync>(
+    rt: &Standing<'_, R>,
+    state: &State,
+    gateway: &UdpSocket,
+) -> bool {
+    for &rests in RESTS {
+        if !end_so(rt, state, gateway, rests) {
+            return false;
+        }
+    }
+    true
+}
+
+// Whether a worker rests 5 ms after each of 20 datagrams that it waited for a while, by the clock of the host.
+fn rests_between<R: Wait + Clock>(
+    rt: &Standing<'_, R>,
+    state: &State,
+    gateway: &UdpSocket,
+) -> bool {
+    let start = Instant::now(rt.host());
+    rt.step_by(50);
+    take(rt, &mut FromSocket::new(state, None), gateway, 20);
+    rt.step_by(0);
+    start.is_ok_and(|it| it
+        .elapsed(rt.host())
+        .is_ok_and(|took| took.as_millis() >= 50))
+}
+
+/// Whether the only worker never rests, and of two one rests for 5 ms, or until it is woken; and whether a worker wakes another, and rests,
+/// as its datagrams come.
+pub fn some_rest<R: Threads + Wait + Clock + Net + Sync>(
+    rt: &Standing<'_, R>,
     state: &State,
 ) -> bool {
-    let rt = standing.host();
-    state.gateways.store(1, Ordering::SeqCst);
-    let alone = rest_ms(rt, state, MANY, false);
-    state.gateways.store(2, Ordering::SeqCst);
-    let long = rest_ms(rt, state, 4, false);
-    let woken = rest_ms(rt, state, MANY, true);
-    matches!(
-        (alone, long, woken),
-        (Some(0..400), Some(20..), Some(0..400))
-    )
+    let Some((own, _)) = &state.own else {
+        return false;
+    };
+    match gateway(rt.host(), own, 0) {
+        Some(gateway) => all_end_so(rt, state, &gateway) && rests_between(rt, state, &gateway),
+        None => false,
+    }
 }

@@ -38,8 +38,8 @@ pub fn own_socket<R: Net>(rt: &R, has_one: bool) -> Option<(UdpSocket, SocketAdd
     }
 }
 
-// A gateway's socket at this port, which sends to this socket of a server.
-fn gateway<R: Net>(rt: &R, own: &UdpSocket, port: u16) -> Option<UdpSocket> {
+/// A gateway's socket at this port, which sends to this socket of a server.
+pub fn gateway<R: Net>(rt: &R, own: &UdpSocket, port: u16) -> Option<UdpSocket> {
     let Ok(server) = own.local_addr() else {
         return None;
     };
@@ -69,6 +69,15 @@ fn is_received<R: Wait + Clock>(
     let mut buf = [0u8; 512];
     rt.stand_at(ms);
     gateway.send(&HEARD).is_ok() && from.next(rt, &mut buf) == want
+}
+
+/// Whether a datagram of a gateway is received where the clock stands at its start.
+pub fn is_heard<R: Wait + Clock>(
+    rt: &Standing<'_, R>,
+    from: &mut FromSocket<'_>,
+    gateway: &UdpSocket,
+) -> bool {
+    is_received(rt, from, gateway, (0, Received::Got(45)))
 }
 
 // Whether a copy is received at each of those times as it is told.
@@ -111,7 +120,7 @@ fn is_longest_sent<R: Wait + Clock>(
     gateway: &UdpSocket,
 ) -> bool {
     let mut from = FromSocket::new(state, None);
-    is_received(rt, &mut from, gateway, (0, Received::Got(45)))
+    is_heard(rt, &mut from, gateway)
         && ToSocket { state }.send(rt, &downlink(Bytes::of(&[0x20; 33])))
         && count_bytes(gateway) == 61
 }
@@ -162,7 +171,7 @@ fn is_heard_at<R: Wait + Clock + Net>(
     port: u16,
 ) -> bool {
     match gateway(rt.host(), own, port) {
-        Some(gateway) => is_received(rt, from, &gateway, (0, Received::Got(45))),
+        Some(gateway) => is_heard(rt, from, &gateway),
         None => false,
     }
 }

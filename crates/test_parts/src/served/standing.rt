@@ -22,8 +22,10 @@ pub const WALL_MS: u64 = 1_764_017_000_123;
 pub struct Standing<'a, R: Wait> {
     rt: &'a R,
     log: Locked<&'a R, Vec<u8>>,
-    // What the clock tells, in milliseconds.
-    ms: AtomicU64,
+    // What the clock tells next, in microseconds.
+    us: AtomicU64,
+    // How much later it is each time that it is read, in microseconds.
+    step: AtomicU64,
 }
 
 impl<'a, R: Wait> Standing<'a, R> {
@@ -32,7 +34,8 @@ impl<'a, R: Wait> Standing<'a, R> {
         Ok(Standing {
             rt,
             log: Locked::new(rt, Vec::with_capacity(alloc, 4096)?),
-            ms: AtomicU64::new(1000),
+            us: AtomicU64::new(1_000_000),
+            step: AtomicU64::new(0),
         })
     }
 
@@ -43,12 +46,23 @@ impl<'a, R: Wait> Standing<'a, R> {
 
     /// The clock stands at so long after it stood first, in milliseconds.
     pub fn stand_at(&self, ms: u64) {
-        self.ms.store(ms.saturating_add(1000), Ordering::SeqCst);
+        let us = ms.saturating_add(1000).saturating_mul(1000);
+        self.us.store(us, Ordering::SeqCst);
+    }
+
+    /// The clock goes on by so many microseconds each time that it is read.
+    pub fn step_by(&self, us: u64) {
+        self.step.store(us, Ordering::SeqCst);
     }
 
     /// What was logged.
     pub fn into_lines(self) -> Vec<u8> {
-        let Standing { rt: _, log, ms: _ } = self;
+        let Standing {
+            rt: _,
+            log,
+            us: _,
+            step: _,
+        } = self;
         log.into_inner()
     }
 }
@@ -57,7 +71,8 @@ impl<'a, R: Wait> Wait for Standing<'a, R> {}
 
 impl<'a, R: Wait + Clock> Clock for Standing<'a, R> {
     fn monotonic(&self) -> io::Result<Duration> {
-        Ok(Duration::from_millis(self.ms.load(Ordering::SeqCst)))
+        let step = self.step.load(Ordering::SeqCst);
+        Ok(Duration::from_micros(self.us.fetch_add(step, Ordering::SeqCst)))
     }
 
     fn since_1970(&self) -> io::Result<Duration> {

@@ -5,14 +5,14 @@
 //! The last way is a trim: all devices are of one shard, and after the calls the shard is trimmed twice. How many entries were made and how
 //! many each trim handed out goes to standard output, the nanoseconds of the two trims to standard error.
 //!
-//! Arguments: how many devices, how many frames of each, how many rounds, and one way alone: `none` makes no call, `apply`, `server`,
+//! Further words: how many devices, how many frames of each, how many rounds, and one way alone: `none` makes no call, `apply`, `server`,
 //! `trim`.
 
 ghost use Rattle.std.specs.Prelude.{◌<◌, ◌≤◌};
 
-use crate::load::Load;
-use crate::served::{apply_all, serve_all};
-use crate::trim::time_trims;
+use crate::times::load::Load;
+use crate::times::served::{apply_all, serve_all};
+use crate::times::trim::time_trims;
 use ns_roster::Roster;
 use std::alloc::Global;
 use std::io;
@@ -40,15 +40,15 @@ pub struct Plan {
 }
 
 // The argument at a place, which is a number.
-fn number(words: &[String], place: usize, otherwise: u32) -> u32 {
+fn number(words: &[&str], place: usize, otherwise: u32) -> u32 {
     match words.get(place) {
-        Some(word) => word.as_str().parse().unwrap_or(otherwise),
+        Some(word) => word.parse().unwrap_or(otherwise),
         None => otherwise,
     }
 }
 
-fn asked_way(words: &[String]) -> Way {
-    match words.get(3).map(String::as_str) {
+fn asked_way(words: &[&str]) -> Way {
+    match words.get(3).copied() {
         Some("none") => Way::None,
         Some("apply") => Way::Apply,
         Some("server") => Way::Server,
@@ -58,7 +58,7 @@ fn asked_way(words: &[String]) -> Way {
 }
 
 /// What the arguments ask for.
-pub fn asked(words: &[String]) -> Plan {
+pub fn asked(words: &[&str]) -> Plan {
     Plan {
         load: Load {
             devices: number(words, 0, 32),

@@ -1,7 +1,7 @@
 use Rattle.std.specs.Prelude.{slice_index}
 use Rattle.std.specs.Arc.{arc_value}
 use Rattle.ns_shard.specs.State.{no_entries}
-use Rattle.bench_parts.proofs.served.serve_all.Given as goal
+use Rattle.worked_texts.proofs.times.served.serve_all.Given as goal
 
 abbrev pub ghosts-serve-B-Naming : goal.ghosts-serve-B-Naming
 ghosts-serve-B-Naming g a = record { roster = arc_value a.roster; begun = no_entries (arc_value a.roster) }

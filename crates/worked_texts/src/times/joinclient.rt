@@ -1,11 +1,11 @@
 //! Times an exchange with a join server over memory, the response read whole and one byte a read. The values go to standard output,
 //! the times to standard error.
 //!
-//! With an argument, the address of an HTTP server, it makes one exchange over a TCP connection instead, and prints what came of it.
+//! With a further word, the address of an HTTP server, it makes one exchange over a TCP connection instead, and prints what came of it.
 
 ghost use Rattle.std.specs.Prelude.{◌<◌};
 
-use crate::print_time;
+use crate::times::print_time;
 use ns_exchange::HostName;
 use ns_joinclient::ask;
 use ns_types::{Fuse, OverStd};

@@ -1,6 +1,6 @@
 //! The time of a trim, for which calls on its shard wait.
 
-use crate::load::Load;
+use crate::times::load::Load;
 use ns_calls::shard_of_call;
 use ns_roster::Roster;
 use ns_shard::Shard;

@@ -1,6 +1,6 @@
 //! Times AES-128 and AES-CMAC. The values go to standard output, the times to standard error.
 
-use crate::print_time;
+use crate::times::print_time;
 use ns_aes_cmac::{Aes128, Cmac};
 use ns_types::Key;
 use std::io;
