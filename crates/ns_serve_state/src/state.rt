@@ -105,7 +105,6 @@ fn tables(
 }
 
 /// What all threads share.
-#[derive(Drop)]
 pub struct State {
     pub alloc: Global,
     /// Where gateways are heard that speak this server's own datagrams, if they are.
@@ -152,6 +151,37 @@ pub struct State {
     pub record: Option<Recorder<RecordFiles>>,
     /// What is told over HTTP, where it is.
     pub status: Option<Status>,
+}
+
+// Proved here once, where a derived one is proved again by each crate that lets a state go.
+impl Drop for State {
+    fn drop(self) {
+        let State {
+            alloc: _,
+            own: _,
+            forwarders: _,
+            start: _,
+            window_ms: _,
+            read: _,
+            most: _,
+            broken: _,
+            ended: _,
+            gateways: _,
+            resting: _,
+            addresses: _,
+            address_changes: _,
+            lates: _,
+            asks: _,
+            askers: _,
+            made: _,
+            counts: _,
+            seldoms: _,
+            uplinks: _,
+            notices: _,
+            record: _,
+            status: _,
+        } = self;
+    }
 }
 
 impl State {
