@@ -1,6 +1,7 @@
 """AES-128 (FIPS 197) and AES-CMAC (RFC 4493) of a key: by the package `cryptography` where it is present, else by model.py, which
 is slow."""
 from functools import lru_cache
+from threading import Lock
 
 import model
 
@@ -13,15 +14,24 @@ except ImportError:
 
 
 class PackageKey:
-    """A key of 16 bytes. `encrypt` and `decrypt` take whole blocks."""
+    """A key of 16 bytes, for several threads: the package refuses a cipher that another thread is using. `encrypt` and `decrypt` take whole
+    blocks."""
 
     def __init__(self, key):
-        cipher = model.PackageAes(key)
-        self.encrypt, self.decrypt, self.begun = cipher.encrypt, cipher.decrypt, CMAC(algorithms.AES(key))
+        self.cipher, self.begun, self.lock = model.PackageAes(key), CMAC(algorithms.AES(key)), Lock()
+
+    def encrypt(self, blocks):
+        with self.lock:
+            return self.cipher.encrypt(blocks)
+
+    def decrypt(self, blocks):
+        with self.lock:
+            return self.cipher.decrypt(blocks)
 
     def mic(self, message):
         """The first four bytes of the CMAC."""
-        code = self.begun.copy()
+        with self.lock:
+            code = self.begun.copy()
         code.update(message)
         return code.finalize()[:4]
 

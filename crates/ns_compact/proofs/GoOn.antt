@@ -8,9 +8,10 @@ use Rattle.ns_compacted.specs.Compacted.{LeaveTheSame, LookTheSame}
 use Rattle.ns_compacted.proofs.Trimmed.{look-same, same_answers}
 use Rattle.ns_shard.specs.declared.step.Step.{Step}
 use Rattle.ns_shard.specs.State.{State, remains, after_trim}
+use Rattle.ns_shard.specs.KeptSteps.{IsKeptAfter}
 use Rattle.ns_shard.specs.Steps.{shard_history}
 use Rattle.ns_resume.specs.declared.run.Resumed.{Resumed}
-use Rattle.ns_resume.specs.Resumed.{IsResumedAt, IsResumed}
+use Rattle.ns_resume.specs.Resumed.{IsResumed}
 use Rattle.ns_compact.specs.Compact.{TellsSteps, AreLeftBy, AllLookTheSame, GoOnTheSame}
 
 -- the shard at a place
@@ -30,7 +31,7 @@ look-at (x ∷ ss) (y ∷ ts) zero s t all at_s at_t = subst (λ a. LookTheSame 
 look-at (x ∷ ss) (y ∷ ts) (suc k) s t all at_s at_t = look-at ss ts k s t all.1 at_s at_t
 
 -- trims of two shards that look the same
-leave-same : (net : Network) (g h : List Step) (k : ℕ) (s t : State) → IsResumedAt net g k s → IsResumedAt net h k t → LookTheSame (remains (after_trim s)) (remains (after_trim t))
+leave-same : (net : Network) (g h : List Step) (k : ℕ) (s t : State) → IsKeptAfter net g k s → IsKeptAfter net h k t → LookTheSame (remains (after_trim s)) (remains (after_trim t))
     → LeaveTheSame (shard_history net k g) (shard_history net k h)
 leave-same net g h k s t is_s is_t same =
     look-same net (shard_history net k g) (shard_history net k h) (remains s) (remains t)

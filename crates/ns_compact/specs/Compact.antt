@@ -6,11 +6,12 @@ use Rattle.ns_calls.specs.declared.call.Call.{Call}
 use Rattle.ns_calls.specs.Runs.{answers_after}
 use Rattle.ns_shard.specs.declared.step.Step.{Step}
 use Rattle.ns_shard.specs.State.{State, remains, after_trim}
+use Rattle.ns_shard.specs.KeptSteps.{AreKeptAfter}
 use Rattle.ns_shard.specs.Steps.{shard_history}
 use Rattle.ns_compacted.specs.Compacted.{LeaveTheSame, LookTheSame}
 use Rattle.ns_resume.specs.declared.base.Base.{Base}
 use Rattle.ns_resume.specs.Base.{head_text}
-use Rattle.ns_resume.specs.Resumed.{IsCut, AreStepsOf, AreResumed, AllFit}
+use Rattle.ns_resume.specs.Resumed.{IsCut, AreStepsOf, AllFit}
 
 -- the lines of the text, behind that of the base where it has one, are these steps, and all of them fit
 pub record TellsSteps (net : Network) (text : List ℕ) (steps : List Step) : Type 0 where
@@ -30,7 +31,7 @@ pub record AreTrimmed (old new : List State) : Type 0 where
 
 -- the shards are what trims leave after a run of these steps
 abbrev pub AreLeftBy : Network → List Step → List State → Type 0
-AreLeftBy net steps shards = (old : List State) × AreResumed net steps old × AreTrimmed old shards
+AreLeftBy net steps shards = (old : List State) × AreKeptAfter net steps old × AreTrimmed old shards
 
 -- trimmed shards that look the same, each as the one of its place
 abbrev pub AllLookTheSame : List State → List State → Type 0

@@ -2,9 +2,9 @@
 
 use crate::lines::Made;
 use ns_calls::{Call, shard_of_call};
-use ns_resume::{RecordFault, TRIM_FROM, trim_if_due};
+use ns_resume::RecordFault;
 use ns_roster::Roster;
-use ns_shard::{Shard, call_of, new_shards};
+use ns_shard::{Shard, TRIM_FROM, call_of, new_shards, trim_if_due};
 use ns_steps::step;
 use std::alloc::Global;
 use std::sync::Arc;

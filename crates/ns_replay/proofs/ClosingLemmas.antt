@@ -8,7 +8,7 @@ use Rattle.ns_roster.specs.Closing.{with_nonces, network_text, nonce_by, with_gr
 use Rattle.ns_shard.specs.State.{State}
 use Rattle.ns_shard.specs.declared.step.Step.{Step}
 use Rattle.ns_shard.specs.NextRun.{greatest_among, greatest_after, closing_roster}
-use Rattle.ns_shard.specs.Steps.{AreAfter}
+use Rattle.ns_shard.specs.KeptSteps.{AreKeptAfter}
 use Rattle.ns_events.specs.declared.output.Output.{Output}
 use Rattle.ns_replay.specs.declared.reading.Answers.{Answers}
 use Rattle.ns_replay.specs.Output.{closing_line, output}
@@ -32,7 +32,7 @@ closing-after false net done shards same = refl
 
 -- what is written of lines, with the closing line behind it
 pub answered : (net : Network) (uplinks : Output) (closing : Bool) (answers : Answers) (text : List ℕ) (o : Option (List ℕ))
-    → ((done : List Step) → AreAfter net done answers.shards → (eui : DevEui) → greatest_among answers.shards eui ≡ greatest_after net done eui)
+    → ((done : List Step) → AreKeptAfter net done answers.shards → (eui : DevEui) → greatest_among answers.shards eui ≡ greatest_after net done eui)
     → text ≡ answers.text.items ++ cond closing (ended (network_text (with_greatest net (greatest_among answers.shards)))) []
     → IfSome o (λ input. Has net uplinks answers (steps input)) → IfSome o (λ input. text ≡ output uplinks closing net input)
 answered net uplinks closing answers text None greatest put has = tt

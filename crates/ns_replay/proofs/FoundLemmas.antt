@@ -11,7 +11,8 @@ use Rattle.ns_shard.specs.declared.run.Taken.{Taken}
 use Rattle.ns_shard.specs.declared.run.Taken.TheVariants.{Link, View, Made}
 use Rattle.ns_shard.specs.declared.step.Act.{Act}
 use Rattle.ns_shard.specs.declared.step.Step.{Step}
-use Rattle.ns_shard.specs.Steps.{AreAfter, step_taken}
+use Rattle.ns_shard.specs.KeptSteps.{AreKeptAfter}
+use Rattle.ns_shard.specs.Steps.{step_taken}
 use Rattle.ns_replay.specs.declared.reading.Answers.{Answers}
 use Rattle.ns_steps.specs.StepLines.{step, steps, step_of, ended}
 use Rattle.ns_replay.specs.Output.{all_lines, lines_of, text_of}
@@ -40,12 +41,12 @@ text-more uplinks told t = flat_map-append (text_of uplinks) told (t ∷ []) ∙
 
 -- what comes of lines and of one more
 pub has_more : (net : Network) (uplinks : Output) (old new : Answers) (lines : List (Option Act)) (act : Option Act) (taken : Option Taken) → Has net uplinks old lines
-    → new.uplinks ≡ old.uplinks → AreAfter net (steps_in lines ++ steps_in (act ∷ [])) new.shards → taken ≡ line_taken net (steps_in lines) act
+    → new.uplinks ≡ old.uplinks → AreKeptAfter net (steps_in lines ++ steps_in (act ∷ [])) new.shards → taken ≡ line_taken net (steps_in lines) act
     → new.text.items ≡ old.text.items ++ text_of old.uplinks taken → Has net uplinks new (lines ++ act ∷ [])
 has_more net uplinks old new lines act taken has same next is put =
     record {
       are_for = same ∙ has.are_for;
-      after = subst (λ ss. AreAfter net ss new.shards) (sym (steps_in-more lines act)) next;
+      after = subst (λ ss. AreKeptAfter net ss new.shards) (sym (steps_in-more lines act)) next;
       told =
           put
           ∙ ap (λ u. old.text.items ++ text_of u taken) has.are_for

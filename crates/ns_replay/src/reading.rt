@@ -7,7 +7,7 @@ ghost use Rattle.ns_roster.specs.Network.{Network};
 ghost use Rattle.ns_events.specs.declared.output.Output.{Output};
 ghost use Rattle.ns_shard.specs.declared.step.Act.{Act};
 ghost use Rattle.ns_shard.specs.declared.step.Step.{Step};
-ghost use Rattle.ns_shard.specs.Steps.{AreAfter, AreReached};
+ghost use Rattle.ns_shard.specs.KeptSteps.{AreKeptAfter, AreReached};
 ghost use Rattle.ns_steps.specs.StepLines.{step, steps};
 ghost use Rattle.ns_replay.specs.Private.Lines.{line_taken, steps_in};
 ghost use Rattle.ns_replay.specs.Private.Found.{Has, FoundIn, Longer};
@@ -28,7 +28,7 @@ const READ_ROOM: usize = 65_536;
 /// What comes of lines.
 #[derive(Drop)]
 pub struct Answers {
-    /// The shards after the steps of the lines.
+    /// What the steps of the lines leave in the shards, each trimmed or not.
     pub shards: Shards,
     /// How uplinks are written.
     pub uplinks: Output,
@@ -38,16 +38,16 @@ pub struct Answers {
     pub line: Line,
 }
 
-// Makes the step of a line, where it is a step line.
+// Makes the step of a line, where it is a step line. Shards are trimmed as they grow, since no entry is read again.
 #[inline(always)]
 fn take(alloc: Global, shards: &mut Shards, act: Option<Act>) -> Result<Option<Taken>, AllocError>
     requires { AreReached shards.old }
-    ensures taken { IfOk result (λ t. (net : Network) (before : List Step) → AreAfter net before shards.old → t ≡ line_taken net before act) }
-    ensures shards { OnOk result ((net : Network) (before : List Step) → AreAfter net before shards.old → AreAfter net (before ++ steps_in (act ∷ [])) shards.new) }
+    ensures taken { IfOk result (λ t. (net : Network) (before : List Step) → AreKeptAfter net before shards.old → t ≡ line_taken net before act) }
+    ensures kept { OnOk result ((net : Network) (before : List Step) → AreKeptAfter net before shards.old → AreKeptAfter net (before ++ steps_in (act ∷ [])) shards.new) }
     ensures reached { OnOk result (AreReached shards.new) }
 {
     match act {
-        Some(act) => Ok(Some(shards.step(alloc, &Step { worker: 0, act })?)),
+        Some(act) => Ok(Some(shards.step_and_trim(alloc, &Step { worker: 0, act })?)),
         None => Ok(None),
     }
 }

@@ -11,6 +11,7 @@ use Rattle.ns_calls.specs.Shards.{shard_of_call}
 use Rattle.ns_recorded.specs.Recorded.{matters}
 use Rattle.ns_shard.specs.declared.step.Step.{Step}
 use Rattle.ns_shard.specs.State.{State}
+use Rattle.ns_shard.specs.KeptSteps.{AreKeptAfter}
 use Rattle.ns_shard.specs.Steps.{call_taken, shard_history}
 use Rattle.ns_shard.proofs.Entries.{answer-is}
 use Rattle.ns_steps.specs.StepLines.{ended}
@@ -18,7 +19,7 @@ use Rattle.ns_record.specs.StepText.{ReadsBack}
 use Rattle.ns_resume.specs.declared.fault.RecordFault.{RecordFault}
 use Rattle.ns_resume.specs.declared.fault.RecordFault.TheVariants.{NoStep, NoFit}
 use Rattle.ns_resume.specs.declared.run.Running.{Running}
-use Rattle.ns_resume.specs.Resumed.{AreResumed, fits, NamesLineFrom}
+use Rattle.ns_resume.specs.Resumed.{fits, NamesLineFrom}
 use Rattle.ns_resume.specs.Private.Running.{HasRun, RunsUpTo}
 use Rattle.ns_resume.specs.Private.Faults.{NamesNoLine, DoesNotMatter, RefusesLine}
 
@@ -27,7 +28,7 @@ pub from_err : {A : Type 0} (r : Result A RecordFault) (P : RecordFault → Type
 from_err (Ok a) P e holds is = absurd is
 from_err (Err f) P e holds is = subst P (sym is) holds
 
-pub refused-answer : (net : Network) (steps : List Step) (line : List ℕ) (number : ℕ) (shards : List State) (c : Call) (e : RecordFault) → AreResumed net steps shards → ReadsBack line c → DoesNotMatter shards c number e → RefusesLine net steps line number e
+pub refused-answer : (net : Network) (steps : List Step) (line : List ℕ) (number : ℕ) (shards : List State) (c : Call) (e : RecordFault) → AreKeptAfter net steps shards → ReadsBack line c → DoesNotMatter shards c number e → RefusesLine net steps line number e
 refused-answer net steps line number shards c (NoStep n) are back is = absurd is
 refused-answer net steps line number shards c (NoFit n) are back (same, found) =
     let (s, at, silent) = found in

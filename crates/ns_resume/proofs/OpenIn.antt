@@ -40,10 +40,11 @@ use Rattle.ns_kept.proofs.Within.{All-end}
 use Rattle.ns_sessions.proofs.OpenTickets.{open_asked, at_member, same_ticket-refl}
 use Rattle.ns_shard.specs.State.{State, remains, seen, asked_in, open_tickets_in}
 use Rattle.ns_shard.specs.declared.step.Step.{Step}
+use Rattle.ns_shard.specs.KeptSteps.{AreKeptAfter}
 use Rattle.ns_shard.specs.Steps.{shard_history}
 use Rattle.ns_shard.proofs.Maps.{count-map}
 use Rattle.ns_shard.proofs.RunHistories.{shard_history-is}
-use Rattle.ns_resume.specs.Resumed.{AreResumed, AreOpenIn, windows_in, tickets_in}
+use Rattle.ns_resume.specs.Resumed.{AreOpenIn, windows_in, tickets_in}
 
 -- ---- the open windows of one shard
 
@@ -228,7 +229,7 @@ all-wait t (s ∷ shards) each =
 
 -- ---- of shards that a record leaves
 
-module _ (net : Network) (steps : List Step) (shards : List State) (valid : IsRoster net) (are : AreResumed net steps shards) where
+module _ (net : Network) (steps : List Step) (shards : List State) (valid : IsRoster net) (are : AreKeptAfter net steps shards) where
   left : (k : ℕ) (s : State) → slice_get shards k ≡ Some s → Leaves net (shard_history net k steps) (remains s)
   left k s at = subst (λ n. Leaves n (shard_history net k steps) (remains s)) (are.each k s at).roster (are.each k s at).keeps.left
 

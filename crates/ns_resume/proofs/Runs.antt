@@ -12,17 +12,19 @@ use Rattle.ns_calls.specs.declared.answer.Answer.{Answer}
 use Rattle.ns_lines.specs.Text.{up_text, has_line_feed}
 use Rattle.ns_calls.specs.Shards.{shard_of_call}
 use Rattle.ns_shard.specs.declared.step.Step.{Step}
+use Rattle.ns_shard.specs.KeptSteps.{AreKeptAfter}
 use Rattle.ns_shard.specs.Steps.{shard_history, step_taken, AreAfter}
 use Rattle.ns_shard.specs.declared.run.Taken.TheVariants.{Made}
 use Rattle.ns_steps.specs.StepLines.{ended, step, step_of}
 use Rattle.ns_record.specs.StepText.{ReadsBack}
 use Rattle.ns_resume.specs.declared.run.Resumed.{Resumed}
 use Rattle.ns_resume.specs.declared.run.Running.{Running}
-use Rattle.ns_resume.specs.Resumed.{IsAllOf, AreResumed, HasRunAll, AreUps, ups_since}
+use Rattle.ns_resume.specs.Resumed.{IsAllOf, HasRunAll, AreUps, ups_since}
 use Rattle.ns_resume.specs.Private.Ups.{GoOn}
 use Rattle.ns_resume.specs.Private.Running.{HasAnswered, HasRun, RunsOn, RunsUpTo}
+use Rattle.ns_shard.proofs.KeptSteps.{kept-whole}
 use Rattle.ns_resume.proofs.Lines.{known-then}
-use Rattle.ns_resume.proofs.Steps.{resumed-none, resumed-step, taken-is, fit-push, ups-push, ups-first, flat_map-push}
+use Rattle.ns_resume.proofs.Steps.{kept-answered, taken-is, fit-push, ups-push, ups-first, flat_map-push}
 
 -- the shards after a line, and what fits, whatever `up` lines it implies
 module _ (net : Network) (before : ℕ) (steps : List Step) (line read : List ℕ) (old new : Running) (c : Call) (a : Answer)
@@ -35,7 +37,7 @@ module _ (net : Network) (before : ℕ) (steps : List Step) (line read : List �
 
   has-run : (there : List ℕ) → AreUps there (ups_since net before (steps ++ made_step ∷ [])) new.ups.missing.items new.ups.torn → HasRun net before (steps ++ made_step ∷ []) there new
   has-run there ups = record {
-    shards = resumed-step net steps made_step old.shards.items new.shards.items c a run.shards back.2 answered;
+    shards = kept-answered net steps made_step old.shards.items new.shards.items c a run.shards back.2 answered;
     fit = fit-push net steps made_step (shard_of_call c) (length (shard_history net (shard_of_call c) steps)) a run.fit taken answered.matters;
     ups = ups;
   }
@@ -82,7 +84,7 @@ up-to-none net start before first ups_first r after none torn = record {
   read = [];
   ups_consumed = Consumes-nil ups_first;
   has_run = record {
-    shards = resumed-none net r.shards.items after;
+    shards = kept-whole net [] r.shards.items after;
     fit = tt;
     ups = subst (λ l. AreUps [] l r.ups.missing.items r.ups.torn) (sym (ups-first net before [] (omega arith)))
         (record { front = []; rest = []; more = []; are_there = refl; are_all = sym none; begins = none; bytes = sym torn });
@@ -137,7 +139,7 @@ up-to-end net start before number first now ups_first ups_now run torn r up_to e
         steps = up_to.steps;
         are_steps = up_to.are_steps;
         fit = up_to.has_run.fit;
-        shards = subst (AreResumed net up_to.steps) (sym shards) up_to.has_run.shards;
+        shards = subst (AreKeptAfter net up_to.steps) (sym shards) up_to.has_run.shards;
         ups = rw (append-nil up_to.read, missing, up_torn) up_to.has_run.ups;
       },
     )

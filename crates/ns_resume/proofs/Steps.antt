@@ -1,109 +1,34 @@
 -- The shards after one step more, and what came of it.
-use Rattle.std.proofs.Common.{◌≡◌, ℕ, ◌<◌, ◌≤◌, drop, suc, true, Ok, List, [], ◌∷◌, ◌++◌, length, slice_get, slice_set, cond, Some, refl, sym, ap, ◌∙◌, subst, arith, eqb, eq-eqb, inl, inr, append-nil, append_assoc}
+use Rattle.std.proofs.Common.{◌≡◌, ℕ, ◌≤◌, drop, suc, true, Ok, List, [], ◌∷◌, ◌++◌, length, refl, sym, ap, ◌∙◌, subst, arith, append-nil, append_assoc}
 use Rattle.std.specs.Prelude.{flat_map}
 use Rattle.std.specs.List.{AllByRecursion}
-use Rattle.std.proofs.lemmas.Bool.Decides.{eqb_tells}
-use Rattle.std.proofs.lemmas.List.{length-set, drop-append-le, drop_all}
+use Rattle.std.proofs.lemmas.List.{drop-append-le, drop_all}
 use Rattle.std.proofs.lemmas.List.Concat.{flat_map-append}
-use Rattle.std.proofs.lemmas.Option.{same_Some, slice_get_within}
 use Rattle.ns_roster.specs.Network.{Network}
 use Rattle.ns_calls.specs.declared.call.Call.{Call}
 use Rattle.ns_calls.specs.declared.call.Entry.{Entry}
 use Rattle.ns_calls.specs.declared.answer.Answer.{Answer}
-use Rattle.ns_calls.specs.Legal.{with_call}
 use Rattle.ns_calls.specs.Out.{answer}
 use Rattle.ns_calls.specs.Shards.{shard_of_call}
 use Rattle.ns_calls.proofs.Lists.{All-push}
-use Rattle.ns_calls.proofs.MergeLemmas.{slice_get-set_same, slice_get-set_other}
 use Rattle.ns_recorded.specs.Recorded.{matters}
-use Rattle.ns_kept.proofs.Law.{whole-leaves, leaves-trim}
-use Rattle.ns_kept.specs.Left.{Leaves}
-use Rattle.ns_kept.specs.Kept.{keep}
 use Rattle.ns_shard.specs.declared.step.Step.{Step}
 use Rattle.ns_shard.specs.declared.run.Taken.TheVariants.{Made}
-use Rattle.ns_shard.specs.State.{State, Keeps, after_call, after_trim, remains}
+use Rattle.ns_shard.specs.State.{State}
 use Rattle.ns_shard.specs.Taken.{call_of}
-use Rattle.ns_shard.specs.Steps.{shard_history, all_taken, step_taken, call_taken, AreAfter, state_after}
-use Rattle.ns_shard.proofs.Entries.{keeps-more, answer-is}
-use Rattle.ns_shard.proofs.RunSteps.{one_call, shard_history-other, shard_history-own}
-use Rattle.ns_shard.proofs.RunHistories.{shard_history-is}
-use Rattle.ns_resume.specs.Resumed.{IsResumedAt, AreResumed, MayBeTrimmed, fits, AllFit, up_of, ups_since}
-use Rattle.ns_resume.specs.Private.Running.{AreInPlace, HasAnswered}
+use Rattle.ns_shard.specs.KeptSteps.{AreKeptAfter}
+use Rattle.ns_shard.specs.Steps.{shard_history, all_taken, step_taken, call_taken}
+use Rattle.ns_shard.proofs.Entries.{answer-is}
+use Rattle.ns_shard.proofs.KeptSteps.{kept-called}
+use Rattle.ns_resume.specs.Resumed.{fits, AllFit, up_of, ups_since}
+use Rattle.ns_resume.specs.Private.Running.{HasAnswered}
 
--- ---- shards in place
+-- ---- the shards after a step that makes this call
 
-pub in_place : (net : Network) (steps : List Step) (shards : List State) → AreResumed net steps shards → AreInPlace shards
-in_place net steps shards are k s at = (are.each k s at).index
-
--- ---- a shard after a call, and after a trim
-
--- the same shard, by a step that makes no call on it
-resumed-other : (net : Network) (steps : List Step) (step : Step) (k : ℕ) (s : State) → one_call k (call_of step.act) ≡ [] → IsResumedAt net steps k s → IsResumedAt net (steps ++ step ∷ []) k s
-resumed-other net steps step k s none is = record {
-  roster = is.roster;
-  index = is.index;
-  keeps = subst (λ h. Keeps h s) (sym (shard_history-other net k steps step none)) is.keeps;
-}
-
-resumed-own : (net : Network) (steps : List Step) (step : Step) (c : Call) (k : ℕ) (s : State) → one_call k (call_of step.act) ≡ c ∷ [] → IsResumedAt net steps k s → IsResumedAt net (steps ++ step ∷ []) k (after_call s c)
-resumed-own net steps step c k s one is =
-    let h : List Entry = shard_history net k steps in
-    record {
-      roster = is.roster;
-      index = is.index;
-      keeps =
-          subst (λ x. Keeps x (after_call s c)) (sym (shard_history-own net k steps step c one))
-          (subst (λ n. Keeps (with_call n h (length h) c) (after_call s c)) is.roster (keeps-more h s c is.keeps));
-    }
-
-keeps-trim : (h : List Entry) (s : State) → Keeps h s → Keeps h (after_trim s)
-keeps-trim h s keeps = record {
-  made = keeps.made;
-  left = subst (λ n. Leaves s.roster h (keep n (remains s))) (sym keeps.made) (leaves-trim s.roster h (remains s) keeps.left);
-}
-
-resumed-trimmed : (net : Network) (steps : List Step) (k : ℕ) (s t : State) → MayBeTrimmed s t → IsResumedAt net steps k s → IsResumedAt net steps k t
-resumed-trimmed net steps k s t (inl same) is = subst (IsResumedAt net steps k) (sym same) is
-resumed-trimmed net steps k s t (inr trimmed) is =
-    subst (IsResumedAt net steps k) (sym trimmed) (record { roster = is.roster; index = is.index; keeps = keeps-trim (shard_history net k steps) s is.keeps })
-
--- ---- all shards
-
--- the shards after a step that makes this call
-pub resumed-step : (net : Network) (steps : List Step) (step : Step) (shards new : List State) (c : Call) (a : Answer) → AreResumed net steps shards → call_of step.act ≡ Ok c → HasAnswered shards new c a
-    → AreResumed net (steps ++ step ∷ []) new
-resumed-step net steps step shards new c a are made answered =
-    let own : ℕ = shard_of_call c in
-    let s : State = answered.before in
-    let calls : (k : ℕ) → one_call k (call_of step.act) ≡ cond (eqb own k) (c ∷ []) [] = λ k. ap (one_call k) made in
-    let next : (k : ℕ) (t : State) → slice_get (slice_set shards own answered.after) k ≡ Some t → IsResumedAt net (steps ++ step ∷ []) k t = λ k t at. elim (eqb_tells own k) [
-      | inl same ↦
-          let one : one_call own (call_of step.act) ≡ c ∷ [] = calls own ∙ ap (λ b. cond {A = List Call} b (c ∷ []) []) (eq-eqb own own refl) in
-          let set : slice_get (slice_set shards own answered.after) own ≡ Some answered.after = slice_get-set_same shards own s answered.after answered.at in
-          let is : answered.after ≡ t = same_Some answered.after t (sym set ∙ (ap (slice_get (slice_set shards own answered.after)) same.1 ∙ at)) in
-          subst (λ n. IsResumedAt net (steps ++ step ∷ []) n t) same.1
-          (subst (IsResumedAt net (steps ++ step ∷ []) own) is
-          (resumed-trimmed net (steps ++ step ∷ []) own (after_call s c) answered.after answered.trimmed (resumed-own net steps step c own s one (are.each own s answered.at))))
-      | inr other ↦
-          let none : one_call k (call_of step.act) ≡ [] = calls k ∙ ap (λ b. cond {A = List Call} b (c ∷ []) []) other.0 in
-          resumed-other net steps step k t none (are.each k t (sym (slice_get-set_other shards own k answered.after (λ e. other.1 (sym e))) ∙ at))
-    ] in
-    subst (AreResumed net (steps ++ step ∷ [])) (sym answered.shards) (record { sixteen = length-set shards own answered.after ∙ are.sixteen; each = next })
-
-keeps-none : (net : Network) (k : ℕ) → Keeps (shard_history net k []) (state_after net k [])
-keeps-none net k =
-    let is = shard_history-is net k [] in
-    record { made = refl; left = whole-leaves net (shard_history net k []) is.legal is.numbered }
-
--- the shards without entries
-pub resumed-none : (net : Network) (shards : List State) → AreAfter net [] shards → AreResumed net [] shards
-resumed-none net shards after = record {
-  sixteen = after.sixteen;
-  each = λ k s at.
-      let within : k < length shards = slice_get_within shards k s at in
-      let is : state_after net k [] ≡ s = same_Some (state_after net k []) s (sym (after.each k (omega (arith, after.sixteen, within))) ∙ at) in
-      subst (IsResumedAt net [] k) is (record { roster = refl; index = refl; keeps = keeps-none net k });
-}
+pub kept-answered : (net : Network) (steps : List Step) (step : Step) (shards new : List State) (c : Call) (a : Answer) → AreKeptAfter net steps shards → call_of step.act ≡ Ok c → HasAnswered shards new c a
+    → AreKeptAfter net (steps ++ step ∷ []) new
+kept-answered net steps step shards new c a are made answered =
+    subst (AreKeptAfter net (steps ++ step ∷ [])) (sym answered.shards) (kept-called net steps step shards c answered.before answered.after are made answered.at answered.trimmed)
 
 -- ---- what came of the step
 
@@ -114,7 +39,7 @@ all_taken-push net before (s ∷ steps) step =
     ap (λ ts. step_taken net before s ∷ ts) (all_taken-push net (before ++ s ∷ []) steps step ∙ ap (λ b. all_taken net (before ++ s ∷ []) steps ++ step_taken net b step ∷ []) (append_assoc before (s ∷ []) steps))
 
 -- what came of the step that makes this call is its answer
-pub taken-is : (net : Network) (steps : List Step) (step : Step) (shards new : List State) (c : Call) (a : Answer) → AreResumed net steps shards → call_of step.act ≡ Ok c → HasAnswered shards new c a
+pub taken-is : (net : Network) (steps : List Step) (step : Step) (shards new : List State) (c : Call) (a : Answer) → AreKeptAfter net steps shards → call_of step.act ≡ Ok c → HasAnswered shards new c a
     → step_taken net steps step ≡ Made (shard_of_call c) (length (shard_history net (shard_of_call c) steps)) a
 taken-is net steps step shards new c a are made answered =
     let own : ℕ = shard_of_call c in

@@ -1,9 +1,9 @@
 -- What a record leaves: the shards after the steps of its whole lines, and the `up` lines that go on from those that are there.
-use Rattle.std.specs.Prelude.{◌≡◌, ◌⊎◌, ℕ, ◌+◌, ◌≤◌, Bool, false, true, List, [], ◌++◌, length, map, flat_map, count_by, slice_get, drop, Option, None, Some, IfSome}
+use Rattle.std.specs.Prelude.{◌≡◌, ℕ, ◌+◌, ◌≤◌, Bool, false, true, List, [], ◌++◌, length, map, flat_map, count_by, drop, Option, None, Some, IfSome}
 use Rattle.std.specs.List.{AllByRecursion, list_any}
 use Rattle.std.specs.Option.{option_map_or}
 use Rattle.std.specs.Io.KnownBytes.{Consumes}
-use Rattle.ns_types.specs.Identity.{shard_count, same_window}
+use Rattle.ns_types.specs.Identity.{same_window}
 use Rattle.ns_types.specs.declared.identity.WindowName.{WindowName}
 use Rattle.ns_types.specs.declared.ticket.Ticket.{Ticket}
 use Rattle.ns_roster.specs.Network.{Network}
@@ -15,8 +15,9 @@ use Rattle.ns_shard.specs.declared.step.Act.{Act}
 use Rattle.ns_shard.specs.declared.step.Step.{Step}
 use Rattle.ns_shard.specs.declared.run.Taken.{Taken}
 use Rattle.ns_shard.specs.declared.run.Taken.TheVariants.{Link, View, Made}
-use Rattle.ns_shard.specs.State.{State, Keeps, seen, open_tickets_in, after_trim}
-use Rattle.ns_shard.specs.Steps.{shard_history, step_taken, all_taken}
+use Rattle.ns_shard.specs.State.{State, seen, open_tickets_in}
+use Rattle.ns_shard.specs.KeptSteps.{AreKeptAfter}
+use Rattle.ns_shard.specs.Steps.{step_taken, all_taken}
 use Rattle.ns_steps.specs.StepLines.{ended, step, step_of}
 use Rattle.ns_resume.specs.declared.fault.RecordFault.{RecordFault}
 use Rattle.ns_resume.specs.declared.fault.RecordFault.TheVariants.{NoStep, NoFit}
@@ -37,21 +38,6 @@ pub record IsCut (text : List ℕ) (lines : List (List ℕ)) (torn : List ℕ) :
 -- each line is a step line, and these are its steps
 abbrev pub AreStepsOf : List (List ℕ) → List Step → Type 0
 AreStepsOf lines steps = map step lines ≡ map (λ s. Some s.act) steps
-
--- the shard of this number has what it keeps of its history in a run of these steps
-pub record IsResumedAt (net : Network) (steps : List Step) (shard : ℕ) (s : State) : Type 0 where
-  pub roster : s.roster ≡ net
-  pub index : s.index ≡ shard
-  pub keeps : Keeps (shard_history net shard steps) s
-
--- the shard is as it was, or was trimmed
-abbrev pub MayBeTrimmed : State → State → Type 0
-MayBeTrimmed old new = (new ≡ old) ⊎ (new ≡ after_trim old)
-
--- the sixteen shards are what a run of these steps leaves, trimmed or not
-pub record AreResumed (net : Network) (steps : List Step) (shards : List State) : Type 0 where
-  pub sixteen : length shards ≡ shard_count
-  pub each : (shard : ℕ) (s : State) → slice_get shards shard ≡ Some s → IsResumedAt net steps shard s
 
 -- whether it made a call on which later answers rest
 abbrev pub fits : Taken → Bool
@@ -93,7 +79,7 @@ pub record HasRunAll (net : Network) (before : ℕ) (text there : List ℕ) (r :
   pub steps : List Step
   pub are_steps : AreStepsOf lines steps
   pub fit : AllFit net steps
-  pub shards : AreResumed net steps r.shards.items
+  pub shards : AreKeptAfter net steps r.shards.items
   pub ups : AreUps there (ups_since net before steps) r.missing.items r.up_torn
 
 -- The record of this text, beside this text of `up` lines, leaves these shards, and these `up` lines are missing. Where it has a base, its

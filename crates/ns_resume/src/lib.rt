@@ -15,4 +15,4 @@ mod ups;
 
 pub use base::{Base, base_line, read_base};
 pub use fault::RecordFault;
-pub use run::{Resumed, TRIM_FROM, run_record, trim_if_due};
+pub use run::{Resumed, run_record};

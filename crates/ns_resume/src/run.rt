@@ -8,8 +8,9 @@ ghost use Rattle.ns_roster.specs.Network.{Network};
 ghost use Rattle.ns_shard.specs.declared.step.Step.{Step};
 ghost use Rattle.ns_record.specs.StepText.{ReadsBack};
 ghost use Rattle.ns_resume.specs.Base.{first_number, lines_before};
-ghost use Rattle.ns_resume.specs.Resumed.{IsAllOf, MayBeTrimmed, HasRunAll, IsResumed, AreOpenIn, NamesLine, NamesLineFrom, windows_in, tickets_in};
-ghost use Rattle.ns_resume.specs.Private.Running.{AreInPlace, HasAnswered, HasRun, RunsOn};
+ghost use Rattle.ns_resume.specs.Resumed.{IsAllOf, HasRunAll, IsResumed, AreOpenIn, NamesLine, NamesLineFrom, windows_in, tickets_in};
+ghost use Rattle.ns_shard.specs.KeptSteps.{AreInPlace};
+ghost use Rattle.ns_resume.specs.Private.Running.{HasAnswered, HasRun, RunsOn};
 ghost use Rattle.ns_resume.specs.Private.Faults.{MakesNoCall, DoesNotMatter, RefusesLine};
 
 use crate::base::{Base, first_number, lines_before, read_base, skip_ups, ups_before};
@@ -21,16 +22,12 @@ use ns_calls::{Call, Downlink, shard_of_call};
 use ns_lines::{Line, put_lent_uplink};
 use ns_record::matters;
 use ns_roster::Roster;
-use ns_shard::{BoxedUplink, Shard, call_into, new_shards};
+use ns_shard::{BoxedUplink, Shard, TRIM_FROM, call_into, new_shards, trim_if_due};
 use ns_steps::step;
 use ns_types::{Ticket, WindowName};
 use std::alloc::{AllocError, Global};
 use std::io::BufRead;
 use std::sync::Arc;
-
-/// A shard is trimmed once it holds twice what its last trim left, and so many entries: so trims take a part of the time that does not
-/// grow with the devices, and sixteen small shards stay in a processor's cache.
-pub const TRIM_FROM: usize = 512;
 
 /// What a record leaves.
 #[derive(Drop)]
@@ -82,19 +79,6 @@ fn call_in<'a>(
         Some(call) => Ok(call),
         None => Err(RecordFault::NoFit(number)),
     }
-}
-
-/// Trims a shard that holds `most` entries, and makes room for as many as come before its next trim, and for what may be open then. Where
-/// either is refused it stays as it is.
-pub fn trim_if_due(alloc: Global, shard: &mut Shard, most: &mut usize)
-    ensures { MayBeTrimmed shard.old shard.new }
-{
-    if shard.entries().len() < *most {
-        return;
-    }
-    let _ = shard.trim_in_place(alloc);
-    *most = shard.entries().len().saturating_mul(2).max(TRIM_FROM);
-    let _ = shard.reserve(*most);
 }
 
 impl Running {

@@ -17,6 +17,7 @@ pub mod RunSteps
 pub mod RunHistories
 pub mod RunTaken
 pub mod StepEnds
+pub mod KeptSteps
 pub mod Openings
 pub mod Live
 pub mod Trimmed

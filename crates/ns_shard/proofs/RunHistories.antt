@@ -7,10 +7,9 @@ use Rattle.ns_roster.specs.Valid.{IsRoster}
 use Rattle.ns_roster.specs.declared.Device.{Device}
 use Rattle.ns_types.specs.Identity.{shard_of}
 use Rattle.ns_types.specs.declared.identity.DevNonce.{DevNonce}
-use Rattle.ns_types.specs.declared.identity.DevEui.{DevEui}
 use Rattle.std.specs.Option.{option_and_then}
 use Rattle.std.specs.Prelude.{Contains}
-use Rattle.std.proofs.Common.{◌≡◌, ℕ, ◌<◌, List, [], ◌∷◌, ◌++◌, length, map, filter, slice_get, take, drop, ◌≤◌, Some, Result, Ok, Err, refl, sym, ap, ◌∙◌, subst, arith, eqb, cond, None, Option, option_map, find, ◌==◌, eq-eqb, Bool, true}
+use Rattle.std.proofs.Common.{◌≡◌, ℕ, ◌<◌, List, [], ◌∷◌, ◌++◌, length, map, filter, slice_get, take, drop, ◌≤◌, Some, Result, Ok, Err, refl, sym, ap, ◌∙◌, subst, arith, eqb, None, Option, option_map, find, ◌==◌, Bool, true}
 use Rattle.std.specs.List.{AllByRecursion}
 use Rattle.std.proofs.lemmas.List.{append_assoc, append-nil, map_push, take_all, drop_all}
 use Rattle.std.proofs.lemmas.Option.{slice_get_within, same_Some}
@@ -29,13 +28,12 @@ use Rattle.ns_calls.proofs.UplinkLemmas.{counters_rise}
 use Rattle.ns_calls.proofs.WindowLemmas.{windows_open_once}
 use Rattle.ns_calls.proofs.AckLemmas.{acks_rise}
 use Rattle.ns_calls.proofs.OutLemmas.{goes_out}
-use Rattle.ns_kept.proofs.ReadLemmas.{reading-whole}
 use Rattle.ns_shard.specs.declared.step.Step.{Step}
 use Rattle.ns_shard.specs.declared.run.Taken.{Taken}
-use Rattle.ns_shard.specs.State.{State, known_greatest, greatest_in}
+use Rattle.ns_shard.specs.State.{State}
 use Rattle.ns_shard.specs.Taken.{call_of, calls_of, OfEach, HandsOut}
 use Rattle.ns_shard.specs.Steps.{shard_history, call_taken, all_taken, state_after, AreAfter}
-use Rattle.ns_shard.specs.NextRun.{greatest_among, greatest_after, closing_roster, accepted_by}
+use Rattle.ns_shard.specs.NextRun.{greatest_after, closing_roster, accepted_by}
 use Rattle.ns_calls.proofs.Lists.{All-weaker}
 use Rattle.std.proofs.lemmas.Bool.{eqb-true}
 use Rattle.std.proofs.lemmas.List.Elements.{filter_passes, recursion_from_All}
@@ -59,7 +57,7 @@ pub shard_history-is : (net : Network) (shard : ℕ) (steps : List Step) → IsH
 shard_history-is net shard steps = is_history net shard [] (calls_of shard steps) (own_calls shard _) (history_none net shard)
 
 -- the entries of a shard after steps
-entries-after : (net : Network) (steps : List Step) (shards : List State) → AreAfter net steps shards → (shard : ℕ) (s : State) → slice_get shards shard ≡ Some s → shard_history net shard steps ≡ s.entries
+pub entries-after : (net : Network) (steps : List Step) (shards : List State) → AreAfter net steps shards → (shard : ℕ) (s : State) → slice_get shards shard ≡ Some s → shard_history net shard steps ≡ s.entries
 entries-after net steps shards after shard s at =
     let within : shard < length shards = slice_get_within shards shard s at in
     ap (λ (t : State). t.entries) (same_Some (state_after net shard steps) s (sym (after.each shard (omega (arith, after.sixteen, within))) ∙ at))
@@ -105,15 +103,6 @@ told-all net steps i taken whole told =
 
 pub histories-within : (net : Network) (steps : List Step) (shards : List State) → AreAfter net steps shards → OfEach shards (λ shard h. NoncesAreWithin net h)
 histories-within net steps shards after = of_each (λ shard h. NoncesAreWithin net h) net steps shards after (λ shard. nonces_within net _ (shard_history-is net shard steps).legal)
-
--- the greatest nonce of a device, as its shard has it after the steps
-pub greatest-after : (net : Network) (steps : List Step) (shards : List State) → AreAfter net steps shards → (eui : DevEui) → greatest_among shards eui ≡ greatest_after net steps eui
-greatest-after net steps shards after eui =
-    let shard : ℕ = shard_of eui in
-    let s : State = state_after net shard steps in
-    ap (option_and_then (λ (t : State). greatest_in t eui)) (after.each shard (omega arith))
-    ∙ (ap (λ h. cond (shard == shard) (known_greatest net h eui) None) (reading-whole s.entries)
-    ∙ ap (λ b. cond b (known_greatest net s.entries eui) None) (eq-eqb shard shard refl))
 
 -- ---- two runs
 

@@ -4,7 +4,6 @@ use Rattle.std.specs.Result.{result_ok}
 use Rattle.std.proofs.lemmas.Bool.Decides.{eqb_tells}
 use Rattle.std.proofs.lemmas.List.{append-nil, length-append, length-set, take_more}
 use Rattle.std.proofs.lemmas.List.Elements.{filter-append, filter_map-append}
-use Rattle.std.proofs.lemmas.Option.{same_Some}
 use Rattle.ns_roster.specs.Network.{Network}
 use Rattle.ns_calls.specs.declared.call.Call.{Call}
 use Rattle.ns_calls.specs.declared.call.Call.TheVariants as call
@@ -12,17 +11,15 @@ use Rattle.ns_calls.specs.declared.call.Entry.{Entry}
 use Rattle.ns_calls.specs.Steps.{Refusal, link, view}
 use Rattle.ns_calls.specs.Shards.{shard_of_call}
 use Rattle.ns_calls.specs.Legal.{entry_for, with_call}
-use Rattle.ns_calls.specs.Out.{answer}
 use Rattle.ns_kept.proofs.ReadLemmas.{reading-whole}
 use Rattle.ns_calls.specs.Runs.{history_after, history_of}
 use Rattle.ns_calls.proofs.MergeLemmas.{slice_get-set_other, slice_get-set_same}
 use Rattle.ns_shard.specs.declared.run.Taken.{Taken}
-use Rattle.ns_shard.specs.declared.run.Taken.TheVariants.{Made}
 use Rattle.ns_shard.specs.declared.step.Step.{Step}
 use Rattle.ns_shard.specs.State.{State, after_call}
 use Rattle.ns_shard.specs.Taken.{call_of, calls_of}
-use Rattle.ns_shard.specs.Steps.{shard_history, call_taken, step_taken, all_taken, state_after, AreAfter}
-use Rattle.ns_shard.specs.Private.Run.{refused_as, taken_in, states_after}
+use Rattle.ns_shard.specs.Steps.{shard_history, step_taken, all_taken, state_after, AreAfter}
+use Rattle.ns_shard.specs.Private.Run.{refused_as, states_after}
 use Rattle.ns_calls.proofs.Lists.{one_more}
 
 -- the history of more calls
@@ -76,15 +73,6 @@ shard_small (call.Uplink frame heard) = omega arith
 shard_small (call.Join ticket heard) = omega arith
 shard_small (call.JoinReply ticket outcome) = omega arith
 shard_small (call.Close window) = omega arith
-
--- what comes of a step in the shards after the steps before it
-pub taken-after : (net : Network) (before : List Step) (shards : List State) (r : Result Call Refusal) → AreAfter net before shards
-    → taken_in shards (refused_as r) ≡ Some (call_taken net before r)
-taken-after net before shards (Err (link fault)) after = refl
-taken-after net before shards (Err (view fault)) after = refl
-taken-after net before shards (Ok c) after =
-    let h = shard_history net (shard_of_call c) before in
-    rw (after.each (shard_of_call c) (shard_small c)) (ap (λ es. Some (Made (shard_of_call c) (length h) (answer net es c))) (reading-whole h))
 
 -- a step that makes no call leaves the shards
 after-refused : (net : Network) (before : List Step) (step : Step) (shards : List State) → AreAfter net before shards → result_ok (call_of step.act) ≡ None → AreAfter net (before ++ step ∷ []) shards
@@ -148,7 +136,3 @@ pub step-more : (net : Network) (steps : List Step) (i : ℕ) (x : Step) (next :
 step-more net steps i x next within is after =
     let longer : take (i + 1) steps ≡ take i steps ++ x ∷ [] = take_more steps i x within ∙ ap (λ y. take i steps ++ y ∷ []) (sym is) in
     subst (λ ss. AreAfter net ss next) (sym longer) after
-
-pub step-taken : (net : Network) (before : List Step) (x : Step) (shards : List State) (t : Taken) → AreAfter net before shards
-    → taken_in shards (refused_as (call_of x.act)) ≡ Some t → t ≡ step_taken net before x
-step-taken net before x shards t after told = same_Some t (step_taken net before x) (sym told ∙ taken-after net before shards (call_of x.act) after)

@@ -1,7 +1,7 @@
 -- What a contract sees of a shard: what is read of it, what every state is, and how a call changes it.
 use Rattle.ns_types.specs.Identity.{shard_of}
 use Rattle.ns_types.specs.declared.identity.DevEui.{DevEui}
-use Rattle.std.specs.Prelude.{◌≡◌, ℕ, ◌+◌, Bool, false, List, [], ◌∷◌, ◌++◌, length, filter_map, Option, not, ◌==◌, None, is_some, option_and_then, if◌then◌else◌}
+use Rattle.std.specs.Prelude.{◌≡◌, ◌⊎◌, ℕ, ◌+◌, Bool, false, List, [], ◌∷◌, ◌++◌, length, filter_map, Option, not, ◌==◌, None, is_some, option_and_then, if◌then◌else◌}
 use Rattle.ns_types.specs.Cases.{when}
 use Rattle.ns_types.specs.declared.identity.WindowName.{WindowName}
 use Rattle.ns_types.specs.declared.ticket.Ticket.{Ticket}
@@ -121,3 +121,7 @@ after_trim s = let kept = keep s.made (remains s) in record s { mark = kept.mark
 -- the entries that a trim drops, in order
 abbrev pub dropped : State → List Entry
 dropped s = filter_before (λ e after. not (is_kept (seen s) e after)) s.entries
+
+-- the shard is as it was, or was trimmed
+abbrev pub MayBeTrimmed : State → State → Type 0
+MayBeTrimmed old new = (new ≡ old) ⊎ (new ≡ after_trim old)

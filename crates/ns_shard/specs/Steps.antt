@@ -44,7 +44,3 @@ state_after net shard steps = let h = shard_history net shard steps in record { 
 pub record AreAfter (net : Network) (steps : List Step) (shards : List State) : Type 0 where
   pub sixteen : length shards ≡ shard_count
   pub each : (shard : ℕ) → shard < shard_count → slice_get shards shard ≡ Some (state_after net shard steps)
-
--- the shards are those after some steps
-abbrev pub AreReached : List State → Type 0
-AreReached shards = (net : Network) × (steps : List Step) × AreAfter net steps shards

@@ -1,7 +1,7 @@
 //! A run of steps over the sixteen shards.
 
 ghost use Rattle.ns_types.specs.declared.identity.DevEui.{DevEui};
-ghost use Rattle.std.specs.Prelude.{◌≡◌, ◌<◌, List, [], ◌∷◌, ◌++◌, length, map, slice_get, Some, IsOk, IfOk, OnOk, OnErr, IfSome, option_map};
+ghost use Rattle.std.specs.Prelude.{◌≡◌, ◌<◌, ℕ, List, [], ◌∷◌, ◌++◌, length, map, slice_get, Some, IsOk, IfOk, OnOk, OnErr, IfSome, option_map};
 ghost use Rattle.std.specs.Arc.{arc_value};
 ghost use Rattle.std.specs.List.{AllByRecursion};
 ghost use Rattle.ns_types.specs.Identity.{shard_count};
@@ -11,10 +11,12 @@ ghost use Rattle.ns_calls.specs.Laws.{NoncesRise, CountersRise, WindowsOpenOnce}
 ghost use Rattle.ns_calls.specs.Headline.{AcksRise, NoncesAreWithin};
 ghost use Rattle.ns_calls.specs.Steps.{datagram_call};
 ghost use Rattle.ns_shard.specs.declared.step.Step.{Step};
-ghost use Rattle.ns_shard.specs.Steps.{step_taken, all_taken, AreAfter, AreReached};
+ghost use Rattle.ns_shard.specs.State.{State, Keeps, MayBeTrimmed};
+ghost use Rattle.ns_shard.specs.KeptSteps.{AreKeptAfter, AreReached, AreInPlace};
+ghost use Rattle.ns_shard.specs.Steps.{step_taken, all_taken, AreAfter};
 ghost use Rattle.ns_shard.specs.Taken.{call_of, calls_of, OfEach, HandsOut, HasCopies, AreHandedOutOnce};
 ghost use Rattle.ns_shard.specs.NextRun.{greatest_among, greatest_after};
-ghost use Rattle.ns_shard.specs.Private.Run.{refused_as, AreInPlace, StepEnds};
+ghost use Rattle.ns_shard.specs.Private.Run.{refused_as, StepEnds};
 
 use crate::calls::answer_call;
 use crate::packed::BoxedAnswer;
@@ -64,14 +66,33 @@ impl Taken {
     }
 }
 
+/// From how many entries on `trim_if_due` trims a shard, where twice what its last trim left is less: so trims take a part of the time that
+/// does not grow with the devices, and sixteen small shards stay in a processor's cache.
+pub const TRIM_FROM: usize = 512;
+
+/// Trims a shard that holds `most` entries or more, sets `most` to twice what it then holds, at least `TRIM_FROM`, and makes room for so many
+/// more. Where the trim is refused the shard stays as it is, and `most` is set all the same; room that is refused is left out.
+pub fn trim_if_due(alloc: Global, shard: &mut Shard, most: &mut usize)
+    ensures { MayBeTrimmed shard.old shard.new }
+{
+    if shard.entries().len() < *most {
+        return;
+    }
+    let _ = shard.trim_in_place(alloc);
+    *most = shard.entries().len().saturating_mul(2).max(TRIM_FROM);
+    let _ = shard.reserve(*most);
+}
+
 /// The sixteen shards. Contracts see the list of their states.
 #[derive(Drop)]
 pub struct Shards {
     list: Vec<Shard>,
+    // How many entries each holds when it is trimmed, where steps are run by `step_and_trim`.
+    most: [usize; 16],
 }
 
 impl Model for Shards {
-    ghost use Rattle.std.specs.Prelude.{◌≡◌, ◌<◌, ℕ, List, length, slice_get, Some};
+    ghost use Rattle.std.specs.Prelude.{◌≡◌, ◌<◌, ℕ, ℕ, List, length, slice_get, Some};
     ghost use Rattle.ns_shard.specs.State.{State};
 
     ghost Value = { List State };
@@ -100,21 +121,51 @@ impl Shards {
     /// The sixteen shards before any step. `NoMemory` (`AllocError`) where a growth was refused.
     pub fn new(alloc: Global, roster: Arc<Roster>) -> Result<Shards, AllocError>
         ensures shards { IfOk result (AreAfter (arc_value roster) []) }
+        ensures kept { IfOk result (AreKeptAfter (arc_value roster) []) }
         ensures reached { IfOk result AreReached }
     {
         Ok(Shards {
             list: new_shards(alloc, roster)?,
+            most: [TRIM_FROM; 16],
         })
     }
 
-    /// Runs one step more. `NoMemory` (`AllocError`) where a growth was refused: the step may have been taken then, so the run is over.
+    /// Runs one step more, at shards that were trimmed before or not; those that never were it leaves so. `NoMemory` (`AllocError`) where a
+    /// growth was refused: the step may have been taken then, so the run is over.
     pub fn step(&mut self, alloc: Global, step: &Step) -> Result<Taken, AllocError>
         requires { AreReached self.old }
-        ensures taken { IfOk result (λ t. (net : Network) (before : List Step) → AreAfter net before self.old → t ≡ step_taken net before step.now) }
+        ensures taken { IfOk result (λ t. (net : Network) (before : List Step) → AreKeptAfter net before self.old → t ≡ step_taken net before step.now) }
         ensures shards { OnOk result ((net : Network) (before : List Step) → AreAfter net before self.old → AreAfter net (before ++ step.now ∷ []) self.new) }
+        ensures kept { OnOk result ((net : Network) (before : List Step) → AreKeptAfter net before self.old → AreKeptAfter net (before ++ step.now ∷ []) self.new) }
         ensures reached { OnOk result (AreReached self.new) }
     {
         run_step(alloc, &mut self.list, step)
+    }
+
+    // Trims the shard of this number, where that is due.
+    fn trim_one(&mut self, alloc: Global, index: u8)
+        requires { length self.old ≡ shard_count }
+        ensures { (net : Network) (steps : List Step) → AreKeptAfter net steps self.old → AreKeptAfter net steps self.new }
+    {
+        let place = usize::from(index);
+        if let Some(shard) = self.list.get_mut(place) {
+            trim_if_due(alloc, shard, &mut self.most[place]);
+        }
+    }
+
+    /// Runs one step more as `step` does, and trims its shard where that is due (no clause says when): what comes of later steps is the same.
+    /// `NoMemory` (`AllocError`) where a growth of the step was refused: the run is over. A trim that is refused is left out.
+    pub fn step_and_trim(&mut self, alloc: Global, step: &Step) -> Result<Taken, AllocError>
+        requires { AreReached self.old }
+        ensures taken { IfOk result (λ t. (net : Network) (before : List Step) → AreKeptAfter net before self.old → t ≡ step_taken net before step.now) }
+        ensures kept { OnOk result ((net : Network) (before : List Step) → AreKeptAfter net before self.old → AreKeptAfter net (before ++ step.now ∷ []) self.new) }
+        ensures reached { OnOk result (AreReached self.new) }
+    {
+        let taken = self.step(alloc, step)?;
+        if let Taken::Made { shard, .. } = &taken {
+            self.trim_one(alloc, *shard);
+        }
+        Ok(taken)
     }
 
     /// The shards, each at its number.
@@ -134,18 +185,20 @@ impl Shards {
         }
     }
 
-    /// Ends a run: whatever its steps were, what `run` promises holds of these shards, and of what came of the steps. It is a law.
+    /// Ends a run: whatever its steps were, what `run` promises holds of the shards as they are without trims (`whole`), of which these keep
+    /// what trims leave, and of what came of the steps. It is a law.
     pub fn end(&self)
-        ensures histories { (net : Network) (steps : List Step) → AreAfter net steps self.now → OfEach self.now (λ shard h. IsHistory net shard h) }
-        ensures calls { (net : Network) (steps : List Step) → AreAfter net steps self.now → OfEach self.now (λ shard h. map (λ e. e.call) h ≡ calls_of shard steps) }
-        ensures nonces_rise { (net : Network) (steps : List Step) → AreAfter net steps self.now → OfEach self.now (λ shard h. NoncesRise h) }
-        ensures counters_rise { (net : Network) (steps : List Step) → AreAfter net steps self.now → OfEach self.now (λ shard h. CountersRise h) }
-        ensures acks_rise { (net : Network) (steps : List Step) → AreAfter net steps self.now → OfEach self.now (λ shard h. AcksRise h) }
-        ensures windows_open_once { (net : Network) (steps : List Step) → AreAfter net steps self.now → OfEach self.now (λ shard h. WindowsOpenOnce h) }
-        ensures nonces_within { (net : Network) (steps : List Step) → AreAfter net steps self.now → OfEach self.now (λ shard h. NoncesAreWithin net h) }
-        ensures greatest { (net : Network) (steps : List Step) → AreAfter net steps self.now → (eui : DevEui) → greatest_among self.now eui ≡ greatest_after net steps eui }
+        ensures histories { (net : Network) (steps : List Step) (whole : List State) → AreAfter net steps whole → OfEach whole (λ shard h. IsHistory net shard h) }
+        ensures calls { (net : Network) (steps : List Step) (whole : List State) → AreAfter net steps whole → OfEach whole (λ shard h. map (λ e. e.call) h ≡ calls_of shard steps) }
+        ensures nonces_rise { (net : Network) (steps : List Step) (whole : List State) → AreAfter net steps whole → OfEach whole (λ shard h. NoncesRise h) }
+        ensures counters_rise { (net : Network) (steps : List Step) (whole : List State) → AreAfter net steps whole → OfEach whole (λ shard h. CountersRise h) }
+        ensures acks_rise { (net : Network) (steps : List Step) (whole : List State) → AreAfter net steps whole → OfEach whole (λ shard h. AcksRise h) }
+        ensures windows_open_once { (net : Network) (steps : List Step) (whole : List State) → AreAfter net steps whole → OfEach whole (λ shard h. WindowsOpenOnce h) }
+        ensures nonces_within { (net : Network) (steps : List Step) (whole : List State) → AreAfter net steps whole → OfEach whole (λ shard h. NoncesAreWithin net h) }
+        ensures kept { (net : Network) (steps : List Step) (whole : List State) → AreAfter net steps whole → AreKeptAfter net steps self.now → (shard : ℕ) (w s : State) → slice_get whole shard ≡ Some w → slice_get self.now shard ≡ Some s → Keeps w.entries s }
+        ensures greatest { (net : Network) (steps : List Step) → AreKeptAfter net steps self.now → (eui : DevEui) → greatest_among self.now eui ≡ greatest_after net steps eui }
         ensures uplinks { (net : Network) (steps : List Step) → AllByRecursion HandsOut (all_taken net [] steps) }
-        ensures copies { (net : Network) (steps : List Step) → AreAfter net steps self.now → AllByRecursion (HasCopies self.now) (all_taken net [] steps) }
+        ensures copies { (net : Network) (steps : List Step) (whole : List State) → AreAfter net steps whole → AllByRecursion (HasCopies whole) (all_taken net [] steps) }
         ensures handed_out_once { (net : Network) (steps : List Step) → AreHandedOutOnce (all_taken net [] steps) }
     {}
 

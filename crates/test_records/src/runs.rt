@@ -1,4 +1,4 @@
-//! Runs of steps by `Shards::run`: one of 100,002 steps, and one to which memory is refused.
+//! Runs of steps: two of 100,002, by `Shards::run` and by `Shards::step_and_trim`, and one to which memory is refused.
 //!
 //! No contract says that a run finds memory, so a body that refuses many steps would be proved.
 
@@ -9,7 +9,7 @@ use crate::worked::roster_of;
 use ns_calls::{Call, Reply};
 use ns_record::step_line;
 use ns_roster::Roster;
-use ns_shard::{Shards, Step, Taken};
+use ns_shard::{Shards, Step, TRIM_FROM, Taken};
 use ns_steps::step;
 use ns_types::{BLOCKS, DevEui, WindowName, take_all};
 use std::alloc::Global;
@@ -99,6 +99,27 @@ fn right_steps(alloc: Global) -> Option<(u32, usize)> {
 #[test]
 fn a_hundred_thousand_steps(rt: HostRuntime) {
     assert!(rt; right_steps(rt.alloc()) == Some((STEPS, 100_002)));
+}
+
+// How many of the steps come out right at shards that are trimmed between them, and how many entries their shard has at the end.
+fn right_trimmed_steps(alloc: Global) -> Option<(u32, usize)> {
+    let steps = long_steps(alloc)?;
+    let mut shards = Shards::new(alloc, roster_of(alloc, ROSTER).ok()?).ok()?;
+    let mut place = 0u32;
+    let mut right = 0u32;
+    'steps: for step in steps.as_slice() {
+        let taken = shards.step_and_trim(alloc, step).ok()?;
+        right = right.wrapping_add(u32::from(is_made_at(place, &taken)));
+        place = place.wrapping_add(1);
+    }
+    Some((right, shards.as_slice().get(13)?.entries().len()))
+}
+
+// They come out the same, and the shard does not grow with them.
+#[test]
+fn trims_between_steps(rt: HostRuntime) {
+    let (right, entries) = right_trimmed_steps(rt.alloc()).unwrap_or((0, 0));
+    assert!(rt; right == STEPS && entries < TRIM_FROM);
 }
 
 // The closing of the window that the worked steps open, the same once more, and their uplink.

@@ -4,16 +4,16 @@ use Rattle.std.specs.List.{All}
 use Rattle.ns_roster.specs.Network.{Network}
 use Rattle.ns_events.specs.declared.output.Output.{Output}
 use Rattle.ns_shard.specs.declared.step.Act.{Act}
-use Rattle.ns_shard.specs.Steps.{AreAfter}
+use Rattle.ns_shard.specs.KeptSteps.{AreKeptAfter}
 use Rattle.ns_replay.specs.declared.reading.Answers.{Answers}
 use Rattle.ns_replay.specs.Output.{all_lines, text_of}
 use Rattle.ns_steps.specs.StepLines.{steps}
 use Rattle.ns_replay.specs.Private.Lines.{steps_in}
 
--- the shards are those after the steps of these lines, and the text is what is written of the lines
+-- the shards are what the steps of these lines leave, and the text is what is written of the lines
 pub record Has (net : Network) (uplinks : Output) (answers : Answers) (lines : List (Option Act)) : Type 0 where
   pub are_for : answers.uplinks ≡ uplinks
-  pub after : AreAfter net (steps_in lines) answers.shards
+  pub after : AreKeptAfter net (steps_in lines) answers.shards
   pub told : answers.text.items ≡ flat_map (text_of uplinks) (all_lines net [] lines)
 
 -- what came is that of a text but for what stands behind its last line feed, which is `line`; whatever follows

@@ -9,15 +9,12 @@ use Rattle.ns_calls.specs.Shards.{shard_of_call}
 use Rattle.ns_lines.specs.Text.{has_line_feed}
 use Rattle.ns_recorded.specs.Recorded.{matters}
 use Rattle.ns_shard.specs.declared.step.Step.{Step}
-use Rattle.ns_shard.specs.State.{State, answer_in, after_call}
+use Rattle.ns_shard.specs.State.{State, MayBeTrimmed, answer_in, after_call}
+use Rattle.ns_shard.specs.KeptSteps.{AreKeptAfter}
 use Rattle.ns_steps.specs.StepLines as lines
 use Rattle.ns_steps.specs.StepLines.{ended}
-use Rattle.ns_resume.specs.Resumed.{AreStepsOf, AreResumed, AllFit, AreUps, MayBeTrimmed, ups_since}
+use Rattle.ns_resume.specs.Resumed.{AreStepsOf, AllFit, AreUps, ups_since}
 use Rattle.ns_resume.specs.declared.run.Running.{Running}
-
--- each shard stands at its number
-abbrev pub AreInPlace : List State → Type 0
-AreInPlace shards = (shard : ℕ) (s : State) → slice_get shards shard ≡ Some s → s.index ≡ shard
 
 -- the call was made at its shard, which may have been trimmed then, and this is its answer, on which later answers rest
 pub record HasAnswered (old new : List State) (c : Call) (a : Answer) : Type 0 where
@@ -31,7 +28,7 @@ pub record HasAnswered (old new : List State) (c : Call) (a : Answer) : Type 0 w
 
 -- the run of these steps so far, where so much of the `up` lines was read, and so many first steps imply none
 pub record HasRun (net : Network) (before : ℕ) (steps : List Step) (read : List ℕ) (r : Running) : Type 0 where
-  pub shards : AreResumed net steps r.shards.items
+  pub shards : AreKeptAfter net steps r.shards.items
   pub fit : AllFit net steps
   pub ups : AreUps read (ups_since net before steps) r.ups.missing.items r.ups.torn
 

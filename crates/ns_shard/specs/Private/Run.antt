@@ -1,5 +1,5 @@
 -- What comes of a call in the states of the shards, and the states after it.
-use Rattle.std.specs.Prelude.{◌≡◌, ℕ, List, Option, Some, option_map, slice_get, slice_set, Result, Ok, Err, IsOk}
+use Rattle.std.specs.Prelude.{◌≡◌, List, Option, Some, option_map, slice_get, slice_set, Result, Ok, Err, IsOk}
 use Rattle.std.specs.Option.{option_map_or}
 use Rattle.std.specs.declared.alloc.AllocError.{AllocError}
 use Rattle.ns_calls.specs.declared.call.Call.{Call}
@@ -14,10 +14,6 @@ abbrev pub refused_as : Result Call Refusal → Result Call Taken
 refused_as (Ok c) = Ok c
 refused_as (Err (link fault)) = Err (Link fault)
 refused_as (Err (view fault)) = Err (View fault)
-
--- each shard stands at its number
-abbrev pub AreInPlace : List State → Type 0
-AreInPlace shards = (shard : ℕ) (s : State) → slice_get shards shard ≡ Some s → s.index ≡ shard
 
 -- what comes of a call or a refusal in these states, and the states after it
 abbrev pub taken_in : List State → Result Call Taken → Option Taken

@@ -4,8 +4,9 @@ use Rattle.std.specs.List.{AllByRecursion}
 use Rattle.std.specs.Arc.{arc_value}
 use Rattle.ns_shard.specs.Steps.{all_taken}
 use Rattle.ns_shard.specs.Taken.{HandsOut, HasCopies, AreHandedOutOnce}
+use Rattle.ns_shard.proofs.KeptSteps.{greatest-kept, kept-whole}
 use Rattle.ns_shard.proofs.RunSteps.{step-more, told-more}
-use Rattle.ns_shard.proofs.RunHistories.{histories-legal, histories-calls, histories-nonces, histories-counters, histories-acks, histories-windows, all-hand_out, after-all, told-all, histories-within, greatest-after}
+use Rattle.ns_shard.proofs.RunHistories.{histories-legal, histories-calls, histories-nonces, histories-counters, histories-acks, histories-windows, all-hand_out, after-all, told-all, histories-within}
 use Rattle.ns_shard.proofs.RunTaken.{taken-copies, taken-once}
 use Rattle.ns_shard.proofs.run.Shards.run.Goals as goal
 
@@ -14,13 +15,19 @@ steps-preserved c =
     let net = arc_value c.args.roster in
     let i = c.steps.step-index in
     let x = c.step-item.result in
-    let new = c.in_ok-one.ensures ∙ c.in_ok-step.ensures.taken net (take i c.args.steps.now) c.steps.invariant.after in
+    let new = c.in_ok-one.ensures ∙ c.in_ok-step.ensures.taken net (take i c.args.steps.now) (kept-whole net (take i c.args.steps.now) c.steps.shards c.steps.invariant.after) in
     record {
       after = step-more net c.args.steps.now i x c.step.new.self c.steps-test.true c.step-item.is (c.in_ok-step.ensures.shards net (take i c.args.steps.now) c.steps.invariant.after);
       told =
           ap (λ ts. ts ++ all_taken net (take (i + 1) c.args.steps.now) (drop (i + 1) c.args.steps.now)) c.in_ok-push.ensures.items
           ∙ told-more net c.args.steps.now i x c.steps.taken.items _ c.in_ok-one.one c.steps-test.true c.step-item.is c.steps.invariant.told new;
     }
+
+pub step-requires : goal.step-requires
+step-requires c =
+    let net = arc_value c.args.roster in
+    let done = take c.steps.step-index c.args.steps.now in
+    (net, done, kept-whole net done c.steps.shards c.steps.invariant.after)
 
 pub returns : goal.returns
 returns c =
@@ -41,7 +48,7 @@ returns c =
       uplinks = subst (AllByRecursion HandsOut) (sym told) (all-hand_out net [] steps);
       windows_open_once = histories-windows net steps shards after;
       nonces_within = histories-within net steps shards after;
-      greatest = greatest-after net steps shards after;
+      greatest = greatest-kept net steps shards (kept-whole net steps shards after);
       copies = subst (AllByRecursion (HasCopies shards)) (sym told) (taken-copies net steps shards after);
       handed_out_once = subst AreHandedOutOnce (sym told) (taken-once net steps);
     }
