@@ -4,10 +4,12 @@
     rustc -O --edition 2021 -o PLAIN bench/plain_server/main.rs
     python3 bench/beside.py PROGRAM PLAIN [--runs N] [--sizes DEVICESxFRAMESxGATEWAYS,..] [--folder FOLDER]
 
-It makes each run in a temporary folder, below FOLDER where it is said, answers it N times (3, unless said otherwise) by each program in turn,
-and checks that both wrote the same bytes. Of each program it prints the times and the peak memory of the answering that took the least processor
-time (user and system), as a Markdown table; a ratio is how many times the plain server's processor time, or its peak memory. The files are deleted
-at the end; the default sizes need about 1 GB. It needs the Python package `cryptography`. Status 1 where the bytes differ or a program fails.
+It makes each run in a temporary folder, below FOLDER where it is said, and answers it N times (3, unless said otherwise) in turn by PROGRAM, by
+PLAIN, which keeps its whole journal, and by PLAIN with `--trim`, which trims its shards as PROGRAM does ("trimming"); it checks that all wrote
+the same bytes. Of each it prints the times and the peak memory of the answering that took the least processor time (user and system), as a
+Markdown table. A ratio is how many times PLAIN's processor time, or its peak memory; behind these are the ratios to the trimming one. The files
+are deleted at the end; the default sizes need about 1 GB. It needs the Python package `cryptography`. Status 1 where the bytes differ or a
+program fails.
 """
 
 import argparse
@@ -20,7 +22,8 @@ import time
 
 WHOLE_RUNS = os.path.join(os.path.dirname(os.path.abspath(__file__)), "whole_runs.py")
 SIZES = "1000x500x3,65536x8x3"
-HEAD = ("Run", "Lines", "Program", "Wall s", "User s", "System s", "us a line", "Peak MB", "Bytes a line", "Ratio of time", "Ratio of memory")
+HEAD = ("Run", "Lines", "Program", "Wall s", "User s", "System s", "us a line", "Peak MB", "Bytes a line", "Ratio of time", "Ratio of memory",
+        "Time to trimming", "Memory to trimming")
 
 
 class Took:
@@ -46,24 +49,24 @@ def row(cells):
 
 
 def rows(size, programs, folder, runs):
-    """Makes a run, answers it by all programs and prints their rows."""
+    """Makes a run, answers it by all programs (each a name, a path and options) and prints their rows."""
     name, outputs = os.path.join(folder, "run"), [os.path.join(folder, "output%d" % i) for i in range(len(programs))]
     subprocess.run([sys.executable, WHOLE_RUNS, *size.split("x"), name], check=True)
     with open(name + ".steps", "rb") as steps:
         lines = sum(1 for _ in steps)
     least = [None] * len(programs)
     for _ in range(runs):
-        for i, program in enumerate(programs):
-            took = Took([program, "replay", name + ".json"], name + ".steps", outputs[i])
+        for i, (_, path, options) in enumerate(programs):
+            took = Took([path, "replay", name + ".json", *options], name + ".steps", outputs[i])
             if least[i] is None or took.spent() < least[i].spent():
                 least[i] = took
-        if not filecmp.cmp(*outputs, shallow=False):
+        if not all(filecmp.cmp(outputs[0], output, shallow=False) for output in outputs[1:]):
             sys.exit("the programs wrote different bytes on the run %s" % size)
-    plain = least[1]
-    for program, took in zip(programs, least):
-        row((size.replace("x", " x "), f"{lines:,}", os.path.basename(program), "%.2f" % took.wall, "%.2f" % took.user, "%.2f" % took.system,
+    for (shown, _, _), took in zip(programs, least):
+        ratios = (ratio for plain in least[1:] for ratio in (took.spent() / plain.spent(), took.peak / plain.peak))
+        row((size.replace("x", " x "), f"{lines:,}", shown, "%.2f" % took.wall, "%.2f" % took.user, "%.2f" % took.system,
              "%.2f" % (took.spent() * 1e6 / lines), f"{took.peak / 2**20:,.0f}", f"{took.peak / lines:,.0f}",
-             "%.2f" % (took.spent() / plain.spent()), "%.2f" % (took.peak / plain.peak)))
+             *("%.2f" % ratio for ratio in ratios)))
 
 
 def main():
@@ -74,13 +77,15 @@ def main():
     usage.add_argument("--sizes", default=SIZES)
     usage.add_argument("--folder")
     asked = usage.parse_args()
-    programs = [os.path.abspath(asked.program), os.path.abspath(asked.plain)]
-    for program in programs:
+    proved, plain = os.path.abspath(asked.program), os.path.abspath(asked.plain)
+    for program in (proved, plain):
         if not os.access(program, os.X_OK):
             sys.exit("no program at %s: build it first" % program)
+    name = os.path.basename(plain)
+    programs = [(os.path.basename(proved), proved, []), (name, plain, []), (name + ", trimming", plain, ["--trim"])]
     with tempfile.TemporaryDirectory(dir=asked.folder) as folder:
         nothing = Took(["/bin/true"], os.devnull, os.devnull)
-        sizes = subprocess.run([programs[1], "sizes"], check=True, capture_output=True, text=True).stdout.split("\n")
+        sizes = subprocess.run([plain, "sizes"], check=True, capture_output=True, text=True).stdout.split("\n")
         print("%d processors, load average %.1f. A program that does nothing has a peak of %.0f MB, that of this script, which starts the others."
               % (os.cpu_count(), os.getloadavg()[0], nothing.peak / 2**20))
         print("Sizes of the plain server's types in bytes: %s.\n" % ", ".join(sizes).rstrip(", "))

@@ -42,8 +42,9 @@ def replay(options):
     text = output_of([sys.executable, HERE + '/beside.py', options.program, options.plain, '--runs', str(options.runs), *options.folders])
     if text is None:
         return False
+    of_time = rows(text, 'Program')[0].index('Ratio of time')
     for cells in rows(text, os.path.basename(options.program)):
-        ratio('`replay`, time: %s' % cells[0], 1.5, float(cells[-2]))
+        ratio('`replay`, time beside plain Rust without trims: %s' % cells[0], 1.5, float(cells[of_time]))
     return True
 
 

@@ -29,7 +29,12 @@ const NAP: Duration = Duration::from_millis(3);
 const LATE_MS: u64 = 2000;
 
 /// An open window, with the frame and the copies of it.
-struct OwnWindow { name: WindowName, session: u32, frame: Frame, heard: [Heard; MOST_COPIES], len: u8 }
+pub struct OwnWindow { pub name: WindowName, session: u32, frame: Frame, heard: [Heard; MOST_COPIES], pub len: u8 }
+
+impl OwnWindow {
+    pub fn data(&self) -> Data<'_> { Data::of(&self.frame.bytes[..self.frame.len as usize]) }
+    pub fn heard(&self) -> &[Heard] { &self.heard[..self.len as usize] }
+}
 
 /// What goes up with a closing.
 struct Uplink {
@@ -56,7 +61,7 @@ impl Receipt {
 
 /// A shard whose windows hold their copies.
 #[derive(Default)]
-pub struct Own { shard: Shard, windows: Vec<Vec<Box<OwnWindow>>>, closed: Vec<Box<OwnWindow>>, made: u64, trimmed: u64 }
+pub struct Own { pub shard: Shard, windows: Vec<Vec<Box<OwnWindow>>>, closed: Vec<Box<OwnWindow>>, pub made: u64, trimmed: u64 }
 
 impl Own {
     pub fn new(shard: Shard) -> Own {
@@ -69,9 +74,9 @@ impl Own {
         receipt.uplink = None;
         receipt.downlink = None;
         let reply = match call {
-            Call::Uplink { frame, heard } => self.uplink(frame, heard),
+            Call::Uplink { frame, heard } => self.uplink(&Data::of(&frame.bytes[..frame.len as usize]), heard),
             Call::Close { window } => self.close(window, receipt),
-            Call::Join { ticket, .. } => self.shard.join(ticket),
+            Call::Join { ticket, heard } => self.shard.join(ticket, heard),
             Call::JoinReply { ticket, outcome } => self.shard.join_reply(ticket, outcome.as_ref()).0,
         };
         self.shard.entries.push(Entry { number: self.made, call: *call, reply });
@@ -81,8 +86,7 @@ impl Own {
         self.made += 1;
     }
 
-    fn uplink(&mut self, frame: &Frame, heard: &Heard) -> Reply {
-        let data = Data::of(&frame.bytes[..frame.len as usize]);
+    pub fn uplink(&mut self, data: &Data, heard: &Heard) -> Reply {
         let Some(places) = self.shard.by_addr.get(&(data.addr as u64)) else { return Reply::NoSession };
         let places = places.start as usize..places.end as usize;
         for window in self.windows[places.clone()].iter_mut().flatten() {
@@ -94,20 +98,20 @@ impl Own {
                 return Reply::Copied { window: name, place: window.len };
             }
         }
-        if let Some(fit) = self.shard.first_fit(places.clone(), &data, above) {
-            return self.open(&fit, 1, frame, heard);
+        if let Some(fit) = self.shard.first_fit(places.clone(), data, above) {
+            return self.open(&fit, 1, data.bytes, heard);
         }
-        let Some(fit) = self.shard.first_fit(places, &data, below) else { return Reply::NoSession };
+        let Some(fit) = self.shard.first_fit(places, data, below) else { return Reply::NoSession };
         let Session { greatest, round, .. } = self.shard.sessions[fit.session as usize];
         let same = |w: &Box<OwnWindow>| w.session == fit.session && w.name.fcnt == fit.fcnt;
         if !data.confirmed || greatest != Some(fit.fcnt) || round == u32::MAX || self.windows[fit.device].iter().any(same) {
             let WindowName { eui, session, fcnt, .. } = self.shard.window_of(&fit, 1);
             return Reply::Old { eui, session, fcnt };
         }
-        self.open(&fit, round + 1, frame, heard)
+        self.open(&fit, round + 1, data.bytes, heard)
     }
 
-    fn open(&mut self, fit: &Fit, round: u32, frame: &Frame, heard: &Heard) -> Reply {
+    fn open(&mut self, fit: &Fit, round: u32, bytes: &[u8], heard: &Heard) -> Reply {
         let name = self.shard.window_of(fit, round);
         let device = &mut self.shard.devices[fit.device];
         if self.windows[fit.device].len() == MOST_WINDOWS {
@@ -121,67 +125,76 @@ impl Own {
         let window = match self.closed.pop() {
             Some(mut window) => {
                 (window.name, window.session, window.len, window.heard[0]) = (name, fit.session, 1, *heard);
-                window.frame.len = frame.len;
-                window.frame.bytes[..frame.len as usize].copy_from_slice(&frame.bytes[..frame.len as usize]);
+                window.frame.len = bytes.len() as u8;
+                window.frame.bytes[..bytes.len()].copy_from_slice(bytes);
                 window
             }
-            None => Box::new(OwnWindow { name, session: fit.session, frame: *frame, heard: [*heard; MOST_COPIES], len: 1 }),
+            None => Box::new(OwnWindow { name, session: fit.session, frame: Frame::of(bytes), heard: [*heard; MOST_COPIES], len: 1 }),
         };
         self.windows[fit.device].push(window);
         if round == 1 { Reply::Opened { window: name } } else { Reply::Again { window: name } }
     }
 
-    fn close(&mut self, name: &WindowName, receipt: &mut Receipt) -> Reply {
+    /// Takes out a window, with the number of its acknowledgement. Its memory is for `reuse`.
+    pub fn take_out(&mut self, name: &WindowName) -> Option<(Box<OwnWindow>, Option<u32>)> {
         let same = |w: &Box<OwnWindow>| w.name.fcnt == name.fcnt && w.name.round == name.round && w.name.session == name.session;
-        let Some(place) = self.shard.by_eui.get(&name.eui) else { return Reply::NoWindow };
-        let windows = &mut self.windows[*place as usize];
-        let Some(at) = windows.iter().position(same) else { return Reply::NoWindow };
-        let window = windows.swap_remove(at);
-        let data = Data::of(&window.frame.bytes[..window.frame.len as usize]);
-        let live = self.shard.devices[*place as usize].live().any(|s| s == window.session);
-        let session = &mut self.shard.sessions[window.session as usize];
+        let place = *self.shard.by_eui.get(&name.eui)? as usize;
+        let at = self.windows[place].iter().position(same)?;
+        let window = self.windows[place].swap_remove(at);
         let mut ack = None;
-        if data.confirmed && live {
-            ack = u32::try_from(session.next_ack).ok();
-            session.next_ack += ack.is_some() as u64;
+        if window.data().confirmed && self.shard.devices[place].live().any(|s| s == window.session) {
+            let next = &mut self.shard.sessions[window.session as usize].next_ack;
+            ack = u32::try_from(*next).ok();
+            *next += ack.is_some() as u64;
         }
+        Some((window, ack))
+    }
+
+    pub fn session(&self, window: &OwnWindow) -> &Session { &self.shard.sessions[window.session as usize] }
+
+    /// Keeps the memory of a closed window for one that opens.
+    pub fn reuse(&mut self, window: Box<OwnWindow>) {
+        if self.closed.len() < AT_A_TIME {
+            self.closed.push(window);
+        }
+    }
+
+    fn close(&mut self, name: &WindowName, receipt: &mut Receipt) -> Reply {
+        let Some((window, ack)) = self.take_out(name) else { return Reply::NoWindow };
+        let (data, session) = (window.data(), self.session(&window));
         if name.round == 1 {
             receipt.uplink = Some(uplink_of(&window, &data, session));
         }
         if let Some(number) = ack {
-            let heard = &window.heard[..window.len as usize];
-            let best = heard.iter().reduce(|a, b| if (b.snr, b.rssi) > (a.snr, a.rssi) { b } else { a }).unwrap();
-            receipt.downlink = Some(Downlink { best: *best, frame: session.ack_frame(data.addr, number) });
+            receipt.downlink = Some(Downlink { best: *best(window.heard().iter()), frame: session.ack_frame(data.addr, number) });
         }
-        if self.closed.len() < AT_A_TIME {
-            self.closed.push(window);
-        }
+        self.reuse(window);
         Reply::Closed { window: *name, ack }
+    }
+
+    /// Whether an answer may rest on an entry.
+    pub fn keeps<F>(&self, entry: &Entry<F>) -> bool {
+        let Shard { devices, by_eui, sessions, .. } = &self.shard;
+        let live = |eui: u64, number| devices[by_eui[&eui] as usize].live().map(|s| &sessions[s as usize]).find(|s| s.number == number);
+        let is_last = |w: &WindowName| live(w.eui, w.session).is_some_and(|session| session.greatest == Some(w.fcnt));
+        let is_open = |w: &WindowName| self.windows[by_eui[&w.eui] as usize].iter().any(|o| o.name.fcnt == w.fcnt && o.name.session == w.session);
+        match (&entry.reply, &entry.call) {
+            (Reply::Opened { window } | Reply::Again { window }, _) => is_last(window) || is_open(window),
+            (Reply::Copied { window, .. }, _) => is_open(window),
+            (Reply::Closed { window, ack: Some(_) }, _) => is_last(window),
+            (Reply::Accepted { eui, session, .. }, _) => live(*eui, *session).is_some(),
+            (Reply::Ask { .. } | Reply::JoinCopied { .. }, Call::Join { ticket, .. }) => {
+                devices[by_eui[&dev_eui(ticket)] as usize].tickets.iter().any(|open| open.ticket == *ticket)
+            }
+            _ => false,
+        }
     }
 
     /// Drops the entries on which no answer rests.
     fn trim(&mut self) {
-        let Own { shard, windows, .. } = self;
-        let Shard { entries, devices, by_eui, sessions, .. } = shard;
-        entries.retain(|entry| match &entry.reply {
-            Reply::Opened { window } | Reply::Again { window } | Reply::Copied { window, .. } | Reply::Closed { window, .. } => {
-                let place = by_eui[&window.eui] as usize;
-                let last = devices[place].live().any(|s| {
-                    let session = &sessions[s as usize];
-                    session.number == window.session && session.greatest == Some(window.fcnt)
-                });
-                match entry.reply {
-                    Reply::Opened { .. } | Reply::Again { .. } if last => true,
-                    Reply::Closed { ack, .. } => ack.is_some() && last,
-                    _ => windows[place].iter().any(|w| w.name.fcnt == window.fcnt && w.name.session == window.session),
-                }
-            }
-            Reply::Accepted { eui, session, .. } => {
-                devices[by_eui[eui] as usize].live().any(|s| sessions[s as usize].number == *session)
-            }
-            Reply::Ask { .. } => true,
-            _ => false,
-        });
+        let mut entries = std::mem::take(&mut self.shard.entries);
+        entries.retain(|entry| self.keeps(entry));
+        self.shard.entries = entries;
         self.trimmed = self.made;
     }
 }
@@ -406,15 +419,9 @@ impl Live<'_> {
             let Ok(ticket) = job else { return };
             let outcome = self.ask(&ticket).and_then(|body| join_ans(&ticket, &body));
             let shard = shard_of(dev_eui(&ticket));
-            let heard = {
-                let own = asked.shards[shard].lock().unwrap();
-                own.shard.entries.iter().rev().find_map(|entry| match entry.call {
-                    Call::Join { ticket: asked, heard } if asked == ticket => Some(heard),
-                    _ => None,
-                })
-            };
+            let best = asked.shards[shard].lock().unwrap().shard.best_copy(&ticket);
             asked.call(shard, &Call::JoinReply { ticket, outcome }, &mut receipt);
-            if let (Reply::Accepted { .. }, Some(best), Some(answer)) = (receipt.reply, heard, outcome) {
+            if let (Reply::Accepted { .. }, Some(best), Some(answer)) = (receipt.reply, best, outcome) {
                 self.send(&best, 0, 5_000_000, &answer.accept[..answer.len as usize]);
             }
         }
@@ -429,9 +436,7 @@ fn put_uplink(call: &mut Call, bytes: &[u8], now: Heard) {
         *heard = now;
         return;
     }
-    let mut frame = Frame { len: bytes.len() as u8, bytes: [0; 255] };
-    frame.bytes[..bytes.len()].copy_from_slice(bytes);
-    *call = Call::Uplink { frame, heard: now };
+    *call = Call::Uplink { frame: Frame::of(bytes), heard: now };
 }
 
 impl Text {

@@ -5,28 +5,31 @@ use std::str::from_utf8;
 
 pub const DIGITS: &[u8; 16] = b"0123456789abcdef";
 
-pub const fn digit_values() -> [u8; 256] {
-    let mut table = [255; 256];
-    let mut i = 0;
-    while i < 16 {
-        table[DIGITS[i] as usize] = i as u8;
-        table[DIGITS[i].to_ascii_uppercase() as usize] = i as u8;
-        i += 1;
-    }
-    table
+/// The bytes of 32 hex digits, and all values of these in one: above 15 where one is no digit. The compiler makes vectors of them.
+#[inline(always)]
+fn packed(digits: &[u8; 32]) -> ([u8; 16], u8) {
+    let values = digits.map(|digit| {
+        let (number, letter) = (digit.wrapping_sub(b'0'), (digit | 32).wrapping_sub(b'a'));
+        (if number < 10 { number } else { 255 }).min(if letter < 6 { letter + 10 } else { 255 })
+    });
+    (std::array::from_fn(|i| values[2 * i] << 4 | values[2 * i + 1]), values.iter().fold(0, |all, value| all | value))
 }
-
-pub static DIGIT: [u8; 256] = digit_values();
 
 /// Reads just as many hex digits as fill the bytes, and says whether that is what they were.
 pub fn read_hex(digits: &[u8], bytes: &mut [u8]) -> bool {
-    let mut all = 0;
-    for (byte, pair) in bytes.iter_mut().zip(digits.chunks_exact(2)) {
-        let (high, low) = (DIGIT[pair[0] as usize], DIGIT[pair[1] as usize]);
-        all |= high | low;
-        *byte = high << 4 | low;
+    if digits.len() != 2 * bytes.len() {
+        return false;
     }
-    digits.len() == 2 * bytes.len() && all < 16
+    let ((blocks, rest), (parts, last)) = (digits.as_chunks(), bytes.as_chunks_mut());
+    let (mut padded, mut all) = ([b'0'; 32], 0);
+    for (part, block) in parts.iter_mut().zip(blocks) {
+        let (bytes, values) = packed(block);
+        (*part, all) = (bytes, all | values);
+    }
+    padded[..rest.len()].copy_from_slice(rest);
+    let (bytes, values) = packed(&padded);
+    last.copy_from_slice(&bytes[..last.len()]);
+    all | values < 16
 }
 
 pub fn hex_array<const N: usize>(digits: &[u8]) -> Option<[u8; N]> {

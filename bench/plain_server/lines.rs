@@ -2,6 +2,16 @@
 
 use crate::*;
 
+static PAIRS: [[u8; 2]; 256] = {
+    let mut pairs = [[0; 2]; 256];
+    let mut i = 0;
+    while i < 256 {
+        pairs[i] = [DIGITS[i / 16], DIGITS[i % 16]];
+        i += 1;
+    }
+    pairs
+};
+
 /// The text that goes out. Each word has a space before it but a line's first.
 pub struct Text(pub Vec<u8>);
 
@@ -18,10 +28,12 @@ impl Text {
     }
 
     pub fn hex_digits(&mut self, bytes: &[u8]) {
-        let at = self.0.len();
-        self.0.resize(at + 2 * bytes.len(), 0);
-        for (pair, byte) in self.0[at..].chunks_exact_mut(2).zip(bytes) {
-            pair.copy_from_slice(&[DIGITS[(byte >> 4) as usize], DIGITS[(byte & 15) as usize]]);
+        for block in bytes.chunks(16) {
+            let mut digits = [0; 32];
+            for (pair, byte) in digits.chunks_exact_mut(2).zip(block) {
+                pair.copy_from_slice(&PAIRS[*byte as usize]);
+            }
+            self.0.extend_from_slice(&digits[..2 * block.len()]);
         }
     }
 
@@ -91,8 +103,7 @@ impl Text {
     }
 
     /// The uplink of a closed window.
-    pub fn up(&mut self, entries: &[Entry], name: &WindowName, session: &Session, copies: &Copies) {
-        let data = Data::of(copies.frame(entries));
+    pub fn up<'a>(&mut self, name: &WindowName, data: &Data, session: &Session, copies: impl Iterator<Item = &'a Heard>, count: u8) {
         let mut room = [0; 242];
         let payload = &mut room[..data.payload.len()];
         payload.copy_from_slice(data.payload);
@@ -103,17 +114,16 @@ impl Text {
             (_, Some(app)) => cipher_in_place(&Aes128::new(app), data.addr, name.fcnt, payload),
             (_, None) => kind = "sealed",
         }
-        self.line("up").window(name).number_or_dash(data.port).word(kind.as_bytes()).hex(data.fopts).hex(payload).number(copies.len);
-        for (i, heard) in copies.heard(entries).enumerate() {
+        self.line("up").window(name).number_or_dash(data.port).word(kind.as_bytes()).hex(data.fopts).hex(payload).number(count);
+        for (i, heard) in copies.enumerate() {
             self.0.push(if i == 0 { b' ' } else { b',' });
             self.hex_digits(&heard.gateway.to_be_bytes());
         }
         self.end();
     }
 
-    /// A downlink in the first receive window of the best copy, the first one of the strongest.
-    pub fn down(&mut self, entries: &[Entry], copies: &Copies, offset: u8, delay: u64, frame: &[u8]) {
-        let best = copies.best(entries);
+    /// A downlink in the first receive window of the best copy.
+    pub fn down(&mut self, best: &Heard, (offset, delay): (u8, u64), frame: &[u8]) {
         self.line("down").eui(best.gateway).number(best.moment.wrapping_add(delay)).number(best.freq);
         self.number(best.dr.saturating_sub(offset)).hex(frame).end();
     }

@@ -1,7 +1,8 @@
 //! The network server in plain Rust: what `lorawan_ns replay ROSTER` does, to measure speed and memory of the proved program beside it.
 //!
 //!     rustc -O --edition 2021 -o plain_server bench/plain_server/main.rs
-//!     plain_server replay ROSTER < STEPS     prints what `lorawan_ns replay ROSTER` prints
+//!     plain_server replay ROSTER [--trim] < STEPS     prints what `lorawan_ns replay ROSTER` prints; with --trim shards are trimmed as they
+//!                                            grow, as those of `lorawan_ns replay` (trimmed.rs)
 //!     plain_server serve ROSTER --join ADDR [--listen ADDR] [--workers N] [--join-workers N] [--window MS] [--stop-after N] [--asked]
 //!                  [--rest]                  does what `lorawan_ns serve` does; with --asked also what its interface asks for (asked.rs); with
 //!                                            --rest workers rest while others are enough (rest.rs)
@@ -11,11 +12,12 @@
 //! It is a measure alone and no part of the server: nothing is proved of it, and its AES reads tables at secret addresses. It follows
 //! docs/FORMATS.md and tools/model.py, and `tools/compare.py plain_server` compares it with that model. It keeps the same journal: in
 //! sixteen shards one entry for each call, with the whole frame in it. Unlike `lorawan_ns` it takes one line at a time and writes as it
-//! goes, so the journal and the sessions are all that grows with the steps.
+//! goes, so the journal and the sessions are all that grows with the steps, and with --trim the sessions alone.
 //!
 //! It is what an expert would write for speed: AES by four tables of 32-bit words, with the expanded key and CMAC's first sub-key kept
-//! for each session; the journal is one `Vec` a shard, of entries of 336 bytes, grown by doubling; windows lie with their device, and
-//! copies are places in the journal; maps hash a number by one multiplication; hex is read by a table; its JSON reader is its own.
+//! for each session; the journal is one `Vec` a shard, of entries of 344 bytes, grown by doubling; windows lie with their device, and
+//! copies are places in the journal; maps hash a number by one multiplication; hex is read sixteen bytes at a time; its JSON reader is its
+//! own.
 use std::collections::HashMap;
 use std::hash::{BuildHasherDefault, Hasher};
 use std::io::{self, BufRead, BufReader, Write};
@@ -28,10 +30,12 @@ mod json;
 mod lines;
 mod rest;
 mod serve;
+mod trimmed;
 
 use aes::*;
 use json::*;
 use lines::*;
+use trimmed::Trimmed;
 
 const SHARDS: usize = 16;
 const MOST_COPIES: usize = 16;
@@ -52,6 +56,14 @@ fn array<const N: usize>(bytes: &[u8]) -> [u8; N] { bytes[..N].try_into().unwrap
 #[derive(Clone, Copy)]
 struct Frame { len: u8, bytes: [u8; 255] }
 
+impl Frame {
+    fn of(bytes: &[u8]) -> Frame {
+        let mut frame = Frame { len: bytes.len() as u8, bytes: [0; 255] };
+        frame.bytes[..bytes.len()].copy_from_slice(bytes);
+        frame
+    }
+}
+
 /// How one gateway heard a frame.
 #[derive(Clone, Copy)]
 struct Heard { gateway: u64, moment: u64, freq: u32, rssi: i16, snr: i16, dr: u8 }
@@ -65,8 +77,8 @@ struct JoinAns { len: u8, accept: [u8; 33], nwk: Key, app: Option<Key> }
 
 #[allow(dead_code)] // The journal keeps more than is read again.
 #[derive(Clone, Copy)]
-enum Call {
-    Uplink { frame: Frame, heard: Heard },
+enum Call<F = Frame> {
+    Uplink { frame: F, heard: Heard },
     Join { ticket: Ticket, heard: Heard },
     JoinReply { ticket: Ticket, outcome: Option<JoinAns> },
     Close { window: WindowName },
@@ -96,7 +108,7 @@ enum Reply {
 }
 
 #[allow(dead_code)]
-struct Entry { number: u64, call: Call, reply: Reply }
+struct Entry<F = Frame> { number: u64, call: Call<F>, reply: Reply }
 
 impl Entry {
     fn frame(&self) -> &[u8] {
@@ -105,7 +117,7 @@ impl Entry {
     }
 
     fn heard(&self) -> &Heard {
-        let (Call::Uplink { heard, .. } | Call::Join { heard, .. }) = &self.call else { unreachable!() };
+        let Call::Uplink { heard, .. } = &self.call else { unreachable!() };
         heard
     }
 }
@@ -299,15 +311,15 @@ impl Copies {
     }
 
     fn frame<'a>(&self, entries: &'a [Entry]) -> &'a [u8] { entries[self.entries[0] as usize].frame() }
-
-    /// The first one of the strongest.
-    fn best<'a>(&self, entries: &'a [Entry]) -> &'a Heard {
-        let stronger = |a: &Heard, b: &Heard| (a.snr, a.rssi) > (b.snr, b.rssi);
-        self.heard(entries).reduce(|best, copy| if stronger(copy, best) { copy } else { best }).unwrap()
-    }
 }
 
-struct OpenTicket { ticket: Ticket, copies: Copies }
+/// The first one of the strongest.
+fn best<'a>(heard: impl Iterator<Item = &'a Heard>) -> &'a Heard {
+    heard.reduce(|best, copy| if (copy.snr, copy.rssi) > (best.snr, best.rssi) { copy } else { best }).unwrap()
+}
+
+/// A Join-Request that waits for its answer: how many copies of it were heard, and the best one.
+struct OpenTicket { ticket: Ticket, copies: u8, best: Heard }
 
 struct Window {
     session: u32, // by its place in the shard
@@ -376,51 +388,54 @@ impl Shard {
         made
     }
 
-    /// Adds the entry of a call.
-    fn log(&mut self, call: Call, reply: Reply) {
-        let number = self.entries.len() as u64;
-        self.entries.push(Entry { number, call, reply });
-    }
-
     fn device(&mut self, eui: u64) -> Option<&mut Device> {
         let place = *self.by_eui.get(&eui)?;
         Some(&mut self.devices[place as usize])
     }
 
-    fn join(&mut self, ticket: &Ticket) -> Reply {
-        let entry = self.entries.len() as u32;
+    fn join(&mut self, ticket: &Ticket, heard: &Heard) -> Reply {
         let join_eui = u64::from_le_bytes(array(&ticket[1..]));
         let Some(device) = self.device(dev_eui(ticket)).filter(|d| d.join_eui == join_eui) else { return Reply::NoDevice };
         if let Some(greatest) = device.spent(ticket) {
             return Reply::NonceOld { greatest };
         }
         if let Some(open) = device.tickets.iter_mut().find(|t| t.ticket == *ticket) {
-            return open.copies.add(entry).map_or(Reply::JoinCrowded, |place| Reply::JoinCopied { place });
+            if open.copies as usize == MOST_COPIES {
+                return Reply::JoinCrowded;
+            }
+            open.copies += 1;
+            open.best = *best([&open.best, heard].into_iter());
+            return Reply::JoinCopied { place: open.copies };
         }
         if device.tickets.len() == MOST_TICKETS {
             return Reply::JoinBusy;
         }
         device.tickets.reserve_exact(1);
-        device.tickets.push(OpenTicket { ticket: *ticket, copies: Copies::of(entry) });
+        device.tickets.push(OpenTicket { ticket: *ticket, copies: 1, best: *heard });
         Reply::Ask { ticket: *ticket }
     }
 
-    /// Ends a join: the reply, and the copies of the Join-Request where it was open.
-    fn join_reply(&mut self, ticket: &Ticket, outcome: Option<&JoinAns>) -> (Reply, Option<Copies>) {
+    /// The best copy of an open Join-Request.
+    fn best_copy(&mut self, ticket: &Ticket) -> Option<Heard> {
+        self.device(dev_eui(ticket))?.tickets.iter().find(|open| open.ticket == *ticket).map(|open| open.best)
+    }
+
+    /// Ends a join: the reply, and the best copy of the Join-Request where it was open.
+    fn join_reply(&mut self, ticket: &Ticket, outcome: Option<&JoinAns>) -> (Reply, Option<Heard>) {
         let session = self.sessions.len() as u32;
         let Some(device) = self.device(dev_eui(ticket)) else { return (Reply::NoTicket, None) };
         let Some(place) = device.tickets.iter().position(|t| t.ticket == *ticket) else { return (Reply::NoTicket, None) };
-        let copies = Some(device.tickets.swap_remove(place).copies);
-        let Some(answer) = outcome else { return (Reply::JoinRefused, copies) };
+        let best = Some(device.tickets.swap_remove(place).best);
+        let Some(answer) = outcome else { return (Reply::JoinRefused, best) };
         if let Some(greatest) = device.spent(ticket) {
-            return (Reply::JoinStale { greatest }, copies);
+            return (Reply::JoinStale { greatest }, best);
         }
         device.greatest_nonce = Some(nonce(ticket));
         device.sessions += 1;
         device.pending = Some(session);
         let (eui, number, addr) = (device.eui, device.sessions, device.addr);
         self.sessions.push(Session { number, greatest: None, round: 0, next_ack: 0, nwk: MacKey::new(&answer.nwk), app: answer.app });
-        (Reply::Accepted { eui, session: number, addr }, copies)
+        (Reply::Accepted { eui, session: number, addr }, best)
     }
 
     /// The reply to a copy of the frame of an open window.
@@ -493,7 +508,7 @@ impl Shard {
     }
 
     /// Takes out a window, with the number of its acknowledgement.
-    fn close(&mut self, name: &WindowName) -> Option<(Window, Option<u32>)> {
+    fn take_out(&mut self, name: &WindowName) -> Option<(Window, Option<u32>)> {
         let device = &mut self.devices[*self.by_eui.get(&name.eui)? as usize];
         let number = |w: &Window| self.sessions[w.session as usize].number;
         let place = device.windows.iter().position(|w| w.fcnt == name.fcnt && w.round == name.round && number(w) == name.session)?;
@@ -513,13 +528,56 @@ fn shards_of(roster: &Roster) -> Vec<Shard> { (0..SHARDS as u64).map(|shard| Sha
 
 // ---- The server
 
-struct Server { rx1_offset: u8, ack_delay: u64, shards: Vec<Shard>, datagram: Vec<u8>, out: Text }
+/// A shard as `replay` calls it. A receive window is the offset of its data rate and its delay.
+trait Replayed {
+    type Frame; // in its entries
 
-impl Server {
-    fn new(roster: &Roster) -> Self {
-        let Roster { rx1_offset, ack_delay, .. } = *roster;
-        let shards = shards_of(roster);
-        Server { rx1_offset, ack_delay, shards, datagram: Vec::new(), out: Text(Vec::new()) }
+    fn shard(&mut self) -> &mut Shard;
+    fn log(&mut self, call: Call<Self::Frame>, reply: Reply);
+    fn hear(&mut self, data: &Data, heard: Heard, out: &mut Text);
+    fn close(&mut self, window: WindowName, rx1: (u8, u64), out: &mut Text);
+}
+
+impl Replayed for Shard {
+    type Frame = Frame;
+
+    fn shard(&mut self) -> &mut Shard { self }
+
+    /// Adds the entry of a call.
+    fn log(&mut self, call: Call, reply: Reply) {
+        let number = self.entries.len() as u64;
+        self.entries.push(Entry { number, call, reply });
+    }
+
+    fn hear(&mut self, data: &Data, heard: Heard, out: &mut Text) {
+        let reply = self.uplink(data);
+        out.reply(&reply);
+        self.log(Call::Uplink { frame: Frame::of(data.bytes), heard }, reply);
+    }
+
+    fn close(&mut self, window: WindowName, rx1: (u8, u64), out: &mut Text) {
+        let closed = self.take_out(&window);
+        let reply = closed.as_ref().map_or(Reply::NoWindow, |(_, ack)| Reply::Closed { window, ack: *ack });
+        out.reply(&reply);
+        if let Some((Window { session, copies, .. }, ack)) = closed {
+            let (session, data) = (&self.sessions[session as usize], Data::of(copies.frame(&self.entries)));
+            if window.round == 1 {
+                out.up(&window, &data, session, copies.heard(&self.entries), copies.len);
+            }
+            if let Some(n) = ack {
+                out.down(best(copies.heard(&self.entries)), rx1, &session.ack_frame(data.addr, n));
+            }
+        }
+        self.log(Call::Close { window }, reply);
+    }
+}
+
+struct Server<S> { rx1: (u8, u64), shards: Vec<S>, datagram: Vec<u8>, out: Text }
+
+impl<S: Replayed> Server<S> {
+    fn new(roster: &Roster, shard: fn(Shard) -> S) -> Self {
+        let shards = shards_of(roster).into_iter().map(shard).collect();
+        Server { rx1: (roster.rx1_offset, roster.ack_delay), shards, datagram: Vec::new(), out: Text(Vec::new()) }
     }
 
     /// Answers a step line, or says why it is refused.
@@ -533,7 +591,10 @@ impl Server {
                 let ticket = hex_array(ticket).ok_or("line")?;
                 self.join_reply(ticket, join_ans(&ticket, body));
             }
-            b"close" => self.close(window_name(rest)?),
+            b"close" => {
+                let window = window_name(rest)?;
+                self.shards[shard_of(window.eui)].close(window, self.rx1, &mut self.out);
+            }
             _ => return Err("line"),
         }
         Ok(())
@@ -548,48 +609,23 @@ impl Server {
         match view(&self.datagram[28..])? {
             View::Join(ticket) => {
                 let shard = &mut self.shards[shard_of(dev_eui(&ticket))];
-                let reply = shard.join(&ticket);
+                let reply = shard.shard().join(&ticket, &heard);
                 self.out.reply(&reply);
                 shard.log(Call::Join { ticket, heard }, reply);
             }
-            View::Data(data) => {
-                let shard = &mut self.shards[(data.addr >> 21) as usize % SHARDS];
-                let reply = shard.uplink(&data);
-                self.out.reply(&reply);
-                let mut frame = Frame { len: data.bytes.len() as u8, bytes: [0; 255] };
-                frame.bytes[..data.bytes.len()].copy_from_slice(data.bytes);
-                shard.log(Call::Uplink { frame, heard }, reply);
-            }
+            View::Data(data) => self.shards[(data.addr >> 21) as usize % SHARDS].hear(&data, heard, &mut self.out),
         }
         Ok(())
     }
 
     fn join_reply(&mut self, ticket: Ticket, outcome: Option<JoinAns>) {
         let shard = &mut self.shards[shard_of(dev_eui(&ticket))];
-        let (reply, copies) = shard.join_reply(&ticket, outcome.as_ref());
+        let (reply, best) = shard.shard().join_reply(&ticket, outcome.as_ref());
         self.out.reply(&reply);
-        if let (Reply::Accepted { .. }, Some(copies), Some(answer)) = (&reply, copies, &outcome) {
-            self.out.down(&shard.entries, &copies, 0, 5_000_000, &answer.accept[..answer.len as usize]);
+        if let (Reply::Accepted { .. }, Some(best), Some(answer)) = (&reply, best, &outcome) {
+            self.out.down(&best, (0, 5_000_000), &answer.accept[..answer.len as usize]);
         }
         shard.log(Call::JoinReply { ticket, outcome }, reply);
-    }
-
-    fn close(&mut self, window: WindowName) {
-        let shard = &mut self.shards[shard_of(window.eui)];
-        let closed = shard.close(&window);
-        let reply = closed.as_ref().map_or(Reply::NoWindow, |(_, ack)| Reply::Closed { window, ack: *ack });
-        self.out.reply(&reply);
-        if let Some((Window { session, copies, .. }, ack)) = closed {
-            let session = &shard.sessions[session as usize];
-            if window.round == 1 {
-                self.out.up(&shard.entries, &window, session, &copies);
-            }
-            if let Some(n) = ack {
-                let addr = Data::of(copies.frame(&shard.entries)).addr;
-                self.out.down(&shard.entries, &copies, self.rx1_offset, self.ack_delay, &session.ack_frame(addr, n));
-            }
-        }
-        shard.log(Call::Close { window }, reply);
     }
 }
 
@@ -623,7 +659,7 @@ fn decimal(digits: &[u8]) -> Result<u32, &'static str> {
 // ---- The program
 
 /// Answers the step lines of standard input.
-fn replay(server: &mut Server) -> io::Result<()> {
+fn replay<S: Replayed>(server: &mut Server<S>) -> io::Result<()> {
     let mut input = BufReader::with_capacity(INPUT_ROOM, io::stdin().lock());
     let mut output = io::stdout().lock();
     let mut line = Vec::new();
@@ -646,9 +682,9 @@ fn read_roster(path: &str) -> Result<Roster, String> {
     Roster::read(&text).map_err(|fault| format!("roster: {fault}"))
 }
 
-fn run(path: &str) -> Result<(), String> {
+fn run<S: Replayed>(path: &str, shard: fn(Shard) -> S) -> Result<(), String> {
     let roster = read_roster(path)?;
-    let mut server = Server::new(&roster);
+    let mut server = Server::new(&roster, shard);
     drop(roster);
     replay(&mut server).map_err(|_| "io".to_string())?;
     std::mem::forget(server); // The system takes its memory back at once.
@@ -657,26 +693,22 @@ fn run(path: &str) -> Result<(), String> {
 
 fn main() -> ExitCode {
     let words: Vec<String> = std::env::args().skip(1).collect();
-    let (status, fault) = match &words.iter().map(String::as_str).collect::<Vec<_>>()[..] {
-        ["replay", path] => match run(path) {
-            Ok(()) => return ExitCode::SUCCESS,
-            Err(fault) => (1, fault),
-        },
-        ["serve", path, ref options @ ..] => match read_roster(path).and_then(|roster| serve::serve(&roster, options)) {
-            Ok(()) => return ExitCode::SUCCESS,
-            Err(fault) => (1, fault),
-        },
-        ["receive", ref options @ ..] => match serve::receive(options) {
-            Ok(()) => return ExitCode::SUCCESS,
-            Err(fault) => (1, fault),
-        },
+    let ended = match &words.iter().map(String::as_str).collect::<Vec<_>>()[..] {
+        ["replay", path] => run(path, |shard| shard),
+        ["replay", path, "--trim"] => run(path, Trimmed::new),
+        ["serve", path, ref options @ ..] => read_roster(path).and_then(|roster| serve::serve(&roster, options)),
+        ["receive", ref options @ ..] => serve::receive(options),
         ["sizes"] => {
             println!("Entry {}\nCall {}\nReply {}", size_of::<Entry>(), size_of::<Call>(), size_of::<Reply>());
             println!("Device {}\nSession {}\nWindow {}", size_of::<Device>(), size_of::<Session>(), size_of::<Window>());
-            return ExitCode::SUCCESS;
+            Ok(())
         }
-        _ => (2, "plain_server replay ROSTER < STEPS\nplain_server serve ROSTER --join ADDR ..\nplain_server receive ..\nplain_server sizes".to_string()),
+        _ => {
+            eprintln!("plain_server replay ROSTER [--trim] < STEPS\nplain_server serve ROSTER --join ADDR ..\nplain_server receive ..\nplain_server sizes");
+            return ExitCode::from(2);
+        }
     };
+    let Err(fault) = ended else { return ExitCode::SUCCESS };
     eprintln!("{fault}");
-    ExitCode::from(status)
+    ExitCode::from(1)
 }

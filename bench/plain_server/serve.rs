@@ -181,7 +181,7 @@ impl Live<'_> {
         match view(&datagram[28..]) {
             Ok(View::Join(ticket)) => {
                 let mut shard = self.shards[shard_of(dev_eui(&ticket))].lock().unwrap();
-                let reply = shard.join(&ticket);
+                let reply = shard.join(&ticket, &heard);
                 shard.log(Call::Join { ticket, heard }, reply);
                 drop(shard);
                 if let Reply::Ask { ticket } = reply {
@@ -189,8 +189,7 @@ impl Live<'_> {
                 }
             }
             Ok(View::Data(data)) => {
-                let mut frame = Frame { len: data.bytes.len() as u8, bytes: [0; 255] };
-                frame.bytes[..data.bytes.len()].copy_from_slice(data.bytes);
+                let frame = Frame::of(data.bytes);
                 let mut shard = self.shards[(data.addr >> 21) as usize % SHARDS].lock().unwrap();
                 let reply = shard.uplink(&data);
                 shard.log(Call::Uplink { frame, heard }, reply);
@@ -245,18 +244,16 @@ impl Live<'_> {
 
     fn close(&self, window: WindowName) {
         let mut shard = self.shards[shard_of(window.eui)].lock().unwrap();
-        let closed = shard.close(&window);
+        let closed = shard.take_out(&window);
         let reply = closed.as_ref().map_or(Reply::NoWindow, |(_, ack)| Reply::Closed { window, ack: *ack });
         let mut down = None;
         if let Some((Window { session, copies, .. }, ack)) = closed {
-            let session = &shard.sessions[session as usize];
+            let (session, data) = (&shard.sessions[session as usize], Data::of(copies.frame(&shard.entries)));
             if window.round == 1 {
-                self.output.lock().unwrap().up(&shard.entries, &window, session, &copies);
+                self.output.lock().unwrap().up(&window, &data, session, copies.heard(&shard.entries), copies.len);
             }
             if let Some(number) = ack {
-                let addr = Data::of(copies.frame(&shard.entries)).addr;
-                let best = *copies.best(&shard.entries);
-                down = Some((best, session.ack_frame(addr, number)));
+                down = Some((*best(copies.heard(&shard.entries)), session.ack_frame(data.addr, number)));
             }
         }
         shard.log(Call::Close { window }, reply);
@@ -285,8 +282,7 @@ impl Live<'_> {
             let Ok(ticket) = job else { return };
             let outcome = self.ask(&ticket).and_then(|body| join_ans(&ticket, &body));
             let mut shard = self.shards[shard_of(dev_eui(&ticket))].lock().unwrap();
-            let (reply, copies) = shard.join_reply(&ticket, outcome.as_ref());
-            let best = copies.map(|copies| *copies.best(&shard.entries));
+            let (reply, best) = shard.join_reply(&ticket, outcome.as_ref());
             shard.log(Call::JoinReply { ticket, outcome }, reply);
             drop(shard);
             if let (Reply::Accepted { .. }, Some(best), Some(answer)) = (reply, best, outcome) {
