@@ -92,7 +92,7 @@ pub struct Shards {
 }
 
 impl Model for Shards {
-    ghost use Rattle.std.specs.Prelude.{◌≡◌, ◌<◌, ℕ, ℕ, List, length, slice_get, Some};
+    ghost use Rattle.std.specs.Prelude.{◌≡◌, ◌<◌, ℕ, List, length, slice_get, Some};
     ghost use Rattle.ns_shard.specs.State.{State};
 
     ghost Value = { List State };
