@@ -5,11 +5,11 @@
     python3 bench/beside.py PROGRAM PLAIN [--runs N] [--sizes DEVICESxFRAMESxGATEWAYS,..] [--folder FOLDER]
 
 It makes each run in a temporary folder, below FOLDER where it is said, and answers it N times (3, unless said otherwise) in turn by PROGRAM, by
-PLAIN, which keeps its whole journal, and by PLAIN with `--trim`, which trims its shards as PROGRAM does ("trimming"); it checks that all wrote
-the same bytes. Of each it prints the times and the peak memory of the answering that took the least processor time (user and system), as a
-Markdown table. A ratio is how many times PLAIN's processor time, or its peak memory; behind these are the ratios to the trimming one. The files
-are deleted at the end; the default sizes need about 1 GB. It needs the Python package `cryptography`. Status 1 where the bytes differ or a
-program fails.
+PLAIN, which keeps its whole journal, by PLAIN with `--trim`, which trims its shards as PROGRAM does ("trimming"), and by PLAIN with `--asked`,
+which also does what the interface asks for ("asked"); it checks that all wrote the same bytes. Of each it prints the times and the peak memory
+of the answering that took the least processor time (user and system), as a Markdown table. A ratio is how many times PLAIN's processor time,
+or its peak memory; behind these are the ratios to the trimming one and the one that is asked. The files are deleted at the end; the default
+sizes need about 1 GB. It needs the Python package `cryptography`. Status 1 where the bytes differ or a program fails.
 """
 
 import argparse
@@ -23,7 +23,7 @@ import time
 WHOLE_RUNS = os.path.join(os.path.dirname(os.path.abspath(__file__)), "whole_runs.py")
 SIZES = "1000x500x3,65536x8x3"
 HEAD = ("Run", "Lines", "Program", "Wall s", "User s", "System s", "us a line", "Peak MB", "Bytes a line", "Ratio of time", "Ratio of memory",
-        "Time to trimming", "Memory to trimming")
+        "Time to trimming", "Memory to trimming", "Time to asked", "Memory to asked")
 
 
 class Took:
@@ -82,7 +82,8 @@ def main():
         if not os.access(program, os.X_OK):
             sys.exit("no program at %s: build it first" % program)
     name = os.path.basename(plain)
-    programs = [(os.path.basename(proved), proved, []), (name, plain, []), (name + ", trimming", plain, ["--trim"])]
+    programs = [(os.path.basename(proved), proved, []), (name, plain, [])]
+    programs += [(name + ", trimming", plain, ["--trim"]), (name + ", asked", plain, ["--asked"])]
     with tempfile.TemporaryDirectory(dir=asked.folder) as folder:
         nothing = Took(["/bin/true"], os.devnull, os.devnull)
         sizes = subprocess.run([plain, "sizes"], check=True, capture_output=True, text=True).stdout.split("\n")

@@ -5,7 +5,7 @@ that only receives (all bench/plain_server), with 1, 2 and 4 workers that hear g
 
     rustc -O --edition 2021 -o PLAIN bench/plain_server/main.rs
     python3 bench/serve.py PROGRAM PLAIN [--workers N,..] [--devices N] [--copies N] [--frames N] [--confirmed SHARE] [--window MS]
-                           [--seconds S] [--senders N] [--runs N] [--rate N] [--own] [--folder FOLDER]
+                           [--seconds S] [--senders N] [--runs N] [--rate N] [--own] [--record] [--folder FOLDER]
 
 Devices join (no part of what is measured), and send frames of 16 bytes, each heard by some gateways. All datagrams are made before
 the clock starts. First the senders send as fast as they can for some seconds: what the server takes a second of it, the rest being
@@ -31,7 +31,7 @@ HEAD = ('Program', 'Workers', 'Top, datagrams a second', 'Dropped', 'us each', '
         'Delay ms, median', '99 in 100', 'Most', 'Bytes a datagram')
 
 # The servers that hear own datagrams.
-OWN = ('proved', 'plain', 'plain, resting', 'plain, asked', 'plain, asked, resting')
+OWN = ('proved', 'proved, recording', 'plain', 'plain, resting', 'plain, asked', 'plain, asked, resting')
 
 
 def row(cells):
@@ -43,12 +43,12 @@ class Measured:
 
     def __init__(self, name, words, answers, options, folder):
         self.name, self.words, self.answers, self.options, self.folder = name, words, answers, options, folder
-        self.forwards = '--forwarders' in words
+        self.forwards, self.records = '--forwarders' in words, name == 'proved, recording'
 
     def run(self, rate, seconds):
         options = self.options
-        with open(os.path.join(self.folder, 'lines'), 'wb') as lines:
-            server = Serve(self.words, lines)
+        with open(os.path.join(self.folder, 'lines'), 'wb') as lines, tempfile.TemporaryDirectory(dir=self.folder) as record:
+            server = Serve(self.words + (['--record', record] if self.records else []), lines)
             try:
                 frames = options.frames or int((rate or 400_000) * seconds / options.devices / options.copies) + 2
                 plan = load.Plan([server.where], options.devices, options.copies, frames, rate, seconds, options.confirmed,
@@ -85,7 +85,7 @@ def ratios(names, found):
     cost = {name: took.cost() for name, took in zip(names, found)}
     pairs = (('proved', 'plain'), ('proved', 'plain, asked'), ('plain, asked', 'plain'), ('plain', 'receives only'),
              ('proved', 'plain, resting'), ('proved', 'plain, asked, resting'), ('plain, asked, resting', 'plain, resting'),
-             ('proved, packet forwarders', 'proved'))
+             ('proved, packet forwarders', 'proved'), ('proved, recording', 'proved'))
     return ', '.join('%s to %s %.2f' % (one, other, cost[one] / cost[other]) for one, other in pairs if one in cost and other in cost)
 
 
@@ -115,6 +115,7 @@ def options_of():
                                 ('window', int, 200), ('seconds', float, 2), ('senders', int, 2), ('runs', int, 1), ('rate', float, 0)):
         parser.add_argument('--' + name, type=kind, default=default)
     parser.add_argument('--own', action='store_true')
+    parser.add_argument('--record', action='store_true')
     parser.add_argument('--folder', metavar='FOLDER')
     return parser.parse_args()
 
@@ -137,6 +138,7 @@ def main():
             serves = more + ['--window', str(options.window), '--join-workers', '4', '--join', '%s:%d' % joins.where]
             programs = [Measured(name, words, answers, options, folder) for name, words, answers in (
                 ('proved', [options.program, 'serve', roster] + serves, True),
+                ('proved, recording', [options.program, 'serve', roster] + serves, True),
                 ('proved, packet forwarders', [options.program, 'serve', roster] + [
                     '--forwarders' if word == '--listen' else word for word in serves], True),
                 ('plain', [options.plain, 'serve', roster] + serves, True),
@@ -144,7 +146,7 @@ def main():
                 ('plain, asked', [options.plain, 'serve', roster] + serves + ['--asked'], True),
                 ('plain, asked, resting', [options.plain, 'serve', roster] + serves + ['--asked', '--rest'], True),
                 ('receives only', [options.plain, 'receive'] + more, False))
-                if (not options.own or name in OWN) and (workers != '1' or 'resting' not in name)]
+                if (not options.own or name in OWN) and (workers != '1' or 'resting' not in name) and (options.record or 'record' not in name)]
             tops = [None] * len(programs) if options.rate else best_of(programs, [0] * len(programs), options)
             halves = best_of(programs, [options.rate or top.taken() / top.seconds / 2 for top in tops], options)
             for one, top, half in zip(programs, tops, halves):

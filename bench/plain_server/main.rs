@@ -1,8 +1,9 @@
 //! The network server in plain Rust: what `lorawan_ns replay ROSTER` does, to measure speed and memory of the proved program beside it.
 //!
 //!     rustc -O --edition 2021 -o plain_server bench/plain_server/main.rs
-//!     plain_server replay ROSTER [--trim] < STEPS     prints what `lorawan_ns replay ROSTER` prints; with --trim shards are trimmed as they
-//!                                            grow, as those of `lorawan_ns replay` (trimmed.rs)
+//!     plain_server replay ROSTER [--trim | --asked] < STEPS     prints what `lorawan_ns replay ROSTER` prints; with --trim shards are trimmed
+//!                                            as they grow, as those of `lorawan_ns replay`; with --asked they are, their entries have room
+//!                                            for a whole frame, and what is written waits for the end of the input (trimmed.rs)
 //!     plain_server serve ROSTER --join ADDR [--listen ADDR] [--workers N] [--join-workers N] [--window MS] [--stop-after N] [--asked]
 //!                  [--rest]                  does what `lorawan_ns serve` does; with --asked also what its interface asks for (asked.rs); with
 //!                                            --rest workers rest while others are enough (rest.rs)
@@ -35,7 +36,7 @@ mod trimmed;
 use aes::*;
 use json::*;
 use lines::*;
-use trimmed::Trimmed;
+use trimmed::{Packed, Trimmed};
 
 const SHARDS: usize = 16;
 const MOST_COPIES: usize = 16;
@@ -658,8 +659,8 @@ fn decimal(digits: &[u8]) -> Result<u32, &'static str> {
 
 // ---- The program
 
-/// Answers the step lines of standard input.
-fn replay<S: Replayed>(server: &mut Server<S>) -> io::Result<()> {
+/// Answers the step lines of standard input, and writes as it goes, or all at the end.
+fn replay<S: Replayed>(server: &mut Server<S>, waits: bool) -> io::Result<()> {
     let mut input = BufReader::with_capacity(INPUT_ROOM, io::stdin().lock());
     let mut output = io::stdout().lock();
     let mut line = Vec::new();
@@ -668,7 +669,7 @@ fn replay<S: Replayed>(server: &mut Server<S>) -> io::Result<()> {
             server.out.line("refused").word(refused.as_bytes()).end();
         }
         line.clear();
-        if server.out.0.len() >= OUTPUT_ROOM {
+        if !waits && server.out.0.len() >= OUTPUT_ROOM {
             output.write_all(&server.out.0)?;
             server.out.0.clear();
         }
@@ -682,11 +683,11 @@ fn read_roster(path: &str) -> Result<Roster, String> {
     Roster::read(&text).map_err(|fault| format!("roster: {fault}"))
 }
 
-fn run<S: Replayed>(path: &str, shard: fn(Shard) -> S) -> Result<(), String> {
+fn run<S: Replayed>(path: &str, shard: fn(Shard) -> S, waits: bool) -> Result<(), String> {
     let roster = read_roster(path)?;
     let mut server = Server::new(&roster, shard);
     drop(roster);
-    replay(&mut server).map_err(|_| "io".to_string())?;
+    replay(&mut server, waits).map_err(|_| "io".to_string())?;
     std::mem::forget(server); // The system takes its memory back at once.
     Ok(())
 }
@@ -694,8 +695,9 @@ fn run<S: Replayed>(path: &str, shard: fn(Shard) -> S) -> Result<(), String> {
 fn main() -> ExitCode {
     let words: Vec<String> = std::env::args().skip(1).collect();
     let ended = match &words.iter().map(String::as_str).collect::<Vec<_>>()[..] {
-        ["replay", path] => run(path, |shard| shard),
-        ["replay", path, "--trim"] => run(path, Trimmed::new),
+        ["replay", path] => run(path, |shard| shard, false),
+        ["replay", path, "--trim"] => run(path, Trimmed::<Packed>::new, false),
+        ["replay", path, "--asked"] => run(path, Trimmed::<Vec<Entry>>::new, true),
         ["serve", path, ref options @ ..] => read_roster(path).and_then(|roster| serve::serve(&roster, options)),
         ["receive", ref options @ ..] => serve::receive(options),
         ["sizes"] => {
@@ -704,7 +706,7 @@ fn main() -> ExitCode {
             Ok(())
         }
         _ => {
-            eprintln!("plain_server replay ROSTER [--trim] < STEPS\nplain_server serve ROSTER --join ADDR ..\nplain_server receive ..\nplain_server sizes");
+            eprintln!("plain_server replay ROSTER [--trim | --asked] < STEPS\nplain_server serve ROSTER --join ADDR ..\nplain_server receive ..\nplain_server sizes");
             return ExitCode::from(2);
         }
     };

@@ -15,6 +15,8 @@ pub struct Rerun {
     alloc: Global,
     shards: Vec<Shard>,
     most: [usize; 16],
+    // Room for a datagram.
+    room: Vec<u8>,
 }
 
 impl Rerun {
@@ -24,12 +26,13 @@ impl Rerun {
             alloc,
             shards: new_shards(alloc, roster)?,
             most: [TRIM_FROM; 16],
+            room: Vec::new(alloc),
         })
     }
 
     // The call of a line.
-    fn call(&self, number: u64, line: &[u8]) -> Result<Call, RecordFault> {
-        let Some(act) = step(self.alloc, line)? else {
+    fn call(&mut self, number: u64, line: &[u8]) -> Result<Call, RecordFault> {
+        let Some(act) = step(&mut self.room, line)? else {
             return Err(RecordFault::NoStep(number));
         };
         match call_of(self.alloc, &act)? {

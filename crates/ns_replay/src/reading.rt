@@ -8,6 +8,7 @@ ghost use Rattle.ns_events.specs.declared.output.Output.{Output};
 ghost use Rattle.ns_shard.specs.declared.step.Act.{Act};
 ghost use Rattle.ns_shard.specs.declared.step.Step.{Step};
 ghost use Rattle.ns_shard.specs.KeptSteps.{AreKeptAfter, AreReached};
+ghost use Rattle.ns_shard.specs.Lent.{act_lent};
 ghost use Rattle.ns_steps.specs.StepLines.{step, steps};
 ghost use Rattle.ns_replay.specs.Private.Lines.{line_taken, steps_in};
 ghost use Rattle.ns_replay.specs.Private.Found.{Has, FoundIn, Longer};
@@ -16,7 +17,7 @@ use crate::taken::put_taken;
 use ns_events::Output;
 use ns_lines::Line;
 use ns_roster::Roster;
-use ns_shard::{Act, Shards, Step, Taken};
+use ns_shard::{LentAct, Shards, Taken};
 use ns_steps::{place_of, step};
 use ns_types::{ReadFault, Source};
 use std::alloc::{AllocError, Global};
@@ -40,23 +41,27 @@ pub struct Answers {
 
 // Makes the step of a line, where it is a step line. Shards are trimmed as they grow, since no entry is read again.
 #[inline(always)]
-fn take(alloc: Global, shards: &mut Shards, act: Option<Act>) -> Result<Option<Taken>, AllocError>
+fn take(
+    alloc: Global,
+    shards: &mut Shards,
+    act: &Option<LentAct<'_>>,
+) -> Result<Option<Taken>, AllocError>
     requires { AreReached shards.old }
-    ensures taken { IfOk result (λ t. (net : Network) (before : List Step) → AreKeptAfter net before shards.old → t ≡ line_taken net before act) }
-    ensures kept { OnOk result ((net : Network) (before : List Step) → AreKeptAfter net before shards.old → AreKeptAfter net (before ++ steps_in (act ∷ [])) shards.new) }
+    ensures taken { IfOk result (λ t. (net : Network) (before : List Step) → AreKeptAfter net before shards.old → t ≡ line_taken net before (option_map act_lent act.now)) }
+    ensures kept { OnOk result ((net : Network) (before : List Step) → AreKeptAfter net before shards.old → AreKeptAfter net (before ++ steps_in (option_map act_lent act.now ∷ [])) shards.new) }
     ensures reached { OnOk result (AreReached shards.new) }
 {
     match act {
-        Some(act) => Ok(Some(shards.step_and_trim(alloc, &Step { worker: 0, act })?)),
+        Some(act) => Ok(Some(shards.step_and_trim(alloc, 0, act)?)),
         None => Ok(None),
     }
 }
 
 // Answers what a line asks for.
 #[inline(always)]
-fn add(alloc: Global, answers: &mut Answers, act: Option<Act>) -> Result<(), AllocError>
+fn add(alloc: Global, answers: &mut Answers, act: &Option<LentAct<'_>>) -> Result<(), AllocError>
     requires { AreReached answers.old.shards }
-    ensures lines { OnOk result ((net : Network) (uplinks : Output) (lines : List (Option Act)) → Has net uplinks answers.old lines → Has net uplinks answers.new (lines ++ act ∷ [])) }
+    ensures lines { OnOk result ((net : Network) (uplinks : Output) (lines : List (Option Act)) → Has net uplinks answers.old lines → Has net uplinks answers.new (lines ++ option_map act_lent act.now ∷ [])) }
     ensures longer { OnOk result (length answers.old.text.items < length answers.new.text.items) }
     ensures reached { OnOk result (AreReached answers.new.shards) }
 {
@@ -69,11 +74,13 @@ fn add(alloc: Global, answers: &mut Answers, act: Option<Act>) -> Result<(), All
     )
 }
 
-// Answers a line, of which `line` has what stands before its end, and empties that. A line that stands in `end` whole is not copied.
+// Answers a line, of which `line` has what stands before its end, and empties that. A line that stands in `end` whole is not copied, and a
+// datagram lies in `room`.
 fn add_line(
     alloc: Global,
     answers: &mut Answers,
     line: &mut Vec<u8>,
+    room: &mut Vec<u8>,
     end: &[u8],
 ) -> Result<(), AllocError>
     requires { AreReached answers.old.shards }
@@ -84,11 +91,11 @@ fn add_line(
 {
     if !line.is_empty() {
         line.extend_from_slice(end)?;
-        add(alloc, answers, step(alloc, line.as_slice())?)?;
+        add(alloc, answers, &step(room, line.as_slice())?)?;
         line.clear();
         return Ok(());
     }
-    add(alloc, answers, step(alloc, end)?)
+    add(alloc, answers, &step(room, end)?)
 }
 
 // Answers the lines that end in a block of a text. `line` has what stands in the text behind its last line feed, so each line is
@@ -97,6 +104,7 @@ fn add_block(
     alloc: Global,
     answers: &mut Answers,
     line: &mut Vec<u8>,
+    room: &mut Vec<u8>,
     block: &[u8],
 ) -> Result<(), AllocError>
     requires { AreReached answers.old.shards }
@@ -106,7 +114,7 @@ fn add_block(
 {
     let mut rest = block;
     'lines: while let Some(end) = place_of(b'\n', rest) {
-        add_line(alloc, answers, line, &rest[..end])?;
+        add_line(alloc, answers, line, room, &rest[..end])?;
         rest = &rest[end + 1..];
     }
     line.extend_from_slice(rest)?;
@@ -114,14 +122,19 @@ fn add_block(
 }
 
 // Answers what stands behind the last line feed, which is a line where it isn't empty.
-fn add_last(alloc: Global, answers: &mut Answers, line: &[u8]) -> Result<(), AllocError>
+fn add_last(
+    alloc: Global,
+    answers: &mut Answers,
+    room: &mut Vec<u8>,
+    line: &[u8],
+) -> Result<(), AllocError>
     requires { AreReached answers.old.shards }
     ensures { OnOk result ((net : Network) (uplinks : Output) (text : List ℕ) → FoundIn net uplinks answers.old line.now text → Has net uplinks answers.new (steps text)) }
 {
     if line.is_empty() {
         return Ok(());
     }
-    add(alloc, answers, step(alloc, line)?)
+    add(alloc, answers, &step(room, line)?)
 }
 
 // Memory of n bytes.
@@ -147,13 +160,14 @@ fn read_lines<S: Source>(
     ensures io { IfErr result (λ e. (e ≡ Io) ↔ (S.Stream.has_failed source.new ≡ true)) }
 {
     let mut line = Vec::new(alloc);
+    let mut room = Vec::new(alloc);
     'reading: loop {
         let n = source.read(block)?;
         if n == 0 {
-            add_last(alloc, answers, line.as_slice())?;
+            add_last(alloc, answers, &mut room, line.as_slice())?;
             return Ok(());
         }
-        add_block(alloc, answers, &mut line, &block[..n])?;
+        add_block(alloc, answers, &mut line, &mut room, &block[..n])?;
     }
 }
 

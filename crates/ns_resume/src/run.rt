@@ -61,21 +61,28 @@ struct Running {
     up: Line,
 }
 
+// Room for what a line asks for: the bytes of its datagram, and its call.
+#[derive(Drop)]
+struct Room {
+    bytes: Vec<u8>,
+    call: Option<Call>,
+}
+
 // The call of the line of this number, in the place of another.
 fn call_in<'a>(
     alloc: Global,
     number: u64,
     line: &[u8],
-    call: &'a mut Option<Call>,
+    room: &'a mut Room,
 ) -> Result<&'a Call, RecordFault>
     ensures call { IfOk result (λ c. ReadsBack line.now c.now) }
     ensures fault { IfErr result (MakesNoCall line.now number) }
 {
-    let Some(act) = step(alloc, line)? else {
+    let Some(act) = step(&mut room.bytes, line)? else {
         return Err(RecordFault::NoStep(number));
     };
-    call_into(alloc, &act, call)?;
-    match call {
+    call_into(alloc, &act, &mut room.call)?;
+    match &room.call {
         Some(call) => Ok(call),
         None => Err(RecordFault::NoFit(number)),
     }
@@ -100,7 +107,7 @@ impl Running {
         Ok(())
     }
 
-    // Runs the line of this number, with room for its call. Its `up` line is implied where it is new.
+    // Runs the line of this number, with room for what it asks for. Its `up` line is implied where it is new.
     fn run_line<U: BufRead>(
         &mut self,
         alloc: Global,
@@ -108,7 +115,7 @@ impl Running {
         line: &[u8],
         is_new: bool,
         ups: &mut U,
-        room: &mut Option<Call>,
+        room: &mut Room,
     ) -> Result<(), RecordFault>
         requires sixteen { length self.old.shards.items ≡ shard_count }
         requires in_place { AreInPlace self.old.shards.items }
@@ -181,7 +188,10 @@ fn run_lines<S: BufRead, U: BufRead>(
         up: Line::new(),
     };
     let mut line = Vec::new(alloc);
-    let mut room = None;
+    let mut room = Room {
+        bytes: Vec::new(alloc),
+        call: None,
+    };
     'lines: for number in first..u64::MAX {
         let is_new = number - first >= before;
         if !read_line(steps, &mut line)? {

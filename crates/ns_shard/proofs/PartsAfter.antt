@@ -27,11 +27,12 @@ use Rattle.ns_shard.specs.declared.parts.Parts.{Parts}
 use Rattle.ns_shard.specs.declared.event.Event.{Event}
 use Rattle.ns_shard.specs.declared.event.Ended.{Ended}
 use Rattle.ns_shard.specs.declared.event.Event.TheVariants as event
+use Rattle.ns_shard.specs.declared.room.Room.{Room}
 use Rattle.ns_shard.specs.Private.Sending.{reply_of, answer_of}
 use Rattle.ns_shard.specs.Private.Reaction.{uplink_reply, shard_join_reply}
 use Rattle.ns_shard.specs.Private.Uplink.{UplinkEnds}
 use Rattle.ns_shard.specs.State.{State, Keeps, quiet, seen, ends_open, finds_open, answer_in, after_call}
-use Rattle.ns_shard.specs.Private.Room.{opens, opening_event, open_total, IsRoomFor, reserved_after}
+use Rattle.ns_shard.specs.Private.Room.{opens, opening_event, open_total, room_of, IsRoomFor, reserved_after}
 use Rattle.ns_shard.specs.Private.Parts.{Agrees, AreParts, AreTaken, state_of}
 use Rattle.ns_shard.proofs.Entries.{pushed-is, answer-is, finds_open-is, keeps-more}
 use Rattle.ns_shard.proofs.PartSteps.{ended_or, join-replied, agrees-join}
@@ -42,20 +43,20 @@ use Rattle.ns_shard.proofs.Endings.{IsEnding, open-own}
 -- ---- with the entry
 
 -- the state of parts whose journal has the entry
-pub pushed-state : (p : Parts) (c : Call) (e : Event) (j : JournalState) → AreTaken p c e → j.made ≡ p.journal.made + 1 → j.entries ≡ p.journal.entries ++ next_entry p.journal c (reply_of e) ∷ [] → state_of (record p { journal = j }) ≡ after_call (state_of p) c
-pushed-state p c e j taken made entries =
+pub pushed-state : (p : Parts) (c : Call) (e : Event) (j : JournalState) → AreTaken p c e → (r : Reply) → r ≡ reply_of e → j.made ≡ p.journal.made + 1 → j.entries ≡ p.journal.entries ++ next_entry p.journal c r ∷ [] → state_of (record p { journal = j }) ≡ after_call (state_of p) c
+pushed-state p c e j taken r is made entries =
     ap₂ (λ (n : ℕ) (es : List Entry). let s : State = record { roster = arc_value p.roster; index = p.index; made = n; mark = p.mark; windows = p.named.items; entries = es } in s) made
-    (pushed-is (arc_value p.roster) (seen (state_of p)) p.journal j.entries c (reply_of e) (ap (λ (a : Answer). a.reply) taken.answer) entries)
+    (pushed-is (arc_value p.roster) (seen (state_of p)) p.journal j.entries c r (is ∙ ap (λ (a : Answer). a.reply) taken.answer) entries)
 
-pub pushed-parts : (p : Parts) (c : Call) (e : Event) (j : JournalState) → AreTaken p c e → state_of (record p { journal = j }) ≡ after_call (state_of p) c → j.reserved ≡ reserved_after e p.journal.reserved → AreParts (record p { journal = j })
-pushed-parts p c e j taken state reserved =
+pub pushed-parts : (p : Parts) (c : Call) (e : Event) (j : JournalState) → AreTaken p c e → (k : Room) → k ≡ room_of e → state_of (record p { journal = j }) ≡ after_call (state_of p) c → j.reserved ≡ reserved_after k p.journal.reserved → AreParts (record p { journal = j })
+pushed-parts p c e j taken k is state reserved =
     let now : List Entry = with_call (arc_value p.roster) taken.history (length taken.history) c in
     record {
       small = taken.small;
       history = now;
       keeps = subst (Keeps now) (sym state) (keeps-more taken.history (state_of p) c taken.keeps);
       agrees = taken.agrees;
-      reserved = reserved ∙ taken.reserved;
+      reserved = reserved ∙ (ap (λ (b : Room). reserved_after b p.journal.reserved) is ∙ taken.reserved);
     }
 
 -- ---- before it
@@ -80,7 +81,7 @@ total-by p are c r ended opened is ends begins =
 
 module _ (p q : Parts) (are : AreParts p) (c : Call) (same : state_of q ≡ state_of p) (agrees : Agrees (arc_value p.roster) p.index (history-after p are c) q.devices q.windows) (kept : q.journal.reserved ≡ p.journal.reserved) where
   -- by the answer and the room
-  taken-by : (e : Event) → answer_of (arc_value p.roster) e ≡ answer (arc_value p.roster) are.history c → IsRoomFor e q.journal → reserved_after e q.journal.reserved ≡ open_total (history-after p are c) → AreTaken q c e
+  taken-by : (e : Event) → answer_of (arc_value p.roster) e ≡ answer (arc_value p.roster) are.history c → IsRoomFor (room_of e) q.journal → reserved_after (room_of e) q.journal.reserved ≡ open_total (history-after p are c) → AreTaken q c e
   taken-by e told room reserved = record {
     small = subst (λ (s : State). s.index < shard_count) (sym same) are.small;
     history = are.history;
@@ -88,7 +89,7 @@ module _ (p q : Parts) (are : AreParts p) (c : Call) (same : state_of q ≡ stat
     agrees = subst (λ (s : State). Agrees s.roster s.index (with_call s.roster are.history (length are.history) c) q.devices q.windows) (sym same) agrees;
     answer = subst (λ (s : State). answer_of s.roster e ≡ answer_in s c) (sym same) (told ∙ sym (answer-is are.history (state_of p) c are.keeps));
     room = room;
-    reserved = subst (λ (s : State). reserved_after e q.journal.reserved ≡ open_total (with_call s.roster are.history (length are.history) c)) (sym same) reserved;
+    reserved = subst (λ (s : State). reserved_after (room_of e) q.journal.reserved ≡ open_total (with_call s.roster are.history (length are.history) c)) (sym same) reserved;
   }
 
   -- an uplink or a Join-Request

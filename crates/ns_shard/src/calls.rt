@@ -5,9 +5,10 @@ ghost use Rattle.std.specs.Result.{result_ok};
 ghost use Rattle.ns_calls.specs.Steps.{datagram_call};
 ghost use Rattle.ns_joinwire.specs.declared.fault.AnsFault.TheVariants.{NoMemory};
 ghost use Rattle.ns_shard.specs.declared.step.Act.TheVariants.{Answer};
+ghost use Rattle.ns_shard.specs.Lent.{act_lent};
 ghost use Rattle.ns_shard.specs.Taken.{call_of, outcome_of};
 
-use crate::step::Act;
+use crate::step::LentAct;
 use ns_calls::{Call, DataFrame, JoinAns, Outcome};
 use ns_joinwire::{AnsFault, join_ans};
 use ns_link::read_datagram;
@@ -64,28 +65,30 @@ fn datagram_call_into(bytes: &[u8], call: &mut Option<Call>)
 }
 
 /// Puts the call of a step, where it makes one, in the place of another: a call is large, and so is not moved.
-pub fn call_into(alloc: Global, act: &Act, call: &mut Option<Call>) -> Result<(), AllocError>
-    ensures { OnOk result (call.new ≡ result_ok (call_of act.now)) }
+pub fn call_into(
+    alloc: Global,
+    act: &LentAct<'_>,
+    call: &mut Option<Call>,
+) -> Result<(), AllocError>
+    ensures { OnOk result (call.new ≡ result_ok (call_of (act_lent act.now))) }
 {
     match act {
-        Act::Datagram(bytes) => datagram_call_into(bytes.as_slice(), call),
-        Act::Answer { ticket, body } => {
-            *call = Some(answer_call(alloc, ticket, body.as_slice())?);
-        }
-        Act::Lost { ticket } => {
+        LentAct::Datagram(bytes) => datagram_call_into(bytes, call),
+        LentAct::Answer { ticket, body } => *call = Some(answer_call(alloc, ticket, body)?),
+        LentAct::Lost { ticket } => {
             *call = Some(Call::JoinReply {
                 ticket: *ticket,
                 outcome: Outcome::Failed,
             });
         }
-        Act::Close(window) => *call = Some(Call::Close { window: *window }),
+        LentAct::Close(window) => *call = Some(Call::Close { window: *window }),
     }
     Ok(())
 }
 
 /// The call of a step, where it makes one.
-pub fn call_of(alloc: Global, act: &Act) -> Result<Option<Call>, AllocError>
-    ensures { IfOk result (λ c. c ≡ result_ok (call_of act.now)) }
+pub fn call_of(alloc: Global, act: &LentAct<'_>) -> Result<Option<Call>, AllocError>
+    ensures { IfOk result (λ c. c ≡ result_ok (call_of (act_lent act.now))) }
 {
     let mut call = None;
     call_into(alloc, act, &mut call)?;

@@ -2,8 +2,10 @@
 
 ghost use Rattle.std.specs.Prelude.{◌≡◌};
 ghost use Rattle.ns_shard.specs.declared.event.Event.TheVariants as event;
+ghost use Rattle.ns_shard.specs.Private.Room.{room_of};
 ghost use Rattle.ns_shard.specs.Private.Sending.{ended_reply, reply_of, uplink_of, downlink_of, answer_of};
 
+use crate::room::Room;
 use crate::sending::ack_from;
 use ns_calls::{Answer, Downlink, Reply};
 use ns_roster::Roster;
@@ -83,6 +85,28 @@ pub enum Event {
 }
 
 impl Event {
+    /// The reply.
+    pub fn reply(&self) -> Reply
+        ensures { result ≡ reply_of self.now }
+    {
+        match self {
+            Event::Quiet(reply) | Event::Opened(reply) => *reply,
+            Event::Ended(ended) => ended.reply(),
+        }
+    }
+
+    /// What the entry of the call does to the room of those to come.
+    #[inline(always)]
+    pub fn room(&self) -> Room
+        ensures { result ≡ room_of self.now }
+    {
+        match self {
+            Event::Quiet(_) => Room::Free,
+            Event::Opened(_) => Room::Reserving,
+            Event::Ended(_) => Room::Reserved,
+        }
+    }
+
     /// The reply, with what goes out put where something went out before.
     pub fn hand_out(
         self,

@@ -29,5 +29,5 @@ pub use ns_uplinks::BoxedUplink;
 pub use packed::BoxedAnswer;
 pub use run::{Run, Shards, TRIM_FROM, Taken, new_shards, trim_if_due};
 pub use shard::Shard;
-pub use step::{Act, DatagramBytes, OwnedBytes, SHORT_DATAGRAM, Step};
+pub use step::{Act, DatagramBytes, LentAct, OwnedBytes, Step};
 pub use trim::{Dropped, TrimFault};

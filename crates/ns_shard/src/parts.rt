@@ -145,15 +145,6 @@ impl Parts {
         }
     }
 
-    // Adds the entry of a call that was taken.
-    fn push(&mut self, call: &Call, event: &Event)
-        requires { AreTaken self.old call.now event.now }
-        ensures state { state_of self.new ≡ after_call (state_of self.old) call.now }
-        ensures agree { AreParts self.new }
-    {
-        push(&mut self.journal, call, event);
-    }
-
     /// Adds the entry of a call that was taken, and gives the answer.
     pub fn answered(&mut self, call: &Call, event: Event) -> Answer
         requires { AreTaken self.old call.now event }
@@ -161,8 +152,10 @@ impl Parts {
         ensures state { state_of self.new ≡ after_call (state_of self.old) call.now }
         ensures agree { AreParts self.new }
     {
-        self.push(call, &event);
-        event.answer(&self.roster)
+        let room = event.room();
+        let answer = event.answer(&self.roster);
+        push(&mut self.journal, call, answer.reply, room);
+        answer
     }
 
     /// Answers a call: gives the reply, and puts what goes out where something went out before. Where a growth is refused, nothing has
@@ -184,8 +177,10 @@ impl Parts {
         ensures agree { AreParts self.new }
     {
         let event = self.take(call)?;
-        self.push(call, &event);
-        Ok(event.hand_out(&self.roster, uplink, downlink))
+        let room = event.room();
+        let reply = event.hand_out(&self.roster, uplink, downlink);
+        push(&mut self.journal, call, reply, room);
+        Ok(reply)
     }
 
     /// Takes the memory of an uplink that went out, for a window that is opened later.
@@ -208,7 +203,9 @@ impl Parts {
         ensures agree { AreParts self.new }
     {
         let event = self.take(call)?;
-        self.push(call, &event);
-        BoxedAnswer::of(alloc, &self.roster, event)
+        let (reply, room) = (event.reply(), event.room());
+        let answer = BoxedAnswer::of(alloc, &self.roster, event);
+        push(&mut self.journal, call, reply, room);
+        answer
     }
 }

@@ -13,6 +13,7 @@ ghost use Rattle.ns_calls.specs.Steps.{datagram_call};
 ghost use Rattle.ns_shard.specs.declared.step.Step.{Step};
 ghost use Rattle.ns_shard.specs.State.{State, Keeps, MayBeTrimmed};
 ghost use Rattle.ns_shard.specs.KeptSteps.{AreKeptAfter, AreReached, AreInPlace};
+ghost use Rattle.ns_shard.specs.Lent.{act_lent, step_lent};
 ghost use Rattle.ns_shard.specs.Steps.{step_taken, all_taken, AreAfter};
 ghost use Rattle.ns_shard.specs.Taken.{call_of, calls_of, OfEach, HandsOut, HasCopies, AreHandedOutOnce};
 ghost use Rattle.ns_shard.specs.NextRun.{greatest_among, greatest_after};
@@ -21,7 +22,7 @@ ghost use Rattle.ns_shard.specs.Private.Run.{refused_as, StepEnds};
 use crate::calls::answer_call;
 use crate::packed::BoxedAnswer;
 use crate::shard::Shard;
-use crate::step::{Act, Step};
+use crate::step::{LentAct, Step};
 use ns_calls::{Call, DataFrame, Outcome, shard_of_call};
 use ns_link::{LinkFault, read_datagram};
 use ns_roster::Roster;
@@ -139,7 +140,23 @@ impl Shards {
         ensures kept { OnOk result ((net : Network) (before : List Step) → AreKeptAfter net before self.old → AreKeptAfter net (before ++ step.now ∷ []) self.new) }
         ensures reached { OnOk result (AreReached self.new) }
     {
-        run_step(alloc, &mut self.list, step)
+        self.run_act(alloc, step.worker, &step.act.lend())
+    }
+
+    // Runs the step of this worker and act.
+    fn run_act(
+        &mut self,
+        alloc: Global,
+        worker: u32,
+        act: &LentAct<'_>,
+    ) -> Result<Taken, AllocError>
+        requires { AreReached self.old }
+        ensures taken { IfOk result (λ t. (net : Network) (before : List Step) → AreKeptAfter net before self.old → t ≡ step_taken net before (step_lent worker act.now)) }
+        ensures shards { OnOk result ((net : Network) (before : List Step) → AreAfter net before self.old → AreAfter net (before ++ step_lent worker act.now ∷ []) self.new) }
+        ensures kept { OnOk result ((net : Network) (before : List Step) → AreKeptAfter net before self.old → AreKeptAfter net (before ++ step_lent worker act.now ∷ []) self.new) }
+        ensures reached { OnOk result (AreReached self.new) }
+    {
+        run_act(alloc, &mut self.list, act)
     }
 
     // Trims the shard of this number, where that is due.
@@ -153,15 +170,21 @@ impl Shards {
         }
     }
 
-    /// Runs one step more as `step` does, and trims its shard where that is due (no clause says when): what comes of later steps is the same.
-    /// `NoMemory` (`AllocError`) where a growth of the step was refused: the run is over. A trim that is refused is left out.
-    pub fn step_and_trim(&mut self, alloc: Global, step: &Step) -> Result<Taken, AllocError>
+    /// Runs the step of this worker and act as `step` does, and trims its shard where that is due (no clause says when): what comes of later
+    /// steps is the same. `NoMemory` (`AllocError`) where a growth of the step was refused: the run is over. A trim that is refused is left
+    /// out.
+    pub fn step_and_trim(
+        &mut self,
+        alloc: Global,
+        worker: u32,
+        act: &LentAct<'_>,
+    ) -> Result<Taken, AllocError>
         requires { AreReached self.old }
-        ensures taken { IfOk result (λ t. (net : Network) (before : List Step) → AreKeptAfter net before self.old → t ≡ step_taken net before step.now) }
-        ensures kept { OnOk result ((net : Network) (before : List Step) → AreKeptAfter net before self.old → AreKeptAfter net (before ++ step.now ∷ []) self.new) }
+        ensures taken { IfOk result (λ t. (net : Network) (before : List Step) → AreKeptAfter net before self.old → t ≡ step_taken net before (step_lent worker act.now)) }
+        ensures kept { OnOk result ((net : Network) (before : List Step) → AreKeptAfter net before self.old → AreKeptAfter net (before ++ step_lent worker act.now ∷ []) self.new) }
         ensures reached { OnOk result (AreReached self.new) }
     {
-        let taken = self.step(alloc, step)?;
+        let taken = self.run_act(alloc, worker, act)?;
         if let Taken::Made { shard, .. } = &taken {
             self.trim_one(alloc, *shard);
         }
@@ -299,24 +322,24 @@ fn run_datagram(alloc: Global, shards: &mut Vec<Shard>, bytes: &[u8]) -> Result<
 }
 
 // Makes the call of a step.
-fn run_step(alloc: Global, shards: &mut Vec<Shard>, step: &Step) -> Result<Taken, AllocError>
+fn run_act(alloc: Global, shards: &mut Vec<Shard>, act: &LentAct<'_>) -> Result<Taken, AllocError>
     requires sixteen { length shards.old.items ≡ shard_count }
     requires in_place { AreInPlace shards.old.items }
-    ensures { StepEnds shards.old.items (refused_as (call_of step.now.act)) result shards.new.items }
+    ensures { StepEnds shards.old.items (refused_as (call_of (act_lent act.now))) result shards.new.items }
 {
-    match &step.act {
-        Act::Datagram(bytes) => run_datagram(alloc, shards, bytes.as_slice()),
-        Act::Answer { ticket, body } => {
-            let call = answer_call(alloc, ticket, body.as_slice())?;
+    match act {
+        LentAct::Datagram(bytes) => run_datagram(alloc, shards, bytes),
+        LentAct::Answer { ticket, body } => {
+            let call = answer_call(alloc, ticket, body)?;
             apply(alloc, shards, &call)
         }
-        Act::Lost { ticket } => {
+        LentAct::Lost { ticket } => {
             let call = Call::JoinReply {
                 ticket: *ticket,
                 outcome: Outcome::Failed,
             };
             apply(alloc, shards, &call)
         }
-        Act::Close(window) => apply(alloc, shards, &Call::Close { window: *window }),
+        LentAct::Close(window) => apply(alloc, shards, &Call::Close { window: *window }),
     }
 }

@@ -1,15 +1,16 @@
 //! What happens at a server, step by step.
 
 ghost use Rattle.std.specs.Prelude.{◌≡◌, ◌≤◌, length, IfOk, IsOk};
+ghost use Rattle.ns_shard.specs.Lent.{act_lent};
 
 use ns_calls::Bytes;
 use ns_types::{Ticket, WindowName};
 use std::alloc::{AllocError, Global};
 use std::marker::Model;
 
-/// How many bytes of a datagram lie in its step itself: those of a datagram with the longest frame at DR0 to DR2 (28 bytes before
-/// the frame, and 64 of it: RP002 EU868, 59 bytes of MACPayload), and three more, up to which the room is of 96 bytes.
-pub const SHORT_DATAGRAM: usize = 95;
+// How many bytes of a datagram lie in its step itself: those of a datagram with the longest frame at DR0 to DR2 (28 bytes before
+// the frame, and 64 of it: RP002 EU868, 59 bytes of MACPayload), and three more, up to which the room is of 96 bytes.
+const SHORT_DATAGRAM: usize = 95;
 
 /// Bytes that came from outside. Contracts see the list of them.
 #[derive(Drop)]
@@ -111,6 +112,53 @@ pub enum Act {
     Lost { ticket: Ticket },
     /// A window is to be closed.
     Close(WindowName),
+}
+
+impl Act {
+    /// Lends the act.
+    pub fn lend(&self) -> LentAct<'_>
+        ensures { act_lent result ≡ self.now }
+    {
+        match self {
+            Act::Datagram(bytes) => LentAct::Datagram(bytes.as_slice()),
+            Act::Answer { ticket, body } => LentAct::Answer {
+                ticket: *ticket,
+                body: body.as_slice(),
+            },
+            Act::Lost { ticket } => LentAct::Lost { ticket: *ticket },
+            Act::Close(window) => LentAct::Close(*window),
+        }
+    }
+}
+
+/// What happens at a step, of which the bytes are lent from where they lie.
+#[derive(Clone, Copy)]
+pub enum LentAct<'a> {
+    /// A datagram came from a gateway.
+    Datagram(&'a [u8]),
+    /// A join server answered the request for a ticket with this body.
+    Answer { ticket: Ticket, body: &'a [u8] },
+    /// No answer came to the request for a ticket.
+    Lost { ticket: Ticket },
+    /// A window is to be closed.
+    Close(WindowName),
+}
+
+impl LentAct<'_> {
+    /// The act with bytes of its own. `NoMemory` (`AllocError`) where a growth was refused.
+    pub fn to_act(&self, alloc: Global) -> Result<Act, AllocError>
+        ensures { IfOk result (λ act. act ≡ act_lent self.now) }
+    {
+        Ok(match self {
+            LentAct::Datagram(bytes) => Act::Datagram(DatagramBytes::of(alloc, bytes)?),
+            LentAct::Answer { ticket, body } => Act::Answer {
+                ticket: *ticket,
+                body: OwnedBytes::new(Vec::from_slice(alloc, body)?),
+            },
+            LentAct::Lost { ticket } => Act::Lost { ticket: *ticket },
+            LentAct::Close(window) => Act::Close(*window),
+        })
+    }
 }
 
 /// One step of a run, and the number of the worker that makes it.

@@ -1,14 +1,13 @@
 //! Hex text read by a table.
 
-ghost use Rattle.std.specs.Prelude.{◌≡◌, ◌≤◌, ◌*◌, ◌%◌, length, option_map, Ok, IfOk, IsErr};
+ghost use Rattle.std.specs.Prelude.{◌≡◌, ◌≤◌, ◌*◌, length, vec_len, option_map, Ok, IfOk, OnOk, IsErr};
 ghost use Rattle.std.specs.Bool.{OnTrue, OnFalse};
 ghost use Rattle.std.specs.Result.{result_ok};
 ghost use Rattle.hex.specs.Hex.{decode_of};
 ghost use Rattle.ns_steps.specs.HexText.{digit_or_16};
 
 use crate::hex_digits::sixteen_bytes;
-use ns_shard::{DatagramBytes, SHORT_DATAGRAM};
-use std::alloc::{AllocError, Global};
+use std::alloc::AllocError;
 
 // The value of each byte as a hex digit, in either case, and 16 where it is none.
 static DIGITS: [u8; 256] = [
@@ -82,45 +81,29 @@ fn decode_all(text: &[u8], out: &mut [u8]) -> bool
     }
 }
 
-// The bytes of a text of hex digits, in either case: none where the text is odd or a byte of it is no digit.
-fn decode(alloc: Global, text: &[u8]) -> Result<Option<Vec<u8>>, AllocError>
-    ensures { IfOk result (λ found. option_map (λ bytes. bytes.items) found ≡ result_ok (decode_of text.now)) }
+// Makes room for n bytes at least.
+fn stretch(room: &mut Vec<u8>, n: usize) -> Result<(), AllocError>
+    ensures { OnOk result (n ≤ vec_len room.new) }
+{
+    if room.len() < n {
+        room.resize(n, 0)?;
+    }
+    Ok(())
+}
+
+/// The datagram of a text of hex digits, in either case, lent from the front of `room`: none where the text is odd or a byte of it is no
+/// digit. `NoMemory` (`AllocError`) where the room is too short and a growth was refused.
+pub fn datagram<'a>(room: &'a mut Vec<u8>, text: &[u8]) -> Result<Option<&'a [u8]>, AllocError>
+    ensures { IfOk result (λ found. option_map (λ bytes. bytes.now) found ≡ result_ok (decode_of text.now)) }
 {
     if text.len() % 2 == 1 {
         return Ok(None);
     }
-    let mut bytes = vec![in alloc; 0u8; text.len() / 2]?;
-    if decode_all(text, bytes.as_mut_slice()) {
-        Ok(Some(bytes))
-    } else {
-        Ok(None)
-    }
-}
-
-// The same for a text of at most 190 digits, which takes no memory.
-fn short_datagram(alloc: Global, text: &[u8]) -> Result<Option<DatagramBytes>, AllocError>
-    requires even { length text.now % 2 ≡ 0 }
-    requires short { length text.now ≤ 190 }
-    ensures { IfOk result (λ found. found ≡ result_ok (decode_of text.now)) }
-{
     let count = text.len() / 2;
-    let mut room = [0u8; SHORT_DATAGRAM];
-    if decode_all(text, &mut room[..count]) {
-        Ok(Some(DatagramBytes::of(alloc, &room[..count])?))
-    } else {
-        Ok(None)
+    stretch(room, count)?;
+    let (bytes, _) = room.as_mut_slice().split_at_mut(count);
+    if !decode_all(text, bytes) {
+        return Ok(None);
     }
-}
-
-/// The datagram of a text of hex digits, in either case: none where the text is odd or a byte of it is no digit.
-pub fn datagram(alloc: Global, text: &[u8]) -> Result<Option<DatagramBytes>, AllocError>
-    ensures { IfOk result (λ found. found ≡ result_ok (decode_of text.now)) }
-{
-    if text.len() % 2 == 0 && text.len() <= 2 * SHORT_DATAGRAM {
-        return short_datagram(alloc, text);
-    }
-    match decode(alloc, text)? {
-        Some(bytes) => Ok(Some(DatagramBytes::new(bytes))),
-        None => Ok(None),
-    }
+    Ok(Some(&bytes[..]))
 }

@@ -1,14 +1,15 @@
 //! Step lines: the step that a line asks for.
 
 ghost use Rattle.std.specs.Prelude.{◌≡◌, ◌<◌, ◌==◌, length, option_map, IfOk, IfSome, position};
+ghost use Rattle.ns_shard.specs.Lent.{act_lent};
 ghost use Rattle.ns_steps.specs.StepLines.{without_return, split_by, split_words, number, eui, ticket, datagram_step, answer_step, lost_step, later_round, counter, window, close_step, act, step};
 
 use crate::hex_text::datagram;
 use hex::FromHex;
 use memchr::memchr;
-use ns_shard::{Act, OwnedBytes};
+use ns_shard::LentAct;
 use ns_types::{DevEui, Ticket, WindowName};
-use std::alloc::{AllocError, Global};
+use std::alloc::AllocError;
 
 /// Where a byte first stands.
 #[inline(always)]
@@ -86,13 +87,13 @@ fn ticket(text: &[u8]) -> Option<Ticket>
     Some(Ticket(bytes))
 }
 
-// The step of the text behind `heard`.
+// The step of the text behind `heard`, with room for its bytes.
 #[tactic(auto, unfolding(crate::specs::StepLines::datagram_step))]
-fn datagram_step(alloc: Global, text: &[u8]) -> Result<Option<Act>, AllocError>
-    ensures { IfOk result (λ a. a ≡ datagram_step text.now) }
+fn datagram_step<'a>(room: &'a mut Vec<u8>, text: &[u8]) -> Result<Option<LentAct<'a>>, AllocError>
+    ensures { IfOk result (λ a. option_map act_lent a ≡ datagram_step text.now) }
 {
-    match datagram(alloc, text)? {
-        Some(bytes) if !bytes.as_slice().is_empty() => Ok(Some(Act::Datagram(bytes))),
+    match datagram(room, text)? {
+        Some(bytes) if !bytes.is_empty() => Ok(Some(LentAct::Datagram(bytes))),
         _ => Ok(None),
     }
 }
@@ -100,26 +101,23 @@ fn datagram_step(alloc: Global, text: &[u8]) -> Result<Option<Act>, AllocError>
 // The step of the text behind `answer`.
 #[tactic(auto, unfolding(crate::specs::StepLines::answer_step))]
 #[inline(never)]
-fn answer_step(alloc: Global, text: &[u8]) -> Result<Option<Act>, AllocError>
-    ensures { IfOk result (λ a. a ≡ answer_step text.now) }
+fn answer_step(text: &[u8]) -> Option<LentAct<'_>>
+    ensures { option_map act_lent result ≡ answer_step text.now }
 {
-    let Some((word, body)) = split_words(text) else {
-        return Ok(None);
-    };
-    let Some(ticket) = ticket(word) else {
-        return Ok(None);
-    };
-    let body = OwnedBytes::new(Vec::from_slice(alloc, body)?);
-    Ok(Some(Act::Answer { ticket, body }))
+    let (word, body) = split_words(text)?;
+    Some(LentAct::Answer {
+        ticket: ticket(word)?,
+        body,
+    })
 }
 
 // The step of the text behind `lost`.
 #[tactic(auto, unfolding(crate::specs::StepLines::lost_step))]
 #[inline(never)]
-fn lost_step(text: &[u8]) -> Option<Act>
-    ensures { result ≡ lost_step text.now }
+fn lost_step(text: &[u8]) -> Option<LentAct<'_>>
+    ensures { option_map act_lent result ≡ lost_step text.now }
 {
-    Some(Act::Lost {
+    Some(LentAct::Lost {
         ticket: ticket(text)?,
     })
 }
@@ -163,23 +161,27 @@ fn window(eui: DevEui, text: &[u8]) -> Option<WindowName>
 // The step of the text behind `close`.
 #[tactic(auto, unfolding(crate::specs::StepLines::close_step))]
 #[inline(never)]
-fn close_step(text: &[u8]) -> Option<Act>
-    ensures { result ≡ close_step text.now }
+fn close_step(text: &[u8]) -> Option<LentAct<'_>>
+    ensures { option_map act_lent result ≡ close_step text.now }
 {
     let (device, text) = split_words(text)?;
-    Some(Act::Close(window(eui(device)?, text)?))
+    Some(LentAct::Close(window(eui(device)?, text)?))
 }
 
 // The step that a first word asks for, with the text behind it. Most lines are of datagrams: the other steps stay functions of their own, so
 // that a datagram makes no room for them.
 #[tactic(auto, unfolding(crate::specs::StepLines::act))]
-fn act(alloc: Global, word: &[u8], text: &[u8]) -> Result<Option<Act>, AllocError>
-    ensures { IfOk result (λ a. a ≡ act word.now text.now) }
+fn act<'a>(
+    room: &'a mut Vec<u8>,
+    word: &[u8],
+    text: &'a [u8],
+) -> Result<Option<LentAct<'a>>, AllocError>
+    ensures { IfOk result (λ a. option_map act_lent a ≡ act word.now text.now) }
 {
     if word == b"heard".as_slice() {
-        datagram_step(alloc, text)
+        datagram_step(room, text)
     } else if word == b"answer".as_slice() {
-        answer_step(alloc, text)
+        Ok(answer_step(text))
     } else if word == b"lost".as_slice() {
         Ok(lost_step(text))
     } else if word == b"close".as_slice() {
@@ -189,14 +191,15 @@ fn act(alloc: Global, word: &[u8], text: &[u8]) -> Result<Option<Act>, AllocErro
     }
 }
 
-/// The step that a line asks for, where it is a step line.
+/// The step that a line asks for, where it is a step line: a datagram is lent from `room`, which grows where it is too short, and an answer's
+/// body from the line. `NoMemory` (`AllocError`) where that growth was refused.
 #[tactic(auto, unfolding(crate::specs::StepLines::step))]
 #[inline(always)]
-pub fn step(alloc: Global, line: &[u8]) -> Result<Option<Act>, AllocError>
-    ensures { IfOk result (λ a. a ≡ step line.now) }
+pub fn step<'a>(room: &'a mut Vec<u8>, line: &'a [u8]) -> Result<Option<LentAct<'a>>, AllocError>
+    ensures { IfOk result (λ a. option_map act_lent a ≡ step line.now) }
 {
     match split_words(without_return(line)) {
-        Some((word, text)) => act(alloc, word, text),
+        Some((word, text)) => act(room, word, text),
         None => Ok(None),
     }
 }

@@ -1,7 +1,7 @@
 //! The record of a folder with which no server goes on, made shorter.
 
 use crate::rows::holds;
-use crate::worked::{ASKED, BASE, CLOSED, JOIN, ROSTER, TORN, TORN_UP, UP, roster_of};
+use crate::worked::{ASKED, BASE, TORN, TORN_UP, roster_of};
 use log::sink::Writer;
 use ns_compact::Folder;
 use ns_record_files::RecordFiles;
@@ -11,6 +11,7 @@ use std::fs::File;
 use std::io::Read;
 use std::rt::Files;
 use std::{fs, io};
+use test_device::worked::{CLOSE, CONFIRMED, JOIN, KEPT_ANSWER, ROSTER, UP};
 
 /// The folder of a record, and its files: steps, `up` lines, and fewer steps while they are written.
 #[derive(Clone, Copy)]
@@ -136,15 +137,21 @@ type Row = (
 );
 
 // Steps behind a base that tells of 80 bytes of `up` lines.
-const OF_80: &[&str] = &["base 0000000000000004 0000000000000050\n", JOIN, CLOSED];
+const OF_80: &[&str] = &[
+    "base 0000000000000004 0000000000000050\n",
+    JOIN,
+    KEPT_ANSWER,
+    CONFIRMED,
+    CLOSE,
+];
 
 const ROWS: &[Row] = &[
     // Lines that are not needed and torn ends are gone, the `up` line that was missing is there, and it is told how many lines there were.
     (
-        &[JOIN, CLOSED, ASKED, "x\n", TORN],
+        &[JOIN, KEPT_ANSWER, CONFIRMED, CLOSE, ASKED, "x\n", TORN],
         &[TORN_UP],
         Ok((6, 4)),
-        &[BASE, JOIN, CLOSED],
+        &[BASE, JOIN, KEPT_ANSWER, CONFIRMED, CLOSE],
         &[UP],
     ),
     // A record whose `up` lines end, or go on, where its base tells of another number of bytes stays as it is.

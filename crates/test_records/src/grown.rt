@@ -2,7 +2,7 @@
 
 use crate::folder::{Place, bytes_of, make, text_of};
 use crate::place;
-use crate::worked::{AGAIN, ASKED, BASE, CLOSED, JOIN, ROSTER, UP, roster_of};
+use crate::worked::{ASKED, BASE, roster_of};
 use log::sink::Writer;
 use ns_compact::{Folder, Keeper};
 use ns_record_files::{RecordFiles, RecordWriter, Recorder, Upkeep};
@@ -11,12 +11,10 @@ use std::fs::File;
 use std::rt::Files;
 use std::sync::Wait;
 use std::{fs, io};
+use test_device::worked::{CLOSE, CONFIRMED, JOIN, KEPT_ANSWER, ROSTER, UP};
 
 // What stands in an answer again and again: no JSON, so the join fails.
 const TEXT: [u8; 1024] = [b'x'; 1024];
-
-// A window that is not open, which no record has.
-const UNFIT: &str = "close 000000000000000d 1 2\n";
 
 // From how many bytes on fewer steps take the place.
 const MANY: usize = 4_194_304;
@@ -155,7 +153,7 @@ fn put_join(steps: &mut Vec<u8>) -> Result<(), AllocError> {
 
 // Steps of a join and an uplink, behind a base, and of so many joins that failed.
 fn joins(alloc: Global, base: &str, count: usize) -> Result<Vec<u8>, AllocError> {
-    let mut steps = text_of(alloc, &[base, JOIN, CLOSED])?;
+    let mut steps = text_of(alloc, &[base, JOIN, KEPT_ANSWER, CONFIRMED, CLOSE])?;
     for _ in 0..count {
         put_join(&mut steps)?;
     }
@@ -197,12 +195,13 @@ fn others_stay(rt: HostRuntime) {
 // What was logged where a record that has grown becomes small.
 fn log_of_grown<R: Files<File = File> + Wait + AllocGlobal>(rt: &R) -> Option<Vec<u8>> {
     let steps = joins(rt.alloc(), BASE, 64).ok()?;
-    let wanted = text_of(rt.alloc(), &[BASE, JOIN, CLOSED, AGAIN]).ok()?;
+    let mut wanted = joins(rt.alloc(), BASE, 0).ok()?;
+    wanted.extend_from_slice(CONFIRMED.as_bytes()).ok()?;
     let grown = Grown {
         place: place!("test_records_grown"),
         before: &[],
         steps: steps.as_slice(),
-        later: AGAIN,
+        later: CONFIRMED,
         rests: false,
     };
     log_of(rt, &grown, wanted.as_slice())
@@ -219,9 +218,9 @@ fn grown_records_become_small(rt: HostRuntime) {
     assert!(rt; is_so);
 }
 
-// A line that fits no record, and so many of these bytes.
+// The closing of a window that is not open, which fits no record, and so many of these bytes.
 fn unfit(alloc: Global, steps: &[u8], count: usize) -> Result<Vec<u8>, AllocError> {
-    let mut unfit = text_of(alloc, &[UNFIT])?;
+    let mut unfit = text_of(alloc, &[CLOSE])?;
     unfit.extend_from_slice(front(steps, count))?;
     Ok(unfit)
 }
@@ -234,7 +233,7 @@ fn log_of_unfit<R: Files<File = File> + Wait + AllocGlobal>(
     // Without the last join: not twice what is unfit, which has half of these behind a line of 26 bytes.
     let fewer = front(steps, steps.len().saturating_sub(JOIN_LEN));
     let unfit = unfit(rt.alloc(), fewer, fewer.len() / 2).ok()?;
-    let wanted = text_of(rt.alloc(), &[BASE, JOIN, CLOSED]).ok()?;
+    let wanted = joins(rt.alloc(), BASE, 0).ok()?;
     let grown = Grown {
         place: place!("test_records_unfit"),
         before: &[unfit.as_slice(), fewer],

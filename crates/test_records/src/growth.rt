@@ -3,11 +3,12 @@
 //! Blocks are given back one at a time, the smallest first. Several growths of one call may pass with one block, so these tests show what
 //! a refused call leaves and that it is answered in the end, and not each growth refused alone.
 
-use crate::calls::{ANSWERED, JOIN, JOIN_2, answers, call_of, roster};
+use crate::calls::{answers, call_of, roster};
 use ns_calls::{Call, Entry};
 use ns_shard::{Shard, new_shards};
 use ns_types::{BLOCKS, take_all};
 use std::alloc::Global;
+use test_device::worked::{ANSWER, JOIN, JOIN_2, UNKNOWN, UPLINK, UPLINK_2};
 
 /// Each step, the line of its answer, and how often memory is refused to it at least.
 pub type Steps = &'static [(&'static str, &'static str, u64)];
@@ -21,26 +22,14 @@ pub const WORKED: Steps = &[
         1,
     ),
     (JOIN_2, "joincopied 2", 0),
-    (ANSWERED, "accepted 000000000000000d 1 49be7df1", 0),
-    (ANSWERED, "noticket", 0),
-    (
-        "heard 010100000000000000a100000000000f424033be27a005fc4a004b1140f17dbe4900020001954378762b11ff0d",
-        "opened 000000000000000d 1 2",
-        1,
-    ),
-    (
-        "heard 010100000000000000a200000000000f462833be27a005fc1800501140f17dbe4900020001954378762b11ff0d",
-        "copied 000000000000000d 1 2 2",
-        0,
-    ),
+    (ANSWER, "accepted 000000000000000d 1 49be7df1", 0),
+    (ANSWER, "noticket", 0),
+    (UPLINK, "opened 000000000000000d 1 2", 1),
+    (UPLINK_2, "copied 000000000000000d 1 2 2", 0),
 ];
 
 /// A Join-Request of a device that is not in the roster.
-pub const UNKNOWN: Steps = &[(
-    "heard 010100000000000000a100000000000f424033be27a005fc4a004b170004030201040302010e00000000000000010001000000",
-    "nodevice",
-    1,
-)];
+pub const NO_DEVICE: Steps = &[(UNKNOWN, "nodevice", 1)];
 
 // Makes a call until its answer begins with this line, with one block of memory more given back before each time. How often memory was
 // refused, where each time the shard was left as it was.
@@ -106,5 +95,5 @@ fn is_refused(alloc: Global, index: usize, steps: Steps) -> Option<bool> {
 #[test]
 fn memory_refused_to_a_run(rt: HostRuntime) {
     assert!(rt; is_refused(rt.alloc(), 13, WORKED) == Some(true));
-    assert!(rt; is_refused(rt.alloc(), 14, UNKNOWN) == Some(true));
+    assert!(rt; is_refused(rt.alloc(), 14, NO_DEVICE) == Some(true));
 }

@@ -1,33 +1,24 @@
 //! Rounds up to the last one, of one device's state.
 
-use ns_calls::{JoinAccept, JoinAns, Outcome};
+use crate::traffic::ticket;
+use ns_calls::Outcome;
 use ns_sessions::{DeviceState, Recovery};
-use ns_types::{Heard, Key, Ticket};
+use ns_types::Heard;
 use ns_views::{PhyView, view};
+use test_device::traffic::{answer, keys};
 
-// An unconfirmed uplink with counter 2 under the NwkSKey below.
+// An unconfirmed uplink with counter 2 under the NwkSKey of `keys`.
 const FRAME: [u8; 17] = [
     0x40, 0xf1, 0x7d, 0xbe, 0x49, 0x00, 0x02, 0x00, 0x01, 0x95, 0x43, 0x78, 0x76, 0x2b, 0x11, 0xff,
     0x0d,
 ];
 
-const NWK_S_KEY: Key = Key([
-    0x44, 0x02, 0x42, 0x41, 0xed, 0x4c, 0xe9, 0xa6, 0x8c, 0x6a, 0x8b, 0xc0, 0x55, 0x23, 0x3f, 0xd3,
-]);
-
 // A device that has joined, with no uplink yet.
 fn joined() -> DeviceState {
     let mut state = DeviceState::new(None);
-    let ticket = Ticket([
-        0, 4, 3, 2, 1, 4, 3, 2, 1, 13, 0, 0, 0, 0, 0, 0, 0, 1, 0, 1, 0, 0, 0,
-    ]);
+    let ticket = ticket(13, 1);
     state.ask(&ticket, &Heard::default());
-    let join = JoinAns {
-        accept: JoinAccept::Plain([0x20; 17]),
-        nwk: NWK_S_KEY,
-        app: None,
-    };
-    state.answer(&ticket, &Outcome::Success(join));
+    state.answer(&ticket, &Outcome::Success(answer(keys().nwk, None)));
     state
 }
 

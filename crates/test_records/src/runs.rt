@@ -2,22 +2,18 @@
 //!
 //! No contract says that a run finds memory, so a body that refuses many steps would be proved.
 
-use crate::calls::{begins_with, roster};
-use crate::growth::{Steps, UNKNOWN, WORKED};
+use crate::calls::{act_of, begins_with, roster};
+use crate::growth::{NO_DEVICE, Steps, WORKED};
 use crate::traffic::{join, join_reply, ticket, uplink};
-use crate::worked::roster_of;
 use ns_calls::{Call, Reply};
 use ns_record::step_line;
 use ns_roster::Roster;
 use ns_shard::{Shards, Step, TRIM_FROM, Taken};
-use ns_steps::step;
 use ns_types::{BLOCKS, DevEui, WindowName, take_all};
 use std::alloc::Global;
 use std::sync::Arc;
-
-// A roster of the one device, whose slot is its number.
-const ROSTER: &str =
-    "{\"version\":1,\"net_id\":\"000024\",\"rx1_offset\":0,\"rx_delay\":1,\"devices\":[{\"dev_eui\":\"000000000000000d\",\"join_eui\":\"0102030401020304\",\"slot\":13}]}";
+use test_device::traffic::roster_of;
+use test_device::worked::{CLOSE, UPLINK};
 
 // How many steps there are: a join, and 50,000 uplinks that are heard and closed.
 const STEPS: u32 = 100_002;
@@ -45,7 +41,7 @@ fn call_at(place: u32) -> Option<Call> {
 
 // The step of a line, by a worker.
 fn step_of(alloc: Global, worker: u32, line: &str) -> Option<Step> {
-    let act = step(alloc, line.as_bytes()).ok()??;
+    let act = act_of(alloc, line)?;
     Some(Step { worker, act })
 }
 
@@ -83,10 +79,15 @@ fn is_made_at(place: u32, taken: &Taken) -> bool {
     }
 }
 
+// The roster of the device, whose slot is its number.
+fn one_device(alloc: Global) -> Option<Arc<Roster>> {
+    Arc::new(alloc, roster_of(alloc, 13, 1, 1).ok()?).ok()
+}
+
 // How many of the steps came out right, and of how many.
 fn right_steps(alloc: Global) -> Option<(u32, usize)> {
     let steps = long_steps(alloc)?;
-    let run = Shards::run(alloc, roster_of(alloc, ROSTER).ok()?, steps.as_slice()).ok()?;
+    let run = Shards::run(alloc, one_device(alloc)?, steps.as_slice()).ok()?;
     let mut place = 0u32;
     let mut right = 0u32;
     for taken in run.taken.as_slice() {
@@ -104,11 +105,13 @@ fn a_hundred_thousand_steps(rt: HostRuntime) {
 // How many of the steps come out right at shards that are trimmed between them, and how many entries their shard has at the end.
 fn right_trimmed_steps(alloc: Global) -> Option<(u32, usize)> {
     let steps = long_steps(alloc)?;
-    let mut shards = Shards::new(alloc, roster_of(alloc, ROSTER).ok()?).ok()?;
+    let mut shards = Shards::new(alloc, one_device(alloc)?).ok()?;
     let mut place = 0u32;
     let mut right = 0u32;
     'steps: for step in steps.as_slice() {
-        let taken = shards.step_and_trim(alloc, step).ok()?;
+        let taken = shards
+            .step_and_trim(alloc, step.worker, &step.act.lend())
+            .ok()?;
         right = right.wrapping_add(u32::from(is_made_at(place, &taken)));
         place = place.wrapping_add(1);
     }
@@ -126,17 +129,11 @@ fn trims_between_steps(rt: HostRuntime) {
 const CLOSINGS: Steps = &[
     (CLOSE, "closed 000000000000000d 1 2 -", 0),
     (CLOSE, "nowindow", 0),
-    (
-        "heard 010100000000000000a100000000000f424033be27a005fc4a004b1140f17dbe4900020001954378762b11ff0d",
-        "old 000000000000000d 1 2",
-        0,
-    ),
+    (UPLINK, "old 000000000000000d 1 2", 0),
 ];
 
-const CLOSE: &str = "close 000000000000000d 1 2";
-
 // A run of ten steps.
-const TEN: [Steps; 3] = [WORKED, UNKNOWN, CLOSINGS];
+const TEN: [Steps; 3] = [WORKED, NO_DEVICE, CLOSINGS];
 
 // The steps of it.
 fn ten_steps(alloc: Global) -> Option<Vec<Step>> {
@@ -197,7 +194,8 @@ fn refusals(alloc: Global) -> Option<u64> {
     run_refusals(alloc, &roster, steps.as_slice(), &mut held)
 }
 
-// There is no run, until there is memory for all of it.
+// There is no run, until there is memory for all of it. Blocks are given back one at a time, and several growths may pass with one, so they
+// may be refused together.
 #[test]
 fn memory_refused_to_a_whole_run(rt: HostRuntime) {
     assert!(rt; refusals(rt.alloc()) > Some(1));

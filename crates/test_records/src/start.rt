@@ -3,11 +3,12 @@
 use crate::folder::text_of;
 use crate::life::resumed;
 use crate::rows::holds;
-use crate::worked::{AGAIN, CLOSED, JOIN, ROSTER, TORN, TORN_UP, UP, roster_of};
+use crate::worked::{TORN, TORN_UP, roster_of};
 use ns_resume::RecordFault::{NoFit, NoStep, UpDiffers, UpLonger};
 use ns_resume::{RecordFault, Resumed};
 use ns_types::{DevEui, WindowName};
 use std::alloc::Global;
+use test_device::worked::{CLOSE, CONFIRMED, JOIN, KEPT_ANSWER, ROSTER, UP};
 
 // The roster of the run with one more device before its own.
 const ADDED: &str =
@@ -17,9 +18,10 @@ const ADDED: &str =
 const OTHER: &str =
     "{\"version\":1,\"net_id\":\"000024\",\"rx1_offset\":0,\"rx_delay\":1,\"devices\":[{\"dev_eui\":\"000000000000000e\",\"join_eui\":\"0102030401020304\",\"slot\":5}]}";
 
-// The Join-Request of the run.
-const ASKING: &str =
-    "heard 010100000000000000a100000000000f424033be27a005fc4a004b170004030201040302010d00000000000000010001000000\n";
+// A record of a join and an uplink, and the same with the uplink once more.
+const CLOSED: &[&str] = &[JOIN, KEPT_ANSWER, CONFIRMED, CLOSE];
+
+const AGAIN: &[&str] = &[JOIN, KEPT_ANSWER, CONFIRMED, CLOSE, CONFIRMED];
 
 // Its `up` line and a torn one.
 const UP_AND_TORN: &str = "up 000000000000000d 1 2 1 plain - 74657374 1 00000000000000a1\nu";
@@ -39,85 +41,55 @@ type Row = (
 
 // A record is run.
 const RUN: &[Row] = &[
-    (
-        ROSTER,
-        &[JOIN, CLOSED, AGAIN],
-        UP,
-        1,
-        Ok([0, 0, 0, 0, 1, 5, 0]),
-    ),
-    (
-        ROSTER,
-        &[JOIN, CLOSED, AGAIN],
-        UP,
-        7,
-        Ok([0, 0, 0, 0, 1, 5, 0]),
-    ),
-    (
-        ROSTER,
-        &[JOIN, CLOSED, AGAIN],
-        UP,
-        1_000_000,
-        Ok([0, 0, 0, 0, 1, 5, 0]),
-    ),
+    (ROSTER, AGAIN, UP, 1, Ok([0, 0, 0, 0, 1, 5, 0])),
+    (ROSTER, AGAIN, UP, 7, Ok([0, 0, 0, 0, 1, 5, 0])),
+    (ROSTER, AGAIN, UP, 1_000_000, Ok([0, 0, 0, 0, 1, 5, 0])),
     // A torn line and an open ticket are told.
     (
         ROSTER,
-        &[JOIN, CLOSED, TORN],
+        &[JOIN, KEPT_ANSWER, CONFIRMED, CLOSE, TORN],
         UP,
         7,
         Ok([40, 0, 0, 0, 0, 4, 0]),
     ),
-    (ROSTER, &[ASKING], "", 7, Ok([0, 0, 0, 1, 0, 1, 0])),
+    (ROSTER, &[JOIN], "", 7, Ok([0, 0, 0, 1, 0, 1, 0])),
     // Missing `up` lines are given.
-    (ROSTER, &[JOIN, CLOSED], "", 7, Ok([0, 0, 1, 0, 0, 4, 0])),
-    (
-        ROSTER,
-        &[JOIN, CLOSED],
-        TORN_UP,
-        7,
-        Ok([0, 10, 1, 0, 0, 4, 0]),
-    ),
+    (ROSTER, CLOSED, "", 7, Ok([0, 0, 1, 0, 0, 4, 0])),
+    (ROSTER, CLOSED, TORN_UP, 7, Ok([0, 10, 1, 0, 0, 4, 0])),
     // A device may be added.
-    (
-        ADDED,
-        &[JOIN, CLOSED, AGAIN],
-        UP,
-        1_000,
-        Ok([0, 0, 0, 0, 1, 5, 0]),
-    ),
+    (ADDED, AGAIN, UP, 1_000, Ok([0, 0, 0, 0, 1, 5, 0])),
 ];
 
 // A record is refused.
 const REFUSED: &[Row] = &[
     // It does not fit the roster, or the lines before.
-    (OTHER, &[JOIN, CLOSED], UP, 1_000, Err(NoFit(1))),
+    (OTHER, CLOSED, UP, 1_000, Err(NoFit(1))),
     (
         ROSTER,
-        &[JOIN, CLOSED, "close 000000000000000d 1 2\n"],
+        &[JOIN, KEPT_ANSWER, CONFIRMED, CLOSE, CLOSE],
         UP,
         1_000,
         Err(NoFit(5)),
     ),
     (
         ROSTER,
-        &[JOIN, "heard\n", CLOSED],
+        &[JOIN, KEPT_ANSWER, "heard\n", CONFIRMED, CLOSE],
         UP,
         1_000,
         Err(NoStep(3)),
     ),
-    (ROSTER, &[JOIN, "heard 00\n"], UP, 1_000, Err(NoFit(3))),
-    (ROSTER, &[CLOSED], UP, 1_000, Err(NoFit(1))),
-    // The `up` lines are not of it.
-    (ROSTER, &[JOIN, CLOSED], "up 0\n", 1_000, Err(UpDiffers(1))),
-    (ROSTER, &[JOIN], UP, 1_000, Err(UpLonger(0))),
     (
         ROSTER,
-        &[JOIN, CLOSED],
-        UP_AND_TORN,
+        &[JOIN, KEPT_ANSWER, "heard 00\n"],
+        UP,
         1_000,
-        Err(UpLonger(1)),
+        Err(NoFit(3)),
     ),
+    (ROSTER, &[CONFIRMED, CLOSE], UP, 1_000, Err(NoFit(1))),
+    // The `up` lines are not of it.
+    (ROSTER, CLOSED, "up 0\n", 1_000, Err(UpDiffers(1))),
+    (ROSTER, &[JOIN, KEPT_ANSWER], UP, 1_000, Err(UpLonger(0))),
+    (ROSTER, CLOSED, UP_AND_TORN, 1_000, Err(UpLonger(1))),
 ];
 
 // How many entries a shard has made.

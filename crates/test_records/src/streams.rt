@@ -1,24 +1,29 @@
 //! `replay` where reads or writes fail, or memory is refused.
+//!
+//! Memory is given back one block at a time, and several growths may pass with one: so they may be refused together.
 
 ghost use Rattle.std.specs.Prelude.{◌<◌};
 
 use crate::calls::roster;
+use crate::folder::text_of;
 use ns_events::Output;
 use ns_replay::{ReplayFault, replay};
 use ns_roster::Roster;
 use ns_types::{BLOCKS, Fuse, Stream, take_all};
 use std::alloc::Global;
 use std::sync::Arc;
+use test_device::worked::{ANSWER, JOIN, JOIN_2, UNKNOWN};
 
 // A join with its answer, two confirmed uplinks, their closings and a line that is refused; and what is written of them.
-const STEPS: &str =
-    r#"heard 010100000000000000a100000000000f424033be27a005fc4a004b170004030201040302010d00000000000000010001000000
-answer 0004030201040302010d00000000000000010001000000 {"AppSKey":{"AESKey":"ec925802ae430ca77fd3dd73cb2cc588","KEKLabel":""},"MessageType":"JoinAns","NwkSKey":{"AESKey":"44024241ed4ce9a68c6a8bc055233fd3","KEKLabel":""},"PHYPayload":"20000102030405060708090a0b0c0d0e0f","Result":{"ResultCode":"Success"},"TransactionID":1}
-heard 010100000000000000a100000000000f424033be27a005fc4a004b1180f17dbe4900040001753e3bb0dab1720e
-heard 010100000000000000a100000000000f424033be27a005fc4a004b1180f17dbe4900050001912b5da114e7277a
-close 000000000000000d 1 5
-close 000000000000000d 1 4
-hello"#;
+const STEPS: &[&str] = &[
+    JOIN,
+    ANSWER,
+    "heard 010100000000000000a100000000000f424033be27a005fc4a004b1180f17dbe4900040001753e3bb0dab1720e\n",
+    "heard 010100000000000000a100000000000f424033be27a005fc4a004b1180f17dbe4900050001912b5da114e7277a\n",
+    "close 000000000000000d 1 5\n",
+    "close 000000000000000d 1 4\n",
+    "hello",
+];
 
 const LINES: &str = "\
 ask 0004030201040302010d00000000000000010001000000
@@ -35,13 +40,14 @@ down 00000000000000a1 2000000 868100000 5 60f17dbe492001003272b76e
 refused line
 ";
 
-// Three Join-Requests, and a line that is refused.
-const REQUESTS: &str = "\
-heard 010100000000000000a100000000000f424033be27a005fc4a004b170004030201040302010d00000000000000010001000000
-heard 010100000000000000a200000000000f462833be27a005fc180050170004030201040302010d00000000000000010001000000\r
-heard 010100000000000000a100000000000f424033be27a005fc4a004b170004030201040302010e00000000000000010001000000
-hello
-";
+// Three Join-Requests, a closing behind which a carriage return stands, and a line that is refused.
+const REQUESTS: &[&str] = &[
+    JOIN,
+    JOIN_2,
+    UNKNOWN,
+    "close 000000000000000d 1 2\r\n",
+    "hello\n",
+];
 
 // What came of a run: how it ended, whether its reader failed, and its writer.
 #[derive(Drop)]
@@ -100,7 +106,7 @@ fn is_whole(ran: &Ran, lines: &str) -> Option<bool> {
 fn ends(
     alloc: Global,
     roster: &Arc<Roster>,
-    text: (&str, &str),
+    text: (&[&str], &str),
     read_most: usize,
     write_most: usize,
     reads: Option<u64>,
@@ -110,7 +116,7 @@ fn ends(
     requires write { 0 < write_most }
 {
     let (steps, lines) = text;
-    let input = Vec::from_slice(alloc, steps.as_bytes()).ok()?;
+    let input = text_of(alloc, steps).ok()?;
     let roster = roster.clone().ok()?;
     let ran = run(alloc, roster, input, read_most, write_most, reads, writes);
     is_whole(&ran, lines)
@@ -135,7 +141,7 @@ fn a_failed_read_writes_nothing(rt: HostRuntime) {
 
 // How many runs of these steps write all these lines, where the write after so many fails. None where one of them ends otherwise than so
 // or by that failure.
-fn whole_runs(alloc: Global, text: (&str, &str), most: usize) -> Option<u32>
+fn whole_runs(alloc: Global, text: (&[&str], &str), most: usize) -> Option<u32>
     requires { 0 < most }
 {
     let roster = roster(alloc)?;
@@ -151,7 +157,7 @@ fn whole_runs(alloc: Global, text: (&str, &str), most: usize) -> Option<u32>
 fn whole_refusals(alloc: Global, count: usize) -> Option<u32> {
     let steps = "hello\n".repeat(alloc, count).ok()?;
     let lines = "refused line\n".repeat(alloc, count).ok()?;
-    whole_runs(alloc, (steps.as_str(), lines.as_str()), 100_000)
+    whole_runs(alloc, (&[steps.as_str()], lines.as_str()), 100_000)
 }
 
 // Each write fails in turn: of a short text in pieces, and of one of more bytes than are written together.
@@ -185,17 +191,17 @@ fn refusals(
 }
 
 // So many copies of a text.
-fn copies(alloc: Global, text: &str, count: u32) -> Option<Vec<Vec<u8>>> {
+fn copies(alloc: Global, text: &[&str], count: u32) -> Option<Vec<Vec<u8>>> {
     let mut copies = Vec::new(alloc);
     for _ in 0..count {
-        let copy = Vec::from_slice(alloc, text.as_bytes()).ok()?;
+        let copy = text_of(alloc, text).ok()?;
         copies.push(copy).ok()?;
     }
     Some(copies)
 }
 
 // How often a run of these steps is refused memory until it is made.
-fn refusals_of(alloc: Global, steps: &str) -> Option<u32> {
+fn refusals_of(alloc: Global, steps: &[&str]) -> Option<u32> {
     let roster = roster(alloc)?;
     let mut inputs = copies(alloc, steps, 4096)?;
     let mut held = Vec::with_capacity(alloc, BLOCKS).ok()?;

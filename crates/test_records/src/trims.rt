@@ -1,9 +1,10 @@
 //! A trim in place, with memory for it.
 
-use crate::calls::{ANSWERED, JOIN, JOIN_2, call_of, roster};
+use crate::calls::{call_of, roster};
 use ns_calls::{Entry, shard_of_call};
 use ns_shard::{Shard, new_shards};
 use std::alloc::Global;
+use test_device::worked::{ANSWER, JOIN, JOIN_2};
 
 // Makes the call of a step line at the shard of its device.
 fn is_made(alloc: Global, shard: &mut Shard, line: &str) -> bool {
@@ -18,7 +19,7 @@ fn is_made(alloc: Global, shard: &mut Shard, line: &str) -> bool {
 
 // Makes a join of two copies and its answer.
 fn is_joined(alloc: Global, shard: &mut Shard) -> bool {
-    is_made(alloc, shard, JOIN) && is_made(alloc, shard, JOIN_2) && is_made(alloc, shard, ANSWERED)
+    is_made(alloc, shard, JOIN) && is_made(alloc, shard, JOIN_2) && is_made(alloc, shard, ANSWER)
 }
 
 // Makes the join, and trims the shard, in place or not.

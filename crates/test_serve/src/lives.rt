@@ -6,12 +6,12 @@ ghost use Rattle.std.specs.Arc.{arc_value};
 ghost use Rattle.ns_serve_shards.specs.Begun.{IsBegun};
 
 use crate::around::Held;
-use crate::parties::{ROSTER_A, ROSTER_B, nap};
+use crate::parties::{ROSTER_B, nap};
 use crate::play::Side::Near;
 use crate::play::Step::{
     Acknowledged, Again, Byte, Closed, Ended as LivesEnded, First, Join, KeepKilled, Uplink,
 };
-use crate::trial::{Asked, Life, Told, Trial, USUAL, Want, roster_of, tried};
+use crate::trial::{Asked, Life, Told, Trial, USUAL, Want, is_made_of, roster_of, tried};
 use log::sink::Discard;
 use ns_record_files::RecordFiles;
 use ns_resume::RecordFault;
@@ -26,6 +26,7 @@ use std::sync::Arc;
 use std::sync::atomic::{AtomicU64, Ordering};
 use std::test::*;
 use std::time::Clock;
+use test_device::worked::{CLOSE, CONFIRMED, JOIN, KEPT_ANSWER, ROSTER, UP};
 
 // The folder of the record, and what a kill would have left of it after the first acknowledgement.
 const FOLDER: &str = "test_serve_lives";
@@ -46,27 +47,18 @@ const KEPT: [(&str, &str); 2] = [
 // A folder for starts that are refused.
 const REFUSED: &str = "test_serve_refused";
 
-// Steps of a record, its last one, and its `up` line.
-const STEPS: &str =
-    "heard 010100000000000000a100000000000f424033be27a005fc4a004b170004030201040302010d00000000000000010001000000\nanswer 0004030201040302010d00000000000000010001000000 {\"AppSKey\":{\"AESKey\":\"ec925802ae430ca77fd3dd73cb2cc588\"},\"MessageType\":\"JoinAns\",\"NwkSKey\":{\"AESKey\":\"44024241ed4ce9a68c6a8bc055233fd3\"},\"PHYPayload\":\"20000102030405060708090a0b0c0d0e0f\",\"Result\":{\"ResultCode\":\"Success\"},\"TransactionID\":1}\nheard 010100000000000000a100000000000f424033be27a005fc4a004b1180f17dbe4900020001954378766723abef\nclose 000000000000000d 1 2\n";
+// Steps of a record, and the same with a torn line behind them.
+const STEPS: &[&str] = &[JOIN, KEPT_ANSWER, CONFIRMED, CLOSE];
 
-const CLOSE: &str = "close 000000000000000d 1 2\n";
+const TORN_STEPS: &[&str] = &[JOIN, KEPT_ANSWER, CONFIRMED, CLOSE, "heard 0101"];
 
-const UP: &str = "up 000000000000000d 1 2 1 plain - 74657374 1 00000000000000a1\n";
-
-// The same steps with a torn line behind them, and the line with its end torn off.
-const TORN_STEPS: &str =
-    "heard 010100000000000000a100000000000f424033be27a005fc4a004b170004030201040302010d00000000000000010001000000\nanswer 0004030201040302010d00000000000000010001000000 {\"AppSKey\":{\"AESKey\":\"ec925802ae430ca77fd3dd73cb2cc588\"},\"MessageType\":\"JoinAns\",\"NwkSKey\":{\"AESKey\":\"44024241ed4ce9a68c6a8bc055233fd3\"},\"PHYPayload\":\"20000102030405060708090a0b0c0d0e0f\",\"Result\":{\"ResultCode\":\"Success\"},\"TransactionID\":1}\nheard 010100000000000000a100000000000f424033be27a005fc4a004b1180f17dbe4900020001954378766723abef\nclose 000000000000000d 1 2\nheard 0101";
-
+// Their `up` line with its end torn off.
 const TORN_UP: &str = "up 000000000000000d 1 2 1 pl";
 
 // The `up` lines of a first life, with uplinks 0 and 1.
-const FIRST_UPS: &str =
-    "up 000000000000000d 1 0 1 plain - 74657374 1 00000000000000a1\nup 000000000000000d 1 1 1 plain - 74657374 1 00000000000000a1\n";
+const UP_0: &str = "up 000000000000000d 1 0 1 plain - 74657374 1 00000000000000a1\n";
 
-// Those of two lives.
-const BOTH_UPS: &str =
-    "up 000000000000000d 1 0 1 plain - 74657374 1 00000000000000a1\nup 000000000000000d 1 1 1 plain - 74657374 1 00000000000000a1\nup 000000000000000d 1 2 1 plain - 74657374 1 00000000000000a1\n";
+const UP_1: &str = "up 000000000000000d 1 1 1 plain - 74657374 1 00000000000000a1\n";
 
 // A roster without the device.
 const WITHOUT: &str = r#"{"version":1,"net_id":"000024","rx1_offset":0,"rx_delay":1,"devices":[]}"#;
@@ -182,26 +174,52 @@ fn bytes_of<H: Files<File = File>>(
     Some(bytes)
 }
 
-/// Whether a file of a folder has these bytes.
-pub fn has_bytes<H: Files<File = File>>(
+/// Whether a file of a folder has these lines.
+pub fn has_lines<H: Files<File = File>>(
     host: &H,
     alloc: Global,
     folder: &str,
     name: &str,
-    want: &[u8],
+    lines: &[&str],
 ) -> bool {
     match bytes_of(host, alloc, folder, name) {
-        Some(bytes) => bytes.as_slice() == want,
+        Some(bytes) => is_made_of(bytes.as_slice(), lines),
         None => false,
     }
 }
 
+// The text of these lines.
+fn text_of(alloc: Global, lines: &[&str]) -> Option<String> {
+    let mut text = String::new(alloc);
+    for line in lines {
+        text.push_str(line).ok()?;
+    }
+    Some(text)
+}
+
+// Writes a file of a folder.
+fn write_file<H: Files>(
+    host: &H,
+    alloc: Global,
+    folder: &str,
+    name: &str,
+    lines: &[&str],
+) -> Option<()> {
+    let path = path_of(alloc, folder, name)?;
+    let text = text_of(alloc, lines)?;
+    fs::write(host, path.as_str(), text.as_bytes()).ok()
+}
+
 // Writes the files of a folder.
-fn write<H: Files>(host: &H, alloc: Global, folder: &str, steps: &str, up: &str) -> Option<()> {
-    let steps_path = path_of(alloc, folder, "steps")?;
-    fs::write(host, steps_path.as_str(), steps.as_bytes()).ok()?;
-    let up_path = path_of(alloc, folder, "up")?;
-    fs::write(host, up_path.as_str(), up.as_bytes()).ok()
+fn write<H: Files>(
+    host: &H,
+    alloc: Global,
+    folder: &str,
+    steps: &[&str],
+    up: &[&str],
+) -> Option<()> {
+    write_file(host, alloc, folder, "steps", steps)?;
+    write_file(host, alloc, folder, "up", up)
 }
 
 /// What is asked of a server of one device: windows stay open for 200 ms.
@@ -257,7 +275,8 @@ const LIVES: Trial = Trial {
         ended: Ok(4),
         output: Want::Is(&[
             "listening 127.0.0.1:17041\n",
-            FIRST_UPS,
+            UP_0,
+            UP_1,
             "settled 6\n",
             "listening 127.0.0.1:17041\n",
             UP,
@@ -277,12 +296,12 @@ fn make_folders<H: Files + Alloc>(host: &H, alloc: Global) -> Option<()> {
     for folder in [FOLDER, KILLED, OPEN] {
         emptied(host, folder)?;
     }
-    write(host, alloc, OPEN, STEPS.strip_suffix(CLOSE)?, "")
+    write(host, alloc, OPEN, &[JOIN, KEPT_ANSWER, CONFIRMED], &[])
 }
 
 // Whether the file of `up` lines of the record has those of both lives. The folders of the four lives are taken away.
 fn leave_both<H: Files<File = File> + Alloc>(host: &H, alloc: Global) -> bool {
-    let mut is_left = has_bytes(host, alloc, FOLDER, "up", BOTH_UPS.as_bytes());
+    let mut is_left = has_lines(host, alloc, FOLDER, "up", &[UP_0, UP_1, UP]);
     for folder in [FOLDER, KILLED, OPEN] {
         is_left = fs::remove_dir_all(host, folder).is_ok() && is_left;
     }
@@ -302,29 +321,29 @@ fn lives_are_one_run(rt: HostRuntime) {
 // A start with a record: its roster and files, why it is refused, if it is, and what it leaves of the files.
 struct Start {
     roster: &'static str,
-    before: [&'static str; 2],
+    before: [&'static [&'static str]; 2],
     why: Option<RecordFault>,
-    behind: [&'static str; 2],
+    behind: [&'static [&'static str]; 2],
 }
 
 const STARTS: [Start; 3] = [
     Start {
         roster: WITHOUT,
-        before: [TORN_STEPS, TORN_UP],
+        before: [TORN_STEPS, &[TORN_UP]],
         why: Some(RecordFault::NoFit(1)),
-        behind: [TORN_STEPS, TORN_UP],
+        behind: [TORN_STEPS, &[TORN_UP]],
     },
     Start {
-        roster: ROSTER_A,
-        before: [TORN_STEPS, "up 1"],
+        roster: ROSTER,
+        before: [TORN_STEPS, &["up 1"]],
         why: Some(RecordFault::UpDiffers(1)),
-        behind: [TORN_STEPS, "up 1"],
+        behind: [TORN_STEPS, &["up 1"]],
     },
     Start {
         roster: ROSTER_B,
-        before: [TORN_STEPS, TORN_UP],
+        before: [TORN_STEPS, &[TORN_UP]],
         why: None,
-        behind: [STEPS, UP],
+        behind: [STEPS, &[UP]],
     },
 ];
 
@@ -341,9 +360,9 @@ fn refused<H: Files<File = File>>(
 }
 
 // Whether the files are these.
-fn are_these<H: Files<File = File>>(host: &H, alloc: Global, files: &[&str; 2]) -> bool {
-    has_bytes(host, alloc, REFUSED, "steps", files[0].as_bytes())
-        && has_bytes(host, alloc, REFUSED, "up", files[1].as_bytes())
+fn are_these<H: Files<File = File>>(host: &H, alloc: Global, files: &[&[&str]; 2]) -> bool {
+    has_lines(host, alloc, REFUSED, "steps", files[0])
+        && has_lines(host, alloc, REFUSED, "up", files[1])
 }
 
 // Whether a start comes to what it says.

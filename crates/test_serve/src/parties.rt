@@ -6,17 +6,14 @@ use std::io::{ErrorKind, Read, Write};
 use std::net::{Net, SocketAddr, TcpListener, TcpStream, UdpSocket};
 use std::thread;
 use std::time::{Clock, Duration};
+use test_device::worked::{HEAD, HEAD_2};
 use test_device::{TestDevice, TestJoinServer};
-
-/// A roster with the device 13.
-pub const ROSTER_A: &str =
-    r#"{"version":1,"net_id":"000024","rx1_offset":0,"rx_delay":1,"devices":[{"dev_eui":"000000000000000d","join_eui":"0102030401020304","slot":1998321}]}"#;
 
 /// A roster with the devices 13 and 14.
 pub const ROSTER_B: &str =
     r#"{"version":1,"net_id":"000024","rx1_offset":0,"rx_delay":1,"devices":[{"dev_eui":"000000000000000d","join_eui":"0102030401020304","slot":1998321},{"dev_eui":"000000000000000e","join_eui":"0102030401020304","slot":1998322}]}"#;
 
-/// The AppKey of both.
+// The AppKey of both.
 const APP_KEY: Key = Key([7; 16]);
 
 // Where a text has this piece first.
@@ -49,18 +46,16 @@ pub fn device_of(eui: DevEui) -> TestDevice {
 
 /// What a gateway of this number hears at 868.1 MHz, DR5, before the frame.
 pub fn front(gateway: u8) -> [u8; 27] {
-    [
-        1, 1, 0, 0, 0, 0, 0, 0, 0, gateway, 0, 0, 0, 0, 0, 0x0f, 0x42, 0x40, 0x33, 0xbe, 0x27,
-        0xa0, 5, 0xfc, 0x4a, 0, 0x4b,
-    ]
+    let mut head = HEAD;
+    head[9] = gateway;
+    head
 }
 
 /// The same 1 ms later, with a greater SNR.
 pub fn front_later(gateway: u8) -> [u8; 27] {
-    [
-        1, 1, 0, 0, 0, 0, 0, 0, 0, gateway, 0, 0, 0, 0, 0, 0x0f, 0x46, 0x28, 0x33, 0xbe, 0x27,
-        0xa0, 5, 0xfc, 0x18, 0, 0x50,
-    ]
+    let mut head = HEAD_2;
+    head[9] = gateway;
+    head
 }
 
 /// An address of this host.

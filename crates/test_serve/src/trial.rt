@@ -5,7 +5,7 @@ ghost use Rattle.std.specs.Prelude.{◌≡◌, ◌<◌, ◌≤◌, None, IfSome}
 
 use crate::around::logging;
 use crate::lives::{Ended, begun_of};
-use crate::parties::{ROSTER_A, contains, join_server, local};
+use crate::parties::{contains, join_server, local};
 use crate::play::{Party, Step};
 use log::{Log, error};
 use ns_events::Output;
@@ -23,6 +23,7 @@ use std::test::*;
 use std::thread;
 use std::thread::Threads;
 use std::time::Clock;
+use test_device::worked::ROSTER;
 
 // What would stop a server from outside, where its options asked for that.
 #[derive(Clone, Copy)]
@@ -115,7 +116,7 @@ pub struct Asked {
 
 /// Own datagrams of one device are heard, windows stay open for 1 s, and lines are written.
 pub const USUAL: Asked = Asked {
-    roster: ROSTER_A,
+    roster: ROSTER,
     port: 17001,
     sockets: Sockets::Own,
     join_workers: 1,
@@ -163,8 +164,8 @@ pub struct Trial {
     pub told: Told,
 }
 
-// Whether a text is made of these pieces.
-fn is_made_of(text: &[u8], pieces: &[&str]) -> bool {
+/// Whether a text is made of these pieces.
+pub fn is_made_of(text: &[u8], pieces: &[&str]) -> bool {
     let mut rest = text;
     for piece in pieces {
         if !rest.starts_with(piece.as_bytes()) {

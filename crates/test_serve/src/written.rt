@@ -1,6 +1,6 @@
 //! What leaves the server rests on steps that are written.
 
-use crate::lives::{SHORT, emptied, has_bytes, resumed};
+use crate::lives::{SHORT, emptied, has_lines, resumed};
 use crate::trial::Writer;
 use ns_calls::{Bytes, Call, Downlink, Reply};
 use ns_outside::{Downlinks, Receipt};
@@ -52,8 +52,8 @@ fn downlink() -> Downlink {
 }
 
 // Whether these are the steps in the file.
-fn are_steps<R: Files<File = File>>(rt: &R, alloc: Global, steps: &[u8]) -> bool {
-    has_bytes(rt, alloc, FOLDER, "steps", steps)
+fn are_steps<R: Files<File = File>>(rt: &R, alloc: Global, steps: &[&str]) -> bool {
+    has_lines(rt, alloc, FOLDER, "steps", steps)
 }
 
 // Writes a line behind what was put down of a state. Whether it was written.
@@ -66,13 +66,16 @@ fn is_written<R: Wait>(rt: &R, alloc: Global, state: &State) -> bool {
 // Puts down two steps. Whether each is written when something leaves, and the first not before that.
 fn write_two<R: Files<File = File> + Wait>(rt: &R, alloc: Global, state: &State) -> bool {
     record_call(rt, state, &closed(0));
-    let is_late = are_steps(rt, alloc, b"");
+    let is_late = are_steps(rt, alloc, &[]);
     let is_sent = ToSocket { state }.send(rt, &downlink());
-    let is_first = are_steps(rt, alloc, b"close 000000000000000d 1 0\n");
+    let (first, second) = (
+        "close 000000000000000d 1 0\n",
+        "close 000000000000000d 1 1\n",
+    );
+    let is_first = are_steps(rt, alloc, &[first]);
     record_call(rt, state, &closed(1));
     let is_put = is_written(rt, alloc, state);
-    let both = b"close 000000000000000d 1 0\nclose 000000000000000d 1 1\n";
-    is_late && !is_sent && is_first && is_put && are_steps(rt, alloc, both)
+    is_late && !is_sent && is_first && is_put && are_steps(rt, alloc, &[first, second])
 }
 
 // Does so with the state of a server that begins with this.

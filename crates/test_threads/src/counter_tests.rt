@@ -8,13 +8,9 @@ use ns_types::DevAddr;
 use std::alloc::{AllocError, Global};
 use std::test::*;
 use test_device::traffic::keys;
+use test_device::worked::{ANSWER, JOIN};
 
-/// A Join-Request and its answer, and what comes of them.
-pub const JOIN: &str =
-    r#"heard 010100000000000000a100000000000f424033be27a005fc4a004b170004030201040302010d00000000000000010001000000
-answer 0004030201040302010d00000000000000010001000000 {"AppSKey":{"AESKey":"ec925802ae430ca77fd3dd73cb2cc588","KEKLabel":""},"MessageType":"JoinAns","NwkSKey":{"AESKey":"44024241ed4ce9a68c6a8bc055233fd3","KEKLabel":""},"PHYPayload":"20000102030405060708090a0b0c0d0e0f","Result":{"ResultCode":"Success"},"TransactionID":1}
-"#;
-
+/// What comes of a Join-Request and its answer.
 pub const JOINED: &str = "\
 ask 0004030201040302010d00000000000000010001000000
 accepted 000000000000000d 1 49be7df1
@@ -68,7 +64,7 @@ fn close(run: &mut Run, counter: &[u8]) -> Result<(), AllocError> {
 
 // Whether uplinks of so many counters are each opened and closed, from a first one on by steps. Behind the greatest of all none is new.
 fn are_opened(alloc: Global, first: u32, step: u32, count: u32) -> Result<bool, AllocError> {
-    let mut run = Run::new(alloc, JOIN, JOINED)?;
+    let mut run = Run::new(alloc, &[JOIN, ANSWER], JOINED)?;
     let mut counter = first;
     for _ in 0..count {
         open_and_close(&mut run, alloc, counter)?;

@@ -2,10 +2,11 @@
 
 ghost use Rattle.std.specs.Prelude.{◌<◌};
 
-use crate::counter_tests::{JOIN, JOINED};
-use crate::written::{ONE_DEVICE, Run, is_written};
+use crate::counter_tests::JOINED;
+use crate::written::{Run, is_written};
 use std::alloc::{AllocError, Global};
 use std::test::*;
+use test_device::worked::{ANSWER, JOIN, ROSTER};
 
 // A `heard` line up to its Join-Request, and that up to the last byte of its MIC.
 const HEAD: &[u8] = b"heard 010100000000000000a100000000000f424033be27a005fc4a004b17";
@@ -29,7 +30,7 @@ enum Lines {
 
 // Whether a run of these lines writes what it is to write.
 fn are_read(alloc: Global, lines: Lines) -> Result<bool, AllocError> {
-    let mut run = Run::new(alloc, "", "")?;
+    let mut run = Run::new(alloc, &[], "")?;
     let put = match lines {
         Lines::Pairs => pairs(&mut run),
         Lines::Digits => requests(&mut run),
@@ -39,11 +40,11 @@ fn are_read(alloc: Global, lines: Lines) -> Result<bool, AllocError> {
     Ok(run.is_right(alloc))
 }
 
-// An `answer` line of 64 KB, with a field that is not looked at.
+// A Join-Request and its `answer` line of 64 KB, with a field that is not looked at.
 fn long_answer(alloc: Global) -> Result<String, AllocError> {
-    let (front, back) = JOIN.split_once("{\"AppSKey\"").unwrap_or((JOIN, ""));
+    let (front, back) = ANSWER.split_once("{").unwrap_or((ANSWER, ""));
     let more = "0123456789".repeat(alloc, 6_554)?;
-    format!(in alloc; "{front}{{\"more\":\"{more}\",\"AppSKey\"{back}")
+    format!(in alloc; "{JOIN}{front}{{\"more\":\"{more}\",{back}")
 }
 
 // Whether an answer of 64 KB is read in pieces of at most so many bytes.
@@ -52,7 +53,7 @@ fn is_read(alloc: Global, most: usize) -> Option<bool>
 {
     let long = long_answer(alloc).ok()?;
     let (steps, lines) = (long.as_bytes(), JOINED.as_bytes());
-    is_written(alloc, ONE_DEVICE, false, steps, most, lines)
+    is_written(alloc, ROSTER, false, steps, most, lines)
 }
 
 /// An answer of 64 KB, in small pieces and in large ones.

@@ -1,7 +1,7 @@
 //! Rosters of many devices, and their closing rosters.
 
 use crate::recorded::{LINES, STEPS};
-use crate::written::is_written;
+use crate::written::{is_written, text_of};
 use ns_roster::{Roster, RosterFault};
 use std::alloc::{AllocError, Global};
 use std::test::*;
@@ -94,7 +94,8 @@ fn is_written_again(alloc: Global, count: u32) -> Option<bool> {
 // Whether the recorded run over 65,536 devices writes these lines, of which the closing roster is the last or none.
 fn is_recorded(alloc: Global, closing: bool, lines: &str) -> Option<bool> {
     let roster = text(alloc, Devices::Crowded, 65_536).ok()?;
-    let (steps, lines) = (STEPS.as_bytes(), lines.as_bytes());
+    let steps = text_of(alloc, STEPS).ok()?;
+    let (steps, lines) = (steps.as_slice(), lines.as_bytes());
     is_written(alloc, roster.as_str(), closing, steps, 1 << 20, lines)
 }
 

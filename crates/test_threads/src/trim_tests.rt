@@ -26,6 +26,8 @@ enum Step {
     Lose(u16),
     // A Join-Request that is answered.
     Joined(u16),
+    // A join and the uplink with counter 2, each heard twice, and an answer too many.
+    Begun,
     // The uplink with this counter, confirmed or not, as a gateway heard it.
     Up(u32, bool, u8),
     // An uplink that 16 gateways hear.
@@ -43,6 +45,7 @@ impl Step {
     fn calls(self) -> u16 {
         match self {
             Joined(_) | Acked(..) => 2,
+            Begun => 6,
             Heard(_) => 16,
             Asked(_) => 64,
             _ => 1,
@@ -55,6 +58,7 @@ impl Step {
             Join(nonce) => Some(join(DEVICE, nonce)),
             Joined(nonce) if place == 0 => Some(join(DEVICE, nonce)),
             Accept(nonce) | Joined(nonce) => Some(join_reply(DEVICE, nonce)),
+            Begun => begun_at(place),
             AcceptOtherKeys(nonce) => {
                 let other = answer(Key([7; 16]), None);
                 Some(join_end(DEVICE, nonce, Outcome::Success(other)))
@@ -68,6 +72,16 @@ impl Step {
                 Some(closing_of(DEVICE, session, counter, round))
             }
         }
+    }
+}
+
+// A call by which a device joins and its window of counter 2 is opened.
+fn begun_at(place: u16) -> Option<Call> {
+    match place {
+        0 | 1 => Some(join(DEVICE, 1)),
+        2 | 3 => Some(join_reply(DEVICE, 1)),
+        4 => uplink(DEVICE, 2, false, 1),
+        _ => uplink(DEVICE, 2, false, 2),
     }
 }
 
@@ -141,12 +155,7 @@ enum Left {
 // answered first: eight more. With nothing open a trim hands out eleven entries, and what is repeated is answered as without it.
 const CLOSED: Run = Run {
     before: &[
-        Join(1),
-        Join(1),
-        Accept(1),
-        Accept(1),
-        Up(2, false, 1),
-        Up(2, false, 2),
+        Begun,
         Close(1, 2, 1),
         Close(1, 2, 1),
         Up(2, false, 1),
@@ -166,14 +175,7 @@ const CLOSED: Run = Run {
 
 // The first six of these: a trim with an open window keeps its copies, and the window closes with both.
 const OPENED: Run = Run {
-    before: &[
-        Join(1),
-        Join(1),
-        Accept(1),
-        Accept(1),
-        Up(2, false, 1),
-        Up(2, false, 2),
-    ],
+    before: &[Begun],
     mark: 6,
     out: &[0, 1, 3],
     after: &[Close(1, 2, 1)],

@@ -8,10 +8,7 @@ use ns_roster::Roster;
 use ns_types::Fuse;
 use std::alloc::{AllocError, Global};
 use std::sync::Arc;
-
-/// The roster of one device.
-pub const ONE_DEVICE: &str =
-    r#"{"version":1,"net_id":"000024","rx1_offset":0,"rx_delay":1,"devices":[{"dev_eui":"000000000000000d","join_eui":"0102030401020304","slot":1998321}]}"#;
+use test_device::worked::ROSTER;
 
 /// A roster to share. None where it is none, or there is no memory.
 pub fn read_roster(alloc: Global, text: &str) -> Option<Arc<Roster>> {
@@ -46,6 +43,15 @@ pub fn is_written(
     Some(writer.written() == lines)
 }
 
+/// The text of these parts.
+pub fn text_of(alloc: Global, parts: &[&str]) -> Result<Vec<u8>, AllocError> {
+    let mut text = Vec::new(alloc);
+    for part in parts {
+        text.extend_from_slice(part.as_bytes())?;
+    }
+    Ok(text)
+}
+
 // A line of these parts.
 fn push_line(lines: &mut Vec<u8>, parts: &[&[u8]]) -> Result<(), AllocError> {
     for part in parts {
@@ -64,9 +70,9 @@ pub struct Run {
 
 impl Run {
     /// A run that begins with these steps and lines.
-    pub fn new(alloc: Global, steps: &str, lines: &str) -> Result<Run, AllocError> {
+    pub fn new(alloc: Global, steps: &[&str], lines: &str) -> Result<Run, AllocError> {
         Ok(Run {
-            steps: Vec::from_slice(alloc, steps.as_bytes())?,
+            steps: text_of(alloc, steps)?,
             lines: Vec::from_slice(alloc, lines.as_bytes())?,
         })
     }
@@ -84,6 +90,6 @@ impl Run {
     /// Whether it writes just these lines.
     pub fn is_right(&self, alloc: Global) -> bool {
         let (steps, lines) = (self.steps.as_slice(), self.lines.as_slice());
-        is_written(alloc, ONE_DEVICE, false, steps, 1 << 20, lines) == Some(true)
+        is_written(alloc, ROSTER, false, steps, 1 << 20, lines) == Some(true)
     }
 }

@@ -13,7 +13,7 @@ use Rattle.ns_shard.specs.declared.parts.Parts.{Parts}
 use Rattle.ns_shard.specs.declared.event.Event.{Event}
 use Rattle.ns_shard.specs.State.{State, Keeps, answer_in}
 use Rattle.ns_shard.specs.Private.Sending.{answer_of}
-use Rattle.ns_shard.specs.Private.Room.{open_total, IsRoomFor, reserved_after}
+use Rattle.ns_shard.specs.Private.Room.{open_total, room_of, IsRoomFor, reserved_after}
 use Rattle.ns_shard.specs.Private.Held.{windows_in}
 use Rattle.ns_shard.specs.Private.Devices.{devices_in}
 
@@ -44,5 +44,5 @@ pub record AreTaken (p : Parts) (call : Call) (event : Event) : Type 0 where
   pub keeps : Keeps history (state_of p)
   pub agrees : Agrees (arc_value p.roster) p.index (with_call (arc_value p.roster) history (length history) call) p.devices p.windows
   pub answer : answer_of (arc_value p.roster) event ≡ answer_in (state_of p) call
-  pub room : IsRoomFor event p.journal
-  pub reserved : reserved_after event p.journal.reserved ≡ open_total (with_call (arc_value p.roster) history (length history) call)
+  pub room : IsRoomFor (room_of event) p.journal
+  pub reserved : reserved_after (room_of event) p.journal.reserved ≡ open_total (with_call (arc_value p.roster) history (length history) call)

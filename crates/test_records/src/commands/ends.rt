@@ -35,34 +35,31 @@ fn fails_so(alloc: Global, outcome: &Result<(), Fault<'_>>, text: &str) -> bool 
 
 #[test]
 fn faults_are_printed(rt: HostRuntime) {
-    let alloc = rt.alloc();
     let path = "a/b.json";
-    assert!(rt; is_printed(alloc, &of_roster(RosterFault::NotJson), "roster: O1"));
-    assert!(rt; is_printed(alloc, &of_roster(RosterFault::TooMany), "roster: O6"));
-    assert!(rt; is_printed(alloc, &of_roster(RosterFault::NoMemory), "no memory"));
-    assert!(rt;
-        is_printed(
-            alloc,
-            &of_reading(ErrorKind::NotFound, path),
-            "cannot read a/b.json"
-        )
-    );
-    assert!(rt;
-        is_printed(
-            alloc,
-            &of_reading(ErrorKind::OutOfMemory, path),
-            "no memory"
-        )
-    );
+    for (fault, text) in [
+        (of_roster(RosterFault::NotJson), "roster: O1"),
+        (of_roster(RosterFault::TooMany), "roster: O6"),
+        (of_roster(RosterFault::NoMemory), "no memory"),
+        (
+            of_reading(ErrorKind::NotFound, path),
+            "cannot read a/b.json",
+        ),
+        (of_reading(ErrorKind::OutOfMemory, path), "no memory"),
+    ] {
+        assert!(rt; is_printed(rt.alloc(), &fault, text), "{text}");
+    }
 }
 
 #[test]
 fn faults_of_runs_are_printed(rt: HostRuntime) {
-    let alloc = rt.alloc();
-    assert!(rt; fails_so(alloc, &of_replay(Err(ReplayFault::NoMemory)), "no memory"));
-    assert!(rt; fails_so(alloc, &of_replay(Err(ReplayFault::Io)), "io"));
-    assert!(rt; fails_so(alloc, &of_serve(Err(ServeFault::NoMemory)), "no memory"));
-    assert!(rt; fails_so(alloc, &of_serve(Err(ServeFault::Io)), "io"));
+    for (outcome, text) in [
+        (of_replay(Err(ReplayFault::NoMemory)), "no memory"),
+        (of_replay(Err(ReplayFault::Io)), "io"),
+        (of_serve(Err(ServeFault::NoMemory)), "no memory"),
+        (of_serve(Err(ServeFault::Io)), "io"),
+    ] {
+        assert!(rt; fails_so(rt.alloc(), &outcome, text), "{text}");
+    }
     assert!(rt; of_replay(Ok(())).is_ok() && of_serve(Ok(0)).is_ok());
 }
 
@@ -100,7 +97,7 @@ fn statuses(rt: HostRuntime) {
 }
 
 // How the program ends with these words, whose roster is not there. A server is not begun.
-fn end_of<'a>(rt: &StandIn<HostRuntime>, words: &'a [String]) -> End<'a> {
+fn end_of<'a>(rt: &StandIn<'_, HostRuntime>, words: &'a [String]) -> End<'a> {
     match read_words(rt.alloc(), words) {
         Ok(Asked::Replay(path, uplinks, closing)) => {
             End::Ran(run_replay(rt, &Discard, path, uplinks, closing))
@@ -115,7 +112,7 @@ fn end_of<'a>(rt: &StandIn<HostRuntime>, words: &'a [String]) -> End<'a> {
 }
 
 // The status with which the program ends with the words of a text.
-fn status_of(rt: &StandIn<HostRuntime>, text: &str) -> Option<ExitCode> {
+fn status_of(rt: &StandIn<'_, HostRuntime>, text: &str) -> Option<ExitCode> {
     let words = words_of(rt.alloc(), text, &[]).ok()?;
     let end = end_of(rt, words.as_slice());
     Some(concluded(rt, &Discard, &end))
@@ -131,7 +128,7 @@ const STATUSES: [(&str, u8); 4] = [
 
 #[test]
 fn runs_that_fail(rt: HostRuntime) {
-    let stand_in = StandIn::new(rt, rt.alloc(), "");
+    let stand_in = StandIn::new(rt, rt.alloc(), b"");
     for (text, status) in STATUSES {
         assert!(rt;
             status_of(&stand_in, text) == Some(ExitCode::from(status)),

@@ -21,19 +21,19 @@ pub const LIMIT: u64 = 3000;
 
 /// The runtime.
 #[derive(Drop)]
-pub struct StandIn<R> {
+pub struct StandIn<'a, R> {
     rt: R,
-    input: &'static [u8],
+    input: &'a [u8],
     printed: RefCell<Vec<u8>>,
     told: RefCell<Vec<u8>>,
 }
 
-impl<R> StandIn<R> {
-    /// One with the files and the memory of this runtime, and with this text on standard input.
-    pub fn new(rt: R, alloc: Global, input: &'static str) -> StandIn<R> {
+impl<'a, R> StandIn<'a, R> {
+    /// One with the files and the memory of this runtime, and with these bytes on standard input.
+    pub fn new(rt: R, alloc: Global, input: &'a [u8]) -> StandIn<'a, R> {
         StandIn {
             rt,
-            input: input.as_bytes(),
+            input,
             printed: RefCell::new(Vec::new(alloc)),
             told: RefCell::new(Vec::new(alloc)),
         }
@@ -81,7 +81,7 @@ fn refusal<T>(kind: ErrorKind) -> io::Result<T> {
     Err(io::Error::from(kind))
 }
 
-impl<R: Alloc> Alloc for StandIn<R> {
+impl<'a, R: Alloc> Alloc for StandIn<'a, R> {
     type A = R::A;
 
     fn alloc(&self) -> R::A {
@@ -89,23 +89,23 @@ impl<R: Alloc> Alloc for StandIn<R> {
     }
 }
 
-impl<R> Input for StandIn<R> {
-    type Reader = &'static [u8];
+impl<'a, R> Input for StandIn<'a, R> {
+    type Reader = &'a [u8];
 
     fn read_line<A: Allocator + Clone>(&self, _buf: &mut String<A>) -> io::Result<usize> {
         Err(io::Error::from(ErrorKind::Unsupported))
     }
 
-    fn lines<A: Allocator>(&self, alloc: A) -> Lines<&'static [u8], A> {
+    fn lines<A: Allocator>(&self, alloc: A) -> Lines<&'a [u8], A> {
         self.input.lines(alloc)
     }
 
-    fn reader(&self) -> &'static [u8] {
+    fn reader(&self) -> &'a [u8] {
         self.input
     }
 }
 
-impl<R> Print for StandIn<R> {
+impl<'a, R> Print for StandIn<'a, R> {
     fn print<D: Display + Drop>(&self, value: D) -> io::Result<()> {
         put(&self.printed, value)
     }
@@ -123,7 +123,7 @@ impl<R> Print for StandIn<R> {
     }
 }
 
-impl<R> Eprint for StandIn<R> {
+impl<'a, R> Eprint for StandIn<'a, R> {
     fn eprint<D: Display + Drop>(&self, value: D) -> io::Result<()> {
         put(&self.told, value)
     }
@@ -134,7 +134,7 @@ impl<R> Eprint for StandIn<R> {
     }
 }
 
-impl<R> Clock for StandIn<R> {
+impl<'a, R> Clock for StandIn<'a, R> {
     fn monotonic(&self) -> io::Result<Duration> {
         Ok(Duration::from_millis(SINCE_START))
     }
@@ -145,7 +145,7 @@ impl<R> Clock for StandIn<R> {
 }
 
 // Each call is refused in a way of its own.
-impl<R: Net> Net for StandIn<R> {
+impl<'a, R: Net> Net for StandIn<'a, R> {
     type Stream = R::Stream;
 
     type Listener = R::Listener;
@@ -175,7 +175,7 @@ impl<R: Net> Net for StandIn<R> {
     }
 }
 
-impl<R: Files> Files for StandIn<R> {
+impl<'a, R: Files> Files for StandIn<'a, R> {
     type File = R::File;
 
     type Dir = R::Dir;

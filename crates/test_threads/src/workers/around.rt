@@ -2,6 +2,7 @@
 
 ghost use Rattle.std.specs.Prelude.{None};
 
+use crate::workers::frames::Response;
 use ns_calls::Downlink;
 use ns_outside::{
     Connections, Datagrams, Downlinks, Job, JobSource, Jobs, JoinFault, Monitor, Next, Receipt,
@@ -11,9 +12,8 @@ use ns_types::{BLOCKS, Fuse, Ticket, take_rest};
 use std::alloc::Global;
 use std::sync::atomic::{AtomicU64, Ordering};
 
-/// A ticket that waits since a time, and the join server's response, with so many spaces in front of its last byte. An empty response is
-/// no connection.
-pub type Asked = (&'static [u8; 23], u64, &'static str, usize);
+/// A ticket that waits since a time, and the join server's response.
+pub type Asked = (&'static [u8; 23], u64, Response);
 
 /// What fails: the source at its end, each downlink, the write after so many, and memory but for so many blocks from one turn of the
 /// source to another.
@@ -38,7 +38,7 @@ pub const NONE: Faults = Faults {
 };
 
 /// A clock that goes on by a step with each look, and to the time that is waited for. It is a monitor too, and a join server that gives
-/// one response after the other, where an empty one is no connection.
+/// one response after the other.
 ///
 /// Its numbers count datagrams refused, replied to and dropped, tickets without an answer, downlinks not sent, stale tickets, and
 /// connections asked for; the last three are the times of the first replies.
@@ -127,21 +127,10 @@ impl<R> Connections<R> for Around {
 
     fn open(&self, _rt: &R) -> Option<Fuse> {
         let at = self.more(6);
-        let (_, _, text, spaces) = self.asks.get(at as usize)?;
-        let bytes = response(self.alloc, text, *spaces)?;
+        let (_, _, response) = self.asks.get(at as usize)?;
+        let bytes = response.bytes(self.alloc)?;
         Some(Fuse::new(self.alloc, bytes, 100, None, None))
     }
-}
-
-// A response with so many spaces in front of its last byte. None where it is empty.
-fn response(alloc: Global, text: &str, spaces: usize) -> Option<Vec<u8>> {
-    let mut bytes = Vec::from_slice(alloc, text.as_bytes()).ok()?;
-    let last = bytes.pop()?;
-    for _ in 0..spaces {
-        bytes.push(b' ').ok()?;
-    }
-    bytes.push(last).ok()?;
-    Some(bytes)
 }
 
 /// Records downlinks, and sends them or not. It has room for the first four of them.

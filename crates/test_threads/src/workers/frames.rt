@@ -1,12 +1,8 @@
 //! The frames that the gateways of these tests hear, and the responses of their join server.
 
+use crate::written::text_of;
 use std::alloc::Global;
-
-// Gateway a1 at moment 1,000,000 on 868.1 MHz at DR5.
-const HEARD: [u8; 27] = [
-    1, 1, 0, 0, 0, 0, 0, 0, 0, 0xa1, 0, 0, 0, 0, 0, 0x0f, 0x42, 0x40, 0x33, 0xbe, 0x27, 0xa0, 5,
-    0xfc, 0x4a, 0, 0x4b,
-];
+use test_device::worked::{ANSWER, HEAD};
 
 /// A Join-Request of device 0d with nonce 1 and transaction 1.
 pub const JOIN_1: [u8; 23] = [
@@ -55,26 +51,50 @@ pub const UP_10_CONFIRMED: [u8; 14] = [
     0x80, 0xf1, 0x7d, 0xbe, 0x49, 0, 0x0a, 0, 1, 0xa5, 0xa9, 0x40, 0xb0, 2,
 ];
 
-/// The response with a JoinAns to transaction 1.
-pub const ANSWER_1: &str =
-    "HTTP/1.1 200 OK\r\nContent-Length: 267\r\n\r\n{\"AppSKey\":{\"AESKey\":\"ec925802ae430ca77fd3dd73cb2cc588\",\"KEKLabel\":\"\"},\"MessageType\":\"JoinAns\",\"NwkSKey\":{\"AESKey\":\"44024241ed4ce9a68c6a8bc055233fd3\",\"KEKLabel\":\"\"},\"PHYPayload\":\"20000102030405060708090a0b0c0d0e0f\",\"Result\":{\"ResultCode\":\"Success\"},\"TransactionID\":1}";
+/// What the join server answers.
+#[derive(Clone, Copy)]
+pub enum Response {
+    /// Nothing: no connection opens.
+    Unopened,
+    /// A response that is no JoinAns.
+    Braces,
+    /// A JoinAns to a transaction, whose Join-Accept ends with this byte, with so many spaces in front of its last byte.
+    Joined(u32, u8, usize),
+}
 
-/// Those with a JoinAns to three tickets, whose Join-Accepts end with 01, 02 and 03; in the second are 400 spaces more.
-pub const THREE_1: &str =
-    "HTTP/1.1 200 OK\r\nContent-Length: 267\r\n\r\n{\"AppSKey\":{\"AESKey\":\"ec925802ae430ca77fd3dd73cb2cc588\",\"KEKLabel\":\"\"},\"MessageType\":\"JoinAns\",\"NwkSKey\":{\"AESKey\":\"44024241ed4ce9a68c6a8bc055233fd3\",\"KEKLabel\":\"\"},\"PHYPayload\":\"20000102030405060708090a0b0c0d0e01\",\"Result\":{\"ResultCode\":\"Success\"},\"TransactionID\":1}";
+impl Response {
+    /// Its bytes. None where no connection opens, or there is no memory.
+    pub fn bytes(self, alloc: Global) -> Option<Vec<u8>> {
+        match self {
+            Response::Unopened => None,
+            Response::Braces => with_body(alloc, "{}"),
+            Response::Joined(transaction, last, spaces) => {
+                let text = join_ans(alloc, transaction, last, spaces)?;
+                with_body(alloc, text.as_str())
+            }
+        }
+    }
+}
 
-pub const THREE_2: &str =
-    "HTTP/1.1 200 OK\r\nContent-Length: 676\r\n\r\n{\"AppSKey\":{\"AESKey\":\"ec925802ae430ca77fd3dd73cb2cc588\",\"KEKLabel\":\"\"},\"MessageType\":\"JoinAns\",\"NwkSKey\":{\"AESKey\":\"44024241ed4ce9a68c6a8bc055233fd3\",\"KEKLabel\":\"\"},\"PHYPayload\":\"20000102030405060708090a0b0c0d0e02\",\"Result\":{\"ResultCode\":\"Success\"},\"TransactionID\":4278190334}";
+// The worked JoinAns, to another transaction and with another Join-Accept.
+fn join_ans(alloc: Global, transaction: u32, last: u8, spaces: usize) -> Option<String> {
+    let (_, text) = ANSWER.split_once("01000000 ")?;
+    let (front, rest) = text.split_once("0f\"")?;
+    let (middle, _) = rest.split_once("1}")?;
+    let spaces = " ".repeat(alloc, spaces).ok()?;
+    format!(in alloc; "{front}{last:02x}\"{middle}{transaction}{spaces}}}").ok()
+}
 
-pub const THREE_3: &str =
-    "HTTP/1.1 200 OK\r\nContent-Length: 267\r\n\r\n{\"AppSKey\":{\"AESKey\":\"ec925802ae430ca77fd3dd73cb2cc588\",\"KEKLabel\":\"\"},\"MessageType\":\"JoinAns\",\"NwkSKey\":{\"AESKey\":\"44024241ed4ce9a68c6a8bc055233fd3\",\"KEKLabel\":\"\"},\"PHYPayload\":\"20000102030405060708090a0b0c0d0e03\",\"Result\":{\"ResultCode\":\"Success\"},\"TransactionID\":2}";
-
-/// A response that is no JoinAns.
-pub const BRACES: &str = "HTTP/1.1 200 OK\r\nContent-Length: 2\r\n\r\n{}";
+// A response of 200 with this body.
+fn with_body(alloc: Global, body: &str) -> Option<Vec<u8>> {
+    let length = body.len();
+    let head = format!(in alloc; "HTTP/1.1 200 OK\r\nContent-Length: {length}\r\n\r\n").ok()?;
+    text_of(alloc, &[head.as_str(), body]).ok()
+}
 
 /// The datagram of a frame that gateway a1 heard.
 pub fn heard(alloc: Global, frame: &[u8]) -> Option<Vec<u8>> {
-    let mut bytes = Vec::from_slice(alloc, &HEARD).ok()?;
+    let mut bytes = Vec::from_slice(alloc, &HEAD).ok()?;
     bytes.push(u8::try_from(frame.len()).ok()?).ok()?;
     bytes.extend_from_slice(frame).ok()?;
     Some(bytes)

@@ -247,7 +247,7 @@ fn tell_served(
 // Jobs to ask for tickets.
 fn askings(alloc: Global, asks: &[Asked]) -> Option<Vec<AskJob>> {
     let mut jobs = Vec::new(alloc);
-    for &(frame, since, _, _) in asks {
+    for &(frame, since, _) in asks {
         let ticket = Ticket(*frame);
         let due = since;
         jobs.push(AskJob { ticket, since, due }).ok()?;

@@ -7,9 +7,10 @@
 ghost use Rattle.std.specs.Prelude.{◌<◌, ◌≤◌};
 
 use crate::workers::around::{Asked, Faults, NONE};
+use crate::workers::frames::Response::{Braces, Joined, Unopened};
 use crate::workers::frames::{
-    ANSWER_1, BRACES, JOIN_0E, JOIN_0F, JOIN_1, JOIN_2, JOIN_SECOND, THREE_1, THREE_2, THREE_3,
-    UP_2, UP_3, UP_9, UP_10, UP_10_CONFIRMED,
+    JOIN_0E, JOIN_0F, JOIN_1, JOIN_2, JOIN_SECOND, Response, UP_2, UP_3, UP_9, UP_10,
+    UP_10_CONFIRMED,
 };
 use crate::workers::runs::Reads::{Changed, Frame, Ones};
 use crate::workers::runs::Run::{At, LeaveOut, UntilAccepted};
@@ -75,10 +76,13 @@ const STARVED_ONCE: Faults = Faults {
     ..NONE
 };
 
+// The response with the worked JoinAns.
+const ACCEPTED: Response = Joined(1, 0x0f, 0);
+
 // The device joins.
 const ASKS: Run = At(7, Serve(&[Frame(&JOIN_1, 1)], 1), NONE);
 
-const JOINS: Run = At(7, Answer(&[(&JOIN_1, 7, ANSWER_1, 0)]), NONE);
+const JOINS: Run = At(7, Answer(&[(&JOIN_1, 7, ACCEPTED)]), NONE);
 
 // Its uplinks at counters 2 and 3 are heard.
 const HEARD: Run = At(7, Serve(&[Frame(&UP_2, 1), Frame(&UP_3, 1)], 2), NONE);
@@ -105,9 +109,13 @@ const FOUR: [Reads; 4] = [
 const THREE_FRAMES: [Reads; 3] = [Frame(&JOIN_1, 1), Frame(&JOIN_SECOND, 1), Frame(&JOIN_2, 1)];
 
 const THREE: [Asked; 3] = [
-    (&JOIN_1, LATE - MOST_AGE_MS, THREE_1, 0),
-    (&JOIN_SECOND, LATE - MOST_AGE_MS, THREE_2, 400),
-    (&JOIN_2, LATE - MOST_AGE_MS, THREE_3, 0),
+    (&JOIN_1, LATE - MOST_AGE_MS, Joined(1, 1, 0)),
+    (
+        &JOIN_SECOND,
+        LATE - MOST_AGE_MS,
+        Joined(4_278_190_334, 2, 400),
+    ),
+    (&JOIN_2, LATE - MOST_AGE_MS, Joined(2, 3, 0)),
 ];
 
 // Windows of two devices.
@@ -263,13 +271,13 @@ acknowledged 13 1 3 1 0
 const TICKETS_ARE_ANSWERED: Case = (
     &[
         ASKS,
-        At(7, Answer(&[(&JOIN_1, 7, "", 0)]), UNSENT),
+        At(7, Answer(&[(&JOIN_1, 7, Unopened)]), UNSENT),
         At(7, Serve(&[Frame(&JOIN_2, 1)], 1), NONE),
-        At(7, Answer(&[(&JOIN_2, 7, BRACES, 0)]), UNSENT),
+        At(7, Answer(&[(&JOIN_2, 7, Braces)]), UNSENT),
         At(7, Serve(&[Frame(&JOIN_0E, 1)], 1), NONE),
-        At(7, Answer(&[(&JOIN_0E, 7, ANSWER_1, 0)]), UNSENT),
+        At(7, Answer(&[(&JOIN_0E, 7, ACCEPTED)]), UNSENT),
         ASKS,
-        At(7, Answer(&[(&JOIN_1, 7, ANSWER_1, 0)]), UNSENT),
+        At(7, Answer(&[(&JOIN_1, 7, ACCEPTED)]), UNSENT),
     ],
     "\
 served 1 0 0 0
@@ -391,7 +399,7 @@ const STALE_TICKET_IS_NOT_ASKED: Case = (
     &[
         ASKS,
         LeaveOut,
-        At(LATE + 4_501, Answer(&[(&JOIN_1, LATE, ANSWER_1, 0)]), NONE),
+        At(LATE + 4_501, Answer(&[(&JOIN_1, LATE, ACCEPTED)]), NONE),
     ],
     "\
 joined 1 0
@@ -511,7 +519,7 @@ closed 13 1 2 1 0
 // Blocks of memory are given back one after the other: the ticket is answered as failed, until there is memory enough for the text of a
 // request, its connection and the answer's reading. Several growths may pass with one block.
 const JOIN_REFUSED_UNTIL_MEMORY_IS_BACK: Case = (
-    &[UntilAccepted(&[Frame(&JOIN_1, 1)], &[(&JOIN_1, 7, ANSWER_1, 0)])],
+    &[UntilAccepted(&[Frame(&JOIN_1, 1)], &[(&JOIN_1, 7, ACCEPTED)])],
     "\
 served 1 0 0 0
 ask 0 4 3 2 1 4 3 2 1 13 0 0 0 0 0 0 0 1 0 1 0 0 0 7 1007

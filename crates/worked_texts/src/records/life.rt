@@ -196,7 +196,8 @@ fn text_of(alloc: Global, text: &str) -> String {
 
 // The call of a step line.
 fn call_of_step(alloc: Global, text: &str) -> Option<Call> {
-    match step(alloc, text.as_bytes()) {
+    let mut room = Vec::new(alloc);
+    match step(&mut room, text.as_bytes()) {
         Ok(Some(act)) => call_of(alloc, &act).unwrap_or(None),
         _ => None,
     }

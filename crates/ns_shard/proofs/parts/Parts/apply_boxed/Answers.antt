@@ -7,6 +7,7 @@ use Rattle.ns_shard.specs.State.{State, answer_in, after_call}
 use Rattle.ns_shard.specs.Private.Sending.{answer_of}
 use Rattle.ns_shard.specs.Private.Parts.{state_of}
 use Rattle.ns_shard.proofs.Standing.{on_ok}
+use Rattle.ns_shard.proofs.PartsAfter.{pushed-state, pushed-parts}
 use Rattle.ns_shard.proofs.parts.Parts.apply_boxed.Goals as goal
 
 pub returns-in_err-event : goal.returns-in_err-event
@@ -18,12 +19,14 @@ returns-in_err-event c =
 pub returns : goal.returns
 returns c =
     let call = c.args.call.now in
+    let p = c.take.new.self in
     let event = c.in_ok-event.event in
-    let before : state_of c.take.new.self ≡ state_of c.args.self.now = c.take.ensures.state in
-    let told : answer_of (arc_value c.take.new.self.roster) event ≡ answer_in (state_of c.args.self.now) call = c.in_ok-event.ensures.taken.answer ∙ ap (λ (s : State). answer_in s call) before in
-    let net : c.deref.result.now ≡ arc_value c.take.new.self.roster = c.deref.ensures ∙ ap (λ (s : State). s.roster) c.push.ensures.state in
+    let taken = c.in_ok-event.ensures.taken in
+    let before : state_of p ≡ state_of c.args.self.now = c.take.ensures.state in
+    let told : answer_of (arc_value p.roster) event ≡ answer_in (state_of c.args.self.now) call = taken.answer ∙ ap (λ (s : State). answer_in s call) before in
+    let after = pushed-state p call event c.push.new.journal taken c.reply-reply.result c.reply-reply.ensures c.push.ensures.made c.push.ensures.entries in
     record {
-      answer = subst (λ (x : Answer). IfOk c.of.result (λ a. a ≡ x)) (ap (λ (n : Network). answer_of n event) net ∙ told) c.of.ensures;
-      state = on_ok c.of.result _ (c.push.ensures.state ∙ ap (λ (s : State). after_call s call) before);
-      agree = c.push.ensures.agree;
+      answer = subst (λ (x : Answer). IfOk c.of-answer.result (λ a. a ≡ x)) (ap (λ (n : Network). answer_of n event) c.deref.ensures ∙ told) c.of-answer.ensures;
+      state = on_ok c.of-answer.result _ (after ∙ ap (λ (s : State). after_call s call) before);
+      agree = pushed-parts p call event c.push.new.journal taken c.room-room.result c.room-room.ensures after c.push.ensures.reserved;
     }

@@ -1,27 +1,19 @@
-use Rattle.std.proofs.Common.{◌++◌, ◌∷◌, [], sym, subst}
-use Rattle.std.proofs.lemmas.Result.{IfOk-weaker, on_ok_weaker}
-use Rattle.ns_shard.specs.KeptSteps.{AreKeptAfter, AreInPlace}
-use Rattle.ns_shard.specs.Steps.{AreAfter}
-use Rattle.ns_shard.proofs.KeptSteps.{in_place, next-kept, step-taken}
-use Rattle.ns_shard.proofs.RunSteps.{next-after}
-use Rattle.ns_shard.proofs.StepEnds.{ends-taken, ends-shards}
+use Rattle.std.proofs.Common.{◌≡◌, ◌++◌, ◌∷◌, [], List, IfOk, OnOk, subst}
+use Rattle.ns_roster.specs.Network.{Network}
+use Rattle.ns_shard.specs.declared.step.Act.{Act}
+use Rattle.ns_shard.specs.declared.step.Step.{Step}
+use Rattle.ns_shard.specs.KeptSteps.{AreKeptAfter}
+use Rattle.ns_shard.specs.Steps.{step_taken, AreAfter}
 use Rattle.ns_shard.proofs.run.Shards.step.Goals as goal
 
 pub returns-clause-taken : goal.returns-clause-taken
-returns-clause-taken c = IfOk-weaker c.run_step.result _ _ (λ t told net before are. step-taken net before c.args.step.now _ t (subst (AreKeptAfter net before) (sym c.self.view_is) are) told) (ends-taken _ _ c.run_step.result _ c.run_step.ensures)
+returns-clause-taken c =
+    subst (λ (a : Act). IfOk c.run_act.result (λ t. (net : Network) (before : List Step) → AreKeptAfter net before c.args.self.now → t ≡ step_taken net before (record { worker = c.args.step.now.worker; act = a }))) c.lend.ensures c.run_act.ensures.taken
 
 pub returns-clause-shards : goal.returns-clause-shards
-returns-clause-shards c = on_ok_weaker c.run_step.result (λ changed net before after. next-after net before c.args.step.now _ _ (subst (AreAfter net before) (sym c.self.view_is) after) changed) (ends-shards _ _ c.run_step.result _ c.run_step.ensures)
+returns-clause-shards c =
+    subst (λ (a : Act). OnOk c.run_act.result ((net : Network) (before : List Step) → AreAfter net before c.args.self.now → AreAfter net (before ++ (record { worker = c.args.step.now.worker; act = a }) ∷ []) c.run_act.new.self)) c.lend.ensures c.run_act.ensures.shards
 
 pub returns-clause-kept : goal.returns-clause-kept
-returns-clause-kept c = on_ok_weaker c.run_step.result (λ changed net before are. next-kept net before c.args.step.now _ _ (subst (AreKeptAfter net before) (sym c.self.view_is) are) changed) (ends-shards _ _ c.run_step.result _ c.run_step.ensures)
-
-pub returns-clause-reached : goal.returns-clause-reached
-returns-clause-reached c =
-    let (net, before, are) = c.requires in
-    on_ok_weaker c.run_step.result (λ changed. (net, before ++ c.args.step.now ∷ [], next-kept net before c.args.step.now _ _ (subst (AreKeptAfter net before) (sym c.self.view_is) are) changed)) (ends-shards _ _ c.run_step.result _ c.run_step.ensures)
-
-pub run_step-requires-clause-in_place : goal.run_step-requires-clause-in_place
-run_step-requires-clause-in_place c =
-    let (net, before, are) = c.requires in
-    subst AreInPlace (sym c.self.view_is) (in_place net before _ are)
+returns-clause-kept c =
+    subst (λ (a : Act). OnOk c.run_act.result ((net : Network) (before : List Step) → AreKeptAfter net before c.args.self.now → AreKeptAfter net (before ++ (record { worker = c.args.step.now.worker; act = a }) ∷ []) c.run_act.new.self)) c.lend.ensures c.run_act.ensures.kept

@@ -1,4 +1,5 @@
 use Rattle.std.proofs.Common.{◌++◌, ◌∷◌, [], sym, subst}
+use Rattle.ns_shard.specs.Lent.{step_lent}
 use Rattle.ns_shard.specs.KeptSteps.{AreKeptAfter}
 use Rattle.ns_shard.proofs.run.Shards.step_and_trim.Goals as goal
 use Rattle.ns_shard.proofs.run.Shards.step_and_trim.Goals.{in-Made, in_default}
@@ -7,11 +8,11 @@ pub returns-clause-kept : goal.returns-clause-kept
 returns-clause-kept c = λ net before are.
     let stepped = c.in_ok-taken.ensures.kept net before are in
     elim c.match-taken.branch [
-      | in-Made w ↦ subst (AreKeptAfter net (before ++ c.args.step.now ∷ [])) (sym w.self-is) (w.trim_one.ensures net (before ++ c.args.step.now ∷ []) stepped)
-      | in_default w ↦ subst (AreKeptAfter net (before ++ c.args.step.now ∷ [])) (sym w.self-is) stepped
+      | in-Made w ↦ subst (AreKeptAfter net (before ++ step_lent c.args.worker c.args.act.now ∷ [])) (sym w.self-is) (w.trim_one.ensures net (before ++ step_lent c.args.worker c.args.act.now ∷ []) stepped)
+      | in_default w ↦ subst (AreKeptAfter net (before ++ step_lent c.args.worker c.args.act.now ∷ [])) (sym w.self-is) stepped
     ]
 
 pub returns-clause-reached : goal.returns-clause-reached
 returns-clause-reached c =
     let (net, before, are) = c.requires in
-    (net, before ++ c.args.step.now ∷ [], returns-clause-kept c net before are)
+    (net, before ++ step_lent c.args.worker c.args.act.now ∷ [], returns-clause-kept c net before are)
