@@ -1,5 +1,7 @@
 """The model beside the worked runs."""
+import json
 import os
+import re
 import tempfile
 import unittest
 
@@ -8,6 +10,19 @@ import check_worked_runs
 DATA = os.path.join(check_worked_runs.CRATE, 'data')
 CRATES = os.path.dirname(check_worked_runs.CRATE)
 WINDOWS = os.path.join(DATA, 'windows.txt')
+
+
+def code(*names):
+    with open(os.path.join(CRATES, *names), encoding='utf-8') as file:
+        return file.read()
+
+
+def recorded_steps():
+    """The steps of test_threads: texts, and names of those of test_device."""
+    texts = {name: json.loads(text) for name, text in re.findall(r'pub const (\w+): &str =\s+(".*");', code('test_device', 'src', 'worked.rt'))}
+    listed = code('test_threads', 'src', 'recorded.rt').partition('&[\n')[2].partition('];')[0]
+    words = (line.strip().rstrip(',') for line in listed.splitlines())
+    return [json.loads(word) if word.startswith('"') else texts[word] for word in words]
 
 
 class WorkedRuns(unittest.TestCase):
@@ -33,8 +48,7 @@ class WorkedRuns(unittest.TestCase):
         """The steps that the program runs by its file `stdin`, those of test_threads and those of closing_rosters.txt are the same."""
         with open(os.path.join(CRATES, 'lorawan_ns', 'stdin'), encoding='utf-8') as file:
             steps = file.read().splitlines()
-        with open(os.path.join(CRATES, 'test_threads', 'src', 'recorded.rt'), encoding='utf-8') as file:
-            self.assertEqual(file.read().partition('r#"')[2].partition('"#')[0].splitlines(), steps)
+        self.assertEqual(''.join(recorded_steps()).splitlines(), steps)
         with open(os.path.join(DATA, 'closing_rosters.txt'), encoding='utf-8') as file:
             run = file.read().partition('# The recorded run')[2].partition('\n\n')[0]
         self.assertEqual([line[2:] for line in run.splitlines() if line.startswith('> ')], steps)
