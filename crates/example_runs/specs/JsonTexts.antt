@@ -1,9 +1,9 @@
 -- Texts: a roster, what a join server is asked about a Join-Request, and what it answers.
 use Rattle.std.specs.Prelude.{◌≡◌, ℕ, List, [], ◌∷◌, ◌++◌, None, Some, Ok, Err, codes, take, length, ◌-◌}
 use Rattle.ns_roster.specs.declared.fault.RosterFault.TheVariants.{NotJson, Field, Twice, Slot, NetId}
-use Rattle.ns_joinwire.specs.declared.fault.AnsFault.TheVariants as fault
+use Rattle.ns_exchange.specs.declared.answer.AnsFault.TheVariants as fault
 use Rattle.ns_roster.specs.Text.{roster_of}
-use Rattle.ns_joinwire.specs.Front.{code_of}
+use Rattle.ns_exchange.specs.Front.{code_of}
 use Rattle.ns_joinwire.specs.JoinReq.{joinreq}
 use Rattle.ns_joinwire.specs.JoinAns.{joinans}
 use Rattle.example_runs.specs.OneDevice.{network, device, join_1, nwk_1, app_1, join_ans}

@@ -9,7 +9,7 @@ use crate::fault::{Fault, of_replay};
 use crate::roster::read_roster;
 use crate::streams::Told;
 use log::{Log, error};
-use ns_events::Output;
+use ns_output::Output;
 use ns_replay::{ReplayFault, replay};
 use ns_roster::Roster;
 use ns_types::{OverStd, Sink, Source};

@@ -9,8 +9,8 @@ use Rattle.ns_calls.specs.declared.answer.Uplink.{Uplink}
 use Rattle.ns_lines.specs.Text.{has_line_feed}
 use Rattle.ns_lines.proofs.LineLemmas.{joined, at_any, hex-line, decimal-line, wide-line, address-line}
 use Rattle.ns_events.specs.declared.lora.Lora.{Lora}
-use Rattle.ns_events.specs.declared.times.Times.{Times}
-use Rattle.ns_events.specs.declared.times.Utc.{Utc}
+use Rattle.ns_output.specs.declared.times.Times.{Times}
+use Rattle.ns_output.specs.declared.times.Utc.{Utc}
 use Rattle.ns_events.specs.Base64.{symbols, base64_text}
 use Rattle.ns_events.specs.Lora.{lora_of}
 use Rattle.ns_events.specs.Times.{last_digit, utc_text}

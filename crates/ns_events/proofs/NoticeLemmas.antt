@@ -10,7 +10,7 @@ use Rattle.json.proofs.Printed.Trees.{document-print}
 use Rattle.ns_types.specs.declared.identity.WindowName.{WindowName}
 use Rattle.ns_lines.specs.Text.{wide, has_line_feed}
 use Rattle.ns_lines.proofs.LineLemmas.{decimal-line, wide-line, address-line}
-use Rattle.ns_events.specs.declared.times.Utc.{Utc}
+use Rattle.ns_output.specs.declared.times.Utc.{Utc}
 use Rattle.ns_events.specs.Notice.{time_text, session_text, join_json, ack_json, with_time, session_members, ack_members, join_value, ack_value, NameFits}
 use Rattle.ns_events.proofs.LineLemmas.{utc-line}
 use Rattle.ns_events.proofs.Plain.{utc-escape, wide-escape, address-escape}

@@ -13,7 +13,7 @@ use Rattle.json.proofs.Printed.Floats.{IsNumber-plain}
 use Rattle.ns_types.specs.declared.heard.Heard.{Heard}
 use Rattle.ns_calls.specs.declared.answer.Uplink.{Uplink}
 use Rattle.ns_events.specs.declared.lora.Lora.{Lora}
-use Rattle.ns_events.specs.declared.times.Times.{Times}
+use Rattle.ns_output.specs.declared.times.Times.{Times}
 use Rattle.ns_events.specs.Lora.{lora_of}
 use Rattle.ns_events.specs.Uplink.{tenths_text}
 use Rattle.ns_events.specs.Value.{with_rate, with_rate_as, with_port, copy_members, copy_values, control_members, uplink_members, uplink_value, HeardFits, PortFits, UplinkFits}

@@ -10,7 +10,7 @@ use Rattle.json.specs.Print.{escape}
 use Rattle.json.specs.Run.{is_plain}
 use Rattle.json.proofs.Printed.Strings.{escape_byte_plain}
 use Rattle.ns_lines.specs.Text.{wide, address_text}
-use Rattle.ns_events.specs.declared.times.Utc.{Utc}
+use Rattle.ns_output.specs.declared.times.Utc.{Utc}
 use Rattle.ns_events.specs.Base64.{symbols, base64_text}
 use Rattle.ns_events.specs.Times.{last_digit, utc_text}
 use Rattle.ns_events.specs.Value.{IsByte}

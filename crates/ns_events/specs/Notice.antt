@@ -3,7 +3,7 @@ use Rattle.std.specs.Prelude.{ℕ, ◌<◌, ◌^◌, List, [], ◌++◌, codes, 
 use Rattle.json.specs.Json.{Json, number, string, object, Members, no_members, member}
 use Rattle.ns_types.specs.declared.identity.WindowName.{WindowName}
 use Rattle.ns_lines.specs.Text.{wide, address_text}
-use Rattle.ns_events.specs.declared.times.Utc.{Utc}
+use Rattle.ns_output.specs.declared.times.Utc.{Utc}
 use Rattle.ns_events.specs.Times.{utc_text}
 
 -- when it happened, where there is a clock

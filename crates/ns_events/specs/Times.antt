@@ -1,6 +1,6 @@
 -- A moment of the wall clock as text (RFC 3339).
 use Rattle.std.specs.Prelude.{ℕ, ◌+◌, ◌/◌, ◌%◌, List, [], ◌∷◌, ◌++◌, codes}
-use Rattle.ns_events.specs.declared.times.Utc.{Utc}
+use Rattle.ns_output.specs.declared.times.Utc.{Utc}
 
 -- the last digit of a number
 abbrev pub last_digit : ℕ → ℕ

@@ -4,7 +4,7 @@ use Rattle.hex.specs.Hex.{encode_lower}
 use Rattle.ns_types.specs.declared.heard.Heard.{Heard}
 use Rattle.ns_calls.specs.declared.answer.Uplink.{Uplink}
 use Rattle.ns_lines.specs.Text.{wide, address_text}
-use Rattle.ns_events.specs.declared.times.Times.{Times}
+use Rattle.ns_output.specs.declared.times.Times.{Times}
 use Rattle.ns_events.specs.declared.lora.Lora.{Lora}
 use Rattle.ns_events.specs.Lora.{lora_of}
 use Rattle.ns_events.specs.Base64.{base64_text}

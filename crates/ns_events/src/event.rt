@@ -7,8 +7,9 @@ use crate::lora::Lora;
 use crate::put::{
     Text, put_address, put_base64, put_flag, put_hex, put_identity, put_number, put_tenths,
 };
-use crate::times::{Times, put_utc};
+use crate::times::put_utc;
 use ns_calls::Uplink;
+use ns_output::Times;
 use ns_types::Heard;
 
 // Puts when an uplink came, where there is a clock.

@@ -3,9 +3,9 @@ ghost use Rattle.std.specs.Prelude.{◌≡◌, ◌<◌, ◌^◌, ℕ, Option, So
 ghost use Rattle.json.specs.Json.{document};
 ghost use Rattle.ns_calls.specs.declared.answer.Uplink.{Uplink};
 ghost use Rattle.ns_lines.specs.Text.{has_line_feed};
-ghost use Rattle.ns_events.specs.declared.times.Times.{Times};
+ghost use Rattle.ns_output.specs.declared.times.Times.{Times};
 ghost use Rattle.ns_types.specs.declared.identity.WindowName.{WindowName};
-ghost use Rattle.ns_events.specs.declared.times.Utc.{Utc};
+ghost use Rattle.ns_output.specs.declared.times.Utc.{Utc};
 ghost use Rattle.ns_events.specs.Notice.{NameFits, ack_json, ack_value, join_json, join_value};
 ghost use Rattle.ns_events.specs.Uplink.{uplink_json};
 ghost use Rattle.ns_events.specs.Value.{uplink_value, UplinkFits};

@@ -4,7 +4,8 @@ ghost use Rattle.arrayvec.specs.ArrayString.{array_string_len};
 ghost use Rattle.ns_events.specs.Notice.{ack_json, join_json, session_text, time_text};
 
 use crate::put::{Text, put_address, put_identity, put_number};
-use crate::times::{Utc, put_utc};
+use crate::times::put_utc;
+use ns_output::Utc;
 use ns_types::{DevAddr, DevEui, GatewayId, WindowName};
 
 // Puts when it happened, where there is a clock.

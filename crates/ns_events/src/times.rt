@@ -1,28 +1,10 @@
-//! Times of the wall clock.
+//! Times of the wall clock, as text.
 ghost use Rattle.std.specs.Prelude.{◌≡◌, ◌+◌, ◌≤◌, ◌<◌, ◌++◌};
 ghost use Rattle.arrayvec.specs.ArrayString.{array_string_len};
 ghost use Rattle.ns_events.specs.Times.{last_digit, two_digits, three_digits, date_text, time_text, utc_text};
 
 use crate::put::Text;
-
-/// A moment of the wall clock in UTC, to the millisecond.
-#[derive(Clone, Copy, Debug, PartialEq, Eq)]
-pub struct Utc {
-    pub year: u16,
-    pub month: u8,
-    pub day: u8,
-    pub hour: u8,
-    pub minute: u8,
-    pub second: u8,
-    pub millisecond: u16,
-}
-
-/// When an uplink's first copy came, and when its line was written.
-#[derive(Clone, Copy, Debug, PartialEq, Eq)]
-pub struct Times {
-    pub heard: Utc,
-    pub written: Utc,
-}
+use ns_output::Utc;
 
 // The last digit of a number.
 fn last_digit(n: u16) -> char

@@ -3,7 +3,7 @@
 ghost use Rattle.std.specs.Prelude.{◌≡◌};
 ghost use Rattle.ns_exchange.specs.declared.fault.AskFault.TheVariants.{Ended};
 
-use ns_joinwire::AnsFault;
+use crate::answer::AnsFault;
 use ns_types::Failed;
 use thiserror::Error;
 

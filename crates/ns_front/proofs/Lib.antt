@@ -1,1 +1,2 @@
+mod MarkLemmas
 pub mod Tables

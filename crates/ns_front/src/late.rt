@@ -2,6 +2,7 @@
 
 ghost use Rattle.std.specs.Prelude.{◌≡◌, ◌≢◌, ◌<◌, ℕ, Some, vec_len, IfOk};
 ghost use Rattle.ns_front.specs.Late.{row_of, row_at, no_row, is_within, due_at, due_in, due_of, with_closing, is_late};
+ghost use Rattle.ns_front.specs.Private.Marks.{has_mark, with_mark, no_marks, AreMarked};
 
 use crate::front::FrameName;
 use ns_types::{DevAddr, SHARDS, shard_of_addr};
@@ -73,13 +74,59 @@ impl Row {
     }
 }
 
+// The MICs of the frames of a row.
+#[derive(Clone, Copy)]
+struct Marks {
+    first: u32,
+    second: u32,
+    third: u32,
+    fourth: u32,
+}
+
+impl Marks {
+    // Those of a row of no frame.
+    fn none() -> Marks
+        ensures { result ≡ no_marks }
+    {
+        Marks {
+            first: 0,
+            second: 0,
+            third: 0,
+            fourth: 0,
+        }
+    }
+
+    // Whether this is one of them.
+    fn has(&self, mic: u32) -> bool
+        ensures { result ≡ has_mark mic self.now }
+    {
+        self.first == mic || self.second == mic || self.third == mic || self.fourth == mic
+    }
+
+    // The MICs with one more, for which the fourth goes.
+    fn with(&self, mic: u32) -> Marks
+        ensures { result ≡ with_mark mic self.now }
+    {
+        Marks {
+            first: mic,
+            second: self.first,
+            third: self.second,
+            fourth: self.third,
+        }
+    }
+}
+
 /// When the windows of frames are closed: a table of 1,024 rows of at most four frames. A frame stands in the row of the last bits of its
-/// MIC; where that is full, the one that was noted there first goes.
+/// MIC; where that is full, the one that was noted there first goes. The MICs of all rows lie together, in an eighth of the memory: most
+/// frames stand in no row, of which they tell.
 #[derive(Drop)]
 pub(crate) struct Late {
+    marks: Vec<Marks>,
     rows: Vec<Row>,
     span_ms: u64,
+    ghost marked: { vec_len marks ≡ 1024 },
     ghost whole: { vec_len rows ≡ 1024 },
+    ghost told: { AreMarked marks.items rows.items },
 }
 
 impl Late {
@@ -90,8 +137,13 @@ impl Late {
         ensures none { IfOk result (λ l. (row : ℕ) → row_at l.rows.items row ≡ no_row) }
         ensures span { IfOk result (λ l. l.span_ms ≡ span_ms) }
     {
+        let marks = vec![in alloc; Marks::none(); ROWS]?;
         let rows = vec![in alloc; Row::none(); ROWS]?;
-        Ok(Late { rows, span_ms })
+        Ok(Late {
+            marks,
+            rows,
+            span_ms,
+        })
     }
 
     // The row of a frame.
@@ -108,15 +160,23 @@ impl Late {
         ensures late { (now : ℕ) → is_late self.new.span_ms self.new.rows.items frame now ≡ is_within self.old.span_ms due now }
         ensures same { self.new.span_ms ≡ self.old.span_ms }
     {
+        let at = frame.mic as usize % ROWS;
+        let marks = self.marks[at].with(frame.mic);
         let row = self.row(frame).with(Closing { frame, due });
-        self.rows[frame.mic as usize % ROWS] = row;
+        self.marks[at] = marks;
+        self.rows[at] = row;
     }
 
     /// When the window of a frame is closed, where that is noted: no copy of another frame is late, and none before then.
+    #[tactic(auto, using(crate::proofs::MarkLemmas::unmarked))]
     pub fn due(&self, frame: FrameName) -> Option<u64>
         ensures { result ≡ due_of self.now.rows.items frame }
     {
-        self.row(frame).due(frame)
+        if self.marks[frame.mic as usize % ROWS].has(frame.mic) {
+            self.row(frame).due(frame)
+        } else {
+            None
+        }
     }
 
     /// Whether a copy of a frame that comes at this time is late.

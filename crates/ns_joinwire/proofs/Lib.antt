@@ -1,3 +1,2 @@
-pub mod CutLemmas
 pub mod RequestLemmas
 pub mod SpelledLemmas

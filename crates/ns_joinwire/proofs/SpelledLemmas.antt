@@ -12,9 +12,9 @@ use Rattle.ns_types.specs.Results.{unless}
 use Rattle.ns_types.proofs.ResultLemmas.{bind-ok, ok_or-ok, unless-ok, bind-some}
 use Rattle.ns_calls.specs.declared.call.JoinAns.{JoinAns}
 use Rattle.ns_roster.specs.Field.{value_of, text_at, hex_bytes}
-use Rattle.ns_joinwire.specs.declared.fault.AnsFault.{AnsFault}
-use Rattle.ns_joinwire.specs.declared.fault.AnsFault.TheVariants.{NotJson, Field, AnotherMessage, Refused, NoJoinAccept, NwkSKey}
-use Rattle.ns_joinwire.specs.Front.{code_of}
+use Rattle.ns_exchange.specs.declared.answer.AnsFault.{AnsFault}
+use Rattle.ns_exchange.specs.declared.answer.AnsFault.TheVariants.{NotJson, Field, AnotherMessage, Refused, NoJoinAccept, NwkSKey}
+use Rattle.ns_exchange.specs.Front.{code_of}
 use Rattle.ns_joinwire.specs.JoinAns.{joinans}
 use Rattle.ns_joinwire.specs.Parts.{Head, Body, KeyEnvelope, field, transaction_of, result_code_of, head_of, label_of, envelope_of, app_envelope, body_of, is_plain, key_of, nwk_key, app_key, join_accept_of}
 use Rattle.ns_joinwire.specs.Spelled.{SpellsKey, SpellsAppSKey, SpellsAnswer, Spells}

@@ -4,10 +4,10 @@ use Rattle.std.specs.Option.{ok_or}
 use Rattle.serde_json.specs.Data.{Data}
 use Rattle.ns_types.specs.Results.{◌>>=◌, unless}
 use Rattle.ns_calls.specs.declared.call.JoinAns.{JoinAns}
-use Rattle.ns_joinwire.specs.declared.fault.AnsFault.{AnsFault}
-use Rattle.ns_joinwire.specs.declared.fault.AnsFault.TheVariants.{NotJson, Field, AnotherMessage, Refused, NoJoinAccept, NwkSKey}
+use Rattle.ns_exchange.specs.declared.answer.AnsFault.{AnsFault}
+use Rattle.ns_exchange.specs.declared.answer.AnsFault.TheVariants.{NotJson, Field, AnotherMessage, Refused, NoJoinAccept, NwkSKey}
 use Rattle.ns_roster.specs.Field.{value_of}
-use Rattle.ns_joinwire.specs.Front.{code_of}
+use Rattle.ns_exchange.specs.Front.{code_of}
 use Rattle.ns_joinwire.specs.Parts.{head_of, body_of, nwk_key, app_key, join_accept_of}
 
 -- the answer that a message gives to a transaction, or the first fault, by its number

@@ -1,4 +1,3 @@
-pub mod Front
 pub mod Parts
 pub mod JoinAns
 pub mod Spelled

@@ -3,14 +3,14 @@
 ghost use Rattle.std.specs.Prelude.{◌≡◌, option_map};
 ghost use Rattle.serde_json.specs.View.{view};
 ghost use Rattle.ns_types.specs.Results.{Gives};
-ghost use Rattle.ns_joinwire.specs.declared.fault.AnsFault.TheVariants.{NoMemory};
+ghost use Rattle.ns_exchange.specs.declared.answer.AnsFault.TheVariants.{NoMemory};
 ghost use Rattle.ns_joinwire.specs.JoinAns.{answer_of, joinans};
 ghost use Rattle.ns_joinwire.specs.Parts.{head_of, body_of, transaction_of, result_code_of, app_envelope};
 ghost use Rattle.ns_joinwire.specs.Private.Held.{head_view, body_view, envelope_view};
 
 use crate::envelope::{KeyEnvelope, app_key, field, join_accept_of};
-use crate::fault::{AnsFault, ResultCode};
 use ns_calls::JoinAns;
+use ns_exchange::{AnsFault, ResultCode};
 use ns_roster::field::{text_at, value_of, whole_at};
 use serde_json::Value;
 use std::alloc::Global;

@@ -3,16 +3,15 @@
 //! `join_req` gives the text that asks a join server about a Join-Request. A join server that reads it finds a JoinReq with the
 //! Join-Request's bytes and its transaction. `join_ans` gives what a join server's text answers to a transaction, or the text's
 //! first fault, in a fixed order of tests and in time linear in the text's length.
-//! The crate stands on `ns_types`, `ns_roster` and `ns_calls`, and on `serde_json`, `hex` and `thiserror` of the kit.
+//! The crate stands on `ns_types`, `ns_roster` and `ns_calls`, on `ns_exchange` for the faults of an answer, and on `serde_json` and `hex` of
+//! the kit.
 #![tactic(auto)]
 
 mod answer;
 mod envelope;
-mod fault;
 mod laws;
 mod request;
 
 pub use crate::answer::join_ans;
-pub use crate::fault::{AnsFault, ResultCode};
 pub use crate::laws::answered_exactly;
 pub use crate::request::join_req;

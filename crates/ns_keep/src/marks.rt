@@ -21,18 +21,18 @@ pub(crate) struct Marks {
 }
 
 impl Marks {
-    /// No marks.
-    pub(crate) fn new(alloc: Global) -> Marks
-        ensures { IsUnmarked result }
+    /// No marks, and room for the openings of so many sessions.
+    pub(crate) fn with_room(alloc: Global, sessions: usize) -> Result<Marks, AllocError>
+        ensures { IfOk result IsUnmarked }
     {
-        Marks {
+        Ok(Marks {
             accepted: HashSet::new(alloc),
-            opened: HashSet::new(alloc),
-            opened_in: HashSet::new(alloc),
+            opened: HashSet::with_capacity(alloc, sessions)?,
+            opened_in: HashSet::with_capacity(alloc, sessions)?,
             repeated_in: HashSet::new(alloc),
             acknowledged: HashSet::new(alloc),
             asked: BTreeSet::new(alloc),
-        }
+        })
     }
 
     /// Marks that a join of a device was accepted, and says whether none was before.

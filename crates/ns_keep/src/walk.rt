@@ -15,6 +15,9 @@ use ns_calls::Entry;
 use ns_types::{Ticket, WindowName};
 use std::alloc::{AllocError, Global};
 
+// There is room for the openings of one session for each so many entries, before the tables grow.
+const ENTRIES_OF_A_SESSION: usize = 16;
+
 // Whether the opening of a window is kept: it is the last of its device, or of its session, which lives, or the window is open.
 fn keeps_opening<D: DeviceTable>(
     marks: &mut Marks,
@@ -101,7 +104,7 @@ pub fn numbers_kept<D: DeviceTable>(
         → IfOk result (λ v. v.items ≡ numbers_kept h entries.now) }
 {
     let open = OpenWindows::new(alloc, windows)?;
-    let mut marks = Marks::new(alloc);
+    let mut marks = Marks::with_room(alloc, entries.len() / ENTRIES_OF_A_SESSION)?;
     let mut numbers = Vec::new(alloc);
     let mut rest = entries;
     'walk: while let Some((entry, before)) = rest.split_last() {

@@ -19,8 +19,8 @@ impl OpenWindows {
     pub(crate) fn new(alloc: Global, windows: &[WindowName]) -> Result<OpenWindows, AllocError>
         ensures { IfOk result (λ o. IsOf o windows.now) }
     {
-        let mut names = HashSet::new(alloc);
-        let mut sessions = HashSet::new(alloc);
+        let mut names = HashSet::with_capacity(alloc, windows.len())?;
+        let mut sessions = HashSet::with_capacity(alloc, windows.len())?;
         for window in windows {
             names.insert(*window)?;
             sessions.insert((window.eui.0, window.session))?;

@@ -10,7 +10,7 @@
 //! value gave, took or was told, as far as that tells it; `Calls` that each receipt tells the plain server's answer. Neither a server nor
 //! workers are named here: they, and what stands round them, are made and proved beside each other.
 //! The crate stands on `ns_calls` and `ns_types`, on `ns_roster` for the devices of an answer, on `ns_link` and `ns_views` for refusals, on
-//! `ns_joinwire` and `ns_exchange` for faults of an exchange, and on `ns_events` for the times of an uplink.
+//! `ns_exchange` for faults of an exchange, and on `ns_output` for the times of an uplink.
 #![tactic(auto)]
 
 mod calls;

@@ -10,7 +10,7 @@ ghost use Rattle.ns_outside.specs.Datagrams.{FitsBuffer, TakesDatagram};
 use crate::fault::{JoinFault, Refused};
 use crate::receipt::Receipt;
 use ns_calls::Downlink;
-use ns_events::Times;
+use ns_output::Times;
 use ns_types::{Sink, Source, Ticket};
 
 /// What a source of jobs answers.

@@ -35,7 +35,7 @@ use Rattle.ns_calls.specs.Steps.{Refusal, content_call, unless_fault, frame_call
 use Rattle.ns_lines.specs.Text.{wide, window_text, round_text, has_line_feed}
 use Rattle.ns_roster.specs.Field.{value_of, whole_at}
 use Rattle.ns_roster.proofs.HexLemmas.{hex_bytes-encode_lower}
-use Rattle.ns_joinwire.specs.declared.fault.AnsFault.{AnsFault}
+use Rattle.ns_exchange.specs.declared.answer.AnsFault.{AnsFault}
 use Rattle.ns_joinwire.specs.JoinAns.{joinans}
 use Rattle.ns_joinwire.specs.Parts.{join_accept_of}
 use Rattle.ns_joinwire.specs.Spelled.{SpellsKey, SpellsAppSKey, SpellsAnswer}

@@ -9,7 +9,7 @@ use Rattle.ns_shard.specs.State.{State}
 use Rattle.ns_shard.specs.declared.step.Step.{Step}
 use Rattle.ns_shard.specs.NextRun.{greatest_among, greatest_after, closing_roster}
 use Rattle.ns_shard.specs.KeptSteps.{AreKeptAfter}
-use Rattle.ns_events.specs.declared.output.Output.{Output}
+use Rattle.ns_output.specs.declared.output.Output.{Output}
 use Rattle.ns_replay.specs.declared.reading.Answers.{Answers}
 use Rattle.ns_replay.specs.Output.{closing_line, output}
 use Rattle.ns_steps.specs.StepLines.{steps, ended}

@@ -7,7 +7,7 @@ use Rattle.ns_views.specs.Faults as view_fault
 use Rattle.ns_roster.specs.Network.{Network}
 use Rattle.ns_calls.specs.declared.answer.Answer.{Answer}
 use Rattle.ns_lines.specs.Text.{reply_text, down_text}
-use Rattle.ns_events.specs.declared.output.Output.{Output}
+use Rattle.ns_output.specs.declared.output.Output.{Output}
 use Rattle.ns_events.specs.Output.{line_of}
 use Rattle.ns_shard.specs.declared.step.Act.{Act}
 use Rattle.ns_shard.specs.declared.step.Step.{Step}

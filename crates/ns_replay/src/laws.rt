@@ -3,7 +3,7 @@
 ghost use Rattle.std.specs.Prelude.{◌≡◌};
 ghost use Rattle.ns_calls.specs.declared.answer.Answer.{Answer};
 ghost use Rattle.ns_lines.specs.Text.{text};
-ghost use Rattle.ns_events.specs.declared.output.Output.TheVariants.{Lines};
+ghost use Rattle.ns_output.specs.declared.output.Output.TheVariants.{Lines};
 ghost use Rattle.ns_replay.specs.Output.{answer_lines};
 
 /// As lines, what is written of an answer is its text, as `lines` of `ns_lines` gives it.

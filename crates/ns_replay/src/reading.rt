@@ -4,7 +4,7 @@ ghost use Rattle.std.specs.Prelude.{◌≡◌, ◌<◌, ◌∷◌, ◌++◌, [],
 ghost use Rattle.std.specs.Arc.{arc_value};
 ghost use Rattle.ns_types.specs.declared.transfer.ReadFault.TheVariants.{Io};
 ghost use Rattle.ns_roster.specs.Network.{Network};
-ghost use Rattle.ns_events.specs.declared.output.Output.{Output};
+ghost use Rattle.ns_output.specs.declared.output.Output.{Output};
 ghost use Rattle.ns_shard.specs.declared.step.Act.{Act};
 ghost use Rattle.ns_shard.specs.declared.step.Step.{Step};
 ghost use Rattle.ns_shard.specs.KeptSteps.{AreKeptAfter, AreReached};
@@ -14,8 +14,8 @@ ghost use Rattle.ns_replay.specs.Private.Lines.{line_taken, steps_in};
 ghost use Rattle.ns_replay.specs.Private.Found.{Has, FoundIn, Longer};
 
 use crate::taken::put_taken;
-use ns_events::Output;
 use ns_lines::Line;
+use ns_output::Output;
 use ns_roster::Roster;
 use ns_shard::{LentAct, Shards, Taken};
 use ns_steps::{place_of, step};

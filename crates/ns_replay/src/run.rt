@@ -9,7 +9,7 @@ ghost use Rattle.ns_replay.specs.Output.{output};
 
 use crate::closing::put_closing;
 use crate::reading::{Answers, read_answers};
-use ns_events::Output;
+use ns_output::Output;
 use ns_roster::Roster;
 use ns_types::{Failed, ReadFault, Sink, Source, write_all};
 use std::alloc::Global;

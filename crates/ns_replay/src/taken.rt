@@ -9,8 +9,9 @@ ghost use Rattle.ns_replay.specs.Output.{refusal_text, answer_lines, text_of};
 
 use itoa::Buffer;
 use ns_calls::Uplink;
-use ns_events::{Output, uplink_json};
+use ns_events::uplink_json;
 use ns_lines::{Line, put_downlink, put_lent_uplink, put_reply};
+use ns_output::Output;
 use ns_shard::{BoxedAnswer, Taken};
 use std::alloc::AllocError;
 

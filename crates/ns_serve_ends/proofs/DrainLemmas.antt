@@ -2,7 +2,7 @@
 use Rattle.std.proofs.Common.{ℕ, List, Option, Result, Ok, Err}
 use Rattle.std.specs.Prelude.{OnOk}
 use Rattle.ns_calls.specs.declared.answer.Uplink.{Uplink}
-use Rattle.ns_events.specs.declared.output.Output.{Output}
+use Rattle.ns_output.specs.declared.output.Output.{Output}
 use Rattle.ns_serve_streams.specs.Output.{Grows}
 use Rattle.ns_serve_streams.proofs.OutputLemmas.{grows_more}
 use Rattle.ns_workers.specs.Lines.{AppendsLine, uplink_line}

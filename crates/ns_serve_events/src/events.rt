@@ -2,12 +2,11 @@
 
 use log::{Level, Log};
 use ns_calls::{Call, Downlink, Reply};
-use ns_exchange::AskFault;
+use ns_exchange::{AnsFault, AskFault};
 use ns_front::FrameName;
-use ns_joinwire::AnsFault;
 use ns_outside::{JoinFault, Monitor, Receipt, Refused};
+use ns_serve_notices::note_event;
 use ns_serve_parts::more;
-use ns_serve_queues::note_event;
 use ns_serve_state::{State, closing_of, log_at, log_seldom, log_unsent, now_ms};
 use ns_serve_streams::words_of;
 use ns_types::{DevEui, Ticket};

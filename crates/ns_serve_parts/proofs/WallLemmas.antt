@@ -5,7 +5,7 @@ use Rattle.std.specs.Duration.{as_nanos}
 use Rattle.std.specs.declared.time.Duration.{Duration}
 use Rattle.jiff_core.specs.declared.civil.datetime.DateTime.{DateTime}
 use Rattle.jiff_core.specs.DateTime.{civil_nanos}
-use Rattle.ns_events.specs.declared.times.Utc.{Utc}
+use Rattle.ns_output.specs.declared.times.Utc.{Utc}
 use Rattle.ns_serve_parts.specs.Wall.{Shows, IsUtcOf}
 
 pub is_utc : (since : Duration) (dt : DateTime) (o : Option Utc) → civil_nanos dt ≡ pos (as_nanos since) → IfSome o (Shows dt) → IfSome o (IsUtcOf since)

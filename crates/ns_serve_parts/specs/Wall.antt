@@ -4,7 +4,7 @@ use Rattle.std.specs.Duration.{as_nanos}
 use Rattle.std.specs.declared.time.Duration.{Duration}
 use Rattle.jiff_core.specs.declared.civil.datetime.DateTime.{DateTime}
 use Rattle.jiff_core.specs.DateTime.{civil_nanos}
-use Rattle.ns_events.specs.declared.times.Utc.{Utc}
+use Rattle.ns_output.specs.declared.times.Utc.{Utc}
 
 -- a moment shows a date and a time of day, to the millisecond
 pub record Shows (dt : DateTime) (t : Utc) : Type 0 where

@@ -3,7 +3,7 @@
 //! The table of devices that ask; the tickets that wait; counters; the lines of events; moments of the wall clock; how many entries each
 //! shard has; what is to be served and why serving ended. What is computed has a contract over its definition in `specs/`. What is counted
 //! and logged no contract says.
-//! The crate stands on `ns_outside` for what the workers ask of what stands round them, on `ns_calls`, `ns_events`, `ns_exchange`,
+//! The crate stands on `ns_outside` for what the workers ask of what stands round them, on `ns_calls`, `ns_output`, `ns_exchange`,
 //! `ns_link`, `ns_types` and `ns_views`, and on `jiff_core`, `log`, `lru` and `thiserror` of the kit.
 #![tactic(auto)]
 

@@ -3,8 +3,8 @@ ghost use Rattle.std.specs.Prelude.{◌≡◌};
 ghost use Rattle.ns_serve_parts.specs.declared.options.ServeFault.TheVariants as serve;
 ghost use Rattle.ns_serve_parts.specs.Ends.{serve_fault};
 
-use ns_events::Output;
 use ns_exchange::HostName;
+use ns_output::Output;
 use ns_outside::WorkerFault;
 use std::alloc::AllocError;
 use std::net::SocketAddr;

@@ -3,7 +3,7 @@ ghost use Rattle.std.specs.Prelude.{IfSome};
 ghost use Rattle.ns_serve_parts.specs.Wall.{IsUtcOf, Shows};
 
 use jiff_core::civil::DateTime;
-use ns_events::Utc;
+use ns_output::Utc;
 use std::time::Duration;
 
 // A date with a time of day. None in a year below 0.

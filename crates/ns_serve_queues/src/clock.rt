@@ -1,7 +1,7 @@
 //! The clock as workers wait by it.
 ghost use Rattle.std.specs.Prelude.{◌≡◌, ◌-◌, min};
 
-use ns_events::{Times, Utc};
+use ns_output::Times;
 use ns_outside::Timer;
 use ns_serve_parts::utc_of;
 use ns_serve_state::{State, now_ms};
@@ -40,11 +40,6 @@ impl<'a> SinceMoment<'a> {
             moment: now_ms(rt, state),
         }
     }
-}
-
-/// The moment now, by the wall clock, if there is one.
-pub fn utc_now<R: Clock>(rt: &R) -> Option<Utc> {
-    utc_of(rt.since_1970().ok()?)
 }
 
 /// By the wall clock, when the first copy came of an uplink whose window was opened at this time, and the moment now.

@@ -21,7 +21,7 @@ use std::io::{Error, ErrorKind};
 use std::net::{SocketAddr, UdpSocket};
 use std::sync::Wait;
 use std::sync::atomic::Ordering;
-use std::time::{Clock, Duration, Instant};
+use std::time::{Clock, Duration};
 use std::{io, thread};
 
 // The counts are looked at after so many datagrams, and whenever none comes.
@@ -48,10 +48,10 @@ pub struct FromSocket<'a> {
 }
 
 // How long ago a receive began, nothing where the clock does not tell.
-fn since<R: Clock>(rt: &R, start: io::Result<Instant>) -> Duration {
-    match start {
-        Ok(start) => start.elapsed(rt).unwrap_or(Duration::ZERO),
-        Err(_) => Duration::ZERO,
+fn since<R: Clock>(rt: &R, start: io::Result<Duration>) -> Duration {
+    match (start, rt.monotonic()) {
+        (Ok(start), Ok(now)) => now.saturating_sub(start),
+        _ => Duration::ZERO,
     }
 }
 
@@ -103,7 +103,7 @@ impl<'a> FromSocket<'a> {
         if !self.state.has_resting() {
             return socket.recv_from(buf);
         }
-        let start = Instant::now(rt);
+        let start = rt.monotonic();
         let heard = socket.recv_from(buf)?;
         if self.pace.comes(since(rt, start)) {
             self.state.wake(rt);

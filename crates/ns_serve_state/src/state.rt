@@ -3,13 +3,14 @@
 ghost use Rattle.std.specs.Prelude.{◌≡◌, ◌+◌, ◌*◌, max, is_some, IfOk};
 ghost use Rattle.ns_serve_state.specs.Hearing.{hears_forwarders};
 
+use crate::clock::system_ms;
 use crate::logged::Seldoms;
 use crate::queue::AskQueue;
 use crate::rest::Resting;
 use crate::status::Status;
-use ns_events::Output;
 use ns_forwarder_socket::{Forwarders, Pending};
 use ns_front::{Addresses, Lates, Peers};
+use ns_output::Output;
 use ns_record_files::{RecordFiles, Recorder};
 use ns_roster::Roster;
 use ns_serve_parts::{Askers, Counts, EventLines, Made, ServeFault, ServeOptions, keys};
@@ -42,7 +43,7 @@ fn notices(alloc: Global, events: bool) -> Option<Mutex<EventLines>>
 // The parts of a state for which there may be no clock or no memory.
 #[derive(Drop)]
 struct Parts {
-    start: Instant,
+    start_ms: u64,
     forwarders: Option<(Forwarders, SocketAddr)>,
     ended: Arc<AtomicBool>,
     addresses: Mutex<Addresses>,
@@ -59,7 +60,7 @@ impl Parts {
         roster: &Roster,
         power: u8,
     ) -> Result<Parts, ServeFault> {
-        let (Ok(start), Ok(keys)) = (Instant::now(rt), keys(rt)) else {
+        let (Ok(start), Ok(start_ms), Ok(keys)) = (Instant::now(rt), system_ms(rt), keys(rt)) else {
             return Err(ServeFault::Io);
         };
         let forwarders = heard(alloc, keys, start, power, forwarders)?;
@@ -68,7 +69,7 @@ impl Parts {
         };
         let (addresses, lates, askers) = tables(alloc, keys, roster)?;
         Ok(Parts {
-            start,
+            start_ms,
             forwarders,
             ended,
             addresses,
@@ -111,8 +112,8 @@ pub struct State {
     pub own: Option<(UdpSocket, SocketAddr)>,
     /// Where packet forwarders are heard, if they are.
     pub forwarders: Option<(Forwarders, SocketAddr)>,
-    /// When the server began.
-    pub start: Instant,
+    /// At which millisecond of the system's clock the server began.
+    pub start_ms: u64,
     /// How long a window stays open, in milliseconds.
     pub window_ms: u32,
     /// How many datagrams came.
@@ -160,7 +161,7 @@ impl Drop for State {
             alloc: _,
             own: _,
             forwarders: _,
-            start: _,
+            start_ms: _,
             window_ms: _,
             read: _,
             most: _,
@@ -205,7 +206,7 @@ impl State {
             alloc,
             own,
             forwarders: parts.forwarders,
-            start: parts.start,
+            start_ms: parts.start_ms,
             window_ms: options.window_ms,
             read: AtomicU64::new(0),
             most: options.stop_after.map_or(u64::MAX, u64::from),

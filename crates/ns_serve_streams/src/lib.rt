@@ -5,8 +5,8 @@
 //! exchange, and `words_of` says in words why it gave no answer.
 //!
 //! What is written is a contract over its definition in `specs/`. What stands under a lock, what is logged, and what the system does with a
-//! socket, no contract says. The crate stands on `ns_serve_parts` for why serving ends and what a line is, on `ns_outside`, `ns_joinwire`,
-//! `ns_exchange` and `ns_responses` for the exchange with a join server, on `ns_calls`, `ns_lines` and `ns_types`, and on `arrayvec`, `itoa`
+//! socket, no contract says. The crate stands on `ns_serve_parts` for why serving ends and what a line is, on `ns_outside`, `ns_exchange`
+//! and `ns_responses` for the exchange with a join server, on `ns_calls`, `ns_lines` and `ns_types`, and on `arrayvec`, `itoa`
 //! and `log` of the kit.
 #![tactic(auto)]
 

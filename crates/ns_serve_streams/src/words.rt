@@ -1,7 +1,6 @@
 //! Why a join server's answer was refused, in words.
 
-use ns_exchange::AskFault;
-use ns_joinwire::AnsFault;
+use ns_exchange::{AnsFault, AskFault};
 use ns_outside::JoinFault;
 
 /// What a fault of a join means for who runs the join server.

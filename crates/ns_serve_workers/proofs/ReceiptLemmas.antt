@@ -4,7 +4,7 @@ use Rattle.std.proofs.lemmas.List.Elements.{All-append}
 use Rattle.ns_types.specs.declared.ticket.Ticket.{Ticket}
 use Rattle.ns_calls.specs.declared.call.Outcome.{Outcome}
 use Rattle.ns_roster.specs.Network.{Network}
-use Rattle.ns_events.specs.declared.output.Output.{Output}
+use Rattle.ns_output.specs.declared.output.Output.{Output}
 use Rattle.ns_outside.specs.declared.receipt.Receipt.{Receipt}
 use Rattle.ns_outside.specs.Notice.{Notice}
 use Rattle.ns_tally.specs.Tally.{none_made}

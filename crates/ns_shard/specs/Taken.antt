@@ -16,7 +16,7 @@ use Rattle.ns_calls.specs.Steps.{Refusal, datagram_call}
 use Rattle.ns_calls.specs.Shards.{shard_of_call}
 use Rattle.ns_calls.specs.Laws.{hands_out_uplink}
 use Rattle.ns_calls.specs.Open.{HasJustItsCopies}
-use Rattle.ns_joinwire.specs.declared.fault.AnsFault.{AnsFault}
+use Rattle.ns_exchange.specs.declared.answer.AnsFault.{AnsFault}
 use Rattle.ns_joinwire.specs.JoinAns.{joinans}
 use Rattle.ns_shard.specs.declared.step.Act.{Act}
 use Rattle.ns_shard.specs.declared.step.Act.TheVariants.{Datagram, Answer, Lost, Close}

@@ -3,14 +3,15 @@
 ghost use Rattle.std.specs.Prelude.{◌≡◌, ◌≢◌, IfOk, OnOk, OnErr, Ok, Err};
 ghost use Rattle.std.specs.Result.{result_ok};
 ghost use Rattle.ns_calls.specs.Steps.{datagram_call};
-ghost use Rattle.ns_joinwire.specs.declared.fault.AnsFault.TheVariants.{NoMemory};
+ghost use Rattle.ns_exchange.specs.declared.answer.AnsFault.TheVariants.{NoMemory};
 ghost use Rattle.ns_shard.specs.declared.step.Act.TheVariants.{Answer};
 ghost use Rattle.ns_shard.specs.Lent.{act_lent};
 ghost use Rattle.ns_shard.specs.Taken.{call_of, outcome_of};
 
 use crate::step::LentAct;
 use ns_calls::{Call, DataFrame, JoinAns, Outcome};
-use ns_joinwire::{AnsFault, join_ans};
+use ns_exchange::AnsFault;
+use ns_joinwire::join_ans;
 use ns_link::read_datagram;
 use ns_types::Ticket;
 use ns_views::{PhyView, view};

@@ -6,8 +6,8 @@ use Rattle.std.specs.Net.Grammar.{IsSocketText}
 use Rattle.std.specs.declared.net.socket_addr.SocketAddr.{SocketAddr}
 use Rattle.clap.specs.Words.{Row, Text, fault_of, first_of, one_of, subcommand_of}
 use Rattle.ns_exchange.specs.HostText.{host_text}
-use Rattle.ns_events.specs.declared.output.Output.{Output}
-use Rattle.ns_events.specs.declared.output.Output.TheVariants as output
+use Rattle.ns_output.specs.declared.output.Output.{Output}
+use Rattle.ns_output.specs.declared.output.Output.TheVariants as output
 use Rattle.ns_serve_parts.specs.declared.options.ServeOptions.{ServeOptions}
 use Rattle.ns_words.specs.declared.options.Asked.{Asked}
 use Rattle.ns_words.specs.declared.options.Asked.TheVariants.{Replay, Serve, Compact}

@@ -11,8 +11,8 @@ ghost use Rattle.ns_words.specs.Refused.{HasNoAddr, HasNoCount, HasNoHost, IsNoO
 use clap::builder::ValueParser;
 use clap::error::ErrorKind;
 use clap::{Arg, ArgAction, ArgMatches, Command};
-use ns_events::Output;
 use ns_exchange::HostName;
+use ns_output::Output;
 use ns_serve_parts::ServeOptions;
 use std::alloc::{AllocError, Global};
 use std::error::Error;

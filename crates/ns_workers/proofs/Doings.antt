@@ -9,8 +9,8 @@ use Rattle.ns_calls.specs.declared.answer.Downlink.{Downlink}
 use Rattle.ns_calls.specs.declared.call.Call.{Call}
 use Rattle.ns_calls.specs.Shards.{shard_of_call}
 use Rattle.ns_roster.specs.Network.{Network}
-use Rattle.ns_events.specs.declared.output.Output.{Output}
-use Rattle.ns_events.specs.declared.times.Times.{Times}
+use Rattle.ns_output.specs.declared.output.Output.{Output}
+use Rattle.ns_output.specs.declared.times.Times.{Times}
 use Rattle.ns_outside.specs.declared.receipt.Receipt.{Receipt}
 use Rattle.ns_outside.specs.Answered.{HasHistory, RisesAt}
 use Rattle.ns_outside.specs.declared.job.Job.{Job}

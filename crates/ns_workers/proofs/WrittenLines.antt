@@ -5,9 +5,9 @@ use Rattle.std.proofs.KnownBytes.{Appends-nil}
 use Rattle.ns_types.specs.Streams.{AppendsFront}
 use Rattle.ns_calls.specs.declared.answer.Uplink.{Uplink}
 use Rattle.ns_lines.specs.Text.{up_text}
-use Rattle.ns_events.specs.declared.output.Output.{Output}
-use Rattle.ns_events.specs.declared.output.Output.TheVariants.{Lines, Json}
-use Rattle.ns_events.specs.declared.times.Times.{Times}
+use Rattle.ns_output.specs.declared.output.Output.{Output}
+use Rattle.ns_output.specs.declared.output.Output.TheVariants.{Lines, Json}
+use Rattle.ns_output.specs.declared.times.Times.{Times}
 use Rattle.ns_events.specs.Uplink.{uplink_json}
 use Rattle.ns_outside.specs.declared.receipt.Receipt.{Receipt}
 use Rattle.ns_workers.specs.Lines.{AppendsLine, AppendsLineFront, AreLines, uplink_line, up_line, up_lines}

@@ -6,7 +6,7 @@ use Rattle.ns_calls.specs.declared.call.Call.TheVariants.{JoinReply}
 use Rattle.ns_calls.specs.declared.call.Outcome.{Outcome}
 use Rattle.ns_calls.specs.declared.call.Outcome.TheVariants.{Failed}
 use Rattle.ns_roster.specs.Network.{Network}
-use Rattle.ns_events.specs.declared.output.Output.TheVariants.{Lines}
+use Rattle.ns_output.specs.declared.output.Output.TheVariants.{Lines}
 use Rattle.ns_outside.specs.declared.receipt.Receipt.{Receipt}
 use Rattle.ns_outside.specs.declared.job.AskJob.{AskJob}
 use Rattle.ns_workers.specs.declared.join.Joined.{Joined}

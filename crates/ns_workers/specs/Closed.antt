@@ -1,7 +1,7 @@
 -- What a closer does with one job, and with all that it takes.
 use Rattle.std.specs.Prelude.{ℕ, ◌≡◌, List, [], ◌∷◌, ◌++◌, Option, Some}
 use Rattle.ns_roster.specs.Network.{Network}
-use Rattle.ns_events.specs.declared.output.Output.{Output}
+use Rattle.ns_output.specs.declared.output.Output.{Output}
 use Rattle.ns_outside.specs.declared.receipt.Receipt.{Receipt}
 use Rattle.ns_outside.specs.declared.job.CloseJob.{CloseJob}
 use Rattle.ns_outside.specs.declared.fault.WorkerFault.{WorkerFault}

@@ -2,7 +2,7 @@
 use Rattle.std.specs.Prelude.{ℕ, ◌≢◌, All, List, Option, Some}
 use Rattle.ns_roster.specs.Network.{Network}
 use Rattle.ns_calls.specs.declared.answer.Downlink.{Downlink}
-use Rattle.ns_events.specs.declared.output.Output.{Output}
+use Rattle.ns_output.specs.declared.output.Output.{Output}
 use Rattle.ns_outside.specs.declared.receipt.Receipt.{Receipt}
 use Rattle.ns_outside.specs.declared.job.Job.{Job}
 use Rattle.ns_outside.specs.declared.fault.WorkerFault.{WorkerFault}

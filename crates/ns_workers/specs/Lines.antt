@@ -5,8 +5,8 @@ use Rattle.ns_types.specs.Streams.{AppendsFront}
 use Rattle.ns_calls.specs.declared.answer.Uplink.{Uplink}
 use Rattle.ns_calls.specs.declared.answer.Downlink.{Downlink}
 use Rattle.ns_lines.specs.Text.{up_text}
-use Rattle.ns_events.specs.declared.output.Output.{Output}
-use Rattle.ns_events.specs.declared.times.Times.{Times}
+use Rattle.ns_output.specs.declared.output.Output.{Output}
+use Rattle.ns_output.specs.declared.times.Times.{Times}
 use Rattle.ns_events.specs.Output.{line_of}
 use Rattle.ns_outside.specs.declared.receipt.Receipt.{Receipt}
 

@@ -5,7 +5,7 @@ use Rattle.ns_roster.specs.Network.{Network}
 use Rattle.ns_calls.specs.declared.call.Call.{Call}
 use Rattle.ns_calls.specs.declared.call.Reply.{Reply}
 use Rattle.ns_calls.specs.Steps.{Refusal, link, view, datagram_call}
-use Rattle.ns_events.specs.declared.output.Output.{Output}
+use Rattle.ns_output.specs.declared.output.Output.{Output}
 use Rattle.ns_outside.specs.declared.receipt.Receipt.{Receipt}
 use Rattle.ns_outside.specs.declared.fault.Refused.{Refused}
 use Rattle.ns_outside.specs.declared.fault.Refused.TheVariants.{Link, View}

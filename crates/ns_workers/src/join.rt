@@ -1,6 +1,6 @@
 //! Asks the join server about tickets, and answers them.
 ghost use Rattle.std.specs.Prelude.{◌≡◌, ◌≢◌, [], ◌∷◌, None, Some, IfOk, IfErr, OnErr};
-ghost use Rattle.ns_events.specs.declared.output.Output.TheVariants.{Lines};
+ghost use Rattle.ns_output.specs.declared.output.Output.TheVariants.{Lines};
 ghost use Rattle.ns_exchange.specs.HostText.{host_text};
 ghost use Rattle.ns_workers.specs.Asking.{IsAnswered, IsUnanswered, HasOutcome};
 ghost use Rattle.ns_workers.specs.Answering.{IsOutcome, IsReply, Answers};

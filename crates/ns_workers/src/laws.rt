@@ -1,6 +1,6 @@
 //! Laws of what goes out, as contracts of functions that do nothing.
 ghost use Rattle.std.specs.Prelude.{◌≡◌, ℕ, List};
-ghost use Rattle.ns_events.specs.declared.output.Output.TheVariants.{Lines};
+ghost use Rattle.ns_output.specs.declared.output.Output.TheVariants.{Lines};
 ghost use Rattle.ns_outside.specs.declared.receipt.Receipt.{Receipt};
 ghost use Rattle.ns_workers.specs.Lines.{AreLines, up_lines};
 

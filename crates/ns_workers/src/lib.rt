@@ -10,8 +10,8 @@
 //! join server answered; a gateway worker counted each datagram as refused, dropped or called, and put the job that follows each reply
 //! once, or did it. What goes down is that of the receipts.
 //! The crate stands on `ns_outside` for these and for what makes calls (`Calls`: a server of `ns_server` does), on `ns_link`, `ns_views`,
-//! `ns_calls`, `ns_lines` and `ns_events` for datagrams and lines, and on `ns_joinwire`, `ns_exchange` and `ns_joinclient` for the
-//! exchange with a join server.
+//! `ns_calls`, `ns_lines`, `ns_events` and `ns_output` for datagrams and lines, and on `ns_joinwire`, `ns_exchange` and `ns_joinclient` for
+//! the exchange with a join server.
 #![tactic(auto)]
 
 mod closer;

@@ -8,8 +8,9 @@ ghost use Rattle.ns_workers.specs.Lines.{AppendsLine, AppendsLineFront};
 
 use arrayvec::ArrayString;
 use ns_calls::Uplink;
-use ns_events::{Output, Times, uplink_json};
+use ns_events::uplink_json;
 use ns_lines::{Line, put_uplink};
+use ns_output::{Output, Times};
 use ns_outside::Timer;
 use ns_types::{Failed, Sink, write_all};
 

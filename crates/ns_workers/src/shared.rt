@@ -1,6 +1,6 @@
 //! What the workers of a server share.
 
-use ns_events::Output;
+use ns_output::Output;
 
 /// What the workers of a server share.
 #[derive(Drop)]

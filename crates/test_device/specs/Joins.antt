@@ -6,9 +6,9 @@ use Rattle.ns_types.specs.Ticket.{dev_eui, nonce}
 use Rattle.ns_calls.specs.declared.call.JoinAns.{JoinAns}
 use Rattle.ns_calls.specs.declared.accept.JoinAccept.TheVariants.{Plain}
 use Rattle.ns_roster.specs.Field.{hex_bytes}
-use Rattle.ns_joinwire.specs.declared.fault.AnsFault.{AnsFault}
-use Rattle.ns_joinwire.specs.declared.fault.AnsFault.TheVariants.{Refused}
-use Rattle.ns_joinwire.specs.Front.{code_of}
+use Rattle.ns_exchange.specs.declared.answer.AnsFault.{AnsFault}
+use Rattle.ns_exchange.specs.declared.answer.AnsFault.TheVariants.{Refused}
+use Rattle.ns_exchange.specs.Front.{code_of}
 use Rattle.ns_joinwire.specs.JoinAns.{joinans}
 use Rattle.test_device.specs.declared.request.JoinReq.{JoinReq}
 use Rattle.test_device.specs.declared.answer.Grant.{Grant}

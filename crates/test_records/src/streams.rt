@@ -6,7 +6,7 @@ ghost use Rattle.std.specs.Prelude.{◌<◌};
 
 use crate::calls::roster;
 use crate::folder::text_of;
-use ns_events::Output;
+use ns_output::Output;
 use ns_replay::{ReplayFault, replay};
 use ns_roster::Roster;
 use ns_types::{BLOCKS, Fuse, Stream, take_all};

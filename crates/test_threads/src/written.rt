@@ -2,7 +2,7 @@
 
 ghost use Rattle.std.specs.Prelude.{◌<◌};
 
-use ns_events::Output;
+use ns_output::Output;
 use ns_replay::replay;
 use ns_roster::Roster;
 use ns_types::Fuse;

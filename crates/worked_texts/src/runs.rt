@@ -15,7 +15,7 @@
 ghost use Rattle.std.specs.Prelude.{◌<◌};
 
 use crate::put::{halves, pieces, put, put_line, put_made, show};
-use ns_events::Output;
+use ns_output::Output;
 use ns_replay::{ReplayFault, replay};
 use ns_roster::Roster;
 use ns_types::Fuse;

@@ -2,7 +2,7 @@
 use Rattle.std.specs.Prelude.{◌≡◌, ℕ, ◌+◌, ◌<◌, false, List, [], ◌++◌, length, flat_map, Option, ◌==◌, ◌⊎◌}
 use Rattle.std.specs.List.{All}
 use Rattle.ns_roster.specs.Network.{Network}
-use Rattle.ns_events.specs.declared.output.Output.{Output}
+use Rattle.ns_output.specs.declared.output.Output.{Output}
 use Rattle.ns_shard.specs.declared.step.Act.{Act}
 use Rattle.ns_shard.specs.KeptSteps.{AreKeptAfter}
 use Rattle.ns_replay.specs.declared.reading.Answers.{Answers}

@@ -4,7 +4,7 @@ use crate::served::standing::Standing;
 use crate::served::states::{TICKET, downlink};
 use crossbeam_channel::{Sender, unbounded};
 use ns_calls::Bytes;
-use ns_events::{Times, Utc};
+use ns_output::{Times, Utc};
 use ns_outside::{AskJob, CloseJob, Downlinks, JobSource, Next, Timer};
 use ns_serve_queues::{FromQueue, SinceStart, hand_on};
 use ns_serve_sockets::Later;

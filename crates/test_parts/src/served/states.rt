@@ -3,8 +3,8 @@
 use crate::loopback::local;
 use crate::served::standing::Standing;
 use ns_calls::{Bytes, Downlink};
-use ns_events::Output;
 use ns_exchange::HostName;
+use ns_output::Output;
 use ns_roster::Roster;
 use ns_serve_parts::{Made, PLACES, ServeOptions};
 use ns_serve_state::{State, Status};

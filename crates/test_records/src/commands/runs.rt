@@ -6,7 +6,7 @@ use crate::place;
 use log::info;
 use log::sink::Discard;
 use ns_commands::{Logging, Timed, VARIABLE, run_replay};
-use ns_events::Output;
+use ns_output::Output;
 use ns_upkeep::compact;
 use std::io::ErrorKind;
 use std::net::{Net, SocketAddr};

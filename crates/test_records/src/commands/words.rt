@@ -2,7 +2,7 @@
 
 use log::sink::Discard;
 use ns_commands::refused;
-use ns_events::Output;
+use ns_output::Output;
 use ns_serve_parts::ServeOptions;
 use ns_words::{Asked, BadWords, OptionName, read_words};
 use std::alloc::{AllocError, Global};

@@ -3,7 +3,8 @@
 use crate::joins::runs::Runs;
 use crate::put::{put, put_hex, put_made, show};
 use ns_calls::JoinAns;
-use ns_joinwire::{AnsFault, join_ans, join_req};
+use ns_exchange::AnsFault;
+use ns_joinwire::{join_ans, join_req};
 use ns_roster::Roster;
 use ns_types::Ticket;
 use std::alloc::Global;

@@ -12,7 +12,7 @@ whole_more : (entries rest before after : List Entry) (e : Entry) → rest ≡ b
 whole_more entries rest before after e last whole = sym (append_assoc before (e ∷ []) after) ∙ (sym (ap (λ r. r ++ after) last) ∙ whole)
 
 pub walk-init : goal.walk-init
-walk-init g c = ([], append-nil c.args.entries.now, unmarked (g.D.DeviceTable.has_ticket c.args.devices.now) c.new-marks.result c.new-marks.ensures, λ h are. ap reverse c.new-numbers.ensures.items)
+walk-init g c = ([], append-nil c.args.entries.now, unmarked (g.D.DeviceTable.has_ticket c.args.devices.now) c.in_ok-marks.marks c.in_ok-marks.ensures, λ h are. ap reverse c.new-numbers.ensures.items)
 
 pub walk-preserved-in_ok-push : goal.walk-preserved-in_ok-push
 walk-preserved-in_ok-push g c =

@@ -1,4 +1,4 @@
-use Rattle.ns_events.specs.declared.output.Output.TheVariants.{Lines}
+use Rattle.ns_output.specs.declared.output.Output.TheVariants.{Lines}
 use Rattle.ns_workers.proofs.Doings.{does_reply}
 use Rattle.ns_workers.proofs.join.answer_job.Goals as goal
 

@@ -1,17 +1,22 @@
 //! Joins and acknowledgements, told as lines of their own.
 ghost use Rattle.std.specs.Prelude.{IfSome};
-ghost use Rattle.ns_serve_queues.specs.Notices.{IsNoticeOf};
+ghost use Rattle.ns_serve_notices.specs.Notices.{IsNoticeOf};
 
-use crate::clock::utc_now;
 use log::{Log, warn};
 use ns_calls::{Downlink, Reply};
-use ns_events::{Text, Utc, ack_json, join_json};
+use ns_events::{Text, ack_json, join_json};
+use ns_output::Utc;
 use ns_outside::Receipt;
-use ns_serve_parts::EventLines;
+use ns_serve_parts::{EventLines, utc_of};
 use ns_serve_state::State;
 use ns_types::DevAddr;
 use std::sync::{Mutex, Wait};
 use std::time::Clock;
+
+// The moment now, by the wall clock, if there is one.
+fn utc_now<R: Clock>(rt: &R) -> Option<Utc> {
+    utc_of(rt.since_1970().ok()?)
+}
 
 // The DevAddr in the frame of a downlink (LoRaWAN L2 1.0.4, 4.3.1).
 fn address_in(downlink: &Downlink) -> DevAddr {

@@ -7,8 +7,8 @@ use Rattle.std.proofs.lemmas.Bool.{cases_lt}
 use Rattle.std.proofs.lemmas.Bool.Decides.{nat_tests}
 use Rattle.std.specs.Prelude.{replicate}
 use Rattle.std.proofs.lemmas.List.{drop-replicate}
-use Rattle.ns_joinwire.specs.declared.fault.ResultCode.{ResultCode}
-use Rattle.ns_joinwire.specs.Front.{first_32, code_of}
+use Rattle.ns_exchange.specs.declared.answer.ResultCode.{ResultCode}
+use Rattle.ns_exchange.specs.Front.{first_32, code_of}
 
 abbrev pub IsLastBoundary : List ℕ → ℕ → ℕ → Type 0
 IsLastBoundary bs i kept = (kept ≤ i) × IsCharBoundary bs kept × ((j : ℕ) → kept < j → j ≤ i → ¬ (IsCharBoundary bs j))

@@ -1,7 +1,7 @@
 use Rattle.std.proofs.Common.{arith, sym, ◌∙◌, ◌≡◌, take}
 use Rattle.std.proofs.lemmas.Grind.{common_steps}
-use Rattle.ns_joinwire.proofs.CutLemmas.{first_32_cut}
-use Rattle.ns_joinwire.proofs.fault.first_32.Goals as goal
+use Rattle.ns_exchange.proofs.CutLemmas.{first_32_cut}
+use Rattle.ns_exchange.proofs.answer.first_32.Goals as goal
 
 pub returns-else-text-le32-clause-front : goal.returns-else-text-le32-clause-front
 returns-else-text-le32-clause-front c =

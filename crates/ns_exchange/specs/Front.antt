@@ -1,7 +1,7 @@
 -- The front of a ResultCode.
 use Rattle.std.specs.Prelude.{ℕ, ◌-◌, List, ◌++◌, length, take, min, replicate, nat_le, if◌then◌else◌}
 use Rattle.std.specs.Fmt.Cut.{floor_char_boundary}
-use Rattle.ns_joinwire.specs.declared.fault.ResultCode.{ResultCode}
+use Rattle.ns_exchange.specs.declared.answer.ResultCode.{ResultCode}
 
 -- the first 32 bytes of a text, cut at a character
 abbrev pub first_32 : List ℕ → List ℕ

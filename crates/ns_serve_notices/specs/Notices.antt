@@ -3,7 +3,7 @@ use Rattle.std.specs.Prelude.{◌≡◌, ℕ, List, Option, Some}
 use Rattle.ns_calls.specs.declared.answer.Downlink.{Downlink}
 use Rattle.ns_calls.specs.declared.call.Reply.{Reply}
 use Rattle.ns_calls.specs.declared.call.Reply.TheVariants.{Accepted, Closed}
-use Rattle.ns_events.specs.declared.times.Utc.{Utc}
+use Rattle.ns_output.specs.declared.times.Utc.{Utc}
 use Rattle.ns_events.specs.Notice.{join_json, ack_json}
 use Rattle.ns_outside.specs.declared.receipt.Receipt.{Receipt}
 

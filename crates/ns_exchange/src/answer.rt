@@ -1,8 +1,8 @@
 //! Why a join server's answer was not taken.
 
 ghost use Rattle.std.specs.Prelude.{◌≡◌, ◌≤◌, length};
-ghost use Rattle.ns_joinwire.specs.Front.{first_32, code_of, code_bytes};
-ghost use Rattle.ns_joinwire.specs.declared.fault.AnsFault.TheVariants.{NoMemory};
+ghost use Rattle.ns_exchange.specs.Front.{first_32, code_of, code_bytes};
+ghost use Rattle.ns_exchange.specs.declared.answer.AnsFault.TheVariants.{NoMemory};
 
 use std::alloc::AllocError;
 use std::{fmt, str};

@@ -1,0 +1,2 @@
+-- For private clauses alone: no promise rests on these.
+pub mod Marks
