@@ -7,7 +7,7 @@ ghost use Rattle.ns_record.specs.StepText.{step_text};
 use ns_lines::put_uplink;
 use ns_outside::{Gate, Receipt};
 use ns_record::{matters, put_step};
-use ns_record_files::{LineText, RecordLines};
+use ns_record_files::{LineText, RecordFiles, RecordLines, Recorder};
 use ns_serve_state::{State, write_record};
 use std::sync::Wait;
 
@@ -35,12 +35,18 @@ impl<'a> RecordLines for Answered<'a> {
     }
 }
 
+// Puts down a call on which later answers rest. It stands by itself, so that a server without a record runs through none of it.
+#[inline(never)]
+fn put_down<R: Wait>(rt: &R, record: &Recorder<RecordFiles>, receipt: &Receipt) {
+    if matters(&receipt.entry.reply) {
+        record.put(rt, &Answered { receipt });
+    }
+}
+
 /// Puts down a call on which later answers rest, and the `up` line of what goes up with it.
 pub fn record_call<R: Wait>(rt: &R, state: &State, receipt: &Receipt) {
     if let Some(record) = &state.record {
-        if matters(&receipt.entry.reply) {
-            record.put(rt, &Answered { receipt });
-        }
+        put_down(rt, record, receipt);
     }
 }
 

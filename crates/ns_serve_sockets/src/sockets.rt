@@ -56,7 +56,7 @@ fn since<R: Clock>(rt: &R, start: io::Result<Duration>) -> Duration {
 }
 
 // What follows a receive that gave nothing.
-#[derive(Clone, Copy, Debug, PartialEq, Eq)]
+#[derive(Clone, Copy)]
 pub(crate) enum Without {
     /// None came for a while.
     Nothing,
@@ -111,23 +111,25 @@ impl<'a> FromSocket<'a> {
         Ok(heard)
     }
 
-    // Receives what comes next, with where it came from if it is one of this server's own datagrams.
+    // Receives what comes next, and puts where it came from if it is one of this server's own datagrams.
     fn receive<R: Wait + Clock>(
         &mut self,
         rt: &R,
         buf: &mut [u8; 512],
-    ) -> io::Result<(Event, Option<SocketAddr>)>
-        ensures { IfOk result (λ heard. FitsEvent heard.0) }
+        peer: &mut Option<SocketAddr>,
+    ) -> io::Result<Event>
+        ensures { IfOk result FitsEvent }
     {
         let state = self.state;
         if let (Some(pending), Some((forwarders, _))) = (&mut self.pending, &state.forwarders) {
-            return Ok((forwarders.next(rt, state.alloc, pending, buf)?, None));
+            return forwarders.next(rt, state.alloc, pending, buf);
         }
         let Some((socket, _)) = &state.own else {
             return Err(Error::from(ErrorKind::NotConnected));
         };
-        let (n, peer) = self.receive_own(rt, socket, buf)?;
-        Ok((Event::Datagram(n), Some(peer)))
+        let (n, from) = self.receive_own(rt, socket, buf)?;
+        *peer = Some(from);
+        Ok(Event::Datagram(n))
     }
 
     // Whom this hears.
@@ -174,25 +176,25 @@ fn hear<R: Wait>(
     state: &State,
     noted: &mut NotedPeers,
     gateway: u64,
-    peer: Option<SocketAddr>,
+    peer: &Option<SocketAddr>,
 )
-    ensures { NotesAt noted.old noted.new gateway peer }
+    ensures { NotesAt noted.old noted.new gateway peer.now }
 {
     let Some(peer) = peer else {
         return;
     };
     let mut addresses = state.addresses.lock(rt);
-    let _ = addresses.hear(noted, gateway, peer);
+    let _ = addresses.hear(noted, gateway, *peer);
     let changes = addresses.changes();
     state.address_changes.store(changes, Ordering::SeqCst);
 }
 
 // Whether it is noted that a gateway was heard from here, if it speaks this server's own datagrams, and no address has changed since.
-fn is_noted(state: &State, noted: &NotedPeers, gateway: u64, peer: Option<SocketAddr>) -> bool
-    ensures { IsTrue result → IfSome peer (λ peer. (n : ℕ) × IsNoted noted.now gateway peer n) }
+fn is_noted(state: &State, noted: &NotedPeers, gateway: u64, peer: &Option<SocketAddr>) -> bool
+    ensures { IsTrue result → IfSome peer.now (λ peer. (n : ℕ) × IsNoted noted.now gateway peer n) }
 {
     match peer {
-        Some(peer) => noted.has(gateway, peer, state.address_changes.load(Ordering::SeqCst)),
+        Some(peer) => noted.has(gateway, *peer, state.address_changes.load(Ordering::SeqCst)),
         None => true,
     }
 }
@@ -204,9 +206,9 @@ fn is_plain<R: Wait + Clock>(
     state: &State,
     noted: &NotedPeers,
     datagram: &[u8],
-    peer: Option<SocketAddr>,
+    peer: &Option<SocketAddr>,
 ) -> bool
-    ensures { IsTrue result → IfSome peer (λ peer. (seen : Seen) → seen_of datagram.now ≡ Some seen → (n : ℕ) × IsNoted noted.now seen.gateway peer n) }
+    ensures { IsTrue result → IfSome peer.now (λ peer. (seen : Seen) → seen_of datagram.now ≡ Some seen → (n : ℕ) × IsNoted noted.now seen.gateway peer n) }
 {
     let Some(front) = front_of(datagram) else {
         return false;
@@ -226,9 +228,9 @@ fn take_in<R: Wait + Clock>(
     state: &State,
     noted: &mut NotedPeers,
     datagram: &[u8],
-    peer: Option<SocketAddr>,
+    peer: &Option<SocketAddr>,
 ) -> bool
-    ensures notes { NotesNamed noted.old noted.new datagram.now peer }
+    ensures notes { NotesNamed noted.old noted.new datagram.now peer.now }
     ensures late { IsTrue result → NamesFrame datagram.now }
 {
     if is_plain(rt, state, noted, datagram, peer) {
@@ -251,14 +253,14 @@ fn counted<R: Wait + Clock + Log>(
     noted: &mut NotedPeers,
     buf: &[u8; 512],
     n: usize,
-    peer: Option<SocketAddr>,
+    peer: &Option<SocketAddr>,
 ) -> Received
     requires { n ≤ 512 }
     ensures fits { FitsBuffer result }
     ensures whole { (m : ℕ) → result ≡ Received.Got m → m ≡ n }
     ensures late { result ≡ Received.Idle → NamesFrame (take n buf.now) }
     ensures heard { result ≢ Received.Failed }
-    ensures notes { NotesNamed noted.old noted.new (take n buf.now) peer }
+    ensures notes { NotesNamed noted.old noted.new (take n buf.now) peer.now }
 {
     let before = state.read.fetch_add(1, Ordering::SeqCst);
     if before >= state.most {
@@ -285,13 +287,14 @@ impl<'a, R: Wait + Clock + Log> Datagrams<R> for FromSocket<'a> {
         if self.pace.rests() {
             state.rest(rt);
         }
-        let (event, peer) = match self.receive(rt, buf) {
-            Ok(heard) => heard,
+        let mut peer = None;
+        let event = match self.receive(rt, buf, &mut peer) {
+            Ok(event) => event,
             Err(error) => return self.without(rt, &error),
         };
         self.failures = 0;
         if let Event::Datagram(n) = event {
-            return counted(rt, state, &mut self.noted, buf, n, peer);
+            return counted(rt, state, &mut self.noted, buf, n, &peer);
         }
         log_message(rt, state, event);
         look(rt, state);

@@ -4,7 +4,7 @@ ghost use Rattle.std.specs.Prelude.{◌≡◌, ◌==◌, ◌≤◌, ◌<◌, ◌
 ghost use Rattle.ns_types.specs.Identity.{shard_of};
 ghost use Rattle.ns_calls.specs.Shards.{shard_of_call};
 ghost use Rattle.ns_kept.specs.Bound.{most_kept};
-ghost use Rattle.ns_shard.specs.State.{after_call, after_trim, dropped, finds_open};
+ghost use Rattle.ns_shard.specs.State.{IsState, after_call, after_trim, dropped, finds_open};
 ghost use Rattle.ns_shard.specs.declared.trim.TrimFault.TheVariants.{Full};
 ghost use Rattle.ns_outside.specs.Answered.{HasHistory, RisesAt};
 ghost use Rattle.ns_server.specs.Receipts.{receipt_for, AnswersFrom};
@@ -48,6 +48,27 @@ impl<B: Naming, const K: usize> Model for Kept<B, K> {
     ghost invariant = { λ k. IsKept B.roster (B.begun K) K k.shard k.book };
 }
 
+// Makes a call of a shard, and puts its receipt in the place of another. Where a growth was refused nothing has changed. It is one function
+// for all shards, so that the calls of all run through the same instructions, which stay in the cache.
+#[inline(never)]
+fn step_shard(shard: &mut Shard, call: &Call, receipt: &mut Receipt) -> Result<(), AllocError>
+    requires { shard_of_call call.now ≡ shard.old.index }
+    ensures entry { OnOk result (shard.new ≡ after_call shard.old call.now) }
+    ensures receipt { OnOk result (receipt.new ≡ receipt_for shard.old call.now) }
+    ensures err { OnErr result ((shard.new ≡ shard.old) × (receipt.new ≡ receipt.old)) }
+    ensures open { finds_open shard.old call.now ≡ true → IsOk result }
+    ensures state { IsState shard.new }
+    ensures made { OnOk result (shard.new.made < 2 ^ 64) }
+{
+    let (uplink, downlink) = (&mut receipt.uplink, &mut receipt.downlink);
+    let reply = match shard.apply_into(call, uplink, downlink) {
+        Ok(reply) => reply,
+        Err(refused) => return Err(refused),
+    };
+    receipt.put(shard.index(), shard.made() - 1, call, reply);
+    Ok(())
+}
+
 impl<B: Naming, const K: usize> Kept<B, K> {
     /// How many entries were made, which is the next one's number.
     pub fn made(&self) -> u64
@@ -76,15 +97,12 @@ impl<B: Naming, const K: usize> Kept<B, K> {
         ensures answered { OnOk result (HasHistory B.roster K receipt.new) }
         ensures begun { OnOk result (AnswersFrom B.roster (B.begun K) K receipt.new) }
     {
-        let (uplink, downlink) = (&mut receipt.uplink, &mut receipt.downlink);
-        let reply = match self.shard.apply_into(call, uplink, downlink) {
-            Ok(reply) => reply,
+        match step_shard(&mut self.shard, call, receipt) {
+            Ok(()) => {}
             Err(refused) => return Err(refused),
-        };
-        let made = self.shard.made();
+        }
         self.book.add_one(&mut pass.shares);
         pass.counts[K] += 1;
-        receipt.put(self.shard.index(), made - 1, call, reply);
         Ok(())
     }
 

@@ -84,7 +84,7 @@ impl<B: Naming> Drop for Server<B> {
     }
 }
 
-// Takes the lock and makes one step, with the gate's visits.
+// Takes the lock and makes one step, with the gate's visits under it.
 fn run<B: Naming, const K: usize, R: Wait, G: Gate<R>>(
     rt: &R,
     lock: &Mutex<Kept<B, K>>,
@@ -101,10 +101,8 @@ fn run<B: Naming, const K: usize, R: Wait, G: Gate<R>>(
     ensures counted { OnOk result (RisesAt (shard_of_call call.now) pass.old pass.new) }
     ensures err { OnErr result ((pass.new ≡ pass.old) × (receipt.new ≡ receipt.old)) }
 {
-    let shard = shard_of_call(call);
-    gate.before(rt, shard);
     let mut kept = lock.lock(rt);
-    gate.visit(rt, shard, kept.made());
+    gate.visit(rt, shard_of_call(call), kept.made());
     kept.step(pass, call, receipt)?;
     gate.made(rt, receipt);
     Ok(())
@@ -348,7 +346,9 @@ impl<B: Naming> Server<B> {
         ensures counted { OnOk result (RisesAt (shard_of_call call.now) pass.old pass.new) }
         ensures err { OnErr result ((pass.new ≡ pass.old) × (receipt.new ≡ receipt.old)) }
     {
-        match shard_of_call(call) {
+        let shard = shard_of_call(call);
+        gate.before(rt, shard);
+        match shard {
             0 => run(rt, &self.k0, pass, call, gate, receipt),
             1 => run(rt, &self.k1, pass, call, gate, receipt),
             2 => run(rt, &self.k2, pass, call, gate, receipt),

@@ -39,12 +39,9 @@ returns-in-Err-clause-begun g c = tt
 pub add_one-requires : goal.add_one-requires
 add_one-requires g c = omega (arith, c.pass.invariant.0)
 
-pub overflow_sub-made : goal.overflow_sub-made
-overflow_sub-made g c = omega (arith, c.made-made.ensures.made, ap (λ (s : State). s.made) c.in-Ok.ensures.entry)
-
 pub invariant_of-self-2 : goal.invariant_of-self-2
 invariant_of-self-2 g c =
-    kept_call _ _ _ c.self.inside.shard c.apply_into.new.self c.args.call.now c.self.inside.book c.add_one.new.self c.requires c.in-Ok.ensures.entry c.in-Ok.ensures.state
+    kept_call _ _ _ c.self.inside.shard c.step_shard.new.shard c.args.call.now c.self.inside.book c.add_one.new.self c.requires c.in-Ok.ensures.entry c.in-Ok.ensures.state
     c.add_one.ensures.shard c.add_one.ensures.total c.self.invariant
 
 pub returns-clause-entry : goal.returns-clause-entry
@@ -60,7 +57,7 @@ pub returns-clause-state : goal.returns-clause-state
 returns-clause-state g c = (invariant_of-self-2 g c).state
 
 pub returns-clause-answered : goal.returns-clause-answered
-returns-clause-answered g c = has_history _ _ c.self.inside.shard c.args.call.now c.put.new.self (search rules) c.self.invariant.state
+returns-clause-answered g c = has_history _ _ c.self.inside.shard c.args.call.now c.step_shard.new.receipt (search rules) c.self.invariant.state
 
 pub returns-clause-begun : goal.returns-clause-begun
-returns-clause-begun g c = answers_from _ _ _ c.self.inside.shard c.args.call.now c.put.new.self (search rules) c.self.invariant.state c.self.invariant.began
+returns-clause-begun g c = answers_from _ _ _ c.self.inside.shard c.args.call.now c.step_shard.new.receipt (search rules) c.self.invariant.state c.self.invariant.began
