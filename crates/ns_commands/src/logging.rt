@@ -72,7 +72,7 @@ impl<'a, 'r, D: Display, K, S> Display for TimedLine<'a, 'r, D, K, S> {
 }
 
 /// Writes each record to the standard error of `R`, behind the time. A line of up to 1,024 bytes takes one write.
-#[derive(Clone, Copy, Debug, Drop)]
+#[derive(Clone, Copy, Drop)]
 pub struct Timed<R>(pub R);
 
 impl<R: Eprint + Clock> Log for Timed<R> {

@@ -13,7 +13,7 @@ use ns_secure::{accept_cipher_in_place, join_mic_of};
 use ns_types::{DevAddr, DevEui, DevNonce, JoinEui, NetId};
 
 /// A Join-Request to be built.
-#[derive(Clone, Copy, Debug, PartialEq, Eq)]
+#[derive(Clone, Copy)]
 pub struct JoinRequestCreator {
     pub join_eui: JoinEui,
     pub dev_eui: DevEui,
@@ -80,7 +80,7 @@ impl JoinRequestCreator {
 }
 
 /// A Join-Accept to be built.
-#[derive(Clone, Copy, Debug, PartialEq, Eq)]
+#[derive(Clone, Copy)]
 pub struct JoinAcceptCreator {
     pub join_nonce: [u8; 3],
     /// Of 24 bits.

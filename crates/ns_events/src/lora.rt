@@ -3,7 +3,7 @@ ghost use Rattle.std.specs.Prelude.{◌≡◌};
 ghost use Rattle.ns_events.specs.Lora.{lora_of};
 
 /// A data rate of LoRa.
-#[derive(Clone, Copy, Debug, PartialEq, Eq)]
+#[derive(Clone, Copy)]
 pub(crate) struct Lora {
     /// The spreading factor.
     pub factor: u8,

@@ -4,7 +4,7 @@ ghost use Rattle.std.specs.Prelude.{◌≡◌, ◌≤◌, true, length, is_some,
 ghost use Rattle.ns_exchange.specs.Host.{is_host_name};
 
 /// The name of a host: 1 to 255 visible bytes of ASCII.
-#[derive(Clone, Copy, Debug)]
+#[derive(Clone, Copy)]
 pub struct HostName<'a> {
     name: &'a str,
     ghost valid: { is_host_name name.now ≡ true },

@@ -11,7 +11,7 @@ const HALF: u128 = 0x8000_0000;
 const MOMENTS: u128 = 0x1_0000_0000_0000_0000;
 
 /// The moment that a counter was read as, and when it was, both in microseconds.
-#[derive(Clone, Copy, Debug, PartialEq, Eq)]
+#[derive(Clone, Copy)]
 pub struct Reading {
     /// The moment, by the gateway's clock.
     pub moment: u64,
@@ -20,7 +20,7 @@ pub struct Reading {
 }
 
 /// What is known of a gateway's counter: its latest reading, or nothing.
-#[derive(Clone, Copy, Debug, Default, PartialEq, Eq)]
+#[derive(Clone, Copy, Default)]
 pub struct Clock {
     /// The latest reading.
     pub latest: Option<Reading>,

@@ -15,7 +15,7 @@ const HEAD: usize = 12;
 const MOST_BYTES: usize = 16_384;
 
 /// What a forwarder sends.
-#[derive(Clone, Copy, Debug, PartialEq, Eq)]
+#[derive(Clone, Copy, PartialEq, Eq)]
 pub enum Kind {
     /// PUSH_DATA: frames that were heard, and the gateway's report.
     PushData,
@@ -40,7 +40,7 @@ impl Kind {
 }
 
 /// The 12 bytes before a message's body.
-#[derive(Clone, Copy, Debug, PartialEq, Eq)]
+#[derive(Clone, Copy)]
 pub struct Head {
     /// The version of the protocol, 1 or 2.
     pub version: u8,

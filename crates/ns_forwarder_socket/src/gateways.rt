@@ -17,14 +17,14 @@ use std::num::NonZeroUsize;
 const MOST: usize = 65_536;
 
 /// Where downlinks for a gateway go: to where its last PULL_DATA came from, by the version of that.
-#[derive(Clone, Copy, Debug, PartialEq, Eq)]
+#[derive(Clone, Copy, PartialEq, Eq)]
 pub struct Route {
     pub addr: SocketAddr,
     pub version: u8,
 }
 
 /// What is known of a gateway.
-#[derive(Clone, Copy, Debug, PartialEq, Eq)]
+#[derive(Clone, Copy)]
 pub struct Gateway {
     /// Its counter of microseconds.
     pub clock: Clock,

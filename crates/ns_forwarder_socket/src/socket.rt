@@ -33,7 +33,7 @@ pub struct Forwarders {
 }
 
 /// What came of waiting for a datagram.
-#[derive(Clone, Copy, Debug, PartialEq, Eq)]
+#[derive(Clone, Copy, PartialEq, Eq)]
 pub enum Event {
     /// A datagram of this length, at most 512, is at the front of the buffer.
     Datagram(usize),

@@ -14,7 +14,7 @@ const SHORTEST: usize = 40;
 const FRAME: usize = 28;
 
 /// What tells a frame from others: its address, the low half of its counter, and its MIC.
-#[derive(Clone, Copy, Debug, PartialEq, Eq)]
+#[derive(Clone, Copy, PartialEq, Eq)]
 pub struct FrameName {
     /// Its DevAddr.
     pub addr: u32,
@@ -47,7 +47,7 @@ fn name_in(frame: &[u8]) -> FrameName
 }
 
 /// Who heard a datagram, and which frame.
-#[derive(Clone, Copy, Debug, PartialEq, Eq)]
+#[derive(Clone, Copy)]
 pub struct Seen {
     /// The gateway.
     pub gateway: u64,

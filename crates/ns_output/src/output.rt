@@ -1,7 +1,7 @@
 //! How uplinks are written.
 
 /// How an uplink is written.
-#[derive(Clone, Copy, Debug, PartialEq, Eq)]
+#[derive(Clone, Copy, PartialEq, Eq)]
 pub enum Output {
     /// Its `up` line.
     Lines,

@@ -1,7 +1,7 @@
 //! Times of the wall clock.
 
 /// A moment of the wall clock in UTC, to the millisecond.
-#[derive(Clone, Copy, Debug, PartialEq, Eq)]
+#[derive(Clone, Copy, PartialEq, Eq)]
 pub struct Utc {
     pub year: u16,
     pub month: u8,
@@ -13,7 +13,7 @@ pub struct Utc {
 }
 
 /// When an uplink's first copy came, and when its line was written.
-#[derive(Clone, Copy, Debug, PartialEq, Eq)]
+#[derive(Clone, Copy, PartialEq, Eq)]
 pub struct Times {
     pub heard: Utc,
     pub written: Utc,

@@ -14,7 +14,7 @@ use std::{fs, io};
 use thiserror::Error;
 
 /// Why the files of a record were not opened.
-#[derive(Clone, Copy, Debug, PartialEq, Eq, Error)]
+#[derive(Clone, Copy, Debug, Error)]
 pub enum FilesFault {
     /// A growth was refused.
     #[error("no memory")]

@@ -13,7 +13,7 @@ use std::io::BufRead;
 
 /// What the first line of a compacted record tells: how many lines behind it the compaction left, and how many bytes of the `up` lines were
 /// written before it.
-#[derive(Clone, Copy, Debug, PartialEq, Eq)]
+#[derive(Clone, Copy)]
 pub struct Base {
     pub lines: u64,
     pub ups: u64,

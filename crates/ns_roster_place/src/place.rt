@@ -6,7 +6,7 @@ use std::fmt::{Display, Formatter};
 use thiserror::Error;
 
 /// A field of a roster beside those of its devices.
-#[derive(Clone, Copy, Debug, PartialEq, Eq, Error)]
+#[derive(Clone, Copy, Debug, Error)]
 pub enum OuterField {
     #[error("version")]
     Version,
@@ -21,7 +21,7 @@ pub enum OuterField {
 }
 
 /// A field of a device.
-#[derive(Clone, Copy, Debug, PartialEq, Eq, Error)]
+#[derive(Clone, Copy, Debug, Error)]
 pub enum DeviceField {
     #[error("dev_eui")]
     DevEui,
@@ -34,7 +34,7 @@ pub enum DeviceField {
 }
 
 /// What the first fault of a roster's text is about.
-#[derive(Clone, Copy, Debug, PartialEq, Eq)]
+#[derive(Clone, Copy, Debug)]
 pub enum Place {
     /// The text as a whole.
     Text,

@@ -11,7 +11,7 @@ use std::net::SocketAddr;
 use thiserror::Error;
 
 /// What to serve.
-#[derive(Clone, Copy, Debug)]
+#[derive(Clone, Copy)]
 pub struct ServeOptions<'a> {
     /// The address of the join server.
     pub join: SocketAddr,

@@ -74,7 +74,7 @@ pub fn trims_of(trim: Option<u32>, devices: usize) -> Option<Trims>
 }
 
 /// What became of a shard that was looked at.
-#[derive(Clone, Copy, Debug, PartialEq, Eq)]
+#[derive(Clone, Copy)]
 pub enum Trimmed {
     /// It was not due.
     NotDue,

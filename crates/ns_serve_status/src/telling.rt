@@ -138,7 +138,7 @@ impl<'a, R: Wait + Clock> Sink for Asker<'a, R> {
 }
 
 // Why an answer was not given whole.
-#[derive(Clone, Copy, Debug, PartialEq, Eq)]
+#[derive(Clone, Copy, PartialEq, Eq)]
 enum Untold {
     NoMemory,
     Failed,

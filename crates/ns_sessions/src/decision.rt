@@ -3,7 +3,7 @@
 use ns_types::{DevNonce, Heard};
 
 /// What comes of a Join-Request.
-#[derive(Clone, Copy, Debug, PartialEq, Eq)]
+#[derive(Clone, Copy)]
 pub enum JoinDecision {
     /// The join server is to be asked.
     Ask,
@@ -18,7 +18,7 @@ pub enum JoinDecision {
 }
 
 /// What comes of a join server's answer.
-#[derive(Clone, Copy, Debug, PartialEq, Eq)]
+#[derive(Clone, Copy)]
 pub enum AnswerDecision {
     /// The join is not open.
     NoTicket,

@@ -6,7 +6,7 @@ ghost use Rattle.ns_sessions.specs.Recovery.{recovery_counter};
 use ns_secure::{above, below};
 
 /// How the counter of an uplink is recovered from its low half, by the greatest counter that was opened in a session.
-#[derive(Clone, Copy, Debug, PartialEq, Eq)]
+#[derive(Clone, Copy)]
 pub enum Recovery {
     /// The least counter above the greatest.
     Above,

@@ -10,7 +10,7 @@ use ns_types::{DevAddr, Mic, array_at};
 use std::marker::Model;
 
 /// A data uplink. A contract sees its bytes.
-#[derive(Debug, Drop)]
+#[derive(Drop)]
 pub struct DataView<'a> {
     frame: &'a [u8],
 }

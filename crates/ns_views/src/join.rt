@@ -10,7 +10,7 @@ use ns_types::{DevEui, DevNonce, JoinEui, Mic, Ticket, array_at};
 use std::marker::Model;
 
 /// A Join-Request. A contract sees its bytes.
-#[derive(Debug, Drop)]
+#[derive(Drop)]
 pub struct JoinView<'a> {
     bytes: &'a [u8],
 }

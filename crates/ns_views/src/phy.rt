@@ -10,7 +10,7 @@ use crate::data::DataView;
 use crate::join::JoinView;
 
 /// An uplink frame: a data frame or a Join-Request.
-#[derive(Debug, Drop)]
+#[derive(Drop)]
 pub enum PhyView<'a> {
     /// An Unconfirmed Data Up or a Confirmed Data Up.
     Frame(DataView<'a>),

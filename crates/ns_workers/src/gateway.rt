@@ -18,7 +18,7 @@ use std::sync::Wait;
 
 /// What a gateway worker has done: how many datagrams it read, how many of them were refused, how many were dropped for want of
 /// memory, and why it ended early.
-#[derive(Clone, Copy, Debug, PartialEq, Eq)]
+#[derive(Clone, Copy)]
 pub struct Served {
     pub read: u64,
     pub refused: u64,

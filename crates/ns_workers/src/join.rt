@@ -22,7 +22,7 @@ use ns_types::Ticket;
 use std::alloc::{AllocError, Global};
 
 /// What a join worker has done: how many tickets it answered, and why it ended early.
-#[derive(Clone, Copy, Debug, PartialEq, Eq)]
+#[derive(Clone, Copy)]
 pub struct Joined {
     pub answered: u64,
     pub fault: Option<WorkerFault>,

@@ -18,7 +18,7 @@ const TIMES: u32 = 50;
 const EARLY_MS: u128 = 4;
 
 // What ends the rests of a worker.
-#[derive(Clone, Copy, PartialEq, Eq)]
+#[derive(Clone, Copy)]
 enum EndedBy {
     Nobody,
     // A call of `wake`.
