@@ -1,1 +1,2 @@
+pub mod MetricsLemmas
 pub mod StepLemmas

@@ -50,3 +50,7 @@ put_more t0 a t1 b t2 first second = second ∙ (ap (λ t. t ++ b) first ∙ app
 
 pub put_last : {X E : Type 0} (r : Result X E) (t0 a t1 b t2 : List ℕ) → t1 ≡ t0 ++ a → OnOk r (t2 ≡ t1 ++ b) → OnOk r (t2 ≡ t0 ++ (a ++ b))
 put_last r t0 a t1 b t2 first second = on_ok_weaker r (put_more t0 a t1 b t2 first) second
+
+-- a text that was put, as its parts
+pub put_as : {X E : Type 0} (r : Result X E) (t0 a b t1 : List ℕ) → a ≡ b → OnOk r (t1 ≡ t0 ++ a) → OnOk r (t1 ≡ t0 ++ b)
+put_as r t0 a b t1 same put = on_ok_weaker r (λ is. is ∙ ap (λ t. t0 ++ t) same) put

@@ -21,6 +21,16 @@ family_text name help kind = line_text (codes "# HELP lorawan_ns_") name help ++
 unfoldable pub single_text : List ℕ → List ℕ → Kind → ℕ → List ℕ
 single_text name help kind value = family_text name help kind ++ line_text (codes "lorawan_ns_") name (decimal value)
 
+-- names with one sample each, by their help texts and what the numbers are
+abbrev pub singles_text : List (List ℕ × List ℕ × Kind) → List ℕ → List ℕ
+singles_text [] values = []
+singles_text (row ∷ rows) [] = []
+singles_text (row ∷ rows) (value ∷ values) = single_text row.0 row.1 row.2 value ++ singles_text rows values
+
+-- a name, its help text and what its number is, as texts
+abbrev pub single : Bor (List ℕ) × Bor (List ℕ) × Kind → List ℕ × List ℕ × Kind
+single row = (row.0.now, row.1.now, row.2)
+
 -- what a label says
 unfoldable pub label_text : List ℕ → List ℕ → List ℕ
 label_text label of = codes "{" ++ label ++ codes "=\"" ++ of ++ codes "\"}"
@@ -42,6 +52,13 @@ named sample = (sample.0.now, sample.1)
 abbrev pub numbered_texts : List ℕ → List ℕ → ℕ → List ℕ → List ℕ
 numbered_texts name label place [] = []
 numbered_texts name label place (value ∷ values) = labelled_text name label (decimal place) value ++ numbered_texts name label (place + 1) values
+
+-- a name with samples by their names, and with samples by their places
+unfoldable pub named_family : List ℕ → List ℕ → List ℕ → List (List ℕ × ℕ) → List ℕ
+named_family name help label samples = family_text name help Counter ++ named_texts name label samples
+
+unfoldable pub numbered_family : List ℕ → List ℕ → List ℕ → List ℕ → List ℕ
+numbered_family name help label values = family_text name help Counter ++ numbered_texts name label 0 values
 
 -- what came of datagrams
 unfoldable pub datagram_texts : Totals → List ℕ

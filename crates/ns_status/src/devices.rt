@@ -12,7 +12,7 @@ use ns_types::{DevAddr, DevEui, GatewayId};
 use std::alloc::{AllocError, Global};
 
 /// When and by which gateway a device was heard.
-#[derive(Clone, Copy, Debug, PartialEq, Eq)]
+#[derive(Clone, Copy)]
 pub struct HeardBy {
     /// When, in milliseconds of the server's clock.
     pub at_ms: u64,
@@ -20,7 +20,7 @@ pub struct HeardBy {
 }
 
 /// What is known of a device that joined.
-#[derive(Clone, Copy, Debug, PartialEq, Eq)]
+#[derive(Clone, Copy)]
 pub struct Device {
     /// The number of its last session.
     pub session: u32,
@@ -197,7 +197,9 @@ impl Devices {
     pub fn joined_at(&self, place: usize) -> Option<(DevEui, Device)>
         ensures { result ≡ option_and_then joined_row (slice_get (rows self.now) place) }
     {
-        let (eui, device) = self.list.get_index(place)?;
-        Some((*eui, (*device)?))
+        match self.list.get_index(place) {
+            Some((eui, Some(device))) => Some((*eui, *device)),
+            _ => None,
+        }
     }
 }

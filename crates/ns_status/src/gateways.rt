@@ -14,7 +14,7 @@ use std::num::NonZeroUsize;
 const MOST: usize = 65_536;
 
 /// What is known of a gateway.
-#[derive(Clone, Copy, Debug, PartialEq, Eq)]
+#[derive(Clone, Copy)]
 pub struct Gateway {
     /// How many frames it was heard with.
     pub frames: u64,

@@ -16,6 +16,7 @@ mod gateways;
 mod metrics;
 mod news;
 mod page;
+mod parts;
 mod request;
 mod response;
 mod rows;

@@ -8,7 +8,7 @@ use ns_calls::{Call, DataFrame, Reply};
 use ns_types::{DevAddr, DevEui, GatewayId, Heard, WindowName};
 
 /// What is told of a device. It has no key and no payload in it.
-#[derive(Clone, Copy, Debug, PartialEq, Eq)]
+#[derive(Clone, Copy)]
 pub enum News {
     /// A session of it began.
     Joined {

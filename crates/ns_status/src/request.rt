@@ -21,7 +21,7 @@ const HEADERS_MAX: usize = 64;
 const PIECE: usize = 512;
 
 /// What there is to be had.
-#[derive(Clone, Copy, Debug, PartialEq, Eq)]
+#[derive(Clone, Copy, PartialEq, Eq)]
 pub enum Route {
     Page,
     Metrics,
@@ -30,7 +30,7 @@ pub enum Route {
 }
 
 /// What is asked for.
-#[derive(Clone, Copy, Debug, PartialEq, Eq)]
+#[derive(Clone, Copy, PartialEq, Eq)]
 pub struct Request {
     pub route: Route,
     /// Whether the head of the response alone is (HEAD).
@@ -38,7 +38,7 @@ pub struct Request {
 }
 
 /// Why a request is not met: with which status it is answered, or that nothing more comes.
-#[derive(Clone, Copy, Debug, PartialEq, Eq)]
+#[derive(Clone, Copy, PartialEq, Eq)]
 pub enum RequestFault {
     /// It is answered with a refusal: `Malformed`, `NotFound`, `NoMethod` or `TooLong`.
     Refused(Status),

@@ -2,26 +2,20 @@
 
 ghost use Rattle.std.specs.Prelude.{◌≡◌, ◌++◌, map, false, decimal, string_bytes, IfOk, OnOk};
 ghost use Rattle.serde_json.specs.View.{view};
-ghost use Rattle.serde_json.specs.Written.{has_float};
+ghost use Rattle.serde_json.specs.Written.{compact_text, has_float};
 ghost use Rattle.ns_roster.specs.Field.{hex_number};
 ghost use Rattle.ns_roster.specs.Object.{scalar_data};
 ghost use Rattle.ns_status.specs.Rows.{front_text, end_text, fcnt_data, heard_gateway_data, heard_ms_data, device_data, gateway_data, row_text, rows_text, device_row, gateway_row};
 
 use crate::devices::{Device, HeardBy};
 use crate::gateways::Gateway;
+use crate::parts::put_parts;
 use itoa::Buffer;
 use ns_roster::object::Scalar::{Eui, Null, Text, Whole};
 use ns_roster::object::{Scalar, object_of};
 use ns_types::{DevAddr, DevEui, GatewayId};
 use serde_json::Value;
 use std::alloc::{AllocError, Global};
-
-// Puts a number in decimal.
-pub(crate) fn put_number(text: &mut String, n: u64) -> Result<(), AllocError>
-    ensures { OnOk result (string_bytes text.new ≡ string_bytes text.old ++ decimal n) }
-{
-    text.push_str(Buffer::new().format(n))
-}
 
 /// Puts what stands before the rows: at which moment of the server's clock they were read, when that clock was 0, in milliseconds since
 /// 1970, and the name of the list.
@@ -33,13 +27,20 @@ pub fn put_front(
 ) -> Result<(), AllocError>
     ensures { OnOk result (string_bytes text.new ≡ string_bytes text.old ++ front_text name.now now_ms start_ms) }
 {
-    text.push_str("{\"nowMs\":")?;
-    put_number(text, now_ms)?;
-    text.push_str(",\"startMs\":")?;
-    put_number(text, start_ms)?;
-    text.push_str(",\"")?;
-    text.push_str(name)?;
-    text.push_str("\":[")
+    let mut now = Buffer::new();
+    let mut start = Buffer::new();
+    put_parts(
+        text,
+        &[
+            "{\"nowMs\":",
+            now.format(now_ms),
+            ",\"startMs\":",
+            start.format(start_ms),
+            ",\"",
+            name,
+            "\":[",
+        ],
+    )
 }
 
 /// Puts what stands behind the rows.
@@ -120,12 +121,20 @@ fn gateway_value(alloc: Global, id: GatewayId, gateway: &Gateway) -> Result<Valu
     )
 }
 
-// Puts a row, on a line of its own, with a comma before all but the first.
-fn put_row(alloc: Global, text: &mut String, is_first: bool, row: &Value) -> Result<(), AllocError>
-    requires { has_float (view row.now) ≡ false }
-    ensures { OnOk result (string_bytes text.new ≡ string_bytes text.old ++ row_text is_first (view row.now)) }
+// The text of a row.
+fn text_of(alloc: Global, row: Value) -> Result<String, AllocError>
+    requires { has_float (view row) ≡ false }
+    ensures { IfOk result (λ s. string_bytes s ≡ compact_text (view row)) }
 {
-    let row = row.to_string(alloc)?;
+    row.to_string(alloc)
+}
+
+// Puts a row, on a line of its own, with a comma before all but the first.
+fn put_row(alloc: Global, text: &mut String, is_first: bool, row: Value) -> Result<(), AllocError>
+    requires { has_float (view row) ≡ false }
+    ensures { OnOk result (string_bytes text.new ≡ string_bytes text.old ++ row_text is_first (view row)) }
+{
+    let row = text_of(alloc, row)?;
     text.push_str(if is_first { "\n" } else { ",\n" })?;
     text.push_str(row.as_str())
 }
@@ -141,8 +150,7 @@ pub fn put_devices(
 {
     let mut is_first = is_first;
     for row in devices {
-        let value = device_value(alloc, row.0, &row.1)?;
-        put_row(alloc, text, is_first, &value)?;
+        put_row(alloc, text, is_first, device_value(alloc, row.0, &row.1)?)?;
         is_first = false;
     }
     Ok(())
@@ -159,8 +167,7 @@ pub fn put_gateways(
 {
     let mut is_first = is_first;
     for row in gateways {
-        let value = gateway_value(alloc, row.0, &row.1)?;
-        put_row(alloc, text, is_first, &value)?;
+        put_row(alloc, text, is_first, gateway_value(alloc, row.0, &row.1)?)?;
         is_first = false;
     }
     Ok(())

@@ -12,6 +12,6 @@ nobody = (record { 0 = 0 }, record { session = 0; addr = record { 0 = 0 }; since
 pub loop-row-preserved : goal.loop-row-preserved
 loop-row-preserved c =
     ap (λ (t : List ℕ). t ++ rows_text false (map device_row (drop (c.loop-row.row-index + 1) c.args.devices.now)))
-    (c.in_ok-put_row.ensures ∙ ap (λ (d : Data). string_bytes c.loop-row.text ++ row_text c.loop-row.is_first d) c.in_ok-value.ensures)
+    (c.in_ok-put_row.ensures ∙ ap (λ (d : Data). string_bytes c.loop-row.text ++ row_text c.loop-row.is_first d) c.in_ok-device_value.ensures)
     ∙ (rows_more device_row (string_bytes c.loop-row.text) c.loop-row.is_first c.args.devices.now c.loop-row.row-index nobody c.loop-row-test.true
     ∙ c.loop-row.invariant)
