@@ -1,15 +1,19 @@
 -- The inverse cipher, by the same look-ups and shuffles.
-use Rattle.std.proofs.Common.{◌≡◌, ℕ, eqb, true, List, [], ◌∷◌, map, length, bit_xor, refl, sym, ap, ◌∙◌}
+use Rattle.std.proofs.Common.{◌≡◌, ℕ, ◌+◌, ◌-◌, ◌≤◌, eqb, true, List, [], ◌∷◌, ◌++◌, map, length, drop, get_or, reverse, bit_xor, refl, sym, ap, ◌∙◌, arith}
+use Rattle.std.proofs.lemmas.List.{drop_all, get_or-map, get_or-reverse, length-map, length-reverse, reverse-append}
 use Rattle.std.proofs.lemmas.Nat.{xor_comm}
 use Rattle.std.proofs.lemmas.Simd.{map-map}
 use lib.Lanes.{zip2}
-use Rattle.ns_aes_cmac.specs.Aes.{product_of_bits, multiply, multiplicative_inverse, inverse_s_box, xor_bytes, mix_columns_by, sum_of_products, inverse_mix_columns, inverse_shift_rows, inverse_sub_bytes, round_keys_by, round_keys, inverse_rounds, unaes}
+use Rattle.ns_aes_cmac.specs.Aes.{product_of_bits, multiply, multiplicative_inverse, inverse_s_box, xor_bytes, mix_columns_by, sum_of_products, inverse_mix_columns, inverse_shift_rows, inverse_sub_bytes, inverse_rounds, round_keys, unaes, first_key}
+use Rattle.ns_aes_cmac.specs.declared.key_schedule.RoundKey.{RoundKey}
+use Rattle.ns_aes_cmac.specs.declared.key_schedule.RoundKeys.{RoundKeys}
+use Rattle.ns_aes_cmac.specs.RoundKeys.{round_key, in_order}
 use Rattle.ns_aes_cmac.proofs.Bytes.{all_below, agree_at}
-use Rattle.ns_aes_cmac.proofs.Rounds.{ten, key_at}
 use Rattle.ns_aes_cmac.specs.declared.substitution.TheConstants.{BACK_INTO_LO, BACK_INTO_HI, BACK_I, BACK_J}
 use Rattle.ns_aes_cmac.specs.declared.round.TheConstants.{TIMES_9_LO, TIMES_9_HI, TIMES_11_LO, TIMES_11_HI, TIMES_13_LO, TIMES_13_HI, TIMES_14_LO, TIMES_14_HI}
 use Rattle.ns_aes_cmac.specs.Lookups.{look_at, half_i, half_j, by_halves}
 use Rattle.ns_aes_cmac.proofs.Lanes.{IsBlock, looked_both, map_agree}
+use Rattle.ns_aes_cmac.proofs.Rounds.{one_later}
 use Rattle.ns_aes_cmac.proofs.Mix.{sixteen, picked, joined, turned, zip2_xor}
 
 abbrev into : ℕ → ℕ
@@ -131,20 +135,38 @@ pub inverse_rounds-end : (k s : List ℕ) → inverse_rounds (k ∷ []) s ≡ fi
 unfolding inverse_rounds
 inverse_rounds-end k s = refl
 
-pub unaes_is : (ks : List (List ℕ)) (key block : List ℕ) (v1 v2 v3 v4 v5 v6 v7 v8 v9 r : List ℕ) → ks ≡ key ∷ round_keys key
-    → v1 ≡ inverse_full (key_at ks 9) (zip2 bit_xor (key_at ks 10) block)
-    → v2 ≡ inverse_full (key_at ks 8) v1
-    → v3 ≡ inverse_full (key_at ks 7) v2
-    → v4 ≡ inverse_full (key_at ks 6) v3
-    → v5 ≡ inverse_full (key_at ks 5) v4
-    → v6 ≡ inverse_full (key_at ks 4) v5
-    → v7 ≡ inverse_full (key_at ks 3) v6
-    → v8 ≡ inverse_full (key_at ks 2) v7
-    → v9 ≡ inverse_full (key_at ks 1) v8
-    → r ≡ final (key_at ks 0) v9
-    → r ≡ unaes key block
-unfolding unaes round_keys_by
-unaes_is ks key block v1 v2 v3 v4 v5 v6 v7 v8 v9 r e e1 e2 e3 e4 e5 e6 e7 e8 e9 e10 =
-    sym (ten inverse_rounds inverse_full final inverse_rounds-next inverse_rounds-end (key_at ks 9) (key_at ks 8) (key_at ks 7) (key_at ks 6) (key_at ks 5) (key_at ks 4) (key_at ks 3) (key_at ks 2) (key_at ks 1) (key_at ks 0) (zip2 bit_xor (key_at ks 10) block) v1 v2 v3 v4 v5 v6 v7 v8 v9 r e1 e2 e3 e4 e5 e6 e7 e8 e9 e10)
-    ∙ ap (λ l. inverse_rounds (key_at l 9 ∷ key_at l 8 ∷ key_at l 7 ∷ key_at l 6 ∷ key_at l 5 ∷ key_at l 4 ∷ key_at l 3 ∷ key_at l 2 ∷ key_at l 1 ∷ key_at l 0 ∷ []) (zip2 bit_xor (key_at ks 10) block)) e
-    ∙ ap (inverse_rounds (key_at (key ∷ round_keys key) 9 ∷ key_at (key ∷ round_keys key) 8 ∷ key_at (key ∷ round_keys key) 7 ∷ key_at (key ∷ round_keys key) 6 ∷ key_at (key ∷ round_keys key) 5 ∷ key_at (key ∷ round_keys key) 4 ∷ key_at (key ∷ round_keys key) 3 ∷ key_at (key ∷ round_keys key) 2 ∷ key_at (key ∷ round_keys key) 1 ∷ key_at (key ∷ round_keys key) 0 ∷ [])) (zip2_xor (key_at ks 10) block ∙ ap (λ l. xor_bytes (key_at l 10) block) e)
+-- ---- from the keys as the code holds them
+
+-- the keys between, from the last on
+abbrev backwards : RoundKeys → List (List ℕ)
+backwards ks = reverse (map round_key ks.between)
+
+from_last : (first last : List ℕ) (ks : List (List ℕ)) → reverse (first ∷ (ks ++ last ∷ [])) ≡ last ∷ (reverse ks ++ first ∷ [])
+from_last first last ks = reverse-append (first ∷ []) (ks ++ last ∷ []) ∙ ap (λ l. l ++ first ∷ []) (reverse-append ks (last ∷ []))
+
+-- before the first round all rounds are left
+pub unaes_begins : (ks : RoundKeys) (key block : List ℕ) → in_order ks ≡ key ∷ round_keys key
+    → inverse_rounds (backwards ks ++ ks.first ∷ []) (zip2 bit_xor ks.last block) ≡ unaes key block
+unfolding unaes
+unaes_begins ks key block e =
+    ap (inverse_rounds (backwards ks ++ ks.first ∷ [])) (zip2_xor ks.last block)
+    ∙ ap (λ l. inverse_rounds (drop 1 l) (xor_bytes (first_key l) block)) (sym (from_last ks.first ks.last (map round_key ks.between)) ∙ ap reverse e)
+
+-- the rounds that are left, one round later
+pub unaes_later : (ks : RoundKeys) (s v r : List ℕ) (i n : ℕ) (d : RoundKey) → n + (i + 1) ≡ length ks.between → v ≡ inverse_full (round_key (get_or ks.between n d)) s
+    → inverse_rounds (drop i (backwards ks) ++ ks.first ∷ []) s ≡ r → inverse_rounds (drop (i + 1) (backwards ks) ++ ks.first ∷ []) v ≡ r
+unaes_later ks s v r i n d sum e f =
+    let long = length-map ks.between round_key in
+    let as_long = length-reverse (map round_key ks.between) in
+    let from_end : length (map round_key ks.between) - 1 - i ≡ n = omega arith in
+    let at = get_or-reverse (map round_key ks.between) i [] (omega arith)
+    ∙ ap (λ m. get_or (map round_key ks.between) m []) from_end ∙ get_or-map round_key ks.between n d [] (omega arith) in
+    sym (one_later inverse_rounds inverse_full inverse_rounds-next (backwards ks) ks.first s v i (omega arith) (e ∙ ap (λ k. inverse_full k s) (sym at))) ∙ f
+
+-- no round but the last is left
+pub unaes_ends : (ks : RoundKeys) (s v r : List ℕ) (i : ℕ) → length ks.between ≤ i → v ≡ final ks.first s
+    → inverse_rounds (drop i (backwards ks) ++ ks.first ∷ []) s ≡ r → v ≡ r
+unaes_ends ks s v r i le e f =
+    let long = length-map ks.between round_key in
+    let as_long = length-reverse (map round_key ks.between) in
+    e ∙ sym (inverse_rounds-end ks.first s) ∙ ap (λ l. inverse_rounds (l ++ ks.first ∷ []) s) (sym (drop_all i (backwards ks) (omega arith))) ∙ f

@@ -1,9 +1,14 @@
 -- The round keys, one from another.
-use Rattle.std.proofs.Common.{◌≡◌, ℕ, List, [], ◌∷◌, ◌++◌, length, replicate, bit_xor, refl, ap, ◌∙◌}
+use Rattle.std.proofs.Common.{◌≡◌, ℕ, ◌+◌, ◌<◌, List, [], ◌∷◌, ◌++◌, length, map, get_or, set, take, drop, replicate, bit_xor, refl, sym, ap, ◌∙◌, arith}
 use Rattle.std.proofs.lemmas.Nat.{xor_comm}
+use Rattle.std.proofs.lemmas.List.{append_assoc, drop_more, get_or-map, get_or_append_left, map-append, take_all, take_more_set}
 use lib.Bits.{xor_assoc}
 use lib.Lanes.{zip2, pick_l}
-use Rattle.ns_aes_cmac.specs.Aes.{xor_bytes, sub_bytes, s_box, next_round_key, round_keys_by, round_keys}
+use Rattle.ns_aes_cmac.specs.Aes.{xor_bytes, sub_bytes, s_box, next_round_key, round_constants, round_keys_by}
+use Rattle.ns_aes_cmac.specs.Basis.{from_basis, key_from_basis}
+use Rattle.ns_aes_cmac.specs.RoundKeys.{round_key}
+use Rattle.ns_aes_cmac.specs.declared.key_schedule.RoundKey.{RoundKey}
+use Rattle.ns_aes_cmac.specs.declared.key_schedule.TheConstants.{ROUND_CONSTANTS, LAST_CONSTANT}
 use Rattle.ns_aes_cmac.proofs.Mix.{sixteen, picked, joined}
 
 abbrev pub one_word : List ℕ
@@ -60,45 +65,43 @@ next_of rcon k long =
     refl)))))))))))))))))
     k long
 
--- a list that grows from its end by one key at a time
-next : (k l : List ℕ) {ls : List (List ℕ)} (rcon : ℕ) (rcons : List ℕ) → l ≡ next_round_key rcon k → ls ≡ round_keys_by rcons l → ◌≡◌ {A = List (List ℕ)} (l ∷ ls) (round_keys_by (rcon ∷ rcons) k)
+-- the round constants of the code are those of the standard, in the basis
+in_basis : map key_from_basis (ROUND_CONSTANTS ++ LAST_CONSTANT ∷ []) ≡ round_constants
+unfolding from_basis key_from_basis
+in_basis = refl
+
+-- the keys after s, by the first of the round constants that are left
+unfolded : (i : ℕ) (s : List ℕ) → i < 10 → round_keys_by (drop i round_constants) s
+    ≡ next_round_key (get_or round_constants i 0) s ∷ round_keys_by (drop (i + 1) round_constants) (next_round_key (get_or round_constants i 0) s)
 unfolding round_keys_by
-next k l rcon rcons e f = ap (λ m. l ∷ m) f ∙ ap (λ m. m ∷ round_keys_by rcons m) e
+unfolded i s lt = ap (λ l. round_keys_by l s) (drop_more round_constants i 0 lt)
 
-none : (k : List ℕ) → ◌≡◌ {A = List (List ℕ)} [] (round_keys_by [] k)
+constant : (i : ℕ) → i < 9 → key_from_basis (get_or ROUND_CONSTANTS i 0) ≡ get_or round_constants i 0
+constant i lt =
+    ap key_from_basis (sym (get_or_append_left ROUND_CONSTANTS (LAST_CONSTANT ∷ []) 0 i lt))
+    ∙ sym (get_or-map key_from_basis (ROUND_CONSTANTS ++ LAST_CONSTANT ∷ []) i 0 0 (omega arith)) ∙ ap (λ l. get_or l i 0) in_basis
+
+-- one round key more is made
+pub one_more : (ks : List RoundKey) (rcons : List ℕ) (i : ℕ) (k : RoundKey) (s t : List ℕ) (all : List (List ℕ)) → i < 9 → length ks ≡ 9 → rcons ≡ ROUND_CONSTANTS
+    → t ≡ next_round_key (key_from_basis (get_or rcons i 0)) s → round_key k ≡ t
+    → map round_key (take i ks) ++ round_keys_by (drop i round_constants) s ≡ all
+    → map round_key (take (i + 1) (set ks i k)) ++ round_keys_by (drop (i + 1) round_constants) t ≡ all
+one_more ks rcons i k s t all lt long same e f g =
+    let made = map round_key (take i ks) in
+    let left = round_keys_by (drop (i + 1) round_constants) in
+    let by = e ∙ ap (λ l. next_round_key (key_from_basis (get_or l i 0)) s) same ∙ ap (λ n. next_round_key n s) (constant i lt) in
+    ap (λ l. map round_key l ++ left t) (take_more_set ks i k (omega arith))
+    ∙ ap (λ l. l ++ left t) (map-append round_key (take i ks) (k ∷ []) ∙ ap (λ l. made ++ l ∷ []) f)
+    ∙ append_assoc made (t ∷ []) (left t) ∙ ap (λ l. made ++ l) (ap (λ l. l ∷ left l) by ∙ sym (unfolded i s (omega arith))) ∙ g
+
+-- with the last one all are made
+pub all_made : (ks : List RoundKey) (i : ℕ) (s last : List ℕ) (all : List (List ℕ)) → i ≡ 9 → length ks ≡ 9
+    → last ≡ next_round_key (key_from_basis LAST_CONSTANT) s
+    → map round_key (take i ks) ++ round_keys_by (drop i round_constants) s ≡ all
+    → map round_key ks ++ last ∷ [] ≡ all
 unfolding round_keys_by
-none k = refl
-
-pub keys_are : (k0 k1 k2 k3 k4 k5 k6 k7 k8 k9 k10 : List ℕ)
-    → k1 ≡ next_round_key 1 k0
-    → k2 ≡ next_round_key 2 k1
-    → k3 ≡ next_round_key 4 k2
-    → k4 ≡ next_round_key 8 k3
-    → k5 ≡ next_round_key 16 k4
-    → k6 ≡ next_round_key 32 k5
-    → k7 ≡ next_round_key 64 k6
-    → k8 ≡ next_round_key 128 k7
-    → k9 ≡ next_round_key 27 k8
-    → k10 ≡ next_round_key 54 k9
-    → ◌≡◌ {A = List (List ℕ)} (k0 ∷ k1 ∷ k2 ∷ k3 ∷ k4 ∷ k5 ∷ k6 ∷ k7 ∷ k8 ∷ k9 ∷ k10 ∷ []) (k0 ∷ round_keys k0)
-keys_are k0 k1 k2 k3 k4 k5 k6 k7 k8 k9 k10 e1 e2 e3 e4 e5 e6 e7 e8 e9 e10 =
-    ap (λ l. k0 ∷ l) (
-    next k0 k1 1 (2 ∷ 4 ∷ 8 ∷ 16 ∷ 32 ∷ 64 ∷ 128 ∷ 27 ∷ 54 ∷ []) e1 (
-    next k1 k2 2 (4 ∷ 8 ∷ 16 ∷ 32 ∷ 64 ∷ 128 ∷ 27 ∷ 54 ∷ []) e2 (
-    next k2 k3 4 (8 ∷ 16 ∷ 32 ∷ 64 ∷ 128 ∷ 27 ∷ 54 ∷ []) e3 (
-    next k3 k4 8 (16 ∷ 32 ∷ 64 ∷ 128 ∷ 27 ∷ 54 ∷ []) e4 (
-    next k4 k5 16 (32 ∷ 64 ∷ 128 ∷ 27 ∷ 54 ∷ []) e5 (
-    next k5 k6 32 (64 ∷ 128 ∷ 27 ∷ 54 ∷ []) e6 (
-    next k6 k7 64 (128 ∷ 27 ∷ 54 ∷ []) e7 (
-    next k7 k8 128 (27 ∷ 54 ∷ []) e8 (
-    next k8 k9 27 (54 ∷ []) e9 (
-    next k9 k10 54 ([]) e10 (
-    none k10)))))))))))
-
-keys_joined : {a b : List ℕ} {xs ys : List (List ℕ)} → a ≡ b → xs ≡ ys → ◌≡◌ {A = List (List ℕ)} (a ∷ xs) (b ∷ ys)
-keys_joined {a} {b} {xs} {ys} e f = ap (λ k. k ∷ xs) e ∙ ap (λ l. b ∷ l) f
-
--- the keys after the first, each by an equation
-pub same_keys : (k0 r1 r2 r3 r4 r5 r6 r7 r8 r9 k1 k2 k3 k4 k5 k6 k7 k8 k9 r10 k10 : List ℕ) → r1 ≡ k1 → r2 ≡ k2 → r3 ≡ k3 → r4 ≡ k4 → r5 ≡ k5 → r6 ≡ k6 → r7 ≡ k7 → r8 ≡ k8 → r9 ≡ k9 → r10 ≡ k10
-    → ◌≡◌ {A = List (List ℕ)} (k0 ∷ r1 ∷ r2 ∷ r3 ∷ r4 ∷ r5 ∷ r6 ∷ r7 ∷ r8 ∷ r9 ∷ r10 ∷ []) (k0 ∷ k1 ∷ k2 ∷ k3 ∷ k4 ∷ k5 ∷ k6 ∷ k7 ∷ k8 ∷ k9 ∷ k10 ∷ [])
-same_keys k0 r1 r2 r3 r4 r5 r6 r7 r8 r9 k1 k2 k3 k4 k5 k6 k7 k8 k9 r10 k10 e1 e2 e3 e4 e5 e6 e7 e8 e9 e10 = ap (λ l. k0 ∷ l) (keys_joined e1 (keys_joined e2 (keys_joined e3 (keys_joined e4 (keys_joined e5 (keys_joined e6 (keys_joined e7 (keys_joined e8 (keys_joined e9 (keys_joined e10 (refl)))))))))))
+all_made ks i s last all nine long e g =
+    let at : key_from_basis LAST_CONSTANT ≡ get_or round_constants 9 0 = ap (λ l. get_or l 9 0) in_basis in
+    ap (λ l. map round_key ks ++ l ∷ []) (e ∙ ap (λ n. next_round_key n s) at) ∙ ap (λ l. map round_key ks ++ l) (sym (unfolded 9 s (omega arith)))
+    ∙ ap (λ l. map round_key l ++ round_keys_by (drop 9 round_constants) s) (sym (take_all 9 ks (omega arith)))
+    ∙ ap (λ n. map round_key (take n ks) ++ round_keys_by (drop n round_constants) s) (sym nine) ∙ g

@@ -1,8 +1,11 @@
--- The ten rounds.
-use Rattle.std.proofs.Common.{◌≡◌, ℕ, List, [], ◌∷◌, bit_xor, refl, sym, ap, ◌∙◌}
+-- Rounds, one for each key.
+use Rattle.std.proofs.Common.{◌≡◌, ℕ, ◌+◌, ◌<◌, ◌≤◌, List, [], ◌∷◌, ◌++◌, length, map, drop, get_or, bit_xor, refl, sym, ap, ◌∙◌, arith}
+use Rattle.std.proofs.lemmas.List.{drop_more, drop_all, get_or-map, length-map}
 use lib.Lanes.{zip2}
-use lib.ListN.{get_or}
-use Rattle.ns_aes_cmac.specs.Aes.{xor_bytes, sub_bytes, shift_rows, mix_columns, rounds, round_keys_by, round_keys, aes}
+use Rattle.ns_aes_cmac.specs.Aes.{xor_bytes, sub_bytes, shift_rows, mix_columns, rounds, round_keys, aes, first_key}
+use Rattle.ns_aes_cmac.specs.declared.key_schedule.RoundKey.{RoundKey}
+use Rattle.ns_aes_cmac.specs.declared.key_schedule.RoundKeys.{RoundKeys}
+use Rattle.ns_aes_cmac.specs.RoundKeys.{round_key, in_order}
 use Rattle.ns_aes_cmac.proofs.Mix.{zip2_xor}
 
 abbrev pub full : List ℕ → List ℕ → List ℕ
@@ -19,54 +22,38 @@ pub rounds-end : (k s : List ℕ) → rounds (k ∷ []) s ≡ final k s
 unfolding rounds
 rounds-end k s = refl
 
--- rounds of a cipher, one after the other, by its full round and its last one
-module _ (run : List (List ℕ) → List ℕ → List ℕ) (full final : List ℕ → List ℕ → List ℕ)
-    (step : (k l : List ℕ) (ks : List (List ℕ)) (s : List ℕ) → run (k ∷ l ∷ ks) s ≡ run (l ∷ ks) (full k s))
-    (end : (k s : List ℕ) → run (k ∷ []) s ≡ final k s) where
-  next : (k l : List ℕ) (ks : List (List ℕ)) (s v : List ℕ) → v ≡ full k s → run (k ∷ l ∷ ks) s ≡ run (l ∷ ks) v
-  next k l ks s v e = step k l ks s ∙ ap (run (l ∷ ks)) (sym e)
+-- the rounds of a cipher by its full round: those that are left give the same state, one round later
+module _ (run : List (List ℕ) → List ℕ → List ℕ) (full : List ℕ → List ℕ → List ℕ)
+    (next : (k l : List ℕ) (ks : List (List ℕ)) (s : List ℕ) → run (k ∷ l ∷ ks) s ≡ run (l ∷ ks) (full k s)) where
+  step : (k last : List ℕ) (ks : List (List ℕ)) (s : List ℕ) → run (k ∷ (ks ++ last ∷ [])) s ≡ run (ks ++ last ∷ []) (full k s)
+  step k last [] s = next k last [] s
+  step k last (l ∷ ks) s = next k l (ks ++ last ∷ []) s
 
-  pub ten : (k1 k2 k3 k4 k5 k6 k7 k8 k9 k10 : List ℕ) (v0 v1 v2 v3 v4 v5 v6 v7 v8 v9 r : List ℕ)
-      → v1 ≡ full k1 v0
-      → v2 ≡ full k2 v1
-      → v3 ≡ full k3 v2
-      → v4 ≡ full k4 v3
-      → v5 ≡ full k5 v4
-      → v6 ≡ full k6 v5
-      → v7 ≡ full k7 v6
-      → v8 ≡ full k8 v7
-      → v9 ≡ full k9 v8
-      → r ≡ final k10 v9
-      → run (k1 ∷ k2 ∷ k3 ∷ k4 ∷ k5 ∷ k6 ∷ k7 ∷ k8 ∷ k9 ∷ k10 ∷ []) v0 ≡ r
-  ten k1 k2 k3 k4 k5 k6 k7 k8 k9 k10 v0 v1 v2 v3 v4 v5 v6 v7 v8 v9 r e1 e2 e3 e4 e5 e6 e7 e8 e9 e10 =
-      next k1 k2 (k3 ∷ k4 ∷ k5 ∷ k6 ∷ k7 ∷ k8 ∷ k9 ∷ k10 ∷ []) v0 v1 e1 ∙
-      next k2 k3 (k4 ∷ k5 ∷ k6 ∷ k7 ∷ k8 ∷ k9 ∷ k10 ∷ []) v1 v2 e2 ∙
-      next k3 k4 (k5 ∷ k6 ∷ k7 ∷ k8 ∷ k9 ∷ k10 ∷ []) v2 v3 e3 ∙
-      next k4 k5 (k6 ∷ k7 ∷ k8 ∷ k9 ∷ k10 ∷ []) v3 v4 e4 ∙
-      next k5 k6 (k7 ∷ k8 ∷ k9 ∷ k10 ∷ []) v4 v5 e5 ∙
-      next k6 k7 (k8 ∷ k9 ∷ k10 ∷ []) v5 v6 e6 ∙
-      next k7 k8 (k9 ∷ k10 ∷ []) v6 v7 e7 ∙
-      next k8 k9 (k10 ∷ []) v7 v8 e8 ∙
-      next k9 k10 [] v8 v9 e9 ∙
-      end k10 v9 ∙ sym e10
+  pub one_later : (ks : List (List ℕ)) (last s v : List ℕ) (i : ℕ) → i < length ks → v ≡ full (get_or ks i []) s → run (drop i ks ++ last ∷ []) s ≡ run (drop (i + 1) ks ++ last ∷ []) v
+  one_later ks last s v i lt e =
+      ap (λ l. run (l ++ last ∷ []) s) (drop_more ks i [] lt) ∙ step (get_or ks i []) last (drop (i + 1) ks) s ∙ ap (run (drop (i + 1) ks ++ last ∷ [])) (sym e)
 
-abbrev pub key_at : List (List ℕ) → ℕ → List ℕ
-key_at ks i = get_or ks i []
+-- ---- from the keys as the code holds them
 
-pub aes_is : (ks : List (List ℕ)) (key block : List ℕ) (v1 v2 v3 v4 v5 v6 v7 v8 v9 r : List ℕ) → ks ≡ key ∷ round_keys key
-    → v1 ≡ full (key_at ks 1) (zip2 bit_xor (key_at ks 0) block)
-    → v2 ≡ full (key_at ks 2) v1
-    → v3 ≡ full (key_at ks 3) v2
-    → v4 ≡ full (key_at ks 4) v3
-    → v5 ≡ full (key_at ks 5) v4
-    → v6 ≡ full (key_at ks 6) v5
-    → v7 ≡ full (key_at ks 7) v6
-    → v8 ≡ full (key_at ks 8) v7
-    → v9 ≡ full (key_at ks 9) v8
-    → r ≡ final (key_at ks 10) v9
-    → r ≡ aes key block
-unfolding aes round_keys_by
-aes_is ks key block v1 v2 v3 v4 v5 v6 v7 v8 v9 r e e1 e2 e3 e4 e5 e6 e7 e8 e9 e10 =
-    sym (ten rounds full final rounds-next rounds-end (key_at ks 1) (key_at ks 2) (key_at ks 3) (key_at ks 4) (key_at ks 5) (key_at ks 6) (key_at ks 7) (key_at ks 8) (key_at ks 9) (key_at ks 10) (zip2 bit_xor (key_at ks 0) block) v1 v2 v3 v4 v5 v6 v7 v8 v9 r e1 e2 e3 e4 e5 e6 e7 e8 e9 e10)
-    ∙ ap (λ l. rounds (key_at l 1 ∷ key_at l 2 ∷ key_at l 3 ∷ key_at l 4 ∷ key_at l 5 ∷ key_at l 6 ∷ key_at l 7 ∷ key_at l 8 ∷ key_at l 9 ∷ key_at l 10 ∷ []) (zip2 bit_xor (key_at ks 0) block)) e
-    ∙ ap (rounds (round_keys key)) (zip2_xor (key_at ks 0) block ∙ ap (λ l. xor_bytes (key_at l 0) block) e)
+-- before the first round all rounds are left
+pub aes_begins : (ks : RoundKeys) (key block s : List ℕ) → in_order ks ≡ key ∷ round_keys key → s ≡ zip2 bit_xor ks.first block
+    → rounds (map round_key ks.between ++ ks.last ∷ []) s ≡ aes key block
+unfolding aes
+aes_begins ks key block s e f =
+    ap (rounds (map round_key ks.between ++ ks.last ∷ [])) (f ∙ zip2_xor ks.first block ∙ ap (λ l. xor_bytes (first_key l) block) e)
+    ∙ ap (λ l. rounds (drop 1 l) (xor_bytes key block)) e
+
+-- the rounds that are left, one round later
+pub aes_later : (ks : RoundKeys) (between : List RoundKey) (s v r : List ℕ) (i : ℕ) (d : RoundKey) → i < length ks.between → between ≡ ks.between → v ≡ full (round_key (get_or between i d)) s
+    → rounds (drop i (map round_key ks.between) ++ ks.last ∷ []) s ≡ r → rounds (drop (i + 1) (map round_key ks.between) ++ ks.last ∷ []) v ≡ r
+aes_later ks between s v r i d lt same e f =
+    let long = length-map ks.between round_key in
+    let at = ap (λ l. round_key (get_or l i d)) same ∙ sym (get_or-map round_key ks.between i d [] lt) in
+    sym (one_later rounds full rounds-next (map round_key ks.between) ks.last s v i (omega arith) (e ∙ ap (λ k. full k s) at)) ∙ f
+
+-- no round but the last is left
+pub aes_ends : (ks : RoundKeys) (s v r : List ℕ) (i : ℕ) → length ks.between ≤ i → v ≡ final ks.last s
+    → rounds (drop i (map round_key ks.between) ++ ks.last ∷ []) s ≡ r → v ≡ r
+aes_ends ks s v r i le e f =
+    let long = length-map ks.between round_key in
+    e ∙ sym (rounds-end ks.last s) ∙ ap (λ l. rounds (l ++ ks.last ∷ []) s) (sym (drop_all i (map round_key ks.between) (omega arith))) ∙ f

@@ -19,9 +19,9 @@ pub struct Aes128 {
 impl Model for Aes128 {
     ghost Value = { List ℕ };
 
-    ghost view = { λ a. a.keys.k0 };
+    ghost view = { λ a. a.keys.first };
 
-    ghost invariant = { λ a. in_order a.keys ≡ a.keys.k0 ∷ round_keys a.keys.k0 };
+    ghost invariant = { λ a. in_order a.keys ≡ a.keys.first ∷ round_keys a.keys.first };
 }
 
 impl Aes128 {

@@ -30,9 +30,9 @@ pub struct Cmac {
 impl Model for Cmac {
     ghost Value = { CmacState };
 
-    ghost view = { λ c. record { key = c.keys.k0; chain = c.chain; pending = take c.len c.pending } };
+    ghost view = { λ c. record { key = c.keys.first; chain = c.chain; pending = take c.len c.pending } };
 
-    ghost invariant = { λ c. (c.len ≤ 16) × (drop c.len c.pending ≡ replicate (16 - c.len) 0) × (c.started ≡ true → c.enciphered_zeros ≡ aes c.keys.k0 (replicate 16 0)) × (in_order c.keys ≡ c.keys.k0 ∷ round_keys c.keys.k0) };
+    ghost invariant = { λ c. (c.len ≤ 16) × (drop c.len c.pending ≡ replicate (16 - c.len) 0) × (c.started ≡ true → c.enciphered_zeros ≡ aes c.keys.first (replicate 16 0)) × (in_order c.keys ≡ c.keys.first ∷ round_keys c.keys.first) };
 }
 
 impl Cmac {
@@ -42,7 +42,7 @@ impl Cmac {
         ensures { result ≡ state_of key.now.0 [] }
     {
         Cmac {
-            keys: expand(&key.0).copied(),
+            keys: expand(&key.0),
             started: false,
             enciphered_zeros: u8x16::splat(0),
             chain: u8x16::splat(0),
@@ -57,7 +57,7 @@ impl Cmac {
         ensures { result ≡ state_of cipher.now [] }
     {
         Cmac {
-            keys: cipher.keys.copied(),
+            keys: cipher.keys,
             started: false,
             enciphered_zeros: u8x16::splat(0),
             chain: u8x16::splat(0),

@@ -8,42 +8,33 @@ ghost use Rattle.ns_aes_cmac.specs.RoundKeys.{in_order};
 use crate::substitution::{from_basis, round_key, substituted_once, to_basis};
 use std::simd::prelude::*;
 
-/// The key (`k0`) and the round keys after it, one for each round. Those of the rounds between are in the basis of the rounds.
+/// The round constants in the basis, with the constant that the look-ups leave out: of all rounds but the last.
+const ROUND_CONSTANTS: [u8; 9] = [0x2b, 0x71, 0xc3, 0x53, 0x16, 0x27, 0x26, 0xda, 0x44];
+
+/// That of the last round.
+const LAST_CONSTANT: u8 = 0xd8;
+
+/// The key of a round between the first and the last, in the basis of the rounds.
 #[derive(Clone, Copy)]
-pub(crate) struct RoundKeys {
-    pub(crate) k0: u8x16,
-    pub(crate) k1: u8x16,
-    pub(crate) k2: u8x16,
-    pub(crate) k3: u8x16,
-    pub(crate) k4: u8x16,
-    pub(crate) k5: u8x16,
-    pub(crate) k6: u8x16,
-    pub(crate) k7: u8x16,
-    pub(crate) k8: u8x16,
-    pub(crate) k9: u8x16,
-    pub(crate) k10: u8x16,
+pub(crate) struct RoundKey {
+    pub(crate) bytes: u8x16,
 }
 
-impl RoundKeys {
-    /// The same keys, copied one by one: a processor forwards each from where it was just written.
-    #[inline(always)]
-    pub(crate) fn copied(&self) -> RoundKeys
-        ensures { result ≡ self.now }
-    {
-        RoundKeys {
-            k0: self.k0,
-            k1: self.k1,
-            k2: self.k2,
-            k3: self.k3,
-            k4: self.k4,
-            k5: self.k5,
-            k6: self.k6,
-            k7: self.k7,
-            k8: self.k8,
-            k9: self.k9,
-            k10: self.k10,
-        }
-    }
+/// The key (`first`) and the round keys after it, one for each round.
+#[derive(Clone, Copy)]
+pub(crate) struct RoundKeys {
+    pub(crate) first: u8x16,
+    pub(crate) between: [RoundKey; 9],
+    pub(crate) last: u8x16,
+}
+
+/// The same slice. The call stays a call, so the compiler does not see the length, and a loop over the slice stays a loop: round after
+/// round written out takes four times the room in a processor's cache of instructions, and no less time.
+#[inline(never)]
+pub(crate) fn of_any_length<T>(slice: &[T]) -> &[T]
+    ensures { result.now ≡ slice.now }
+{
+    slice
 }
 
 /// The key after `key`, both in the basis. `rcon` is the round constant in the basis, with the constant that the look-ups leave out.
@@ -71,33 +62,24 @@ fn next_key(key: u8x16, rcon: u8) -> u8x16
 }
 
 /// The key and its round keys.
-#[inline(always)]
+#[inline(never)]
 pub(crate) fn expand(key: &[u8; 16]) -> RoundKeys
     ensures { in_order result ≡ key.now ∷ round_keys key.now }
 {
-    let k0 = u8x16::from_array(*key);
-    let b0 = to_basis(k0);
-    let b1 = next_key(b0, 0x2b);
-    let b2 = next_key(b1, 0x71);
-    let b3 = next_key(b2, 0xc3);
-    let b4 = next_key(b3, 0x53);
-    let b5 = next_key(b4, 0x16);
-    let b6 = next_key(b5, 0x27);
-    let b7 = next_key(b6, 0x26);
-    let b8 = next_key(b7, 0xda);
-    let b9 = next_key(b8, 0x44);
-    let b10 = next_key(b9, 0xd8);
+    let first = u8x16::from_array(*key);
+    let mut between = [RoundKey {
+        bytes: u8x16::splat(0),
+    }; 9];
+    let mut next = to_basis(first);
+    let constants = of_any_length(&ROUND_CONSTANTS);
+    for i in 0..constants.len() {
+        next = next_key(next, constants[i]);
+        between[i].bytes = round_key(next);
+    }
+    let last = from_basis(next_key(next, LAST_CONSTANT));
     RoundKeys {
-        k0,
-        k1: round_key(b1),
-        k2: round_key(b2),
-        k3: round_key(b3),
-        k4: round_key(b4),
-        k5: round_key(b5),
-        k6: round_key(b6),
-        k7: round_key(b7),
-        k8: round_key(b8),
-        k9: round_key(b9),
-        k10: from_basis(b10),
+        first,
+        between,
+        last,
     }
 }

@@ -1,8 +1,12 @@
-use Rattle.ns_aes_cmac.specs.RoundKeys.{in_order}
+use Rattle.std.proofs.Common.{arith}
+use Rattle.ns_aes_cmac.proofs.Back.{unaes_begins, unaes_later, unaes_ends}
 use Rattle.ns_aes_cmac.proofs.cipher.decrypt.Goals as goal
-use Rattle.ns_aes_cmac.proofs.Back.{unaes_is}
+
+pub loop-i-init : goal.loop-i-init
+loop-i-init c key e = unaes_begins c.args.keys.now key c.args.block e
+
+pub loop-i-preserved : goal.loop-i-preserved
+loop-i-preserved c key e = unaes_later c.args.keys.now c.loop-i.v c.inverse_round-v.result _ c.loop-i.i _ _ (omega arith) c.inverse_round-v.ensures (c.loop-i.invariant key e)
 
 pub returns : goal.returns
-returns c key e =
-    unaes_is (in_order c.args.keys.now) key c.args.block c.inverse_round-v1.result c.inverse_round-v2.result c.inverse_round-v3.result c.inverse_round-v4.result c.inverse_round-v5.result c.inverse_round-v6.result c.inverse_round-v7.result c.inverse_round-v8.result c.inverse_round-v9.result c.last_inverse_round.result e
-    c.inverse_round-v1.ensures c.inverse_round-v2.ensures c.inverse_round-v3.ensures c.inverse_round-v4.ensures c.inverse_round-v5.ensures c.inverse_round-v6.ensures c.inverse_round-v7.ensures c.inverse_round-v8.ensures c.inverse_round-v9.ensures c.last_inverse_round.ensures
+returns c key e = unaes_ends c.args.keys.now c.loop-i.v c.last_inverse_round.result _ c.loop-i.i (omega arith) c.last_inverse_round.ensures (c.loop-i.invariant key e)

@@ -1,12 +1,24 @@
-use Rattle.std.proofs.Common.{map, ap, ◌∙◌}
-use Rattle.ns_aes_cmac.specs.Aes.{next_round_key}
-use Rattle.ns_aes_cmac.specs.Basis.{from_basis, key_from_basis}
-use Rattle.ns_aes_cmac.proofs.Keys.{keys_are, same_keys}
+use Rattle.std.proofs.Common.{map, length, refl, ap, ◌∙◌, arith, ◌∷◌, List, ℕ}
+use Rattle.std.proofs.lemmas.List.{length-set}
+use Rattle.ns_aes_cmac.specs.Aes.{round_keys_by, round_constants}
+use Rattle.ns_aes_cmac.specs.Basis.{from_basis}
+use Rattle.ns_aes_cmac.proofs.Keys.{one_more, all_made}
 use Rattle.ns_aes_cmac.proofs.key_schedule.expand.Goals as goal
 
+pub loop-i-init : goal.loop-i-init
+loop-i-init c = (refl, ap (round_keys_by round_constants) c.to_basis-next.ensures)
+
+pub loop-i-preserved : goal.loop-i-preserved
+loop-i-preserved c =
+    let nine = ap (λ (l : List ℕ). length l) c.of_any_length-constants.ensures in
+    let long = length-set c.loop-i.between c.loop-i.i (record { bytes = c.round_key.result }) in (
+      long ∙ c.loop-i.invariant.0,
+      one_more c.loop-i.between c.of_any_length-constants.result.now c.loop-i.i _ (map from_basis c.loop-i.next) (map from_basis c.next_key-next.result) _ (omega arith) c.loop-i.invariant.0
+          c.of_any_length-constants.ensures c.next_key-next.ensures c.round_key.ensures c.loop-i.invariant.1,
+    )
+
 pub returns : goal.returns
-unfolding from_basis key_from_basis
 returns c =
-    same_keys c.args.key.now (map key_from_basis c.round_key.result) (map key_from_basis c.round_key-2.result) (map key_from_basis c.round_key-3.result) (map key_from_basis c.round_key-4.result) (map key_from_basis c.round_key-5.result) (map key_from_basis c.round_key-6.result) (map key_from_basis c.round_key-7.result) (map key_from_basis c.round_key-8.result) (map key_from_basis c.round_key-9.result) (map from_basis c.next_key-b1.result) (map from_basis c.next_key-b2.result) (map from_basis c.next_key-b3.result) (map from_basis c.next_key-b4.result) (map from_basis c.next_key-b5.result) (map from_basis c.next_key-b6.result) (map from_basis c.next_key-b7.result) (map from_basis c.next_key-b8.result) (map from_basis c.next_key-b9.result) c.from_basis.result (map from_basis c.next_key-b10.result)
-    c.round_key.ensures c.round_key-2.ensures c.round_key-3.ensures c.round_key-4.ensures c.round_key-5.ensures c.round_key-6.ensures c.round_key-7.ensures c.round_key-8.ensures c.round_key-9.ensures c.from_basis.ensures
-    ∙ keys_are c.args.key.now (map from_basis c.next_key-b1.result) (map from_basis c.next_key-b2.result) (map from_basis c.next_key-b3.result) (map from_basis c.next_key-b4.result) (map from_basis c.next_key-b5.result) (map from_basis c.next_key-b6.result) (map from_basis c.next_key-b7.result) (map from_basis c.next_key-b8.result) (map from_basis c.next_key-b9.result) (map from_basis c.next_key-b10.result) (c.next_key-b1.ensures ∙ ap (next_round_key 1) c.to_basis-b0.ensures) c.next_key-b2.ensures c.next_key-b3.ensures c.next_key-b4.ensures c.next_key-b5.ensures c.next_key-b6.ensures c.next_key-b7.ensures c.next_key-b8.ensures c.next_key-b9.ensures c.next_key-b10.ensures
+    let nine = ap (λ (l : List ℕ). length l) c.of_any_length-constants.ensures in
+    ap (λ (l : List (List ℕ)). c.args.key.now ∷ l)
+    (all_made c.loop-i.between c.loop-i.i (map from_basis c.loop-i.next) c.from_basis-last.result _ (omega arith) c.loop-i.invariant.0 (c.from_basis-last.ensures ∙ c.next_key.ensures) c.loop-i.invariant.1)
