@@ -76,9 +76,12 @@ def main():
         sys.exit(__doc__)
     seen, begun = {}, time.time()
     run = subprocess.Popen(words[1:])
-    while run.poll() is None:
-        look(seen)
-        time.sleep(1)
+    try:
+        while run.poll() is None:
+            look(seen)
+            time.sleep(1)
+    except KeyboardInterrupt:
+        run.terminate()
     by_tree = collections.defaultdict(lambda: collections.defaultdict(float))
     for (tree, name), taken in seen.values():
         by_tree[tree][name] += taken
