@@ -4,7 +4,7 @@ ghost use Rattle.std.specs.Prelude.{◌≡◌, ◌∷◌, List, ℕ};
 ghost use Rattle.ns_aes_cmac.specs.Aes.{round_keys, aes, unaes};
 ghost use Rattle.ns_aes_cmac.specs.RoundKeys.{in_order};
 
-use crate::key_schedule::{RoundKeys, of_any_length};
+use crate::key_schedule::RoundKeys;
 use crate::round::{inverse_round, last_inverse_round, last_round, round};
 use crate::substitution::to_basis;
 use std::simd::prelude::*;
@@ -14,12 +14,12 @@ use std::simd::prelude::*;
 pub(crate) fn encrypt(keys: &RoundKeys, block: u8x16) -> u8x16
     ensures { (key : List ℕ) → in_order keys.now ≡ key ∷ round_keys key → result ≡ aes key block }
 {
-    let between = of_any_length(&keys.between);
+    let (between, last) = keys.after_first();
     let mut v = to_basis(keys.first ^ block);
     for i in 0..between.len() {
         v = round(v, between[i].bytes);
     }
-    last_round(v, keys.last)
+    last_round(v, u8x16::from_array(last))
 }
 
 /// Two blocks enciphered side by side.

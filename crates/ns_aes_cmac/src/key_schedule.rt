@@ -28,13 +28,25 @@ pub(crate) struct RoundKeys {
     pub(crate) last: u8x16,
 }
 
-/// The same slice. The call stays a call, so the compiler does not see the length, and a loop over the slice stays a loop: round after
-/// round written out takes four times the room in a processor's cache of instructions, and no less time.
+impl RoundKeys {
+    /// The round keys between, and the last one. The call stays a call, so the compiler does not see how many there are and keeps a loop
+    /// over them: round after round written out takes four times the room in a processor's cache of instructions.
+    #[inline(never)]
+    pub(crate) fn after_first(&self) -> (&[RoundKey], [u8; 16])
+        ensures between { result.0.now ≡ self.now.between }
+        ensures last { result.1 ≡ self.now.last }
+    {
+        (&self.between, self.last.to_array())
+    }
+}
+
+/// The round constants of all rounds but the last, and that of the last. The call stays a call here too.
 #[inline(never)]
-pub(crate) fn of_any_length<T>(slice: &[T]) -> &[T]
-    ensures { result.now ≡ slice.now }
+fn constants() -> (&'static [u8], u8)
+    ensures between { result.0.now ≡ ROUND_CONSTANTS }
+    ensures last { result.1 ≡ LAST_CONSTANT }
 {
-    slice
+    (&ROUND_CONSTANTS, LAST_CONSTANT)
 }
 
 /// The key after `key`, both in the basis. `rcon` is the round constant in the basis, with the constant that the look-ups leave out.
@@ -71,12 +83,12 @@ pub(crate) fn expand(key: &[u8; 16]) -> RoundKeys
         bytes: u8x16::splat(0),
     }; 9];
     let mut next = to_basis(first);
-    let constants = of_any_length(&ROUND_CONSTANTS);
+    let (constants, last_constant) = constants();
     for i in 0..constants.len() {
         next = next_key(next, constants[i]);
         between[i].bytes = round_key(next);
     }
-    let last = from_basis(next_key(next, LAST_CONSTANT));
+    let last = from_basis(next_key(next, last_constant));
     RoundKeys {
         first,
         between,

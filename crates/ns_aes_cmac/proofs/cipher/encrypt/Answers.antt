@@ -1,4 +1,5 @@
-use Rattle.std.proofs.Common.{List, length, map, ap, arith}
+use Rattle.std.proofs.Common.{List, length, map, ap, ◌∙◌, arith}
+use Rattle.ns_aes_cmac.specs.Aes.{xor_bytes, shift_rows, sub_bytes}
 use Rattle.ns_aes_cmac.specs.Basis.{from_basis}
 use Rattle.ns_aes_cmac.specs.declared.key_schedule.RoundKey.{RoundKey}
 use Rattle.ns_aes_cmac.proofs.Rounds.{aes_begins, aes_later, aes_ends}
@@ -9,11 +10,12 @@ loop-i-init c key e = aes_begins c.args.keys.now key c.args.block (map from_basi
 
 pub loop-i-preserved : goal.loop-i-preserved
 loop-i-preserved c key e =
-    let same = c.of_any_length-between.ensures in
+    let same = c.after_first.ensures.between in
     let long = ap (λ (l : List RoundKey). length l) same in
-    aes_later c.args.keys.now c.of_any_length-between.result.now (map from_basis c.loop-i.v) (map from_basis c.round-v.result) _ c.loop-i.i _ (omega arith) same c.round-v.ensures (c.loop-i.invariant key e)
+    aes_later c.args.keys.now c.after_first.result.0.now (map from_basis c.loop-i.v) (map from_basis c.round-v.result) _ c.loop-i.i _ (omega arith) same c.round-v.ensures (c.loop-i.invariant key e)
 
 pub returns : goal.returns
 returns c key e =
-    let long = ap (λ (l : List RoundKey). length l) c.of_any_length-between.ensures in
-    aes_ends c.args.keys.now (map from_basis c.loop-i.v) c.last_round.result _ c.loop-i.i (omega arith) c.last_round.ensures (c.loop-i.invariant key e)
+    let long = ap (λ (l : List RoundKey). length l) c.after_first.ensures.between in
+    aes_ends c.args.keys.now (map from_basis c.loop-i.v) c.last_round.result _ c.loop-i.i (omega arith)
+    (c.last_round.ensures ∙ ap (λ k. xor_bytes k (shift_rows (sub_bytes (map from_basis c.loop-i.v)))) c.after_first.ensures.last) (c.loop-i.invariant key e)
