@@ -30,9 +30,9 @@ impl Aes128 {
     pub fn new(key: &Key) -> Self
         ensures { result ≡ key.now.0 }
     {
-        Aes128 {
-            keys: expand(&key.0),
-        }
+        let mut keys = RoundKeys::zeros();
+        expand(&key.0, &mut keys);
+        Aes128 { keys }
     }
 
     /// The block enciphered (FIPS 197, 5.1).
@@ -62,6 +62,7 @@ impl Aes128 {
     }
 
     /// A block in a vector, enciphered.
+    #[inline(always)]
     pub(crate) fn encrypt_vector(&self, block: u8x16) -> u8x16
         ensures { result ≡ aes self.now block }
     {
@@ -69,6 +70,7 @@ impl Aes128 {
     }
 
     /// Two blocks in vectors, enciphered side by side.
+    #[inline(always)]
     pub(crate) fn encrypt_two_vectors(&self, first: u8x16, second: u8x16) -> (u8x16, u8x16)
         ensures first { result.0 ≡ aes self.now first }
         ensures second { result.1 ≡ aes self.now second }

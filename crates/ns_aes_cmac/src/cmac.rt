@@ -1,66 +1,47 @@
 //! CMAC of a message that comes in pieces (RFC 4493, 2.4).
 
-ghost use Rattle.std.specs.Prelude.{◌≡◌, true, ◌∷◌, ◌+◌, ◌-◌, ◌/◌, ◌≤◌, ℕ, List, [], ◌++◌, length, take, drop, replicate};
-ghost use Rattle.ns_aes_cmac.specs.Aes.{aes, round_keys, xor_bytes};
-ghost use Rattle.ns_aes_cmac.specs.RoundKeys.{in_order};
+ghost use Rattle.std.specs.Prelude.{◌≡◌, true, ◌+◌, ◌-◌, ◌/◌, ◌≤◌, ℕ, List, [], ◌++◌, length, take, drop, replicate};
+ghost use Rattle.ns_aes_cmac.specs.Aes.{aes, xor_bytes};
 ghost use Rattle.ns_aes_cmac.specs.Cmac.{doubled, cmac};
 ghost use Rattle.ns_aes_cmac.specs.CmacState.{CmacState, state_of, chained_from};
 
 use crate::aes::Aes128;
-use crate::cipher::{encrypt, encrypt_two};
-use crate::key_schedule::{RoundKeys, expand};
-use ns_types::Key;
 use std::marker::Model;
 use std::simd::prelude::*;
 
-/// A CMAC in progress. `state_of key m` is its value once the message `m` has come under `key`, which each contract hands on:
-/// from `new` over any number of `update` to `finish`.
+/// A CMAC in progress under a key. `state_of key m` is its value once the message `m` has come, which each contract hands on: from `new`
+/// over any number of `update` to `finish`.
 #[derive(Drop)]
-pub struct Cmac {
-    keys: RoundKeys,
+pub struct Cmac<'a> {
+    cipher: &'a Aes128,
     /// Whether a block was taken, and the block of zeros enciphered beside it.
     started: bool,
-    enciphered_zeros: u8x16,
-    chain: u8x16,
+    enciphered_zeros: [u8; 16],
+    chain: [u8; 16],
     /// The bytes not taken yet, then zeros.
     pending: [u8; 16],
     len: usize,
 }
 
-impl Model for Cmac {
+impl<'a> Model for Cmac<'a> {
     ghost Value = { CmacState };
 
-    ghost view = { λ c. record { key = c.keys.first; chain = c.chain; pending = take c.len c.pending } };
+    ghost view = { λ c. record { key = c.cipher.now; chain = c.chain; pending = take c.len c.pending } };
 
-    ghost invariant = { λ c. (c.len ≤ 16) × (drop c.len c.pending ≡ replicate (16 - c.len) 0) × (c.started ≡ true → c.enciphered_zeros ≡ aes c.keys.first (replicate 16 0)) × (in_order c.keys ≡ c.keys.first ∷ round_keys c.keys.first) };
+    ghost invariant = { λ c. (c.len ≤ 16) × (drop c.len c.pending ≡ replicate (16 - c.len) 0) × (c.started ≡ true → c.enciphered_zeros ≡ aes c.cipher.now (replicate 16 0)) };
 }
 
-impl Cmac {
-    /// An empty message under a key, which is expanded.
+impl<'a> Cmac<'a> {
+    /// An empty message under a key, which is expanded already.
     #[inline(always)]
-    pub fn new(key: &Key) -> Self
-        ensures { result ≡ state_of key.now.0 [] }
-    {
-        Cmac {
-            keys: expand(&key.0),
-            started: false,
-            enciphered_zeros: u8x16::splat(0),
-            chain: u8x16::splat(0),
-            pending: [0; 16],
-            len: 0,
-        }
-    }
-
-    /// An empty message under a key that is expanded already.
-    #[inline(always)]
-    pub fn with_cipher(cipher: &Aes128) -> Self
+    pub fn new(cipher: &'a Aes128) -> Cmac<'a>
         ensures { result ≡ state_of cipher.now [] }
     {
         Cmac {
-            keys: cipher.keys,
+            cipher,
             started: false,
-            enciphered_zeros: u8x16::splat(0),
-            chain: u8x16::splat(0),
+            enciphered_zeros: [0; 16],
+            chain: [0; 16],
             pending: [0; 16],
             len: 0,
         }
@@ -87,12 +68,12 @@ impl Cmac {
     /// The code of the whole message.
     #[inline(always)]
     pub fn finish(self) -> [u8; 16]
-        ensures { (key m : List ℕ) → self ≡ state_of key m → result ≡ cmac key m }
+        ensures { (key m : List ℕ) → self.entry ≡ state_of key m → result ≡ cmac key m }
     {
         let zeros = if self.started {
-            self.enciphered_zeros
+            u8x16::from_array(self.enciphered_zeros)
         } else {
-            encrypt(&self.keys, u8x16::splat(0))
+            self.cipher.encrypt_vector(u8x16::splat(0))
         };
         let subkey_1 = doubled(zeros);
         let last = if self.len == 16 {
@@ -102,7 +83,9 @@ impl Cmac {
             padded[self.len] = 0x80;
             u8x16::from_array(padded) ^ doubled(subkey_1)
         };
-        encrypt(&self.keys, self.chain ^ last).to_array()
+        self.cipher
+            .encrypt_vector(u8x16::from_array(self.chain) ^ last)
+            .to_array()
     }
 
     /// More bytes that wait, for which there is room.
@@ -122,13 +105,13 @@ impl Cmac {
         requires { length self.old.pending ≡ 16 }
         ensures { self.new ≡ record self.old { chain = aes self.old.key (xor_bytes self.old.chain self.old.pending); pending = [] } }
     {
-        let block = self.chain ^ u8x16::from_array(self.pending);
+        let block = u8x16::from_array(self.chain) ^ u8x16::from_array(self.pending);
         if self.started {
-            self.chain = encrypt(&self.keys, block);
+            self.chain = self.cipher.encrypt_vector(block).to_array();
         } else {
-            let (zeros, chain) = encrypt_two(&self.keys, u8x16::splat(0), block);
-            self.enciphered_zeros = zeros;
-            self.chain = chain;
+            let (zeros, chain) = self.cipher.encrypt_two_vectors(u8x16::splat(0), block);
+            self.enciphered_zeros = zeros.to_array();
+            self.chain = chain.to_array();
             self.started = true;
         }
         self.pending = [0; 16];
@@ -140,18 +123,18 @@ impl Cmac {
     fn take_blocks(&mut self, blocks: &[u8])
         ensures { self.new ≡ record self.old { chain = chained_from self.old.key self.old.chain blocks.now (length blocks.now / 16) } }
     {
-        self.chain = chained(&self.keys, self.chain, blocks);
+        self.chain = chained(self.cipher, u8x16::from_array(self.chain), blocks).to_array();
     }
 }
 
 /// X after whole blocks, begun from `chain`.
 #[inline(always)]
-fn chained(keys: &RoundKeys, chain: u8x16, blocks: &[u8]) -> u8x16
-    ensures { (key : List ℕ) → in_order keys.now ≡ key ∷ round_keys key → result ≡ chained_from key chain blocks.now (length blocks.now / 16) }
+fn chained(cipher: &Aes128, chain: u8x16, blocks: &[u8]) -> u8x16
+    ensures { result ≡ chained_from cipher.now chain blocks.now (length blocks.now / 16) }
 {
     let mut chain = chain;
     for i in 0..blocks.len() / 16 {
-        chain = encrypt(keys, chain ^ u8x16::from_slice(&blocks[16 * i..]));
+        chain = cipher.encrypt_vector(chain ^ u8x16::from_slice(&blocks[16 * i..]));
     }
     chain
 }

@@ -29,6 +29,17 @@ pub(crate) struct RoundKeys {
 }
 
 impl RoundKeys {
+    /// Keys of zeros, in whose place others are put.
+    #[inline(always)]
+    pub(crate) fn zeros() -> RoundKeys {
+        let zeros = u8x16::splat(0);
+        RoundKeys {
+            first: zeros,
+            between: [RoundKey { bytes: zeros }; 9],
+            last: zeros,
+        }
+    }
+
     /// The round keys between, and the last one. The call stays a call, so the compiler does not see how many there are and keeps a loop
     /// over them: round after round written out takes four times the room in a processor's cache of instructions.
     #[inline(never)]
@@ -73,25 +84,17 @@ fn next_key(key: u8x16, rcon: u8) -> u8x16
     (sums ^ constants) ^ word
 }
 
-/// The key and its round keys.
+/// Puts the key and its round keys in the place of others.
 #[inline(never)]
-pub(crate) fn expand(key: &[u8; 16]) -> RoundKeys
-    ensures { in_order result ≡ key.now ∷ round_keys key.now }
+pub(crate) fn expand(key: &[u8; 16], keys: &mut RoundKeys)
+    ensures { in_order keys.new ≡ key.now ∷ round_keys key.now }
 {
-    let first = u8x16::from_array(*key);
-    let mut between = [RoundKey {
-        bytes: u8x16::splat(0),
-    }; 9];
-    let mut next = to_basis(first);
+    keys.first = u8x16::from_array(*key);
+    let mut next = to_basis(keys.first);
     let (constants, last_constant) = constants();
     for i in 0..constants.len() {
         next = next_key(next, constants[i]);
-        between[i].bytes = round_key(next);
+        keys.between[i].bytes = round_key(next);
     }
-    let last = from_basis(next_key(next, last_constant));
-    RoundKeys {
-        first,
-        between,
-        last,
-    }
+    keys.last = from_basis(next_key(next, last_constant));
 }

@@ -24,7 +24,7 @@ pub fn mic_under(key: &Aes128, dir: Dir, addr: DevAddr, counter: u32, signed: &[
     ensures { result.0 ≡ mic key.now dir addr.0 counter signed.now }
 {
     let blocks = FrameBlocks { dir, addr, counter };
-    let mut cmac = Cmac::with_cipher(key);
+    let mut cmac = Cmac::new(key);
     cmac.update(&blocks.b0(signed.len() as u8));
     cmac.update(signed);
     front(cmac.finish())
@@ -49,7 +49,8 @@ pub fn mic_fits_under(view: &DataView, key: &Aes128, counter: u32) -> bool
 pub fn join_mic_of(app_key: &Key, signed: &[u8]) -> Mic
     ensures { result.0 ≡ join_mic app_key.now.0 signed.now }
 {
-    let mut cmac = Cmac::new(app_key);
+    let cipher = Aes128::new(app_key);
+    let mut cmac = Cmac::new(&cipher);
     cmac.update(signed);
     front(cmac.finish())
 }

@@ -12,7 +12,7 @@ next key x m chain r i e f = rw add-one (f ∙ ap (aes key) (zip2_xor chain (blo
 
 pub loop-i-init : goal.loop-i-init
 unfolding chained_from
-loop-i-init c key e = refl
+loop-i-init c = refl
 
 pub loop-i-preserved : goal.loop-i-preserved
-loop-i-preserved c key e = next key c.args.chain c.args.blocks.now c.loop-i.chain c.encrypt-chain.result c.loop-i.i (c.loop-i.invariant key e) (c.encrypt-chain.ensures key e)
+loop-i-preserved c = next c.args.cipher.now c.args.chain c.args.blocks.now c.loop-i.chain c.encrypt_vector-chain.result c.loop-i.i c.loop-i.invariant c.encrypt_vector-chain.ensures

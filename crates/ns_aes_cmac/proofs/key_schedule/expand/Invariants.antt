@@ -6,4 +6,4 @@ use Rattle.ns_aes_cmac.proofs.key_schedule.expand.Given as goal
 
 -- the first i round keys are made, and the others come of the i-th
 abbrev pub invariant-loop-i : goal.invariant-loop-i
-invariant-loop-i l = (length l.between ≡ 9) × (map round_key (take l.i l.between) ++ round_keys_by (drop l.i round_constants) (map from_basis l.next) ≡ round_keys l.key)
+invariant-loop-i l = (length l.keys.between ≡ 9) × (l.keys.first ≡ l.key) × (map round_key (take l.i l.keys.between) ++ round_keys_by (drop l.i round_constants) (map from_basis l.next) ≡ round_keys l.key)

@@ -11,22 +11,21 @@ use Rattle.ns_aes_cmac.proofs.cmac.Cmac.finish.Goals.{then-self, else-self, then
 pub returns : goal.returns
 returns c key m e =
     let i = c.self.inside in
-    let key_is = c.self.invariant.3 in
-    let zeros : c.if-self.zeros ≡ aes i.keys.first (replicate 16 0) = elim c.if-self.branch [
+    let zeros : c.if-self.zeros ≡ aes i.cipher.now (replicate 16 0) = elim c.if-self.branch [
       | then-self w ↦ w.zeros-is ∙ c.self.invariant.2 w.if-self.true
-      | else-self w ↦ w.zeros-is ∙ w.encrypt-zeros.ensures i.keys.first key_is
+      | else-self w ↦ w.zeros-is ∙ w.encrypt_vector-zeros.ensures
     ] in
     let below : i.len ≤ 16 = c.self.invariant.0 in
     let long : length i.pending ≡ 16 = omega (arith, c.self.ranges) in
     let size : length (take i.len i.pending) ≡ i.len = length-take-le i.len i.pending (omega arith) in
-    let last : c.if-self-eq16.last ≡ last_block i.keys.first (take i.len i.pending) = elim c.if-self-eq16.branch [
+    let last : c.if-self-eq16.last ≡ last_block i.cipher.now (take i.len i.pending) = elim c.if-self-eq16.branch [
       | then-self-eq16 w ↦ (let full : i.len ≡ 16 = w.if-self-eq16.true in
-          whole_last i.keys.first (take i.len i.pending) c.if-self.zeros c.doubled-subkey_1.result zeros c.doubled-subkey_1.ensures
+          whole_last i.cipher.now (take i.len i.pending) c.if-self.zeros c.doubled-subkey_1.result zeros c.doubled-subkey_1.ensures
           i.pending c.if-self-eq16.last (sym (take_all i.len i.pending (omega arith))) (size ∙ full) w.last-is)
       | else-self-eq16 w ↦ (let short : i.len ≢ 16 = w.if-self-eq16.false in
-          short_last i.keys.first (take i.len i.pending) c.if-self.zeros c.doubled-subkey_1.result zeros c.doubled-subkey_1.ensures
+          short_last i.cipher.now (take i.len i.pending) c.if-self.zeros c.doubled-subkey_1.result zeros c.doubled-subkey_1.ensures
           i.pending c.if-self-eq16.last w.doubled.result (padded_is i.pending i.len size c.self.invariant.1) (omega arith) w.doubled.ensures
           (w.last-is ∙ ap (λ (n : ℕ). zip2 bit_xor (set i.pending n 0x80) w.doubled.result) (sym size)))
     ] in
-    c.encrypt.ensures i.keys.first key_is ∙ ap (aes i.keys.first) (zip2_xor i.chain c.if-self-eq16.last ∙ ap (xor_bytes i.chain) last)
-    ∙ cmac_is key m (record { key = i.keys.first; chain = i.chain; pending = take i.len i.pending }) (c.self.view_is ∙ e)
+    c.encrypt_vector.ensures ∙ ap (aes i.cipher.now) (zip2_xor i.chain c.if-self-eq16.last ∙ ap (xor_bytes i.chain) last)
+    ∙ cmac_is key m (record { key = i.cipher.now; chain = i.chain; pending = take i.len i.pending }) (c.self.view_is ∙ e)

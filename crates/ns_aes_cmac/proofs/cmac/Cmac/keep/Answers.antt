@@ -10,7 +10,7 @@ invariant_of-self c =
     let p = c.self.inside.pending in
     let len = c.self.inside.len in
     let n = length c.args.bytes.now in
-    let long : length p ≡ 16 = c.self.told in
+    let long : length p ≡ 16 = c.self.told.2 in
     let below : len ≤ 16 = c.self.invariant.0 in
     let held : length (take len p) ≡ length c.args.self.now.pending = ap (λ (s : CmacState). length s.pending) c.self.view_is in
     let room : length c.args.self.now.pending + n ≤ 16 = c.requires in
@@ -19,5 +19,4 @@ invariant_of-self c =
       fits,
       drop-put_mid len (len + n - len) p c.copy_from_slice.new.self (len + n) (omega arith) (omega arith) (omega (arith, c.copy_from_slice.ensures)) ∙ still_zero p len n c.self.invariant.1,
       c.self.invariant.2,
-      c.self.invariant.3,
     )

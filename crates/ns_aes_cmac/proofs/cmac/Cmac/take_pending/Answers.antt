@@ -10,8 +10,8 @@ returns c =
     let i = c.self.inside in
     let full : length (take i.len i.pending) ≡ 16 = ap (λ (s : CmacState). length s.pending) c.self.view_is ∙ c.requires in
     elim c.if-self.branch [
-      | then-self w ↦ ap (λ (s : Inside). record { key = s.keys.first; chain = s.chain; pending = [] }) w.self-inside-is
-          ∙ pending_taken i.keys.first i.chain i.pending i.len w.encrypt-self-inside.result c.self.told full (w.encrypt-self-inside.ensures i.keys.first c.self.invariant.3) ∙ ap after_pending c.self.view_is
-      | else-self w ↦ ap (λ (s : Inside). record { key = s.keys.first; chain = s.chain; pending = [] }) w.self-inside-is
-          ∙ pending_taken i.keys.first i.chain i.pending i.len w.encrypt_two.result.1 c.self.told full (w.encrypt_two.ensures.second i.keys.first c.self.invariant.3) ∙ ap after_pending c.self.view_is
+      | then-self w ↦ ap (λ (s : Inside). record { key = s.cipher.now; chain = s.chain; pending = [] }) w.self-inside-is
+          ∙ pending_taken i.cipher.now i.chain i.pending i.len w.encrypt_vector.result c.self.told.2 full w.encrypt_vector.ensures ∙ ap after_pending c.self.view_is
+      | else-self w ↦ ap (λ (s : Inside). record { key = s.cipher.now; chain = s.chain; pending = [] }) w.self-inside-is
+          ∙ pending_taken i.cipher.now i.chain i.pending i.len w.encrypt_two_vectors.result.1 c.self.told.2 full w.encrypt_two_vectors.ensures.second ∙ ap after_pending c.self.view_is
     ]

@@ -8,7 +8,7 @@ pub returns-then-bytes-room : goal.returns-then-bytes-room
 returns-then-bytes-room c key m e =
     let p = c.self.inside.pending in
     let len = c.self.inside.len in
-    let whole : length p ≡ 16 = c.self.told in
+    let whole : length p ≡ 16 = c.self.told.2 in
     let below : len ≤ 16 = c.self.invariant.0 in
     let size : length (take len p) ≡ len = length-take-le len p (omega arith) in
     let held : length (take len p) ≡ length c.args.self.now.pending = ap (λ (s : CmacState). length s.pending) c.self.view_is in
@@ -19,7 +19,7 @@ pub returns-else-bytes-room : goal.returns-else-bytes-room
 returns-else-bytes-room c key m e =
     let p = c.self.inside.pending in
     let len = c.self.inside.len in
-    let whole : length p ≡ 16 = c.self.told in
+    let whole : length p ≡ 16 = c.self.told.2 in
     let below : len ≤ 16 = c.self.invariant.0 in
     let size : length (take len p) ≡ len = length-take-le len p (omega arith) in
     let held : length (take len p) ≡ length c.args.self.now.pending = ap (λ (s : CmacState). length s.pending) c.self.view_is in
