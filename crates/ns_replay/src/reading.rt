@@ -57,6 +57,16 @@ fn take(
     }
 }
 
+// Takes the memory of what came of a line, for the windows of later ones.
+#[inline(always)]
+fn reuse(shards: &mut Shards, taken: Option<Taken>)
+    ensures { shards.new ≡ shards.old }
+{
+    if let Some(taken) = taken {
+        shards.reuse(taken);
+    }
+}
+
 // Answers what a line asks for.
 #[inline(always)]
 fn add(alloc: Global, answers: &mut Answers, act: &Option<LentAct<'_>>) -> Result<(), AllocError>
@@ -71,7 +81,9 @@ fn add(alloc: Global, answers: &mut Answers, act: &Option<LentAct<'_>>) -> Resul
         &mut answers.line,
         answers.uplinks,
         &taken,
-    )
+    )?;
+    reuse(&mut answers.shards, taken);
+    Ok(())
 }
 
 // Answers a line, of which `line` has what stands before its end, and empties that. A line that stands in `end` whole is not copied, and a

@@ -8,7 +8,7 @@ ghost use Rattle.ns_steps.specs.StepLines.{ended};
 ghost use Rattle.ns_replay.specs.Output.{refusal_text, answer_lines, text_of};
 
 use itoa::Buffer;
-use ns_calls::Uplink;
+use ns_calls::LentUplink;
 use ns_events::uplink_json;
 use ns_lines::{Line, put_downlink, put_lent_uplink, put_reply};
 use ns_output::Output;
@@ -46,10 +46,10 @@ fn put_refusal(
 
 // Puts the JSON object of an uplink on a line. It is kept apart from the `up` line, which needs less room.
 #[inline(never)]
-fn put_object(text: &mut Vec<u8>, uplink: &Uplink) -> Result<(), AllocError>
+fn put_object(text: &mut Vec<u8>, uplink: &LentUplink) -> Result<(), AllocError>
     ensures { OnOk result (text.new.items ≡ text.old.items ++ ended (uplink_json None uplink.now)) }
 {
-    put_ended(text, uplink_json(&None, uplink).as_str())
+    put_ended(text, uplink_json(&None, &uplink.to_uplink()).as_str())
 }
 
 // Puts the line of the uplink that goes out with an answer. It is kept apart from the answers with which none goes out.
@@ -71,7 +71,7 @@ fn put_sent(
             put_lent_uplink(line, &uplink);
             put_ended(text, line.as_str())
         }
-        Output::Json => put_object(text, &uplink.to_uplink()),
+        Output::Json => put_object(text, &uplink),
     }
 }
 

@@ -132,6 +132,18 @@ impl BoxedAnswer {
         BoxedAnswer::sending(alloc, self.reply, Some(uplink), self.downlink())
     }
 
+    /// The uplink that went out, where it lies in the memory of its window.
+    pub(crate) fn into_window(mut self) -> Option<BoxedUplink> {
+        let Sent {
+            uplink,
+            downlink: _,
+        } = Box::into_inner(self.sent.take()?);
+        match uplink {
+            Some(Lain::Window(uplink)) => Some(uplink),
+            _ => None,
+        }
+    }
+
     /// The reply.
     pub fn reply(&self) -> Reply
         ensures { result ≡ self.now.reply }

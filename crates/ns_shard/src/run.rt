@@ -191,6 +191,18 @@ impl Shards {
         Ok(taken)
     }
 
+    /// Takes the memory of what came of a step, for windows that are opened later. Contracts see no change.
+    pub fn reuse(&mut self, taken: Taken)
+        ensures { self.new ≡ self.old }
+    {
+        let Taken::Made { shard, answer, .. } = taken else {
+            return;
+        };
+        if let Some(shard) = self.list.get_mut(usize::from(shard)) {
+            shard.reuse(answer);
+        }
+    }
+
     /// The shards, each at its number.
     pub fn as_slice(&self) -> &[Shard]
         ensures { result.now ≡ self.now }

@@ -196,6 +196,13 @@ impl Shard {
         self.parts.apply_boxed(alloc, call)
     }
 
+    /// Takes the memory of what went out with an answer, for a window that is opened later. Contracts see no change.
+    pub(crate) fn reuse(&mut self, answer: BoxedAnswer)
+        ensures same { self.new ≡ self.old }
+    {
+        self.parts.reuse(answer.into_window());
+    }
+
     /// The shard's number, 0 to 15. Its calls are those of which `shard_of_call` is this number.
     pub fn index(&self) -> u8
         ensures is { result ≡ self.now.index }
