@@ -1,7 +1,7 @@
 //! The texts of faults and of times, how runs end, and the exit statuses.
 
-use crate::commands::stand_in::StandIn;
-use crate::commands::words::words_of;
+use crate::stand_in::StandIn;
+use crate::words::words_of;
 use log::sink::Discard;
 use ns_commands::{
     End, Fault, concluded, ended, of_reading, of_replay, of_roster, of_serve, read_roster, refused,
@@ -13,8 +13,10 @@ use ns_serve_parts::ServeFault;
 use ns_upkeep::compact;
 use ns_words::{Asked, BadWords, read_words};
 use std::alloc::Global;
+use std::fs::File;
 use std::io::ErrorKind;
 use std::process::ExitCode;
+use std::rt::Files;
 use std::time::Duration;
 
 // Whether a fault is printed so.
@@ -97,7 +99,10 @@ fn statuses(rt: HostRuntime) {
 }
 
 // How the program ends with these words, whose roster is not there. A server is not begun.
-fn end_of<'a>(rt: &StandIn<'_, HostRuntime>, words: &'a [String]) -> End<'a> {
+fn end_of<'a, R: Files<File = File> + AllocGlobal + Input + Print>(
+    rt: &R,
+    words: &'a [String],
+) -> End<'a> {
     match read_words(rt.alloc(), words) {
         Ok(Asked::Replay(path, uplinks, closing)) => {
             End::Ran(run_replay(rt, &Discard, path, uplinks, closing))
@@ -112,7 +117,10 @@ fn end_of<'a>(rt: &StandIn<'_, HostRuntime>, words: &'a [String]) -> End<'a> {
 }
 
 // The status with which the program ends with the words of a text.
-fn status_of(rt: &StandIn<'_, HostRuntime>, text: &str) -> Option<ExitCode> {
+fn status_of<R: Files<File = File> + AllocGlobal + Input + Print + Eprint>(
+    rt: &R,
+    text: &str,
+) -> Option<ExitCode> {
     let words = words_of(rt.alloc(), text, &[]).ok()?;
     let end = end_of(rt, words.as_slice());
     Some(concluded(rt, &Discard, &end))
@@ -128,7 +136,7 @@ const STATUSES: [(&str, u8); 4] = [
 
 #[test]
 fn runs_that_fail(rt: HostRuntime) {
-    let stand_in = StandIn::new(rt, rt.alloc(), b"");
+    let stand_in = StandIn::new(rt, b"");
     for (text, status) in STATUSES {
         assert!(rt;
             status_of(&stand_in, text) == Some(ExitCode::from(status)),

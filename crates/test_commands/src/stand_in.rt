@@ -1,12 +1,12 @@
-//! A runtime whose streams are in memory, whose clock stands, and whose network refuses. Files and memory are those of another.
+//! A runtime whose streams are in memory, whose clock stands, and whose network refuses. Files and memory are the system's.
 
 use std::alloc::{Allocator, Global};
 use std::cell::RefCell;
 use std::fmt::Display;
-use std::fs::{Metadata, OpenOptions};
+use std::fs::{File, Metadata, OpenOptions};
 use std::io;
 use std::io::{BufRead, ErrorKind, Lines, Write};
-use std::net::{Net, SocketAddr, UdpSocket};
+use std::net::{Net, SocketAddr, TcpListener, TcpStream, UdpSocket};
 use std::rt::Files;
 use std::time::{Clock, Duration};
 
@@ -21,58 +21,50 @@ pub const LIMIT: u64 = 3000;
 
 /// The runtime.
 #[derive(Drop)]
-pub struct StandIn<'a, R> {
-    rt: R,
+pub struct StandIn<'a> {
+    rt: HostRuntime,
     input: &'a [u8],
     printed: RefCell<Vec<u8>>,
     told: RefCell<Vec<u8>>,
 }
 
-impl<'a, R> StandIn<'a, R> {
-    /// One with the files and the memory of this runtime, and with these bytes on standard input.
-    pub fn new(rt: R, alloc: Global, input: &'a [u8]) -> StandIn<'a, R> {
+impl<'a> StandIn<'a> {
+    /// One with these bytes on standard input.
+    pub fn new(rt: HostRuntime, input: &'a [u8]) -> StandIn<'a> {
         StandIn {
             rt,
             input,
-            printed: RefCell::new(Vec::new(alloc)),
-            told: RefCell::new(Vec::new(alloc)),
+            printed: RefCell::new(Vec::new(rt.alloc())),
+            told: RefCell::new(Vec::new(rt.alloc())),
         }
     }
 
-    /// Whether these texts, one behind the other, are what was written to standard output.
-    pub fn has_printed(&self, texts: &[&str]) -> bool {
-        holds(&self.printed, texts)
+    /// Whether this is what was written to standard output.
+    pub fn has_printed(&self, text: &str) -> bool {
+        holds(&self.printed, text)
     }
 
     /// Whether this is what was written to standard error.
     pub fn has_told(&self, text: &str) -> bool {
-        holds(&self.told, &[text])
+        holds(&self.told, text)
     }
 }
 
-fn holds(stream: &RefCell<Vec<u8>>, texts: &[&str]) -> bool {
+// Whether this is what stands in a stream.
+fn holds(stream: &RefCell<Vec<u8>>, text: &str) -> bool {
     match stream.try_borrow() {
-        Ok(bytes) => are_texts(bytes.as_slice(), texts),
+        Ok(bytes) => bytes.as_slice() == text.as_bytes(),
         Err(_) => false,
     }
 }
 
-// Whether bytes are these texts, one behind the other.
-fn are_texts(bytes: &[u8], texts: &[&str]) -> bool {
-    let mut rest = bytes;
-    for text in texts {
-        match rest.strip_prefix(text.as_bytes()) {
-            Some(more) => rest = more,
-            None => return false,
-        }
-    }
-    rest.is_empty()
-}
-
-// Puts a text into a stream.
-fn put<D: Display + Drop>(stream: &RefCell<Vec<u8>>, text: D) -> io::Result<()> {
+// Puts a text and what ends it into a stream.
+fn put<D: Display + Drop>(stream: &RefCell<Vec<u8>>, text: D, end: &str) -> io::Result<()> {
     match stream.try_borrow_mut() {
-        Ok(mut bytes) => bytes.write_fmt(text),
+        Ok(mut bytes) => {
+            bytes.write_fmt(text)?;
+            bytes.write_fmt(end)
+        }
         Err(_) => refusal(ErrorKind::ResourceBusy),
     }
 }
@@ -81,15 +73,15 @@ fn refusal<T>(kind: ErrorKind) -> io::Result<T> {
     Err(io::Error::from(kind))
 }
 
-impl<'a, R: Alloc> Alloc for StandIn<'a, R> {
-    type A = R::A;
+impl<'a> Alloc for StandIn<'a> {
+    type A = Global;
 
-    fn alloc(&self) -> R::A {
+    fn alloc(&self) -> Global {
         self.rt.alloc()
     }
 }
 
-impl<'a, R> Input for StandIn<'a, R> {
+impl<'a> Input for StandIn<'a> {
     type Reader = &'a [u8];
 
     fn read_line<A: Allocator + Clone>(&self, _buf: &mut String<A>) -> io::Result<usize> {
@@ -105,36 +97,34 @@ impl<'a, R> Input for StandIn<'a, R> {
     }
 }
 
-impl<'a, R> Print for StandIn<'a, R> {
+impl<'a> Print for StandIn<'a> {
     fn print<D: Display + Drop>(&self, value: D) -> io::Result<()> {
-        put(&self.printed, value)
+        put(&self.printed, value, "")
     }
 
     fn println<D: Display + Drop>(&self, value: D) -> io::Result<()> {
-        put(&self.printed, value)?;
-        put(&self.printed, "\n")
+        put(&self.printed, value, "\n")
     }
 
     fn write_all(&self, bytes: &[u8]) -> io::Result<()> {
         match self.printed.try_borrow_mut() {
-            Ok(mut printed) => Ok(printed.extend_from_slice(bytes)?),
+            Ok(mut printed) => printed.write_all(bytes),
             Err(_) => refusal(ErrorKind::ResourceBusy),
         }
     }
 }
 
-impl<'a, R> Eprint for StandIn<'a, R> {
+impl<'a> Eprint for StandIn<'a> {
     fn eprint<D: Display + Drop>(&self, value: D) -> io::Result<()> {
-        put(&self.told, value)
+        put(&self.told, value, "")
     }
 
     fn eprintln<D: Display + Drop>(&self, value: D) -> io::Result<()> {
-        put(&self.told, value)?;
-        put(&self.told, "\n")
+        put(&self.told, value, "\n")
     }
 }
 
-impl<'a, R> Clock for StandIn<'a, R> {
+impl<'a> Clock for StandIn<'a> {
     fn monotonic(&self) -> io::Result<Duration> {
         Ok(Duration::from_millis(SINCE_START))
     }
@@ -145,20 +135,20 @@ impl<'a, R> Clock for StandIn<'a, R> {
 }
 
 // Each call is refused in a way of its own.
-impl<'a, R: Net> Net for StandIn<'a, R> {
-    type Stream = R::Stream;
+impl<'a> Net for StandIn<'a> {
+    type Stream = TcpStream;
 
-    type Listener = R::Listener;
+    type Listener = TcpListener;
 
-    fn bind(&self, _addr: SocketAddr) -> io::Result<R::Listener> {
+    fn bind(&self, _addr: SocketAddr) -> io::Result<TcpListener> {
         refusal(ErrorKind::AddrInUse)
     }
 
-    fn connect(&self, _addr: SocketAddr) -> io::Result<R::Stream> {
+    fn connect(&self, _addr: SocketAddr) -> io::Result<TcpStream> {
         refusal(ErrorKind::ConnectionRefused)
     }
 
-    fn connect_timeout(&self, _addr: SocketAddr, timeout: Duration) -> io::Result<R::Stream> {
+    fn connect_timeout(&self, _addr: SocketAddr, timeout: Duration) -> io::Result<TcpStream> {
         refusal(if timeout == Duration::from_millis(LIMIT) {
             ErrorKind::TimedOut
         } else {
@@ -175,16 +165,16 @@ impl<'a, R: Net> Net for StandIn<'a, R> {
     }
 }
 
-impl<'a, R: Files> Files for StandIn<'a, R> {
-    type File = R::File;
+impl<'a> Files for StandIn<'a> {
+    type File = File;
 
-    type Dir = R::Dir;
+    type Dir = <HostRuntime as Files>::Dir;
 
-    fn open_file(&self, how: &OpenOptions, path: &str) -> io::Result<R::File> {
+    fn open_file(&self, how: &OpenOptions, path: &str) -> io::Result<File> {
         self.rt.open_file(how, path)
     }
 
-    fn open_dir(&self, path: &str) -> io::Result<R::Dir> {
+    fn open_dir(&self, path: &str) -> io::Result<<HostRuntime as Files>::Dir> {
         self.rt.open_dir(path)
     }
 

@@ -1,15 +1,16 @@
 //! What runs write to standard output, and what the program's runtime hands on.
 
-use crate::commands::stand_in::{LIMIT, SINCE_1970, SINCE_START, StandIn};
-use crate::folder::{make, text_of};
-use crate::place;
+use crate::stand_in::{LIMIT, SINCE_1970, SINCE_START, StandIn};
 use log::info;
 use log::sink::Discard;
 use ns_commands::{Logging, Timed, VARIABLE, run_replay};
 use ns_output::Output;
 use ns_upkeep::compact;
+use std::alloc::AllocError;
+use std::fs::File;
 use std::io::ErrorKind;
 use std::net::{Net, SocketAddr};
+use std::rt::Files;
 use std::time::{Clock, Duration};
 use std::{fs, io};
 use test_device::worked::{ANSWER, CLOSE, JOIN, JOIN_2, ROSTER, UPLINK, UPLINK_2};
@@ -44,24 +45,37 @@ const REPLAYS: [(Output, bool, &str, &str); 3] = [
     (Output::Lines, true, LINE, CLOSING),
 ];
 
+// Makes a file of the roster, and replays what comes on standard input by it. Whether that was done.
+fn is_replayed<R: Files + AllocGlobal + Input + Print>(
+    rt: &R,
+    uplinks: Output,
+    closing: bool,
+) -> io::Result<bool> {
+    let path = "test_commands_closing.json";
+    fs::write(rt, path, ROSTER.as_bytes())?;
+    let outcome = run_replay(rt, &Discard, path, uplinks, closing);
+    fs::remove_file(rt, path)?;
+    Ok(outcome.is_ok())
+}
+
 // Whether `replay` writes the answers to the steps and then these texts.
-fn writes(stand_in: &StandIn<'_, HostRuntime>, row: (Output, bool, &str, &str)) -> bool {
+fn writes(
+    rt: HostRuntime,
+    steps: &[u8],
+    row: (Output, bool, &str, &str),
+) -> Result<bool, AllocError> {
     let (uplinks, closing, up, last) = row;
-    let outcome = run_replay(
-        stand_in,
-        &Discard,
-        "test_records_closing.json",
-        uplinks,
-        closing,
-    );
-    outcome.is_ok() && stand_in.has_printed(&[ANSWERS, up, last])
+    let stand_in = StandIn::new(rt, steps);
+    let is_done = matches!(is_replayed(&stand_in, uplinks, closing), Ok(true));
+    let wanted = [ANSWERS, up, last].concat(rt.alloc())?;
+    Ok(is_done && stand_in.has_printed(wanted.as_str()))
 }
 
 // The row by which `replay` writes otherwise, if one is.
-fn other_row(rt: HostRuntime) -> io::Result<Option<&'static str>> {
-    let steps = text_of(rt.alloc(), STEPS)?;
+fn other_row(rt: HostRuntime) -> Result<Option<&'static str>, AllocError> {
+    let steps = STEPS.concat(rt.alloc())?;
     for row in REPLAYS {
-        if !writes(&StandIn::new(rt, rt.alloc(), steps.as_slice()), row) {
+        if !writes(rt, steps.as_bytes(), row)? {
             return Ok(Some(row.2));
         }
     }
@@ -71,23 +85,34 @@ fn other_row(rt: HostRuntime) -> io::Result<Option<&'static str>> {
 // What `replay` writes: uplinks as lines or as objects, and the closing roster only where it is asked for.
 #[test]
 fn closing_rosters(rt: HostRuntime) {
-    let path = "test_records_closing.json";
-    assert!(rt; fs::write(&rt, path, ROSTER.as_bytes()).is_ok());
     assert!(rt; matches!(other_row(rt), Ok(None)));
-    assert!(rt; fs::remove_file(&rt, path).is_ok());
+}
+
+// Makes the folder of a record, with the steps, no `up` lines, and the roster beside them.
+fn make<R: Files + AllocGlobal>(rt: &R, folder: &str) -> io::Result<()> {
+    let _ = fs::remove_dir_all(rt, folder);
+    fs::create_dir(rt, folder)?;
+    let steps = STEPS.concat(rt.alloc())?;
+    fs::write(rt, "test_commands_compact/steps", steps.as_bytes())?;
+    fs::write(rt, "test_commands_compact/up", b"")?;
+    fs::write(rt, "test_commands_compact/roster.json", ROSTER.as_bytes())
+}
+
+// Makes a record, and makes it shorter. Whether that was done.
+fn is_compacted<R: Files<File = File> + AllocGlobal + Print>(rt: &R) -> io::Result<bool> {
+    let folder = "test_commands_compact";
+    make(rt, folder)?;
+    let outcome = compact(rt, &Discard, "test_commands_compact/roster.json", folder);
+    fs::remove_dir_all(rt, folder)?;
+    Ok(outcome.is_ok())
 }
 
 // What `compact` prints of these six lines, of which it leaves out the two copies.
 #[test]
 fn lines_before_and_after(rt: HostRuntime) {
-    let (path, place) = ("test_records_compact.json", place!("test_records_compact"));
-    assert!(rt; fs::write(&rt, path, ROSTER.as_bytes()).is_ok());
-    assert!(rt; make(&rt, &place, STEPS, &[]).is_ok());
-    let stand_in = StandIn::new(rt, rt.alloc(), b"");
-    let done = compact(&stand_in, &Discard, path, place.folder).is_ok();
-    assert!(rt; done && stand_in.has_printed(&["compacted 6 4\n"]));
-    assert!(rt; fs::remove_file(&rt, path).is_ok());
-    assert!(rt; fs::remove_dir_all(&rt, place.folder).is_ok());
+    let stand_in = StandIn::new(rt, b"");
+    assert!(rt; matches!(is_compacted(&stand_in), Ok(true)));
+    assert!(rt; stand_in.has_printed("compacted 6 4\n"));
 }
 
 // How it was refused, if it was.
@@ -119,7 +144,7 @@ fn is_at_the_times<C: Clock>(clock: &C) -> bool {
 // The program's runtime hands on each call as it is, and writes a log line behind the time of day; the variable is that of OPERATOR.
 #[test]
 fn the_wrapper_hands_on(rt: HostRuntime) {
-    let stand_in = StandIn::new(rt, rt.alloc(), b"");
+    let stand_in = StandIn::new(rt, b"");
     let logging = Logging::new(&stand_in, Timed(&stand_in));
     assert!(rt; is_at_the_times(&logging));
     let wanted = [
@@ -132,7 +157,7 @@ fn the_wrapper_hands_on(rt: HostRuntime) {
     assert!(rt; refusals(&logging) == wanted);
     info!(logging; "heard {}", 2);
     assert!(rt;
-        stand_in.has_told("[2026-11-24T09:30:00.125Z INFO  test_records::commands::runs] heard 2\n")
+        stand_in.has_told("[2026-11-24T09:30:00.125Z INFO  test_commands::runs] heard 2\n")
     );
     assert!(rt; VARIABLE == "RUST_LOG");
 }
