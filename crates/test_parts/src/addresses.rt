@@ -14,30 +14,29 @@ fn none(alloc: Global) -> Option<Peers> {
 // Three gateways, of which the first is heard again behind the address that the third has.
 const HEARD: &[(u64, u16)] = &[(1, 5000), (2, 5000), (1, 5001), (3, 5001)];
 
-// Whether gateways are heard from there.
+// Gateways are heard from there. Whether each was.
 fn are_heard(peers: &mut Peers) -> bool {
+    let mut are_heard = true;
     for &(gateway, port) in HEARD {
-        if peers.hear(gateway, local(port)).is_err() {
-            return false;
-        }
+        are_heard = peers.hear(gateway, local(port)).is_ok() && are_heard;
     }
-    true
+    are_heard
 }
 
 // Whether the first and the third are kept then.
-fn are_kept(peers: &mut Peers) -> bool {
-    are_heard(peers)
-        && peers.addr(1) == Some(local(5001))
+fn are_kept(alloc: Global) -> bool {
+    let Some(mut peers) = none(alloc) else {
+        return false;
+    };
+    let there = Some(local(5001));
+    are_heard(&mut peers)
+        && peers.addr(1) == there
         && peers.addr(2).is_none()
-        && peers.addr(3) == Some(local(5001))
+        && peers.addr(3) == there
 }
 
 /// Where a gateway is heard last is kept, also behind an address that another has; the one not heard for longest goes.
 #[test]
 fn addresses_are_kept(rt: HostRuntime) {
-    let are_kept = match none(rt.alloc()) {
-        Some(mut peers) => are_kept(&mut peers),
-        None => false,
-    };
-    assert!(rt; are_kept);
+    assert!(rt; are_kept(rt.alloc()));
 }

@@ -2,6 +2,7 @@
 ghost use Rattle.std.specs.Prelude.{None};
 ghost use Rattle.std.specs.Option.{option_map};
 
+use crate::failures::Act::{Lose, Put, Write};
 use crate::rows::{Row, each_holds};
 use ns_record_files::{Disk, LineText, RecordLines, RecordWriter, Recorder};
 use ns_types::{BLOCKS, Failed, take_all};
@@ -113,8 +114,8 @@ fn has(disk: &Memory, steps: &str, safe: usize, ups: &str) -> bool {
         && disk.ups.as_slice() == ups.as_bytes()
 }
 
-impl<R> Row<R> for After {
-    fn holds(&self, _rt: &R, alloc: Global) -> bool {
+impl Row for After {
+    fn holds(&self, alloc: Global) -> bool {
         let &After(done, steps, safe, ups, told) = self;
         let mut writer = RecordWriter::new(Memory::new(alloc, done));
         let is_told = write_three(&mut writer) == told && writer.has_failed() == (done < 9);
@@ -125,7 +126,7 @@ impl<R> Row<R> for After {
 /// Where a call of the files fails, they have what was written before and a front of the rest, and each batch after it is refused.
 #[test]
 fn each_call_fails_in_turn(rt: HostRuntime) {
-    each_holds(&rt, rt.alloc(), AFTER);
+    each_holds(&rt, rt.alloc(), "calls", AFTER);
 }
 
 // A call of which a record has these lines.
@@ -181,25 +182,6 @@ pub(crate) fn put<R: Wait, D: Disk + Drop>(
     recorder.write(rt).is_ok()
 }
 
-// A recorder over files in memory of whose calls so many are done.
-fn over_memory(alloc: Global, done: u32) -> Result<Recorder<Memory>, AllocError> {
-    Recorder::new(alloc, RecordWriter::new(Memory::new(alloc, done)))
-}
-
-// Lines that are put before they are written together.
-const LINES: &[(&str, Option<&str>)] = &[("b", None), ("a", Some("up a")), ("c", Some("up c"))];
-
-// Whether lines are written: these, none, and one more.
-fn are_written<R: Wait>(rt: &R, recorder: &Recorder<Memory>) -> bool {
-    for &(step, up) in LINES {
-        recorder.put(rt, &Told::new(step, up));
-    }
-    !recorder.is_due()
-        && recorder.write(rt).is_ok()
-        && recorder.write(rt).is_ok()
-        && put(rt, recorder, "d", None)
-}
-
 // Puts lines, of twice as many bytes as a recorder takes room for at first.
 fn put_many<R: Wait>(rt: &R, recorder: &Recorder<Memory>) {
     let call = Told::new("close 000000000000000d 1 2", None);
@@ -221,50 +203,93 @@ fn put_without_memory<R: Wait>(rt: &R, alloc: Global, recorder: &Recorder<Memory
 // What is done to a recorder.
 #[derive(Clone, Copy)]
 enum Act {
-    // The lines are written.
-    Write,
-    // A write fails, and the one after it, where nothing was put since.
-    Fail,
-    // Lines are put without memory, and a write fails once there is memory again.
+    // A line is put, for which nothing is due yet, with its `up` line, if it has one.
+    Put(&'static str, Option<&'static str>),
+    // Those that were put are written, or cannot be.
+    Write(bool),
+    // Lines are put without memory.
     Lose,
 }
 
 // Whether this is done.
 fn is_done<R: Wait>(rt: &R, alloc: Global, recorder: &Recorder<Memory>, act: Act) -> bool {
     match act {
-        Act::Write => are_written(rt, recorder),
-        Act::Fail => !put(rt, recorder, "a", None) && recorder.write(rt).is_err(),
-        Act::Lose => { put_without_memory(rt, alloc, recorder) && recorder.write(rt).is_err() }
+        Put(step, up) => {
+            recorder.put(rt, &Told::new(step, up));
+            !recorder.is_due()
+        }
+        Write(is_written) => recorder.write(rt).is_ok() == is_written,
+        Lose => put_without_memory(rt, alloc, recorder),
     }
 }
 
-// How many calls of the files are done, what is done to a recorder over them, how many calls there are, and what the files have then.
-#[derive(Clone, Copy)]
-struct Left(u32, Act, u32, &'static str, usize, &'static str);
+// Whether all of it is done.
+fn are_done<R: Wait>(rt: &R, alloc: Global, recorder: &Recorder<Memory>, acts: &[Act]) -> bool {
+    for &act in acts {
+        if !is_done(rt, alloc, recorder, act) {
+            return false;
+        }
+    }
+    true
+}
 
-const ACTS: &[Left] = &[
+// How many calls of the files are done, what is done to a recorder over them, how many calls there are, and what the files have then.
+struct Left(u32, &'static [Act], u32, &'static str, usize, &'static str);
+
+const LEFT: &[Left] = &[
     // A recorder writes each line once, in the order in which they were put, and calls the files only where lines are there.
-    Left(9, Act::Write, 6, "b\na\nc\nd\n", 8, "up a\nup c\n"),
+    Left(
+        9,
+        &[
+            Put("b", None),
+            Put("a", Some("up a")),
+            Put("c", Some("up c")),
+            Write(true),
+            Write(true),
+            Put("d", None),
+            Write(true),
+        ],
+        6,
+        "b\na\nc\nd\n",
+        8,
+        "up a\nup c\n",
+    ),
     // After a failed write every further one fails, also where nothing was put since, and the files are not called again.
-    Left(0, Act::Fail, 1, "a", 0, ""),
+    Left(
+        0,
+        &[Put("a", None), Write(false), Write(false)],
+        1,
+        "a",
+        0,
+        "",
+    ),
     // Where a line was put for which no memory was left, every write fails from then on, also once there is memory again, and no line of
     // those that were kept is written.
-    Left(9, Act::Lose, 0, "", 0, ""),
+    Left(9, &[Lose, Write(false)], 0, "", 0, ""),
 ];
 
-impl<R: Wait> Row<R> for Left {
-    fn holds(&self, rt: &R, alloc: Global) -> bool {
-        let &Left(done, act, calls, steps, safe, ups) = self;
-        let Ok(recorder) = over_memory(alloc, done) else {
+// Whether it is left so.
+fn is_left<R: Wait>(rt: &R, alloc: Global, left: &Left) -> bool {
+    let &Left(done, acts, calls, steps, safe, ups) = left;
+    let Ok(recorder) = Recorder::new(alloc, RecordWriter::new(Memory::new(alloc, done))) else {
+        return false;
+    };
+    let are_done = are_done(rt, alloc, &recorder, acts);
+    let disk = recorder.into_disk();
+    are_done && disk.calls == calls && has(&disk, steps, safe, ups)
+}
+
+// Whether each is.
+fn are_left<R: Wait>(rt: &R, alloc: Global) -> bool {
+    for left in LEFT {
+        if !is_left(rt, alloc, left) {
             return false;
-        };
-        let is_done = is_done(rt, alloc, &recorder, act);
-        let disk = recorder.into_disk();
-        is_done && disk.calls == calls && has(&disk, steps, safe, ups)
+        }
     }
+    true
 }
 
 #[test]
 fn recorders_write_once_and_forget_no_failure(rt: HostRuntime) {
-    each_holds(&rt, rt.alloc(), ACTS);
+    assert!(rt; are_left(&rt, rt.alloc()));
 }

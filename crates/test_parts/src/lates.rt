@@ -1,6 +1,5 @@
 //! Late copies of frames whose windows were closed, of all shards. A copy is late for 2 s.
 
-use crate::rows::{Row, each_holds};
 use ns_front::{FrameName, Lates};
 use std::alloc::Global;
 use std::sync::Wait;
@@ -77,11 +76,6 @@ fn goes_first_alone<R: Wait>(rt: &R, lates: &Lates) -> bool {
     !is_late(rt, lates, 0)
 }
 
-// Whether 4,096 frames of a shard are kept, and no more.
-fn are_kept<R: Wait>(rt: &R, lates: &Lates) -> bool {
-    is_first_of_4096_late(rt, lates) && goes_first_alone(rt, lates)
-}
-
 // What is so where no frame was noted.
 #[derive(Clone, Copy)]
 enum Kept {
@@ -94,28 +88,25 @@ enum Kept {
 }
 
 // Whether it is.
-fn is_so<R: Wait>(rt: &R, lates: &Lates, kept: Kept) -> bool {
+fn is_so<R: Wait>(rt: &R, alloc: Global, kept: Kept) -> bool {
+    let Ok(lates) = Lates::new(alloc, 2000) else {
+        return false;
+    };
     match kept {
-        Kept::ForAWhile => are_late_for_2_s(rt, lates),
-        Kept::Alone => are_others_in_time(rt, lates),
-        Kept::By4096 => are_kept(rt, lates),
+        Kept::ForAWhile => are_late_for_2_s(rt, &lates),
+        Kept::Alone => are_others_in_time(rt, &lates),
+        Kept::By4096 => is_first_of_4096_late(rt, &lates) && goes_first_alone(rt, &lates),
     }
 }
 
-impl<R: Wait> Row<R> for Kept {
-    fn holds(&self, rt: &R, alloc: Global) -> bool {
-        match Lates::new(alloc, 2000) {
-            Ok(lates) => is_so(rt, &lates, *self),
-            Err(_) => false,
-        }
-    }
+// Whether all of it is.
+fn are_so<R: Wait>(rt: &R, alloc: Global) -> bool {
+    is_so(rt, alloc, Kept::ForAWhile)
+        && is_so(rt, alloc, Kept::Alone)
+        && is_so(rt, alloc, Kept::By4096)
 }
 
 #[test]
 fn copies_are_late(rt: HostRuntime) {
-    each_holds(
-        &rt,
-        rt.alloc(),
-        &[Kept::ForAWhile, Kept::Alone, Kept::By4096],
-    );
+    assert!(rt; are_so(&rt, rt.alloc()));
 }

@@ -1,6 +1,11 @@
 //! Messages as packet forwarders send them. What is wanted is by the protocol's text and by tools/tests/test_forwarder_bridge.py.
 
-use crate::rows::{Row, each_holds, joined};
+ghost use Rattle.std.specs.Prelude.{IfSome};
+ghost use Rattle.ns_forwarder.specs.Held.{item_view};
+ghost use Rattle.ns_forwarder.specs.Uplink.{IsOfBand};
+
+use crate::messages::Text::{Bytes, List};
+use crate::rows::{Row, each_holds, filled, joined};
 use ns_forwarder::{
     Clock, ForwarderFault, Item, Kind, Outcome, hand_on, pull_resp, read_item, read_message,
     read_push, read_tx_ack,
@@ -8,7 +13,7 @@ use ns_forwarder::{
 use ns_link::read_datagram;
 use ns_types::{GatewayId, Heard, Target};
 use serde_json::Value;
-use std::alloc::{AllocError, Global};
+use std::alloc::Global;
 
 const PUSH: [u8; 14] = [2, 7, 8, 0, 0, 0, 0, 0, 0, 0, 0, 0xa1, b'{', b'}'];
 
@@ -54,15 +59,10 @@ fn read(bytes: &[u8]) -> Result<Message, ForwarderFault> {
     }
 }
 
-impl<R> Row<R> for ReadAs {
-    fn holds(&self, _rt: &R, _alloc: Global) -> bool {
+impl Row for ReadAs {
+    fn holds(&self, _alloc: Global) -> bool {
         read(self.0) == self.1
     }
-}
-
-#[test]
-fn messages_are_read_and_acknowledged_or_refused(rt: HostRuntime) {
-    each_holds(&rt, rt.alloc(), MESSAGES);
 }
 
 // Readings of a counter, each with the time at which it comes and its moment.
@@ -85,8 +85,8 @@ const READINGS: &[Readings] = &[
     ]),
 ];
 
-impl<R> Row<R> for Readings {
-    fn holds(&self, _rt: &R, _alloc: Global) -> bool {
+impl Row for Readings {
+    fn holds(&self, _alloc: Global) -> bool {
         let mut clock = Clock::default();
         for &(counter, now, moment) in self.0 {
             if clock.read(counter, now) != moment {
@@ -95,11 +95,6 @@ impl<R> Row<R> for Readings {
         }
         true
     }
-}
-
-#[test]
-fn counters_are_followed(rt: HostRuntime) {
-    each_holds(&rt, rt.alloc(), READINGS);
 }
 
 // An item as a forwarder writes it.
@@ -113,89 +108,93 @@ const FRONT: &str =
 // What an item tells: its counter, its frequency, its data rate, its levels and the length of its frame.
 type Told = (u32, u32, u8, i16, i16, usize);
 
-// The parts of an item's text, and what it tells.
+// A spelling of a frequency in MHz, and what it is in Hz.
 #[derive(Clone, Copy)]
-struct Spelled(&'static [&'static str], Told);
+struct Spelled(&'static str, u32);
 
-const ITEMS: &[Spelled] = &[
-    Spelled(&[ITEM], (1_000_000, 868_100_000, 5, -950, 75, 23)),
-    // Spellings of frequencies in MHz, and what each is in Hz.
-    Spelled(&[FRONT, "868.1", "}"], (0, 868_100_000, 7, -70, 0, 1)),
-    Spelled(&[FRONT, "868.100000", "}"], (0, 868_100_000, 7, -70, 0, 1)),
-    Spelled(&[FRONT, "8681e-1", "}"], (0, 868_100_000, 7, -70, 0, 1)),
-    Spelled(&[FRONT, "868", "}"], (0, 868_000_000, 7, -70, 0, 1)),
-    Spelled(&[FRONT, "867.899999", "}"], (0, 867_899_999, 7, -70, 0, 1)),
-    Spelled(&[FRONT, "869.525", "}"], (0, 869_525_000, 7, -70, 0, 1)),
+const FREQUENCIES: &[Spelled] = &[
+    Spelled("868.1", 868_100_000),
+    Spelled("868.100000", 868_100_000),
+    Spelled("8681e-1", 868_100_000),
+    Spelled("868", 868_000_000),
+    Spelled("867.899999", 867_899_999),
+    Spelled("869.525", 869_525_000),
 ];
 
 // An item of this text.
-fn item_of(alloc: Global, text: &str) -> Option<Item> {
+fn item_of(alloc: Global, text: &str) -> Option<Item>
+    ensures { IfSome result (λ i. IsOfBand (item_view i)) }
+{
     let Ok(value) = Value::from_str(alloc, text) else {
         return None;
     };
     read_item(alloc, &value).ok()
 }
 
-// What an item tells.
-fn told(item: &Item) -> Told {
-    (
-        item.counter,
-        item.freq,
-        item.dr,
-        item.rssi,
-        item.snr,
-        item.frame.len(),
-    )
+// Whether an item tells this.
+fn tells(item: &Item, want: Told) -> bool {
+    let (counter, freq, dr) = (item.counter, item.freq, item.dr);
+    (counter, freq, dr, item.rssi, item.snr, item.frame.len()) == want
 }
 
-impl<R> Row<R> for Spelled {
-    fn holds(&self, _rt: &R, alloc: Global) -> bool {
-        let Ok(text) = joined(alloc, self.0) else {
-            return false;
-        };
-        match item_of(alloc, text.as_str()) {
-            Some(item) => told(&item) == self.1,
-            None => false,
-        }
+// Whether there is an item of this text, which tells this.
+fn is_told(alloc: Global, text: &str, want: Told) -> bool {
+    match item_of(alloc, text) {
+        Some(item) => tells(&item, want),
+        None => false,
     }
 }
 
-#[test]
-fn items_are_read(rt: HostRuntime) {
-    each_holds(&rt, rt.alloc(), ITEMS);
+impl Row for Spelled {
+    fn holds(&self, alloc: Global) -> bool {
+        match joined(alloc, &[FRONT, self.0, "}"]) {
+            Ok(text) => is_told(alloc, text.as_str(), (0, self.1, 7, -70, 0, 1)),
+            Err(_) => false,
+        }
+    }
 }
 
 // A body with the item, and of each kind one that is left out.
 const BODY: &[u8] =
     br#"{"rxpk":[{"stat":-1},{"tmst":1000000,"freq":868.1,"stat":1,"modu":"LORA","datr":"SF7BW125","rssi":-95,"lsnr":7.5,"data":"AAQDAgEEAwIBDQAAAAAAAAABAAEAAAA="},{"stat":0},{"stat":1,"freq":868.1,"modu":"LORA","datr":"SF7BW500"},7],"stat":{"rxnb":2}}"#;
 
-// The numbers of the faults, two digits each.
-fn numbers(faults: &[ForwarderFault]) -> u64 {
-    let mut told = 0u64;
+// The numbers of the last four faults at most, two digits each.
+fn numbers(faults: &[ForwarderFault]) -> u32 {
+    let mut told = 0u32;
     for fault in faults {
-        told = told
-            .wrapping_mul(100)
-            .wrapping_add(u64::from(fault.number()));
+        told = (told % 1_000_000) * 100 + u32::from(fault.number() % 100);
     }
     told
 }
 
-// What a push says: how many frames, the frequency and the data rate of the first, and what is left out.
-type Said = (usize, Option<(u32, u8)>, u64);
+// What a push says: how many frames, the frequency and the data rate of the first, how many items are left out, and why the last four are.
+type Said = (usize, Option<(u32, u8)>, usize, u32);
+
+// The text of a body.
+#[derive(Clone, Copy)]
+enum Text {
+    // These bytes.
+    Bytes(&'static [u8]),
+    // A list of so many numbers in place of items.
+    List(usize),
+}
 
 // A body, and what it says, or why it is refused.
 #[derive(Clone, Copy)]
-struct Body(&'static [u8], Result<Said, ForwarderFault>);
+struct Body(Text, Result<Said, ForwarderFault>);
 
 const BODIES: &[Body] = &[
-    Body(BODY, Ok((1, Some((868_100_000, 5)), 8_09_10_07))),
-    Body(br#"{"stat":{"rxnb":2}}"#, Ok((0, None, 0))),
-    Body(b"", Err(ForwarderFault::Body)),
-    Body(b"[]", Err(ForwarderFault::Body)),
-    Body(b"{", Err(ForwarderFault::Body)),
-    Body(b"{\"rxpk\":7}", Err(ForwarderFault::Body)),
-    Body(b"{\"rxpk\":null}", Err(ForwarderFault::Body)),
-    Body(b"\xff", Err(ForwarderFault::Body)),
+    Body(Bytes(BODY), Ok((1, Some((868_100_000, 5)), 4, 8_09_10_07))),
+    Body(Bytes(br#"{"stat":{"rxnb":2}}"#), Ok((0, None, 0, 0))),
+    Body(Bytes(b""), Err(ForwarderFault::Body)),
+    Body(Bytes(b"[]"), Err(ForwarderFault::Body)),
+    Body(Bytes(b"{"), Err(ForwarderFault::Body)),
+    Body(Bytes(b"{\"rxpk\":7}"), Err(ForwarderFault::Body)),
+    Body(Bytes(b"{\"rxpk\":null}"), Err(ForwarderFault::Body)),
+    Body(Bytes(b"\xff"), Err(ForwarderFault::Body)),
+    // A list of more than 255 items is refused.
+    Body(List(255), Ok((0, None, 255, 7_07_07_07))),
+    Body(List(256), Err(ForwarderFault::TooMany)),
 ];
 
 // What a body says, or why it is refused.
@@ -205,49 +204,25 @@ fn said(alloc: Global, body: &[u8]) -> Result<Said, ForwarderFault> {
         Some(item) => Some((item.freq, item.dr)),
         None => None,
     };
-    Ok((push.items.len(), first, numbers(push.left_out.as_slice())))
+    let left_out = push.left_out.as_slice();
+    Ok((push.items.len(), first, left_out.len(), numbers(left_out)))
 }
 
-impl<R> Row<R> for Body {
-    fn holds(&self, _rt: &R, alloc: Global) -> bool {
-        said(alloc, self.0) == self.1
+// Whether a list of so many numbers says this.
+fn list_says(alloc: Global, count: usize, want: Result<Said, ForwarderFault>) -> bool {
+    match filled(alloc, "{\"rxpk\":[", "0,", count.saturating_sub(1), "0]}") {
+        Ok(body) => said(alloc, body.as_str().as_bytes()) == want,
+        Err(_) => false,
     }
 }
 
-#[test]
-fn bodies_say_their_frames_and_what_is_left_out_or_are_refused(rt: HostRuntime) {
-    each_holds(&rt, rt.alloc(), BODIES);
-}
-
-// A body with one item and so many more, of which none is read.
-fn body_of(alloc: Global, more: usize) -> Result<String, AllocError> {
-    let items = ",0".repeat(alloc, more)?;
-    joined(alloc, &["{\"rxpk\":[0", items.as_str(), "]}"])
-}
-
-// How many items more than one a body has, and how many are left out, or why it is refused.
-#[derive(Clone, Copy)]
-struct List(usize, Result<usize, ForwarderFault>);
-
-const LISTS: &[List] = &[List(254, Ok(255)), List(255, Err(ForwarderFault::TooMany))];
-
-// How many items of a body are left out, or why it is refused.
-fn left_out(alloc: Global, body: &[u8]) -> Result<usize, ForwarderFault> {
-    Ok(read_push(alloc, body)?.left_out.len())
-}
-
-impl<R> Row<R> for List {
-    fn holds(&self, _rt: &R, alloc: Global) -> bool {
-        match body_of(alloc, self.0) {
-            Ok(body) => left_out(alloc, body.as_str().as_bytes()) == self.1,
-            Err(_) => false,
+impl Row for Body {
+    fn holds(&self, alloc: Global) -> bool {
+        match self.0 {
+            Bytes(body) => said(alloc, body) == self.1,
+            List(count) => list_says(alloc, count, self.1),
         }
     }
-}
-
-#[test]
-fn a_list_of_more_than_255_items_is_refused(rt: HostRuntime) {
-    each_holds(&rt, rt.alloc(), LISTS);
 }
 
 // The datagram's head: the gateway, the moment, the frequency, the data rate, and how strong it was heard.
@@ -265,11 +240,10 @@ fn is_heard(bytes: &[u8], heard: Heard, frame: &[u8]) -> bool {
 }
 
 // Whether the datagram of an item begins with that head, and is read back as the item.
-fn is_read_back(alloc: Global, value: &Value) -> bool {
+fn has_datagram(alloc: Global, item: &Item) -> bool
+    requires { IsOfBand (item_view item.now) }
+{
     let (gateway, moment) = (GatewayId(0xa1), 0x1_0000_0005);
-    let Ok(item) = read_item(alloc, value) else {
-        return false;
-    };
     match item.datagram(alloc, gateway, moment) {
         Ok(bytes) => {
             let heard = item.heard(gateway, moment);
@@ -279,13 +253,14 @@ fn is_read_back(alloc: Global, value: &Value) -> bool {
     }
 }
 
-#[test]
-fn the_datagram_of_an_item_is_read_back(rt: HostRuntime) {
-    let is_read_back = match Value::from_str(rt.alloc(), ITEM) {
-        Ok(value) => is_read_back(rt.alloc(), &value),
-        Err(_) => false,
-    };
-    assert!(rt; is_read_back);
+// Whether the item is read, tells this, and has its datagram.
+fn is_read_back(alloc: Global) -> bool {
+    match item_of(alloc, ITEM) {
+        Some(item) => {
+            tells(&item, (1_000_000, 868_100_000, 5, -950, 75, 23)) && has_datagram(alloc, &item)
+        }
+        None => false,
+    }
 }
 
 // Two frames across a wrap of the counter, and an item without a CRC between them.
@@ -319,19 +294,16 @@ fn are_handed_on(datagrams: &[Vec<u8>], left_out: &[ForwarderFault]) -> bool {
         && is_heard(datagrams[1].as_slice(), SECOND, &[2, 3])
 }
 
-// Whether they are, by a clock that begins there.
-fn is_clock_followed(alloc: Global, clock: &mut Clock) -> bool {
-    match hand_on(alloc, GatewayId(0xa1), TWO, clock, 1000) {
-        Ok(handed) => are_handed_on(handed.datagrams.as_slice(), handed.left_out.as_slice()),
+// Whether they are, by a clock that begins there, and which then goes on.
+fn is_clock_followed(alloc: Global) -> bool {
+    let mut clock = Clock::default();
+    match hand_on(alloc, GatewayId(0xa1), TWO, &mut clock, 1000) {
+        Ok(handed) => {
+            are_handed_on(handed.datagrams.as_slice(), handed.left_out.as_slice())
+                && clock.read(5, 1001) == WRAP + 5
+        }
         Err(_) => false,
     }
-}
-
-// The clock then goes on.
-#[test]
-fn a_body_becomes_datagrams_that_follow_the_clock(rt: HostRuntime) {
-    let mut clock = Clock::default();
-    assert!(rt; is_clock_followed(rt.alloc(), &mut clock) && clock.read(5, 1001) == WRAP + 5);
 }
 
 const TARGET: Target = Target {
@@ -407,8 +379,8 @@ const SENT: &[Down] = &[
     Down(2, [0, 0], Target { dr: 8, ..TARGET }, 14, &[], OUTSIDE),
 ];
 
-impl<R> Row<R> for Down {
-    fn holds(&self, _rt: &R, alloc: Global) -> bool {
+impl Row for Down {
+    fn holds(&self, alloc: Global) -> bool {
         let &Down(version, token, target, power, bytes, wanted) = self;
         if bytes.len() > 255 {
             return false;
@@ -418,12 +390,6 @@ impl<R> Row<R> for Down {
             Err(fault) => wanted == Err(fault),
         }
     }
-}
-
-// A downlink is a PULL_RESP, and one of FSK has a deviation.
-#[test]
-fn downlinks_are_sent_or_refused(rt: HostRuntime) {
-    each_holds(&rt, rt.alloc(), SENT);
 }
 
 // A body of TX_ACK, and what it says, or why it is refused.
@@ -473,13 +439,27 @@ const OUTCOMES: &[Ack] = &[
     Ack(b"\xff", Err(ForwarderFault::Body)),
 ];
 
-impl<R> Row<R> for Ack {
-    fn holds(&self, _rt: &R, alloc: Global) -> bool {
+impl Row for Ack {
+    fn holds(&self, alloc: Global) -> bool {
         read_tx_ack(alloc, self.0) == self.1
     }
 }
 
+/// Messages are read and acknowledged, or refused; counters are followed; frequencies, bodies and acknowledgements say what they do, and
+/// downlinks are sent or refused.
 #[test]
-fn a_tx_ack_says_what_came_of_a_downlink(rt: HostRuntime) {
-    each_holds(&rt, rt.alloc(), OUTCOMES);
+fn messages(rt: HostRuntime) {
+    let alloc = rt.alloc();
+    each_holds(&rt, alloc, "messages", MESSAGES);
+    each_holds(&rt, alloc, "readings", READINGS);
+    each_holds(&rt, alloc, "frequencies", FREQUENCIES);
+    each_holds(&rt, alloc, "bodies", BODIES);
+    each_holds(&rt, alloc, "downlinks", SENT);
+    each_holds(&rt, alloc, "outcomes", OUTCOMES);
+}
+
+/// The datagram of an item is read back, and a body becomes datagrams that follow the clock.
+#[test]
+fn frames_become_datagrams(rt: HostRuntime) {
+    assert!(rt; is_read_back(rt.alloc()) && is_clock_followed(rt.alloc()));
 }

@@ -1,6 +1,7 @@
 //! Rosters with each fault and its place, and the words for it. Faults and fields are by FORMATS, part 6.
 
-use crate::rows::{Row, each_holds, joined};
+use crate::places::Roster::{Many, Third, Whole};
+use crate::rows::{Row, each_holds, filled, joined};
 use ns_roster_place::{PlacedFault, first_fault};
 use std::alloc::{AllocError, Global};
 
@@ -16,127 +17,116 @@ const TWO: &str =
 // The end of the list of devices.
 const END: &str = "]}";
 
-// The parts of a text, and its first fault in words.
+// A roster.
 #[derive(Clone, Copy)]
-struct Placed(&'static [&'static str], &'static str);
+enum Roster {
+    // This text.
+    Whole(&'static str),
+    // One with this device as its third, and else without faults.
+    Third(&'static str),
+    // One with so many numbers in place of devices.
+    Many(usize),
+}
+
+// A roster, and its first fault in words.
+#[derive(Clone, Copy)]
+struct Placed(Roster, &'static str);
 
 const TEXTS: &[Placed] = &[
     // Outer fields.
-    Placed(&["{"], "the text is no JSON in UTF-8: O1"),
-    Placed(&["{}"], "version is missing or wrong: it takes 1 or 2: O2"),
+    Placed(Whole("{"), "the text is no JSON in UTF-8: O1"),
     Placed(
-        &["{\"version\":3,\"net_id\":\"000024\"}"],
+        Whole("{}"),
         "version is missing or wrong: it takes 1 or 2: O2",
     ),
     Placed(
-        &["{\"version\":1,\"net_id\":\"24\",\"rx1_offset\":0,\"rx_delay\":1,\"devices\":[]}"],
+        Whole("{\"version\":3,\"net_id\":\"000024\"}"),
+        "version is missing or wrong: it takes 1 or 2: O2",
+    ),
+    Placed(
+        Whole("{\"version\":1,\"net_id\":\"24\",\"rx1_offset\":0,\"rx_delay\":1,\"devices\":[]}"),
         "net_id is missing or wrong: it takes 6 hex digits: O2",
     ),
     Placed(
-        &["{\"version\":1,\"net_id\":\"000024\",\"rx1_offset\":6,\"rx_delay\":1,\"devices\":[]}"],
+        Whole(
+            "{\"version\":1,\"net_id\":\"000024\",\"rx1_offset\":6,\"rx_delay\":1,\"devices\":[]}",
+        ),
         "rx1_offset is missing or wrong: it takes 0 to 5: O2",
     ),
     Placed(
-        &["{\"version\":1,\"net_id\":\"000024\",\"rx1_offset\":0,\"rx_delay\":16,\"devices\":[]}"],
+        Whole(
+            "{\"version\":1,\"net_id\":\"000024\",\"rx1_offset\":0,\"rx_delay\":16,\"devices\":[]}",
+        ),
         "rx_delay is missing or wrong: it takes 0 to 15: O2",
     ),
     Placed(
-        &["{\"version\":1,\"net_id\":\"000024\",\"rx1_offset\":0,\"rx_delay\":1,\"devices\":{}}"],
+        Whole(
+            "{\"version\":1,\"net_id\":\"000024\",\"rx1_offset\":0,\"rx_delay\":1,\"devices\":{}}",
+        ),
         "devices is missing or wrong: it takes a list: O2",
     ),
     Placed(
-        &["{\"version\":1,\"net_id\":\"200024\",\"rx1_offset\":0,\"rx_delay\":1,\"devices\":[]}"],
+        Whole(
+            "{\"version\":1,\"net_id\":\"200024\",\"rx1_offset\":0,\"rx_delay\":1,\"devices\":[]}",
+        ),
         "net_id is over 1fffff: O4",
     ),
     Placed(
-        &["{\"version\":1,\"net_id\":\"000024\",\"rx1_offset\":0,\"rx_delay\":1,\"devices\":[]}"],
+        Whole(
+            "{\"version\":1,\"net_id\":\"000024\",\"rx1_offset\":0,\"rx_delay\":1,\"devices\":[]}",
+        ),
         "",
     ),
     // Third devices.
     Placed(
-        &[
-            OUTER,
-            TWO,
-            "{\"dev_eui\":\"000000000000000g\",\"slot\":9999999}",
-            END,
-        ],
+        Third("{\"dev_eui\":\"000000000000000g\",\"slot\":9999999}"),
         "device 3 (dev_eui 000000000000000g): dev_eui is missing or wrong: it takes 16 hex digits: O2",
     ),
     Placed(
-        &[
-            OUTER,
-            TWO,
-            "{\"join_eui\":\"0102030401020304\",\"slot\":0}",
-            END,
-        ],
+        Third("{\"join_eui\":\"0102030401020304\",\"slot\":0}"),
         "device 3: dev_eui is missing or wrong: it takes 16 hex digits: O2",
     ),
     Placed(
-        &[
-            OUTER,
-            TWO,
-            "{\"dev_eui\":\"a\\nb\\u0000c d0123456789012345678901234567890\"}",
-            END,
-        ],
+        Third("{\"dev_eui\":\"a\\nb\\u0000c d0123456789012345678901234567890\"}"),
         "device 3 (dev_eui a?b?c?d0123456789012345678901234): dev_eui is missing or wrong: it takes 16 hex digits: O2",
     ),
     Placed(
-        &[
-            OUTER,
-            TWO,
-            "{\"dev_eui\":\"000000000000000f\",\"join_eui\":null,\"slot\":0}",
-            END,
-        ],
+        Third("{\"dev_eui\":\"000000000000000f\",\"join_eui\":null,\"slot\":0}"),
         "device 3 (dev_eui 000000000000000f): join_eui is missing or wrong: it takes 16 hex digits: O2",
     ),
     Placed(
-        &[
-            OUTER,
-            TWO,
-            "{\"dev_eui\":\"000000000000000f\",\"join_eui\":\"0102030401020304\",\"slot\":-1}",
-            END,
-        ],
+        Third("{\"dev_eui\":\"000000000000000f\",\"join_eui\":\"0102030401020304\",\"slot\":-1}"),
         "device 3 (dev_eui 000000000000000f): slot is missing or wrong: it takes 0 to 2097151: O2",
     ),
     Placed(
-        &[
-            OUTER,
-            TWO,
+        Third(
             "{\"dev_eui\":\"000000000000000f\",\"join_eui\":\"0102030401020304\",\"slot\":9999999,\"last_nonce\":65536}",
-            END,
-        ],
+        ),
         "device 3 (dev_eui 000000000000000f): last_nonce is missing or wrong: it takes 0 to 65535: O2",
     ),
     Placed(
-        &[
-            OUTER,
-            TWO,
+        Third(
             "{\"dev_eui\":\"000000000000000f\",\"join_eui\":\"0102030401020304\",\"slot\":2097152}",
-            END,
-        ],
+        ),
         "device 3 (dev_eui 000000000000000f): slot is over 2097151: O5",
     ),
     Placed(
-        &[
-            OUTER,
-            TWO,
-            "{\"dev_eui\":\"000000000000000D\",\"join_eui\":\"0102030401020304\",\"slot\":5}",
-            END,
-        ],
+        Third("{\"dev_eui\":\"000000000000000D\",\"join_eui\":\"0102030401020304\",\"slot\":5}"),
         "device 3 (dev_eui 000000000000000D): dev_eui is that of an earlier device: O3",
     ),
     Placed(
-        &[OUTER, TWO, "3", END],
+        Third("3"),
         "device 3: dev_eui is missing or wrong: it takes 16 hex digits: O2",
     ),
+    Placed(Many(65_537), "devices has more than 65536 devices: O6"),
 ];
 
-// Whether the first fault of a text is told in these words.
-fn is_told(alloc: Global, text: &str, wanted: &str) -> bool {
-    match first_fault(alloc, text.as_bytes()) {
-        Ok(Some(placed)) => is_printed(alloc, &placed, wanted),
-        Ok(None) => wanted.is_empty(),
-        Err(_) => false,
+// The text of a roster.
+fn text_of(alloc: Global, roster: Roster) -> Result<String, AllocError> {
+    match roster {
+        Whole(text) => joined(alloc, &[text]),
+        Third(device) => joined(alloc, &[OUTER, TWO, device, END]),
+        Many(count) => filled(alloc, OUTER, "0,", count.saturating_sub(1), "0]}"),
     }
 }
 
@@ -148,36 +138,25 @@ fn is_printed(alloc: Global, placed: &PlacedFault, wanted: &str) -> bool {
     }
 }
 
-impl<R> Row<R> for Placed {
-    fn holds(&self, _rt: &R, alloc: Global) -> bool {
-        let &Placed(parts, wanted) = self;
-        match joined(alloc, parts) {
-            Ok(text) => is_told(alloc, text.as_str(), wanted),
+// Whether the first fault of a text is told in these words.
+fn is_told(alloc: Global, text: &str, wanted: &str) -> bool {
+    match first_fault(alloc, text.as_bytes()) {
+        Ok(Some(placed)) => is_printed(alloc, &placed, wanted),
+        Ok(None) => wanted.is_empty(),
+        Err(_) => false,
+    }
+}
+
+impl Row for Placed {
+    fn holds(&self, alloc: Global) -> bool {
+        match text_of(alloc, self.0) {
+            Ok(text) => is_told(alloc, text.as_str(), self.1),
             Err(_) => false,
         }
     }
 }
 
 #[test]
-fn outer_fields_and_third_devices(rt: HostRuntime) {
-    each_holds(&rt, rt.alloc(), TEXTS);
-}
-
-// A list of one device too many.
-fn too_long(alloc: Global) -> Result<String, AllocError> {
-    let many = "0,".repeat(alloc, 65_536)?;
-    joined(alloc, &[OUTER, many.as_str(), "0", END])
-}
-
-#[test]
-fn too_many_devices(rt: HostRuntime) {
-    let is_told = match too_long(rt.alloc()) {
-        Ok(text) => is_told(
-            rt.alloc(),
-            text.as_str(),
-            "devices has more than 65536 devices: O6",
-        ),
-        Err(_) => false,
-    };
-    assert!(rt; is_told);
+fn first_faults_are_told_with_their_places(rt: HostRuntime) {
+    each_holds(&rt, rt.alloc(), "rosters", TEXTS);
 }

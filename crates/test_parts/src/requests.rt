@@ -2,10 +2,10 @@
 
 ghost use Rattle.std.specs.Prelude.{◌<◌};
 
-use crate::rows::{Row, each_holds, joined};
+use crate::rows::{Row, each_holds, filled};
 use ns_status::{Request, RequestFault, Route, Status, read_request};
 use ns_types::Fuse;
-use std::alloc::{AllocError, Global};
+use std::alloc::Global;
 
 const DEVICES: Result<Request, RequestFault> = Ok(Request {
     route: Route::Devices,
@@ -94,16 +94,10 @@ fn is_asked_in_pieces(alloc: Global, text: &str, wanted: Result<Request, Request
     true
 }
 
-// A text with so many bytes `a` in it.
-fn text_of(alloc: Global, front: &str, count: usize, end: &str) -> Result<String, AllocError> {
-    let between = "a".repeat(alloc, count)?;
-    joined(alloc, &[front, between.as_str(), end])
-}
-
-impl<R> Row<R> for Asked {
-    fn holds(&self, _rt: &R, alloc: Global) -> bool {
+impl Row for Asked {
+    fn holds(&self, alloc: Global) -> bool {
         let &Asked(front, count, end, wanted) = self;
-        match text_of(alloc, front, count, end) {
+        match filled(alloc, front, "a", count, end) {
             Ok(text) => is_asked_in_pieces(alloc, text.as_str(), wanted),
             Err(_) => false,
         }
@@ -112,5 +106,5 @@ impl<R> Row<R> for Asked {
 
 #[test]
 fn requests_in_pieces(rt: HostRuntime) {
-    each_holds(&rt, rt.alloc(), REQUESTS);
+    each_holds(&rt, rt.alloc(), "requests", REQUESTS);
 }

@@ -2,15 +2,17 @@
 //! place of others while lines are put, or cannot.
 
 use crate::failures::put;
-use crate::rows::{Row, each_holds};
+use crate::running::Deed::{
+    Follow, HasLengths, Link, Lock, MakeFolder, Put, Remove, Rename, Replace, Rest,
+};
 use log::sink::Discard;
 use ns_record_files::{
-    FilesFault, LaterLines, Lengths, RecordFiles, RecordWriter, Recorder, ShorterSteps, read_again,
+    FilesFault, LaterLines, RecordFiles, RecordWriter, Recorder, ShorterSteps, read_again,
 };
-use std::alloc::Global;
+use std::alloc::{Alloc, Global};
 use std::fs;
 use std::fs::File;
-use std::io::{PipeWriter, Read, Write, pipe};
+use std::io::{Read, Write, pipe};
 use std::os::fd::AsRawFd;
 use std::os::unix::fs::{PermissionsExt, symlink};
 use std::rt::Files;
@@ -23,10 +25,22 @@ struct Fewer {
     later: LaterLines,
 }
 
-// What is done to the files from outside.
+// What is done to a record.
 #[derive(Clone, Copy)]
-enum Outside {
-    // Nobody else is able to open them.
+enum Deed {
+    // A line of steps is put with its `up` line, and written, or cannot be.
+    Put(&'static str, &'static str, bool),
+    // The files have so many bytes of steps and of `up` lines.
+    HasLengths(u64, u64),
+    // The later lines follow the fewer steps.
+    Follow,
+    // The fewer steps take the place of the others, or do not.
+    Replace(bool),
+    // The server stops.
+    Rest,
+    // The fewer steps are taken away.
+    Remove,
+    // Nobody else is able to open the files.
     Lock,
     // The pipe has the name of the fewer steps.
     Link,
@@ -36,105 +50,115 @@ enum Outside {
     Rename(&'static str, &'static str),
 }
 
-// What is done to a record.
-#[derive(Clone, Copy)]
-enum Deed {
-    // A line of steps is put with its `up` line, and written, or cannot be.
-    Put(&'static str, &'static str, bool),
-    // The later lines follow the fewer steps.
-    Follow,
-    // The fewer steps take the place of the others, or do not.
-    Replace(bool),
-    // The server stops.
-    Rest,
-    // The fewer steps are taken away.
-    Remove,
-    // This is done to its files.
-    Files(Outside),
-}
-
-// The folder of all runs, its steps, their name while a folder has theirs, and the name of that folder then.
+// The folder of all runs, its files, their name while a folder has that of the steps, and the name of that folder then.
 const PATH: &str = "test_parts_running";
 
 const STEPS: &str = "test_parts_running/steps";
+
+const UPS: &str = "test_parts_running/up";
+
+const FEWER: &str = "test_parts_running/steps.new";
 
 const ASIDE: &str = "test_parts_running/aside";
 
 const FOLDER: &str = "test_parts_running/folder";
 
-// The name of the fewer steps of the folder with the pipe.
-const LINK: &str = "test_parts_sync/steps.new";
+const A: Deed = Put("a", "up a", true);
 
-const B: Deed = Deed::Put("b", "up b", true);
+const HAS_A: Deed = HasLengths(2, 5);
 
-const Z: Deed = Deed::Put("z", "up z", true);
+const B: Deed = Put("b", "up b", true);
 
-const LOCK: Deed = Deed::Files(Outside::Lock);
+const Z: Deed = Put("z", "up z", true);
 
-// What is done to a record whose step a is to stay, and the steps and `up` lines that it has then.
-#[derive(Clone, Copy)]
-struct Run(&'static [Deed], &'static str, &'static str);
+// What is done to a record, whose steps outlive the machine where that is asked for.
+struct Run {
+    sync: bool,
+    // What its files have before, or None where they are made.
+    before: Option<(&'static str, &'static str)>,
+    deeds: &'static [Deed],
+    // What they have in the end; files that were made are for their owner alone. None where the steps are the pipe.
+    after: Option<(&'static str, &'static str)>,
+}
 
 const RUNS: &[Run] = &[
-    // Lines that were put before, while and after the fewer steps are prepared follow them, each once.
-    Run(
-        &[
+    // Lines that were put before, while and after the fewer steps are prepared follow them, each once. The files have the lock.
+    Run {
+        sync: true,
+        before: None,
+        deeds: &[
+            A,
+            HAS_A,
             B,
-            Deed::Follow,
-            Deed::Put("c", "up c", true),
-            Deed::Replace(true),
-            Deed::Put("d", "up d", true),
+            Follow,
+            Put("c", "up c", true),
+            Replace(true),
+            Put("d", "up d", true),
             Z,
-            LOCK,
+            Lock,
         ],
-        "base\na\nb\nc\nd\nz\n",
-        "up a\nup b\nup c\nup d\nup z\n",
-    ),
+        after: Some(("base\na\nb\nc\nd\nz\n", "up a\nup b\nup c\nup d\nup z\n")),
+    },
     // Where the fewer steps are not there any more, or the server stops, it goes on with those that it has.
-    Run(
-        &[B, Deed::Remove, Deed::Replace(false), Z, LOCK],
-        "a\nb\nz\n",
-        "up a\nup b\nup z\n",
-    ),
-    Run(
-        &[B, Deed::Rest, Deed::Replace(false), Z, LOCK],
-        "a\nb\nz\n",
-        "up a\nup b\nup z\n",
-    ),
+    Run {
+        sync: true,
+        before: None,
+        deeds: &[A, HAS_A, B, Remove, Replace(false), Z, Lock],
+        after: Some(("a\nb\nz\n", "up a\nup b\nup z\n")),
+    },
+    Run {
+        sync: true,
+        before: None,
+        deeds: &[A, HAS_A, B, Rest, Replace(false), Z, Lock],
+        after: Some(("a\nb\nz\n", "up a\nup b\nup z\n")),
+    },
     // Where the fewer steps cannot be given the name of the others, since a folder has it, they keep their own, and it goes on with those
     // that it has.
-    Run(
-        &[
+    Run {
+        sync: true,
+        before: None,
+        deeds: &[
+            A,
+            HAS_A,
             B,
-            Deed::Files(Outside::Rename(STEPS, ASIDE)),
-            Deed::Files(Outside::MakeFolder(STEPS)),
-            Deed::Replace(false),
-            Deed::Files(Outside::Rename(STEPS, FOLDER)),
-            Deed::Files(Outside::Rename(ASIDE, STEPS)),
+            Rename(STEPS, ASIDE),
+            MakeFolder(STEPS),
+            Replace(false),
+            Rename(STEPS, FOLDER),
+            Rename(ASIDE, STEPS),
             Z,
-            LOCK,
+            Lock,
         ],
-        "a\nb\nz\n",
-        "up a\nup b\nup z\n",
-    ),
-];
-
-// What is done where fewer steps are a pipe, which takes bytes but cannot be brought to a disk: without `sync` a line is written then, and
-// with it it is not.
-const UNSYNCED: &[Deed] = &[
-    Deed::Remove,
-    Deed::Files(Outside::Link),
-    B,
-    Deed::Replace(true),
-    Z,
-];
-
-const SYNCED: &[Deed] = &[
-    Deed::Remove,
-    Deed::Files(Outside::Link),
-    B,
-    Deed::Replace(true),
-    Deed::Put("z", "up z", false),
+        after: Some(("a\nb\nz\n", "up a\nup b\nup z\n")),
+    },
+    // Where fewer steps are a pipe, which takes bytes but cannot be brought to a disk, a line is written without `sync`, and not with it.
+    Run {
+        sync: false,
+        before: None,
+        deeds: &[A, HAS_A, Remove, Link, B, Replace(true), Z],
+        after: None,
+    },
+    Run {
+        sync: true,
+        before: None,
+        deeds: &[
+            A,
+            HAS_A,
+            Remove,
+            Link,
+            B,
+            Replace(true),
+            Put("z", "up z", false),
+        ],
+        after: None,
+    },
+    // Zeros at the ends, which a crash of the machine may leave, are cut off.
+    Run {
+        sync: true,
+        before: Some(("a\nb\0\0\0", "\0\0")),
+        deeds: &[],
+        after: Some(("a\nb", "")),
+    },
 ];
 
 // Whether a file has these bytes, of which there are fewer than 64.
@@ -158,267 +182,164 @@ fn is_private(file: &File) -> bool {
 #[derive(Drop)]
 struct Folder<'a, R> {
     rt: &'a R,
-    path: &'static str,
+    alloc: Global,
     pipe: &'a str,
 }
 
-impl<R: Wait + Files<File = File> + AllocGlobal> Folder<'_, R> {
-    // Makes it without files, in the place of one that may be there.
-    fn is_made(&self) -> bool {
-        let _ = fs::remove_dir_all(self.rt, self.path);
-        fs::create_dir(self.rt, self.path).is_ok()
-    }
-
-    // Opens the files of the record.
-    fn opened(&self, sync: bool) -> Result<RecordFiles, FilesFault> {
-        RecordFiles::open(self.rt, &Discard, self.rt.alloc(), self.path, sync)
-    }
-
-    // Opens one of the files to be read.
-    fn read_again(&self, name: &str) -> Result<File, FilesFault> {
-        read_again(self.rt, &Discard, self.rt.alloc(), self.path, name)
-    }
-
-    // Whether a record with the step a alone has the lengths of its lines.
-    fn is_begun(&self, recorder: &Recorder<RecordFiles>) -> bool {
-        let is_put = put(self.rt, recorder, "a", Some("up a"));
-        let lengths = recorder.lengths(self.rt);
-        is_put && matches!(lengths, Some(Lengths { steps: 2, ups: 5 }))
+impl<R: Wait + Files<File = File> + Alloc> Folder<'_, R> {
+    // Makes it without files, or with files of these bytes, in the place of one that may be there.
+    fn is_made(&self, before: Option<(&str, &str)>) -> bool {
+        let _ = fs::remove_dir_all(self.rt, PATH);
+        let is_made = fs::create_dir(self.rt, PATH).is_ok();
+        match before {
+            Some((steps, ups)) => {
+                is_made
+                    && fs::write(self.rt, STEPS, steps.as_bytes()).is_ok()
+                    && fs::write(self.rt, UPS, ups.as_bytes()).is_ok()
+            }
+            None => is_made,
+        }
     }
 
     // A record over the files.
-    fn recorder(&self, sync: bool) -> Option<Recorder<RecordFiles>> {
-        match self.opened(sync) {
-            Ok(files) => Recorder::new(self.rt.alloc(), RecordWriter::new(files)).ok(),
-            Err(_) => None,
+    fn opened(&self, sync: bool) -> Result<Recorder<RecordFiles>, FilesFault> {
+        let files = RecordFiles::open(self.rt, &Discard, self.alloc, PATH, sync)?;
+        match Recorder::new(self.alloc, RecordWriter::new(files)) {
+            Ok(recorder) => Ok(recorder),
+            Err(_) => Err(FilesFault::NoMemory),
         }
     }
 
     // Fewer steps with these bytes.
-    fn shorter_of(&self, bytes: &[u8]) -> Option<ShorterSteps> {
-        let created = ShorterSteps::create(self.rt, &Discard, self.rt.alloc(), self.path);
-        let Ok(steps) = created else {
+    fn shorter(&self, bytes: &[u8]) -> Option<ShorterSteps> {
+        let Ok(shorter) = ShorterSteps::create(self.rt, &Discard, self.alloc, PATH) else {
             return None;
         };
-        match steps.file().write_all(bytes) {
-            Ok(()) => Some(steps),
+        match shorter.file().write_all(bytes) {
+            Ok(()) => Some(shorter),
             Err(_) => None,
         }
     }
 
-    // Fewer steps that have the step a, where others were given up before.
-    fn shorter(&self) -> Option<ShorterSteps> {
-        match self.shorter_of(b"more bytes than those that take their place") {
-            Some(_) => self.shorter_of(b"base\na\n"),
-            None => None,
-        }
-    }
-
-    // The lines behind the step a.
-    fn later(&self) -> Option<LaterLines> {
-        match self.read_again("steps") {
-            Ok(steps) => LaterLines::new(self.rt.alloc(), steps, 2).ok(),
-            Err(_) => None,
-        }
-    }
-
-    // Fewer steps for a record that has the step a.
+    // Fewer steps that have the step a, which is to stay, where others were given up before, and the lines behind it.
     fn fewer(&self) -> Option<Fewer> {
-        let shorter = self.shorter()?;
-        match self.later() {
-            Some(later) => Some(Fewer { shorter, later }),
-            None => None,
-        }
-    }
-
-    // Whether the fewer steps were put in the place of the others.
-    fn is_replaced(&self, recorder: &Recorder<RecordFiles>, fewer: &mut Fewer) -> bool {
-        let replaced = recorder.replace(self.rt, &Discard, &fewer.shorter, &mut fewer.later);
-        replaced.is_ok()
+        drop(self.shorter(b"more bytes than those that take their place")?);
+        let shorter = self.shorter(b"base\na\n")?;
+        let steps = read_again(self.rt, &Discard, self.alloc, PATH, "steps").ok()?;
+        let later = LaterLines::new(self.alloc, steps, 2).ok()?;
+        Some(Fewer { shorter, later })
     }
 
     // Whether the files are in use.
     fn is_locked(&self) -> bool {
-        matches!(self.opened(true), Err(FilesFault::InUse))
-    }
-
-    // Whether this was done to the files.
-    fn is_done_outside(&self, deed: Outside) -> bool {
-        match deed {
-            Outside::Lock => self.is_locked(),
-            Outside::Link => symlink(self.rt, self.pipe, LINK).is_ok(),
-            Outside::MakeFolder(path) => fs::create_dir(self.rt, path).is_ok(),
-            Outside::Rename(from, to) => fs::rename(self.rt, from, to).is_ok(),
-        }
+        let opened = RecordFiles::open(self.rt, &Discard, self.alloc, PATH, true);
+        matches!(opened, Err(FilesFault::InUse))
     }
 
     // Whether this was done.
     fn is_done(&self, recorder: &Recorder<RecordFiles>, fewer: &mut Fewer, deed: Deed) -> bool {
+        let (shorter, later) = (&fewer.shorter, &mut fewer.later);
         match deed {
-            Deed::Put(step, up, is_put) => put(self.rt, recorder, step, Some(up)) == is_put,
-            Deed::Follow => fewer.later.follow(&Discard, &fewer.shorter).is_ok(),
-            Deed::Replace(is_replaced) => self.is_replaced(recorder, fewer) == is_replaced,
-            Deed::Rest => {
+            Put(step, up, is_put) => put(self.rt, recorder, step, Some(up)) == is_put,
+            HasLengths(steps, ups) => match recorder.lengths(self.rt) {
+                Some(lengths) => lengths.steps == steps && lengths.ups == ups,
+                None => false,
+            },
+            Follow => later.follow(&Discard, shorter).is_ok(),
+            Replace(is_replaced) => {
+                recorder.replace(self.rt, &Discard, shorter, later).is_ok() == is_replaced
+            }
+            Rest => {
                 recorder.rest();
                 true
             }
-            Deed::Remove => {
-                fewer.shorter.remove(self.rt);
+            Remove => {
+                shorter.remove(self.rt);
                 true
             }
-            Deed::Files(deed) => self.is_done_outside(deed),
+            Lock => self.is_locked(),
+            Link => symlink(self.rt, self.pipe, FEWER).is_ok(),
+            MakeFolder(path) => fs::create_dir(self.rt, path).is_ok(),
+            Rename(from, to) => fs::rename(self.rt, from, to).is_ok(),
         }
     }
 
-    // Whether all of it was done with these fewer steps.
-    fn are_done_with(
-        &self,
-        recorder: &Recorder<RecordFiles>,
-        fewer: &mut Fewer,
-        deeds: &[Deed],
-    ) -> bool {
-        for &deed in deeds {
-            if !self.is_done(recorder, fewer, deed) {
-                return false;
-            }
-        }
-        true
-    }
-
-    // Whether all of it was done to a record that has the step a, with fewer steps, which have it too.
+    // Whether all of it was done with fewer steps, which have the step a.
     fn are_done(&self, recorder: &Recorder<RecordFiles>, deeds: &[Deed]) -> bool {
-        match self.fewer() {
-            Some(mut fewer) => self.are_done_with(recorder, &mut fewer, deeds),
-            None => false,
-        }
-    }
-
-    // The same of the record made anew, whose files are closed then.
-    fn are_done_anew(&self, sync: bool, deeds: &[Deed]) -> bool {
-        if !self.is_made() {
+        let Some(mut fewer) = self.fewer() else {
             return false;
-        }
-        match self.recorder(sync) {
-            Some(recorder) => self.is_begun(&recorder) && self.are_done(&recorder, deeds),
-            None => false,
-        }
-    }
-
-    // Whether a file has these bytes.
-    fn has(&self, name: &str, text: &str) -> bool {
-        match self.read_again(name) {
-            Ok(file) => has(file, text),
-            Err(_) => false,
-        }
-    }
-
-    // Whether the two files have these bytes.
-    fn has_both(&self, steps: &str, ups: &str) -> bool {
-        self.has("steps", steps) && self.has("up", ups)
-    }
-
-    // Whether nobody but its owner may read or write a file.
-    fn is_private(&self, name: &str) -> bool {
-        match self.read_again(name) {
-            Ok(file) => is_private(&file),
-            Err(_) => false,
-        }
-    }
-
-    // Takes it away.
-    fn is_removed(&self) -> bool {
-        fs::remove_dir_all(self.rt, self.path).is_ok()
-    }
-
-    // Whether each write brings the steps to the disk with `sync` alone.
-    fn is_brought_if_asked(&self) -> bool {
-        self.are_done_anew(false, UNSYNCED) && self.are_done_anew(true, SYNCED) && self.is_removed()
-    }
-
-    // Whether all of it is done to the record made anew, and leaves these bytes in files for their owner alone.
-    fn leaves(&self, deeds: &[Deed], steps: &str, ups: &str) -> bool {
-        self.are_done_anew(true, deeds)
-            && self.has_both(steps, ups)
-            && self.is_private("steps")
-            && self.is_private("up")
-            && self.is_removed()
-    }
-
-    // Makes it with files that end in zeros.
-    fn is_left_with_zeros(&self) -> bool {
-        self.is_made()
-            && fs::write(self.rt, "test_parts_zeros/steps", b"a\nb\0\0\0".as_slice()).is_ok()
-            && fs::write(self.rt, "test_parts_zeros/up", b"\0\0".as_slice()).is_ok()
-    }
-
-    // Whether the zeros are cut off.
-    fn is_without_zeros(&self) -> bool {
-        self.is_left_with_zeros()
-            && self.opened(true).is_ok()
-            && self.has_both("a\nb", "")
-            && self.is_removed()
-    }
-}
-
-impl<R: Wait + Files<File = File> + AllocGlobal> Row<R> for Run {
-    fn holds(&self, rt: &R, _alloc: Global) -> bool {
-        let &Run(deeds, steps, ups) = self;
-        let folder = Folder {
-            rt,
-            path: PATH,
-            pipe: "",
         };
-        folder.leaves(deeds, steps, ups)
+        let mut are_done = true;
+        for &deed in deeds {
+            are_done = are_done && self.is_done(recorder, &mut fewer, deed);
+        }
+        are_done
+    }
+
+    // Whether all of it was done to the record, whose files are closed then.
+    fn is_recorded(&self, run: &Run) -> bool {
+        match self.opened(run.sync) {
+            Ok(recorder) => self.are_done(&recorder, run.deeds),
+            Err(_) => false,
+        }
+    }
+
+    // Whether a file has these bytes, for its owner alone where it was made.
+    fn has(&self, name: &str, text: &str, is_made: bool) -> bool {
+        match read_again(self.rt, &Discard, self.alloc, PATH, name) {
+            Ok(file) => (!is_made || is_private(&file)) && has(file, text),
+            Err(_) => false,
+        }
+    }
+
+    // Whether a run left its files as it is to.
+    fn is_left(&self, run: &Run) -> bool {
+        let is_made = run.before.is_none();
+        match run.after {
+            Some((steps, ups)) => self.has("steps", steps, is_made) && self.has("up", ups, is_made),
+            None => true,
+        }
+    }
+
+    // Whether all of it is done in the folder made anew, which is taken away then.
+    fn is_run(&self, run: &Run) -> bool {
+        self.is_made(run.before)
+            && self.is_recorded(run)
+            && self.is_left(run)
+            && fs::remove_dir_all(self.rt, PATH).is_ok()
     }
 }
 
-/// Fewer steps take the place of others, or these stay; the files have the lock, and are for their owner alone.
+// How many runs end as they are to before the first that does not, with the pipe of this number.
+fn count_run<R>(rt: &R, alloc: Global, fd: i32) -> usize
+where
+    R: Wait + Files<File = File> + Alloc,
+{
+    let Ok(pipe) = format!(in alloc; "/proc/self/fd/{fd}") else {
+        return 0;
+    };
+    let folder = Folder {
+        rt,
+        alloc,
+        pipe: pipe.as_str(),
+    };
+    let mut count = 0usize;
+    for run in RUNS {
+        if !folder.is_run(run) {
+            return count;
+        }
+        count = count.wrapping_add(1);
+    }
+    count
+}
+
+/// Fewer steps take the place of others, or these stay; the files have the lock, and are for their owner alone. With `sync`, and not without
+/// it, each write brings the steps to the disk, also once fewer took their place. Zeros at the ends are cut off.
 #[test]
 fn lines_follow_the_steps_that_go_on(rt: HostRuntime) {
-    each_holds(&rt, rt.alloc(), RUNS);
-}
-
-// The name of this end of a pipe.
-fn name_of(alloc: Global, writer: &PipeWriter) -> Option<String> {
-    format!(in alloc; "/proc/self/fd/{}", writer.as_raw_fd()).ok()
-}
-
-// Whether each write brings the steps to the disk if asked, where these are the pipe of this end.
-fn are_brought_to<R>(rt: &R, writer: &PipeWriter) -> bool
-where
-    R: Wait + Files<File = File> + AllocGlobal,
-{
-    match name_of(rt.alloc(), writer) {
-        Some(end) => {
-            let folder = Folder {
-                rt,
-                path: "test_parts_sync",
-                pipe: end.as_str(),
-            };
-            folder.is_brought_if_asked()
-        }
-        None => false,
-    }
-}
-
-/// With `sync`, and not without it, each write brings the steps to the disk, also once fewer took their place: these are a pipe here, which
-/// takes bytes but cannot be brought to a disk.
-#[test]
-fn steps_are_brought_to_the_disk_if_asked(rt: HostRuntime) {
-    let are_brought = match pipe(&rt) {
-        Ok((_reader, writer)) => are_brought_to(&rt, &writer),
-        Err(_) => false,
+    let count = match pipe(&rt) {
+        Ok((_reader, writer)) => count_run(&rt, rt.alloc(), writer.as_raw_fd()),
+        Err(_) => 0,
     };
-    assert!(rt; are_brought);
-}
-
-/// Zeros at the ends, which a crash of the machine may leave, are cut off.
-#[test]
-fn zeros_are_cut_off(rt: HostRuntime) {
-    let folder = Folder {
-        rt: &rt,
-        path: "test_parts_zeros",
-        pipe: "",
-    };
-    assert!(rt; folder.is_without_zeros());
+    assert!(rt; count == RUNS.len(), "{count} runs ended as they are to");
 }

@@ -3,7 +3,9 @@
 
 use crate::keys::zero_keys;
 use crate::loopback::socket;
-use crate::rows::{Row, each_holds, joined};
+use crate::rows::{filled, joined};
+use crate::sockets::Message::{Last, Spaced, These};
+use crate::sockets::Turn::{Down, Heard, Lost, Unsent};
 use ns_forwarder::{Clock, ForwarderFault, Head, Outcome, read_message};
 use ns_forwarder_socket::{Event, Forwarders, Gateways, Pending, Route, Taken, outcome_name, take};
 use ns_types::{GatewayId, Target};
@@ -21,8 +23,8 @@ const PUSH: &[u8] =
 const OTHER: &[u8] = b"\x02\x07\x08\0\0\0\0\0\0\0\0\x09{";
 
 // A push of gateway 9 with a frame, whose counter has wrapped, and items that are left out.
-const LEFT_OUT: &[u8] =
-    b"\x02\x07\x08\0\0\0\0\0\0\0\0\x09{\"rxpk\":[{\"tmst\":4,\"freq\":868.1,\"stat\":1,\"modu\":\"LORA\",\"datr\":\"SF7BW125\",\"rssi\":-95,\"lsnr\":7.5,\"data\":\"AQ==\"},{\"stat\":-1},{\"stat\":-1},{\"stat\":1,\"freq\":868.1,\"modu\":\"x\"},{\"stat\":1,\"freq\":868.1,\"modu\":\"x\"},{\"stat\":1,\"freq\":868.1,\"modu\":\"x\"},7,7,7,7]}";
+const LEFT_OUT: &str =
+    "\x02\x07\x08\0\0\0\0\0\0\0\0\x09{\"rxpk\":[{\"tmst\":4,\"freq\":868.1,\"stat\":1,\"modu\":\"LORA\",\"datr\":\"SF7BW125\",\"rssi\":-95,\"lsnr\":7.5,\"data\":\"AQ==\"},{\"stat\":-1},{\"stat\":-1},{\"stat\":1,\"freq\":868.1,\"modu\":\"x\"},{\"stat\":1,\"freq\":868.1,\"modu\":\"x\"},{\"stat\":1,\"freq\":868.1,\"modu\":\"x\"},7,7,7,7]}";
 
 const TOO_LATE: &[u8] =
     b"\x02\x07\x08\x05\0\0\0\0\0\0\0\x01{\"txpk_ack\":{\"error\":\"TOO_LATE\"}}";
@@ -62,14 +64,6 @@ const PULL_OF_9: [u8; 12] = [2, 7, 8, 2, 0, 0, 0, 0, 0, 0, 0, 9];
 
 const PULL_OF_10: [u8; 12] = [1, 7, 8, 2, 0, 0, 0, 0, 0, 0, 0, 10];
 
-// The push with items that are left out, and spaces behind it up to this length.
-fn spaced(alloc: Global, len: usize) -> Result<Vec<u8>, AllocError> {
-    let mut bytes = Vec::new(alloc);
-    bytes.extend_from_slice(LEFT_OUT)?;
-    bytes.resize(len, b' ')?;
-    Ok(bytes)
-}
-
 // The head of a message, and what it tells of its gateway.
 fn take_in(alloc: Global, bytes: &[u8]) -> Option<(Head, Taken)> {
     let Ok(read) = read_message(bytes) else {
@@ -99,14 +93,13 @@ fn none(alloc: Global) -> Option<Gateways> {
     Gateways::of(alloc, zero_keys()?, NonZeroUsize::new(2)?).ok()
 }
 
-// Whether each of three gateways asks for downlinks.
+// Three gateways ask for downlinks. Whether each was heard.
 fn have_asked(alloc: Global, gateways: &mut Gateways) -> bool {
+    let mut have_asked = true;
     for pull in PULLS {
-        if !hear(alloc, gateways, pull, at(1700)) {
-            return false;
-        }
+        have_asked = hear(alloc, gateways, pull, at(1700)) && have_asked;
     }
-    true
+    have_asked
 }
 
 // Whether the last two gateways that asked have a route.
@@ -115,12 +108,9 @@ fn are_routed(gateways: &Gateways) -> bool {
         addr: at(1700),
         version: 2,
     });
-    for &(gateway, want) in &[(1, None), (2, route), (9, route)] {
-        if gateways.gateway(GatewayId(gateway)).route != want {
-            return false;
-        }
-    }
-    true
+    gateways.gateway(GatewayId(1)).route.is_none()
+        && gateways.gateway(GatewayId(2)).route == route
+        && gateways.gateway(GatewayId(9)).route == route
 }
 
 // The moment of the last reading of gateway 9.
@@ -128,35 +118,30 @@ fn latest(gateways: &Gateways) -> Option<u64> {
     Some(gateways.gateway(GatewayId(9)).clock.latest?.moment)
 }
 
-// Whether routes and readings are kept.
-fn are_kept(alloc: Global, gateways: &mut Gateways) -> bool {
-    have_asked(alloc, gateways)
-        && are_routed(gateways)
-        && hear(alloc, gateways, PUSH, at(9))
-        && are_routed(gateways)
-        && latest(gateways) == Some(4_294_967_290)
-}
-
-#[test]
-fn what_is_known_of_gateways_is_kept(rt: HostRuntime) {
-    let are_kept = match none(rt.alloc()) {
-        Some(mut gateways) => are_kept(rt.alloc(), &mut gateways),
-        None => false,
+// Whether routes and readings are kept, of two gateways.
+fn are_kept(alloc: Global) -> bool {
+    let Some(mut gateways) = none(alloc) else {
+        return false;
     };
-    assert!(rt; are_kept);
+    have_asked(alloc, &mut gateways)
+        && are_routed(&gateways)
+        && hear(alloc, &mut gateways, PUSH, at(9))
+        && are_routed(&gateways)
+        && latest(&gateways) == Some(4_294_967_290)
 }
 
-// What a message tells of a downlink.
-fn outcome_of(alloc: Global, bytes: &[u8]) -> Option<Outcome> {
-    match take_in(alloc, bytes) {
-        Some((_, Taken::Told(outcome))) => Some(outcome),
-        _ => None,
-    }
+// Whether a message tells that a downlink came too late.
+fn is_too_late(alloc: Global, bytes: &[u8]) -> bool {
+    matches!(
+        take_in(alloc, bytes),
+        Some((_, Taken::Told(Outcome::TooLate)))
+    )
 }
 
+/// What is known of gateways is kept, and a TX_ACK is told.
 #[test]
-fn a_tx_ack_is_told(rt: HostRuntime) {
-    assert!(rt; outcome_of(rt.alloc(), TOO_LATE) == Some(Outcome::TooLate));
+fn gateways_are_known(rt: HostRuntime) {
+    assert!(rt; are_kept(rt.alloc()) && is_too_late(rt.alloc(), TOO_LATE));
 }
 
 // The forwarders of this socket.
@@ -199,57 +184,87 @@ const COUNTS: &str =
 // The acknowledgement of a push.
 const ACK: Option<[u8; 4]> = Some([2, 7, 8, 1]);
 
+// What the gateway sends.
+#[derive(Clone, Copy)]
+enum Message {
+    // This message.
+    These(&'static [u8]),
+    // A push with spaces behind it, so many bytes together.
+    Spaced(usize),
+    // Nothing: what comes is of the message before.
+    Last,
+}
+
 // A part of the exchange.
 #[derive(Clone, Copy)]
 enum Turn {
-    // This comes of a message of the gateway, or of the one before, with these bytes at the front of the buffer, and the gateway is answered
-    // so.
-    Heard(Option<&'static [u8]>, Event, &'static [u8], Option<[u8; 4]>),
-    // The same of a push with so many bytes.
-    Spaced(usize, Event, &'static [u8], Option<[u8; 4]>),
+    // This comes of a message of the gateway, with these bytes at the front of the buffer, and the gateway is answered so.
+    Heard(Message, Event, &'static [u8], Option<[u8; 4]>),
     // Downlinks have no route to this gateway.
     Lost(u64),
     // A downlink reaches this gateway, with this head.
     Down(u64, [u8; 4]),
+    // No downlink is sent to this gateway outside the band, or to port 0, which the system refuses.
+    Unsent(u64),
 }
 
 const TURNS: &[Turn] = &[
     // The frames of a push become datagrams one after the other, and each push is acknowledged, also one of another body.
-    Turn::Heard(Some(PUSH), Event::Datagram(29), &FIRST, ACK),
-    Turn::Heard(None, Event::Datagram(30), &SECOND, None),
-    Turn::Heard(Some(OTHER), Event::Refused(ForwarderFault::Body), &[], ACK),
+    Heard(These(PUSH), Event::Datagram(29), &FIRST, ACK),
+    Heard(Last, Event::Datagram(30), &SECOND, None),
+    Heard(These(OTHER), Event::Refused(ForwarderFault::Body), &[], ACK),
     // A push of 16,384 bytes is heard, by the clock of the one before it. A longer one is not heard, nor is it acknowledged: the next answer
     // is that to the message after it.
-    Turn::Spaced(16_384, Event::Datagram(29), &THIRD, ACK),
-    Turn::Spaced(16_385, Event::Refused(ForwarderFault::TooLong), &[], None),
+    Heard(Spaced(16_384), Event::Datagram(29), &THIRD, ACK),
+    Heard(
+        Spaced(16_385),
+        Event::Refused(ForwarderFault::TooLong),
+        &[],
+        None,
+    ),
     // A pull is acknowledged, and downlinks had no route before. Each downlink has the next token, or none by version 1.
-    Turn::Lost(9),
-    Turn::Heard(Some(&PULL_OF_9), Event::Message, &[], Some([2, 7, 8, 4])),
-    Turn::Down(9, [2, 0, 0, 3]),
-    Turn::Down(9, [2, 0, 1, 3]),
-    Turn::Lost(10),
-    Turn::Heard(Some(&PULL_OF_10), Event::Message, &[], Some([1, 7, 8, 4])),
-    Turn::Down(10, [1, 0, 0, 3]),
+    Lost(9),
+    Heard(These(&PULL_OF_9), Event::Message, &[], Some([2, 7, 8, 4])),
+    Down(9, [2, 0, 0, 3]),
+    Down(9, [2, 0, 1, 3]),
+    Lost(10),
+    Heard(These(&PULL_OF_10), Event::Message, &[], Some([1, 7, 8, 4])),
+    Down(10, [1, 0, 0, 3]),
+    Unsent(9),
 ];
 
-// The server, the socket of both gateways, and a push that is a byte longer than the longest.
+// The forwarders of the server and their address, and the socket of both gateways.
 #[derive(Drop)]
-struct Exchange<'a, R> {
-    rt: &'a R,
+struct Exchange<'a> {
     alloc: Global,
     forwarders: &'a Forwarders,
     server: SocketAddr,
     gateway: &'a UdpSocket,
-    longer: &'a [u8],
 }
 
-impl<R: Wait + time::Clock> Exchange<'_, R> {
-    // Whether what comes next to the server is this, with these bytes at the front of the buffer.
-    fn is_next(&self, pending: &mut Pending, want: Event, datagram: &[u8]) -> bool {
-        let mut buf = [0; 512];
-        match self.forwarders.next(self.rt, self.alloc, pending, &mut buf) {
-            Ok(event) => event == want && buf.starts_with(datagram),
+impl Exchange<'_> {
+    // The gateway sends this. Whether it could.
+    fn is_sent(&self, message: &[u8]) -> bool {
+        self.gateway.send_to(message, self.server).is_ok()
+    }
+
+    // It sends this text.
+    fn is_text_sent(&self, text: Result<String, AllocError>) -> bool {
+        match text {
+            Ok(text) => self.is_sent(text.as_str().as_bytes()),
             Err(_) => false,
+        }
+    }
+
+    // It sends this message.
+    fn has_sent(&self, message: Message) -> bool {
+        match message {
+            These(bytes) => self.is_sent(bytes),
+            Spaced(len) => {
+                let spaces = len.saturating_sub(LEFT_OUT.len());
+                self.is_text_sent(filled(self.alloc, LEFT_OUT, " ", spaces, ""))
+            }
+            Last => true,
         }
     }
 
@@ -266,11 +281,6 @@ impl<R: Wait + time::Clock> Exchange<'_, R> {
         }
     }
 
-    // Whether this comes of a message of the gateway.
-    fn is_taken(&self, pending: &mut Pending, message: &[u8], want: Event, front: &[u8]) -> bool {
-        self.gateway.send_to(message, self.server).is_ok() && self.is_next(pending, want, front)
-    }
-
     // Whether the gateway is acknowledged so, if it is to be.
     fn is_acknowledged(&self, ack: Option<[u8; 4]>) -> bool {
         match ack {
@@ -279,62 +289,13 @@ impl<R: Wait + time::Clock> Exchange<'_, R> {
         }
     }
 
-    // Whether this comes of a push with so many bytes.
-    fn is_spaced(&self, pending: &mut Pending, len: usize, want: Event, front: &[u8]) -> bool {
-        match self.longer.get(..len) {
-            Some(message) => self.is_taken(pending, message, want, front),
-            None => false,
-        }
+    // Whether a downlink reaches the gateway by this route, with this head.
+    fn is_reached(&self, route: Route, head: [u8; 4]) -> bool {
+        self.forwarders.send(self.alloc, route, &TARGET, &[1]) && self.is_answered(head, DOWNLINK)
     }
 
-    // Whether there is no route to this gateway.
-    fn is_lost(&self, gateway: u64) -> bool {
-        self.forwarders.route(self.rt, GatewayId(gateway)).is_none()
-    }
-
-    // Whether it comes so.
-    fn is_so(&self, pending: &mut Pending, turn: Turn) -> bool {
-        match turn {
-            Turn::Heard(Some(message), want, front, ack) => {
-                self.is_taken(pending, message, want, front) && self.is_acknowledged(ack)
-            }
-            Turn::Heard(None, want, front, ack) => {
-                self.is_next(pending, want, front) && self.is_acknowledged(ack)
-            }
-            Turn::Spaced(len, want, front, ack) => {
-                self.is_spaced(pending, len, want, front) && self.is_acknowledged(ack)
-            }
-            Turn::Lost(gateway) => self.is_lost(gateway),
-            Turn::Down(gateway, head) => self.downlink_is_sent(gateway, head),
-        }
-    }
-
-    // Whether all of it does.
-    fn are_so(&self, pending: &mut Pending) -> bool {
-        for &turn in TURNS {
-            if !self.is_so(pending, turn) {
-                return false;
-            }
-        }
-        true
-    }
-
-    // A downlink reaches the gateway, with this head.
-    fn downlink_is_sent(&self, gateway: u64, head: [u8; 4]) -> bool {
-        match self.forwarders.route(self.rt, GatewayId(gateway)) {
-            Some(route) => {
-                self.forwarders.send(self.alloc, route, &TARGET, &[1])
-                    && self.is_answered(head, DOWNLINK)
-            }
-            None => false,
-        }
-    }
-
-    // No downlink is sent outside the band, or to port 0, which the system refuses.
-    fn others_are_not_sent(&self) -> bool {
-        let Some(route) = self.forwarders.route(self.rt, GatewayId(9)) else {
-            return false;
-        };
+    // Whether no downlink is sent by this route outside the band, or to port 0.
+    fn is_unsent(&self, route: Route) -> bool {
         let outside = Target { freq: 1, ..TARGET };
         let nowhere = Route {
             addr: SocketAddr::new(self.server.ip(), 0),
@@ -344,30 +305,7 @@ impl<R: Wait + time::Clock> Exchange<'_, R> {
             && !self.forwarders.send(self.alloc, nowhere, &TARGET, &[1])
     }
 
-    // Gateway 9 tells this of a downlink.
-    fn is_told(&self, pending: &mut Pending, word: &str, want: Outcome) -> bool {
-        match joined(self.alloc, &[FRONT, word, "\"}}"]) {
-            Ok(message) => {
-                let told = Event::Told(GatewayId(9), want);
-                self.is_taken(pending, message.as_str().as_bytes(), told, &[])
-            }
-            Err(_) => false,
-        }
-    }
-
-    // It tells the first outcome once, the second twice, and so on.
-    fn outcomes_are_told(&self, pending: &mut Pending) -> bool {
-        for (place, &Told(outcome, word, _)) in TOLD.iter().enumerate() {
-            for _ in 0..=place {
-                if !self.is_told(pending, word, outcome) {
-                    return false;
-                }
-            }
-        }
-        true
-    }
-
-    // The counts of the whole exchange.
+    // Whether the counts are those of the whole exchange.
     fn is_counted(&self) -> bool {
         match format!(in self.alloc; "{}", self.forwarders.counts()) {
             Ok(counts) => counts.as_str() == COUNTS,
@@ -375,60 +313,83 @@ impl<R: Wait + time::Clock> Exchange<'_, R> {
         }
     }
 
-    // All of it, one after the other.
-    fn is_held(&self, pending: &mut Pending) -> bool {
-        self.are_so(pending)
-            && self.others_are_not_sent()
-            && self.outcomes_are_told(pending)
-            && self.is_counted()
+    // Whether what comes next to the server is this, with these bytes at the front of the buffer.
+    fn is_next<R: Wait + time::Clock>(
+        &self,
+        rt: &R,
+        pending: &mut Pending,
+        want: Event,
+        front: &[u8],
+    ) -> bool {
+        let mut buf = [0; 512];
+        match self.forwarders.next(rt, self.alloc, pending, &mut buf) {
+            Ok(event) => event == want && buf.starts_with(front),
+            Err(_) => false,
+        }
+    }
+
+    // Whether a part of the exchange comes so.
+    fn is_so<R: Wait + time::Clock>(&self, rt: &R, pending: &mut Pending, turn: Turn) -> bool {
+        match turn {
+            Heard(message, want, front, ack) => {
+                self.has_sent(message)
+                    && self.is_next(rt, pending, want, front)
+                    && self.is_acknowledged(ack)
+            }
+            Lost(gateway) => self.forwarders.route(rt, GatewayId(gateway)).is_none(),
+            Down(gateway, head) => match self.forwarders.route(rt, GatewayId(gateway)) {
+                Some(route) => self.is_reached(route, head),
+                None => false,
+            },
+            Unsent(gateway) => match self.forwarders.route(rt, GatewayId(gateway)) {
+                Some(route) => self.is_unsent(route),
+                None => false,
+            },
+        }
+    }
+
+    // Whether gateway 9 tells this of a downlink so many times.
+    fn is_told<R: Wait + time::Clock>(
+        &self,
+        rt: &R,
+        pending: &mut Pending,
+        told: &Told,
+        times: u32,
+    ) -> bool {
+        let event = Event::Told(GatewayId(9), told.0);
+        let mut is_told = outcome_name(told.0) == told.2;
+        for _ in 0..times {
+            is_told = is_told
+                && self.is_text_sent(joined(self.alloc, &[FRONT, told.1, "\"}}"]))
+                && self.is_next(rt, pending, event, &[]);
+        }
+        is_told
+    }
+
+    // Whether all of it comes so, and then the first outcome once, the second twice, and so on.
+    fn is_held<R: Wait + time::Clock>(&self, rt: &R, pending: &mut Pending) -> bool {
+        let mut is_held = true;
+        for &turn in TURNS {
+            is_held = is_held && self.is_so(rt, pending, turn);
+        }
+        let mut times = 1u32;
+        for told in TOLD {
+            is_held = is_held && self.is_told(rt, pending, told, times);
+            times = times.wrapping_add(1);
+        }
+        is_held && self.is_counted()
     }
 
     // The same from the beginning on.
-    fn is_held_anew(&self) -> bool {
+    fn is_held_anew<R: Wait + time::Clock>(&self, rt: &R) -> bool {
         match Pending::new(self.alloc) {
-            Ok(mut pending) => self.is_held(&mut pending),
+            Ok(mut pending) => self.is_held(rt, &mut pending),
             Err(_) => false,
         }
     }
 }
 
-impl<R> Row<R> for Told {
-    fn holds(&self, _rt: &R, _alloc: Global) -> bool {
-        outcome_name(self.0) == self.2
-    }
-}
-
-/// Each outcome has the name by which it is counted.
-#[test]
-fn outcomes_have_names(rt: HostRuntime) {
-    each_holds(&rt, rt.alloc(), TOLD);
-}
-
-// All of it, between this gateway and the forwarders of the server.
-fn is_held<R: Wait + time::Clock>(
-    rt: &R,
-    alloc: Global,
-    gateway: &UdpSocket,
-    forwarders: &Forwarders,
-    server: SocketAddr,
-) -> bool {
-    match spaced(alloc, 16_385) {
-        Ok(longer) => {
-            let exchange = Exchange {
-                rt,
-                alloc,
-                forwarders,
-                server,
-                gateway,
-                longer: longer.as_slice(),
-            };
-            exchange.is_held_anew()
-        }
-        Err(_) => false,
-    }
-}
-
-// The same, where the server has this socket.
+// All of it, between this gateway and a server with this socket.
 fn is_held_by<R: Wait + time::Clock>(
     rt: &R,
     alloc: Global,
@@ -439,7 +400,15 @@ fn is_held_by<R: Wait + time::Clock>(
         return false;
     };
     match forwarders(rt, alloc, socket) {
-        Some(forwarders) => is_held(rt, alloc, gateway, &forwarders, server),
+        Some(forwarders) => {
+            let exchange = Exchange {
+                alloc,
+                forwarders: &forwarders,
+                server,
+                gateway,
+            };
+            exchange.is_held_anew(rt)
+        }
         None => false,
     }
 }
@@ -452,6 +421,7 @@ fn is_held_here<R: Net + Wait + time::Clock>(rt: &R, alloc: Global) -> bool {
     }
 }
 
+/// A forwarder is heard and answered, and each outcome has the name by which it is counted.
 #[test]
 fn a_forwarder_is_heard_and_answered(rt: HostRuntime) {
     assert!(rt; is_held_here(&rt, rt.alloc()));

@@ -46,11 +46,10 @@ fn put_both(alloc: Global, text: &mut String) -> bool {
 const BOTH: &str =
     "{\"nowMs\":61000,\"startMs\":1764017000123,\"devices\":[\n{\"devAddr\":\"49be7df1\",\"devEui\":\"000000000000000d\",\"fCnt\":null,\"gatewayId\":null,\"heardMs\":null,\"missed\":0,\"session\":1,\"sinceMs\":1500},\n{\"devAddr\":\"49be7df1\",\"devEui\":\"000000000000000e\",\"fCnt\":9,\"gatewayId\":\"00000000000000a1\",\"heardMs\":60000,\"missed\":7,\"session\":2,\"sinceMs\":1500}\n]}\n\n{\"frames\":5,\"gatewayId\":\"00000000000000a1\",\"heardMs\":60000}";
 
-#[test]
-fn lists(rt: HostRuntime) {
-    let mut text = String::new(rt.alloc());
-    let is_put = put_both(rt.alloc(), &mut text);
-    assert!(rt; is_put && text.as_str() == BOTH);
+// Whether it is that text.
+fn are_lists_told(alloc: Global) -> bool {
+    let mut text = String::new(alloc);
+    put_both(alloc, &mut text) && text.as_str() == BOTH
 }
 
 const TOTALS: Totals = Totals {
@@ -89,19 +88,23 @@ fn has_parts(text: &str) -> bool {
     text.starts_with(START) && text.contains(REPLIES) && text.ends_with(ENTRIES)
 }
 
-#[test]
-fn metrics(rt: HostRuntime) {
-    let mut text = String::new(rt.alloc());
-    let is_put = put_metrics(&mut text, &TOTALS, LISTS).is_ok();
-    assert!(rt; is_put && has_parts(text.as_str()));
+// Whether metrics are told so.
+fn are_metrics_told(alloc: Global) -> bool {
+    let mut text = String::new(alloc);
+    put_metrics(&mut text, &TOTALS, LISTS).is_ok() && has_parts(text.as_str())
 }
 
 const HEAD: &str =
     "HTTP/1.1 404 Not Found\r\nContent-Type: text/plain; charset=utf-8\r\nContent-Length: 14\r\n";
 
-#[test]
-fn heads(rt: HostRuntime) {
+// Whether a head is told so.
+fn is_head_told() -> bool {
     let head = head_of(Status::NotFound, Content::Text, Some(14));
     let text = head.as_str();
-    assert!(rt; text.starts_with(HEAD) && text.ends_with("\r\nConnection: close\r\n\r\n"));
+    text.starts_with(HEAD) && text.ends_with("\r\nConnection: close\r\n\r\n")
+}
+
+#[test]
+fn texts_of_the_status(rt: HostRuntime) {
+    assert!(rt; are_lists_told(rt.alloc()) && are_metrics_told(rt.alloc()) && is_head_told());
 }

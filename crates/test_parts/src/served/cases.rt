@@ -1,12 +1,13 @@
 //! What is tried on a state.
 
+use crate::served::counted::count_all;
 use crate::served::resting::some_rest;
 use crate::served::shared::{are_handed_on, is_sent_once, line_has_its_times};
 use crate::served::sockets::{are_late_for_a_while, is_waited_out, longest_leaves, own_socket};
 use crate::served::standing::Standing;
 use crate::served::states::state_with;
-use crate::served::told::{LOGGED, PORT, is_told, log_all};
-use ns_serve_state::State;
+use crate::served::told::{LOGGED, PORT, is_told};
+use ns_serve_state::{State, log_counts};
 use std::alloc::Global;
 use std::net::{Net, TcpListener, TcpStream};
 use std::sync::Wait;
@@ -14,7 +15,7 @@ use std::thread::Threads;
 use std::time::Clock;
 
 // What is so of a server that does not run.
-#[derive(Clone, Copy, PartialEq, Eq)]
+#[derive(Clone, Copy)]
 enum Case {
     // Of what an earlier life left open, a window is due once copies were waited for, and a ticket is given at once, too old to be asked
     // about.
@@ -79,7 +80,11 @@ impl Case {
             Case::LongestDownlink => longest_leaves(rt, state),
             Case::Failures => is_waited_out(rt, state),
             Case::Resting => some_rest(rt, state),
-            Case::Logged => log_all(rt, state),
+            Case::Logged => {
+                count_all(state);
+                log_counts(rt, state);
+                true
+            }
             Case::Told => is_told(rt, alloc, state),
         }
     }
@@ -99,6 +104,7 @@ impl Case {
             None => false,
         }
     }
+
     // Whether it is so where nothing happened before, and is logged as it is to be.
     fn holds<R>(&self, rt: &R, alloc: Global) -> bool
     where
@@ -109,7 +115,7 @@ impl Case {
         };
         let is_so = self.is_so(&standing, alloc);
         let lines = standing.into_lines();
-        is_so && (*self != Case::Logged || lines.as_slice() == LOGGED)
+        is_so && (!matches!(self, Case::Logged) || lines.as_slice() == LOGGED)
     }
 }
 

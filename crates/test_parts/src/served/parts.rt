@@ -30,8 +30,8 @@ fn own_addr(
     Some(options.own_addr())
 }
 
-impl<R> Row<R> for Own {
-    fn holds(&self, _rt: &R, _alloc: Global) -> bool {
+impl Row for Own {
+    fn holds(&self, _alloc: Global) -> bool {
         let &Own(listen, forwarders, own) = self;
         own_addr(listen.map(local), forwarders.map(local)) == Some(own.map(local))
     }
@@ -40,7 +40,7 @@ impl<R> Row<R> for Own {
 /// Where no address is given, own datagrams are heard at 127.0.0.1:1700, and at none where forwarders alone are heard.
 #[test]
 fn own_address(rt: HostRuntime) {
-    each_holds(&rt, rt.alloc(), OWN);
+    each_holds(&rt, rt.alloc(), "addresses", OWN);
 }
 
 // Moments in milliseconds, and the count that a line tells then, if it comes.

@@ -1,6 +1,6 @@
 //! Gateway workers that rest while the others are enough.
 
-use crate::served::sockets::{gateway, is_heard};
+use crate::served::sockets::{gateway_of, is_heard};
 use crate::served::standing::Standing;
 use ns_serve_sockets::FromSocket;
 use ns_serve_state::State;
@@ -102,20 +102,6 @@ fn end_so<R: Threads + Wait + Clock + Sync>(
     least <= early && early <= most
 }
 
-// Whether all rests end so.
-fn all_end_so<R: Threads + Wait + Clock + Sync>(
-    rt: &Standing<'_, R>,
-    state: &State,
-    gateway: &UdpSocket,
-) -> bool {
-    for &rests in RESTS {
-        if !end_so(rt, state, gateway, rests) {
-            return false;
-        }
-    }
-    true
-}
-
 // Whether a worker rests 5 ms after each of 20 datagrams that it waited for a while, by the clock of the host.
 fn rests_between<R: Wait + Clock>(
     rt: &Standing<'_, R>,
@@ -137,11 +123,12 @@ pub fn some_rest<R: Threads + Wait + Clock + Net + Sync>(
     rt: &Standing<'_, R>,
     state: &State,
 ) -> bool {
-    let Some((own, _)) = &state.own else {
+    let Some(gateway) = gateway_of(rt.host(), state) else {
         return false;
     };
-    match gateway(rt.host(), own, 0) {
-        Some(gateway) => all_end_so(rt, state, &gateway) && rests_between(rt, state, &gateway),
-        None => false,
+    let mut all_end_so = true;
+    for &rests in RESTS {
+        all_end_so = all_end_so && end_so(rt, state, &gateway, rests);
     }
+    all_end_so && rests_between(rt, state, &gateway)
 }

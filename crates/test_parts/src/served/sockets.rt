@@ -38,8 +38,8 @@ pub fn own_socket<R: Net>(rt: &R, has_one: bool) -> Option<(UdpSocket, SocketAdd
     }
 }
 
-/// A gateway's socket at this port, which sends to this socket of a server.
-pub fn gateway<R: Net>(rt: &R, own: &UdpSocket, port: u16) -> Option<UdpSocket> {
+// A gateway's socket at this port, which sends to this socket of a server.
+fn gateway<R: Net>(rt: &R, own: &UdpSocket, port: u16) -> Option<UdpSocket> {
     let Ok(server) = own.local_addr() else {
         return None;
     };
@@ -47,6 +47,14 @@ pub fn gateway<R: Net>(rt: &R, own: &UdpSocket, port: u16) -> Option<UdpSocket> 
     match gateway.connect(server) {
         Ok(()) => Some(gateway),
         Err(_) => None,
+    }
+}
+
+/// A gateway's socket, which sends to a server's socket of its own.
+pub fn gateway_of<R: Net>(rt: &R, state: &State) -> Option<UdpSocket> {
+    match &state.own {
+        Some((own, _)) => gateway(rt, own, 0),
+        None => None,
     }
 }
 
@@ -86,25 +94,21 @@ fn are_received<R: Wait + Clock>(
     from: &mut FromSocket<'_>,
     gateway: &UdpSocket,
 ) -> bool {
+    let mut are_received = true;
     for &copy in COPIES {
-        if !is_received(rt, from, gateway, copy) {
-            return false;
-        }
+        are_received = is_received(rt, from, gateway, copy) && are_received;
     }
-    true
+    are_received
 }
 
 /// Whether copies of a frame are late for a while, and counted then.
 pub fn are_late_for_a_while<R: Wait + Clock + Net>(rt: &Standing<'_, R>, state: &State) -> bool {
-    let Some((own, _)) = &state.own else {
+    let Some(gateway) = gateway_of(rt.host(), state) else {
         return false;
     };
     state.lates.note(rt, NAME, 7000);
-    let are_received = match gateway(rt.host(), own, 0) {
-        Some(gateway) => are_received(rt, &mut FromSocket::new(state, None), &gateway),
-        None => false,
-    };
-    are_received && state.counts.late.load(Ordering::SeqCst) == 2
+    are_received(rt, &mut FromSocket::new(state, None), &gateway)
+        && state.counts.late.load(Ordering::SeqCst) == 2
 }
 
 // How many bytes a gateway gets.
@@ -113,27 +117,14 @@ fn count_bytes(gateway: &UdpSocket) -> usize {
     gateway.recv(&mut buf).unwrap_or(0)
 }
 
-// Whether a gateway gets the longest downlink once it was heard.
-fn is_longest_sent<R: Wait + Clock>(
-    rt: &Standing<'_, R>,
-    state: &State,
-    gateway: &UdpSocket,
-) -> bool {
-    let mut from = FromSocket::new(state, None);
-    is_heard(rt, &mut from, gateway)
-        && ToSocket { state }.send(rt, &downlink(Bytes::of(&[0x20; 33])))
-        && count_bytes(gateway) == 61
-}
-
-/// Whether the longest downlink leaves.
+/// Whether a gateway gets the longest downlink once it was heard.
 pub fn longest_leaves<R: Wait + Clock + Net>(rt: &Standing<'_, R>, state: &State) -> bool {
-    let Some((own, _)) = &state.own else {
+    let Some(gateway) = gateway_of(rt.host(), state) else {
         return false;
     };
-    match gateway(rt.host(), own, 0) {
-        Some(gateway) => is_longest_sent(rt, state, &gateway),
-        None => false,
-    }
+    is_heard(rt, &mut FromSocket::new(state, None), &gateway)
+        && ToSocket { state }.send(rt, &downlink(Bytes::of(&[0x20; 33])))
+        && count_bytes(&gateway) == 61
 }
 
 // Whether none of 51 receives is the last, each after a datagram to a gateway that is not there, which makes it fail.

@@ -4,7 +4,7 @@ use crate::loopback::local;
 use crate::served::counted::{accepted, count_all};
 use crate::served::standing::Standing;
 use ns_outside::Receipt;
-use ns_serve_state::{State, Status, log_counts};
+use ns_serve_state::{State, Status};
 use ns_serve_status::tell;
 use ns_types::DevEui;
 use std::alloc::Global;
@@ -22,13 +22,6 @@ pub const PORT: u16 = 17091;
 /// How the counts are logged.
 pub const LOGGED: &[u8] =
     b"[INFO  ns_serve_parts::counts] datagrams: read 1000 dropped 101 late 102 failed receives 103 G1 21 G2 22 G3 23 G4 24 G5 25 G6 26 V1 27 V2 28 V3 29 V4 30 V5 31 V6 32\n[INFO  ns_serve_parts::counts] replies: opened 40 copied 2 crowded 3 old 4 nosession 5 busy 6 ask 60 joincopied 8 joincrowded 9 nonceold 10 nodevice 11 joinbusy 12 accepted 13 joinrefused 14 joinstale 15 noticket 16 closed 17 nowindow 18 again 19 unanswered 104 unsent 105 stale tickets 106\n[WARN  ns_serve_parts::counts] standard output failed: 107 lines did not reach it\n";
-
-/// Counts each thing, and logs the counts.
-pub fn log_all<R: Wait + Clock>(rt: &Standing<'_, R>, state: &State) -> bool {
-    count_all(state);
-    log_counts(rt, state);
-    true
-}
 
 // All that comes back.
 fn read(alloc: Global, mut stream: &TcpStream) -> Option<String> {
@@ -83,12 +76,11 @@ const METRICS: &[&str] = &[
 
 // Whether a text has each of these lines.
 fn has_metrics(text: &str) -> bool {
+    let mut has_metrics = true;
     for line in METRICS {
-        if !text.contains(line) {
-            return false;
-        }
+        has_metrics = has_metrics && text.contains(line);
     }
-    true
+    has_metrics
 }
 
 // Asks for the devices and for the counts. Whether they are told.
@@ -101,13 +93,6 @@ fn are_told<R: Net<Stream = TcpStream>>(rt: &R, alloc: Global) -> bool {
         }
         _ => false,
     }
-}
-
-// The same, after which no more is told.
-fn are_told_last<R: Net<Stream = TcpStream>>(rt: &R, alloc: Global, state: &State) -> bool {
-    let are_told = are_told(rt, alloc);
-    state.break_off();
-    are_told
 }
 
 // Of 150 devices, 70 and 140 have joined.
@@ -133,7 +118,11 @@ where
     let (_, are_told) = thread::join(
         standing.host(),
         || tell(standing, alloc, state),
-        || are_told_last(standing.host(), alloc, state),
+        || {
+            let are_told = are_told(standing.host(), alloc);
+            state.break_off();
+            are_told
+        },
     );
     are_told
 }
