@@ -63,7 +63,7 @@ fn hand_out<R: Wait + Clock + Log, W: Sink, D: Downlinks<R>>(
         (append_known (W.taken output.new.writer) output.new.lines.items) receipt.now.uplink) }
     ensures failed { OnErr result (W.has_failed output.new.writer ≡ true) }
 {
-    state.counts.replied(&receipt.entry.reply);
+    state.made.add_one(receipt.shard, &receipt.entry.reply);
     record_call(rt, state, receipt);
     note_event(rt, state, receipt);
     if let Some(downlink) = &receipt.downlink {

@@ -31,15 +31,13 @@ impl<'a, R: Log + Clock + Wait> Monitor<R> for Events<'a> {
     }
 
     fn replied(&self, rt: &R, receipt: &Receipt) {
-        self.state.counts.replied(&receipt.entry.reply);
-        self.state.made.add_one(receipt.shard);
-        if let Some(status) = &self.state.status {
-            status.note(rt, receipt, now_ms(rt, self.state));
+        let state = self.state;
+        let reply = &receipt.entry.reply;
+        state.made.add_one(receipt.shard, reply);
+        note_closing(rt, state, receipt);
+        if state.is_told() || state.notices.is_some() || is_kept_or_logged(reply) {
+            tell(rt, state, receipt);
         }
-        note_closing(rt, self.state, receipt);
-        note_asker(rt, self.state, receipt);
-        note_event(rt, self.state, receipt);
-        log_reply(rt, self.state, receipt);
     }
 
     fn dropped(&self, rt: &R) {
@@ -74,6 +72,30 @@ impl<'a, R: Log + Clock + Wait> Monitor<R> for Events<'a> {
     fn unsent(&self, rt: &R, downlink: &Downlink) {
         log_unsent(rt, self.state, downlink);
     }
+}
+
+// Whether it is kept or logged who got a reply: one to a join, or to a frame of no session.
+fn is_kept_or_logged(reply: &Reply) -> bool {
+    match reply {
+        Reply::Ask { .. }
+        | Reply::Accepted { .. }
+        | Reply::NoSession
+        | Reply::NoDevice
+        | Reply::NonceOld { .. }
+        | Reply::JoinRefused => true,
+        _ => false,
+    }
+}
+
+// Keeps and logs what came of a call, where that is asked for. It stands by itself, so that most calls run through none of it.
+#[inline(never)]
+fn tell<R: Log + Clock + Wait>(rt: &R, state: &State, receipt: &Receipt) {
+    if let Some(status) = &state.status {
+        status.note(rt, receipt, now_ms(rt, state));
+    }
+    note_asker(rt, state, receipt);
+    note_event(rt, state, receipt);
+    log_reply(rt, state, receipt);
 }
 
 // Keeps when the window that a reply opened is closed.

@@ -1,43 +1,22 @@
 //! How often each thing happened.
-ghost use Rattle.std.specs.Prelude.{◌≡◌, ◌+◌, ◌<◌};
-ghost use Rattle.ns_serve_parts.specs.Counts.{reply_place, refusal_place};
+ghost use Rattle.std.specs.Prelude.{◌≡◌, ◌+◌};
+ghost use Rattle.ns_serve_parts.specs.Counts.{refusal_place};
 
+use crate::made::Made;
 use crate::seldom::is_minute_later;
 use log::{Log, info, warn};
-use ns_calls::Reply;
 use ns_link::LinkFault;
 use ns_outside::Refused;
-use std::alloc::{AllocError, Global};
 use std::fmt;
 use std::fmt::{Display, Formatter};
 use std::sync::atomic::{AtomicU64, Ordering};
 
-// The refusals of datagrams and frames that a gateway worker meets, in the order of their places.
-const REFUSALS: [&str; 12] = [
-    "G1", "G2", "G3", "G4", "G5", "G6", "V1", "V2", "V3", "V4", "V5", "V6",
-];
+// How many kinds of refusals there are.
+const KINDS: usize = 12;
 
-// The replies by the words of their answer lines, in the order of their places.
-const REPLIES: [&str; 19] = [
-    "opened",
-    "copied",
-    "crowded",
-    "old",
-    "nosession",
-    "busy",
-    "ask",
-    "joincopied",
-    "joincrowded",
-    "nonceold",
-    "nodevice",
-    "joinbusy",
-    "accepted",
-    "joinrefused",
-    "joinstale",
-    "noticket",
-    "closed",
-    "nowindow",
-    "again",
+// The refusals of datagrams and frames that a gateway worker meets, in the order of their places.
+const REFUSALS: [&str; KINDS] = [
+    "G1", "G2", "G3", "G4", "G5", "G6", "V1", "V2", "V3", "V4", "V5", "V6",
 ];
 
 /// How often each thing happened.
@@ -45,8 +24,7 @@ const REPLIES: [&str; 19] = [
 pub struct Counts {
     // When they were logged last, in milliseconds of the server's clock.
     logged_ms: AtomicU64,
-    refusals: [AtomicU64; 12],
-    replies: [AtomicU64; 19],
+    refusals: [AtomicU64; KINDS],
     /// Datagrams whose calls were refused memory.
     pub dropped: AtomicU64,
     /// Datagrams that were late copies.
@@ -63,77 +41,29 @@ pub struct Counts {
     pub unwritten: AtomicU64,
 }
 
-// Counters with their names.
+// Names with how often each of them is counted, as they are logged.
 #[derive(Clone, Copy)]
 struct Named<'a> {
-    names: &'a [&'static str],
-    counters: &'a [AtomicU64],
+    counts: &'a [(&'static str, u64)],
 }
 
 impl<'a> Display for Named<'a> {
     fn fmt<W: fmt::Write>(&self, f: &mut Formatter<W>) -> fmt::Result {
-        for (name, counter) in self.names.iter().zip(self.counters.iter()) {
-            write!(f, " {name} {}", value(counter))?;
+        for (name, count) in self.counts {
+            write!(f, " {name} {count}")?;
         }
         Ok(())
     }
 }
 
-// Counts with their names.
-fn by_name(
-    alloc: Global,
-    names: &[&'static str],
-    counters: &[AtomicU64],
-) -> Result<Vec<(&'static str, u64)>, AllocError> {
-    let mut counts = Vec::with_capacity(alloc, names.len())?;
-    for (name, counter) in names.iter().zip(counters.iter()) {
-        counts.push((*name, value(counter)))?;
-    }
-    Ok(counts)
-}
-
-// One more at a place, if there is such a place.
-fn add(counters: &[AtomicU64], place: usize) {
-    if let Some(counter) = counters.get(place) {
-        more(counter);
-    }
+/// What is counted.
+pub(crate) fn value(counter: &AtomicU64) -> u64 {
+    counter.load(Ordering::SeqCst)
 }
 
 /// One more.
 pub fn more(counter: &AtomicU64) {
     counter.fetch_add(1, Ordering::SeqCst);
-}
-
-fn value(counter: &AtomicU64) -> u64 {
-    counter.load(Ordering::SeqCst)
-}
-
-// The place of a reply's counter.
-fn place_of_reply(reply: &Reply) -> usize
-    ensures place { result ≡ reply_place reply.now }
-    ensures bound { result < 19 }
-{
-    match reply {
-        Reply::Opened { .. } => 0,
-        Reply::Copied { .. } => 1,
-        Reply::Crowded { .. } => 2,
-        Reply::Old { .. } => 3,
-        Reply::NoSession => 4,
-        Reply::Busy { .. } => 5,
-        Reply::Ask { .. } => 6,
-        Reply::JoinCopied { .. } => 7,
-        Reply::JoinCrowded => 8,
-        Reply::NonceOld { .. } => 9,
-        Reply::NoDevice => 10,
-        Reply::JoinBusy => 11,
-        Reply::Accepted { .. } => 12,
-        Reply::JoinRefused => 13,
-        Reply::JoinStale { .. } => 14,
-        Reply::NoTicket => 15,
-        Reply::Closed { .. } => 16,
-        Reply::NoWindow => 17,
-        Reply::Again { .. } => 18,
-    }
 }
 
 // The place of a refusal's counter: the layouts' refusals come first. None has a full buffer, which no datagram that comes meets.
@@ -153,7 +83,6 @@ impl Counts {
         Counts {
             logged_ms: AtomicU64::new(0),
             refusals: Default::default(),
-            replies: Default::default(),
             dropped: AtomicU64::new(0),
             late: AtomicU64::new(0),
             unreceived: AtomicU64::new(0),
@@ -164,24 +93,20 @@ impl Counts {
         }
     }
 
-    /// Each refusal with its name.
-    pub fn refusals_by_name(&self, alloc: Global) -> Result<Vec<(&'static str, u64)>, AllocError> {
-        by_name(alloc, &REFUSALS, &self.refusals)
-    }
-
-    /// Each reply with its name.
-    pub fn replies_by_name(&self, alloc: Global) -> Result<Vec<(&'static str, u64)>, AllocError> {
-        by_name(alloc, &REPLIES, &self.replies)
-    }
-
-    /// Counts a reply.
-    pub fn replied(&self, reply: &Reply) {
-        add(&self.replies, place_of_reply(reply));
+    /// How often each refusal was made, with its name.
+    pub fn refusals(&self) -> [(&'static str, u64); KINDS] {
+        let mut all = [("", 0); KINDS];
+        for place in 0..KINDS {
+            all[place] = (REFUSALS[place], value(&self.refusals[place]));
+        }
+        all
     }
 
     /// Counts a refusal.
     pub fn refused(&self, why: Refused) {
-        add(&self.refusals, place_of_refusal(why));
+        if let Some(counter) = self.refusals.get(place_of_refusal(why)) {
+            more(counter);
+        }
     }
 
     /// Whether the counts are to be logged: once a minute, by whoever asks first.
@@ -198,30 +123,26 @@ impl Counts {
 
     // Logs the counts of datagrams.
     fn log_datagrams<R: Log>(&self, rt: &R, read: u64) {
-        let refusals = Named {
-            names: &REFUSALS,
-            counters: &self.refusals,
-        };
+        let refusals = self.refusals();
+        let refusals = Named { counts: &refusals };
         let (dropped, late) = (value(&self.dropped), value(&self.late));
         let unreceived = value(&self.unreceived);
         info!(rt; "datagrams: read {read} dropped {dropped} late {late} failed receives {unreceived}{refusals}");
     }
 
     // Logs the counts of replies.
-    fn log_replies<R: Log>(&self, rt: &R) {
-        let replies = Named {
-            names: &REPLIES,
-            counters: &self.replies,
-        };
+    fn log_replies<R: Log>(&self, rt: &R, made: &Made) {
+        let replies = made.replies();
+        let replies = Named { counts: &replies };
         let (unanswered, unsent) = (value(&self.unanswered), value(&self.unsent));
         let stale = value(&self.stale);
         info!(rt; "replies:{replies} unanswered {unanswered} unsent {unsent} stale tickets {stale}");
     }
 
-    /// Logs the counts.
-    pub fn log_all<R: Log>(&self, rt: &R, read: u64) {
+    /// Logs the counts, with those of so many datagrams and of the replies to them.
+    pub fn log_all<R: Log>(&self, rt: &R, read: u64, made: &Made) {
         self.log_datagrams(rt, read);
-        self.log_replies(rt);
+        self.log_replies(rt, made);
         let unwritten = value(&self.unwritten);
         if unwritten > 0 {
             warn!(rt; "standard output failed: {unwritten} lines did not reach it");

@@ -45,6 +45,8 @@ pub struct FromSocket<'a> {
     noted: NotedPeers,
     // How its last datagrams came.
     pace: Pace,
+    // Where it counts them.
+    place: usize,
 }
 
 // How long ago a receive began, nothing where the clock does not tell.
@@ -88,6 +90,7 @@ impl<'a> FromSocket<'a> {
             failures: 0,
             noted: NotedPeers::new(),
             pace: Pace::new(),
+            place: state.read.place(),
         }
     }
 
@@ -140,7 +143,9 @@ impl<'a> FromSocket<'a> {
         }
     }
 
-    // Says that none came. A failure is counted, logged and waited out; where there were too many in a row, the source has failed.
+    // Says that none came. A failure is counted, logged and waited out; where there were too many in a row, the source has failed. It stays a
+    // function of its own, as the others that most datagrams do not run through, so that those lie close together in a processor's cache.
+    #[inline(never)]
     fn without<R: Wait + Clock + Log>(&mut self, rt: &R, error: &Error) -> Received
         ensures none { (n : ℕ) → result ≢ Received.Got n }
         ensures fits { FitsBuffer result }
@@ -236,6 +241,21 @@ fn take_in<R: Wait + Clock>(
     if is_plain(rt, state, noted, datagram, peer) {
         return false;
     }
+    take_in_wholly(rt, state, noted, datagram, peer)
+}
+
+// The same, where it is not known that nothing is to be done.
+#[inline(never)]
+fn take_in_wholly<R: Wait + Clock>(
+    rt: &R,
+    state: &State,
+    noted: &mut NotedPeers,
+    datagram: &[u8],
+    peer: &Option<SocketAddr>,
+) -> bool
+    ensures notes { NotesNamed noted.old noted.new datagram.now peer.now }
+    ensures late { IsTrue result → NamesFrame datagram.now }
+{
     let Some(seen) = read_seen(datagram) else {
         return false;
     };
@@ -246,10 +266,11 @@ fn take_in<R: Wait + Clock>(
     }
 }
 
-// Counts a datagram of so many bytes, and gives it where it is no late copy and none too many.
+// Counts a datagram of so many bytes at a place, and gives it where it is no late copy and none too many.
 fn counted<R: Wait + Clock + Log>(
     rt: &R,
     state: &State,
+    place: usize,
     noted: &mut NotedPeers,
     buf: &[u8; 512],
     n: usize,
@@ -262,10 +283,9 @@ fn counted<R: Wait + Clock + Log>(
     ensures heard { result ≢ Received.Failed }
     ensures notes { NotesNamed noted.old noted.new (take n buf.now) peer.now }
 {
-    let before = state.read.fetch_add(1, Ordering::SeqCst);
-    if before >= state.most {
+    let Some(before) = state.read.add_one(place) else {
         return Received::End;
-    }
+    };
     if before % BETWEEN_LOOKS == 0 {
         look(rt, state);
     }
@@ -294,7 +314,7 @@ impl<'a, R: Wait + Clock + Log> Datagrams<R> for FromSocket<'a> {
         };
         self.failures = 0;
         if let Event::Datagram(n) = event {
-            return counted(rt, state, &mut self.noted, buf, n, &peer);
+            return counted(rt, state, self.place, &mut self.noted, buf, n, &peer);
         }
         log_message(rt, state, event);
         look(rt, state);
@@ -303,6 +323,7 @@ impl<'a, R: Wait + Clock + Log> Datagrams<R> for FromSocket<'a> {
 }
 
 // Logs the counts where a minute has passed.
+#[inline(never)]
 fn look<R: Clock + Log>(rt: &R, state: &State) {
     if state.counts.is_due(now_ms(rt, state)) {
         log_counts(rt, state);

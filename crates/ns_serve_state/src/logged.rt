@@ -8,7 +8,6 @@ use ns_forwarder::{ForwarderFault, Outcome};
 use ns_forwarder_socket::{Event, outcome_name};
 use ns_serve_parts::{Seldom, more};
 use std::fmt::Display;
-use std::sync::atomic::Ordering;
 use std::time::Clock;
 
 /// What is logged once a minute at most: who got each of these replies, at the level info, and receives that failed and downlinks that a
@@ -48,8 +47,7 @@ pub fn log_unsent<R: Log>(rt: &R, state: &State, downlink: &Downlink) {
 
 /// Logs the counts.
 pub fn log_counts<R: Log>(rt: &R, state: &State) {
-    let read = state.read.load(Ordering::SeqCst);
-    state.counts.log_all(rt, read.min(state.most));
+    state.counts.log_all(rt, state.read.all(), &state.made);
     if let Some((forwarders, _)) = &state.forwarders {
         let what = format_args!("forwarders:{}", forwarders.counts());
         log_at(rt, Level::Info, what);
@@ -57,6 +55,7 @@ pub fn log_counts<R: Log>(rt: &R, state: &State) {
 }
 
 /// Logs what came of a forwarder's message that gave no datagram, where an operator is to know.
+#[inline(never)]
 pub fn log_message<R: Log + Clock>(rt: &R, state: &State, event: Event) {
     match event {
         Event::Refused(ForwarderFault::NoMemory) => {

@@ -31,6 +31,7 @@ impl Resting {
     }
 
     // Rests until it is woken, 5 ms at most, or not at all where it is the only one of so many workers that does not rest.
+    #[inline(never)]
     pub(crate) fn rest<R: Wait + Clock>(&self, rt: &R, workers: u64) {
         let mut count = self.count.lock(rt);
         if !may_rest(*count, workers) {
@@ -44,6 +45,7 @@ impl Resting {
     }
 
     // Wakes one that rests, if there is one.
+    #[inline(never)]
     pub(crate) fn wake<R: Wait>(&self, rt: &R) {
         if *self.count.lock(rt) > 0 {
             self.bell.notify_one();

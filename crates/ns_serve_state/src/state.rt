@@ -13,7 +13,7 @@ use ns_front::{Addresses, Lates, Peers};
 use ns_output::Output;
 use ns_record_files::{RecordFiles, Recorder};
 use ns_roster::Roster;
-use ns_serve_parts::{Askers, Counts, EventLines, Made, ServeFault, ServeOptions, keys};
+use ns_serve_parts::{Askers, Counts, EventLines, Made, Reads, ServeFault, ServeOptions, keys};
 use std::alloc::{AllocError, Global};
 use std::collections::hash_map::RandomState;
 use std::net::{SocketAddr, UdpSocket};
@@ -116,10 +116,8 @@ pub struct State {
     pub start_ms: u64,
     /// How long a window stays open, in milliseconds.
     pub window_ms: u32,
-    /// How many datagrams came.
-    pub read: AtomicU64,
-    /// The server stops after so many.
-    pub most: u64,
+    /// How many datagrams came, and after how many the server stops.
+    pub read: Reads,
     /// Whether a worker has met a fault.
     pub broken: AtomicBool,
     /// Whether the input has ended at whose end the server stops.
@@ -138,7 +136,7 @@ pub struct State {
     pub asks: AskQueue,
     /// By which gateways devices asked to join.
     pub askers: Mutex<Askers>,
-    /// How many entries each shard has.
+    /// How many entries each shard has, and with which replies they were made.
     pub made: Made,
     /// How often each thing happened.
     pub counts: Counts,
@@ -164,7 +162,6 @@ impl Drop for State {
             start_ms: _,
             window_ms: _,
             read: _,
-            most: _,
             broken: _,
             ended: _,
             gateways: _,
@@ -208,8 +205,7 @@ impl State {
             forwarders: parts.forwarders,
             start_ms: parts.start_ms,
             window_ms: options.window_ms,
-            read: AtomicU64::new(0),
-            most: options.stop_after.map_or(u64::MAX, u64::from),
+            read: Reads::new(options.stop_after),
             broken: AtomicBool::new(false),
             ended: parts.ended,
             gateways: AtomicU64::new(0),
@@ -303,9 +299,7 @@ impl State {
 
     /// Whether no further datagram or job is to be taken.
     pub fn is_over(&self) -> bool {
-        self.is_broken()
-            || self.ended.load(Ordering::SeqCst)
-            || self.read.load(Ordering::SeqCst) >= self.most
+        self.is_broken() || self.ended.load(Ordering::SeqCst) || self.read.are_enough()
     }
 
     /// Whether a worker has met a fault.

@@ -309,14 +309,14 @@ fn metrics_of<R: Wait>(
     status: &Status,
 ) -> Result<String, AllocError> {
     let counts = &state.counts;
-    let refusals = counts.refusals_by_name(alloc)?;
-    let replies = counts.replies_by_name(alloc)?;
+    let refusals = counts.refusals();
+    let replies = state.made.replies();
     let entries = state.made.all();
-    let of = |name: &str| count_of(replies.as_slice(), name);
+    let of = |name: &str| count_of(&replies, name);
     let (devices, sessions) = status.count_devices(rt);
     let totals = Totals {
         start_seconds: status.start_ms() / 1000,
-        read: state.read.load(Ordering::SeqCst).min(state.most),
+        read: state.read.all(),
         dropped: counts.dropped.load(Ordering::SeqCst),
         late: counts.late.load(Ordering::SeqCst),
         unreceived: counts.unreceived.load(Ordering::SeqCst),
@@ -335,8 +335,8 @@ fn metrics_of<R: Wait>(
         gateways: status.count_gateways(rt) as u64,
     };
     let lists = Lists {
-        refusals: refusals.as_slice(),
-        replies: replies.as_slice(),
+        refusals: &refusals,
+        replies: &replies,
         entries: &entries,
     };
     let mut text = String::with_capacity(alloc, 8192)?;

@@ -23,6 +23,8 @@ mod messages;
 #[cfg(test)]
 mod places;
 #[cfg(test)]
+mod reads;
+#[cfg(test)]
 mod requests;
 #[cfg(test)]
 mod responses;

@@ -77,10 +77,7 @@ fn end_rests<R: Wait + Clock>(
         match ended_by {
             EndedBy::Nobody => return,
             EndedBy::Wake => state.wake(rt),
-            EndedBy::Datagrams => {
-                state.read.store(0, Ordering::SeqCst);
-                take(rt, &mut from, gateway, 64);
-            }
+            EndedBy::Datagrams => take(rt, &mut from, gateway, 64),
         }
     }
 }

@@ -35,7 +35,7 @@ pub fn options() -> Option<ServeOptions<'static>> {
         workers: 1,
         join_workers: 1,
         window_ms: 2000,
-        stop_after: Some(1000),
+        stop_after: Some(1_000_000),
         stop_at_end: false,
         trim: None,
         output: Output::Lines,
