@@ -12,18 +12,37 @@
 
 mod messages;
 
-use crate::forwarders::messages::Messages;
+use crate::forwarders::messages::put_messages;
 use crate::put::put_line;
+use ns_forwarder_socket::Gateways;
 use std::alloc::Global;
+use std::collections::hash_map::RandomState;
+use std::io;
+use std::random::RandomSource;
+
+// Keys of a hash that are the same in each run.
+#[derive(Clone, Copy)]
+struct Noughts;
+
+impl RandomSource for Noughts {
+    fn fill_bytes(&self, buf: &mut [u8]) -> io::Result<()> {
+        buf.fill(0);
+        Ok(())
+    }
+}
+
+// No gateway; None where there is no memory.
+fn no_gateways(alloc: Global) -> Option<Gateways> {
+    match RandomState::new(&Noughts) {
+        Ok(keys) => Gateways::new(alloc, keys).ok(),
+        Err(_) => None,
+    }
+}
 
 /// Puts the line for each message of these lines.
 pub fn make(alloc: Global, lines: &[&str], out: &mut String) {
-    match Messages::new(alloc) {
-        Ok(mut messages) => {
-            for line in lines {
-                messages.put(alloc, line, out);
-            }
-        }
-        Err(_) => put_line(out, "no memory"),
+    match no_gateways(alloc) {
+        Some(mut gateways) => put_messages(alloc, &mut gateways, lines, out),
+        None => put_line(out, "no memory"),
     }
 }

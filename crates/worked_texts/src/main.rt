@@ -23,7 +23,11 @@ mod times;
 use crate::put::pieces;
 use anyhow::bail;
 use std::alloc::Global;
+use std::net::Net;
 use std::rt::Files;
+use std::sync::Wait;
+use std::thread::Threads;
+use std::time::Clock;
 use std::{env, fs, io};
 
 // What a text is.
@@ -89,19 +93,24 @@ fn printed(alloc: Global, kind: Kind, name: &str, text: &str) -> String {
     out
 }
 
-// Makes the text of this name, and prints what comes of it.
-fn make<R: Files + Input + Print + AllocGlobal>(rt: &R, kind: Kind, name: &str) -> io::Result<()> {
+// Makes the text of this name, and prints what comes of it; or times the part of this name.
+fn make<R: Files + Input + Threads + Wait + Net + Clock + Print + Eprint + AllocGlobal + Sync>(
+    rt: &R,
+    kind: Kind,
+    name: &str,
+) -> io::Result<()> {
+    if let Kind::Times = kind {
+        return times::time(rt, name);
+    }
     let text = text_of(rt, name)?;
     let printed = printed(rt.alloc(), kind, name, text.as_str());
     rt.print(printed.as_str())
 }
 
 // The same; a fault is told with the name.
-fn make_named<R: Files + Input + Print + AllocGlobal>(
-    rt: &R,
-    kind: Kind,
-    name: &str,
-) -> anyhow::Result<()> {
+fn make_named<
+    R: Files + Input + Threads + Wait + Net + Clock + Print + Eprint + AllocGlobal + Sync,
+>(rt: &R, kind: Kind, name: &str) -> anyhow::Result<()> {
     match make(rt, kind, name) {
         Ok(()) => Ok(()),
         Err(fault) => bail!("{name}: {fault}"),
@@ -110,11 +119,12 @@ fn make_named<R: Files + Input + Print + AllocGlobal>(
 
 fn main(rt: HostRuntime) -> anyhow::Result<()> {
     let mut kind = None;
-    for word in env::args(&rt)?.skip(1) {
+    let mut words = env::args(&rt)?;
+    let _program = words.next();
+    for word in words {
         let word = word.as_str();
         match (kind_of(word), kind) {
             (Some(named), _) => kind = Some(named),
-            (None, Some(Kind::Times)) => times::time(&rt, word)?,
             (None, Some(kind)) => make_named(&rt, kind, word)?,
             (None, None) => bail!("no kind of text: {word}"),
         }

@@ -34,9 +34,15 @@ pub fn put_hex(alloc: Global, out: &mut String, bytes: &[u8]) {
 /// The pieces of a text that stand between these marks.
 pub fn pieces<'a>(alloc: Global, text: &'a str, mark: &str) -> Vec<&'a str> {
     let mut pieces = Vec::new(alloc);
-    for piece in text.split(mark) {
+    let mut rest = text;
+    for _ in 0..text.len() {
+        let Some((piece, behind)) = rest.split_once(mark) else {
+            break;
+        };
         let _ = pieces.push(piece);
+        rest = behind;
     }
+    let _ = pieces.push(rest);
     pieces
 }
 

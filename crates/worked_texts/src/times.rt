@@ -1,4 +1,5 @@
-//! Times parts of the server as another crate calls them. What was computed goes to standard output, the times to standard error.
+//! Times parts of the server as another crate calls them. What was computed goes to standard output, the times to standard error, when the
+//! part ends.
 //!
 //! A part is named by its word, `aes`, `joinclient` or `server`. What stands behind it, each behind a comma, is that part's own, as the
 //! head of its file says: `server,64,8000,3`.
@@ -8,34 +9,82 @@ mod joinclient;
 mod load;
 mod served;
 mod server;
-mod trim;
+mod shards;
 
-use crate::put::pieces;
-use anyhow::bail;
+use crate::put::{pieces, put_line};
+use std::alloc::Global;
+use std::fmt::Write;
 use std::io;
+use std::io::ErrorKind;
 use std::net::Net;
 use std::sync::Wait;
 use std::thread::Threads;
-use std::time::Clock;
+use std::time::{Clock, Instant};
 
-// Prints the nanoseconds of what has this name.
-fn print_time<R: Eprint>(rt: &R, name: &str, nanoseconds: u128) -> io::Result<()> {
-    eprintln!(rt; "{name} {nanoseconds} ns")
+/// What a part tells: the lines of what was computed, and those of times.
+#[derive(Drop)]
+pub struct Told {
+    lines: String,
+    times: String,
 }
 
-/// Times the part that is asked for.
+impl Told {
+    // Adds the nanoseconds of what has this name.
+    fn add_time(&mut self, name: &str, nanoseconds: u128) {
+        let _ = writeln!(self.times, "{name} {nanoseconds} ns");
+    }
+}
+
+// The clock's time; None where it tells none.
+fn now<R: Clock>(rt: &R) -> Option<Instant> {
+    Instant::now(rt).ok()
+}
+
+// The nanoseconds since a time; None where the clock tells no time.
+fn since<R: Clock>(rt: &R, start: Instant) -> Option<u128> {
+    match start.elapsed(rt) {
+        Ok(took) => Some(took.as_nanos()),
+        Err(_) => None,
+    }
+}
+
+// Times a part. None where there is none of this word, and where memory, the clock or a thread is refused.
+fn time_part<R: Threads + Wait + Net + Clock + Sync>(
+    rt: &R,
+    alloc: Global,
+    words: &[&str],
+    told: &mut Told,
+) -> Option<()> {
+    let (word, behind) = words.split_first()?;
+    match *word {
+        "aes" => aes::time(rt, alloc, told),
+        "joinclient" => joinclient::time(rt, alloc, behind.first().copied(), told),
+        "server" => server::time(rt, alloc, server::asked(behind), told),
+        _ => {
+            put_line(&mut told.times, "none of aes, joinclient and server");
+            None
+        }
+    }
+}
+
+// Prints what a part tells.
+fn print<R: Print + Eprint>(rt: &R, told: &Told) -> io::Result<()> {
+    rt.print(told.lines.as_str())?;
+    rt.eprint(told.times.as_str())
+}
+
+/// Times the part that is asked for. A fault where there is no such part, or it was refused memory, the clock or a thread.
 pub fn time<R: Threads + Wait + Net + Clock + Print + Eprint + AllocGlobal + Sync>(
     rt: &R,
     asked: &str,
-) -> anyhow::Result<()> {
-    let words = pieces(rt.alloc(), asked, ",");
-    let words = words.as_slice();
-    let behind = words.get(1..).unwrap_or(&[]);
-    match words.first().copied() {
-        Some("aes") => aes::time(rt)?,
-        Some("joinclient") => joinclient::time(rt, behind.first().copied())?,
-        Some("server") => server::time(rt, rt.alloc(), server::asked(behind))?,
-        _ => bail!("{asked:?} is none of aes, joinclient and server"),
-    }
-    Ok(())
+) -> io::Result<()> {
+    let alloc = rt.alloc();
+    let mut told = Told {
+        lines: String::new(alloc),
+        times: String::new(alloc),
+    };
+    let words = pieces(alloc, asked, ",");
+    let ended = time_part(rt, alloc, words.as_slice(), &mut told);
+    print(rt, &told)?;
+    ended.ok_or(io::Error::from(ErrorKind::InvalidInput))
 }

@@ -2,102 +2,80 @@
 
 use crate::put::{put, put_hex, show};
 use ns_forwarder::{ForwarderFault, Handed, Head, Message, read_message};
-use ns_forwarder_socket::{Gateways, Taken, take};
-use ns_types::GatewayId;
+use ns_forwarder_socket::{Gateways, Route, Taken, take};
 use std::alloc::Global;
-use std::collections::hash_map::RandomState;
 use std::fmt::Write;
-use std::io;
 use std::net::{IpAddr, Ipv4Addr, SocketAddr};
-use std::random::RandomSource;
 
-// Keys of a hash that are the same in each run.
-#[derive(Clone, Copy)]
-struct Noughts;
-
-impl RandomSource for Noughts {
-    fn fill_bytes(&self, buf: &mut [u8]) -> io::Result<()> {
-        buf.fill(0);
-        Ok(())
-    }
-}
-
-/// What is known of gateways, and from which port the next message comes.
+// What a message has become: what is taken of it, whether that is noted, and where downlinks of its gateway go then.
 #[derive(Drop)]
-pub struct Messages {
-    gateways: Gateways,
-    port: u16,
+struct Became {
+    taken: Result<Taken, ForwarderFault>,
+    is_noted: bool,
+    route: Option<Route>,
 }
 
-impl Messages {
-    /// No message has come.
-    pub fn new(alloc: Global) -> anyhow::Result<Messages> {
-        let gateways = Gateways::new(alloc, RandomState::new(&Noughts)?)?;
-        Ok(Messages {
-            gateways,
-            port: 1700,
-        })
-    }
+// What is known of gateways.
+trait Known {
+    // Takes a message that comes at this time from a port.
+    fn take(&mut self, alloc: Global, message: &Message<'_>, now: u64, port: u16) -> Became;
+}
 
-    /// Puts the line for a time and a message.
-    pub fn put(&mut self, alloc: Global, line: &str, out: &mut String) {
-        let (now, digits) = line.split_once(" ").unwrap_or(("0", line));
-        match hex::decode(alloc, digits) {
-            Ok(bytes) => {
-                let now = now.parse::<u64>().unwrap_or(0);
-                self.put_read(alloc, now, bytes.as_slice(), out);
-            }
-            Err(_) => put(out, "no hex"),
+impl Known for Gateways {
+    fn take(&mut self, alloc: Global, message: &Message<'_>, now: u64, port: u16) -> Became {
+        let head = message.head();
+        let taken = take(alloc, message, self.gateway(head.gateway).clock, now);
+        let is_noted = match &taken {
+            Ok(taken) => self.note(&head, taken, peer(port)).is_ok(),
+            Err(_) => true,
+        };
+        Became {
+            taken,
+            is_noted,
+            route: self.gateway(head.gateway).route,
+        }
+    }
+}
+
+// Where a message comes from.
+fn peer(port: u16) -> SocketAddr {
+    SocketAddr::new(IpAddr::V4(Ipv4Addr::new(10, 0, 0, 1)), port)
+}
+
+/// Puts the line for each time and message, which come from one port after another.
+pub fn put_messages<K: Known>(alloc: Global, known: &mut K, lines: &[&str], out: &mut String) {
+    let mut port = 1700u16;
+    for line in lines {
+        if put_line(alloc, known, port, line, out) {
+            port = port.wrapping_add(1);
         }
         put(out, "\n");
     }
+}
 
-    // Puts what becomes of bytes that come at this time.
-    fn put_read(&mut self, alloc: Global, now: u64, bytes: &[u8], out: &mut String) {
-        match read_message(bytes) {
-            Ok(message) => {
-                put_ack(alloc, &message.head(), out);
-                self.put_message(alloc, now, &message, out);
-            }
-            Err(fault) => show(out, fault),
+// Puts what a time and a message become. Whether they are one that is read.
+fn put_line<K: Known>(
+    alloc: Global,
+    known: &mut K,
+    port: u16,
+    line: &str,
+    out: &mut String,
+) -> bool {
+    let (now, digits) = line.split_once(" ").unwrap_or(("0", line));
+    let Ok(bytes) = hex::decode(alloc, digits) else {
+        put(out, "no hex");
+        return false;
+    };
+    match read_message(bytes.as_slice()) {
+        Ok(message) => {
+            put_ack(alloc, &message.head(), out);
+            let now = now.parse::<u64>().unwrap_or(0);
+            put_became(alloc, &known.take(alloc, &message, now, port), out);
+            true
         }
-    }
-
-    // Puts what a message becomes.
-    fn put_message(&mut self, alloc: Global, now: u64, message: &Message<'_>, out: &mut String) {
-        let head = message.head();
-        let peer = SocketAddr::new(IpAddr::V4(Ipv4Addr::new(10, 0, 0, 1)), self.port);
-        self.port = self.port.wrapping_add(1);
-        let clock = self.gateways.gateway(head.gateway).clock;
-        match take(alloc, message, clock, now) {
-            Ok(taken) => {
-                if self.gateways.note(&head, &taken, peer).is_err() {
-                    put(out, " no memory");
-                }
-                self.put_taken(alloc, head.gateway, &taken, out);
-            }
-            Err(fault) => put_fault(fault, out),
-        }
-    }
-
-    // Puts what a message of a gateway has become.
-    fn put_taken(&self, alloc: Global, gateway: GatewayId, taken: &Taken, out: &mut String) {
-        match taken {
-            Taken::Handed(handed, _) => put_handed(alloc, handed, out),
-            Taken::Asked => self.put_route(gateway, out),
-            Taken::Told(outcome) => {
-                let _ = write!(out, " {outcome:?}");
-            }
-        }
-    }
-
-    // Puts where downlinks of a gateway go.
-    fn put_route(&self, gateway: GatewayId, out: &mut String) {
-        if let Some(route) = self.gateways.gateway(gateway).route {
-            put(out, " asked ");
-            show(out, route.addr);
-            put(out, " ");
-            show(out, route.version);
+        Err(fault) => {
+            show(out, fault);
+            false
         }
     }
 }
@@ -107,6 +85,31 @@ fn put_ack(alloc: Global, head: &Head, out: &mut String) {
     match head.ack() {
         Some(ack) => put_hex(alloc, out, &ack),
         None => put(out, "-"),
+    }
+}
+
+// Puts what a message has become.
+fn put_became(alloc: Global, became: &Became, out: &mut String) {
+    if !became.is_noted {
+        put(out, " no memory");
+    }
+    match &became.taken {
+        Ok(Taken::Handed(handed, _)) => put_handed(alloc, handed, out),
+        Ok(Taken::Asked) => put_route(became.route, out),
+        Ok(Taken::Told(outcome)) => {
+            let _ = write!(out, " {outcome:?}");
+        }
+        Err(fault) => put_fault(*fault, out),
+    }
+}
+
+// Puts where downlinks of a gateway go.
+fn put_route(route: Option<Route>, out: &mut String) {
+    if let Some(route) = route {
+        put(out, " asked ");
+        show(out, route.addr);
+        put(out, " ");
+        show(out, route.version);
     }
 }
 

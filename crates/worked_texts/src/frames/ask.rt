@@ -14,12 +14,16 @@ pub struct Ask<'a> {
 
 // The word behind this one.
 fn behind<'a>(line: &'a str, name: &str) -> Option<&'a str> {
-    let mut is_next = false;
-    for word in line.split(" ") {
+    let (mut rest, mut is_next) = (line, false);
+    for _ in 0..line.len() {
+        let Some((word, behind)) = rest.split_once(" ") else {
+            return if is_next { Some(rest) } else { None };
+        };
         if is_next {
             return Some(word);
         }
         is_next = word == name;
+        rest = behind;
     }
     None
 }

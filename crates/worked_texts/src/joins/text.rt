@@ -1,5 +1,6 @@
 //! Texts and numbers as they stand in a file.
 
+use crate::put::pieces;
 use ns_roster::field::hex_bytes;
 use std::alloc::Global;
 
@@ -24,34 +25,40 @@ fn put_bytes(bytes: &mut Vec<u8>, more: &[u8]) {
 }
 
 // Adds the bytes of a text in which `\r`, `\n`, `\t` and `\xHH;` are a byte.
-fn add(bytes: &mut Vec<u8>, text: &str) {
-    let (front, parts) = text.split_once("\\").unwrap_or((text, ""));
-    put_bytes(bytes, front.as_bytes());
-    if front.len() < text.len() {
-        for part in parts.split("\\") {
+fn add(alloc: Global, bytes: &mut Vec<u8>, text: &str) {
+    let mut is_front = true;
+    for part in &pieces(alloc, text, "\\") {
+        if is_front {
+            put_bytes(bytes, part.as_bytes());
+        } else {
             let (byte, behind) = escaped(part);
             put_bytes(bytes, &[byte]);
             put_bytes(bytes, behind.as_bytes());
         }
+        is_front = false;
     }
 }
 
 // Adds a piece so many times, and what stands behind it: the text behind `\(`.
-fn add_repeated(bytes: &mut Vec<u8>, part: &str) {
+fn add_repeated(alloc: Global, bytes: &mut Vec<u8>, part: &str) {
     let (count, rest) = part.split_once(" ").unwrap_or(("0", part));
     let (piece, behind) = rest.split_once(")").unwrap_or((rest, ""));
     for _ in 0..count.parse::<u32>().unwrap_or(0) {
-        add(bytes, piece);
+        add(alloc, bytes, piece);
     }
-    add(bytes, behind);
+    add(alloc, bytes, behind);
 }
 
 // Adds the bytes of a text in which `\(N PIECE)` is a piece so many times.
-fn add_all(bytes: &mut Vec<u8>, text: &str) {
-    let (front, parts) = text.split_once("\\(").unwrap_or((text, ""));
-    add(bytes, front);
-    for part in parts.split("\\(") {
-        add_repeated(bytes, part);
+fn add_all(alloc: Global, bytes: &mut Vec<u8>, text: &str) {
+    let mut is_front = true;
+    for part in &pieces(alloc, text, "\\(") {
+        if is_front {
+            add(alloc, bytes, part);
+        } else {
+            add_repeated(alloc, bytes, part);
+        }
+        is_front = false;
     }
 }
 
@@ -59,8 +66,8 @@ fn add_all(bytes: &mut Vec<u8>, text: &str) {
 /// times.
 pub fn bytes_of(alloc: Global, first: &str, second: &str) -> Vec<u8> {
     let mut bytes = Vec::new(alloc);
-    add_all(&mut bytes, first);
-    add_all(&mut bytes, second);
+    add_all(alloc, &mut bytes, first);
+    add_all(alloc, &mut bytes, second);
     bytes
 }
 

@@ -1,10 +1,11 @@
 //! Times AES-128 and AES-CMAC. The values go to standard output, the times to standard error.
 
-use crate::times::print_time;
+use crate::put::{put, put_hex};
+use crate::times::{Told, now, since};
 use ns_aes_cmac::{Aes128, Cmac};
 use ns_types::Key;
-use std::io;
-use std::time::{Clock, Instant};
+use std::alloc::Global;
+use std::time::Clock;
 
 /// The calls in one measurement.
 const CALLS: u32 = 2000;
@@ -31,114 +32,101 @@ const BLOCK: [u8; 16] = [
 /// The bytes that a MIC covers of a frame of 51 bytes.
 const SIGNED: [u8; 47] = [7; 47];
 
-/// A block after another, each in need of the one before.
-fn blocks(rt: &impl Clock) -> io::Result<([u8; 16], u128)> {
-    let cipher = Aes128::new(&Key(KEY));
+/// A block after another, each in need of the one before: the last one.
+fn blocks(cipher: &Aes128) -> [u8; 16] {
     let mut block = BLOCK;
-    let start = Instant::now(rt)?;
     for _ in 0..CALLS {
         block = cipher.encrypt(&block);
     }
-    let took = start.elapsed(rt)?;
-    Ok((block, took.as_nanos()))
+    block
 }
 
 /// Two blocks side by side.
-fn pairs(rt: &impl Clock) -> io::Result<([u8; 16], u128)> {
-    let cipher = Aes128::new(&Key(KEY));
-    let mut first = BLOCK;
-    let mut second = KEY;
-    let start = Instant::now(rt)?;
+fn pairs(cipher: &Aes128) -> [u8; 16] {
+    let mut pair = (BLOCK, KEY);
     for _ in 0..CALLS {
-        let (a, b) = cipher.encrypt_two(&first, &second);
-        first = a;
-        second = b;
+        pair = cipher.encrypt_two(&pair.0, &pair.1);
     }
-    let took = start.elapsed(rt)?;
-    Ok((second, took.as_nanos()))
+    pair.1
 }
 
 /// A block deciphered after another.
-fn blocks_back(rt: &impl Clock) -> io::Result<([u8; 16], u128)> {
-    let cipher = Aes128::new(&Key(KEY));
+fn blocks_back(cipher: &Aes128) -> [u8; 16] {
     let mut block = BLOCK;
-    let start = Instant::now(rt)?;
     for _ in 0..CALLS {
         block = cipher.decrypt(&block);
     }
-    let took = start.elapsed(rt)?;
-    Ok((block, took.as_nanos()))
+    block
 }
 
 /// A key schedule and one block under it.
-fn keys(rt: &impl Clock) -> io::Result<([u8; 16], u128)> {
+fn keys() -> [u8; 16] {
     let mut key = KEY;
-    let start = Instant::now(rt)?;
     for _ in 0..CALLS {
         key = Aes128::new(&Key(key)).encrypt(&BLOCK);
     }
-    let took = start.elapsed(rt)?;
-    Ok((key, took.as_nanos()))
+    key
 }
 
-/// The CMAC of a block and of the signed bytes of a frame, with its key schedule.
-fn codes(rt: &impl Clock) -> io::Result<([u8; 16], u128)> {
+/// The CMAC of a block and of the signed bytes of a frame.
+fn code_of(cipher: &Aes128, block: &[u8; 16]) -> [u8; 16] {
+    let mut cmac = Cmac::new(cipher);
+    cmac.update(block);
+    cmac.update(&SIGNED);
+    cmac.finish()
+}
+
+/// CMACs, each with its key schedule.
+fn codes() -> [u8; 16] {
     let mut key = KEY;
-    let start = Instant::now(rt)?;
     for _ in 0..CALLS {
-        let cipher = Aes128::new(&Key(key));
-        let mut cmac = Cmac::new(&cipher);
-        cmac.update(&BLOCK);
-        cmac.update(&SIGNED);
-        key = cmac.finish();
+        key = code_of(&Aes128::new(&Key(key)), &BLOCK);
     }
-    let took = start.elapsed(rt)?;
-    Ok((key, took.as_nanos()))
+    key
 }
 
-/// The same under a key that is expanded already.
-fn codes_with_cipher(rt: &impl Clock) -> io::Result<([u8; 16], u128)> {
-    let cipher = Aes128::new(&Key(KEY));
+/// CMACs under a key that is expanded already.
+fn codes_with_cipher(cipher: &Aes128) -> [u8; 16] {
     let mut block = BLOCK;
-    let start = Instant::now(rt)?;
     for _ in 0..CALLS {
-        let mut cmac = Cmac::new(&cipher);
-        cmac.update(&block);
-        cmac.update(&SIGNED);
-        block = cmac.finish();
+        block = code_of(cipher, &block);
     }
-    let took = start.elapsed(rt)?;
-    Ok((block, took.as_nanos()))
+    block
 }
 
-/// A measurement of a kind.
-fn measure(rt: &impl Clock, kind: usize) -> io::Result<([u8; 16], u128)> {
+/// The last value of the calls of a kind.
+fn last_of(kind: usize) -> [u8; 16] {
+    let cipher = Aes128::new(&Key(KEY));
     match kind {
-        0 => blocks(rt),
-        1 => pairs(rt),
-        2 => blocks_back(rt),
-        3 => keys(rt),
-        4 => codes(rt),
-        _ => codes_with_cipher(rt),
+        0 => blocks(&cipher),
+        1 => pairs(&cipher),
+        2 => blocks_back(&cipher),
+        3 => keys(),
+        4 => codes(),
+        _ => codes_with_cipher(&cipher),
     }
 }
 
-/// The last value of a kind, as a number, and the nanoseconds of its fastest measurement.
-fn fastest(rt: &impl Clock, kind: usize) -> io::Result<(u32, u128)> {
-    let (value, mut least) = measure(rt, kind)?;
-    for _ in 1..ROUNDS {
-        least = least.min(measure(rt, kind)?.1);
+/// The last value of a kind, and the nanoseconds of its fastest measurement. One key schedule more is in each.
+fn fastest<R: Clock>(rt: &R, kind: usize) -> Option<([u8; 16], u128)> {
+    let mut fastest = (BLOCK, u128::MAX);
+    for _ in 0..ROUNDS {
+        let start = now(rt)?;
+        let value = last_of(kind);
+        fastest = (value, since(rt, start)?.min(fastest.1));
     }
-    let value = u32::from_be_bytes([value[0], value[1], value[2], value[3]]);
-    Ok((value, least))
+    Some(fastest)
 }
 
-/// Times each kind of call: prints the first four bytes of its last value, and the nanoseconds of a call.
-pub fn time<R: Clock + Print + Eprint>(rt: &R) -> io::Result<()> {
-    for (kind, name) in KINDS.iter().enumerate() {
+/// Times each kind of call: tells the first four bytes of its last value, and the nanoseconds of a call. None where the clock tells no time.
+pub fn time<R: Clock>(rt: &R, alloc: Global, told: &mut Told) -> Option<()> {
+    for kind in 0..6usize {
         let (value, least) = fastest(rt, kind)?;
-        println!(rt; "{name} {value:08x}")?;
-        print_time(rt, name, least / u128::from(CALLS))?;
+        put(&mut told.lines, KINDS[kind]);
+        put(&mut told.lines, " ");
+        put_hex(alloc, &mut told.lines, &value[..4]);
+        put(&mut told.lines, "\n");
+        told.add_time(KINDS[kind], least / u128::from(CALLS));
     }
-    Ok(())
+    Some(())
 }

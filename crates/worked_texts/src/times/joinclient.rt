@@ -1,18 +1,21 @@
 //! Times an exchange with a join server over memory, the response read whole and one byte a read. The values go to standard output,
 //! the times to standard error.
 //!
-//! With a further word, the address of an HTTP server, it makes one exchange over a TCP connection instead, and prints what came of it.
+//! With a further word, the address of an HTTP server, it makes one exchange over a TCP connection instead, and tells what came of it.
 
-ghost use Rattle.std.specs.Prelude.{◌<◌};
+ghost use Rattle.std.specs.Prelude.{◌≡◌, ◌<◌, false};
 
-use crate::times::print_time;
+use crate::put::{put, put_hex, show};
+use crate::times::{Told, now, since};
 use ns_exchange::HostName;
 use ns_joinclient::ask;
 use ns_types::{Fuse, OverStd};
-use std::alloc::{AllocError, Global};
+use std::alloc::Global;
+use std::fmt::Write;
 use std::io;
+use std::io::Read;
 use std::net::{Net, OpenStream, TcpStream};
-use std::time::{Clock, Duration, Instant};
+use std::time::{Clock, Duration};
 
 /// The measurements of each kind, of which the fastest counts.
 const ROUNDS: u32 = 300;
@@ -26,76 +29,85 @@ const JOIN_REQ: &str =
 const JOIN_ANS: &str =
     r#"{"AppSKey":{"AESKey":"ec925802ae430ca77fd3dd73cb2cc588","KEKLabel":""},"MessageType":"JoinAns","NwkSKey":{"AESKey":"44024241ed4ce9a68c6a8bc055233fd3","KEKLabel":""},"PHYPayload":"20000102030405060708090a0b0c0d0e0f","Result":{"ResultCode":"Success"},"TransactionID":1}"#;
 
-/// What is measured: its name, that of the same with one byte a read, and how many further headers there are, each with a value of how
-/// many letters.
-const KINDS: [(&str, &str, usize, usize); 3] = [
-    ("short_head", "short_head_by_byte", 0, 0),
-    ("long_header", "long_header_by_byte", 1, 4000),
-    ("many_headers", "many_headers_by_byte", 31, 120),
+/// What is measured: its name, how many further headers there are, each with a value of how many letters, and whether a read gives one
+/// byte.
+const KINDS: [(&str, u32, u32, bool); 6] = [
+    ("short_head", 0, 0, false),
+    ("short_head_by_byte", 0, 0, true),
+    ("long_header", 1, 4000, false),
+    ("long_header_by_byte", 1, 4000, true),
+    ("many_headers", 31, 120, false),
+    ("many_headers_by_byte", 31, 120, true),
 ];
 
 /// A response with a JoinAns behind so many further headers, each with a value of so many letters.
-fn response(alloc: Global, headers: usize, letters: usize) -> Result<String, AllocError> {
-    let value = "v".repeat(alloc, letters)?;
-    let line = format!(in alloc; "Some: {value}\r\n")?;
-    let lines = line.as_str().repeat(alloc, headers)?;
-    format!(in alloc; "HTTP/1.1 200 OK\r\n{lines}Content-Length: 267\r\n\r\n{JOIN_ANS}")
+fn response(alloc: Global, headers: u32, letters: u32) -> String {
+    let mut response = String::new(alloc);
+    put(&mut response, "HTTP/1.1 200 OK\r\n");
+    for _ in 0..headers {
+        put(&mut response, "Some: ");
+        for _ in 0..letters {
+            put(&mut response, "v");
+        }
+        put(&mut response, "\r\n");
+    }
+    put(&mut response, "Content-Length: 267\r\n\r\n");
+    put(&mut response, JOIN_ANS);
+    response
 }
 
-/// An exchange over memory, each read of at most so many bytes: whether it was answered, and its nanoseconds. None where there is no
-/// memory.
+/// An exchange over a stream: whether it was answered, and its nanoseconds. None where the clock tells no time.
 fn exchange<R: Clock>(
     rt: &R,
     alloc: Global,
-    response: &str,
+    stream: &mut Fuse,
     host: HostName<'_>,
-    most: usize,
-) -> io::Result<Option<(bool, u128)>>
-    requires { 0 < most }
+) -> Option<(bool, u128)>
+    requires { stream.old.failed ≡ false }
 {
-    let Ok(input) = Vec::from_slice(alloc, response.as_bytes()) else {
-        return Ok(None);
-    };
-    let mut stream = Fuse::new(alloc, input, most, None, None);
-    let start = Instant::now(rt)?;
-    let is_ok = ask(alloc, &mut stream, host, JOIN_REQ, 1).is_ok();
-    Ok(Some((is_ok, start.elapsed(rt)?.as_nanos())))
+    let start = now(rt)?;
+    let is_answered = ask(alloc, stream, host, JOIN_REQ, 1).is_ok();
+    Some((is_answered, since(rt, start)?))
 }
 
-/// How many of some exchanges were answered, and the nanoseconds of the fastest.
+/// How many of some exchanges over memory were answered, each read of at most so many bytes, and the nanoseconds of the fastest.
 fn fastest<R: Clock>(
     rt: &R,
     alloc: Global,
     response: &str,
     host: HostName<'_>,
     most: usize,
-) -> io::Result<(u32, u128)>
+) -> (u32, u128)
     requires { 0 < most }
 {
-    let mut least = u128::MAX;
     let mut answered = 0u32;
+    let mut least = u128::MAX;
     for _ in 0..ROUNDS {
-        if let Some((is_ok, took)) = exchange(rt, alloc, response, host, most)? {
-            answered = answered.wrapping_add(u32::from(is_ok));
-            least = least.min(took);
+        if let Ok(input) = Vec::from_slice(alloc, response.as_bytes()) {
+            let mut stream = Fuse::new(alloc, input, most, None, None);
+            if let Some((is_answered, took)) = exchange(rt, alloc, &mut stream, host) {
+                answered = answered.wrapping_add(u32::from(is_answered));
+                least = least.min(took);
+            }
         }
     }
-    Ok((answered, least))
+    (answered, least)
 }
 
-/// Prints what `fastest` finds.
-fn measure<R: Clock + Print + Eprint + AllocGlobal>(
+/// Tells what `fastest` finds of a kind.
+fn measure<R: Clock>(
     rt: &R,
-    name: &str,
-    response: &str,
+    alloc: Global,
     host: HostName<'_>,
-    most: usize,
-) -> io::Result<()>
-    requires { 0 < most }
-{
-    let (answered, least) = fastest(rt, rt.alloc(), response, host, most)?;
-    println!(rt; "{name} {answered}")?;
-    print_time(rt, name, least)
+    kind: &(&str, u32, u32, bool),
+    told: &mut Told,
+) {
+    let (name, headers, letters, by_byte) = *kind;
+    let response = response(alloc, headers, letters);
+    let most = if by_byte { 1 } else { 1 << 20 };
+    let (answered, least) = fastest(rt, alloc, response.as_str(), host, most);
+    let _ = writeln!(told.lines, "{name} {answered}");
+    told.add_time(name, least);
 }
 
 /// A connection to an HTTP server.
@@ -106,35 +118,48 @@ fn connect<R: Net>(rt: &R, address: &str) -> io::Result<R::Stream> {
     Ok(stream)
 }
 
-/// One exchange over a TCP connection.
-fn ask_at<R: Net + Print + AllocGlobal>(
-    rt: &R,
-    address: &str,
-    host: HostName<'_>,
-) -> io::Result<()> {
-    let mut stream = OverStd::new(connect(rt, address)?);
-    match ask(rt.alloc(), &mut stream, host, JOIN_REQ, 1) {
-        Ok(answer) => println!(rt; "answer {:02x}{:02x}", answer.nwk.0[0], answer.nwk.0[1]),
-        Err(fault) => println!(rt; "{fault}"),
+/// Puts what one exchange over a TCP connection comes to.
+fn put_exchange<S: Read + io::Write + Drop>(alloc: Global, stream: S, out: &mut String) {
+    let Some(host) = HostName::new("js.local") else {
+        return;
+    };
+    match ask(alloc, &mut OverStd::new(stream), host, JOIN_REQ, 1) {
+        Ok(answer) => {
+            put(out, "answer ");
+            put_hex(alloc, out, &answer.nwk.0[..2]);
+        }
+        Err(fault) => show(out, fault),
+    }
+    put(out, "\n");
+}
+
+/// Makes an exchange with the server at an address. None where there is no connection.
+fn ask_at<R: Net>(rt: &R, alloc: Global, address: &str, told: &mut Told) -> Option<()> {
+    match connect(rt, address) {
+        Ok(stream) => {
+            put_exchange(alloc, stream, &mut told.lines);
+            Some(())
+        }
+        Err(fault) => {
+            show(&mut told.times, fault);
+            None
+        }
     }
 }
 
 /// Times each kind of exchange, or makes one with the server at an address.
-pub fn time<R: Net + Clock + Print + Eprint + AllocGlobal>(
+pub fn time<R: Net + Clock>(
     rt: &R,
+    alloc: Global,
     address: Option<&str>,
-) -> io::Result<()> {
-    let Some(host) = HostName::new("js.local") else {
-        return Ok(());
-    };
+    told: &mut Told,
+) -> Option<()> {
     if let Some(address) = address {
-        return ask_at(rt, address, host);
+        return ask_at(rt, alloc, address, told);
     }
-    for (name, one, headers, letters) in &KINDS {
-        if let Ok(response) = response(rt.alloc(), *headers, *letters) {
-            measure(rt, name, response.as_str(), host, 1 << 20)?;
-            measure(rt, one, response.as_str(), host, 1)?;
-        }
+    let host = HostName::new("js.local")?;
+    for kind in &KINDS {
+        measure(rt, alloc, host, kind, told);
     }
-    Ok(())
+    Some(())
 }

@@ -10,12 +10,14 @@
 
 ghost use Rattle.std.specs.Prelude.{◌<◌, ◌≤◌};
 
+use crate::times::Told;
 use crate::times::load::Load;
-use crate::times::served::{apply_all, serve_all};
-use crate::times::trim::time_trims;
+use crate::times::served::serve_all;
+use crate::times::shards::{Shards, time_calls, time_trims};
 use ns_roster::Roster;
+use ns_server::new_shards;
 use std::alloc::Global;
-use std::io;
+use std::fmt::Write;
 use std::sync::{Arc, Wait};
 use std::thread::Threads;
 use std::time::Clock;
@@ -70,91 +72,121 @@ pub fn asked(words: &[&str]) -> Plan {
 }
 
 // A roster of so many devices.
-fn shared(alloc: Global, devices: u32) -> anyhow::Result<Arc<Roster>> {
-    Ok(Arc::new(alloc, roster(alloc, devices)?)?)
+fn shared(alloc: Global, devices: u32) -> Option<Arc<Roster>> {
+    match roster(alloc, devices) {
+        Ok(roster) => Arc::new(alloc, roster).ok(),
+        Err(_) => None,
+    }
 }
 
-// Prints how many entries there are and how long it took.
-fn print<R: Print + Eprint>(rt: &R, line: &str, name: &str, made: (u128, u128)) -> io::Result<()> {
-    println!(rt; "{line}: {} entries", made.0)?;
-    eprintln!(rt; "{name} {} {}", made.0, made.1)
+// Adds how many entries there are and how long it took.
+fn put_made(told: &mut Told, line: &str, name: &str, made: (u64, u128)) {
+    let _ = writeln!(told.lines, "{line}: {} entries", made.0);
+    let _ = writeln!(told.times, "{name} {} {}", made.0, made.1);
 }
 
-// Makes the calls on one thread, or none of them.
-fn time_apply<R: Clock + Print + Eprint>(
+// Makes the calls on shards of one thread, or none of them.
+fn time_apply<S: Shards, R: Clock>(
+    rt: &R,
+    alloc: Global,
+    shards: &mut S,
+    load: Load,
+    none: bool,
+    told: &mut Told,
+) -> Option<()> {
+    let mut calls = load.calls(alloc, 0, 1).ok()?;
+    if none {
+        let _ = writeln!(told.lines, "{} calls", calls.len());
+        calls.truncate(0);
+    }
+    let took = time_calls(rt, alloc, shards, calls.as_slice())?;
+    put_made(told, "apply", "apply", (shards.made(), took));
+    Some(())
+}
+
+// The same of devices of one shard, which is then trimmed.
+fn time_trim<S: Shards, R: Clock>(
+    rt: &R,
+    alloc: Global,
+    shards: &mut S,
+    load: Load,
+    told: &mut Told,
+) -> Option<()> {
+    let [first, second] = time_trims(rt, alloc, shards, load)?;
+    let made = shards.made();
+    let _ = writeln!(
+        told.lines,
+        "trim: {made} entries, {} handed out, then {}",
+        first.0, second.0
+    );
+    let _ = writeln!(told.times, "trim {made} {} {}", first.1, second.1);
+    Some(())
+}
+
+// Makes the calls of a way on shards of one thread.
+fn time_shards<R: Clock>(
     rt: &R,
     alloc: Global,
     load: Load,
-    none: bool,
-) -> anyhow::Result<()> {
-    let mut calls = load.calls(alloc, 0, 1)?;
-    if none {
-        println!(rt; "{} calls", calls.len())?;
-        calls.truncate(0);
+    way: Way,
+    told: &mut Told,
+) -> Option<()> {
+    let times = if let Way::Trim = way { 16 } else { 1 };
+    let roster = shared(alloc, load.devices.wrapping_mul(times))?;
+    let mut shards = new_shards(alloc, &roster).ok()?;
+    match way {
+        Way::Trim => time_trim(rt, alloc, &mut shards, load, told),
+        Way::None => time_apply(rt, alloc, &mut shards, load, true, told),
+        _ => time_apply(rt, alloc, &mut shards, load, false, told),
     }
-    let roster = shared(alloc, load.devices)?;
-    let made = apply_all(rt, alloc, &roster, calls.as_slice())?;
-    print(rt, "apply", "apply", made)?;
-    Ok(())
 }
 
 // The same by one server and so many threads.
-fn time_server<R: Threads + Wait + Clock + Print + Eprint + Sync>(
+fn time_server<R: Threads + Wait + Clock + Sync>(
     rt: &R,
     alloc: Global,
     load: Load,
     threads: u32,
     line: &str,
     name: &str,
-) -> anyhow::Result<()>
+    told: &mut Told,
+) -> Option<()>
     requires { (0 < threads) × (threads ≤ 64) }
 {
+    let parts = load.parts(alloc, threads).ok()?;
     let roster = shared(alloc, load.devices)?;
-    let parts = load.parts(alloc, threads)?;
-    let made = serve_all(rt, alloc, roster, parts)?;
-    print(rt, line, name, made)?;
-    Ok(())
-}
-
-// The same of devices of one shard, which is then trimmed.
-fn time_trim<R: Clock + Print + Eprint>(rt: &R, alloc: Global, load: Load) -> anyhow::Result<()> {
-    let roster = shared(alloc, load.devices.wrapping_mul(16))?;
-    let trims = time_trims(rt, alloc, roster, load)?;
-    println!(rt;
-        "trim: {} entries, {} handed out, then {}",
-        trims.made, trims.first.0, trims.second.0
-    )?;
-    eprintln!(rt; "trim {} {} {}", trims.made, trims.first.1, trims.second.1)?;
-    Ok(())
+    let made = serve_all(rt, alloc, roster, parts.as_slice())?;
+    put_made(told, line, name, made);
+    Some(())
 }
 
 // Makes the calls by each way.
-fn time_each<R: Threads + Wait + Clock + Print + Eprint + Sync>(
+fn time_each<R: Threads + Wait + Clock + Sync>(
     rt: &R,
     alloc: Global,
     load: Load,
-) -> anyhow::Result<()> {
-    time_apply(rt, alloc, load, false)?;
-    time_server(rt, alloc, load, 1, "server by 1", "server_1")?;
-    time_server(rt, alloc, load, 2, "server by 2", "server_2")?;
-    time_server(rt, alloc, load, 4, "server by 4", "server_4")?;
-    time_trim(rt, alloc, load)
+    told: &mut Told,
+) -> Option<()> {
+    time_shards(rt, alloc, load, Way::Apply, told)?;
+    time_server(rt, alloc, load, 1, "server by 1", "server_1", told)?;
+    time_server(rt, alloc, load, 2, "server by 2", "server_2", told)?;
+    time_server(rt, alloc, load, 4, "server by 4", "server_4", told)?;
+    time_shards(rt, alloc, load, Way::Trim, told)
 }
 
-/// Makes the calls by the ways that are asked for.
-pub fn time<R: Threads + Wait + Clock + Print + Eprint + Sync>(
+/// Makes the calls by the ways that are asked for. None where memory, the clock or a thread is refused.
+pub fn time<R: Threads + Wait + Clock + Sync>(
     rt: &R,
     alloc: Global,
     plan: Plan,
-) -> anyhow::Result<()> {
+    told: &mut Told,
+) -> Option<()> {
     for _ in 0..plan.rounds {
         match plan.way {
-            Way::All => time_each(rt, alloc, plan.load)?,
-            Way::None => time_apply(rt, alloc, plan.load, true)?,
-            Way::Apply => time_apply(rt, alloc, plan.load, false)?,
-            Way::Server => time_server(rt, alloc, plan.load, 1, "server by 1", "server_1")?,
-            Way::Trim => time_trim(rt, alloc, plan.load)?,
+            Way::All => time_each(rt, alloc, plan.load, told)?,
+            Way::Server => time_server(rt, alloc, plan.load, 1, "server by 1", "server_1", told)?,
+            way => time_shards(rt, alloc, plan.load, way, told)?,
         }
     }
-    Ok(())
+    Some(())
 }
