@@ -105,9 +105,8 @@ impl Journal {
         ensures reserved { self.new.reserved ≡ self.old.reserved + 1 }
         ensures room { self.old.room ≤ self.new.room + 1 }
     {
-        let number = self.push(call, reply);
         self.reserved += 1;
-        number
+        self.push(call, reply)
     }
 
     /// Adds an entry in the room of a reserved one. It takes no memory, and no other room is made before.

@@ -1,6 +1,5 @@
 //! Datagrams from gateways, and downlinks to them, by the socket of this server's own datagrams and by that of packet forwarders.
-ghost use Rattle.std.specs.Prelude.{◌≡◌, ◌≢◌, ◌<◌, ◌≤◌, ◌⊎◌, ◌↔◌, ℕ, None, IfOk, IsTrue, IfSome, Some, take};
-ghost use Rattle.ns_forwarder_socket.specs.Event.{FitsBuffer as FitsEvent};
+ghost use Rattle.std.specs.Prelude.{◌≡◌, ◌≢◌, ◌<◌, ◌≤◌, ◌⊎◌, ◌↔◌, ℕ, None, IsTrue, IfSome, Some, take};
 ghost use Rattle.ns_outside.specs.Datagrams.{FitsBuffer};
 ghost use Rattle.ns_front.specs.declared.front.Seen.{Seen};
 ghost use Rattle.ns_front.specs.Front.{seen_of, NamesFrame};
@@ -21,8 +20,8 @@ use std::io::{Error, ErrorKind};
 use std::net::{SocketAddr, UdpSocket};
 use std::sync::Wait;
 use std::sync::atomic::Ordering;
+use std::thread;
 use std::time::{Clock, Duration};
-use std::{io, thread};
 
 // The counts are looked at after so many datagrams, and whenever none comes.
 const BETWEEN_LOOKS: u64 = 64;
@@ -49,10 +48,15 @@ pub struct FromSocket<'a> {
     place: usize,
 }
 
+// What the clock tells, if it does.
+fn moment<R: Clock>(rt: &R) -> Option<Duration> {
+    rt.monotonic().ok()
+}
+
 // How long ago a receive began, nothing where the clock does not tell.
-fn since<R: Clock>(rt: &R, start: io::Result<Duration>) -> Duration {
-    match (start, rt.monotonic()) {
-        (Ok(start), Ok(now)) => now.saturating_sub(start),
+fn since<R: Clock>(rt: &R, start: Option<Duration>) -> Duration {
+    match (start, moment(rt)) {
+        (Some(start), Some(now)) => now.saturating_sub(start),
         _ => Duration::ZERO,
     }
 }
@@ -94,45 +98,69 @@ impl<'a> FromSocket<'a> {
         }
     }
 
-    // Receives one of this server's own datagrams. Where workers rest, one of them is woken after many datagrams that were there before.
-    fn receive_own<R: Wait + Clock>(
-        &mut self,
-        rt: &R,
-        socket: &UdpSocket,
-        buf: &mut [u8; 512],
-    ) -> io::Result<(usize, SocketAddr)>
-        ensures { IfOk result (λ heard. heard.0 ≤ 512) }
-    {
-        if !self.state.has_resting() {
-            return socket.recv_from(buf);
-        }
-        let start = rt.monotonic();
-        let heard = socket.recv_from(buf)?;
+    // A datagram was received, where workers rest by a receive that began then: one of them is woken after many that were there before.
+    fn paced<R: Wait + Clock>(&mut self, rt: &R, start: Option<Duration>) {
         if self.pace.comes(since(rt, start)) {
             self.state.wake(rt);
         }
-        Ok(heard)
     }
 
-    // Receives what comes next, and puts where it came from if it is one of this server's own datagrams.
-    fn receive<R: Wait + Clock>(
-        &mut self,
-        rt: &R,
-        buf: &mut [u8; 512],
-        peer: &mut Option<SocketAddr>,
-    ) -> io::Result<Event>
-        ensures { IfOk result FitsEvent }
+    // Receives the next one of this server's own datagrams.
+    fn next_own<R: Wait + Clock + Log>(&mut self, rt: &R, buf: &mut [u8; 512]) -> Received
+        ensures fits { FitsBuffer result }
     {
         let state = self.state;
-        if let (Some(pending), Some((forwarders, _))) = (&mut self.pending, &state.forwarders) {
-            return forwarders.next(rt, state.alloc, pending, buf);
-        }
         let Some((socket, _)) = &state.own else {
-            return Err(Error::from(ErrorKind::NotConnected));
+            return self.without_socket(rt);
         };
-        let (n, from) = self.receive_own(rt, socket, buf)?;
-        *peer = Some(from);
-        Ok(Event::Datagram(n))
+        let rests = state.has_resting();
+        let start = if rests { moment(rt) } else { None };
+        match &socket.recv_from(buf) {
+            Ok((n, from)) => {
+                if rests {
+                    self.paced(rt, start);
+                }
+                self.failures = 0;
+                let peer = Some(*from);
+                counted(rt, state, self.place, &mut self.noted, buf, *n, &peer)
+            }
+            Err(error) => self.without(rt, error),
+        }
+    }
+
+    // Says that none came, since there is no socket of this kind.
+    #[inline(never)]
+    fn without_socket<R: Wait + Clock + Log>(&mut self, rt: &R) -> Received
+        ensures { FitsBuffer result }
+    {
+        self.without(rt, &Error::from(ErrorKind::NotConnected))
+    }
+
+    // Receives the next message of a forwarder. It stays a function of its own, so that other datagrams make no room for what comes of one.
+    #[inline(never)]
+    fn next_message<R: Wait + Clock + Log>(&mut self, rt: &R, buf: &mut [u8; 512]) -> Received
+        ensures fits { FitsBuffer result }
+    {
+        let state = self.state;
+        let event = match (&mut self.pending, &state.forwarders) {
+            (Some(pending), Some((forwarders, _))) => {
+                forwarders.next(rt, state.alloc, pending, buf)
+            }
+            _ => Err(Error::from(ErrorKind::NotConnected)),
+        };
+        match event {
+            Ok(Event::Datagram(n)) => {
+                self.failures = 0;
+                counted(rt, state, self.place, &mut self.noted, buf, n, &None)
+            }
+            Ok(event) => {
+                self.failures = 0;
+                log_message(rt, state, event);
+                look(rt, state);
+                Received::Idle
+            }
+            Err(error) => self.without(rt, &error),
+        }
     }
 
     // Whom this hears.
@@ -267,6 +295,7 @@ fn take_in_wholly<R: Wait + Clock>(
 }
 
 // Counts a datagram of so many bytes at a place, and gives it where it is no late copy and none too many.
+#[inline(always)]
 fn counted<R: Wait + Clock + Log>(
     rt: &R,
     state: &State,
@@ -307,18 +336,10 @@ impl<'a, R: Wait + Clock + Log> Datagrams<R> for FromSocket<'a> {
         if self.pace.rests() {
             state.rest(rt);
         }
-        let mut peer = None;
-        let event = match self.receive(rt, buf, &mut peer) {
-            Ok(event) => event,
-            Err(error) => return self.without(rt, &error),
-        };
-        self.failures = 0;
-        if let Event::Datagram(n) = event {
-            return counted(rt, state, self.place, &mut self.noted, buf, n, &peer);
+        match self.pending {
+            Some(_) => self.next_message(rt, buf),
+            None => self.next_own(rt, buf),
         }
-        log_message(rt, state, event);
-        look(rt, state);
-        Received::Idle
     }
 }
 

@@ -1,5 +1,5 @@
 -- What stands after a call: of the state that contracts see, and of parts.
-use Rattle.std.proofs.Common.{◌≡◌, Bool, true, false, cond, List, Option, None, Some, Result, Ok, Err, OnOk, OnErr, IsOk, refl, sym, ap, subst, ◌∙◌}
+use Rattle.std.proofs.Common.{◌≡◌, Bool, true, false, cond, List, Option, None, Some, Result, Ok, Err, OnErr, IsOk, refl, sym, ap, subst, ◌∙◌}
 use Rattle.ns_types.specs.Cases.{when}
 use Rattle.ns_calls.specs.declared.call.Call.{Call}
 use Rattle.ns_calls.specs.declared.answer.Answer.{Answer}
@@ -22,10 +22,6 @@ use Rattle.ns_shard.specs.declared.parts.Parts.{Parts}
 use Rattle.ns_shard.specs.State.{State, IsState, Keeps, finds_open, answer_in, after_call, answer_if_open, after_if_open}
 use Rattle.ns_shard.specs.Private.Parts.{AreParts, state_of}
 use Rattle.ns_shard.proofs.PartsAfter.{same-state}
-
-pub on_ok : {T E : Type 0} (r : Result T E) (P : Type 0) → P → OnOk r P
-on_ok (Ok x) P p = p
-on_ok (Err e) P p = tt
 
 pub on_err : {T E : Type 0} (r : Result T E) (P : Type 0) → P → OnErr r P
 on_err (Ok x) P p = tt

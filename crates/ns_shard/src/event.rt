@@ -3,11 +3,11 @@
 ghost use Rattle.std.specs.Prelude.{◌≡◌};
 ghost use Rattle.ns_shard.specs.declared.event.Event.TheVariants as event;
 ghost use Rattle.ns_shard.specs.Private.Room.{room_of};
-ghost use Rattle.ns_shard.specs.Private.Sending.{ended_reply, reply_of, uplink_of, downlink_of, answer_of};
+ghost use Rattle.ns_shard.specs.Private.Sending.{ended_reply, reply_of, uplink_of, downlink_of};
 
 use crate::room::Room;
 use crate::sending::ack_from;
-use ns_calls::{Answer, Downlink, Reply};
+use ns_calls::{Downlink, Reply};
 use ns_roster::Roster;
 use ns_uplinks::BoxedUplink;
 use ns_windows::BoxedWindow;
@@ -108,6 +108,7 @@ impl Event {
     }
 
     /// The reply, with what goes out put where something went out before.
+    #[inline(always)]
     pub fn hand_out(
         self,
         roster: &Roster,
@@ -125,19 +126,6 @@ impl Event {
                 reply
             }
             Event::Ended(ended) => ended.hand_out(roster, uplink, downlink),
-        }
-    }
-
-    /// The answer.
-    pub fn answer(self, roster: &Roster) -> Answer
-        ensures { result ≡ answer_of roster.now self }
-    {
-        let (mut uplink, mut downlink) = (None, None);
-        let reply = self.hand_out(roster, &mut uplink, &mut downlink);
-        Answer {
-            reply,
-            uplink: uplink.map(|sent| sent.lend().to_uplink()),
-            downlink,
         }
     }
 }

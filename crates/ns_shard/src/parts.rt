@@ -71,6 +71,7 @@ impl Parts {
 
     // Takes an uplink: the devices and windows change, and there is room for its entry, and for the one that ends what it opens. Where a
     // growth is refused, nothing has changed.
+    #[inline(always)]
     fn uplink(&mut self, frame: &DataFrame, heard: &Heard) -> Result<Event, AllocError>
         requires own { shard_of_call (call.Uplink frame.now heard.now) ≡ self.old.index }
         requires agree { AreParts self.old }
@@ -145,6 +146,28 @@ impl Parts {
         }
     }
 
+    // Adds the entry of a call that was taken, gives the reply, and puts what goes out where something went out before.
+    #[inline(always)]
+    fn entered(
+        &mut self,
+        call: &Call,
+        event: Event,
+        uplink: &mut Option<BoxedUplink>,
+        downlink: &mut Option<Downlink>,
+    ) -> Reply
+        requires { AreTaken self.old call.now event }
+        ensures reply { result ≡ (answer_in (state_of self.old) call.now).reply }
+        ensures uplink { uplink.new ≡ (answer_in (state_of self.old) call.now).uplink }
+        ensures downlink { downlink.new ≡ (answer_in (state_of self.old) call.now).downlink }
+        ensures state { state_of self.new ≡ after_call (state_of self.old) call.now }
+        ensures agree { AreParts self.new }
+    {
+        let room = event.room();
+        let reply = event.hand_out(&self.roster, uplink, downlink);
+        push(&mut self.journal, call, reply, room);
+        reply
+    }
+
     /// Adds the entry of a call that was taken, and gives the answer.
     pub fn answered(&mut self, call: &Call, event: Event) -> Answer
         requires { AreTaken self.old call.now event }
@@ -152,14 +175,17 @@ impl Parts {
         ensures state { state_of self.new ≡ after_call (state_of self.old) call.now }
         ensures agree { AreParts self.new }
     {
-        let room = event.room();
-        let answer = event.answer(&self.roster);
-        push(&mut self.journal, call, answer.reply, room);
-        answer
+        let (mut uplink, mut downlink) = (None, None);
+        let reply = self.entered(call, event, &mut uplink, &mut downlink);
+        Answer {
+            reply,
+            uplink: uplink.map(|sent| sent.lend().to_uplink()),
+            downlink,
+        }
     }
 
     /// Answers a call: gives the reply, and puts what goes out where something went out before. Where a growth is refused, nothing has
-    /// changed.
+    /// changed. Nothing goes out with an uplink, so that its event is not moved.
     pub fn apply(
         &mut self,
         call: &Call,
@@ -176,11 +202,12 @@ impl Parts {
         ensures err { OnErr result ((state_of self.new ≡ state_of self.old) × (uplink.new ≡ uplink.old) × (downlink.new ≡ downlink.old)) }
         ensures agree { AreParts self.new }
     {
+        if let Call::Uplink { frame, heard } = call {
+            let event = self.uplink(frame, heard)?;
+            return Ok(self.entered(call, event, uplink, downlink));
+        }
         let event = self.take(call)?;
-        let room = event.room();
-        let reply = event.hand_out(&self.roster, uplink, downlink);
-        push(&mut self.journal, call, reply, room);
-        Ok(reply)
+        Ok(self.entered(call, event, uplink, downlink))
     }
 
     /// Takes the memory of an uplink that went out, for a window that is opened later.
@@ -194,6 +221,20 @@ impl Parts {
         }
     }
 
+    // Adds the entry of a call that was taken, and gives the boxed answer, for which there may be no memory.
+    #[inline(always)]
+    fn boxed(&mut self, alloc: Global, call: &Call, event: Event) -> Result<BoxedAnswer, AllocError>
+        requires { AreTaken self.old call.now event }
+        ensures answer { IfOk result (λ a. a ≡ answer_in (state_of self.old) call.now) }
+        ensures state { state_of self.new ≡ after_call (state_of self.old) call.now }
+        ensures agree { AreParts self.new }
+    {
+        let (reply, room) = (event.reply(), event.room());
+        let answer = BoxedAnswer::of(alloc, &self.roster, event);
+        push(&mut self.journal, call, reply, room);
+        answer
+    }
+
     /// Answers a call, with a boxed answer. Where a growth is refused, the call may have been taken.
     pub fn apply_boxed(&mut self, alloc: Global, call: &Call) -> Result<BoxedAnswer, AllocError>
         requires own { shard_of_call call.now ≡ self.old.index }
@@ -202,10 +243,11 @@ impl Parts {
         ensures state { OnOk result (state_of self.new ≡ after_call (state_of self.old) call.now) }
         ensures agree { AreParts self.new }
     {
+        if let Call::Uplink { frame, heard } = call {
+            let event = self.uplink(frame, heard)?;
+            return self.boxed(alloc, call, event);
+        }
         let event = self.take(call)?;
-        let (reply, room) = (event.reply(), event.room());
-        let answer = BoxedAnswer::of(alloc, &self.roster, event);
-        push(&mut self.journal, call, reply, room);
-        answer
+        self.boxed(alloc, call, event)
     }
 }

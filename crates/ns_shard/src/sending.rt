@@ -3,9 +3,11 @@
 ghost use Rattle.std.specs.Prelude.{◌≡◌, option_and_then};
 ghost use Rattle.ns_shard.specs.Private.Sending.{ack_from};
 
+use arrayvec::ArrayVec;
 use ns_calls::{Bytes, Downlink, LentUplink, Uplink};
 use ns_roster::Roster;
 use ns_sent::acknowledgement;
+use ns_types::{DevAddr, DevEui, WindowName};
 use ns_uplinks::BoxedUplink;
 use ns_windows::Window;
 
@@ -27,7 +29,29 @@ fn put_lent(lent: &LentUplink<'_>, uplink: &mut Uplink)
     };
 }
 
-/// Puts the uplink that goes out, if any, where one may be. The room for one is large: where none is, nothing is moved.
+// Room for an uplink.
+fn no_uplink() -> Uplink {
+    let window = WindowName {
+        eui: DevEui(0),
+        session: 0,
+        fcnt: 0,
+        round: 0,
+    };
+    Uplink {
+        window,
+        addr: DevAddr(0),
+        confirmed: false,
+        fctrl: 0,
+        port: None,
+        fopts: Bytes::of(&[]),
+        sealed: false,
+        payload: Bytes::of(&[]),
+        copies: ArrayVec::new(),
+    }
+}
+
+/// Puts the uplink that goes out, if any, where one may be. The room for one is large: where none is, nothing is moved, and where one is,
+/// it is put in its place part by part.
 pub fn put_uplink(sent: &Option<BoxedUplink>, uplink: &mut Option<Uplink>)
     ensures { uplink.new ≡ sent.now }
 {
@@ -37,11 +61,11 @@ pub fn put_uplink(sent: &Option<BoxedUplink>, uplink: &mut Option<Uplink>)
         }
         return;
     };
-    let lent = sent.lend();
+    if uplink.is_none() {
+        *uplink = Some(no_uplink());
+    }
     if let Some(room) = uplink {
-        put_lent(&lent, room);
-    } else {
-        *uplink = Some(lent.to_uplink());
+        put_lent(&sent.lend(), room);
     }
 }
 

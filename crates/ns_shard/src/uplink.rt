@@ -59,6 +59,7 @@ fn is_busy(windows: &Windows, eui: DevEui) -> bool
 }
 
 // Takes an uplink with a new counter, which fits there.
+#[inline(always)]
 fn open(
     devices: &mut Devices,
     windows: &mut Windows,
@@ -99,6 +100,7 @@ fn round_of(devices: &Devices, windows: &Windows, fit: &Placed, frame: &DataFram
 }
 
 // Takes an uplink at or below the greatest counter, which fits there.
+#[inline(never)]
 fn open_again(
     devices: &mut Devices,
     windows: &mut Windows,
@@ -129,6 +131,7 @@ fn open_again(
 }
 
 /// Takes an uplink. Only an opening wants memory: where a growth is refused, nothing has changed.
+#[inline(always)]
 pub fn uplink(
     devices: &mut Devices,
     windows: &mut Windows,
