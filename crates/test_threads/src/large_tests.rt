@@ -1,5 +1,5 @@
-//! Shards with as much in them as they may have: two long trims of each of the sixteen, of which the second is in place, those of one shard
-//! of a million entries; and a shard of 65,536 devices with 100,000 open windows.
+//! Shards with as much in them as they may have: two long trims of each of the sixteen, of which the second is in place, one with more than
+//! a million entries before a device joins and its uplinks come; and a shard of 65,536 devices with 100,000 open windows.
 //!
 //! No contract says that these find memory, so a body that refuses them would be proved. What comes of them follows from the rules of a
 //! trim.
@@ -31,23 +31,22 @@ fn trims<C: Caller>(caller: &mut C, shard: u8, in_place: bool, mark: u64, out: u
     }
 }
 
-// How many closings come to a shard behind the others, for windows that are not open.
+// How many closings come to a shard before the others, for windows that are not open.
 fn late(shard: u8) -> u32 {
-    if shard == 13 { 940_000 } else { 0 }
+    if shard == 13 { 1_000_001 } else { 0 }
 }
 
 // How many entries each of two trims takes out of a shard.
 fn out(shard: u8) -> u32 {
-    if shard == 13 { 1_000_000 } else { 60_000 }
+    late(shard).wrapping_add(60_000)
 }
 
-// The calls of these places are made: a device joins, and its uplinks are heard and closed. Then the late closings come. Whether each but
+// The late closings come. Then the calls of these places are made: a device joins, and its uplinks are heard and closed. Whether each of
 // these did what it is for.
 fn is_filled<C: Caller>(caller: &mut C, shard: u8, first: u32, end: u32) -> bool {
     let device = u32::from(shard);
-    let done = done_of(caller, Series::Filling(device), first, end);
     let _ = done_of(caller, Series::Late(device), 0, late(shard));
-    done == end.wrapping_sub(first)
+    done_of(caller, Series::Filling(device), first, end) == end.wrapping_sub(first)
 }
 
 // A shard is filled and trimmed twice, the second time in place. Whether what stays is each time the accepted join and the last opening.
@@ -72,7 +71,7 @@ pub fn long_trims<C: Caller>(caller: &mut C) -> Option<u64> {
             return None;
         }
     }
-    Some(3_800_032)
+    Some(3_920_034)
 }
 
 /// Whether two entries are left in each shard behind its second trim, by which all others were dropped, and no window is open.
