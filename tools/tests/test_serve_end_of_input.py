@@ -29,7 +29,7 @@ class EndOfInput(Served):
     def test_end_of_input(self):
         """Windows of a minute are closed at once, after lines of input that say nothing."""
         joins = self.joins([13])
-        server, ending = self.with_input(self.roster([13]), joins.where, '--window', '60000', '--closing', OPTION)
+        server, ending = self.with_input(self.roster([13]), joins.where, '--window', '60000', '--workers', '1', '--closing', OPTION)
         gateway, device = self.gateway(0xa1, server), self.device(13)
         gateway.join(device, 1)
         for counter in (0, 1):
