@@ -45,6 +45,16 @@ impl<const N: usize> Bytes<N> {
         }
     }
 
+    /// Becomes other bytes. Of the room it writes no more than one of them takes.
+    #[inline(always)]
+    pub fn copy_from(&mut self, other: &Self)
+        ensures { self.new ≡ other.now }
+    {
+        let len = self.len.max(other.len) as usize;
+        self.room[..len].copy_from_slice(&other.room[..len]);
+        self.len = other.len;
+    }
+
     /// The bytes.
     pub fn as_slice(&self) -> &[u8]
         ensures bytes { result.now ≡ self.now }

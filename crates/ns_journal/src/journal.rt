@@ -1,6 +1,6 @@
 //! Numbered entries, with room that is made before it is needed.
 
-ghost use Rattle.std.specs.Prelude.{◌≡◌, ◌<◌, ◌≤◌, ◌+◌, [], ◌∷◌, ◌++◌, length, slice_get, ◌↔◌, IsTrue, ◌^◌, IsOk, IfOk, OnOk, OnErr, vec_len, vec_capacity};
+ghost use Rattle.std.specs.Prelude.{◌≡◌, ◌<◌, ◌≤◌, ◌+◌, [], ◌∷◌, ◌++◌, length, take, slice_get, ◌↔◌, IsTrue, ◌^◌, IsOk, IfOk, OnOk, OnErr, vec_len, vec_capacity};
 ghost use Rattle.ns_calls.specs.Legal.{entry_of};
 ghost use Rattle.ns_journal.specs.State.{next_entry, AreNumbersOf, with_numbers, without_numbers};
 
@@ -12,7 +12,10 @@ use std::mem;
 /// Entries, numbered from 0 in the order in which they were made.
 #[derive(Drop)]
 pub struct Journal {
+    /// The entries, and behind them what was written in their room before, in whose place others are put.
     entries: Vec<Entry>,
+    /// How many entries there are.
+    len: usize,
     /// How many entries were cut out.
     cut: u64,
     /// How many entries are to come that may not be refused.
@@ -20,14 +23,14 @@ pub struct Journal {
 }
 
 impl Model for Journal {
-    ghost use Rattle.std.specs.Prelude.{length, vec_len, vec_capacity, ◌+◌, ◌-◌, ◌≤◌, ◌^◌};
+    ghost use Rattle.std.specs.Prelude.{take, vec_len, vec_capacity, ◌+◌, ◌-◌, ◌≤◌, ◌^◌};
     ghost use Rattle.ns_journal.specs.State.{JournalState};
 
     ghost Value = { JournalState };
 
-    ghost view = { λ j. record { made = j.cut + vec_len j.entries; entries = j.entries.items; room = vec_capacity j.entries - vec_len j.entries; reserved = j.reserved } };
+    ghost view = { λ j. record { made = j.cut + j.len; entries = take j.len j.entries.items; room = vec_capacity j.entries - j.len; reserved = j.reserved } };
 
-    ghost invariant = { λ j. (vec_len j.entries + j.reserved ≤ vec_capacity j.entries) × (j.cut ≤ 2 ^ 63) };
+    ghost invariant = { λ j. (j.len ≤ vec_len j.entries) × (j.len + j.reserved ≤ vec_capacity j.entries) × (j.cut ≤ 2 ^ 63) };
 }
 
 impl Journal {
@@ -39,6 +42,7 @@ impl Journal {
     {
         Journal {
             entries: Vec::new(alloc),
+            len: 0,
             cut: 0,
             reserved: 0,
         }
@@ -48,14 +52,14 @@ impl Journal {
     pub fn entries(&self) -> &[Entry]
         ensures { result.now ≡ self.now.entries }
     {
-        self.entries.as_slice()
+        &self.entries.as_slice()[..self.len]
     }
 
     /// How many entries were made. It is the number of the next one.
     pub fn made(&self) -> u64
         ensures { result ≡ self.now.made }
     {
-        self.cut + self.entries.len() as u64
+        self.cut + self.len as u64
     }
 
     /// Makes room for `n` more entries beside the reserved ones. Where it has to grow, there is then room for as many entries as there
@@ -70,14 +74,14 @@ impl Journal {
         ensures kept { self.old.room ≤ self.new.room }
         ensures there_already { self.old.reserved + n ≤ self.old.room → IsOk result }
     {
-        let len = self.entries.len();
         let Some(wanted) = self.reserved.checked_add(n) else {
             return Err(AllocError);
         };
-        if wanted <= self.entries.capacity() - len {
+        if wanted <= self.entries.capacity() - self.len {
             return Ok(());
         }
-        self.entries.reserve(wanted.max(len))
+        self.entries.truncate(self.len);
+        self.entries.reserve(wanted.max(self.len))
     }
 
     /// Adds the entry of a call and its reply, and answers its number. It takes no memory.
@@ -91,7 +95,8 @@ impl Journal {
         ensures room { self.old.room ≤ self.new.room + 1 }
     {
         let number = self.made();
-        add(&mut self.entries, number, call, reply);
+        put(&mut self.entries, self.len, number, call, reply);
+        self.len += 1;
         number
     }
 
@@ -135,8 +140,10 @@ impl Journal {
         ensures err { OnErr result (self.new ≡ self.old) }
     {
         let mut kept = Vec::with_capacity(alloc, stay.len() + self.reserved)?;
+        self.entries.truncate(self.len);
         part(&mut self.entries, &mut kept, stay);
         self.cut += self.entries.len() as u64;
+        self.len = kept.len();
         mem::swap(&mut self.entries, &mut kept);
         Ok(kept)
     }
@@ -152,16 +159,16 @@ impl Journal {
         ensures count { result + length self.new.entries ≡ length self.old.entries }
         ensures room { self.old.room ≤ self.new.room }
     {
-        let before = self.entries.len();
-        gather(&mut self.entries, stay);
-        let count = (before - self.entries.len()) as u64;
+        let kept = gather(&mut self.entries, self.len, stay);
+        let count = (self.len - kept) as u64;
+        self.len = kept;
         self.cut += count;
         count
     }
 }
 
 // Adds an entry where there is room for it.
-#[inline(always)]
+#[inline(never)]
 fn add(entries: &mut Vec<Entry>, number: u64, call: &Call, reply: Reply)
     requires { vec_len entries.old < vec_capacity entries.old }
     ensures items { entries.new.items ≡ entries.old.items ++ entry_of number call.now reply ∷ [] }
@@ -173,6 +180,24 @@ fn add(entries: &mut Vec<Entry>, number: u64, call: &Call, reply: Reply)
         call: *call,
         reply,
     });
+}
+
+// Puts an entry at a place: in that of another, of which no more is written than the entry needs, or behind all, where there is room for it.
+#[inline(always)]
+fn put(entries: &mut Vec<Entry>, place: usize, number: u64, call: &Call, reply: Reply)
+    requires place { place ≤ vec_len entries.old }
+    requires room { place < vec_capacity entries.old }
+    ensures items { take (place + 1) entries.new.items ≡ take place entries.old.items ++ entry_of number call.now reply ∷ [] }
+    ensures len { place + 1 ≤ vec_len entries.new }
+    ensures capacity { vec_capacity entries.old ≤ vec_capacity entries.new }
+{
+    if let Some(entry) = entries.get_mut(place) {
+        entry.number = number;
+        entry.call.copy_from(call);
+        entry.reply = reply;
+        return;
+    }
+    add(entries, number, call, reply);
 }
 
 // Whether the entry has the number that is next among these.
@@ -208,20 +233,22 @@ fn part(entries: &mut Vec<Entry>, kept: &mut Vec<Entry>, stay: &[u64])
     entries.truncate(out);
 }
 
-// Moves the entries of these numbers to the front, and drops the others.
-fn gather(entries: &mut Vec<Entry>, stay: &[u64])
-    requires { AreNumbersOf entries.old.items stay.now }
-    ensures items { entries.new.items ≡ with_numbers stay.now entries.old.items }
-    ensures count { vec_len entries.new ≡ length stay.now }
-    ensures fewer { vec_len entries.new ≤ vec_len entries.old }
+// Moves those of the first entries that have these numbers to the front, and answers how many they are.
+fn gather(entries: &mut Vec<Entry>, len: usize, stay: &[u64]) -> usize
+    requires len { len ≤ vec_len entries.old }
+    requires numbers { AreNumbersOf (take len entries.old.items) stay.now }
+    ensures items { take result entries.new.items ≡ with_numbers stay.now (take len entries.old.items) }
+    ensures count { result ≡ length stay.now }
+    ensures fewer { result ≤ len }
+    ensures same_len { vec_len entries.new ≡ vec_len entries.old }
     ensures capacity { vec_capacity entries.old ≤ vec_capacity entries.new }
 {
     let mut next = 0;
-    'entries: for place in 0..entries.len() {
+    'entries: for place in 0..len {
         if is_next(&entries[place], stay, next) {
             entries[next] = entries[place];
             next += 1;
         }
     }
-    entries.truncate(next);
+    next
 }

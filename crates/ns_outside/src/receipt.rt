@@ -42,19 +42,7 @@ impl Receipt {
     pub fn put(&mut self, shard: u8, number: u64, call: &Call, reply: Reply)
         ensures { self.new ≡ receipt_of shard number call.now (record { reply = reply; uplink = self.old.uplink; downlink = self.old.downlink }) }
     {
-        match (&mut self.entry.call, call) {
-            (
-                Call::Uplink {
-                    frame: to,
-                    heard: at,
-                },
-                Call::Uplink { frame, heard },
-            ) => {
-                *to = *frame;
-                *at = *heard;
-            }
-            (other, call) => *other = *call,
-        }
+        self.entry.call.copy_from(call);
         self.entry.reply = reply;
         self.entry.number = number;
         self.shard = shard;

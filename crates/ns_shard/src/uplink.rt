@@ -55,7 +55,7 @@ fn put(
 fn is_busy(windows: &Windows, eui: DevEui) -> bool
     ensures { result ≡ nat_le most_windows (count eui windows.now) }
 {
-    windows.count(eui) >= MOST_WINDOWS
+    windows.has_as_many(eui, MOST_WINDOWS)
 }
 
 // Takes an uplink with a new counter, which fits there.

@@ -4,5 +4,6 @@ pub mod Names
 pub mod Frames
 pub mod Opened
 pub mod Spots
+pub mod OpenSpots
 pub mod Sought
 pub mod Standing

@@ -45,42 +45,24 @@ module _ (key mark : Window → ℕ) (k : ℕ) where
         | inr isnt ↦ rw isnt rest
       ]
 
-  -- nor that behind the last
-  pub spots-below : (m n : ℕ) (ps : List (Option Window)) → m ≡ n + length ps → spots_without m (spots_of key mark k n ps) ≡ spots_of key mark k n ps
-  spots-below m n [] is = refl
-  spots-below m n (None ∷ ps) is = spots-below m (suc n) ps (omega (arith, is))
-  spots-below m n (Some v ∷ ps) is =
-      let rest = spots-below m (suc n) ps (omega (arith, is)) in
+  -- a place that is emptied has a spot no more
+  pub spots-taken : (n : ℕ) (ps : List (Option Window)) (i m : ℕ) → m ≡ n + i → spots_of key mark k n (slice_set ps i None) ≡ spots_without m (spots_of key mark k n ps)
+  spots-taken n [] i m is = refl
+  spots-taken n (None ∷ ps) zero m is = sym (spots-above m (suc n) ps (omega (arith, is)))
+  spots-taken n (None ∷ ps) (suc i) m is = spots-taken (suc n) ps i m (omega (arith, is))
+  spots-taken n (Some v ∷ ps) zero m is =
+      let equal : (n == m) ≡ true = grind (arith, is) in
+      let others = sym (spots-above m (suc n) ps (omega (arith, is))) in
+      elim (bool_tells (key v == k)) [
+        | inl has ↦ rw (has, equal) others
+        | inr hasnt ↦ rw hasnt others
+      ]
+  spots-taken n (Some v ∷ ps) (suc i) m is =
       let other : (n == m) ≡ false = grind (arith, is) in
+      let rest = spots-taken (suc n) ps i m (omega (arith, is)) in
       elim (bool_tells (key v == k)) [
         | inl has ↦ rw (has, other) (ap (λ (ss : List Spot). record { number = n; mark = mark v } ∷ ss) rest)
         | inr hasnt ↦ rw hasnt rest
-      ]
-
-  -- a place that is emptied has a spot no more
-  pub spots-taken : (n : ℕ) (ps : List (Option Window)) (i m : ℕ) (w : Window) → window_at ps i ≡ Some w → m ≡ n + i
-      → spots_of key mark k n (slice_set ps i None) ≡ cond (key w == k) (spots_without m (spots_of key mark k n ps)) (spots_of key mark k n ps)
-  spots-taken n [] i m w at is = absurd (cc at)
-  spots-taken n (None ∷ ps) zero m w at is = absurd (cc at)
-  spots-taken n (None ∷ ps) (suc i) m w at is = spots-taken (suc n) ps i m w at (omega (arith, is))
-  spots-taken n (Some v ∷ ps) zero m w at is =
-      let same : v ≡ w = cc at in
-      let equal : (n == m) ≡ true = grind (arith, is) in
-      elim (bool_tells (key w == k)) [
-        | inl has ↦ rw (same, has, equal) (sym (spots-above m (suc n) ps (omega (arith, is))))
-        | inr hasnt ↦ rw (same, hasnt) refl
-      ]
-  spots-taken n (Some v ∷ ps) (suc i) m w at is =
-      let other : (n == m) ≡ false = grind (arith, is) in
-      let rest = spots-taken (suc n) ps i m w at (omega (arith, is)) in
-      elim (bool_tells (key w == k)) [
-        | inl has ↦
-            (let less : spots_of key mark k (suc n) (slice_set ps i None) ≡ spots_without m (spots_of key mark k (suc n) ps) = rw has at rest in
-            elim (bool_tells (key v == k)) [
-              | inl too ↦ rw (has, too, other) (ap (λ (ss : List Spot). record { number = n; mark = mark v } ∷ ss) less)
-              | inr not_too ↦ rw (has, not_too) less
-            ])
-        | inr hasnt ↦ rw hasnt (ap (λ (ss : List Spot). cond (key v == k) (record { number = n; mark = mark v } ∷ ss) ss) (rw hasnt at rest))
       ]
 
   -- empty places before the first window are left out

@@ -1,5 +1,5 @@
 -- Windows at places in a queue, in the order of their opening. A window that was closed leaves its place empty.
-use Rattle.std.specs.Prelude.{◌≡◌, ℕ, ◌+◌, ◌/◌, Bool, false, ◌&&◌, nat_le, nat_lt, length, List, [], ◌∷◌, ◌++◌, replicate, slice_index_or, slice_set, Option, Some, None, option_map}
+use Rattle.std.specs.Prelude.{◌≡◌, ℕ, ◌+◌, ◌/◌, Bool, false, ◌&&◌, ◌-◌, nat_le, nat_lt, length, List, [], ◌∷◌, ◌++◌, replicate, slice_index_or, slice_set, Option, Some, None, option_map, is_some}
 use Rattle.std.specs.Option.{option_map_or}
 use Rattle.ns_types.specs.declared.heard.Heard.{Heard}
 use Rattle.ns_windows.specs.declared.places.Sought.{Sought}
@@ -16,6 +16,10 @@ open_of (Some w ∷ ps) = w ∷ open_of ps
 -- the window at a place
 abbrev pub window_at : List (Option Window) → ℕ → Option Window
 window_at places place = slice_index_or places place None
+
+-- whether the place of a number has a window, where the first place has the number n
+abbrev pub is_open_at : ℕ → List (Option Window) → ℕ → Bool
+is_open_at n places number = nat_le n number && is_some (window_at places (number - n))
 
 -- whether a window is the one that is sought
 abbrev pub passes : Sought → Window → Bool

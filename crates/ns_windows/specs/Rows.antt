@@ -1,5 +1,5 @@
 -- Where windows are, by device and by address: for each window the number of its place, and a mark that tells it from most others of its row.
-use Rattle.std.specs.Prelude.{◌≡◌, ℕ, suc, ◌-◌, Bool, false, ◌&&◌, not, ◌==◌, List, [], ◌∷◌, ◌++◌, filter, Option, Some, None, if◌then◌else◌}
+use Rattle.std.specs.Prelude.{◌≡◌, ℕ, suc, ◌+◌, ◌-◌, ◌<◌, Bool, false, ◌&&◌, not, ◌==◌, List, [], ◌∷◌, ◌++◌, length, filter, Option, Some, None, if◌then◌else◌}
 use Rattle.std.specs.Int.{w32, from_le_bytes}
 use Rattle.std.specs.List.{AllByRecursion}
 use Rattle.smallvec.specs.SmallVec.{SmallVec}
@@ -7,7 +7,7 @@ use Rattle.ns_rows.specs.Rows.{row_in}
 use Rattle.ns_views.specs.Frame.{data_fields}
 use Rattle.ns_windows.specs.declared.rows.Spot.{Spot}
 use Rattle.ns_windows.specs.declared.window.Window.{Window}
-use Rattle.ns_windows.specs.Places.{passes_at}
+use Rattle.ns_windows.specs.Places.{is_open_at, passes_at}
 
 -- the device of a window, and its frame counter; the address of a frame, and its MIC
 abbrev pub device_of : Window → ℕ
@@ -35,9 +35,18 @@ spots_of key mark k n (None ∷ ps) = spots_of key mark k (suc n) ps
 spots_of key mark k n (Some w ∷ ps) =
     if key w == k then record { number = n; mark = mark w } ∷ spots_of key mark k (suc n) ps else spots_of key mark k (suc n) ps
 
--- each key has the spots of its windows
-abbrev pub AreInRows : (Window → ℕ) → (Window → ℕ) → ℕ → List (Option Window) → List (ℕ × SmallVec Spot) → Type 0
-AreInRows key mark n places rows = (k : ℕ) → row_in rows k ≡ spots_of key mark k n places
+-- the spots of open windows
+abbrev pub open_spots : ℕ → List (Option Window) → List Spot → List Spot
+open_spots n places spots = filter (λ s. is_open_at n places s.number) spots
+
+-- no number is behind that of the last place
+abbrev pub AreBefore : ℕ → List Spot → Type 0
+AreBefore end spots = AllByRecursion (λ s. s.number < end) spots
+
+-- each key has the spots of its windows, and perhaps some of windows that are closed
+pub record AreInRows (key mark : Window → ℕ) (n : ℕ) (places : List (Option Window)) (rows : List (ℕ × SmallVec Spot)) : Type 0 where
+  pub spots : (k : ℕ) → open_spots n places (row_in rows k) ≡ spots_of key mark k n places
+  pub before : (k : ℕ) → AreBefore (n + length places) (row_in rows k)
 
 -- the spots but for that of a number
 abbrev pub spots_without : ℕ → List Spot → List Spot
@@ -47,9 +56,9 @@ spots_without number spots = filter (λ s. not (s.number == number)) spots
 abbrev pub Adds : (Window → ℕ) → (Window → ℕ) → ℕ → Window → List (ℕ × SmallVec Spot) → List (ℕ × SmallVec Spot) → Type 0
 Adds key mark number w old new = (k : ℕ) → row_in new k ≡ row_in old k ++ (if key w == k then record { number = number; mark = mark w } ∷ [] else [])
 
--- the spot of a number goes out of those of a window's key
-abbrev pub Takes : (Window → ℕ) → ℕ → Window → List (ℕ × SmallVec Spot) → List (ℕ × SmallVec Spot) → Type 0
-Takes key number w old new = (k : ℕ) → row_in new k ≡ (if key w == k then spots_without number (row_in old k) else row_in old k)
+-- the spots of closed windows go out of those of a window's key
+abbrev pub TakesClosed : (Window → ℕ) → Window → ℕ → List (Option Window) → List (ℕ × SmallVec Spot) → List (ℕ × SmallVec Spot) → Type 0
+TakesClosed key w n places old new = (k : ℕ) → row_in new k ≡ (if key w == k then open_spots n places (row_in old k) else row_in old k)
 
 -- no spot has the number
 abbrev pub Lacks : ℕ → List Spot → Type 0

@@ -1,13 +1,14 @@
 //! The spots of windows, by device and by address.
 
-ghost use Rattle.std.specs.Prelude.{◌≡◌, true, ℕ, ◌<◌, ◌^◌, [], None, length, map, Some, find, IfSome, IfNone, IfOk, OnOk, OnErr};
+ghost use Rattle.std.specs.Prelude.{◌≡◌, true, nat_le, ℕ, ◌<◌, ◌^◌, [], None, length, map, Some, find, IfSome, IfNone, IfOk, OnOk, OnErr};
 ghost use Rattle.ns_rows.specs.Rows.{row_in};
+ghost use Rattle.ns_windows.specs.Windows.{count};
 ghost use Rattle.ns_windows.specs.Places.{open_of, passes, passes_at};
-ghost use Rattle.ns_windows.specs.Rows.{device_of, counter_of, address_of, mic_of, frame_address, frame_mic, Adds, Takes, Lacks};
+ghost use Rattle.ns_windows.specs.Rows.{device_of, counter_of, address_of, mic_of, frame_address, frame_mic, Adds, TakesClosed, Lacks};
 ghost use Rattle.ns_windows.specs.Indexed.{AreIndexed};
 
-use crate::places::{Places, Sought, place_of};
-use crate::rows::{Spot, Spots, take_spot};
+use crate::places::{Places, Sought, is_at, place_of};
+use crate::rows::{Spot, Spots, count_open, take_closed_at, take_spot};
 use crate::window::Window;
 use ns_rows::{push_at, row_at};
 use ns_types::DevEui;
@@ -38,8 +39,7 @@ fn mic_of(frame: &DataView) -> u32
 
 /// No spots.
 pub(crate) fn no_spots(alloc: Global) -> WindowIndex
-    ensures devices { (k : ℕ) → row_in result.devices.entries k ≡ [] }
-    ensures addresses { (k : ℕ) → row_in result.addresses.entries k ≡ [] }
+    ensures { AreIndexed 0 [] result }
 {
     WindowIndex {
         devices: HashMap::new(alloc),
@@ -47,11 +47,29 @@ pub(crate) fn no_spots(alloc: Global) -> WindowIndex
     }
 }
 
-/// How many windows of a device are at places.
-pub(crate) fn count_of(index: &WindowIndex, eui: DevEui) -> usize
-    ensures { result ≡ length (row_in index.now.devices.entries eui.0) }
+/// Whether so many windows of a device are at places, of which the first has this number. Only where it has as many spots they are counted.
+pub(crate) fn are_as_many(
+    places: &Places,
+    first: usize,
+    index: &WindowIndex,
+    eui: DevEui,
+    limit: usize,
+) -> bool
+    requires { AreIndexed first places.now.items index.now }
+    ensures { result ≡ nat_le limit (count eui (open_of places.now.items)) }
 {
-    row_at(&index.devices, eui.0).len()
+    let spots = row_at(&index.devices, eui.0);
+    spots.len() >= limit && count_open(places, first, spots) >= limit
+}
+
+/// Takes the spots of closed windows out of those of a window's device and address. It takes no memory.
+pub(crate) fn take_closed(index: &mut WindowIndex, window: &Window, places: &Places, first: usize)
+    ensures devices { TakesClosed device_of window.now first places.now.items index.old.devices.entries index.new.devices.entries }
+    ensures addresses { TakesClosed frame_address window.now first places.now.items index.old.addresses.entries index.new.addresses.entries }
+{
+    take_closed_at(&mut index.devices, window.name.eui.0, places, first);
+    let address = address_of(&window.frame.view());
+    take_closed_at(&mut index.addresses, address, places, first);
 }
 
 /// Adds the spots of a window whose place has this number. Where a growth is refused, rows without that number are as before.
@@ -84,19 +102,6 @@ pub(crate) fn put(
     Ok(())
 }
 
-/// Takes the spots of a window out, whose place has this number. It takes no memory.
-pub(crate) fn take(index: &mut WindowIndex, window: &Window, number: u32)
-    ensures devices { Takes device_of number window.now index.old.devices.entries index.new.devices.entries }
-    ensures addresses { Takes frame_address number window.now index.old.addresses.entries index.new.addresses.entries }
-{
-    take_spot(&mut index.devices, window.name.eui.0, number);
-    take_spot(
-        &mut index.addresses,
-        address_of(&window.frame.view()),
-        number,
-    );
-}
-
 /// The place of the window that is sought, where the first place has this number.
 pub(crate) fn find(
     places: &Places,
@@ -110,6 +115,10 @@ pub(crate) fn find(
 {
     match sought {
         Sought::Name(name) => {
+            // Windows are mostly closed in the order of their opening.
+            if is_at(places, 0, sought) {
+                return Some(0);
+            }
             let spots = row_at(&index.devices, name.eui.0);
             place_of(places, first, spots, name.fcnt, sought)
         }

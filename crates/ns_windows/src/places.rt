@@ -3,7 +3,7 @@
 ghost use Rattle.std.specs.Prelude.{◌≡◌, true, ◌<◌, ◌+◌, ◌^◌, ◌++◌, length, map, option_map, option_to_list, filter, is_some, IfSome, IfNone, OnOk};
 ghost use Rattle.std.specs.VecDeque.{deque_capacity};
 ghost use Rattle.ns_windows.specs.Windows.{with_copy, addition};
-ghost use Rattle.ns_windows.specs.Places.{window_at, passes, passes_at, places_with_copy, places_without, is_sparse, Leaves};
+ghost use Rattle.ns_windows.specs.Places.{window_at, is_open_at, passes, passes_at, places_with_copy, places_without, is_sparse, Leaves};
 ghost use Rattle.ns_windows.specs.Rows.{NoneIsThere};
 
 use crate::rows::Spot;
@@ -36,8 +36,16 @@ fn is_sought(sought: Sought, window: &Window) -> bool
     }
 }
 
-// Whether the window that is sought is at a place.
-fn is_at(places: &Places, place: usize, sought: Sought) -> bool
+/// Whether the place of a number has a window, where the first place has that one.
+pub(crate) fn is_open_at(places: &Places, first: usize, number: u32) -> bool
+    ensures { result ≡ is_open_at first places.now.items number }
+{
+    let number = number as usize;
+    number >= first && matches!(places.get(number - first), Some(Some(_)))
+}
+
+/// Whether the window that is sought is at a place.
+pub(crate) fn is_at(places: &Places, place: usize, sought: Sought) -> bool
     ensures { result ≡ passes_at (passes sought.entry) place places.now.items }
 {
     let Some(Some(window)) = places.get(place) else {

@@ -1,9 +1,11 @@
 //! Where windows are, in rows: one for each device, and one for each address.
 
-ghost use Rattle.std.specs.Prelude.{◌≡◌, ℕ, ◌==◌, if◌then◌else◌};
+ghost use Rattle.std.specs.Prelude.{◌≡◌, ℕ, ◌==◌, count_by, if◌then◌else◌};
 ghost use Rattle.ns_rows.specs.Rows.{row_in};
-ghost use Rattle.ns_windows.specs.Rows.{spots_without};
+ghost use Rattle.ns_windows.specs.Places.{is_open_at};
+ghost use Rattle.ns_windows.specs.Rows.{spots_without, open_spots};
 
+use crate::places::{Places, is_open_at};
 use ns_rows::Rows;
 use smallvec::SmallVec;
 
@@ -15,9 +17,35 @@ pub(crate) struct Spot {
     pub mark: u32,
 }
 
-/// The spots of the windows of each key, in the order of their opening. A row that is empty stays, until the places are numbered anew. Few
-/// devices have more than two windows at once.
+/// The spots of the windows of each key, in the order of their opening. Those of closed windows stay until a window of the same key is
+/// opened, so a closing touches no row; an empty row stays until the places are numbered anew. Few devices have more than two windows at once.
 pub(crate) type Spots = Rows<Spot, 2>;
+
+/// How many spots are of open windows.
+pub(crate) fn count_open(places: &Places, first: usize, spots: &[Spot]) -> usize
+    ensures { result ≡ count_by (λ s. is_open_at first places.now.items s.number) spots.now }
+{
+    spots
+        .iter()
+        .filter(|spot| is_open_at(places, first, spot.number))
+        .count()
+}
+
+// Takes the spots of closed windows out of a row.
+fn take_closed_from(row: &mut SmallVec<Spot, 2>, places: &Places, first: usize)
+    ensures { row.new.items ≡ open_spots first places.now.items row.old.items }
+{
+    row.retain(|spot| is_open_at(places, first, spot.number));
+}
+
+/// Takes the spots of closed windows out of those of a key. It takes no memory.
+pub(crate) fn take_closed_at(rows: &mut Spots, key: u64, places: &Places, first: usize)
+    ensures { (k : ℕ) → row_in rows.new.entries k ≡ (if key == k then open_spots first places.now.items (row_in rows.old.entries k) else row_in rows.old.entries k) }
+{
+    if let Some(row) = rows.get_mut(&key) {
+        take_closed_from(row, places, first);
+    }
+}
 
 // Takes the spot of a number out of a row.
 fn take_from(row: &mut SmallVec<Spot, 2>, number: u32)

@@ -1,10 +1,10 @@
 //! The open windows of a shard in a queue, found by the spots of their device and of their address.
 
-ghost use Rattle.std.specs.Prelude.{◌≡◌, [], ◌∷◌, ◌++◌, None, is_some, map, option_map, IfOk, OnOk, OnErr};
+ghost use Rattle.std.specs.Prelude.{◌≡◌, [], ◌∷◌, ◌++◌, None, is_some, nat_le, map, option_map, IfOk, OnOk, OnErr};
 ghost use Rattle.ns_calls.specs.Queries.{first};
 ghost use Rattle.ns_windows.specs.Windows.{window_named, window_of_frame, new_window, count, addition, with_copy_of, without};
 
-use crate::index::{WindowIndex, count_of, find, no_spots, put, reindexed, take};
+use crate::index::{WindowIndex, are_as_many, find, no_spots, put, reindexed, take_closed};
 use crate::places::{
     Places, Sought, add_at, is_sparse, put_name, remove_empty, remove_leading_empty, take_at,
 };
@@ -62,11 +62,11 @@ impl Windows {
         }
     }
 
-    /// How many windows of a device are open.
-    pub fn count(&self, eui: DevEui) -> usize
-        ensures { result ≡ count eui self.now }
+    /// Whether a device has so many open windows.
+    pub fn has_as_many(&self, eui: DevEui, limit: usize) -> bool
+        ensures { result ≡ nat_le limit (count eui self.now) }
     {
-        count_of(&self.index, eui)
+        are_as_many(&self.places, self.first, &self.index, eui, limit)
     }
 
     /// The name of the window that was opened first.
@@ -197,7 +197,9 @@ impl Windows {
             return Err(AllocError);
         }
         self.places.reserve(1)?;
-        put(&mut self.index, self.alloc, window.as_ref(), number)?;
+        let lent = window.as_ref();
+        take_closed(&mut self.index, lent, &self.places, self.first);
+        put(&mut self.index, self.alloc, lent, number)?;
         self.places.push_back_reserved(Some(window));
         Ok(())
     }
@@ -218,11 +220,6 @@ impl Windows {
     {
         let place = find(&self.places, self.first, &self.index, Sought::Name(name))?;
         let window = take_at(&mut self.places, place)?;
-        take(
-            &mut self.index,
-            window.as_ref(),
-            (self.first + place) as u32,
-        );
         remove_leading_empty(&mut self.places, &mut self.first);
         Some(window)
     }

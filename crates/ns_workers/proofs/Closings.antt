@@ -1,7 +1,7 @@
 -- What a closer has done, turn by turn.
-use Rattle.std.proofs.Common.{◌≡◌, ◌≢◌, ℕ, List, [], ◌∷◌, ◌++◌, length, Option, None, Some, inl, inr, refl, sym, ap, ◌∙◌, subst}
+use Rattle.std.proofs.Common.{◌≡◌, ◌≢◌, ℕ, List, [], ◌∷◌, ◌++◌, length, take, ◌+◌, ◌<◌, ◌≤◌, Option, None, Some, inl, inr, refl, sym, ap, ◌∙◌, subst}
 use Rattle.std.specs.Prelude.{All, slice_set}
-use Rattle.std.proofs.lemmas.List.{map-append}
+use Rattle.std.proofs.lemmas.List.{map-append, length-take-le, take_more_set}
 use Rattle.std.proofs.lemmas.List.Elements.{All-nil, All-push}
 use Rattle.ns_roster.specs.Network.{Network}
 use Rattle.ns_output.specs.declared.output.Output.{Output}
@@ -18,15 +18,11 @@ use Rattle.ns_workers.specs.Effects.{Effects, Does}
 use Rattle.ns_workers.proofs.Doings.{does_none, does_both, does_with}
 use Rattle.ns_workers.proofs.Sources.{Holds, holds_none, holds_more, gave_end, gave_full, gave_broken}
 
--- ---- the last place of a list
+-- ---- a place of a list
 
-set_last : {X : Type 0} (xs : List X) (x y : X) → slice_set (xs ++ x ∷ []) (length xs) y ≡ xs ++ y ∷ []
-set_last [] x y = refl
-set_last (z ∷ xs) x y = ap (λ l. z ∷ l) (set_last xs x y)
-
-pub set_placed : {X : Type 0} (xs ys : List X) (x y : X) (n : ℕ) → ys ≡ xs ++ x ∷ [] → n ≡ length xs → slice_set ys n y ≡ xs ++ y ∷ []
-set_placed xs ys x y n is at =
-    subst (λ l. slice_set l n y ≡ xs ++ y ∷ []) (sym is) (subst (λ m. slice_set (xs ++ x ∷ []) m y ≡ xs ++ y ∷ []) (sym at) (set_last xs x y))
+-- what is put at a place comes behind those before it
+pub put_behind : {X : Type 0} (xs ys : List X) (n : ℕ) (y : X) → take n ys ≡ take n xs → n < length ys → take (n + 1) (slice_set ys n y) ≡ take n xs ++ y ∷ []
+put_behind {X} xs ys n y same within = take_more_set ys n y within ∙ ap (λ (l : List X). l ++ y ∷ []) same
 
 -- ---- jobs after jobs
 
@@ -46,6 +42,11 @@ closed_none net out h c old e = record {
   closed = refl;
   does = does_none net out h None e;
 }
+
+-- so far none was closed
+pub closed_begun : (net : Network) (out : Output) (h : Notice → Type 0) (c : ℕ → Type 0) (old : Option (Given CloseJob)) (e : Effects) (count : ℕ) (rs : List Receipt) → count ≡ 0
+    → Closed net out h c old old e e (take count rs)
+closed_begun net out h c old e count rs none = subst (λ n. Closed net out h c old old e e (take n rs)) (sym none) (closed_none net out h c old e)
 
 -- the calls of one more receipt are the closings of one more job
 one_more : (rs : List Receipt) (r : Receipt) (js : List CloseJob) (j : CloseJob) → calls_made rs ≡ closings js → r.entry.call ≡ closing j → calls_made (rs ++ r ∷ []) ≡ closings (js ++ j ∷ [])
@@ -77,17 +78,19 @@ closes_end net out h c limit old now new e f rs so takes = record {
   does = so.does;
 }
 
-pub closes_full : (net : Network) (out : Output) (h : Notice → Type 0) (c : ℕ → Type 0) (limit : ℕ) (old now : Option (Given CloseJob)) (e f : Effects) (rs : List Receipt)
-    → Closed net out h c old now e f rs → length rs ≡ limit → ClosesAll net out h c limit old now e f rs None
-closes_full net out h c limit old now e f rs so full = record {
-  closes = record {
-    taken = so.taken;
-    gave = gave_full (length rs ≡ limit) old now so.taken so.holds full;
-    waited = so.waited;
-    closed = so.closed;
-  };
-  does = so.does;
-}
+pub closes_full : (net : Network) (out : Output) (h : Notice → Type 0) (c : ℕ → Type 0) (limit : ℕ) (old now : Option (Given CloseJob)) (e f : Effects) (count : ℕ) (rs : List Receipt)
+    → Closed net out h c old now e f (take count rs) → count ≤ length rs → count ≡ limit → ClosesAll net out h c limit old now e f (take count rs) None
+closes_full net out h c limit old now e f count rs so within full =
+    let all : length (take count rs) ≡ limit = length-take-le count rs within ∙ full in
+    record {
+      closes = record {
+        taken = so.taken;
+        gave = gave_full (length (take count rs) ≡ limit) old now so.taken so.holds all;
+        waited = so.waited;
+        closed = so.closed;
+      };
+      does = so.does;
+    }
 
 pub closes_broken : (net : Network) (out : Output) (h : Notice → Type 0) (c : ℕ → Type 0) (limit : ℕ) (old now new : Option (Given CloseJob)) (e f : Effects) (rs : List Receipt)
     → Closed net out h c old now e f rs → Takes now new Failed → ClosesAll net out h c limit old new e f rs (Some SourceFailed)

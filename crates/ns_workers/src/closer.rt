@@ -1,5 +1,5 @@
 //! Closes windows as they become due.
-ghost use Rattle.std.specs.Prelude.{◌≡◌, ◌≢◌, ◌+◌, ◌<◌, ◌≤◌, [], None, Some, false, true, option_to_list, vec_len, vec_capacity, All, OnOk, OnErr};
+ghost use Rattle.std.specs.Prelude.{◌≡◌, ◌≢◌, ◌+◌, ◌<◌, ◌≤◌, [], None, Some, false, true, option_to_list, take, vec_len, vec_capacity, All, OnOk, OnErr};
 ghost use Rattle.ns_outside.specs.Answered.{RisesAt};
 ghost use Rattle.ns_workers.specs.Closing.{Closes, AreAnswered, HasAnswer, closing};
 ghost use Rattle.ns_workers.specs.Closed.{ClosesOne, ClosesAll};
@@ -66,8 +66,21 @@ pub(crate) fn hand_out<S: Calls<R>, R, G, D: Downlinks<R>, M: Monitor<R>, T: Tim
     write_uplink(shared.rt, shared.output, timer, due, sink, &receipt.uplink)
 }
 
-// Closes the window of a job once it is due, and hands out what comes of that. The receipt is made in its place behind the others;
-// where the closing was refused memory it is taken away again. Tells the fault where there was one.
+// Makes room for a receipt behind so many, where another is not there already.
+fn make_place(receipts: &mut Vec<Receipt>, place: usize)
+    requires place { place ≤ vec_len receipts.old }
+    requires room { place < vec_capacity receipts.old }
+    ensures before { take place receipts.new.items ≡ take place receipts.old.items }
+    ensures there { place < vec_len receipts.new }
+    ensures room { vec_capacity receipts.new ≡ vec_capacity receipts.old }
+{
+    if place == receipts.len() {
+        receipts.push_reserved(Receipt::empty());
+    }
+}
+
+// Closes the window of a job once it is due, and hands out what comes of that. The receipt is made in the place behind those so far, where
+// another may be; where the closing was refused memory it counts for none. Tells the fault where there was one.
 fn close_next<S: Calls<R>, R, G: Gate<R>, D: Downlinks<R>, M: Monitor<R>, T: Timer<R>, W: Sink>(
     shared: &Shared<'_, S, R, G, M>,
     pass: &mut S::Pass,
@@ -75,36 +88,38 @@ fn close_next<S: Calls<R>, R, G: Gate<R>, D: Downlinks<R>, M: Monitor<R>, T: Tim
     down: &mut D,
     sink: &mut W,
     receipts: &mut Vec<Receipt>,
+    count: &mut usize,
     job: CloseJob,
 ) -> Option<WorkerFault>
     requires sound { W.has_failed sink.old ≡ false }
-    requires room { vec_len receipts.old < vec_capacity receipts.old }
+    requires place { count.old ≤ vec_len receipts.old }
+    requires room { count.old < vec_capacity receipts.old }
     ensures waited { T.has_come timer.now job.due }
     ensures closes { let before = effects (S.made pass.old) None (D.taken down.old) (W.taken sink.old) in
         let after = effects (S.made pass.new) None (D.taken down.new) (W.taken sink.new) in
-        ClosesOne S.roster shared.now.output (M.has_heard shared.now.monitor.now) job result before after receipts.old.items receipts.new.items }
-    ensures count { result ≡ None → vec_len receipts.new ≡ vec_len receipts.old + 1 }
+        ClosesOne S.roster shared.now.output (M.has_heard shared.now.monitor.now) job result before after (take count.old receipts.old.items) (take count.new receipts.new.items) }
+    ensures count { result ≡ None → count.new ≡ count.old + 1 }
+    ensures place { count.new ≤ vec_len receipts.new }
     ensures room { vec_capacity receipts.new ≡ vec_capacity receipts.old }
     ensures sound { result ≢ Some WorkerFault.SinkFailed → W.has_failed sink.new ≡ false }
     ensures failed { result ≡ Some WorkerFault.SinkFailed → W.has_failed sink.new ≡ true }
     ensures source { result ≢ Some WorkerFault.SourceFailed }
 {
-    let place = receipts.len();
-    receipts.push_reserved(Receipt::empty());
-    let receipt = &mut receipts[place];
+    make_place(receipts, *count);
+    let receipt = &mut receipts[*count];
     let Ok(()) = close_due(shared, pass, timer, job, receipt) else {
-        receipts.pop();
         return Some(WorkerFault::NoMemory);
     };
+    *count += 1;
     match hand_out(shared, timer, job.due, down, sink, receipt) {
         Ok(()) => None,
         Err(_) => Some(WorkerFault::SinkFailed),
     }
 }
 
-// Closes the windows of jobs, and puts the receipts into a list that has room for as many as there may be. Tells the fault where there
-// was one.
-#[tactic(auto, using(crate::proofs::Closings::closed_none, crate::proofs::Closings::closed_more, crate::proofs::Closings::closes_end, crate::proofs::Closings::closes_full, crate::proofs::Closings::closes_broken, crate::proofs::Closings::closes_fault,))]
+// Closes the windows of jobs, and puts the receipts into a list that has room for as many as there may be, in the places of others. Tells
+// the fault where there was one.
+#[tactic(auto, using(crate::proofs::Closings::closed_begun, crate::proofs::Closings::closed_more, crate::proofs::Closings::closes_end, crate::proofs::Closings::closes_full, crate::proofs::Closings::closes_broken, crate::proofs::Closings::closes_fault,))]
 fn close_all<
     S: Calls<R>,
     R,
@@ -122,26 +137,27 @@ fn close_all<
     down: &mut D,
     sink: &mut W,
     receipts: &mut Vec<Receipt>,
+    count: &mut usize,
     limit: usize,
 ) -> Option<WorkerFault>
     requires sound { W.has_failed sink.old ≡ false }
-    requires none { receipts.old.items ≡ [] }
+    requires none { count.old ≡ 0 }
     requires room { limit ≤ vec_capacity receipts.old }
     ensures closes { let before = effects (S.made pass.old) None (D.taken down.old) (W.taken sink.old) in
         let after = effects (S.made pass.new) None (D.taken down.new) (W.taken sink.new) in
         ClosesAll S.roster shared.now.output (M.has_heard shared.now.monitor.now) (T.has_come timer.now) limit
-        (J.given jobs.old) (J.given jobs.new) before after receipts.new.items result }
+        (J.given jobs.old) (J.given jobs.new) before after (take count.new receipts.new.items) result }
     ensures same { J.all jobs.new ≡ J.all jobs.old }
     ensures sound { result ≢ Some WorkerFault.SinkFailed → W.has_failed sink.new ≡ false }
     ensures failed { result ≡ Some WorkerFault.SinkFailed → W.has_failed sink.new ≡ true }
 {
-    while receipts.len() < limit {
+    while *count < limit {
         let job = match jobs.take(shared.rt) {
             Next::Job(job) => job,
             Next::End => return None,
             Next::Failed => return Some(WorkerFault::SourceFailed),
         };
-        let fault = close_next(shared, pass, timer, down, sink, receipts, job);
+        let fault = close_next(shared, pass, timer, down, sink, receipts, count, job);
         if fault.is_some() {
             return fault;
         }
@@ -150,8 +166,8 @@ fn close_all<
 }
 
 /// Closes the windows of at most `limit` jobs, each as it becomes due, sends what goes down, and writes the line of each first window
-/// that was open, with a line feed. The receipts come in the memory of others, which are gone; where it has no room for `limit` ones, that is
-/// taken first. Each receipt tells the plain server's answer after a history of its shard.
+/// that was open, with a line feed. The receipts come in the places of others, which are gone, and no more of these is written than they need;
+/// where there is no room for `limit` ones, that is taken first. Each receipt tells the plain server's answer after a history of its shard.
 ///
 /// With no fault and fewer receipts than `limit` the source has ended. K1 where a growth was refused: then nothing was done with the
 /// job taken last, whose window was not open (no clause). K2 where the source failed. K3 where the sink failed: then it has a beginning of the
@@ -189,13 +205,15 @@ pub fn run_closer<
     ensures sound { result.fault ≢ Some WorkerFault.SinkFailed → W.has_failed sink.new ≡ false }
     ensures failed { result.fault ≡ Some WorkerFault.SinkFailed → W.has_failed sink.new ≡ true }
 {
-    receipts.clear();
-    let Ok(()) = receipts.reserve(limit as usize) else {
+    let limit = limit as usize;
+    let Ok(()) = receipts.reserve(limit.saturating_sub(receipts.len())) else {
+        receipts.clear();
         return Ended {
             receipts,
             fault: Some(WorkerFault::NoMemory),
         };
     };
+    let mut count = 0;
     let fault = close_all(
         shared,
         pass,
@@ -204,7 +222,9 @@ pub fn run_closer<
         down,
         sink,
         &mut receipts,
-        limit as usize,
+        &mut count,
+        limit,
     );
+    receipts.truncate(count);
     Ended { receipts, fault }
 }

@@ -1,13 +1,13 @@
-use Rattle.std.proofs.Common.{None, Some, refl, ◌∙◌}
+use Rattle.std.proofs.Common.{rules, None, Some, refl}
 use Rattle.ns_outside.specs.declared.fault.WorkerFault.TheVariants.{SinkFailed}
-use Rattle.ns_workers.proofs.Closings.{set_placed}
+use Rattle.ns_workers.proofs.Closings.{put_behind}
 use Rattle.ns_workers.proofs.Doings.{does_own}
 use Rattle.ns_workers.proofs.closer.close_next.Goals as goal
 
 pub returns-in-Ok-hand_out-clause-closes : goal.returns-in-Ok-hand_out-clause-closes
 returns-in-Ok-hand_out-clause-closes g c =
     let r = c.close_due.new.receipt in
-    let placed = set_placed c.args.receipts.now.items c.push_reserved.new.self.items _ r c.len-place.result c.push_reserved.ensures.items (c.len-place.ensures ∙ c.args.receipts.now.ok.0) in (
+    let placed = put_behind c.args.receipts.now.items c.make_place.new.receipts.items c.args.count.now r c.make_place.ensures.before (search rules) in (
       r,
       placed,
       c.in-Ok.ensures.call,
@@ -19,7 +19,7 @@ returns-in-Ok-hand_out-clause-closes g c =
 pub returns-in-Err-clause-closes : goal.returns-in-Err-clause-closes
 returns-in-Err-clause-closes g c =
     let r = c.close_due.new.receipt in
-    let placed = set_placed c.args.receipts.now.items c.push_reserved.new.self.items _ r c.len-place.result c.push_reserved.ensures.items (c.len-place.ensures ∙ c.args.receipts.now.ok.0) in (
+    let placed = put_behind c.args.receipts.now.items c.make_place.new.receipts.items c.args.count.now r c.make_place.ensures.before (search rules) in (
       r,
       placed,
       c.in-Ok.ensures.call,

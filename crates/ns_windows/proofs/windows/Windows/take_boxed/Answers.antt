@@ -2,7 +2,6 @@ use Rattle.std.proofs.Common.{◌≡◌, ◌+◌, true, Some, refl, sym, ap, sub
 use Rattle.ns_windows.specs.declared.window.Window.{Window}
 use Rattle.ns_windows.specs.Windows.{is_named, window_named, without}
 use Rattle.ns_windows.specs.Places.{window_at, places_without, Leaves}
-use Rattle.ns_windows.specs.Rows.{device_of, frame_address, Takes}
 use Rattle.ns_windows.proofs.Passing.{none_found, filter-none}
 use Rattle.ns_windows.proofs.Opened.{passes-there}
 use Rattle.ns_windows.proofs.Standing.{named-there, taken-open, taken-stand}
@@ -29,14 +28,7 @@ left c = subst (λ ps. Leaves c.self.inside.first ps c.remove_leading_empty.new.
 
 pub invariant_of-self-2 : goal.invariant_of-self-2
 invariant_of-self-2 c =
-    let number = c.self.inside.first + c.in_ok-place.place in
-    let old = c.self.inside.index in
-    let fewer = c.take.new.index in
-    let window = c.as_ref.ensures ∙ sym (taken c) in
-    taken-stand c.self.inside.first c.self.inside.places.items old c.self.invariant c.args.name.now c.in_ok-place.place (here c).0 (here c).1 (here c).2 c.remove_leading_empty.new.first c.remove_leading_empty.new.places.items (left c)
-    number fewer refl
-    (subst (λ (w : Window). Takes device_of number w old.devices.entries fewer.devices.entries) window c.take.ensures.devices)
-    (subst (λ (w : Window). Takes frame_address number w old.addresses.entries fewer.addresses.entries) window c.take.ensures.addresses)
+    taken-stand c.self.inside.first c.self.inside.places.items c.self.inside.index c.self.invariant c.args.name.now c.in_ok-place.place (here c).0 (here c).1 (here c).2 c.remove_leading_empty.new.first c.remove_leading_empty.new.places.items (left c)
 
 pub returns-clause-result : goal.returns-clause-result
 returns-clause-result c =
