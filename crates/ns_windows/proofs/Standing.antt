@@ -1,5 +1,5 @@
 -- What is said of windows at places and of their spots stays so, as one comes, changes and goes.
-use Rattle.std.proofs.Common.{◌≡◌, ℕ, suc, ◌+◌, ◌<◌, ◌==◌, cond, not, true, false, List, [], ◌∷◌, ◌++◌, length, map, filter, Option, None, Some, option_map, is_some, inl, inr, refl, sym, ap, ap₂, subst, ◌∙◌, arith}
+use Rattle.std.proofs.Common.{◌≡◌, ℕ, suc, ◌+◌, ◌<◌, ◌==◌, cond, not, true, List, [], ◌∷◌, ◌++◌, length, map, filter, Option, None, Some, option_map, is_some, inl, inr, refl, sym, ap, ap₂, subst, ◌∙◌, arith}
 use Rattle.std.specs.List.{slice_set}
 use Rattle.std.proofs.lemmas.Bool.{cond_both}
 use Rattle.std.proofs.lemmas.List.{length-set, length-append}
