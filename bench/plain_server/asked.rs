@@ -89,7 +89,7 @@ impl Own {
     pub fn uplink(&mut self, data: &Data, heard: &Heard) -> Reply {
         let Some(places) = self.shard.by_addr.get(&(data.addr as u64)) else { return Reply::NoSession };
         let places = places.start as usize..places.end as usize;
-        for window in self.windows[places.clone()].iter_mut().flatten() {
+        for window in self.windows[places.clone()].iter_mut().flat_map(|windows| windows.iter_mut().rev()) {
             if window.frame.bytes[..window.frame.len as usize] == *data.bytes {
                 let name = window.name;
                 let Some(room) = window.heard.get_mut(window.len as usize) else { return Reply::Crowded { window: name } };

@@ -443,7 +443,7 @@ impl Shard {
     fn copy(&mut self, at_addr: Range<usize>, data: &Data) -> Option<Reply> {
         let entry = self.entries.len() as u32;
         for device in &mut self.devices[at_addr] {
-            for Window { session, fcnt, round, copies } in &mut device.windows {
+            for Window { session, fcnt, round, copies } in device.windows.iter_mut().rev() {
                 if *fcnt as u16 == data.low && copies.frame(&self.entries) == data.bytes {
                     let window = WindowName { eui: device.eui, session: self.sessions[*session as usize].number, fcnt: *fcnt, round: *round };
                     return Some(copies.add(entry).map_or(Reply::Crowded { window }, |place| Reply::Copied { window, place }));

@@ -45,6 +45,21 @@ impl<const N: usize> Bytes<N> {
         }
     }
 
+    /// Becomes these bytes. Of the room it writes no more than they, or the bytes before, take.
+    #[inline(always)]
+    pub fn put(&mut self, bytes: &[u8])
+        requires fits { length bytes.now ≤ N }
+        requires short { length bytes.now ≤ 255 }
+        ensures { self.new ≡ bytes.now }
+    {
+        let (len, before) = (bytes.len(), self.len as usize);
+        self.room[..len].copy_from_slice(bytes);
+        for at in len..before {
+            self.room[at] = 0;
+        }
+        self.len = len as u8;
+    }
+
     /// Becomes other bytes. Of the room it writes no more than one of them takes.
     #[inline(always)]
     pub fn copy_from(&mut self, other: &Self)

@@ -19,6 +19,20 @@ pub(crate) struct Noted {
     changes: u64,
 }
 
+// Whether two addresses are the same. Those of IPv4 are compared octet by octet, since `==` would call the comparison of slices.
+fn is_same(one: &SocketAddr, other: &SocketAddr) -> bool
+    ensures { IsTrue result ↔ (one.now ≡ other.now) }
+{
+    match (one, other) {
+        (SocketAddr::V4(one), SocketAddr::V4(other)) => {
+            let [a, b, c, d] = one.ip().octets();
+            let [e, f, g, h] = other.ip().octets();
+            one.port() == other.port() && a == e && b == f && c == g && d == h
+        }
+        _ => one == other,
+    }
+}
+
 /// The gateways that one worker heard last, at most one of those whose numbers modulo 64 are the same.
 #[derive(Drop)]
 pub struct NotedPeers {
@@ -43,7 +57,7 @@ impl NotedPeers {
     {
         match &self.places[(gateway % PLACES as u64) as usize] {
             Some(noted) => {
-                noted.changes == changes && noted.gateway == gateway && noted.addr == addr
+                noted.changes == changes && noted.gateway == gateway && is_same(&noted.addr, &addr)
             }
             None => false,
         }

@@ -37,13 +37,12 @@ impl Receipt {
         }
     }
 
-    /// Makes this the receipt of a call that made the entry of this number, with this reply. What goes out with it is there.
+    /// Makes this the receipt of a call that made the entry of this number. The reply, and what goes out with it, are there.
     #[inline(always)]
-    pub fn put(&mut self, shard: u8, number: u64, call: &Call, reply: Reply)
-        ensures { self.new ≡ receipt_of shard number call.now (record { reply = reply; uplink = self.old.uplink; downlink = self.old.downlink }) }
+    pub fn put(&mut self, shard: u8, number: u64, call: &Call)
+        ensures { self.new ≡ receipt_of shard number call.now (record { reply = self.old.entry.reply; uplink = self.old.uplink; downlink = self.old.downlink }) }
     {
         self.entry.call.copy_from(call);
-        self.entry.reply = reply;
         self.entry.number = number;
         self.shard = shard;
     }

@@ -18,7 +18,7 @@ use crate::fault::RecordFault;
 use crate::line::read_line;
 use crate::open::{Open, open_in};
 use crate::ups::Ups;
-use ns_calls::{Call, Downlink, shard_of_call};
+use ns_calls::{Call, Downlink, Reply, shard_of_call};
 use ns_lines::{Line, put_lent_uplink};
 use ns_record::matters;
 use ns_roster::Roster;
@@ -99,7 +99,8 @@ impl Running {
     {
         let place = usize::from(shard_of_call(call));
         let shard = &mut self.shards[place];
-        let reply = shard.apply_lent(call, &mut self.uplink, &mut self.downlink)?;
+        let mut reply = Reply::NoWindow;
+        shard.apply_lent(call, &mut reply, &mut self.uplink, &mut self.downlink)?;
         if !matters(&reply) {
             return Err(RecordFault::NoFit(number));
         }

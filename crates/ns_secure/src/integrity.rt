@@ -1,6 +1,6 @@
 //! The MIC of a data frame (LoRaWAN L2 1.0.4, 4.4) and of a Join frame (6.2.5, 6.2.6).
 
-ghost use Rattle.std.specs.Prelude.{◌≡◌, ◌≤◌, length, take};
+ghost use Rattle.std.specs.Prelude.{◌≡◌, ◌≤◌, length, take, bytes_eq};
 ghost use Rattle.ns_secure.specs.Integrity.{mic, mic_fits, join_mic};
 
 use crate::Dir;
@@ -42,7 +42,17 @@ pub fn mic_fits_under(view: &DataView, key: &Aes128, counter: u32) -> bool
     ensures { result ≡ mic_fits view.now key.now counter }
 {
     let mic = mic_under(key, Dir::Up, view.dev_addr(), counter, view.signed());
-    mic == view.mic()
+    is_same(&mic, &view.mic())
+}
+
+// Whether two MICs are the same. Their bytes are compared one by one, since `==` would call the comparison of slices.
+#[inline(always)]
+fn is_same(one: &Mic, other: &Mic) -> bool
+    ensures { result ≡ bytes_eq one.now.0 other.now.0 }
+{
+    let [a, b, c, d] = one.0;
+    let [e, f, g, h] = other.0;
+    a == e && b == f && c == g && d == h
 }
 
 /// The MIC of a Join-Request, or of a Join-Accept: `signed` is all plain bytes before it.

@@ -60,12 +60,12 @@ fn step_shard(shard: &mut Shard, call: &Call, receipt: &mut Receipt) -> Result<(
     ensures state { IsState shard.new }
     ensures made { OnOk result (shard.new.made < 2 ^ 64) }
 {
-    let (uplink, downlink) = (&mut receipt.uplink, &mut receipt.downlink);
-    let reply = match shard.apply_into(call, uplink, downlink) {
-        Ok(reply) => reply,
+    let (reply, uplink) = (&mut receipt.entry.reply, &mut receipt.uplink);
+    match shard.apply_into(call, reply, uplink, &mut receipt.downlink) {
+        Ok(()) => {}
         Err(refused) => return Err(refused),
-    };
-    receipt.put(shard.index(), shard.made() - 1, call, reply);
+    }
+    receipt.put(shard.index(), shard.made() - 1, call);
     Ok(())
 }
 

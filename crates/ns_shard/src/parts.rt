@@ -146,26 +146,27 @@ impl Parts {
         }
     }
 
-    // Adds the entry of a call that was taken, gives the reply, and puts what goes out where something went out before.
+    // Adds the entry of a call that was taken, and puts the reply and what goes out where others were before.
     #[inline(always)]
     fn entered(
         &mut self,
         call: &Call,
         event: Event,
+        reply: &mut Reply,
         uplink: &mut Option<BoxedUplink>,
         downlink: &mut Option<Downlink>,
-    ) -> Reply
+    )
         requires { AreTaken self.old call.now event }
-        ensures reply { result ≡ (answer_in (state_of self.old) call.now).reply }
+        ensures reply { reply.new ≡ (answer_in (state_of self.old) call.now).reply }
         ensures uplink { uplink.new ≡ (answer_in (state_of self.old) call.now).uplink }
         ensures downlink { downlink.new ≡ (answer_in (state_of self.old) call.now).downlink }
         ensures state { state_of self.new ≡ after_call (state_of self.old) call.now }
         ensures agree { AreParts self.new }
     {
         let room = event.room();
-        let reply = event.hand_out(&self.roster, uplink, downlink);
-        push(&mut self.journal, call, reply, room);
-        reply
+        let made = event.hand_out(&self.roster, uplink, downlink);
+        *reply = made;
+        push(&mut self.journal, call, made, room);
     }
 
     /// Adds the entry of a call that was taken, and gives the answer.
@@ -175,8 +176,8 @@ impl Parts {
         ensures state { state_of self.new ≡ after_call (state_of self.old) call.now }
         ensures agree { AreParts self.new }
     {
-        let (mut uplink, mut downlink) = (None, None);
-        let reply = self.entered(call, event, &mut uplink, &mut downlink);
+        let (mut reply, mut uplink, mut downlink) = (event.reply(), None, None);
+        self.entered(call, event, &mut reply, &mut uplink, &mut downlink);
         Answer {
             reply,
             uplink: uplink.map(|sent| sent.lend().to_uplink()),
@@ -184,30 +185,33 @@ impl Parts {
         }
     }
 
-    /// Answers a call: gives the reply, and puts what goes out where something went out before. Where a growth is refused, nothing has
-    /// changed. Nothing goes out with an uplink, so that its event is not moved.
+    /// Answers a call: puts the reply and what goes out where others were before. Where a growth is refused, nothing has changed. Nothing
+    /// goes out with an uplink, so that its event is not moved.
     pub fn apply(
         &mut self,
         call: &Call,
+        reply: &mut Reply,
         uplink: &mut Option<BoxedUplink>,
         downlink: &mut Option<Downlink>,
-    ) -> Result<Reply, AllocError>
+    ) -> Result<(), AllocError>
         requires own { shard_of_call call.now ≡ self.old.index }
         requires agree { AreParts self.old }
-        ensures reply { IfOk result (λ r. r ≡ (answer_in (state_of self.old) call.now).reply) }
+        ensures reply { OnOk result (reply.new ≡ (answer_in (state_of self.old) call.now).reply) }
         ensures uplink { OnOk result (uplink.new ≡ (answer_in (state_of self.old) call.now).uplink) }
         ensures downlink { OnOk result (downlink.new ≡ (answer_in (state_of self.old) call.now).downlink) }
         ensures state { OnOk result (state_of self.new ≡ after_call (state_of self.old) call.now) }
         ensures open { OnErr result (finds_open (state_of self.old) call.now ≡ false) }
-        ensures err { OnErr result ((state_of self.new ≡ state_of self.old) × (uplink.new ≡ uplink.old) × (downlink.new ≡ downlink.old)) }
+        ensures err { OnErr result ((state_of self.new ≡ state_of self.old) × (reply.new ≡ reply.old) × (uplink.new ≡ uplink.old) × (downlink.new ≡ downlink.old)) }
         ensures agree { AreParts self.new }
     {
         if let Call::Uplink { frame, heard } = call {
             let event = self.uplink(frame, heard)?;
-            return Ok(self.entered(call, event, uplink, downlink));
+            self.entered(call, event, reply, uplink, downlink);
+            return Ok(());
         }
         let event = self.take(call)?;
-        Ok(self.entered(call, event, uplink, downlink))
+        self.entered(call, event, reply, uplink, downlink);
+        Ok(())
     }
 
     /// Takes the memory of an uplink that went out, for a window that is opened later.

@@ -20,9 +20,9 @@ fn put_lent(lent: &LentUplink<'_>, uplink: &mut Uplink)
     uplink.confirmed = lent.confirmed;
     uplink.fctrl = lent.fctrl;
     uplink.port = lent.port;
-    uplink.fopts = Bytes::of(lent.fopts);
+    uplink.fopts.put(lent.fopts);
     uplink.sealed = lent.sealed;
-    uplink.payload = Bytes::of(lent.payload);
+    uplink.payload.put(lent.payload);
     uplink.copies.clear();
     let Ok(()) = uplink.copies.try_extend_from_slice(lent.copies) else {
         unreachable!()

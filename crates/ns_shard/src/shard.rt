@@ -69,8 +69,8 @@ impl Shard {
         ensures open { finds_open self.old call ≡ true → IsOk result }
         ensures state { IsState self.new }
     {
-        let (mut uplink, mut downlink) = (None, None);
-        let reply = self.apply_into(&call, &mut uplink, &mut downlink)?;
+        let (mut reply, mut uplink, mut downlink) = (Reply::NoWindow, None, None);
+        self.apply_into(&call, &mut reply, &mut uplink, &mut downlink)?;
         Ok(Answer {
             reply,
             uplink,
@@ -78,47 +78,49 @@ impl Shard {
         })
     }
 
-    /// The same: gives the reply, and puts what goes out where something went out before, so that a call that hands nothing out moves no
-    /// room for it.
+    /// The same: puts the reply and what goes out where others were before. So no reply is copied behind the entry, whose memory may be far,
+    /// and a call that hands nothing out moves no room for it.
     pub fn apply_into(
         &mut self,
         call: &Call,
+        reply: &mut Reply,
         uplink: &mut Option<Uplink>,
         downlink: &mut Option<Downlink>,
-    ) -> Result<Reply, AllocError>
+    ) -> Result<(), AllocError>
         requires { shard_of_call call.now ≡ self.old.index }
         ensures entry { OnOk result (self.new ≡ after_call self.old call.now) }
-        ensures reply { IfOk result (λ r. r ≡ (answer_in self.old call.now).reply) }
+        ensures reply { OnOk result (reply.new ≡ (answer_in self.old call.now).reply) }
         ensures uplink { OnOk result (uplink.new ≡ (answer_in self.old call.now).uplink) }
         ensures downlink { OnOk result (downlink.new ≡ (answer_in self.old call.now).downlink) }
-        ensures err { OnErr result ((self.new ≡ self.old) × (uplink.new ≡ uplink.old) × (downlink.new ≡ downlink.old)) }
+        ensures err { OnErr result ((self.new ≡ self.old) × (reply.new ≡ reply.old) × (uplink.new ≡ uplink.old) × (downlink.new ≡ downlink.old)) }
         ensures open { finds_open self.old call.now ≡ true → IsOk result }
         ensures state { IsState self.new }
     {
         let mut sent = None;
-        let reply = self.apply_lent(call, &mut sent, downlink)?;
+        self.apply_lent(call, reply, &mut sent, downlink)?;
         put_uplink(&sent, uplink);
         self.parts.reuse(sent);
-        Ok(reply)
+        Ok(())
     }
 
     /// The same, where the uplink that goes out stays in the memory of its window.
     pub fn apply_lent(
         &mut self,
         call: &Call,
+        reply: &mut Reply,
         uplink: &mut Option<BoxedUplink>,
         downlink: &mut Option<Downlink>,
-    ) -> Result<Reply, AllocError>
+    ) -> Result<(), AllocError>
         requires { shard_of_call call.now ≡ self.old.index }
         ensures entry { OnOk result (self.new ≡ after_call self.old call.now) }
-        ensures reply { IfOk result (λ r. r ≡ (answer_in self.old call.now).reply) }
+        ensures reply { OnOk result (reply.new ≡ (answer_in self.old call.now).reply) }
         ensures uplink { OnOk result (uplink.new ≡ (answer_in self.old call.now).uplink) }
         ensures downlink { OnOk result (downlink.new ≡ (answer_in self.old call.now).downlink) }
-        ensures err { OnErr result ((self.new ≡ self.old) × (uplink.new ≡ uplink.old) × (downlink.new ≡ downlink.old)) }
+        ensures err { OnErr result ((self.new ≡ self.old) × (reply.new ≡ reply.old) × (uplink.new ≡ uplink.old) × (downlink.new ≡ downlink.old)) }
         ensures open { finds_open self.old call.now ≡ true → IsOk result }
         ensures state { IsState self.new }
     {
-        self.parts.apply(call, uplink, downlink)
+        self.parts.apply(call, reply, uplink, downlink)
     }
 
     /// Closes a window, where it is open: this is what `apply` does, and takes no memory. Where it is not open, nothing changes, and there

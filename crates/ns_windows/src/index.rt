@@ -123,6 +123,11 @@ pub(crate) fn find(
             place_of(places, first, spots, name.fcnt, sought)
         }
         Sought::Frame(frame) => {
+            // A copy mostly comes right behind the first one.
+            let last = places.len().saturating_sub(1);
+            if is_at(places, last, sought) {
+                return Some(last);
+            }
             let frame = frame.view();
             let spots = row_at(&index.addresses, address_of(&frame));
             place_of(places, first, spots, mic_of(&frame), sought)

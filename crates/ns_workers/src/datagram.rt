@@ -2,7 +2,7 @@
 ghost use Rattle.std.specs.Prelude.{◌≡◌, Ok, Err, IfErr, OnOk};
 ghost use Rattle.ns_workers.specs.Serving.{call_in};
 
-use ns_calls::{Call, DataFrame};
+use ns_calls::Call;
 use ns_link::read_datagram;
 use ns_outside::Refused;
 use ns_views::{PhyView, view};
@@ -24,12 +24,7 @@ pub(crate) fn put_call(bytes: &[u8], call: &mut Call) -> Result<(), Refused>
                 heard,
             };
         }
-        Ok(PhyView::Frame(frame)) => {
-            *call = Call::Uplink {
-                frame: DataFrame::of(&frame),
-                heard,
-            };
-        }
+        Ok(PhyView::Frame(frame)) => call.put_uplink(&frame, heard),
         Err(fault) => return Err(Refused::View(fault)),
     }
     Ok(())

@@ -23,8 +23,8 @@ returns-else-is_at-clause-none c =
     (subst (NoneIsThere (is_named name) c.args.first name.fcnt ps) (ap (open_spots c.args.first ps) c.row_at-spots.ensures ∙ c.requires.devices.spots name.eui.0) (All-filter _ (λ s. is_open_at c.args.first ps s.number) _ none)))
     (rw c.in-Name.is at c.place_of.ensures.none))
 
-pub returns-in-Frame-clause-none : goal.returns-in-Frame-clause-none
-returns-in-Frame-clause-none c =
+pub returns-else-is_at-2-clause-none : goal.returns-else-is_at-2-clause-none
+returns-else-is_at-2-clause-none c =
     let frame = c.in-Frame.frame.now in
     let ps = c.args.places.now.items in
     let address : c.address_of.result ≡ address_of frame = c.address_of.ensures ∙ ap address_of c.view-frame.ensures in

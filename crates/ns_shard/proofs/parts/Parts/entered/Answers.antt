@@ -11,11 +11,11 @@ returns c =
     let p = c.args.self.now in
     let event = c.args.event in
     let told = c.requires.answer in
-    let after = pushed-state p call event c.push.new.journal c.requires c.hand_out-reply.result c.hand_out-reply.ensures.reply c.push.ensures.made c.push.ensures.entries in
+    let after = pushed-state p call event c.push.new.journal c.requires c.hand_out-made.result c.hand_out-made.ensures.reply c.push.ensures.made c.push.ensures.entries in
     record {
-      reply = c.hand_out-reply.ensures.reply ∙ ap (λ (a : Answer). a.reply) told;
-      uplink = c.hand_out-reply.ensures.uplink ∙ ap (λ (a : Answer). a.uplink) told;
-      downlink = c.hand_out-reply.ensures.downlink ∙ (ap (λ (n : Network). downlink_of n event) c.deref.ensures ∙ ap (λ (a : Answer). a.downlink) told);
+      reply = c.hand_out-made.ensures.reply ∙ ap (λ (a : Answer). a.reply) told;
+      uplink = c.hand_out-made.ensures.uplink ∙ ap (λ (a : Answer). a.uplink) told;
+      downlink = c.hand_out-made.ensures.downlink ∙ (ap (λ (n : Network). downlink_of n event) c.deref.ensures ∙ ap (λ (a : Answer). a.downlink) told);
       state = after;
       agree = pushed-parts p call event c.push.new.journal c.requires c.room-room.result c.room-room.ensures after c.push.ensures.reserved;
     }

@@ -4,11 +4,11 @@ use Rattle.ns_shard.specs.State.{answer_in}
 use Rattle.ns_shard.proofs.Standing.{on_err, never, answer-fields}
 use Rattle.ns_shard.proofs.shard.Shard.apply.Goals as goal
 
-pub returns-in_err-reply : goal.returns-in_err-reply
-returns-in_err-reply c =
+pub returns-in_err-apply_into : goal.returns-in_err-apply_into
+returns-in_err-apply_into c =
     let r = c.from_residual.result in
     let failed = c.from_residual.ensures.0 in
-    let told = c.in_err-reply.ensures in
+    let told = c.in_err-apply_into.ensures in
     record {
       entry = IfOk-from_err r _ failed;
       answer = IfOk-from_err r _ failed;
@@ -19,10 +19,10 @@ returns-in_err-reply c =
 
 pub returns : goal.returns
 returns c =
-    let told = c.in_ok-reply.ensures in
+    let told = c.in_ok-apply_into.ensures in
     record {
       entry = told.entry;
-      answer = answer-fields c.in_ok-reply.reply c.apply_into.new.uplink c.apply_into.new.downlink (answer_in c.args.self.now c.args.call) told.reply told.uplink told.downlink;
+      answer = answer-fields c.apply_into.new.reply c.apply_into.new.uplink c.apply_into.new.downlink (answer_in c.args.self.now c.args.call) told.reply told.uplink told.downlink;
       err = tt;
       «open» = λ opened. refl;
       state = told.state;
