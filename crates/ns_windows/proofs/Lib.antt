@@ -7,3 +7,4 @@ pub mod Spots
 pub mod OpenSpots
 pub mod Sought
 pub mod Standing
+pub mod Words

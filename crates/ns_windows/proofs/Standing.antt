@@ -8,7 +8,7 @@ use Rattle.smallvec.specs.SmallVec.{SmallVec}
 use Rattle.ns_types.specs.declared.identity.WindowName.{WindowName}
 use Rattle.ns_types.specs.declared.heard.Heard.{Heard}
 use Rattle.ns_calls.proofs.LocalLemmas.{bool_tells}
-use Rattle.ns_calls.proofs.Lists.{All-append, All-weaker, All-filter}
+use Rattle.ns_calls.proofs.Lists.{All-append, All-weaker}
 use Rattle.ns_calls.proofs.NameLemmas.{same_window-refl}
 use Rattle.ns_rows.specs.Rows.{row_in}
 use Rattle.ns_windows.specs.declared.index.WindowIndex.{WindowIndex}
@@ -16,7 +16,7 @@ use Rattle.ns_windows.specs.declared.rows.Spot.{Spot}
 use Rattle.ns_windows.specs.declared.window.Window.{Window}
 use Rattle.ns_windows.specs.Windows.{is_named, is_of, window_named, window_of_frame, with_copy, with_copy_in, with_copy_of, without, AreApart, AreOfFrames}
 use Rattle.ns_windows.specs.Places.{open_of, window_at, is_open_at, places_with_copy, places_without, StartsOpen, Leaves}
-use Rattle.ns_windows.specs.Rows.{device_of, counter_of, address_of, mic_of, frame_address, frame_mic, spots_of, spots_without, open_spots, AreBefore, AreInRows, Adds, TakesClosed, Lacks}
+use Rattle.ns_windows.specs.Rows.{device_of, counter_of, address_of, mic_of, frame_address, frame_mic, spots_of, spots_without, open_spots, AreBefore, AreInRows, Adds, AllClear, Lacks}
 use Rattle.ns_windows.specs.Indexed.{AreIndexed, Agree}
 use Rattle.ns_windows.proofs.Passing.{none_found}
 use Rattle.ns_windows.proofs.Pairs.{NoTwo-filter}
@@ -24,7 +24,7 @@ use Rattle.ns_windows.proofs.Names.{of_one_name, name-alike, apart-push, copied-
 use Rattle.ns_windows.proofs.Frames.{of_one_frame, frame-alike, of_frames-push, of_frames-map}
 use Rattle.ns_windows.proofs.Opened.{open-push, starts-push, found-there, open-changed, starts-changed, open-taken, open-left, length-left, filled-is, open-filled, starts-filled, open-length}
 use Rattle.ns_windows.proofs.Spots.{spots-push, spots-set, spots-taken, spots-left}
-use Rattle.ns_windows.proofs.OpenSpots.{open-last, spots-pushed, spots-replaced, spots-emptied, spots-left_out, spots-twice, spots-lack}
+use Rattle.ns_windows.proofs.OpenSpots.{open-last, spots-pushed, spots-replaced, spots-emptied, spots-left_out, spots-lack}
 
 -- ---- rows of any key and mark
 
@@ -72,13 +72,11 @@ module _ (key mark : Window → ℕ) (n : ℕ) (ps : List (Option Window)) (old 
         before = λ k. subst (AreBefore (n + length ps)) (sym (same k)) (known.before k);
       }
 
-  -- the spots of closed windows are taken out of a row
-  pub rows-cleared : (new : List (ℕ × SmallVec Spot)) (w : Window) → TakesClosed key w n ps old new → AreInRows key mark n ps new
-  rows-cleared new w takes = record {
-    spots = λ k. ap (open_spots n ps) (takes k)
-        ∙ cond_both (key w == k) _ _ (λ ss. open_spots n ps ss ≡ spots_of key mark k n ps) (λ _. spots-twice n ps (row_in old k) ∙ known.spots k) (λ _. known.spots k);
-    before = λ k. subst (AreBefore (n + length ps)) (sym (takes k))
-        (cond_both (key w == k) _ _ (AreBefore (n + length ps)) (λ _. All-filter _ (λ s. is_open_at n ps s.number) (row_in old k) (known.before k)) (λ _. known.before k));
+  -- spots of closed windows are taken out of the rows
+  pub rows-cleared : (new : List (ℕ × SmallVec Spot)) → AllClear n ps old new → AreInRows key mark n ps new
+  rows-cleared new clears = record {
+    spots = λ k. (clears k).opened ∙ known.spots k;
+    before = λ k. (clears k).before (n + length ps) (known.before k);
   }
 
   -- a window is replaced by one with its key and mark
@@ -158,16 +156,16 @@ module _ (n : ℕ) (ps : List (Option Window)) (spots : WindowIndex) (s : Agree 
         fits = omega (arith, s.fits, ap length set, length-set ps i (Some (with_copy heard w)));
       }
 
-  -- ---- without the spots of closed windows
+  -- ---- without spots of closed windows
 
-  pub cleared-stand : (w : Window) (same : List (Option Window)) (fewer : WindowIndex) → same ≡ ps
-      → TakesClosed device_of w n same spots.devices.entries fewer.devices.entries → TakesClosed frame_address w n same spots.addresses.entries fewer.addresses.entries → Agree n ps fewer
-  cleared-stand w same fewer is devices addresses = record {
+  pub cleared-stand : (same : List (Option Window)) (fewer : WindowIndex) → same ≡ ps
+      → AllClear n same spots.devices.entries fewer.devices.entries → AllClear n same spots.addresses.entries fewer.addresses.entries → Agree n ps fewer
+  cleared-stand same fewer is devices addresses = record {
     names = s.names;
     frames = s.frames;
     index = record {
-      devices = rows-cleared device_of counter_of n ps spots.devices.entries s.index.devices fewer.devices.entries w (subst (λ qs. TakesClosed device_of w n qs spots.devices.entries fewer.devices.entries) is devices);
-      addresses = rows-cleared frame_address frame_mic n ps spots.addresses.entries s.index.addresses fewer.addresses.entries w (subst (λ qs. TakesClosed frame_address w n qs spots.addresses.entries fewer.addresses.entries) is addresses);
+      devices = rows-cleared device_of counter_of n ps spots.devices.entries s.index.devices fewer.devices.entries (subst (λ qs. AllClear n qs spots.devices.entries fewer.devices.entries) is devices);
+      addresses = rows-cleared frame_address frame_mic n ps spots.addresses.entries s.index.addresses fewer.addresses.entries (subst (λ qs. AllClear n qs spots.addresses.entries fewer.addresses.entries) is addresses);
     };
     starts = s.starts;
     fits = s.fits;

@@ -1,5 +1,5 @@
 -- Where windows are, by device and by address: for each window the number of its place, and a mark that tells it from most others of its row.
-use Rattle.std.specs.Prelude.{◌≡◌, ℕ, suc, ◌+◌, ◌-◌, ◌<◌, Bool, false, ◌&&◌, not, ◌==◌, List, [], ◌∷◌, ◌++◌, length, filter, Option, Some, None, if◌then◌else◌}
+use Rattle.std.specs.Prelude.{◌≡◌, ℕ, suc, ◌+◌, ◌-◌, ◌<◌, nat_le, Bool, false, ◌&&◌, not, ◌==◌, List, [], ◌∷◌, ◌++◌, length, filter, Option, Some, None, if◌then◌else◌}
 use Rattle.std.specs.Int.{w32, from_le_bytes}
 use Rattle.std.specs.List.{AllByRecursion}
 use Rattle.smallvec.specs.SmallVec.{SmallVec}
@@ -56,9 +56,18 @@ spots_without number spots = filter (λ s. not (s.number == number)) spots
 abbrev pub Adds : (Window → ℕ) → (Window → ℕ) → ℕ → Window → List (ℕ × SmallVec Spot) → List (ℕ × SmallVec Spot) → Type 0
 Adds key mark number w old new = (k : ℕ) → row_in new k ≡ row_in old k ++ (if key w == k then record { number = number; mark = mark w } ∷ [] else [])
 
--- the spots of closed windows go out of those of a window's key
-abbrev pub TakesClosed : (Window → ℕ) → Window → ℕ → List (Option Window) → List (ℕ × SmallVec Spot) → List (ℕ × SmallVec Spot) → Type 0
-TakesClosed key w n places old new = (k : ℕ) → row_in new k ≡ (if key w == k then open_spots n places (row_in old k) else row_in old k)
+-- the spots from a number on
+abbrev pub spots_from : ℕ → List Spot → List Spot
+spots_from n spots = filter (λ s. nat_le n s.number) spots
+
+-- spots of closed windows go out of a row, and no other ones
+pub record Clears (n : ℕ) (places : List (Option Window)) (old new : List Spot) : Type 0 where
+  pub opened : open_spots n places new ≡ open_spots n places old
+  pub before : (end : ℕ) → AreBefore end old → AreBefore end new
+
+-- out of all rows
+abbrev pub AllClear : ℕ → List (Option Window) → List (ℕ × SmallVec Spot) → List (ℕ × SmallVec Spot) → Type 0
+AllClear n places old new = (k : ℕ) → Clears n places (row_in old k) (row_in new k)
 
 -- no spot has the number
 abbrev pub Lacks : ℕ → List Spot → Type 0

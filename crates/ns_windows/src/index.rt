@@ -4,11 +4,11 @@ ghost use Rattle.std.specs.Prelude.{◌≡◌, true, nat_le, ℕ, ◌<◌, ◌^�
 ghost use Rattle.ns_rows.specs.Rows.{row_in};
 ghost use Rattle.ns_windows.specs.Windows.{count};
 ghost use Rattle.ns_windows.specs.Places.{open_of, passes, passes_at};
-ghost use Rattle.ns_windows.specs.Rows.{device_of, counter_of, address_of, mic_of, frame_address, frame_mic, Adds, TakesClosed, Lacks};
+ghost use Rattle.ns_windows.specs.Rows.{device_of, counter_of, address_of, mic_of, frame_address, frame_mic, Adds, AllClear, Lacks};
 ghost use Rattle.ns_windows.specs.Indexed.{AreIndexed};
 
 use crate::places::{Places, Sought, is_at, place_of};
-use crate::rows::{Spot, Spots, count_open, take_closed_at, take_spot};
+use crate::rows::{Spot, Spots, clear_at, count_open, take_spot};
 use crate::window::Window;
 use ns_rows::{push_at, row_at};
 use ns_types::DevEui;
@@ -62,14 +62,15 @@ pub(crate) fn are_as_many(
     spots.len() >= limit && count_open(places, first, spots) >= limit
 }
 
-/// Takes the spots of closed windows out of those of a window's device and address. It takes no memory.
-pub(crate) fn take_closed(index: &mut WindowIndex, window: &Window, places: &Places, first: usize)
-    ensures devices { TakesClosed device_of window.now first places.now.items index.old.devices.entries index.new.devices.entries }
-    ensures addresses { TakesClosed frame_address window.now first places.now.items index.old.addresses.entries index.new.addresses.entries }
+/// Takes spots of closed windows out of those of a window's device and address, so that a row has room for no more than twice the most of its
+/// windows that were open at once. It takes no memory.
+pub(crate) fn clear(index: &mut WindowIndex, window: &Window, places: &Places, first: usize)
+    ensures devices { AllClear first places.now.items index.old.devices.entries index.new.devices.entries }
+    ensures addresses { AllClear first places.now.items index.old.addresses.entries index.new.addresses.entries }
 {
-    take_closed_at(&mut index.devices, window.name.eui.0, places, first);
+    clear_at(&mut index.devices, window.name.eui.0, places, first);
     let address = address_of(&window.frame.view());
-    take_closed_at(&mut index.addresses, address, places, first);
+    clear_at(&mut index.addresses, address, places, first);
 }
 
 /// Adds the spots of a window whose place has this number. Where a growth is refused, rows without that number are as before.

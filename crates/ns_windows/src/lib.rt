@@ -9,6 +9,7 @@
 mod index;
 mod places;
 mod rows;
+mod same;
 mod window;
 mod windows;
 

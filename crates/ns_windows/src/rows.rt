@@ -3,7 +3,7 @@
 ghost use Rattle.std.specs.Prelude.{◌≡◌, ℕ, ◌==◌, count_by, if◌then◌else◌};
 ghost use Rattle.ns_rows.specs.Rows.{row_in};
 ghost use Rattle.ns_windows.specs.Places.{is_open_at};
-ghost use Rattle.ns_windows.specs.Rows.{spots_without, open_spots};
+ghost use Rattle.ns_windows.specs.Rows.{spots_without, spots_from, open_spots, Clears, AllClear};
 
 use crate::places::{Places, is_open_at};
 use ns_rows::Rows;
@@ -17,8 +17,9 @@ pub(crate) struct Spot {
     pub mark: u32,
 }
 
-/// The spots of the windows of each key, in the order of their opening. Those of closed windows stay until a window of the same key is
-/// opened, so a closing touches no row; an empty row stays until the places are numbered anew. Few devices have more than two windows at once.
+/// The spots of the windows of each key, in the order of their opening. Those of closed windows stay at least until a window of the same key
+/// is opened, so a closing touches no row; an empty row stays until the places are numbered anew. Few devices have more than two windows at
+/// once.
 pub(crate) type Spots = Rows<Spot, 2>;
 
 /// How many spots are of open windows.
@@ -31,6 +32,13 @@ pub(crate) fn count_open(places: &Places, first: usize, spots: &[Spot]) -> usize
         .count()
 }
 
+// Takes the spots before the first place out of a row.
+fn take_past(row: &mut SmallVec<Spot, 2>, first: usize)
+    ensures { row.new.items ≡ spots_from first row.old.items }
+{
+    row.retain(|spot| spot.number as usize >= first);
+}
+
 // Takes the spots of closed windows out of a row.
 fn take_closed_from(row: &mut SmallVec<Spot, 2>, places: &Places, first: usize)
     ensures { row.new.items ≡ open_spots first places.now.items row.old.items }
@@ -38,12 +46,22 @@ fn take_closed_from(row: &mut SmallVec<Spot, 2>, places: &Places, first: usize)
     row.retain(|spot| is_open_at(places, first, spot.number));
 }
 
-/// Takes the spots of closed windows out of those of a key. It takes no memory.
-pub(crate) fn take_closed_at(rows: &mut Spots, key: u64, places: &Places, first: usize)
-    ensures { (k : ℕ) → row_in rows.new.entries k ≡ (if key == k then open_spots first places.now.items (row_in rows.old.entries k) else row_in rows.old.entries k) }
+// Takes spots of closed windows out of a row: those before the first place, or all where its room is full without these.
+fn clear(row: &mut SmallVec<Spot, 2>, places: &Places, first: usize)
+    ensures { Clears first places.now.items row.old.items row.new.items }
+{
+    take_past(row, first);
+    if row.len() == row.capacity() {
+        take_closed_from(row, places, first);
+    }
+}
+
+/// Takes spots of closed windows out of those of a key, at least where there is no room for a further one. It takes no memory.
+pub(crate) fn clear_at(rows: &mut Spots, key: u64, places: &Places, first: usize)
+    ensures { AllClear first places.now.items rows.old.entries rows.new.entries }
 {
     if let Some(row) = rows.get_mut(&key) {
-        take_closed_from(row, places, first);
+        clear(row, places, first);
     }
 }
 

@@ -4,7 +4,7 @@ ghost use Rattle.std.specs.Prelude.{◌≡◌, [], ◌∷◌, ◌++◌, None, is
 ghost use Rattle.ns_calls.specs.Queries.{first};
 ghost use Rattle.ns_windows.specs.Windows.{window_named, window_of_frame, new_window, count, addition, with_copy_of, without};
 
-use crate::index::{WindowIndex, are_as_many, find, no_spots, put, reindexed, take_closed};
+use crate::index::{WindowIndex, are_as_many, clear, find, no_spots, put, reindexed};
 use crate::places::{
     Places, Sought, add_at, is_sparse, put_name, remove_empty, remove_leading_empty, take_at,
 };
@@ -198,7 +198,7 @@ impl Windows {
         }
         self.places.reserve(1)?;
         let lent = window.as_ref();
-        take_closed(&mut self.index, lent, &self.places, self.first);
+        clear(&mut self.index, lent, &self.places, self.first);
         put(&mut self.index, self.alloc, lent, number)?;
         self.places.push_back_reserved(Some(window));
         Ok(())
