@@ -7,4 +7,3 @@ pub mod Spots
 pub mod OpenSpots
 pub mod Sought
 pub mod Standing
-pub mod Words

@@ -1,14 +1,15 @@
 -- Which spots are of open windows, as one comes, changes and goes.
-use Rattle.std.proofs.Common.{◌≡◌, ◌⊎◌, ℕ, zero, suc, ◌+◌, ◌-◌, nat_le, nat_lt, ◌<◌, ◌==◌, ◌&&◌, not, Bool, true, false, List, [], ◌∷◌, ◌++◌, length, replicate, Option, None, Some, is_some, refl, sym, ap, subst, ◌∙◌, arith, inl, inr}
+use Rattle.std.proofs.Common.{◌≡◌, ◌⊎◌, ℕ, zero, suc, ◌+◌, ◌-◌, nat_le, nat_lt, ◌<◌, ◌==◌, ◌&&◌, not, Bool, true, false, List, [], ◌∷◌, ◌++◌, length, replicate, Option, None, Some, is_some, refl, sym, ap, ◌∙◌, arith, inl, inr}
 use Rattle.std.specs.List.{slice_set}
-use Rattle.std.proofs.lemmas.Bool.{true≢false}
+use Rattle.std.proofs.lemmas.Bool.{true≢false, cond_both}
 use Rattle.std.proofs.lemmas.Bool.Decides.{nat_tests}
+use Rattle.smallvec.specs.SmallVec.{SmallVec}
 use Rattle.ns_calls.proofs.LocalLemmas.{bool_tells}
 use Rattle.ns_calls.proofs.Lists.{All-weaker, All-filter}
 use Rattle.ns_windows.specs.declared.rows.Spot.{Spot}
 use Rattle.ns_windows.specs.declared.window.Window.{Window}
 use Rattle.ns_windows.specs.Places.{window_at, is_open_at}
-use Rattle.ns_windows.specs.Rows.{open_spots, spots_from, spots_without, AreBefore, Clears}
+use Rattle.ns_windows.specs.Rows.{open_spots, spots_from, spots_without, cleared_spots, AreBefore}
 use Rattle.ns_windows.proofs.Passing.{filter-none, filter-same, filter-both}
 
 -- ---- numbers and places
@@ -149,25 +150,21 @@ spots-twice n ps ss = sym (filter-both stays stays stays (λ s. twice (stays s))
     twice false = refl
 
 -- spots before the first place are of closed windows
-spots-past : (n : ℕ) (ps : List (Option Window)) (ss : List Spot) → open_spots n ps (spots_from n ss) ≡ open_spots n ps ss
+pub spots-past : (n : ℕ) (ps : List (Option Window)) (ss : List Spot) → open_spots n ps (spots_from n ss) ≡ open_spots n ps ss
 spots-past n ps ss = sym (filter-both (λ s. nat_le n s.number) (λ s. is_open_at n ps s.number) (λ s. is_open_at n ps s.number) (λ s. within (nat_le n s.number) (is_some (window_at ps (s.number - n)))) ss)
   where
     within : (b c : Bool) → b && c ≡ b && (b && c)
     within true c = refl
     within false c = refl
 
-module _ (n : ℕ) (ps : List (Option Window)) where
-  pub clears-past : (ss : List Spot) → Clears n ps ss (spots_from n ss)
-  clears-past ss = record { opened = spots-past n ps ss; before = λ end known. All-filter (λ s. s.number < end) (λ s. nat_le n s.number) ss known }
+module _ (n : ℕ) (ps : List (Option Window)) (row : SmallVec Spot) where
+  pub spots-cleared : open_spots n ps (cleared_spots n ps row) ≡ open_spots n ps row.items
+  spots-cleared = cond_both (length (spots_from n row.items) == row.capacity) _ _ (λ ss. open_spots n ps ss ≡ open_spots n ps row.items) (λ _. spots-twice n ps row.items) (λ _. spots-past n ps row.items)
 
-  pub clears-closed : (ss : List Spot) → Clears n ps ss (open_spots n ps ss)
-  clears-closed ss = record { opened = spots-twice n ps ss; before = λ end known. All-filter (λ s. s.number < end) (λ s. is_open_at n ps s.number) ss known }
-
-  pub clears-both : (old some new : List Spot) → Clears n ps old some → Clears n ps some new → Clears n ps old new
-  clears-both old some new one other = record { opened = other.opened ∙ one.opened; before = λ end known. other.before end (one.before end known) }
-
-  pub clears-none : (old new : List Spot) → new ≡ old → Clears n ps old new
-  clears-none old new is = record { opened = ap (open_spots n ps) is; before = λ end known. subst (AreBefore end) (sym is) known }
+  pub cleared-before : (end : ℕ) → AreBefore end row.items → AreBefore end (cleared_spots n ps row)
+  cleared-before end known = cond_both (length (spots_from n row.items) == row.capacity) _ _ (AreBefore end)
+      (λ _. All-filter (λ s. s.number < end) (λ s. is_open_at n ps s.number) row.items known)
+      (λ _. All-filter (λ s. s.number < end) (λ s. nat_le n s.number) row.items known)
 
 -- no spot has the number behind the last place
 pub spots-lack : (end : ℕ) (ss : List Spot) → AreBefore end ss → spots_without end ss ≡ ss

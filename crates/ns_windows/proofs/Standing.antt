@@ -1,6 +1,8 @@
 -- What is said of windows at places and of their spots stays so, as one comes, changes and goes.
 use Rattle.std.proofs.Common.{◌≡◌, ℕ, suc, ◌+◌, ◌<◌, ◌==◌, cond, not, true, List, [], ◌∷◌, ◌++◌, length, map, filter, Option, None, Some, option_map, is_some, inl, inr, refl, sym, ap, ap₂, subst, ◌∙◌, arith}
 use Rattle.std.specs.List.{slice_set}
+use Rattle.std.specs.Map.{lookup}
+use Rattle.std.specs.Option.{option_map_or}
 use Rattle.std.proofs.lemmas.Bool.{cond_both}
 use Rattle.std.proofs.lemmas.List.{length-set, length-append}
 use Rattle.std.proofs.lemmas.List.Elements.{filter-append}
@@ -16,7 +18,7 @@ use Rattle.ns_windows.specs.declared.rows.Spot.{Spot}
 use Rattle.ns_windows.specs.declared.window.Window.{Window}
 use Rattle.ns_windows.specs.Windows.{is_named, is_of, window_named, window_of_frame, with_copy, with_copy_in, with_copy_of, without, AreApart, AreOfFrames}
 use Rattle.ns_windows.specs.Places.{open_of, window_at, is_open_at, places_with_copy, places_without, StartsOpen, Leaves}
-use Rattle.ns_windows.specs.Rows.{device_of, counter_of, address_of, mic_of, frame_address, frame_mic, spots_of, spots_without, open_spots, AreBefore, AreInRows, Adds, AllClear, Lacks}
+use Rattle.ns_windows.specs.Rows.{device_of, counter_of, address_of, mic_of, frame_address, frame_mic, spots_of, spots_without, open_spots, cleared_spots, cleared_in, AreBefore, AreInRows, Adds, Clears, Lacks}
 use Rattle.ns_windows.specs.Indexed.{AreIndexed, Agree}
 use Rattle.ns_windows.proofs.Passing.{none_found}
 use Rattle.ns_windows.proofs.Pairs.{NoTwo-filter}
@@ -24,7 +26,7 @@ use Rattle.ns_windows.proofs.Names.{of_one_name, name-alike, apart-push, copied-
 use Rattle.ns_windows.proofs.Frames.{of_one_frame, frame-alike, of_frames-push, of_frames-map}
 use Rattle.ns_windows.proofs.Opened.{open-push, starts-push, found-there, open-changed, starts-changed, open-taken, open-left, length-left, filled-is, open-filled, starts-filled, open-length}
 use Rattle.ns_windows.proofs.Spots.{spots-push, spots-set, spots-taken, spots-left}
-use Rattle.ns_windows.proofs.OpenSpots.{open-last, spots-pushed, spots-replaced, spots-emptied, spots-left_out, spots-lack}
+use Rattle.ns_windows.proofs.OpenSpots.{open-last, spots-pushed, spots-replaced, spots-emptied, spots-left_out, spots-cleared, cleared-before, spots-lack}
 
 -- ---- rows of any key and mark
 
@@ -34,6 +36,22 @@ rows-none key mark n rows none = record {
   spots = λ k. ap (open_spots n []) (none k);
   before = λ k. subst (AreBefore (n + 0)) (sym (none k)) tt;
 }
+
+-- what stays of a key has its open windows' spots
+module _ (n : ℕ) (ps : List (Option Window)) (rows : List (ℕ × SmallVec Spot)) (k : ℕ) where
+  in-open : open_spots n ps (cleared_in n ps rows k) ≡ open_spots n ps (row_in rows k)
+  in-open = of_row (lookup (λ a. k == a) rows)
+    where
+      of_row : (o : Option (SmallVec Spot)) → open_spots n ps (option_map_or (cleared_spots n ps) o []) ≡ open_spots n ps (option_map_or (λ (v : SmallVec Spot). v.items) o [])
+      of_row None = refl
+      of_row (Some row) = spots-cleared n ps row
+
+  in-before : (end : ℕ) → AreBefore end (row_in rows k) → AreBefore end (cleared_in n ps rows k)
+  in-before end = of_row (lookup (λ a. k == a) rows)
+    where
+      of_row : (o : Option (SmallVec Spot)) → AreBefore end (option_map_or (λ (v : SmallVec Spot). v.items) o []) → AreBefore end (option_map_or (cleared_spots n ps) o [])
+      of_row None known = known
+      of_row (Some row) known = cleared-before n ps row end known
 
 module _ (key mark : Window → ℕ) (n : ℕ) (ps : List (Option Window)) (old : List (ℕ × SmallVec Spot)) (known : AreInRows key mark n ps old) where
   module _ (m : ℕ) (w : Window) (is : m ≡ n + length ps) where
@@ -72,11 +90,13 @@ module _ (key mark : Window → ℕ) (n : ℕ) (ps : List (Option Window)) (old 
         before = λ k. subst (AreBefore (n + length ps)) (sym (same k)) (known.before k);
       }
 
-  -- spots of closed windows are taken out of the rows
-  pub rows-cleared : (new : List (ℕ × SmallVec Spot)) → AllClear n ps old new → AreInRows key mark n ps new
-  rows-cleared new clears = record {
-    spots = λ k. (clears k).opened ∙ known.spots k;
-    before = λ k. (clears k).before (n + length ps) (known.before k);
+  -- spots of closed windows are taken out of a row
+  pub rows-cleared : (new : List (ℕ × SmallVec Spot)) (w : Window) → Clears key w n ps old new → AreInRows key mark n ps new
+  rows-cleared new w clears = record {
+    spots = λ k. ap (open_spots n ps) (clears k)
+        ∙ cond_both (key w == k) _ _ (λ ss. open_spots n ps ss ≡ open_spots n ps (row_in old k)) (λ _. in-open n ps old k) (λ _. refl) ∙ known.spots k;
+    before = λ k. subst (AreBefore (n + length ps)) (sym (clears k))
+        (cond_both (key w == k) _ _ (AreBefore (n + length ps)) (λ _. in-before n ps old k (n + length ps) (known.before k)) (λ _. known.before k));
   }
 
   -- a window is replaced by one with its key and mark
@@ -158,14 +178,14 @@ module _ (n : ℕ) (ps : List (Option Window)) (spots : WindowIndex) (s : Agree 
 
   -- ---- without spots of closed windows
 
-  pub cleared-stand : (same : List (Option Window)) (fewer : WindowIndex) → same ≡ ps
-      → AllClear n same spots.devices.entries fewer.devices.entries → AllClear n same spots.addresses.entries fewer.addresses.entries → Agree n ps fewer
-  cleared-stand same fewer is devices addresses = record {
+  pub cleared-stand : (w : Window) (same : List (Option Window)) (fewer : WindowIndex) → same ≡ ps
+      → Clears device_of w n same spots.devices.entries fewer.devices.entries → Clears frame_address w n same spots.addresses.entries fewer.addresses.entries → Agree n ps fewer
+  cleared-stand w same fewer is devices addresses = record {
     names = s.names;
     frames = s.frames;
     index = record {
-      devices = rows-cleared device_of counter_of n ps spots.devices.entries s.index.devices fewer.devices.entries (subst (λ qs. AllClear n qs spots.devices.entries fewer.devices.entries) is devices);
-      addresses = rows-cleared frame_address frame_mic n ps spots.addresses.entries s.index.addresses fewer.addresses.entries (subst (λ qs. AllClear n qs spots.addresses.entries fewer.addresses.entries) is addresses);
+      devices = rows-cleared device_of counter_of n ps spots.devices.entries s.index.devices fewer.devices.entries w (subst (λ qs. Clears device_of w n qs spots.devices.entries fewer.devices.entries) is devices);
+      addresses = rows-cleared frame_address frame_mic n ps spots.addresses.entries s.index.addresses fewer.addresses.entries w (subst (λ qs. Clears frame_address w n qs spots.addresses.entries fewer.addresses.entries) is addresses);
     };
     starts = s.starts;
     fits = s.fits;

@@ -2,6 +2,8 @@
 use Rattle.std.specs.Prelude.{◌≡◌, ℕ, suc, ◌+◌, ◌-◌, ◌<◌, nat_le, Bool, false, ◌&&◌, not, ◌==◌, List, [], ◌∷◌, ◌++◌, length, filter, Option, Some, None, if◌then◌else◌}
 use Rattle.std.specs.Int.{w32, from_le_bytes}
 use Rattle.std.specs.List.{AllByRecursion}
+use Rattle.std.specs.Map.{lookup}
+use Rattle.std.specs.Option.{option_map_or}
 use Rattle.smallvec.specs.SmallVec.{SmallVec}
 use Rattle.ns_rows.specs.Rows.{row_in}
 use Rattle.ns_views.specs.Frame.{data_fields}
@@ -60,14 +62,17 @@ Adds key mark number w old new = (k : ℕ) → row_in new k ≡ row_in old k ++ 
 abbrev pub spots_from : ℕ → List Spot → List Spot
 spots_from n spots = filter (λ s. nat_le n s.number) spots
 
--- spots of closed windows go out of a row, and no other ones
-pub record Clears (n : ℕ) (places : List (Option Window)) (old new : List Spot) : Type 0 where
-  pub opened : open_spots n places new ≡ open_spots n places old
-  pub before : (end : ℕ) → AreBefore end old → AreBefore end new
+-- the spots that stay of a row: those from the first place on, or of open windows alone where those fill its room
+abbrev pub cleared_spots : ℕ → List (Option Window) → SmallVec Spot → List Spot
+cleared_spots n places row = if length (spots_from n row.items) == row.capacity then open_spots n places row.items else spots_from n row.items
 
--- out of all rows
-abbrev pub AllClear : ℕ → List (Option Window) → List (ℕ × SmallVec Spot) → List (ℕ × SmallVec Spot) → Type 0
-AllClear n places old new = (k : ℕ) → Clears n places (row_in old k) (row_in new k)
+-- those that stay of a key
+abbrev pub cleared_in : ℕ → List (Option Window) → List (ℕ × SmallVec Spot) → ℕ → List Spot
+cleared_in n places rows key = option_map_or (cleared_spots n places) (lookup (λ k. key == k) rows) []
+
+-- spots of closed windows go out of those of a window's key
+abbrev pub Clears : (Window → ℕ) → Window → ℕ → List (Option Window) → List (ℕ × SmallVec Spot) → List (ℕ × SmallVec Spot) → Type 0
+Clears key w n places old new = (k : ℕ) → row_in new k ≡ (if key w == k then cleared_in n places old k else row_in old k)
 
 -- no spot has the number
 abbrev pub Lacks : ℕ → List Spot → Type 0

@@ -4,7 +4,7 @@ ghost use Rattle.std.specs.Prelude.{◌≡◌, true, nat_le, ℕ, ◌<◌, ◌^�
 ghost use Rattle.ns_rows.specs.Rows.{row_in};
 ghost use Rattle.ns_windows.specs.Windows.{count};
 ghost use Rattle.ns_windows.specs.Places.{open_of, passes, passes_at};
-ghost use Rattle.ns_windows.specs.Rows.{device_of, counter_of, address_of, mic_of, frame_address, frame_mic, Adds, AllClear, Lacks};
+ghost use Rattle.ns_windows.specs.Rows.{device_of, counter_of, address_of, mic_of, frame_address, frame_mic, Adds, Clears, Lacks};
 ghost use Rattle.ns_windows.specs.Indexed.{AreIndexed};
 
 use crate::places::{Places, Sought, is_at, place_of};
@@ -65,8 +65,8 @@ pub(crate) fn are_as_many(
 /// Takes spots of closed windows out of those of a window's device and address, so that a row has room for no more than twice the most of its
 /// windows that were open at once. It takes no memory.
 pub(crate) fn clear(index: &mut WindowIndex, window: &Window, places: &Places, first: usize)
-    ensures devices { AllClear first places.now.items index.old.devices.entries index.new.devices.entries }
-    ensures addresses { AllClear first places.now.items index.old.addresses.entries index.new.addresses.entries }
+    ensures devices { Clears device_of window.now first places.now.items index.old.devices.entries index.new.devices.entries }
+    ensures addresses { Clears frame_address window.now first places.now.items index.old.addresses.entries index.new.addresses.entries }
 {
     clear_at(&mut index.devices, window.name.eui.0, places, first);
     let address = address_of(&window.frame.view());

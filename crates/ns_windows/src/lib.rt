@@ -9,7 +9,6 @@
 mod index;
 mod places;
 mod rows;
-mod same;
 mod window;
 mod windows;
 

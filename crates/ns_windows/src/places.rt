@@ -7,7 +7,6 @@ ghost use Rattle.ns_windows.specs.Places.{window_at, is_open_at, passes, passes_
 ghost use Rattle.ns_windows.specs.Rows.{NoneIsThere};
 
 use crate::rows::Spot;
-use crate::same::is_same;
 use crate::window::{Addition, BoxedWindow, Window};
 use ns_calls::DataFrame;
 use ns_types::{Heard, WindowName};
@@ -33,7 +32,7 @@ fn is_sought(sought: Sought, window: &Window) -> bool
 {
     match sought {
         Sought::Name(name) => window.name == *name,
-        Sought::Frame(frame) => is_same(window.frame.bytes(), frame.bytes()),
+        Sought::Frame(frame) => window.frame.bytes() == frame.bytes(),
     }
 }
 

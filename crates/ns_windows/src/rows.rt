@@ -3,7 +3,7 @@
 ghost use Rattle.std.specs.Prelude.{◌≡◌, ℕ, ◌==◌, count_by, if◌then◌else◌};
 ghost use Rattle.ns_rows.specs.Rows.{row_in};
 ghost use Rattle.ns_windows.specs.Places.{is_open_at};
-ghost use Rattle.ns_windows.specs.Rows.{spots_without, spots_from, open_spots, Clears, AllClear};
+ghost use Rattle.ns_windows.specs.Rows.{spots_without, spots_from, open_spots, cleared_spots, cleared_in};
 
 use crate::places::{Places, is_open_at};
 use ns_rows::Rows;
@@ -34,7 +34,8 @@ pub(crate) fn count_open(places: &Places, first: usize, spots: &[Spot]) -> usize
 
 // Takes the spots before the first place out of a row.
 fn take_past(row: &mut SmallVec<Spot, 2>, first: usize)
-    ensures { row.new.items ≡ spots_from first row.old.items }
+    ensures spots { row.new.items ≡ spots_from first row.old.items }
+    ensures capacity { row.new.capacity ≡ row.old.capacity }
 {
     row.retain(|spot| spot.number as usize >= first);
 }
@@ -46,9 +47,9 @@ fn take_closed_from(row: &mut SmallVec<Spot, 2>, places: &Places, first: usize)
     row.retain(|spot| is_open_at(places, first, spot.number));
 }
 
-// Takes spots of closed windows out of a row: those before the first place, or all where its room is full without these.
+// Takes the spots before the first place out of a row, or those of all closed windows where the others fill its room.
 fn clear(row: &mut SmallVec<Spot, 2>, places: &Places, first: usize)
-    ensures { Clears first places.now.items row.old.items row.new.items }
+    ensures { row.new.items ≡ cleared_spots first places.now.items row.old }
 {
     take_past(row, first);
     if row.len() == row.capacity() {
@@ -56,9 +57,10 @@ fn clear(row: &mut SmallVec<Spot, 2>, places: &Places, first: usize)
     }
 }
 
-/// Takes spots of closed windows out of those of a key, at least where there is no room for a further one. It takes no memory.
+/// Takes the spots before the first place out of those of a key, or those of all closed windows where there is no room for a further one. It
+/// takes no memory.
 pub(crate) fn clear_at(rows: &mut Spots, key: u64, places: &Places, first: usize)
-    ensures { AllClear first places.now.items rows.old.entries rows.new.entries }
+    ensures { (k : ℕ) → row_in rows.new.entries k ≡ (if key == k then cleared_in first places.now.items rows.old.entries k else row_in rows.old.entries k) }
 {
     if let Some(row) = rows.get_mut(&key) {
         clear(row, places, first);

@@ -12,7 +12,7 @@ invariant_of-self-in_err-put c =
     let first = c.self.inside.first in
     let ps = c.self.inside.places.items in
     let fewer = c.clear.new.index in
-    let cleared = cleared-stand first ps c.self.inside.index c.self.invariant c.reserve.new.self.items fewer c.reserve.ensures.items c.clear.ensures.devices c.clear.ensures.addresses in
+    let cleared = cleared-stand first ps c.self.inside.index c.self.invariant c.as_ref-lent.result.now c.reserve.new.self.items fewer c.reserve.ensures.items c.clear.ensures.devices c.clear.ensures.addresses in
     refused-stand first ps fewer cleared c.in-Ok.number c.reserve.new.self.items c.put.new.index c.reserve.ensures.items (c.in-Ok.ensures.1 ∙ ap (λ l. first + l) (c.len.ensures ∙ c.self.inside.places.ok.0))
     c.in_err-put.ensures.err_devices c.in_err-put.ensures.err_addresses
 
@@ -24,7 +24,7 @@ invariant_of-self-2 c =
     let more = c.put.new.index in
     let m = c.in-Ok.number in
     let number : m ≡ first + length ps = c.in-Ok.ensures.1 ∙ ap (λ l. first + l) (c.len.ensures ∙ c.self.inside.places.ok.0) in
-    let cleared = cleared-stand first ps c.self.inside.index c.self.invariant c.reserve.new.self.items fewer c.reserve.ensures.items c.clear.ensures.devices c.clear.ensures.addresses in
+    let cleared = cleared-stand first ps c.self.inside.index c.self.invariant c.as_ref-lent.result.now c.reserve.new.self.items fewer c.reserve.ensures.items c.clear.ensures.devices c.clear.ensures.addresses in
     let pushed : c.push_back_reserved.new.self.items ≡ ps ++ Some c.args.window ∷ [] = c.push_back_reserved.ensures.items ∙ ap (λ qs. qs ++ Some c.args.window ∷ []) c.reserve.ensures.items in
     pushed-stand first ps fewer cleared c.args.window m c.push_back_reserved.new.self.items more
     (ap (window_named c.args.window.name) c.self.view_is ∙ c.requires.name) (ap (window_of_frame c.args.window.frame) c.self.view_is ∙ c.requires.frame) pushed number
