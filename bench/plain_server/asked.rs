@@ -61,12 +61,12 @@ impl Receipt {
 
 /// A shard whose windows hold their copies.
 #[derive(Default)]
-pub struct Own { pub shard: Shard, windows: Vec<Vec<Box<OwnWindow>>>, closed: Vec<Box<OwnWindow>>, pub made: u64, trimmed: u64 }
+pub struct Own { pub shard: Shard, windows: Vec<Vec<Box<OwnWindow>>>, closed: Vec<Box<OwnWindow>>, pub made: u64 }
 
 impl Own {
     pub fn new(shard: Shard) -> Own {
         let windows = shard.devices.iter().map(|_| Vec::new()).collect();
-        Own { shard, windows, closed: Vec::with_capacity(AT_A_TIME), made: 0, trimmed: 0 }
+        Own { shard, windows, closed: Vec::with_capacity(AT_A_TIME), made: 0 }
     }
 
     /// Makes a call: its entry is added, and the receipt put in the place of another.
@@ -190,12 +190,12 @@ impl Own {
         }
     }
 
-    /// Drops the entries on which no answer rests.
-    fn trim(&mut self) {
+    /// Drops the entries on which no answer rests, and gives the number of the next one.
+    fn trim(&mut self) -> u64 {
         let mut entries = std::mem::take(&mut self.shard.entries);
         entries.retain(|entry| self.keeps(entry));
         self.shard.entries = entries;
-        self.trimmed = self.made;
+        self.made
     }
 }
 
@@ -356,6 +356,8 @@ impl Live<'_> {
     /// Closes windows as they are due, some at a time.
     pub fn close_all_asked(&self, asked: &Asked, jobs: &Receiver<CloseJob>) {
         let mut held = None;
+        // The shards are not trimmed all at once: at first their marks lie a sixteenth of so many entries apart.
+        let mut marks: [u64; SHARDS] = std::array::from_fn(|shard| shard as u64 * (TRIM / SHARDS as u64));
         loop {
             let first = match held.take().map(Ok).unwrap_or_else(|| jobs.recv()) {
                 Ok(job) => job,
@@ -381,12 +383,9 @@ impl Live<'_> {
                 }
             }
             self.close_batch(asked, &batch);
-            for shard in 0..SHARDS {
-                if asked.made[shard].load(Ordering::SeqCst) >= TRIM {
-                    let mut own = asked.shards[shard].lock().unwrap();
-                    if own.made - own.trimmed >= TRIM {
-                        own.trim();
-                    }
+            for (shard, mark) in marks.iter_mut().enumerate() {
+                if asked.made[shard].load(Ordering::SeqCst).saturating_sub(*mark) >= TRIM {
+                    *mark = asked.shards[shard].lock().unwrap().trim();
                 }
             }
         }
