@@ -23,7 +23,7 @@ use std::sync::Mutex;
 use std::thread;
 use std::time::{Duration, Instant};
 
-const TRIM: u64 = 10_000;
+const TRIM: u64 = 5_000;
 const AT_A_TIME: usize = 64;
 const NAP: Duration = Duration::from_millis(3);
 const LATE_MS: u64 = 2000;

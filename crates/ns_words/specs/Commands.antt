@@ -73,7 +73,7 @@ limit_rules =
     else_value (codes "200") (number_rule (codes "window") 60000)
     ∷ number_rule (codes "stop-after") 4294967295
     ∷ switch_rule (codes "stop-at-end-of-input")
-    ∷ else_value (codes "10000") (option_rule (codes "trim"))
+    ∷ else_value (codes "5000") (option_rule (codes "trim"))
     ∷ []
 
 -- those about what the calls of the server are put down in

@@ -23,9 +23,9 @@ use std::net::SocketAddr;
 // What `--version` prints behind the program's name.
 const VERSION: &str = "0.1.0";
 
-// After how many entries a shard is trimmed where no word says so: sixteen shards then keep some 54 MB of entries, and up to 108 MB
+// After how many entries a shard is trimmed where no word says so: sixteen shards then keep some 27 MB of entries, and up to 54 MB
 // while their lists grow.
-const TRIM: &str = "10000";
+const TRIM: &str = "5000";
 
 // What asks for no trims.
 const NEVER: &str = "never";

@@ -22,7 +22,7 @@ fn are_usual(options: &ServeOptions<'_>) -> bool {
         && options.window_ms == 200
         && options.stop_after.is_none()
         && !options.stop_at_end
-        && options.trim == Some(10_000)
+        && options.trim == Some(5_000)
         && options.output == Output::Lines
         && !options.events
         && !options.closing
@@ -176,7 +176,7 @@ const SERVING: &[(&str, &str, char)] = &[
     ("--stop-after", "4294967296", 'E'),
     ("--trim", "1", 'S'),
     ("--trim", "4294967295", 'S'),
-    ("--trim", "10000", 'U'),
+    ("--trim", "5000", 'U'),
     ("--trim", "never", 'S'),
     ("--trim", "0", 'V'),
     ("--trim", "4294967296", 'V'),
