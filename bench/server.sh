@@ -1,7 +1,7 @@
 #!/usr/bin/env bash
 # Times calls by Shard::apply on one thread, and by one Server with 1, 2 and 4 threads on shards of their own: `worked_texts times server`.
 #   server.sh [DEVICES FRAMES ROUNDS]    each device joins, and each of its frames is heard by three gateways and its window closed; a
-#                                        shard is trimmed after every 10,000 entries, as by `serve`; of each way the fastest round counts
+#                                        shard is trimmed after every 10,000 entries; of each way the fastest round counts
 #   server.sh --instructions             instructions of a call on one thread, by callgrind
 #   server.sh --trim [DEVICES FRAMES ROUNDS]
 #                                        how long a trim of one shard takes, for which calls on the shard wait: all devices are of that

@@ -1,6 +1,6 @@
 //! Times calls by `Shard::apply` on one thread, and by one `Server` with 1, 2 and 4 threads on shards of their own. The calls are whole
 //! traffic: each device joins, and each of its frames is heard by three gateways and its window closed; a shard is trimmed after every 10,000
-//! entries, as by `serve`. How many entries were made goes to standard output, the nanoseconds of each round of calls to standard error.
+//! entries. How many entries were made goes to standard output, the nanoseconds of each round of calls to standard error.
 //!
 //! The last way is a trim: all devices are of one shard, and after the calls the shard is trimmed twice. How many entries were made and how
 //! many each trim handed out goes to standard output, the nanoseconds of the two trims to standard error.

@@ -7,7 +7,7 @@ use ns_shard::Shard;
 use std::alloc::{AllocError, Global};
 use std::time::Clock;
 
-// After how many entries a shard is trimmed, as `serve` does where nothing else is asked for.
+// After how many entries a shard is trimmed.
 const TRIM: u64 = 10_000;
 
 /// Whether the entry of a number is the last one before a trim.
