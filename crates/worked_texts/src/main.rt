@@ -8,10 +8,11 @@
 //! - `frames`: questions to the crates for frames, from AES to the device for tests;
 //! - `joins`: rosters, messages to and from join servers, and exchanges with these.
 //!
-//! Behind `times` stand parts that are timed (`times.rt`), for `bench/*.sh`: here, since a program of its own would be linked and compiled
-//! once more.
+//! Behind `times` stand parts that are timed (`times.rt`), for `bench/*.sh`, and `embedding` alone runs the example of a program that embeds
+//! the server (`embedding.rt`): here, since a program of its own would be linked and compiled once more.
 #![tactic(auto)]
 
+mod embedding;
 mod forwarders;
 mod frames;
 mod joins;
@@ -125,6 +126,7 @@ fn main(rt: HostRuntime) -> anyhow::Result<()> {
         let word = word.as_str();
         match (kind_of(word), kind) {
             (Some(named), _) => kind = Some(named),
+            (None, _) if word == "embedding" => embedding::run(&rt)?,
             (None, Some(kind)) => make_named(&rt, kind, word)?,
             (None, None) => bail!("no kind of text: {word}"),
         }

@@ -1,9 +1,8 @@
 //! A program that embeds the network server: it runs a few steps over a roster of one device, and takes one call to a shard of its own.
 //! Then threads share a server (`threads.rt`).
 //!
-//! It is the example of docs/EMBEDDING.md. Its comments say what an embedder may rely on at each call, as the contract of that call
-//! states it.
-#![tactic(auto)]
+//! It is the example of docs/EMBEDDING.md, and `tools/new_program.py` makes a crate of it. Its comments say what an embedder may rely on
+//! at each call, as the contract of that call states it.
 
 ghost use Rattle.std.specs.Prelude.{◌≡◌, [], IfOk};
 ghost use Rattle.std.specs.Arc.{arc_value};
@@ -21,7 +20,8 @@ use ns_shard::{Shard, Shards, Taken};
 use ns_types::{GatewayId, Heard};
 use std::alloc::{AllocError, Global};
 use std::io;
-use std::sync::Arc;
+use std::sync::{Arc, Wait};
+use std::thread::Threads;
 
 const ROSTER: &str =
     r#"{"version":1,"net_id":"000024","rx1_offset":0,"rx_delay":1,"devices":[{"dev_eui":"000000000000000d","join_eui":"0102030401020304","slot":1998321}]}"#;
@@ -96,8 +96,9 @@ fn own_shard(rt: &impl Print, alloc: Global, roster: Arc<Roster>) -> anyhow::Res
     Ok(())
 }
 
-fn main(rt: HostRuntime) -> anyhow::Result<()> {
+/// Runs the example, and prints what came of it.
+pub fn run<R: Threads + Wait + Print + AllocGlobal + Sync>(rt: &R) -> anyhow::Result<()> {
     let alloc = rt.alloc();
-    one_thread(&rt, alloc)?;
-    threads::two_workers(&rt, alloc)
+    one_thread(rt, alloc)?;
+    threads::two_workers(rt, alloc)
 }

@@ -10,7 +10,7 @@ ghost use Rattle.ns_shard.specs.State.{no_entries};
 ghost use Rattle.ns_tally.specs.Tally.{AreNamed};
 ghost use Rattle.ns_server.specs.Settled.{AreStates, MergesToLegal};
 
-use crate::workers::{round, trim_all};
+use crate::embedding::workers::{round, trim_all};
 use anyhow::anyhow;
 use ns_calls::Answer;
 use ns_lines::lines;

@@ -2,7 +2,7 @@
 
 ghost use Rattle.std.specs.Prelude.{◌≡◌, ◌∷◌, [], map, IfOk, Some};
 ghost use Rattle.ns_shard.specs.declared.step.Act.TheVariants.{Answer, Close};
-ghost use Rattle.example_embedding.specs.Heard.{heard};
+ghost use Rattle.worked_texts.specs.Heard.{heard};
 
 use hex::FromHexError;
 use ns_shard::{Act, DatagramBytes, OwnedBytes, Step};

@@ -3,7 +3,7 @@ use Rattle.std.proofs.lemmas.Result.{IfOk-weaker}
 use Rattle.std.specs.Arc.{arc_value}
 use Rattle.ns_calls.specs.Out.{answer}
 use Rattle.ns_shard.specs.State.{answer_in}
-use Rattle.example_embedding.proofs.first_answer.Goals as goal
+use Rattle.worked_texts.proofs.embedding.first_answer.Goals as goal
 
 pub returns : goal.returns
 returns c =

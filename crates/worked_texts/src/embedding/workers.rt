@@ -1,9 +1,11 @@
 //! What each worker does: its devices join, and then it hears an uplink of each device. And what is done between two rounds of them: trims.
+//!
+//! A worker's functions are over what makes calls (`Calls`), as the server does.
 
-use crate::threads::DEVICES;
+use crate::embedding::threads::DEVICES;
 use ns_calls::Call;
-use ns_outside::{Open, Receipt};
-use ns_server::{Naming, Pass, Server};
+use ns_outside::{Calls, Open, Receipt};
+use ns_server::{Naming, Server};
 use ns_shard::TrimFault;
 use std::alloc::{AllocError, Global};
 use std::sync::Wait;
@@ -12,14 +14,17 @@ use std::thread::Threads;
 use test_device::traffic::{join, join_reply, uplink};
 
 /// Lends the server to a thread for each pass, and waits for all of them. The passes come back; the receipts go behind the others.
-pub fn round<B: Naming + Send + Sync, R: Threads + Wait + Sync>(
+pub fn round<S: Calls<R> + Sync, R: Threads + Sync>(
     rt: &R,
     alloc: Global,
-    server: &Server<B>,
-    passes: Vec<Pass<B>>,
+    server: &S,
+    passes: Vec<S::Pass>,
     counter: u32,
     receipts: &mut Vec<Receipt>,
-) -> Result<Vec<Pass<B>>, AllocError> {
+) -> Result<Vec<S::Pass>, AllocError>
+where
+    S::Pass: Send,
+{
     let done = thread::map_vec(
         rt,
         passes,
@@ -49,25 +54,27 @@ pub fn trim_all<B: Naming, R: Wait>(
 }
 
 // Makes a call, and keeps its receipt. Where memory is refused, no entry was made, or its receipt is not kept.
-fn make<B: Naming, R: Wait>(
+fn make<S: Calls<R>, R>(
     rt: &R,
-    server: &Server<B>,
-    pass: &mut Pass<B>,
+    server: &S,
+    pass: &mut S::Pass,
     call: Call,
     receipts: &mut Vec<Receipt>,
 ) -> Result<(), AllocError> {
-    receipts.push(server.call(rt, pass, call, &Open)?)?;
+    let mut receipt = Receipt::empty();
+    server.call_into(rt, pass, &call, &Open, &mut receipt)?;
+    receipts.push(receipt)?;
     Ok(())
 }
 
 // All devices join, and the uplink with this counter of each is heard. Calls that another worker made first are answered as copies, or as too late.
-fn work<B: Naming, R: Wait>(
+fn work<S: Calls<R>, R>(
     rt: &R,
     alloc: Global,
-    server: &Server<B>,
-    pass: Pass<B>,
+    server: &S,
+    pass: S::Pass,
     counter: u32,
-) -> (Pass<B>, Vec<Receipt>) {
+) -> (S::Pass, Vec<Receipt>) {
     let mut pass = pass;
     let mut receipts = Vec::new(alloc);
     for device in 0..DEVICES {
