@@ -3,20 +3,28 @@
 
     python3 tools/gate_costs.py -- rt ci [NAME ..]      runs it, and prints the tables of docs/GATE.md when it has ended
     python3 tools/gate_costs.py -- rt ci --anew         where a kit keeps what it proved on this machine
+    python3 tools/gate_costs.py --functions N -- ..     also the N functions that took longest, as `proof_costs.py` tells them
 
 Each second it looks at the programs that work in a folder of `crates/`, or that a run in this folder started, and at the processor time that
 each has taken, the system's share with it. What a program takes behind its last look is missing: half a second in the mean. Wrong bodies are
 told apart from proofs, by the copy of the tree that they are tried in. The longest chain is that of crates that stand on one another, by
 crates.txt, each with what its own proof took; it ends at the program, and at any test.
+
+While a crate is checked its modules lie in a folder of the system's temporary one, in the order of the proof: by their times a function's
+seconds are told, by the clock.
 """
 import collections
 import os
 import subprocess
 import sys
+import tempfile
 import time
+
+import proof_costs
 
 ROOT = os.path.dirname(os.path.dirname(os.path.abspath(__file__)))
 TICKS = os.sysconf('SC_CLK_TCK')
+USAGE = 'usage: gate_costs.py [--functions N] -- COMMAND ..'
 
 
 def read(path):
@@ -41,6 +49,33 @@ def look(seen):
             name = 'rt'
         if name is not None:
             seen[pid, fields[19]] = ((parts[0], name), taken)
+
+
+def look_at_modules(modules):
+    """Puts the modules of the checks that run: of each folder its files, each with its time and its size."""
+    room = tempfile.gettempdir()
+    for folder in os.listdir(room):
+        if folder.startswith('rattle-logic-built-locked-'):
+            try:
+                with os.scandir(os.path.join(room, folder)) as found:
+                    for file in found:
+                        if file.name not in modules[folder]:
+                            told = file.stat()
+                            modules[folder][file.name] = (told.st_mtime, told.st_size)
+            except OSError:
+                continue
+
+
+def dearest(modules, most):
+    """Prints the functions that took longest."""
+    rows = []
+    for files in modules.values():
+        crates = collections.Counter(name.split('-')[1] for name in files if name.startswith('Rattle-'))
+        if crates:
+            crate = crates.most_common(1)[0][0]
+            rows += proof_costs.rows_of(crate, sorted((when, name, size) for name, (when, size) in files.items()))
+    print()
+    proof_costs.show(rows, most)
 
 
 def libraries(folder):
@@ -71,14 +106,18 @@ def table(costs):
 
 
 def main():
-    words = sys.argv[1:]
+    words, most = sys.argv[1:], 0
+    if words[:1] == ['--functions'] and words[1:2] and words[1].isdigit():
+        words, most = words[2:], int(words[1])
     if words[:1] != ['--'] or len(words) < 2:
-        sys.exit(__doc__)
-    seen, begun = {}, time.time()
+        sys.exit(USAGE)
+    seen, modules, begun = {}, collections.defaultdict(dict), time.time()
     run = subprocess.Popen(words[1:])
     try:
         while run.poll() is None:
             look(seen)
+            if most:
+                look_at_modules(modules)
             time.sleep(1)
     except KeyboardInterrupt:
         run.terminate()
@@ -98,6 +137,8 @@ def main():
         print('%.1f min to %s: %s' % (cost / 60, name, ', '.join('%s %.1f' % (one, proofs.get(one, 0) / 60) for one in crates)))
     whole = sum(proofs.values()) + sum(sum(costs.values()) for costs in by_tree.values())
     print('\n%.0f processor minutes in all, %.0f min by the clock' % (whole / 60, (time.time() - begun) / 60))
+    if most:
+        dearest(modules, most)
     sys.exit(run.returncode)
 
 

@@ -42,6 +42,17 @@ def costs_of(crate, files):
     return seconds, megabytes
 
 
+def rows_of(crate, files):
+    """The seconds, the crate, the name and the megabytes of each function."""
+    seconds, megabytes = costs_of(crate, files)
+    return [(took, crate, what, megabytes[what]) for what, took in seconds.items()]
+
+
+def show(rows, most):
+    for took, crate, what, size in sorted(rows, reverse=True)[:most]:
+        print('%7.1f s  %-20s %-60s %5.1f MB' % (took, crate, what, size))
+
+
 def main():
     parser = argparse.ArgumentParser(description=__doc__, formatter_class=argparse.RawDescriptionHelpFormatter)
     parser.add_argument('crates', nargs='*', metavar='CRATE')
@@ -49,10 +60,8 @@ def main():
     options = parser.parse_args()
     rows = []
     for crate in options.crates or sorted(os.listdir(CRATES)):
-        seconds, megabytes = costs_of(crate, files_of(os.path.join(CRATES, crate, 'out', 'incremental')))
-        rows += [(took, crate, what, megabytes[what]) for what, took in seconds.items()]
-    for took, crate, what, size in sorted(rows, reverse=True)[:options.most]:
-        print('%7.1f s  %-20s %-60s %5.1f MB' % (took, crate, what, size))
+        rows += rows_of(crate, files_of(os.path.join(CRATES, crate, 'out', 'incremental')))
+    show(rows, options.most)
 
 
 if __name__ == '__main__':
