@@ -1,5 +1,6 @@
 //! A runtime with a logger of its own, with a clock that a test may hold, and with short sleeps.
 
+use crate::parties::{nap, naps};
 use log::filter::{Builder, FilteredLog};
 use log::kv::Source;
 use log::sink::Locked;
@@ -21,47 +22,49 @@ pub struct Held {
     pub reads: AtomicU64,
 }
 
-/// A runtime that logs into memory. Its clock is the runtime's, or stands at a time.
-#[derive(Drop)]
-pub struct Around<'a, R: Wait> {
-    rt: &'a R,
-    log: FilteredLog<Locked<&'a R, Vec<u8>>>,
-    held: &'a Held,
-}
+// How often the clock of a server is read before it has looked at all that came.
+const LOOKS: u64 = 20;
 
-/// A runtime that logs these lines into memory, of which there is room for 64 KB, and whose clock stands where it is held.
-pub fn logging<'a, R: Wait>(
-    rt: &'a R,
-    alloc: Global,
-    lines: &str,
-    held: &'a Held,
-) -> Result<Around<'a, R>, AllocError> {
-    let filter = Builder::new(alloc).parse(lines)?.build();
-    let lines = Locked::new(rt, Vec::with_capacity(alloc, 65_536)?);
-    Ok(Around {
-        rt,
-        log: FilteredLog::new(lines, filter),
-        held,
-    })
-}
-
-impl<'a, R: Wait> Around<'a, R> {
-    /// What was logged.
-    pub fn into_lines(self) -> Vec<u8> {
-        let Around {
-            rt: _,
-            log,
-            held: _,
-        } = self;
-        log.into_inner().into_inner()
+impl Held {
+    /// The clock stands at this time for a second, and longer where the threads of the server have not read it so often by then.
+    pub fn stand<R: Clock>(&self, rt: &R, ms: u64) -> Option<()> {
+        self.ms.store(ms, Ordering::SeqCst);
+        let before = self.reads.load(Ordering::SeqCst);
+        naps(rt, 100);
+        for _ in 0..1_000 {
+            if self.reads.load(Ordering::SeqCst).wrapping_sub(before) >= LOOKS {
+                return Some(());
+            }
+            nap(rt);
+        }
+        None
     }
 }
 
-impl<'a, R: Wait> Wait for Around<'a, R> {}
+/// A runtime that logs by a logger of its own. Its clock is the runtime's, or stands at a time.
+#[derive(Drop)]
+pub struct Around<'a, R, L> {
+    pub rt: &'a R,
+    pub log: &'a L,
+    pub held: &'a Held,
+}
 
-impl<'a, R: Threads + Wait> Threads for Around<'a, R> {}
+/// A logger of these lines into memory, of which there is room for 64 KB.
+pub fn logger<'a, R: Wait>(
+    rt: &'a R,
+    alloc: Global,
+    lines: &str,
+) -> Result<FilteredLog<Locked<&'a R, Vec<u8>>>, AllocError> {
+    let filter = Builder::new(alloc).parse(lines)?.build();
+    let lines = Locked::new(rt, Vec::with_capacity(alloc, 65_536)?);
+    Ok(FilteredLog::new(lines, filter))
+}
 
-impl<'a, R: Clock + Wait> Clock for Around<'a, R> {
+impl<'a, R: Wait, L> Wait for Around<'a, R, L> {}
+
+impl<'a, R: Threads, L> Threads for Around<'a, R, L> {}
+
+impl<'a, R: Clock, L> Clock for Around<'a, R, L> {
     fn monotonic(&self) -> io::Result<Duration> {
         self.held.reads.fetch_add(1, Ordering::SeqCst);
         match self.held.ms.load(Ordering::SeqCst) {
@@ -80,7 +83,7 @@ impl<'a, R: Clock + Wait> Clock for Around<'a, R> {
     }
 }
 
-impl<'a, R: Net + Wait> Net for Around<'a, R> {
+impl<'a, R: Net, L> Net for Around<'a, R, L> {
     type Stream = R::Stream;
 
     type Listener = R::Listener;
@@ -102,7 +105,7 @@ impl<'a, R: Net + Wait> Net for Around<'a, R> {
     }
 }
 
-impl<'a, R: Wait> Log for Around<'a, R> {
+impl<'a, R, L: Log> Log for Around<'a, R, L> {
     fn enabled(&self, metadata: &Metadata<'_>) -> bool {
         self.log.enabled(metadata)
     }

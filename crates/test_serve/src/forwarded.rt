@@ -6,7 +6,7 @@ use crate::trial::{Asked, Life, Sockets, Told, Trial, USUAL, Want, tried};
 use std::test::*;
 
 // A device joins and sends a confirmed uplink. Its gateway's forwarder sends by one socket, and asks for downlinks by another.
-const FORWARDED: Trial = Trial {
+static FORWARDED: Trial = Trial {
     asked: Asked {
         port: 17031,
         sockets: Sockets::Forwarders,
@@ -35,13 +35,13 @@ const FORWARDED: Trial = Trial {
 /// power of the options.
 #[test]
 fn forwarder_over_loopback(rt: HostRuntime) {
-    assert!(rt; tried(&rt, &rt, &FORWARDED).is_some());
+    tried(&rt, &rt, &FORWARDED);
 }
 
 // A device joins by a gateway of the server's own datagrams, and sends a confirmed uplink. Then a forwarder asks for downlinks: its worker
 // waits 100 ms from then on. After some 30 ms of them comes one byte: the closer, which looks each 10 ms, leaves the window to the end,
 // since a worker still hears.
-const BOTH_HEARD: Trial = Trial {
+static BOTH_HEARD: Trial = Trial {
     asked: Asked {
         port: 17033,
         sockets: Sockets::Both,
@@ -78,5 +78,5 @@ const BOTH_HEARD: Trial = Trial {
 /// A server hears a forwarder beside own datagrams, closes at its end the window that is open then, and counts that.
 #[test]
 fn both_sockets_are_heard(rt: HostRuntime) {
-    assert!(rt; tried(&rt, &rt, &BOTH_HEARD).is_some());
+    tried(&rt, &rt, &BOTH_HEARD);
 }

@@ -38,8 +38,10 @@ const OPEN: &str = "test_serve_open";
 
 const OPEN_UP: &str = "test_serve_open/up";
 
+const FOLDERS: &[&str] = &[FOLDER, KILLED, OPEN];
+
 // The files of the record, and those that keep what a kill would have left of them.
-const KEPT: [(&str, &str); 2] = [
+static KEPT: [(&str, &str); 2] = [
     ("test_serve_lives/steps", "test_serve_killed/steps"),
     ("test_serve_lives/up", "test_serve_killed/up"),
 ];
@@ -132,7 +134,7 @@ pub fn begun_of<H: Files<File = File>>(
 
 /// Keeps what a kill would have left of the record now.
 pub fn keep_killed<H: Files>(host: &H) -> Option<()> {
-    for (from, to) in KEPT {
+    for (from, to) in &KEPT {
         fs::copy(host, from, to).ok()?;
     }
     Some(())
@@ -232,7 +234,7 @@ pub const SHORT: Asked = Asked {
 // A device through four lives, one after the other: two of the record, one of what a kill would have left of it, and one of a record with
 // an open window. Uplinks 0 and 1 are of the first life, and uplink 1 is sent again in the second; the third is what a kill would have left
 // after the first acknowledgement, and there uplink 0 is sent again. In the fourth life it is waited for the `up` line of the open window.
-const LIVES: Trial = Trial {
+static LIVES: Trial = Trial {
     asked: SHORT,
     levels: "off",
     stands_ms: 0,
@@ -293,7 +295,7 @@ const LIVES: Trial = Trial {
 
 // Makes the folders of the four lives. What a kill left while a window was open is the record without its last step.
 fn make_folders<H: Files + Alloc>(host: &H, alloc: Global) -> Option<()> {
-    for folder in [FOLDER, KILLED, OPEN] {
+    for folder in FOLDERS {
         emptied(host, folder)?;
     }
     write(host, alloc, OPEN, &[JOIN, KEPT_ANSWER, CONFIRMED], &[])
@@ -302,7 +304,7 @@ fn make_folders<H: Files + Alloc>(host: &H, alloc: Global) -> Option<()> {
 // Whether the file of `up` lines of the record has those of both lives. The folders of the four lives are taken away.
 fn leave_both<H: Files<File = File> + Alloc>(host: &H, alloc: Global) -> bool {
     let mut is_left = has_lines(host, alloc, FOLDER, "up", &[UP_0, UP_1, UP]);
-    for folder in [FOLDER, KILLED, OPEN] {
+    for folder in FOLDERS {
         is_left = fs::remove_dir_all(host, folder).is_ok() && is_left;
     }
     is_left
@@ -314,7 +316,7 @@ fn leave_both<H: Files<File = File> + Alloc>(host: &H, alloc: Global) -> bool {
 #[test]
 fn lives_are_one_run(rt: HostRuntime) {
     assert!(rt; make_folders(&rt, rt.alloc()).is_some());
-    assert!(rt; tried(&rt, &rt, &LIVES).unwrap_or(0) >= 3);
+    assert!(rt; tried(&rt, &rt, &LIVES) >= 3);
     assert!(rt; leave_both(&rt, rt.alloc()));
 }
 
@@ -326,7 +328,7 @@ struct Start {
     behind: [&'static [&'static str]; 2],
 }
 
-const STARTS: [Start; 3] = [
+static STARTS: [Start; 3] = [
     Start {
         roster: WITHOUT,
         before: [TORN_STEPS, &[TORN_UP]],
@@ -347,18 +349,6 @@ const STARTS: [Start; 3] = [
     },
 ];
 
-// Why a start is refused, if it is.
-fn refused<H: Files<File = File>>(
-    host: &H,
-    alloc: Global,
-    roster: &Arc<Roster>,
-) -> Option<RecordFault> {
-    match resumed(host, alloc, roster, REFUSED, false) {
-        Ok(_) => None,
-        Err(why) => Some(why),
-    }
-}
-
 // Whether the files are these.
 fn are_these<H: Files<File = File>>(host: &H, alloc: Global, files: &[&[&str]; 2]) -> bool {
     has_lines(host, alloc, REFUSED, "steps", files[0])
@@ -369,8 +359,8 @@ fn are_these<H: Files<File = File>>(host: &H, alloc: Global, files: &[&[&str]; 2
 fn starts_so<H: Files<File = File>>(host: &H, alloc: Global, start: &Start) -> Option<bool> {
     write(host, alloc, REFUSED, start.before[0], start.before[1])?;
     let roster = roster_of(alloc, start.roster)?;
-    let is_refused = refused(host, alloc, &roster) == start.why;
-    Some(is_refused && are_these(host, alloc, &start.behind))
+    let is_so = resumed(host, alloc, &roster, REFUSED, false).err() == start.why;
+    Some(is_so && are_these(host, alloc, &start.behind))
 }
 
 // Whether each start comes to what it says.

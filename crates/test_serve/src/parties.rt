@@ -39,6 +39,13 @@ pub fn nap<R: Clock>(rt: &R) {
     let _ = thread::sleep(rt, Duration::from_millis(10));
 }
 
+/// Sleeps so many times for 10 ms.
+pub fn naps<R: Clock>(rt: &R, times: u32) {
+    for _ in 0..times {
+        nap(rt);
+    }
+}
+
 /// A device that has not joined.
 pub fn device_of(eui: DevEui) -> TestDevice {
     TestDevice::new(eui, JoinEui(0x0102_0304_0102_0304), APP_KEY)
@@ -66,11 +73,11 @@ pub fn local(port: u16) -> SocketAddr {
 /// A socket of a gateway, whose receives wait five seconds.
 pub fn socket_to<R: Net>(rt: &R, port: u16) -> Option<UdpSocket> {
     let socket = UdpSocket::bind(rt, local(0)).ok()?;
-    socket.connect(local(port)).ok()?;
-    socket
-        .set_read_timeout(Some(Duration::from_millis(5000)))
-        .ok()?;
-    Some(socket)
+    let wait = Some(Duration::from_millis(5000));
+    if socket.connect(local(port)).is_ok() && socket.set_read_timeout(wait).is_ok() {
+        return Some(socket);
+    }
+    None
 }
 
 // The connection that comes within five seconds.
@@ -92,13 +99,18 @@ fn body(bytes: &[u8]) -> &[u8] {
     }
 }
 
+// Reads what has come of a request behind these bytes.
+fn read_more(stream: &TcpStream, bytes: &mut Vec<u8>) -> Option<()> {
+    let mut buf = [0u8; 1024];
+    let n = { stream }.read(&mut buf).ok()?;
+    bytes.extend_from_slice(&buf[..n]).ok()
+}
+
 // Reads a JoinReq of 281 bytes with its head.
 fn request(alloc: Global, stream: &TcpStream) -> Option<Vec<u8>> {
     let mut bytes: Vec<u8> = Vec::new(alloc);
-    let mut buf = [0u8; 1024];
     for _ in 0..TRIES {
-        let n = { stream }.read(&mut buf).ok()?;
-        bytes.extend_from_slice(&buf[..n]).ok()?;
+        read_more(stream, &mut bytes)?;
         if body(bytes.as_slice()).len() >= 281 {
             return Some(bytes);
         }
@@ -106,23 +118,12 @@ fn request(alloc: Global, stream: &TcpStream) -> Option<Vec<u8>> {
     None
 }
 
-// The head of an answer with so many bytes behind it.
-fn head(alloc: Global, length: usize) -> Option<String> {
-    format!(in alloc; "HTTP/1.1 200 OK\r\nContent-Length: {length}\r\n\r\n").ok()
-}
-
-// Writes a part of an answer. Whether it was written.
-fn write(stream: &TcpStream, part: &str) -> bool {
-    { stream }.write_all(part.as_bytes()).is_ok()
-}
-
-// Answers with this text.
+// Answers with this text, behind a head of its own.
 fn respond(alloc: Global, stream: &TcpStream, text: &str) -> Option<()> {
-    let head = head(alloc, text.len())?;
-    if write(stream, head.as_str()) && write(stream, text) {
-        return Some(());
-    }
-    None
+    let length = text.len();
+    let head = format!(in alloc; "HTTP/1.1 200 OK\r\nContent-Length: {length}\r\n\r\n").ok()?;
+    { stream }.write_all(head.as_bytes()).ok()?;
+    { stream }.write_all(text.as_bytes()).ok()
 }
 
 // Reads a JoinReq and answers it.
@@ -132,26 +133,18 @@ fn answer(alloc: Global, stream: &TcpStream, server: &mut TestJoinServer) -> Opt
     respond(alloc, stream, text.as_str())
 }
 
-// Waits for one connection more. Whether it came.
-fn accept_one<R: Clock>(rt: &R, listener: &TcpListener, streams: &mut Vec<TcpStream>) -> bool {
-    match accepted(rt, listener) {
-        Some(stream) => streams.push(stream).is_ok(),
-        None => false,
-    }
-}
-
-// Waits for so many connections. Whether all of them came.
+// Waits for so many connections.
 fn accept_all<R: Clock>(
     rt: &R,
     listener: &TcpListener,
     streams: &mut Vec<TcpStream>,
     count: usize,
-) -> bool {
-    let mut is_there = listener.set_nonblocking(true).is_ok();
+) -> Option<()> {
+    listener.set_nonblocking(true).ok()?;
     for _connection in 0..count {
-        is_there = is_there && accept_one(rt, listener, streams);
+        streams.push(accepted(rt, listener)?).ok()?;
     }
-    is_there
+    Some(())
 }
 
 // Answers each of these connections.
@@ -179,9 +172,7 @@ pub fn join_server<R: Clock>(
 ) -> Option<()> {
     let mut server = with_devices(alloc)?;
     let mut streams: Vec<TcpStream> = Vec::new(alloc);
-    if !accept_all(rt, listener, &mut streams, count) {
-        return None;
-    }
+    accept_all(rt, listener, &mut streams, count)?;
     answer_all(alloc, streams.as_slice(), &mut server)
 }
 
@@ -200,9 +191,6 @@ pub fn asked<R: Clock>(
     datagram: &[u8],
     buf: &mut [u8],
 ) -> Option<usize> {
-    socket
-        .set_read_timeout(Some(Duration::from_millis(5000)))
-        .ok()?;
     for _ in 0..TRIES {
         let _ = socket.send(datagram);
         match socket.recv(buf) {

@@ -1,13 +1,14 @@
 //! What gateways and devices do while a server runs.
 
 use crate::lives::{keep_killed, wait_for_up};
-use crate::parties::{asked, contains, device_of, front, front_later, heard, nap, sent, socket_to};
+use crate::parties::{
+    asked, contains, device_of, front, front_later, heard, naps, sent, socket_to,
+};
 use crate::trial::Common;
 use base64::engine::general_purpose::STANDARD;
 use ns_types::{DevEui, DevNonce};
 use std::alloc::Global;
 use std::net::{Net, UdpSocket};
-use std::sync::atomic::Ordering;
 use std::test::*;
 use std::time::{Clock, Duration, Instant};
 use test_device::TestDevice;
@@ -15,14 +16,11 @@ use test_device::TestDevice;
 // Messages of the gateway `a1` by version 2 (Semtech UDP protocol), and what acknowledges them.
 const PULL_DATA: [u8; 12] = [2, 0, 7, 2, 0, 0, 0, 0, 0, 0, 0, 0xa1];
 
-const PULL_ACK: [u8; 4] = [2, 0, 7, 4];
+const PULL_ACK: &[u8] = &[2, 0, 7, 4];
 
 const PUSH_DATA: [u8; 12] = [2, 0, 8, 0, 0, 0, 0, 0, 0, 0, 0, 0xa1];
 
-const PUSH_ACK: [u8; 4] = [2, 0, 8, 1];
-
-// How often the clock of a server is read before it has looked at all that came.
-const LOOKS: u64 = 20;
+const PUSH_ACK: &[u8] = &[2, 0, 8, 1];
 
 /// One of the two sockets of gateways.
 pub enum Side {
@@ -112,67 +110,31 @@ impl<'a, R: Clock + Net> Party<'a, R> {
 
     fn step(&mut self, step: &Step) -> Option<()> {
         match step {
-            Step::Join(_) | Step::Ask(..) | Step::Receive(..) | Step::Uplink(..) => {
-                self.step_of_all(step)
-            }
-            Step::Later(_) | Step::Longest | Step::Frame(..) | Step::Byte | Step::First => {
-                self.step_of_near(step)
-            }
-            Step::Pull | Step::PushJoin | Step::PushUplink(_) => self.step_of_forwarder(step),
-            Step::Acknowledged(..) | Step::Again(_) => self.step_of_lives(step),
-            _ => self.wait(step),
-        }
-    }
-
-    fn step_of_all(&mut self, step: &Step) -> Option<()> {
-        match step {
             Step::Join(gateway) => self.join(*gateway),
             Step::Ask(side, eui, gateway) => self.ask(side, *eui, *gateway),
             Step::Receive(side, bytes) => self.receive(side, *bytes),
             Step::Uplink(side, counter, confirmed, gateway) => {
                 self.uplink(side, *counter, *confirmed, &front(*gateway))
             }
-            _ => None,
-        }
-    }
-
-    fn step_of_near(&self, step: &Step) -> Option<()> {
-        match step {
             Step::Later(gateway) => self.uplink(&Side::Near, 0, false, &front_later(*gateway)),
             Step::Longest => self.longest(),
             Step::Frame(frame, rate) => self.frame(frame, *rate),
             Step::Byte => is(self.near.send(&[0]).is_ok()),
             Step::First => sent(self.common.rt, &self.near, &[0]),
-            _ => None,
-        }
-    }
-
-    fn step_of_forwarder(&mut self, step: &Step) -> Option<()> {
-        match step {
+            Step::Nap(times) => {
+                naps(self.common.rt, *times);
+                Some(())
+            }
+            Step::Within(ms) => self.within(*ms),
+            Step::Stand(ms) => self.common.ended.held.stand(self.common.rt, *ms),
             Step::Pull => self.pull(),
             Step::PushJoin => self.push_join(),
             Step::PushUplink(bytes) => self.push_uplink(*bytes),
-            _ => None,
-        }
-    }
-
-    fn step_of_lives(&mut self, step: &Step) -> Option<()> {
-        match step {
             Step::Acknowledged(counter, number) => self.acknowledged(*counter, *number),
             Step::Again(counter) => self.again(*counter),
-            _ => None,
-        }
-    }
-
-    fn wait(&self, step: &Step) -> Option<()> {
-        match step {
-            Step::Nap(times) => self.nap(*times),
-            Step::Within(ms) => self.within(*ms),
-            Step::Stand(ms) => self.stand(*ms),
             Step::KeepKilled => keep_killed(self.common.host),
             Step::Ended(lives) => self.common.ended.wait_for(self.common.rt, *lives),
             Step::Closed => wait_for_up(self.common.host, self.common.rt),
-            _ => None,
         }
     }
 
@@ -241,7 +203,9 @@ impl<'a, R: Clock + Net> Party<'a, R> {
             .uplink(65_535, false, Some(223), &[0x5a; 242], &mut room)
             .ok()?;
         for gateway in 0xa0..0xb0 {
-            is(self.send(&Side::Near, &front(gateway), frame)? == 283)?;
+            if self.send(&Side::Near, &front(gateway), frame) != Some(283) {
+                return None;
+            }
         }
         Some(())
     }
@@ -252,50 +216,28 @@ impl<'a, R: Clock + Net> Party<'a, R> {
         self.send_first(&Side::Near, &head, frame)
     }
 
-    fn nap(&self, times: u32) -> Option<()> {
-        for _ in 0..times {
-            nap(self.common.rt);
-        }
-        Some(())
-    }
-
     fn within(&self, ms: u64) -> Option<()> {
         is(self.begun.elapsed(self.common.rt).ok()? < Duration::from_millis(ms))
     }
 
-    // The clock stands at this time for a second, and longer where the threads of the server have not read it so often by then.
-    fn stand(&self, ms: u64) -> Option<()> {
-        let held = &self.common.ended.held;
-        held.ms.store(ms, Ordering::SeqCst);
-        let before = held.reads.load(Ordering::SeqCst);
-        self.nap(100)?;
-        for _ in 0..1_000 {
-            if held.reads.load(Ordering::SeqCst).wrapping_sub(before) >= LOOKS {
-                return Some(());
-            }
-            self.nap(1)?;
-        }
-        None
-    }
-
     fn pull(&mut self) -> Option<()> {
         let bytes = asked(self.common.rt, &self.far, &PULL_DATA, &mut self.buf)?;
-        is(self.has_come(bytes, &PULL_ACK))
+        is(self.came(bytes) == PULL_ACK)
     }
 
-    // Whether what came last, of so many bytes, is this.
-    fn has_come(&self, bytes: usize, want: &[u8]) -> bool {
-        match self.buf.get(..bytes) {
-            Some(came) => came == want,
-            None => false,
-        }
+    // What came last, of so many bytes.
+    fn came(&self, bytes: usize) -> &[u8] {
+        self.buf.get(..bytes).unwrap_or(&[])
     }
 
-    // Sends a frame that was heard at 868.1 MHz, DR5, and waits until that is acknowledged.
-    fn push(&mut self, frame: &[u8]) -> Option<()> {
+    // Sends a frame that was heard at 868.1 MHz, DR5, waits until that is acknowledged, and gives how many bytes come at the far socket.
+    fn push(&mut self, frame: &[u8]) -> Option<usize> {
         self.send_item(frame)?;
         let bytes = self.near.recv(&mut self.buf).ok()?;
-        is(self.has_come(bytes, &PUSH_ACK))
+        if self.came(bytes) != PUSH_ACK {
+            return None;
+        }
+        self.far.recv(&mut self.buf).ok()
     }
 
     // Sends a frame that was heard so.
@@ -308,33 +250,21 @@ impl<'a, R: Clock + Net> Party<'a, R> {
     fn push_join(&mut self) -> Option<()> {
         let request = self.device.join_request(DevNonce(1));
         self.push(&request)?;
-        self.far.recv(&mut self.buf).ok()?;
         let accept = STANDARD.decode(self.common.alloc, &self.buf[34..58]).ok()?;
         self.device.accept(DevNonce(1), accept.as_slice()).ok()
     }
 
     fn push_uplink(&mut self, want: usize) -> Option<()> {
         let mut room = [0u8; 64];
-        let device = self.device;
-        let frame = test_uplink(&device, 0, true, &mut room)?;
-        self.push(frame)?;
-        let bytes = self.far.recv(&mut self.buf).ok()?;
-        is(bytes == want && self.has_power(bytes))
-    }
-
-    // Whether the message that came last, of so many bytes, says 16 dBm.
-    fn has_power(&self, bytes: usize) -> bool {
-        match self.buf.get(..bytes) {
-            Some(came) => contains(came, b"\"powe\":16"),
-            None => false,
-        }
+        let frame = test_uplink(&self.device, 0, true, &mut room)?;
+        let bytes = self.push(frame)?;
+        is(bytes == want && contains(self.came(bytes), b"\"powe\":16"))
     }
 
     // The low byte of the number of an acknowledgement stands behind MHDR, DevAddr and FCtrl.
     fn acknowledged(&mut self, counter: u32, number: u8) -> Option<()> {
         let mut room = [0u8; 64];
-        let device = self.device;
-        let frame = test_uplink(&device, counter, true, &mut room)?;
+        let frame = test_uplink(&self.device, counter, true, &mut room)?;
         self.ask_for(frame, 0xa1)?;
         is(self.buf[34] == number)
     }

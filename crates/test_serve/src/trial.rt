@@ -3,7 +3,7 @@
 
 ghost use Rattle.std.specs.Prelude.{◌≡◌, ◌<◌, ◌≤◌, None, IfSome};
 
-use crate::around::logging;
+use crate::around::{Around, logger};
 use crate::lives::{Ended, begun_of};
 use crate::parties::{contains, join_server, local};
 use crate::play::{Party, Step};
@@ -262,8 +262,8 @@ fn beside(port: u16) -> u16 {
     port.saturating_add(2)
 }
 
-// All memory but so many blocks, or nothing.
-fn all_but(alloc: Global, blocks: Option<usize>) -> Option<Vec<Vec<u8>>> {
+/// All memory but so many blocks, or nothing.
+pub fn all_but(alloc: Global, blocks: Option<usize>) -> Option<Vec<Vec<u8>>> {
     let Some(blocks) = blocks else {
         return Some(Vec::new(alloc));
     };
@@ -282,9 +282,7 @@ pub struct Common<'a, R> {
     pub host: &'a HostRuntime,
     pub alloc: Global,
     pub asked: &'a Asked,
-    pub lives: &'a [Life],
-    pub joins: usize,
-    pub steps: &'a [Step],
+    pub trial: &'a Trial,
     pub ended: &'a Ended,
 }
 
@@ -343,7 +341,7 @@ where
     R: Threads + Wait + Clock + Net<Listener = TcpListener, Stream = TcpStream> + Log + Sync,
 {
     let mut last = None;
-    for life in common.lives {
+    for life in common.trial.lives {
         let outcome = live(common, life, output)?;
         common.ended.lives.fetch_add(1, Ordering::SeqCst);
         last = Some(outcome);
@@ -358,7 +356,7 @@ where
 fn play<R: Clock + Net>(common: &Common<'_, R>) -> bool {
     let (near, far) = common.asked.ports();
     match Party::new(common, near, far) {
-        Some(mut party) => party.play(common.steps),
+        Some(mut party) => party.play(common.trial.steps),
         None => false,
     }
 }
@@ -370,7 +368,7 @@ where
 {
     let (_, is_played) = thread::join(
         common.rt,
-        || join_server(common.rt, common.alloc, listener, common.joins),
+        || join_server(common.rt, common.alloc, listener, common.trial.joins),
         || play(common),
     );
     is_played
@@ -418,6 +416,36 @@ pub struct Ran {
     pub output: Vec<u8>,
 }
 
+// Runs a trial with a logger. The outcome of its last server.
+fn run_with_log<R, L>(
+    rt: &R,
+    host: &HostRuntime,
+    log: &L,
+    asked: &Asked,
+    trial: &Trial,
+    ended: &Ended,
+    output: &mut Vec<u8>,
+) -> Option<Result<u128, ServeFault>>
+where
+    R: Threads + Wait + Clock + Net<Listener = TcpListener, Stream = TcpStream> + Sync,
+    L: Log + Sync,
+{
+    let around = Around {
+        rt,
+        log,
+        held: &ended.held,
+    };
+    let common = Common {
+        rt: &around,
+        host,
+        alloc: host.alloc(),
+        asked,
+        trial,
+        ended,
+    };
+    run(&common, output)
+}
+
 /// Runs a trial in which this is asked of servers, and takes what is logged.
 pub fn run_logged<R>(
     rt: &R,
@@ -431,40 +459,32 @@ where
 {
     let alloc: Global = host.alloc();
     let mut output: Vec<u8> = Vec::with_capacity(alloc, 4096).ok()?;
-    let around = logging(rt, alloc, trial.levels, &ended.held).ok()?;
-    let common = Common {
-        rt: &around,
-        host,
-        alloc,
-        asked,
-        lives: trial.lives,
-        joins: trial.joins,
-        steps: trial.steps,
-        ended,
-    };
-    let outcome = run(&common, &mut output);
-    let log = around.into_lines();
+    let log = logger(rt, alloc, trial.levels).ok()?;
+    let outcome = run_with_log(rt, host, &log, asked, trial, ended, &mut output);
     Some(Ran {
         outcome,
-        log,
+        log: log.into_inner().into_inner(),
         output,
     })
 }
 
-// Asserts that a trial came to what is told.
-fn assert_all<R: Abort>(rt: &R, told: &Told, ran: &Ran) {
+// Whether a trial came to what is told. Asserts that its texts are as wanted.
+fn has_come<R: Abort>(rt: &R, told: &Told, ran: &Option<Ran>) -> bool {
+    let Some(ran) = ran else {
+        return false;
+    };
     assert_told(rt, &told.output, ran.output.as_slice());
     assert_told(rt, &told.log, ran.log.as_slice());
-    assert!(rt; ran.outcome == Some(told.ended));
+    ran.outcome == Some(told.ended)
 }
 
-/// Runs a trial. How often its record was looked after.
-pub fn tried<R>(rt: &R, host: &HostRuntime, trial: &Trial) -> Option<u64>
+/// Runs a trial, and asserts that it came to what it is to. How often its record was looked after.
+pub fn tried<R>(rt: &R, host: &HostRuntime, trial: &Trial) -> u64
 where
     R: Threads + Wait + Clock + Net<Listener = TcpListener, Stream = TcpStream> + Abort + Sync,
 {
     let ended = Ended::new(trial.stands_ms);
-    let ran = run_logged(rt, host, &trial.asked, trial, &ended)?;
-    assert_all(rt, &trial.told, &ran);
-    Some(ended.looks.load(Ordering::SeqCst))
+    let ran = run_logged(rt, host, &trial.asked, trial, &ended);
+    assert!(rt; has_come(rt, &trial.told, &ran));
+    ended.looks.load(Ordering::SeqCst)
 }

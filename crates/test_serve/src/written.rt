@@ -1,7 +1,7 @@
 //! What leaves the server rests on steps that are written.
 
 use crate::lives::{SHORT, emptied, has_lines, resumed};
-use crate::trial::Writer;
+use crate::trial::{Writer, roster_of};
 use ns_calls::{Bytes, Call, Downlink, Reply};
 use ns_outside::{Downlinks, Receipt};
 use ns_roster::Roster;
@@ -17,6 +17,7 @@ use std::rt::Files;
 use std::sync::Wait;
 use std::test::*;
 use std::time::Clock;
+use test_device::worked::ROSTER;
 
 // The folder of the record.
 const FOLDER: &str = "test_serve_written";
@@ -99,7 +100,7 @@ fn write_with<R: Files<File = File> + Wait + Clock>(
 fn write_anew<R: Files<File = File> + Alloc + Wait + Clock>(rt: &R, alloc: Global) -> Option<bool> {
     emptied(rt, FOLDER)?;
     let options = SHORT.options(Some(1))?;
-    let roster = SHORT.roster(alloc)?;
+    let roster = roster_of(alloc, ROSTER)?;
     let is_written = match resumed(rt, alloc, &roster, FOLDER, false) {
         Ok(begun) => write_with(rt, alloc, &roster, &options, begun),
         Err(_) => false,
