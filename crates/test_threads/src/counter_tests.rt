@@ -53,10 +53,12 @@ fn open_and_close(run: &mut Run, alloc: Global, counter: u32) -> Result<(), Allo
 // The window of a counter is closed, which was opened before.
 fn close(run: &mut Run, counter: &[u8]) -> Result<(), AllocError> {
     run.step(&[b"close 000000000000000d 1 ", counter])?;
-    run.line(&[b"opened 000000000000000d 1 ", counter])?;
-    run.line(&[b"closed 000000000000000d 1 ", counter, b" -"])?;
     run.line(&[
-        b"up 000000000000000d 1 ",
+        b"opened 000000000000000d 1 ",
+        counter,
+        b"\nclosed 000000000000000d 1 ",
+        counter,
+        b" -\nup 000000000000000d 1 ",
         counter,
         b" 1 plain - 74657374 1 00000000000000a1",
     ])

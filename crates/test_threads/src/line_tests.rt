@@ -91,8 +91,7 @@ fn each_two_bytes(rt: HostRuntime) {
 // Two digits as the last byte of a Join-Request, whose ticket has them in lower case.
 fn request(run: &mut Run, first: u8, second: u8) -> Result<(), AllocError> {
     let pair: &[u8] = &[first, second];
-    run.step(&[HEAD, REQUEST, pair])?;
-    run.step(&[b"lost ", REQUEST, pair])?;
+    run.step(&[HEAD, REQUEST, pair, b"\nlost ", REQUEST, pair])?;
     let lower: &[u8] = &[first.to_ascii_lowercase(), second.to_ascii_lowercase()];
     run.line(&[b"ask ", REQUEST, lower, b"\njoinrefused"])
 }
@@ -124,10 +123,8 @@ fn refused(count: u32) -> &'static [u8] {
 
 // The line of a text of so many digits, and of the same with a last byte that is none.
 fn length(run: &mut Run, text: &[u8], count: u32) -> Result<(), AllocError> {
-    run.step(&[b"heard ", text])?;
-    run.step(&[b"heard ", text, b" "])?;
-    run.line(&[refused(count)])?;
-    run.line(&[NO_LINE])
+    run.step(&[b"heard ", text, b"\nheard ", text, b" "])?;
+    run.line(&[refused(count), b"\n", NO_LINE])
 }
 
 // The lines of texts of up to 600 digits.

@@ -116,11 +116,12 @@ fn tell<C: Caller>(caller: &mut C, steps: &[Step], text: &mut String) -> Option<
 
 // Whether entries have these numbers.
 fn are_numbered(entries: &[Entry], numbers: &[u64]) -> bool {
+    for at in 0..entries.len() {
+        if numbers.get(at).copied() != Some(entries[at].number) {
+            return false;
+        }
+    }
     entries.len() == numbers.len()
-        && entries
-            .iter()
-            .zip(numbers)
-            .all(|(entry, number)| entry.number == *number)
 }
 
 // Whether a trim of the device's shard has this mark and hands out the entries of these numbers.

@@ -31,16 +31,15 @@ pub fn is_written(
     let steps = Vec::from_slice(alloc, steps).ok()?;
     let mut reader = Fuse::new(alloc, steps, most, None, None);
     let mut writer = Fuse::new(alloc, Vec::new(alloc), 1 << 20, None, None);
-    replay(
+    let ran = replay(
         alloc,
         roster,
         Output::Lines,
         closing,
         &mut reader,
         &mut writer,
-    )
-    .ok()?;
-    Some(writer.written() == lines)
+    );
+    ran.ok().and(Some(writer.written() == lines))
 }
 
 /// The text of these parts.

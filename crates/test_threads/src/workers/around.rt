@@ -74,8 +74,10 @@ impl Around {
     /// The numbers from a place on.
     pub fn told(&self, from: usize) -> [u64; 10] {
         let mut told = [0; 10];
-        for (number, place) in self.numbers.iter().skip(from).zip(told.iter_mut()) {
-            *place = number.load(Ordering::SeqCst);
+        for place in 0..10usize {
+            if let Some(number) = self.numbers.get(place.wrapping_add(from)) {
+                told[place] = number.load(Ordering::SeqCst);
+            }
         }
         told
     }

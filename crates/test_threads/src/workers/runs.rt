@@ -43,12 +43,12 @@ pub enum Work {
 }
 
 impl Work {
-    // By how much the clock goes on with each look, and what the join server is asked.
-    fn around(self) -> (u64, &'static [Asked]) {
+    // A clock at a time, by how much it goes on with each look, and what the join server is asked.
+    fn around(self, alloc: Global, time: u64) -> Around {
         match self {
-            Work::Serve(..) => (10, &[]),
-            Work::Answer(asks) => (0, asks),
-            Work::Close(..) => (0, &[]),
+            Work::Serve(..) => Around::new(alloc, time, 10, &[]),
+            Work::Answer(asks) => Around::new(alloc, time, 0, asks),
+            Work::Close(..) => Around::new(alloc, time, 0, &[]),
         }
     }
 }
@@ -111,10 +111,8 @@ impl<S: Calls<R>, R: Wait + Clock> Runner for Bench<'_, S, R> {
         faults: Faults,
     ) -> Option<usize> {
         let alloc = self.alloc;
-        let (step, asks) = work.around();
-        let around = Around::new(alloc, time, step, asks);
         let mut down = Sent::new(alloc, !faults.downlinks)?;
-        let sent = &mut down;
+        let around = work.around(alloc, time);
         let shared = Shared {
             output: Output::Lines,
             rt: self.rt,
@@ -122,13 +120,10 @@ impl<S: Calls<R>, R: Wait + Clock> Runner for Bench<'_, S, R> {
             gate: self.gate,
             monitor: &around,
         };
-        let ran = match work {
-            Work::Serve(list, room) => serve(alloc, &shared, pass, log, sent, list, room, &faults),
-            Work::Answer(asks) => answer(alloc, &shared, pass, self.known, log, sent, asks, faults),
-            Work::Close(due, limits) => close_all(alloc, &shared, pass, log, due, limits, &faults),
-        };
-        ran?;
-        Some(down.sent.len())
+        let ran = run_work(
+            alloc, &shared, pass, self.known, log, &mut down, work, &faults,
+        );
+        ran.and(Some(down.sent.len()))
     }
 
     fn made(&self) -> u64 {
@@ -164,6 +159,24 @@ impl Reads {
             }
             Reads::Ones(length) => vec![in alloc; 1u8; length].ok(),
         }
+    }
+}
+
+// Runs a worker.
+fn run_work<S: Calls<R>, R: Wait + Clock>(
+    alloc: Global,
+    shared: &Shared<'_, S, R, Until, Around>,
+    pass: &mut S::Pass,
+    known: &Roster,
+    log: &mut String,
+    down: &mut Sent,
+    work: Work,
+    faults: &Faults,
+) -> Option<()> {
+    match work {
+        Work::Serve(list, room) => serve(alloc, shared, pass, log, down, list, room, faults),
+        Work::Answer(asks) => answer(alloc, shared, pass, known, log, down, asks, faults),
+        Work::Close(due, limits) => close_all(alloc, shared, pass, log, due, limits, faults),
     }
 }
 
@@ -264,12 +277,12 @@ fn answer<S: Calls<R>, R: Wait + Clock>(
     log: &mut String,
     down: &mut Sent,
     asks: &[Asked],
-    faults: Faults,
+    faults: &Faults,
 ) -> Option<()> {
     let around = shared.monitor;
     let host = HostName::new("js.local")?;
     let jobs = ListedJobs::new(askings(alloc, asks)?, faults.source);
-    let mut jobs = Scarce::new(alloc, jobs, &faults)?;
+    let mut jobs = Scarce::new(alloc, jobs, faults)?;
     let joined = run_join(
         alloc, shared, pass, around, around, &mut jobs, down, known, host,
     );

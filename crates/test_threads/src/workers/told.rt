@@ -44,8 +44,8 @@ pub fn tell_window(log: &mut String, word: &str, name: &WindowName, last: u64) -
 // Tells a word, the bytes of a ticket, and two more numbers.
 fn tell_ticket(log: &mut String, word: &str, ticket: &Ticket, since: u64, due: u64) -> Option<()> {
     let mut numbers = [0; 25];
-    for (byte, number) in ticket.0.iter().zip(numbers.iter_mut()) {
-        *number = u64::from(*byte);
+    for place in 0..23usize {
+        numbers[place] = u64::from(ticket.0[place]);
     }
     numbers[23] = since;
     numbers[24] = due;
