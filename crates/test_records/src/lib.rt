@@ -1,4 +1,4 @@
-//! Tests of shards, of records and of the program's commands, of what no text of a worked run can say.
+//! Tests of shards and of records, of what no text of a worked run can say.
 //!
 //! Of a shard and of `replay`: a server that searches its entries gives the same replies to Join-Requests, the last round of a session,
 //! memory that is refused to a shard, to a journal and to a whole run, a run of 100,002 steps, a trim in place, streams that fail, and the
@@ -8,9 +8,6 @@
 //! server goes on the same after them, that too few lines are told as such, what is left of the files of a folder, also where `up` lines
 //! are missing, and when the record of a server that runs is compacted, and tried again.
 //!
-//! Of the program without its server: what words ask for (ns_words), the texts of faults and of times, how runs end, what `replay` and
-//! `compact` write (ns_upkeep), and what the program's runtime hands on (ns_commands).
-//!
 //! They call what those crates give in public, and stand here so that no crate is proved once more for its tests.
 #![tactic(auto)]
 
@@ -18,8 +15,6 @@
 mod calls;
 #[cfg(test)]
 mod chosen;
-#[cfg(test)]
-mod commands;
 #[cfg(test)]
 mod folder;
 #[cfg(test)]

@@ -1,7 +1,7 @@
 //! The texts of faults and of times, how runs end, and the exit statuses.
 
-use crate::commands::stand_in::StandIn;
-use crate::commands::words::words_of;
+use crate::stand_in::StandIn;
+use crate::words::words_of;
 use log::sink::Discard;
 use ns_commands::{
     End, Fault, concluded, ended, of_reading, of_replay, of_roster, of_serve, read_roster, refused,

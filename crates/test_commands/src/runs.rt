@@ -1,6 +1,6 @@
 //! What runs write to standard output, and what the program's runtime hands on.
 
-use crate::commands::stand_in::{LIMIT, SINCE_1970, SINCE_START, StandIn};
+use crate::stand_in::{LIMIT, SINCE_1970, SINCE_START, StandIn};
 use log::info;
 use log::sink::Discard;
 use ns_commands::{Logging, Timed, VARIABLE, run_replay};
@@ -51,7 +51,7 @@ fn is_replayed<R: Files + AllocGlobal + Input + Print>(
     uplinks: Output,
     closing: bool,
 ) -> io::Result<bool> {
-    let path = "test_records_closing.json";
+    let path = "test_commands_closing.json";
     fs::write(rt, path, ROSTER.as_bytes())?;
     let outcome = run_replay(rt, &Discard, path, uplinks, closing);
     fs::remove_file(rt, path)?;
@@ -93,16 +93,16 @@ fn make<R: Files + AllocGlobal>(rt: &R, folder: &str) -> io::Result<()> {
     let _ = fs::remove_dir_all(rt, folder);
     fs::create_dir(rt, folder)?;
     let steps = STEPS.concat(rt.alloc())?;
-    fs::write(rt, "test_records_compact/steps", steps.as_bytes())?;
-    fs::write(rt, "test_records_compact/up", b"")?;
-    fs::write(rt, "test_records_compact/roster.json", ROSTER.as_bytes())
+    fs::write(rt, "test_commands_compact/steps", steps.as_bytes())?;
+    fs::write(rt, "test_commands_compact/up", b"")?;
+    fs::write(rt, "test_commands_compact/roster.json", ROSTER.as_bytes())
 }
 
 // Makes a record, and makes it shorter. Whether that was done.
 fn is_compacted<R: Files<File = File> + AllocGlobal + Print>(rt: &R) -> io::Result<bool> {
-    let folder = "test_records_compact";
+    let folder = "test_commands_compact";
     make(rt, folder)?;
-    let outcome = compact(rt, &Discard, "test_records_compact/roster.json", folder);
+    let outcome = compact(rt, &Discard, "test_commands_compact/roster.json", folder);
     fs::remove_dir_all(rt, folder)?;
     Ok(outcome.is_ok())
 }
@@ -157,7 +157,7 @@ fn the_wrapper_hands_on(rt: HostRuntime) {
     assert!(rt; refusals(&logging) == wanted);
     info!(logging; "heard {}", 2);
     assert!(rt;
-        stand_in.has_told("[2026-11-24T09:30:00.125Z INFO  test_records::commands::runs] heard 2\n")
+        stand_in.has_told("[2026-11-24T09:30:00.125Z INFO  test_commands::runs] heard 2\n")
     );
     assert!(rt; VARIABLE == "RUST_LOG");
 }
