@@ -1,6 +1,6 @@
 -- Base64 in groups of three bytes.
-use Rattle.std.proofs.Common.{◌≡◌, ℕ, zero, suc, ◌+◌, ◌-◌, ◌*◌, ◌%◌, ◌<◌, ◌≤◌, Bool, true, false, ◌&&◌, List, [], ◌∷◌, ◌++◌, length, get_or, drop, replicate, refl, ap, sym, ◌∙◌, append_assoc, drop-cons, arith}
-use Rattle.std.specs.Prelude.{nat_lt}
+use Rattle.std.proofs.Common.{◌≡◌, ℕ, zero, suc, ◌+◌, ◌-◌, ◌*◌, ◌/◌, ◌%◌, ◌<◌, ◌≤◌, Bool, true, false, ◌&&◌, List, [], ◌∷◌, ◌++◌, length, get_or, drop, replicate, refl, ap, sym, ◌∙◌, append_assoc, drop-cons, arith}
+use Rattle.std.specs.Prelude.{nat_lt, slice_index, codes}
 use Rattle.std.specs.List.{list_all}
 use Rattle.std.proofs.lemmas.Bool.Decides.{nat_tests}
 use Rattle.base64.specs.Rfc4648.{encode_group, encode_symbols, padding_len}
@@ -29,6 +29,22 @@ unfolding base64_text encode_symbols
 base64-group a b c rest =
     ap (λ n. (encode_group symbols a b c ++ encode_symbols symbols rest) ++ replicate n 61) (same_padding (length rest))
     ∙ append_assoc (encode_group symbols a b c) (encode_symbols symbols rest) (replicate (padding_len (length rest)) 61)
+
+-- the last byte, or the last two, with their padding
+pub base64-one : (xs : List ℕ) → 1 ≤ length xs → length xs < 2
+    → base64_text xs ≡ slice_index symbols (get_or xs 0 0 / 4) ∷ slice_index symbols (get_or xs 0 0 % 4 * 16) ∷ codes "=="
+unfolding base64_text encode_symbols
+base64-one [] least below = absurd (omega arith)
+base64-one (a ∷ []) least below = refl
+base64-one (a ∷ b ∷ rest) least below = absurd (omega arith)
+
+pub base64-two : (xs : List ℕ) → 2 ≤ length xs → length xs < 3
+    → base64_text xs ≡ slice_index symbols (get_or xs 0 0 / 4) ∷ slice_index symbols (get_or xs 0 0 % 4 * 16 + get_or xs 1 0 / 16) ∷ slice_index symbols (get_or xs 1 0 % 16 * 4) ∷ codes "="
+unfolding base64_text encode_symbols
+base64-two [] least below = absurd (omega arith)
+base64-two (a ∷ []) least below = absurd (omega arith)
+base64-two (a ∷ b ∷ []) least below = refl
+base64-two (a ∷ b ∷ c ∷ rest) least below = absurd (omega arith)
 
 -- three bytes of a list, and those behind them
 three : (xs : List ℕ) (k : ℕ) → k + 3 ≤ length xs → drop k xs ≡ get_or xs k 0 ∷ get_or xs (k + 1) 0 ∷ get_or xs (k + 2) 0 ∷ drop (k + 3) xs

@@ -125,16 +125,26 @@ fn symbol(n: u8) -> char
     char::from(SYMBOLS[n as usize])
 }
 
+// Puts the character of six bits.
+fn put_symbol(text: &mut Text, n: u8)
+    requires six_bits { n < 64 }
+    requires room { array_string_len text.old + 1 ≤ 6400 }
+    ensures bytes { text.new.bytes ≡ text.old.bytes ++ slice_index symbols n ∷ [] }
+    ensures len { array_string_len text.new ≡ array_string_len text.old + 1 }
+{
+    text.push(symbol(n));
+}
+
 // Puts three bytes as four symbols.
 fn put_group(text: &mut Text, a: u8, b: u8, c: u8)
     requires { array_string_len text.old + 4 ≤ 6400 }
     ensures bytes { text.new.bytes ≡ text.old.bytes ++ encode_group symbols a b c }
     ensures len { array_string_len text.new ≡ array_string_len text.old + 4 }
 {
-    text.push(symbol(a / 4));
-    text.push(symbol(a % 4 * 16 + b / 16));
-    text.push(symbol(b % 16 * 4 + c / 64));
-    text.push(symbol(c % 64));
+    put_symbol(text, a / 4);
+    put_symbol(text, a % 4 * 16 + b / 16);
+    put_symbol(text, b % 16 * 4 + c / 64);
+    put_symbol(text, c % 64);
 }
 
 // Puts the last bytes, fewer than three, with their padding.
@@ -147,14 +157,14 @@ fn put_end(text: &mut Text, rest: &[u8])
 {
     match rest {
         [a, b] => {
-            text.push(symbol(*a / 4));
-            text.push(symbol(*a % 4 * 16 + *b / 16));
-            text.push(symbol(*b % 16 * 4));
+            put_symbol(text, *a / 4);
+            put_symbol(text, *a % 4 * 16 + *b / 16);
+            put_symbol(text, *b % 16 * 4);
             text.push_str("=");
         }
         [a] => {
-            text.push(symbol(*a / 4));
-            text.push(symbol(*a % 4 * 16));
+            put_symbol(text, *a / 4);
+            put_symbol(text, *a % 4 * 16);
             text.push_str("==");
         }
         _ => {}

@@ -5,6 +5,7 @@ ghost use Rattle.ns_views.specs.Frame.{data_fields};
 ghost use Rattle.ns_front.specs.Front.{name_of, name_of_frame, seen_of, front, Agree};
 
 use ns_link::read_datagram;
+use ns_types::array_at;
 use ns_views::{DataView, PhyView, view};
 
 // The length of a datagram with the shortest data frame, which has 12 bytes (LoRaWAN L2 1.0.4, 4).
@@ -40,9 +41,9 @@ fn name_in(frame: &[u8]) -> FrameName
 {
     let mic = frame.len() - 4;
     FrameName {
-        addr: u32::from_le_bytes([frame[1], frame[2], frame[3], frame[4]]),
-        fcnt: u16::from_le_bytes([frame[6], frame[7]]),
-        mic: u32::from_le_bytes([frame[mic], frame[mic + 1], frame[mic + 2], frame[mic + 3]]),
+        addr: u32::from_le_bytes(array_at(frame, 1)),
+        fcnt: u16::from_le_bytes(array_at(frame, 6)),
+        mic: u32::from_le_bytes(array_at(frame, mic)),
     }
 }
 
@@ -87,15 +88,6 @@ pub fn front_of(datagram: &[u8]) -> Option<(u64, FrameName)>
     if datagram.len() < SHORTEST {
         return None;
     }
-    let gateway = u64::from_be_bytes([
-        datagram[2],
-        datagram[3],
-        datagram[4],
-        datagram[5],
-        datagram[6],
-        datagram[7],
-        datagram[8],
-        datagram[9],
-    ]);
+    let gateway = u64::from_be_bytes(array_at(datagram, 2));
     Some((gateway, name_in(&datagram[FRAME..])))
 }

@@ -1,6 +1,8 @@
 -- What a join worker has done, turn by turn.
-use Rattle.std.proofs.Common.{◌≡◌, ℕ, ◌+◌, ◌^◌, List, [], ◌∷◌, ◌++◌, length, Option, None, Some, inl, inr, refl, sym, ap, ◌∙◌, subst, length-append}
+use Rattle.std.proofs.Common.{◌≡◌, ℕ, ◌+◌, ◌^◌, ◌≤◌, false, List, [], ◌∷◌, ◌++◌, length, Option, None, Some, Result, Ok, Err, IfOk, inl, inr, refl, sym, ap, ◌∙◌, subst, le_antisymm, length-append}
 use Rattle.std.specs.List.{AllZip}
+use Rattle.std.specs.Result.{is_err}
+use Rattle.std.specs.declared.alloc.AllocError.{AllocError}
 use Rattle.ns_types.specs.declared.ticket.Ticket.{Ticket}
 use Rattle.ns_roster.specs.Network.{Network}
 use Rattle.ns_calls.specs.declared.answer.Downlink.{Downlink}
@@ -12,6 +14,7 @@ use Rattle.ns_outside.specs.declared.receipt.Receipt.{Receipt}
 use Rattle.ns_outside.specs.declared.job.AskJob.{AskJob}
 use Rattle.ns_workers.specs.declared.join.Joined.{Joined}
 use Rattle.ns_outside.specs.declared.traits.Next.TheVariants.{Job, End, Failed}
+use Rattle.ns_outside.specs.declared.fault.WorkerFault.{WorkerFault}
 use Rattle.ns_outside.specs.declared.fault.WorkerFault.TheVariants.{NoMemory, SourceFailed}
 use Rattle.ns_outside.specs.Given.{Given, Takes}
 use Rattle.ns_workers.specs.Answering.{IsOutcome, IsReply, Answers}
@@ -53,9 +56,9 @@ answered_first net h o old e = record {
   does = does_none net Lines h None e;
 }
 
-pub answered_next : (net : Network) (h : Notice → Type 0) (o : AskJob → Outcome → Type 0) (old now new : Option (Given AskJob)) (e f g : Effects) (n : ℕ) (j : AskJob) (r : Receipt)
+answered_one : (net : Network) (h : Notice → Type 0) (o : AskJob → Outcome → Type 0) (old now new : Option (Given AskJob)) (e f g : Effects) (n : ℕ) (j : AskJob) (r : Receipt)
     → Answered net h o old now e f n → Takes now new (Job j) → IsReply o j r → Does net Lines h None f g (r ∷ []) (r ∷ []) [] → Answered net h o old new e g (n + 1)
-answered_next net h o old now new e f g n j r so takes reply did = record {
+answered_one net h o old now new e f g n j r so takes reply did = record {
   taken = so.taken ++ j ∷ [];
   receipts = so.receipts ++ r ∷ [];
   holds = holds_more old now new so.taken j so.holds takes;
@@ -64,27 +67,40 @@ answered_next net h o old now new e f g n j r so takes reply did = record {
   does = does_both net Lines h None e f g so.receipts (r ∷ []) so.receipts (r ∷ []) [] [] so.does did;
 }
 
-pub answers_end : (net : Network) (h : Notice → Type 0) (o : AskJob → Outcome → Type 0) (old now new : Option (Given AskJob)) (e f : Effects) (n : ℕ)
-    → Answered net h o old now e f n → Takes now new End → Answers net h o old new e f (record { answered = n; fault = None })
-answers_end net h o old now new e f n so takes = record {
-  taken = so.taken;
-  receipts = so.receipts;
-  gave = gave_end (n ≡ 2 ^ 63) old now new so.taken so.holds takes;
-  count = so.count;
-  replies = so.replies;
-  does = so.does;
-}
+pub answered_next : (net : Network) (h : Notice → Type 0) (o : AskJob → Outcome → Type 0) (old now new : Option (Given AskJob)) (e f g : Effects) (n : ℕ) (j : AskJob) (r : Result Receipt AllocError)
+    → is_err r ≡ false → Answered net h o old now e f n → Takes now new (Job j) → IfOk r (λ q. IsReply o j q)
+    → IfOk r (λ q. Does net Lines h None f g (q ∷ []) (q ∷ []) []) → Answered net h o old new e g (n + 1)
+answered_next net h o old now new e f g n j (Ok q) well so takes reply did = answered_one net h o old now new e f g n j q so takes reply did
+answered_next net h o old now new e f g n j (Err _) well so takes reply did = absurd cc
 
-pub answers_full : (net : Network) (h : Notice → Type 0) (o : AskJob → Outcome → Type 0) (old now : Option (Given AskJob)) (e f : Effects) (n : ℕ)
-    → Answered net h o old now e f n → n ≡ 2 ^ 63 → Answers net h o old now e f (record { answered = n; fault = None })
-answers_full net h o old now e f n so full = record {
-  taken = so.taken;
-  receipts = so.receipts;
-  gave = gave_full (n ≡ 2 ^ 63) old now so.taken so.holds full;
-  count = so.count;
-  replies = so.replies;
-  does = so.does;
-}
+-- where there is no fault, it can be named so
+with_no_fault : (net : Network) (h : Notice → Type 0) (o : AskJob → Outcome → Type 0) (old new : Option (Given AskJob)) (e f : Effects) (s : Joined)
+    → s.fault ≡ None → Answers net h o old new e f (record { answered = s.answered; fault = None }) → Answers net h o old new e f s
+with_no_fault net h o old new e f s none all = subst (λ (w : Option WorkerFault). Answers net h o old new e f (record { answered = s.answered; fault = w })) (sym none) all
+
+pub answers_end : (net : Network) (h : Notice → Type 0) (o : AskJob → Outcome → Type 0) (old now new : Option (Given AskJob)) (e f : Effects) (s : Joined)
+    → s.fault ≡ None → Answered net h o old now e f s.answered → Takes now new End → Answers net h o old new e f s
+answers_end net h o old now new e f s none so takes =
+    with_no_fault net h o old new e f s none (record {
+      taken = so.taken;
+      receipts = so.receipts;
+      gave = gave_end (s.answered ≡ 2 ^ 63) old now new so.taken so.holds takes;
+      count = so.count;
+      replies = so.replies;
+      does = so.does;
+    })
+
+pub answers_full : (net : Network) (h : Notice → Type 0) (o : AskJob → Outcome → Type 0) (old now : Option (Given AskJob)) (e f : Effects) (s : Joined)
+    → s.fault ≡ None → Answered net h o old now e f s.answered → s.answered ≤ 2 ^ 63 → 2 ^ 63 ≤ s.answered → Answers net h o old now e f s
+answers_full net h o old now e f s none so few many =
+    with_no_fault net h o old now e f s none (record {
+      taken = so.taken;
+      receipts = so.receipts;
+      gave = gave_full (s.answered ≡ 2 ^ 63) old now so.taken so.holds (le_antisymm few many);
+      count = so.count;
+      replies = so.replies;
+      does = so.does;
+    })
 
 pub answers_broken : (net : Network) (h : Notice → Type 0) (o : AskJob → Outcome → Type 0) (old now new : Option (Given AskJob)) (e f : Effects) (n : ℕ)
     → Answered net h o old now e f n → Takes now new Failed → Answers net h o old new e f (record { answered = n; fault = Some SourceFailed })

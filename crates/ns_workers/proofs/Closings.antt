@@ -1,5 +1,5 @@
 -- What a closer has done, turn by turn.
-use Rattle.std.proofs.Common.{◌≡◌, ◌≢◌, ℕ, List, [], ◌∷◌, ◌++◌, length, take, ◌+◌, ◌<◌, ◌≤◌, Option, None, Some, inl, inr, refl, sym, ap, ◌∙◌, subst}
+use Rattle.std.proofs.Common.{◌≡◌, ◌≢◌, ℕ, List, [], ◌∷◌, ◌++◌, length, take, ◌+◌, ◌<◌, ◌≤◌, Option, None, Some, inl, inr, refl, sym, ap, ◌∙◌, subst, zero-le, le_antisymm, arith}
 use Rattle.std.specs.Prelude.{All, slice_set}
 use Rattle.std.proofs.lemmas.List.{map-append, length-take-le, take_more_set}
 use Rattle.std.proofs.lemmas.List.Elements.{All-nil, All-push}
@@ -48,6 +48,13 @@ pub closed_begun : (net : Network) (out : Output) (h : Notice → Type 0) (c : �
     → Closed net out h c old old e e (take count rs)
 closed_begun net out h c old e count rs none = subst (λ n. Closed net out h c old old e e (take n rs)) (sym none) (closed_none net out h c old e)
 
+-- none so far are few enough
+pub none_yet : (count n : ℕ) → count ≡ 0 → count ≤ n
+none_yet count n none = subst (λ k. k ≤ n) (sym none) zero-le
+
+pub one_more_fits : (count count' limit : ℕ) → count < limit → count' ≡ count + 1 → count' ≤ limit
+one_more_fits count count' limit few more = omega (arith, few, more)
+
 -- the calls of one more receipt are the closings of one more job
 one_more : (rs : List Receipt) (r : Receipt) (js : List CloseJob) (j : CloseJob) → calls_made rs ≡ closings js → r.entry.call ≡ closing j → calls_made (rs ++ r ∷ []) ≡ closings (js ++ j ∷ [])
 one_more rs r js j so call =
@@ -55,9 +62,9 @@ one_more rs r js j so call =
     ∙ ap (λ n. closings js ++ n ∷ []) call ∙ sym (map-append closing js (j ∷ []))
 
 pub closed_more : (net : Network) (out : Output) (h : Notice → Type 0) (c : ℕ → Type 0) (old now new : Option (Given CloseJob)) (e f g : Effects) (rs rs' : List Receipt) (j : CloseJob)
-    → Closed net out h c old now e f rs → Takes now new (Job j) → c j.due → ClosesOne net out h j None f g rs rs' → Closed net out h c old new e g rs'
-closed_more net out h c old now new e f g rs rs' j so takes come one =
-    let (r, is, call, did) = one in
+    (fault : Option WorkerFault) → fault ≡ None → Closed net out h c old now e f rs → Takes now new (Job j) → c j.due → ClosesOne net out h j fault f g rs rs' → Closed net out h c old new e g rs'
+closed_more net out h c old now new e f g rs rs' j fault none so takes come one =
+    let (r, is, call, did) = subst (λ o. ClosesOne net out h j o f g rs rs') none one in
     subst (λ l. Closed net out h c old new e g l) (sym is) (record {
       taken = so.taken ++ j ∷ [];
       holds = holds_more old now new so.taken j so.holds takes;
@@ -79,9 +86,9 @@ closes_end net out h c limit old now new e f rs so takes = record {
 }
 
 pub closes_full : (net : Network) (out : Output) (h : Notice → Type 0) (c : ℕ → Type 0) (limit : ℕ) (old now : Option (Given CloseJob)) (e f : Effects) (count : ℕ) (rs : List Receipt)
-    → Closed net out h c old now e f (take count rs) → count ≤ length rs → count ≡ limit → ClosesAll net out h c limit old now e f (take count rs) None
-closes_full net out h c limit old now e f count rs so within full =
-    let all : length (take count rs) ≡ limit = length-take-le count rs within ∙ full in
+    → Closed net out h c old now e f (take count rs) → count ≤ length rs → count ≤ limit → limit ≤ count → ClosesAll net out h c limit old now e f (take count rs) None
+closes_full net out h c limit old now e f count rs so within few many =
+    let all : length (take count rs) ≡ limit = length-take-le count rs within ∙ le_antisymm few many in
     record {
       closes = record {
         taken = so.taken;
@@ -103,6 +110,11 @@ closes_broken net out h c limit old now new e f rs so takes = record {
   };
   does = does_with net out h (Some SourceFailed) e f rs rs [] so.does;
 }
+
+-- the same of receipts that are these
+pub closes_within : (net : Network) (out : Output) (h : Notice → Type 0) (c : ℕ → Type 0) (limit : ℕ) (old new : Option (Given CloseJob)) (e f : Effects) (rs rs' : List Receipt) (fault : Option WorkerFault)
+    → rs' ≡ rs → ClosesAll net out h c limit old new e f rs fault → ClosesAll net out h c limit old new e f rs' fault
+closes_within net out h c limit old new e f rs rs' fault same all = subst (λ l. ClosesAll net out h c limit old new e f l fault) (sym same) all
 
 -- nothing was done for want of memory
 pub closes_before : (c : ℕ → Type 0) (limit : ℕ) (old : Option (Given CloseJob)) → Closes c limit old old [] (Some NoMemory)

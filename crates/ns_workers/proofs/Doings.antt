@@ -1,5 +1,5 @@
 -- What calls do, one after the other.
-use Rattle.std.proofs.Common.{◌≡◌, ◌≢◌, ℕ, List, [], ◌∷◌, ◌++◌, Option, None, Some, refl, sym, ap, ◌∙◌, subst, append_assoc, append-nil}
+use Rattle.std.proofs.Common.{◌≡◌, ◌≢◌, ℕ, List, [], ◌∷◌, ◌++◌, Option, None, Some, is_some, false, refl, sym, ap, ◌∙◌, subst, append_assoc, append-nil}
 use Rattle.std.specs.Prelude.{All, IfSome, MatchOption, option_to_list}
 use Rattle.std.specs.List.{AllZip}
 use Rattle.std.proofs.KnownBytes.{Appends-nil, Appends-trans}
@@ -128,6 +128,14 @@ downlinks_more a b c rs r first second = downlinks_both a b c rs (r ∷ []) firs
 
 pub none_is_no_fault : {X : Type 0} (x : X) → None ≢ Some x
 none_is_no_fault x same = subst (λ o. MatchOption o (Unit {0}) (λ _. ⊥)) same tt
+
+pub no_fault : {X : Type 0} (o : Option X) → is_some o ≡ false → o ≡ None
+no_fault None none = refl
+no_fault (Some x) none = absurd cc
+
+-- with no fault there is not this one
+pub not_that : {X : Type 0} (o : Option X) (x : X) → o ≡ None → o ≢ Some x
+not_that o x none same = none_is_no_fault x (sym none ∙ same)
 
 pub does_none : (net : Network) (out : Output) (h : Notice → Type 0) (f : Option WorkerFault) (e : Effects) → Does net out h f e e [] [] []
 does_none net out h f e = record {

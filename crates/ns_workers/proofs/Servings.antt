@@ -235,6 +235,10 @@ serves_fault net out h t w old now e f s so other full = record {
 pub all_read : (read read' : ℕ) → read < 2 ^ 63 → read' ≡ read + 1 → 2 ^ 63 ≤ read' → read' ≡ 2 ^ 63
 all_read read read' few more many = omega (arith, few, more, many)
 
+-- what grows by one at most is no more than what grows by one
+pub still_few : (n n' k k' : ℕ) → n ≤ k → n' ≤ n + 1 → k' ≡ k + 1 → n' ≤ k'
+still_few n n' k k' few one more = omega (arith, few, one, more)
+
 -- there is no fault where there is one
 pub has_fault : (fault : Option WorkerFault) (P : Type 0) → is_some fault ≡ true → fault ≡ None → P
 has_fault None P some none = absurd (let other : false ≢ true = λ q. cc in other some)

@@ -119,7 +119,6 @@ fn close_next<S: Calls<R>, R, G: Gate<R>, D: Downlinks<R>, M: Monitor<R>, T: Tim
 
 // Closes the windows of jobs, and puts the receipts into a list that has room for as many as there may be, in the places of others. Tells
 // the fault where there was one.
-#[tactic(auto, using(crate::proofs::Closings::closed_begun, crate::proofs::Closings::closed_more, crate::proofs::Closings::closes_end, crate::proofs::Closings::closes_full, crate::proofs::Closings::closes_broken, crate::proofs::Closings::closes_fault,))]
 fn close_all<
     S: Calls<R>,
     R,

@@ -139,7 +139,6 @@ fn serve_one<
 /// A call that is refused for want of memory is dropped and counted. With no fault the source has ended, or 2^63 datagrams were read. K1
 /// where a job could not be put and its call was refused memory, which `Kept::step` does only where its window or ticket is not open (no
 /// clause here); K2 where the source failed; K3 where the sink failed.
-#[tactic(auto, using(crate::proofs::Servings::heard_first, crate::proofs::Servings::heard_idle, crate::proofs::Servings::heard_more, crate::proofs::Servings::serves_to_end, crate::proofs::Servings::serves_broken, crate::proofs::Servings::serves_fault,))]
 pub fn run_gateway<
     S: Calls<R>,
     R: Wait,

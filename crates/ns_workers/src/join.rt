@@ -174,7 +174,6 @@ fn answer_job<
 ///
 /// With no fault the source has ended, or 2^63 tickets were taken. K1 where the call was refused for want of memory: then the ticket taken
 /// last was not open (no clause). K2 where the source failed. K3 never comes.
-#[tactic(auto, using(crate::proofs::Answerings::answered_first, crate::proofs::Answerings::answered_next, crate::proofs::Answerings::answers_end, crate::proofs::Answerings::answers_full, crate::proofs::Answerings::answers_broken, crate::proofs::Answerings::answers_refused,))]
 pub fn run_join<
     S: Calls<R>,
     R,

@@ -1,11 +1,33 @@
 use Rattle.std.proofs.Common.{◌≡◌, ◌+◌, ◌<◌, length, nat_eq, vec_len, vec_capacity, true, [], ◌∷◌, ◌++◌, take, drop, refl, sym, ap, ◌∙◌, arith, rules}
 use Rattle.std.specs.List.{list_any}
 use Rattle.std.proofs.lemmas.Bool.{false≢true}
-use Rattle.std.proofs.lemmas.List.{take_more_set, drop-set-lt, length_push}
+use Rattle.std.proofs.lemmas.List.{take_all, take_more_set, drop-set-lt, length_push, length-map}
+use Rattle.std.proofs.lemmas.Option.{slice_get_within}
 use Rattle.std.proofs.Math.ListN.{length-set}
+use Rattle.ns_journal.specs.State.{with_numbers, without_numbers}
 use Rattle.ns_journal.proofs.Parting.{got_any, with-more, without-same, with-same, without-more, goes, same_rest}
 use Rattle.ns_journal.proofs.journal.part.Goals as goal
-use Rattle.ns_journal.proofs.journal.part.Goals.{then-is_next, else-is_next}
+use Rattle.ns_journal.proofs.journal.part.Goals.{then-is_next, else-is_next, After-truncate}
+
+pub index-requires : goal.index-requires
+index-requires c = omega (arith, c.entries-test.true, c.len-place-end.ensures, c.entries.invariant.len, c.entries.entries.ok.0, c.args.entries.now.ok.0)
+
+pub add-requires : goal.add-requires
+add-requires c =
+    let inv = c.entries.invariant in
+    let stays : c.entries.next < length c.args.stay.now = slice_get_within c.args.stay.now c.entries.next c.index.result.now.number (c.if-is_next.ensures.0 refl) in
+    omega (arith, inv.count, stays, c.requires.room, inv.capacity)
+
+pub overflow_add-next : goal.overflow_add-next
+overflow_add-next c = omega (arith, c.entries.invariant.parted, c.entries-test.true, c.len-place-end.type_inv)
+
+pub index_mut-requires : goal.index_mut-requires
+index_mut-requires c =
+    let inv = c.entries.invariant in
+    omega (arith, inv.parted, c.entries-test.true, c.len-place-end.ensures, inv.len, c.entries.entries.ok.0, c.args.entries.now.ok.0)
+
+pub overflow_add-out : goal.overflow_add-out
+overflow_add-out c = omega (arith, c.entries.invariant.parted, c.entries-test.true, c.len-place-end.type_inv)
 
 pub entries-preserved : goal.entries-preserved
 entries-preserved c =
@@ -46,3 +68,23 @@ entries-preserved c =
             capacity = omega (arith, inv.capacity, ap vec_capacity w.kept-is);
           }
     ]
+
+all_of : (c : After-truncate) → take c.entries.place c.args.entries.now.items ≡ c.args.entries.now.items
+all_of c = take_all c.entries.place c.args.entries.now.items (omega (arith, c.entries-test.false, c.len-place-end.ensures, c.args.entries.now.ok.0))
+
+pub returns-clause-kept : goal.returns-clause-kept
+returns-clause-kept c = c.entries.invariant.kept ∙ ap (with_numbers c.args.stay.now) (all_of c)
+
+pub returns-clause-others : goal.returns-clause-others
+returns-clause-others c = c.truncate.ensures.items ∙ (c.entries.invariant.out ∙ ap (without_numbers c.args.stay.now) (all_of c))
+
+pub returns-clause-count : goal.returns-clause-count
+returns-clause-count c =
+    let inv = c.entries.invariant in
+    inv.count ∙ (sym inv.met ∙ (ap length (returns-clause-kept c)
+    ∙ (sym (length-map (with_numbers c.args.stay.now c.args.entries.now.items) (λ e. e.number)) ∙ ap length c.requires.numbers)))
+
+pub returns-clause-all : goal.returns-clause-all
+returns-clause-all c =
+    let inv = c.entries.invariant in
+    omega (arith, c.truncate.ensures.len, inv.parted, inv.count, inv.len, c.entries-test.false, c.entries.auto.place-end, c.len-place-end.ensures, c.entries.entries.ok.0, c.args.entries.now.ok.0)
