@@ -4,8 +4,8 @@
 //! answers E1, E2 and E3 in this order and exactly where they hold, and leaves the device as it was;
 //! `created_accepts_are_taken` says that a device takes each Join-Accept that `JoinAcceptCreator` makes under its AppKey, and
 //! then has exactly the session keys of the fields. `write_uplink` is `uplink` without the loan, and says what it leaves in
-//! the buffer. Nothing of it takes memory. `traffic` has the calls of many such devices, without a join server, and
-//! `worked` the texts of a run of one.
+//! the buffer. Nothing of it takes memory. `traffic` has the calls of many such devices, without a join server,
+//! `calls` those of any one, and `worked` the texts of a run of one, with its roster.
 //!
 //! `TestJoinServer` answers a JoinReq's text with the text of a JoinAns: a Join-Accept of the request's fields and the session
 //! keys, `MICFailed`, or `Other`. `join_ans` of `ns_joinwire` reads that text as this answer, and the device with this AppKey
@@ -18,6 +18,7 @@
 #![tactic(auto)]
 
 mod answer;
+pub mod calls;
 mod device;
 mod fault;
 mod join_fault;

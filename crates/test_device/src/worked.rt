@@ -1,6 +1,10 @@
 //! The run that many tests share, as texts: a device joins and sends an uplink, and gateways a1 and a2 hear it. Steps and `up` lines are those
 //! of FORMATS, each with its line feed.
 
+use ns_roster::Roster;
+use std::alloc::Global;
+use std::sync::Arc;
+
 /// The roster: the device, of network 000024.
 pub const ROSTER: &str =
     r#"{"version":1,"net_id":"000024","rx1_offset":0,"rx_delay":1,"devices":[{"dev_eui":"000000000000000d","join_eui":"0102030401020304","slot":1998321}]}"#;
@@ -54,3 +58,9 @@ pub const CLOSE: &str = "close 000000000000000d 1 2\n";
 
 /// The uplink's `up` line where gateway a1 alone heard it.
 pub const UP: &str = "up 000000000000000d 1 2 1 plain - 74657374 1 00000000000000a1\n";
+
+/// The roster of this text, if it is one and there is memory for it.
+pub fn roster_of(alloc: Global, text: &str) -> Option<Arc<Roster>> {
+    let roster = Roster::read(alloc, text.as_bytes()).ok()?;
+    Arc::new(alloc, roster).ok()
+}

@@ -1,4 +1,9 @@
-//! Tests of the crates round the shards: where gateways are, and late copies of frames (ns_front), what a server tells of itself over HTTP
+//! Tests of shards and of the crates round them, of what no text of a worked run can say.
+//!
+//! Of a shard: a server that searches its entries gives the same replies to Join-Requests, the last round of a session, memory that is refused
+//! to a shard and to a journal, a run of 100,002 steps, and a trim in place.
+//!
+//! Of the crates round the shards: where gateways are, and late copies of frames (ns_front), what a server tells of itself over HTTP
 //! (ns_status), texts from outside, in pieces of every size and with each fault (ns_responses, ns_roster_place), the files of a record
 //! (ns_record_files), packet forwarders, over memory and over sockets (ns_forwarder, ns_forwarder_socket), and what the threads of `serve`
 //! share where none runs (ns_serve_parts, ns_serve_state, ns_serve_sockets, ns_serve_status): which datagrams are late copies, how many
@@ -11,7 +16,15 @@
 #[cfg(test)]
 mod addresses;
 #[cfg(test)]
+mod calls;
+#[cfg(test)]
 mod failures;
+#[cfg(test)]
+mod growth;
+#[cfg(test)]
+mod joins;
+#[cfg(test)]
+mod journal;
 #[cfg(test)]
 mod keys;
 #[cfg(test)]
@@ -29,12 +42,18 @@ mod requests;
 #[cfg(test)]
 mod responses;
 #[cfg(test)]
+mod rounds;
+#[cfg(test)]
 mod rows;
 #[cfg(test)]
 mod running;
+#[cfg(test)]
+mod runs;
 #[cfg(test)]
 mod served;
 #[cfg(test)]
 mod sockets;
 #[cfg(test)]
 mod texts;
+#[cfg(test)]
+mod trims;

@@ -1,11 +1,11 @@
 //! Traffic at random, whose record is compacted now and then: no later answer changes.
 
 use crate::life::Life;
-use crate::traffic::{join, join_reply, uplink};
 use ns_calls::{Call, Reply};
 use ns_resume::RecordFault;
 use ns_types::WindowName;
 use std::alloc::Global;
+use test_device::calls::{join, join_reply, uplink};
 
 const DEVICES: usize = 3;
 

@@ -4,7 +4,6 @@
 
 ghost use Rattle.std.specs.Prelude.{◌<◌};
 
-use crate::calls::roster;
 use crate::folder::text_of;
 use ns_output::Output;
 use ns_replay::{ReplayFault, replay};
@@ -12,7 +11,7 @@ use ns_roster::Roster;
 use ns_types::{BLOCKS, Fuse, Stream, take_all};
 use std::alloc::Global;
 use std::sync::Arc;
-use test_device::worked::{ANSWER, JOIN, JOIN_2, UNKNOWN};
+use test_device::worked::{ANSWER, JOIN, JOIN_2, ROSTER, UNKNOWN, roster_of};
 
 // A join with its answer, two confirmed uplinks, their closings and a line that is refused; and what is written of them.
 const STEPS: &[&str] = &[
@@ -124,7 +123,7 @@ fn ends(
 
 // Whether each read fails in turn, with nothing written, of which there are more than eight. None where a run ends otherwise.
 fn reads_fail(alloc: Global) -> Option<bool> {
-    let roster = roster(alloc)?;
+    let roster = roster_of(alloc, ROSTER)?;
     for reads in 0..20 {
         let is_whole = ends(alloc, &roster, (STEPS, LINES), 70, 200, Some(reads), None)?;
         if is_whole && reads <= 8 {
@@ -144,7 +143,7 @@ fn a_failed_read_writes_nothing(rt: HostRuntime) {
 fn whole_runs(alloc: Global, text: (&[&str], &str), most: usize) -> Option<u32>
     requires { 0 < most }
 {
-    let roster = roster(alloc)?;
+    let roster = roster_of(alloc, ROSTER)?;
     let mut count = 0u32;
     for writes in 0..40 {
         let is_whole = ends(alloc, &roster, text, 100_000, most, None, Some(writes))?;
@@ -202,7 +201,7 @@ fn copies(alloc: Global, text: &[&str], count: u32) -> Option<Vec<Vec<u8>>> {
 
 // How often a run of these steps is refused memory until it is made.
 fn refusals_of(alloc: Global, steps: &[&str]) -> Option<u32> {
-    let roster = roster(alloc)?;
+    let roster = roster_of(alloc, ROSTER)?;
     let mut inputs = copies(alloc, steps, 4096)?;
     let mut held = Vec::with_capacity(alloc, BLOCKS).ok()?;
     take_all(alloc, &mut held).ok()?;

@@ -4,6 +4,7 @@ use ns_resume::RecordFault;
 use ns_roster::Roster;
 use std::alloc::Global;
 use std::sync::Arc;
+use test_device::worked;
 
 /// The first 40 bytes of its uplink.
 pub const TORN: &str = "heard 010100000000000000a100000000000f42";
@@ -20,11 +21,5 @@ pub const ASKED: &str =
 
 /// The roster of this text.
 pub fn roster_of(alloc: Global, text: &str) -> Result<Arc<Roster>, RecordFault> {
-    let Ok(roster) = Roster::read(alloc, text.as_bytes()) else {
-        return Err(RecordFault::NoMemory);
-    };
-    match Arc::new(alloc, roster) {
-        Ok(roster) => Ok(roster),
-        Err(_) => Err(RecordFault::NoMemory),
-    }
+    worked::roster_of(alloc, text).ok_or(RecordFault::NoMemory)
 }

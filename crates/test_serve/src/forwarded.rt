@@ -1,9 +1,10 @@
 //! Servers over loopback that hear packet forwarders: a join and a confirmed uplink, and a server that hears own datagrams too.
 
-use crate::play::Side::Near;
-use crate::play::Step::{Byte, Join, Nap, Pull, PushJoin, PushUplink, Receive, Uplink};
-use crate::trial::{Asked, Life, Sockets, Told, Trial, USUAL, Want, tried};
+use crate::trial::{Asked, Life, Sockets, Told, Trial, USUAL, tried};
 use std::test::*;
+use test_parties::Side::Near;
+use test_parties::Step::{Byte, Join, Nap, Pull, PushJoin, PushUplink, Receive, Uplink};
+use test_parties::Want;
 
 // A device joins and sends a confirmed uplink. Its gateway's forwarder sends by one socket, and asks for downlinks by another.
 static FORWARDED: Trial = Trial {

@@ -7,8 +7,6 @@
 #![tactic(auto)]
 
 #[cfg(test)]
-mod around;
-#[cfg(test)]
 mod forwarded;
 #[cfg(test)]
 mod lives;
@@ -16,10 +14,6 @@ mod lives;
 mod logged;
 #[cfg(test)]
 mod loopback;
-#[cfg(test)]
-mod parties;
-#[cfg(test)]
-mod play;
 #[cfg(test)]
 mod trial;
 #[cfg(test)]

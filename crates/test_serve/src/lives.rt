@@ -5,13 +5,7 @@ ghost use Rattle.std.specs.Prelude.{IfOk};
 ghost use Rattle.std.specs.Arc.{arc_value};
 ghost use Rattle.ns_serve_shards.specs.Begun.{IsBegun};
 
-use crate::around::Held;
-use crate::parties::{ROSTER_B, nap};
-use crate::play::Side::Near;
-use crate::play::Step::{
-    Acknowledged, Again, Byte, Closed, Ended as LivesEnded, First, Join, KeepKilled, Uplink,
-};
-use crate::trial::{Asked, Life, Told, Trial, USUAL, Want, is_made_of, roster_of, tried};
+use crate::trial::{Asked, Life, Told, Trial, USUAL, tried};
 use log::sink::Discard;
 use ns_record_files::RecordFiles;
 use ns_resume::RecordFault;
@@ -20,13 +14,13 @@ use ns_serve::Begun;
 use std::alloc::{Alloc, Global};
 use std::fs;
 use std::fs::File;
-use std::io::Read;
 use std::rt::Files;
 use std::sync::Arc;
-use std::sync::atomic::{AtomicU64, Ordering};
 use std::test::*;
-use std::time::Clock;
-use test_device::worked::{CLOSE, CONFIRMED, JOIN, KEPT_ANSWER, ROSTER, UP};
+use test_device::worked::{CLOSE, CONFIRMED, JOIN, KEPT_ANSWER, ROSTER, UP, roster_of};
+use test_parties::Side::Near;
+use test_parties::Step::{Acknowledged, Again, Byte, Copy, Ended, Filled, First, Join, Uplink};
+use test_parties::{ROSTER_B, Want, emptied, has_lines, write_record};
 
 // The folder of the record, and what a kill would have left of it after the first acknowledgement.
 const FOLDER: &str = "test_serve_lives";
@@ -41,7 +35,7 @@ const OPEN_UP: &str = "test_serve_open/up";
 const FOLDERS: &[&str] = &[FOLDER, KILLED, OPEN];
 
 // The files of the record, and those that keep what a kill would have left of them.
-static KEPT: [(&str, &str); 2] = [
+const KEPT: &[(&str, &str)] = &[
     ("test_serve_lives/steps", "test_serve_killed/steps"),
     ("test_serve_lives/up", "test_serve_killed/up"),
 ];
@@ -64,39 +58,6 @@ const UP_1: &str = "up 000000000000000d 1 1 1 plain - 74657374 1 00000000000000a
 
 // A roster without the device.
 const WITHOUT: &str = r#"{"version":1,"net_id":"000024","rx1_offset":0,"rx_delay":1,"devices":[]}"#;
-
-/// How many lives have ended, how often the record of one was looked after, and the clock.
-#[derive(Drop)]
-pub struct Ended {
-    pub lives: AtomicU64,
-    pub looks: AtomicU64,
-    pub held: Held,
-}
-
-impl Ended {
-    /// None has ended, and the clock stands at this time.
-    pub fn new(stands_ms: u64) -> Ended {
-        Ended {
-            lives: AtomicU64::new(0),
-            looks: AtomicU64::new(0),
-            held: Held {
-                ms: AtomicU64::new(stands_ms),
-                reads: AtomicU64::new(0),
-            },
-        }
-    }
-
-    /// Waits until so many lives have ended, for ten seconds at most.
-    pub fn wait_for<R: Clock>(&self, rt: &R, lives: u64) -> Option<()> {
-        for _ in 0..1_000 {
-            if self.lives.load(Ordering::SeqCst) >= lives {
-                return Some(());
-            }
-            nap(rt);
-        }
-        None
-    }
-}
 
 /// What the record in a folder leaves, whose steps are to outlive the machine or the program alone.
 pub fn resumed<H: Files<File = File>>(
@@ -130,98 +91,6 @@ pub fn begun_of<H: Files<File = File>>(
         Ok(begun) => Ok(begun),
         Err(_) => Err(RecordFault::NoMemory),
     }
-}
-
-/// Keeps what a kill would have left of the record now.
-pub fn keep_killed<H: Files>(host: &H) -> Option<()> {
-    for (from, to) in &KEPT {
-        fs::copy(host, from, to).ok()?;
-    }
-    Some(())
-}
-
-/// Waits until the record with the open window has an `up` line, for five seconds at most.
-pub fn wait_for_up<H: Files, R: Clock>(host: &H, rt: &R) -> Option<()> {
-    for _ in 0..500 {
-        if fs::metadata(host, OPEN_UP).ok()?.len() > 0 {
-            return Some(());
-        }
-        nap(rt);
-    }
-    None
-}
-
-/// Makes a folder without files.
-pub fn emptied<H: Files + Alloc>(host: &H, folder: &str) -> Option<()> {
-    let _ = fs::remove_dir_all(host, folder);
-    fs::create_dir(host, folder).ok()
-}
-
-// The path of a file of a folder.
-fn path_of(alloc: Global, folder: &str, name: &str) -> Option<String> {
-    format!(in alloc; "{folder}/{name}").ok()
-}
-
-// The bytes of a file of a folder.
-fn bytes_of<H: Files<File = File>>(
-    host: &H,
-    alloc: Global,
-    folder: &str,
-    name: &str,
-) -> Option<Vec<u8>> {
-    let path = path_of(alloc, folder, name)?;
-    let mut file = File::open(host, path.as_str()).ok()?;
-    let mut bytes = Vec::new(alloc);
-    file.read_to_end(&mut bytes).ok()?;
-    Some(bytes)
-}
-
-/// Whether a file of a folder has these lines.
-pub fn has_lines<H: Files<File = File>>(
-    host: &H,
-    alloc: Global,
-    folder: &str,
-    name: &str,
-    lines: &[&str],
-) -> bool {
-    match bytes_of(host, alloc, folder, name) {
-        Some(bytes) => is_made_of(bytes.as_slice(), lines),
-        None => false,
-    }
-}
-
-// The text of these lines.
-fn text_of(alloc: Global, lines: &[&str]) -> Option<String> {
-    let mut text = String::new(alloc);
-    for line in lines {
-        text.push_str(line).ok()?;
-    }
-    Some(text)
-}
-
-// Writes a file of a folder.
-fn write_file<H: Files>(
-    host: &H,
-    alloc: Global,
-    folder: &str,
-    name: &str,
-    lines: &[&str],
-) -> Option<()> {
-    let path = path_of(alloc, folder, name)?;
-    let text = text_of(alloc, lines)?;
-    fs::write(host, path.as_str(), text.as_bytes()).ok()
-}
-
-// Writes the files of a folder.
-fn write<H: Files>(
-    host: &H,
-    alloc: Global,
-    folder: &str,
-    steps: &[&str],
-    up: &[&str],
-) -> Option<()> {
-    write_file(host, alloc, folder, "steps", steps)?;
-    write_file(host, alloc, folder, "up", up)
 }
 
 /// What is asked of a server of one device: windows stay open for 200 ms.
@@ -260,17 +129,17 @@ static LIVES: Trial = Trial {
     steps: &[
         Join(0xa1),
         Acknowledged(0, 0),
-        KeepKilled,
+        Copy(KEPT),
         Uplink(Near, 1, false, 0xa1),
-        LivesEnded(1),
+        Ended(1),
         Again(1),
         Acknowledged(2, 1),
         Byte,
-        LivesEnded(2),
+        Ended(2),
         Acknowledged(0, 1),
         Byte,
-        LivesEnded(3),
-        Closed,
+        Ended(3),
+        Filled(OPEN_UP),
         First,
     ],
     told: Told {
@@ -298,7 +167,7 @@ fn make_folders<H: Files + Alloc>(host: &H, alloc: Global) -> Option<()> {
     for folder in FOLDERS {
         emptied(host, folder)?;
     }
-    write(host, alloc, OPEN, &[JOIN, KEPT_ANSWER, CONFIRMED], &[])
+    write_record(host, alloc, OPEN, &[JOIN, KEPT_ANSWER, CONFIRMED], &[])
 }
 
 // Whether the file of `up` lines of the record has those of both lives. The folders of the four lives are taken away.
@@ -357,7 +226,7 @@ fn are_these<H: Files<File = File>>(host: &H, alloc: Global, files: &[&[&str]; 2
 
 // Whether a start comes to what it says.
 fn starts_so<H: Files<File = File>>(host: &H, alloc: Global, start: &Start) -> Option<bool> {
-    write(host, alloc, REFUSED, start.before[0], start.before[1])?;
+    write_record(host, alloc, REFUSED, start.before[0], start.before[1])?;
     let roster = roster_of(alloc, start.roster)?;
     let is_so = resumed(host, alloc, &roster, REFUSED, false).err() == start.why;
     Some(is_so && are_these(host, alloc, &start.behind))

@@ -1,10 +1,6 @@
 //! What a server logs: the counts once a minute and at the end, and where memory was wanting before the first window.
 
-use crate::lives::Ended;
-use crate::parties::contains;
-use crate::play::Side::Near;
-use crate::play::Step::{Ask, First, Frame, Stand};
-use crate::trial::{Asked, Life, Ran, Told, Trial, USUAL, Want, run_logged, tried};
+use crate::trial::{Asked, Life, Ran, Told, Trial, USUAL, run_logged, tried};
 use ns_serve::ServeFault;
 use ns_types::BLOCKS;
 use std::net::{Net, TcpListener, TcpStream};
@@ -12,6 +8,9 @@ use std::sync::Wait;
 use std::test::*;
 use std::thread::Threads;
 use std::time::Clock;
+use test_parties::Side::Near;
+use test_parties::Step::{Ask, First, Frame, Stand};
+use test_parties::{Ended, Want, contains};
 
 // A frame of an address that no device has.
 const UNKNOWN: [u8; 16] = [

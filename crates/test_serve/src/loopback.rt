@@ -1,12 +1,12 @@
 //! Servers over loopback: a join and an uplink, the longest datagram and line, a gateway that moves, windows drained at the end, events and
 //! JSON objects, windows closed one after the other, two join workers, and an output that fails.
 
-use crate::parties::ROSTER_B;
-use crate::play::Side::{Far, Near};
-use crate::play::Step::{Ask, Byte, Join, Later, Longest, Nap, Receive, Uplink, Within};
-use crate::trial::{Asked, Life, Told, Trial, USUAL, Want, tried};
+use crate::trial::{Asked, Life, Told, Trial, USUAL, tried};
 use ns_serve::ServeFault;
 use std::test::*;
+use test_parties::Side::{Far, Near};
+use test_parties::Step::{Ask, Byte, Join, Later, Longest, Nap, Receive, Uplink, Within};
+use test_parties::{ROSTER_B, Want};
 
 // A device behind two gateways joins and sends one uplink; then comes one byte.
 static ONE_DEVICE: Trial = Trial {

@@ -1,19 +1,16 @@
 //! A server of one gateway worker, or one for each of two sockets, with those around it, or several such servers one after the other. Each
 //! has the same types: a server of others would be compiled once more.
 
-ghost use Rattle.std.specs.Prelude.{◌≡◌, ◌<◌, ◌≤◌, None, IfSome};
+ghost use Rattle.std.specs.Prelude.{◌<◌, ◌≤◌, IfSome};
 
-use crate::around::{Around, logger};
-use crate::lives::{Ended, begun_of};
-use crate::parties::{contains, join_server, local};
-use crate::play::{Party, Step};
+use crate::lives::begun_of;
 use log::{Log, error};
 use ns_exchange::HostName;
 use ns_output::Output;
 use ns_record_files::{RecordFiles, Recorder, Upkeep};
 use ns_roster::Roster;
 use ns_serve::{Begun, ServeFault, ServeOptions, Stop, serve};
-use ns_types::{BLOCKS, Failed, Sink, Stream, take_all};
+use ns_types::{BLOCKS, take_all};
 use std::alloc::Global;
 use std::net::{Net, SocketAddr, TcpListener, TcpStream};
 use std::process::Abort;
@@ -23,7 +20,8 @@ use std::test::*;
 use std::thread;
 use std::thread::Threads;
 use std::time::Clock;
-use test_device::worked::ROSTER;
+use test_device::worked::{ROSTER, roster_of};
+use test_parties::{Around, Ended, Party, Step, Want, Writer, join_server, local, logger};
 
 // What would stop a server from outside, where its options asked for that.
 #[derive(Clone, Copy)]
@@ -42,46 +40,6 @@ pub struct Looks<'a> {
 impl<'a> Upkeep for Looks<'a> {
     fn look_after(&mut self, _record: &Recorder<RecordFiles>) {
         self.count.fetch_add(1, Ordering::SeqCst);
-    }
-}
-
-/// A writer that takes so many texts, and then fails.
-#[derive(Drop)]
-pub struct Writer<'a> {
-    bytes: &'a mut Vec<u8>,
-    texts: u32,
-    failed: bool,
-}
-
-impl<'a> Writer<'a> {
-    /// A writer behind these bytes, which takes so many texts.
-    pub fn new(bytes: &'a mut Vec<u8>, texts: u32) -> Writer<'a> {
-        Writer {
-            bytes,
-            texts,
-            failed: false,
-        }
-    }
-}
-
-impl<'a> Stream for Writer<'a> {
-    ghost has_failed = { λ s. s.failed };
-
-    fn failed(&self) -> bool {
-        self.failed
-    }
-}
-
-impl<'a> Sink for Writer<'a> {
-    ghost taken = { λ _. None };
-
-    fn write(&mut self, bytes: &[u8]) -> Result<usize, Failed> {
-        if self.texts == 0 || bytes.is_empty() || self.bytes.extend_from_slice(bytes).is_err() {
-            self.failed = true;
-            return Err(Failed);
-        }
-        self.texts -= 1;
-        Ok(bytes.len())
     }
 }
 
@@ -135,14 +93,6 @@ pub struct Life {
     pub stop_after: Option<u32>,
 }
 
-/// A text that is wanted.
-pub enum Want {
-    /// These pieces, one behind the other.
-    Is(&'static [&'static str]),
-    /// One that has each of these pieces.
-    Has(&'static [&'static str]),
-}
-
 /// What becomes of servers, the last one's outcome among it.
 pub struct Told {
     pub ended: Result<u128, ServeFault>,
@@ -162,38 +112,6 @@ pub struct Trial {
     pub joins: usize,
     pub steps: &'static [Step],
     pub told: Told,
-}
-
-/// Whether a text is made of these pieces.
-pub fn is_made_of(text: &[u8], pieces: &[&str]) -> bool {
-    let mut rest = text;
-    for piece in pieces {
-        if !rest.starts_with(piece.as_bytes()) {
-            return false;
-        }
-        rest = rest.get(piece.len()..).unwrap_or(&[]);
-    }
-    rest.is_empty()
-}
-
-// Whether a text has each of these pieces.
-fn has_each(text: &[u8], pieces: &[&str]) -> bool {
-    for piece in pieces {
-        if !contains(text, piece.as_bytes()) {
-            return false;
-        }
-    }
-    true
-}
-
-impl Want {
-    /// Whether this text is wanted.
-    pub fn fits(&self, text: &[u8]) -> bool {
-        match self {
-            Want::Is(pieces) => is_made_of(text, pieces),
-            Want::Has(pieces) => has_each(text, pieces),
-        }
-    }
 }
 
 impl Asked {
@@ -249,12 +167,6 @@ impl Asked {
             closing: self.closing,
         })
     }
-}
-
-/// The roster of this text.
-pub fn roster_of(alloc: Global, text: &str) -> Option<Arc<Roster>> {
-    let roster = Roster::read(alloc, text.as_bytes()).ok()?;
-    Arc::new(alloc, roster).ok()
 }
 
 // The forwarders' port beside this one of the gateways.
@@ -355,7 +267,14 @@ where
 // What gateways and devices do. Whether each step came to what it says.
 fn play<R: Clock + Net>(common: &Common<'_, R>) -> bool {
     let (near, far) = common.asked.ports();
-    match Party::new(common, near, far) {
+    let Common {
+        rt,
+        host,
+        alloc,
+        ended,
+        ..
+    } = *common;
+    match Party::new(rt, host, alloc, ended, near, far) {
         Some(mut party) => party.play(common.trial.steps),
         None => false,
     }

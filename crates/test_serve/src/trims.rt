@@ -5,7 +5,7 @@ ghost use Rattle.std.specs.Arc.{arc_value};
 ghost use Rattle.ns_shard.specs.State.{no_entries};
 ghost use Rattle.ns_tally.specs.Tally.{AreNamed};
 
-use crate::trial::{all_but, roster_of};
+use crate::trial::all_but;
 use log::Log;
 use ns_calls::Call;
 use ns_outside::{Open, Receipt};
@@ -19,7 +19,7 @@ use std::alloc::{AllocError, Global};
 use std::marker::Brand;
 use std::sync::{Arc, Wait};
 use std::test::*;
-use test_device::worked::ROSTER;
+use test_device::worked::{ROSTER, roster_of};
 
 // What is done before it is looked whether a trim is due, and with how much memory that is.
 struct Turn {

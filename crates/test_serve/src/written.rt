@@ -1,7 +1,6 @@
 //! What leaves the server rests on steps that are written.
 
-use crate::lives::{SHORT, emptied, has_lines, resumed};
-use crate::trial::{Writer, roster_of};
+use crate::lives::{SHORT, resumed};
 use ns_calls::{Bytes, Call, Downlink, Reply};
 use ns_outside::{Downlinks, Receipt};
 use ns_roster::Roster;
@@ -17,7 +16,8 @@ use std::rt::Files;
 use std::sync::Wait;
 use std::test::*;
 use std::time::Clock;
-use test_device::worked::ROSTER;
+use test_device::worked::{ROSTER, roster_of};
+use test_parties::{Writer, emptied, has_lines};
 
 // The folder of the record.
 const FOLDER: &str = "test_serve_written";

@@ -13,12 +13,12 @@
 mod messages;
 
 use crate::forwarders::messages::put_messages;
-use crate::put::put_line;
 use ns_forwarder_socket::Gateways;
 use std::alloc::Global;
 use std::collections::hash_map::RandomState;
 use std::io;
 use std::random::RandomSource;
+use worked_frames::put::put_line;
 
 // Keys of a hash that are the same in each run.
 #[derive(Clone, Copy)]

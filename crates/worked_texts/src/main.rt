@@ -1,6 +1,6 @@
 //! Makes worked texts, and prints the titles or the answers of each; and times parts of the server. A word of the arguments is the kind of
 //! the texts behind it, and any other names a text of that kind: a file, or standard input, which is `-`. The form of a kind stands at the
-//! head of its module:
+//! head of its module, here or in `worked_frames`:
 //!
 //! - `runs`: runs of step lines by `replay`;
 //! - `records`: lives of records;
@@ -14,14 +14,10 @@
 
 mod embedding;
 mod forwarders;
-mod frames;
-mod joins;
-mod put;
 mod records;
 mod runs;
 mod times;
 
-use crate::put::pieces;
 use anyhow::bail;
 use std::alloc::Global;
 use std::net::Net;
@@ -30,6 +26,8 @@ use std::sync::Wait;
 use std::thread::Threads;
 use std::time::Clock;
 use std::{env, fs, io};
+use worked_frames::put::pieces;
+use worked_frames::{frames, joins};
 
 // What a text is.
 #[derive(Clone, Copy)]

@@ -18,9 +18,9 @@
 mod life;
 mod lines;
 
-use crate::put::{halves, put_line};
 use crate::records::life::Life;
 use std::alloc::Global;
+use worked_frames::put::{halves, put_line};
 
 /// Makes the records of a text's parts. The first says what the text is about.
 pub fn make(alloc: Global, parts: &[&str], out: &mut String) {

@@ -14,13 +14,13 @@
 
 ghost use Rattle.std.specs.Prelude.{◌<◌};
 
-use crate::put::{halves, pieces, put, put_line, put_made, show};
 use ns_output::Output;
 use ns_replay::{ReplayFault, replay};
 use ns_roster::Roster;
 use ns_types::Fuse;
 use std::alloc::Global;
 use std::sync::Arc;
+use worked_frames::put::{halves, pieces, put, put_line, put_made, put_number, show};
 
 // A run as its text tells it: its steps, and the lines that are to be written.
 #[derive(Drop)]
@@ -119,9 +119,7 @@ impl Worked {
             let mut written = String::new(alloc);
             self.put_written(alloc, most, &mut written);
             if written.as_str() != self.lines.as_str() {
-                put(out, "differs, in pieces of ");
-                show(out, most);
-                put(out, " bytes. Written:\n");
+                put_number(out, "differs, in pieces of ", most, " bytes. Written:\n");
                 put(out, written.as_str());
                 put(out, "Wanted:\n");
                 put_line(out, self.lines.as_str());

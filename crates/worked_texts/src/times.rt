@@ -11,15 +11,14 @@ mod served;
 mod server;
 mod shards;
 
-use crate::put::{pieces, put_line};
 use std::alloc::Global;
-use std::fmt::Write;
 use std::io;
 use std::io::ErrorKind;
 use std::net::Net;
 use std::sync::Wait;
 use std::thread::Threads;
 use std::time::{Clock, Instant};
+use worked_frames::put::put_line;
 
 /// What a part tells: the lines of what was computed, and those of times.
 #[derive(Drop)]
@@ -28,21 +27,14 @@ pub struct Told {
     times: String,
 }
 
-impl Told {
-    // Adds the nanoseconds of what has this name.
-    fn add_time(&mut self, name: &str, nanoseconds: u128) {
-        let _ = writeln!(self.times, "{name} {nanoseconds} ns");
-    }
-}
-
 // The clock's time; None where it tells none.
 fn now<R: Clock>(rt: &R) -> Option<Instant> {
     Instant::now(rt).ok()
 }
 
 // The nanoseconds since a time; None where the clock tells no time.
-fn since<R: Clock>(rt: &R, start: Instant) -> Option<u128> {
-    match start.elapsed(rt) {
+fn since<R: Clock>(rt: &R, start: Option<Instant>) -> Option<u128> {
+    match start?.elapsed(rt) {
         Ok(took) => Some(took.as_nanos()),
         Err(_) => None,
     }
@@ -52,14 +44,14 @@ fn since<R: Clock>(rt: &R, start: Instant) -> Option<u128> {
 fn time_part<R: Threads + Wait + Net + Clock + Sync>(
     rt: &R,
     alloc: Global,
-    words: &[&str],
+    asked: &str,
     told: &mut Told,
 ) -> Option<()> {
-    let (word, behind) = words.split_first()?;
-    match *word {
+    let (word, behind) = asked.split_once(",").unwrap_or((asked, ""));
+    match word {
         "aes" => aes::time(rt, alloc, told),
-        "joinclient" => joinclient::time(rt, alloc, behind.first().copied(), told),
-        "server" => server::time(rt, alloc, server::asked(behind), told),
+        "joinclient" => joinclient::time(rt, alloc, behind, told),
+        "server" => server::time(rt, alloc, behind, told),
         _ => {
             put_line(&mut told.times, "none of aes, joinclient and server");
             None
@@ -67,10 +59,11 @@ fn time_part<R: Threads + Wait + Net + Clock + Sync>(
     }
 }
 
-// Prints what a part tells.
-fn print<R: Print + Eprint>(rt: &R, told: &Told) -> io::Result<()> {
+// Prints what a part tells. A fault where it has not ended.
+fn print<R: Print + Eprint>(rt: &R, told: &Told, ended: Option<()>) -> io::Result<()> {
     rt.print(told.lines.as_str())?;
-    rt.eprint(told.times.as_str())
+    rt.eprint(told.times.as_str())?;
+    ended.ok_or(io::Error::from(ErrorKind::InvalidInput))
 }
 
 /// Times the part that is asked for. A fault where there is no such part, or it was refused memory, the clock or a thread.
@@ -83,8 +76,6 @@ pub fn time<R: Threads + Wait + Net + Clock + Print + Eprint + AllocGlobal + Syn
         lines: String::new(alloc),
         times: String::new(alloc),
     };
-    let words = pieces(alloc, asked, ",");
-    let ended = time_part(rt, alloc, words.as_slice(), &mut told);
-    print(rt, &told)?;
-    ended.ok_or(io::Error::from(ErrorKind::InvalidInput))
+    let ended = time_part(rt, alloc, asked, &mut told);
+    print(rt, &told, ended)
 }

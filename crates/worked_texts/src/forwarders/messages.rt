@@ -1,11 +1,11 @@
 //! What each message becomes.
 
-use crate::put::{put, put_hex, show};
 use ns_forwarder::{ForwarderFault, Handed, Head, Message, read_message};
 use ns_forwarder_socket::{Gateways, Route, Taken, take};
 use std::alloc::Global;
 use std::fmt::Write;
 use std::net::{IpAddr, Ipv4Addr, SocketAddr};
+use worked_frames::put::{put, put_hex, show};
 
 // What a message has become: what is taken of it, whether that is noted, and where downlinks of its gateway go then.
 #[derive(Drop)]

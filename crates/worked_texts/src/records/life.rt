@@ -1,6 +1,5 @@
 //! A record, and the server that writes it.
 
-use crate::put::{pieces, put, put_hex, put_line, show};
 use crate::records::lines::{without_end, without_last};
 use ns_calls::{Answer, Call, shard_of_call};
 use ns_lines::{Line, lines, put_window, up_line};
@@ -13,6 +12,7 @@ use std::alloc::Global;
 use std::fmt::Display;
 use std::io::BufReader;
 use std::sync::Arc;
+use worked_frames::put::{pieces, put, put_hex, put_line, show};
 
 // How many bytes of a file are read at once: few, so that lines stand in several pieces.
 const PIECE: usize = 16;

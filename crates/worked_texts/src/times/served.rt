@@ -70,12 +70,22 @@ fn jobs<'a, P: Drop>(
     alloc: Global,
     mut passes: Vec<P>,
     parts: &'a [Vec<Call>],
-) -> Option<Vec<(P, &'a [Call])>> {
+) -> Vec<(P, &'a [Call])> {
     let mut jobs = Vec::new(alloc);
     for calls in parts {
-        jobs.push((passes.pop()?, calls.as_slice())).ok()?;
+        if let Some(pass) = passes.pop() {
+            let _ = jobs.push((pass, calls.as_slice()));
+        }
     }
-    Some(jobs)
+    jobs
+}
+
+fn sum(each: Vec<u64>) -> u64 {
+    let mut sum = 0u64;
+    for one in &each {
+        sum = sum.wrapping_add(*one);
+    }
+    sum
 }
 
 // How many entries were made, and the nanoseconds of all calls. The server is lent to a thread for each part of the calls.
@@ -89,15 +99,11 @@ fn time_calls<S: Calls<R> + TrimsShards<R> + Sync, R: Threads + Wait + Clock + S
 where
     S::Pass: Send,
 {
-    let jobs = jobs(alloc, passes, parts)?;
-    let start = now(rt)?;
+    let jobs = jobs(alloc, passes, parts);
+    let start = now(rt);
     let each = thread::map_vec(rt, jobs, &|job| call_each(rt, alloc, server, job)).ok()?;
-    let took = since(rt, start)?;
-    let mut made = 0u64;
-    for one in &each {
-        made = made.wrapping_add(*one);
-    }
-    Some((made, took))
+    let made = sum(each);
+    Some((made, since(rt, start)?))
 }
 
 fn serve<B: Naming + Send + Sync, R: Threads + Wait + Clock + Sync>(

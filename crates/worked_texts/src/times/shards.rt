@@ -67,45 +67,27 @@ fn sees_answer(answer: Result<Answer, AllocError>) -> Option<bool> {
     }
 }
 
-/// Makes each call on its shard: the nanoseconds of all.
+/// Makes each call on its shard: how many entries there are then, and the nanoseconds of all calls.
 pub fn time_calls<S: Shards, R: Clock>(
     rt: &R,
     alloc: Global,
     shards: &mut S,
     calls: &[Call],
-) -> Option<u128> {
-    let start = now(rt)?;
+) -> Option<(u64, u128)> {
+    let start = now(rt);
     for call in calls {
         shards.apply_call(alloc, call, true)?;
     }
-    since(rt, start)
+    let took = since(rt, start)?;
+    Some((shards.made(), took))
 }
 
-// All devices join, and each of their frames is heard.
-fn make_all<S: Shards>(alloc: Global, shards: &mut S, load: Load) -> Option<()> {
+/// All devices join, and each of their frames is heard: those of shard 0, whose numbers are those of the load times 16.
+pub fn make_all<S: Shards>(alloc: Global, shards: &mut S, load: Load) -> Option<()> {
     for place in 0..load.count() {
         if let Some(call) = load.call_at(place, 16) {
             shards.apply_call(alloc, &call, false)?;
         }
     }
     Some(())
-}
-
-/// What a trim of shard 0 did: how many entries it handed out, and its nanoseconds.
-fn time_trim<S: Shards, R: Clock>(rt: &R, alloc: Global, shards: &mut S) -> Option<(usize, u128)> {
-    let start = now(rt)?;
-    let dropped = shards.trim_first(alloc)?;
-    Some((dropped, since(rt, start)?))
-}
-
-/// What two trims of shard 0 did, one after the other: how many entries each handed out, and its nanoseconds. Before, the frames were made
-/// of devices of shard 0, whose numbers are those of the load times 16.
-pub fn time_trims<S: Shards, R: Clock>(
-    rt: &R,
-    alloc: Global,
-    shards: &mut S,
-    load: Load,
-) -> Option<[(usize, u128); 2]> {
-    make_all(alloc, shards, load)?;
-    Some([time_trim(rt, alloc, shards)?, time_trim(rt, alloc, shards)?])
 }

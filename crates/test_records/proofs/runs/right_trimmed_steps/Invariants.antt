@@ -1,6 +1,0 @@
-use Rattle.ns_shard.specs.KeptSteps.{AreReached}
-use Rattle.test_records.proofs.runs.right_trimmed_steps.Given as goal
-
--- the shards are what some steps leave
-abbrev pub invariant-steps : goal.invariant-steps
-invariant-steps l = AreReached l.shards
