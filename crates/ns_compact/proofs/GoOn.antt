@@ -6,10 +6,10 @@ use Rattle.ns_kept.specs.Kept.{keep}
 use Rattle.ns_kept.specs.Left.{Leaves}
 use Rattle.ns_compacted.specs.Compacted.{LeaveTheSame, LookTheSame}
 use Rattle.ns_compacted.proofs.Trimmed.{look-same, same_answers}
-use Rattle.ns_shard.specs.declared.step.Step.{Step}
+use Rattle.ns_acts.specs.declared.step.Step.{Step}
 use Rattle.ns_shard.specs.State.{State, remains, after_trim}
-use Rattle.ns_shard.specs.KeptSteps.{IsKeptAfter}
-use Rattle.ns_shard.specs.Steps.{shard_history}
+use Rattle.ns_runs.specs.KeptSteps.{IsKeptAfter}
+use Rattle.ns_runs.specs.Steps.{shard_history}
 use Rattle.ns_resume.specs.declared.run.Resumed.{Resumed}
 use Rattle.ns_resume.specs.Resumed.{IsResumed}
 use Rattle.ns_compact.specs.Compact.{TellsSteps, AreLeftBy, AllLookTheSame, GoOnTheSame}

@@ -4,10 +4,10 @@ use Rattle.ns_types.specs.Identity.{shard_count}
 use Rattle.ns_roster.specs.Network.{Network}
 use Rattle.ns_calls.specs.declared.call.Call.{Call}
 use Rattle.ns_calls.specs.Runs.{answers_after}
-use Rattle.ns_shard.specs.declared.step.Step.{Step}
+use Rattle.ns_acts.specs.declared.step.Step.{Step}
 use Rattle.ns_shard.specs.State.{State, remains, after_trim}
-use Rattle.ns_shard.specs.KeptSteps.{AreKeptAfter}
-use Rattle.ns_shard.specs.Steps.{shard_history}
+use Rattle.ns_runs.specs.KeptSteps.{AreKeptAfter}
+use Rattle.ns_runs.specs.Steps.{shard_history}
 use Rattle.ns_compacted.specs.Compacted.{LeaveTheSame, LookTheSame}
 use Rattle.ns_resume.specs.declared.base.Base.{Base}
 use Rattle.ns_resume.specs.Base.{head_text}

@@ -4,7 +4,7 @@
 //! only where a trim leaves the same of both: then every later answer is the same, by `ns_compacted`. So the choice needs no proof: where it
 //! is wrong the lines are not taken. `Folder` does so with the files of a record, and `Keeper` while a server goes on with them, where
 //! they have grown much. Stands on `ns_resume` for runs of records, on `ns_shard`
-//! for runs of single lines, and on `ns_record_files`.
+//! and `ns_runs` for runs of single lines, and on `ns_record_files`.
 #![tactic(auto)]
 
 mod choice;

@@ -1,10 +1,12 @@
 //! A run of lines that were run before.
 
 use crate::lines::Made;
+use ns_acts::call_of;
 use ns_calls::{Call, shard_of_call};
 use ns_resume::RecordFault;
 use ns_roster::Roster;
-use ns_shard::{Shard, TRIM_FROM, call_of, new_shards, trim_if_due};
+use ns_runs::{TRIM_FROM, new_shards, trim_if_due};
+use ns_shard::Shard;
 use ns_steps::step;
 use std::alloc::Global;
 use std::sync::Arc;

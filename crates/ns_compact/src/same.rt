@@ -2,7 +2,7 @@
 
 ghost use Rattle.std.specs.Prelude.{◌≡◌, ℕ, true, List, IfOk};
 ghost use Rattle.std.specs.Arc.{arc_value};
-ghost use Rattle.ns_shard.specs.declared.step.Step.{Step};
+ghost use Rattle.ns_acts.specs.declared.step.Step.{Step};
 ghost use Rattle.ns_shard.specs.State.{remains};
 ghost use Rattle.ns_compacted.specs.Compacted.{LookTheSame};
 ghost use Rattle.ns_resume.specs.Resumed.{IsAllOf};

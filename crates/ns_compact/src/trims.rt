@@ -2,7 +2,7 @@
 
 ghost use Rattle.std.specs.Prelude.{◌≡◌, ℕ, List, IfOk, OnOk};
 ghost use Rattle.std.specs.Arc.{arc_value};
-ghost use Rattle.ns_shard.specs.declared.step.Step.{Step};
+ghost use Rattle.ns_acts.specs.declared.step.Step.{Step};
 ghost use Rattle.ns_shard.specs.State.{after_trim};
 ghost use Rattle.ns_resume.specs.Resumed.{IsAllOf};
 ghost use Rattle.ns_compact.specs.Compact.{AreTrimmed, TellsSteps, AreLeftBy};

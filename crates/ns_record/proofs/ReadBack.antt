@@ -40,9 +40,9 @@ use Rattle.ns_joinwire.specs.JoinAns.{joinans}
 use Rattle.ns_joinwire.specs.Parts.{join_accept_of}
 use Rattle.ns_joinwire.specs.Spelled.{SpellsKey, SpellsAppSKey, SpellsAnswer}
 use Rattle.ns_joinwire.proofs.SpelledLemmas.{answer-spelled, spelled-answer}
-use Rattle.ns_shard.specs.declared.step.Act.{Act}
-use Rattle.ns_shard.specs.declared.step.Act.TheVariants.{Datagram, Answer, Lost, Close}
-use Rattle.ns_shard.specs.Taken.{call_of, outcome_of}
+use Rattle.ns_acts.specs.declared.step.Act.{Act}
+use Rattle.ns_acts.specs.declared.step.Act.TheVariants.{Datagram, Answer, Lost, Close}
+use Rattle.ns_acts.specs.Calls.{call_of, outcome_of}
 use Rattle.ns_steps.specs.StepLines.{raw_lines, number, step, steps}
 use Rattle.ns_steps.proofs.LineLemmas.{raw_lines_nil, raw_lines_ended}
 use Rattle.ns_steps.specs.Spelled.{SpellsStep, SpellsCounter}

@@ -16,9 +16,9 @@ use Rattle.ns_calls.specs.declared.call.Call.{Call}
 use Rattle.ns_calls.specs.declared.call.Call.TheVariants as call
 use Rattle.ns_calls.specs.Accept.{accept_bytes}
 use Rattle.ns_lines.specs.Text.{window_text}
-use Rattle.ns_shard.specs.declared.step.Act.{Act}
-use Rattle.ns_shard.specs.declared.step.Act.TheVariants.{Datagram, Answer, Lost, Close}
-use Rattle.ns_shard.specs.Taken.{call_of}
+use Rattle.ns_acts.specs.declared.step.Act.{Act}
+use Rattle.ns_acts.specs.declared.step.Act.TheVariants.{Datagram, Answer, Lost, Close}
+use Rattle.ns_acts.specs.Calls.{call_of}
 use Rattle.ns_steps.specs.StepLines.{step, steps}
 
 -- ---- the text of a JoinAns that says just this (TS002, JoinAns; this server's profile)

@@ -6,9 +6,9 @@ use Rattle.ns_roster.specs.declared.Device.{Device}
 use Rattle.ns_roster.specs.Network.{Network}
 use Rattle.ns_roster.specs.Closing.{with_nonces, network_text, nonce_by, with_greatest}
 use Rattle.ns_shard.specs.State.{State}
-use Rattle.ns_shard.specs.declared.step.Step.{Step}
-use Rattle.ns_shard.specs.NextRun.{greatest_among, greatest_after, closing_roster}
-use Rattle.ns_shard.specs.KeptSteps.{AreKeptAfter}
+use Rattle.ns_acts.specs.declared.step.Step.{Step}
+use Rattle.ns_runs.specs.NextRun.{greatest_among, greatest_after, closing_roster}
+use Rattle.ns_runs.specs.KeptSteps.{AreKeptAfter}
 use Rattle.ns_output.specs.declared.output.Output.{Output}
 use Rattle.ns_replay.specs.declared.reading.Answers.{Answers}
 use Rattle.ns_replay.specs.Output.{closing_line, output}

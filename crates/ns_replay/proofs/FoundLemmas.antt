@@ -7,12 +7,12 @@ use Rattle.std.proofs.lemmas.List.Concat.{flat_map-append}
 use Rattle.std.proofs.lemmas.List.Elements.{All-append, filter_map-append}
 use Rattle.ns_roster.specs.Network.{Network}
 use Rattle.ns_output.specs.declared.output.Output.{Output}
-use Rattle.ns_shard.specs.declared.run.Taken.{Taken}
-use Rattle.ns_shard.specs.declared.run.Taken.TheVariants.{Link, View, Made}
-use Rattle.ns_shard.specs.declared.step.Act.{Act}
-use Rattle.ns_shard.specs.declared.step.Step.{Step}
-use Rattle.ns_shard.specs.KeptSteps.{AreKeptAfter}
-use Rattle.ns_shard.specs.Steps.{step_taken}
+use Rattle.ns_runs.specs.declared.run.Taken.{Taken}
+use Rattle.ns_runs.specs.declared.run.Taken.TheVariants.{Link, View, Made}
+use Rattle.ns_acts.specs.declared.step.Act.{Act}
+use Rattle.ns_acts.specs.declared.step.Step.{Step}
+use Rattle.ns_runs.specs.KeptSteps.{AreKeptAfter}
+use Rattle.ns_runs.specs.Steps.{step_taken}
 use Rattle.ns_replay.specs.declared.reading.Answers.{Answers}
 use Rattle.ns_steps.specs.StepLines.{step, steps, step_of, ended}
 use Rattle.ns_replay.specs.Output.{all_lines, lines_of, text_of}

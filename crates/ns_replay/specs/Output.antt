@@ -9,12 +9,12 @@ use Rattle.ns_calls.specs.declared.answer.Answer.{Answer}
 use Rattle.ns_lines.specs.Text.{reply_text, down_text}
 use Rattle.ns_output.specs.declared.output.Output.{Output}
 use Rattle.ns_events.specs.Output.{line_of}
-use Rattle.ns_shard.specs.declared.step.Act.{Act}
-use Rattle.ns_shard.specs.declared.step.Step.{Step}
-use Rattle.ns_shard.specs.declared.run.Taken.{Taken}
-use Rattle.ns_shard.specs.declared.run.Taken.TheVariants.{Link, View, Made}
-use Rattle.ns_shard.specs.Steps.{step_taken}
-use Rattle.ns_shard.specs.NextRun.{closing_roster}
+use Rattle.ns_acts.specs.declared.step.Act.{Act}
+use Rattle.ns_acts.specs.declared.step.Step.{Step}
+use Rattle.ns_runs.specs.declared.run.Taken.{Taken}
+use Rattle.ns_runs.specs.declared.run.Taken.TheVariants.{Link, View, Made}
+use Rattle.ns_runs.specs.Steps.{step_taken}
+use Rattle.ns_runs.specs.NextRun.{closing_roster}
 use Rattle.ns_steps.specs.StepLines.{steps, step_of, ended}
 
 -- what comes of lines, one after the other, after the steps of the lines before them: nothing where a line is no step line

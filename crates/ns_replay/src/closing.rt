@@ -2,11 +2,11 @@
 
 ghost use Rattle.std.specs.Prelude.{◌≡◌, ◌++◌, [], map, IfOk, OnOk, if◌then◌else◌};
 ghost use Rattle.ns_roster.specs.Closing.{network_text, nonce_by, with_greatest};
-ghost use Rattle.ns_shard.specs.NextRun.{greatest_among};
+ghost use Rattle.ns_runs.specs.NextRun.{greatest_among};
 ghost use Rattle.ns_steps.specs.StepLines.{ended};
 
 use ns_roster::{Device, Roster};
-use ns_shard::Shards;
+use ns_runs::Shards;
 use ns_types::DevNonce;
 use std::alloc::{AllocError, Global};
 

@@ -2,7 +2,7 @@
 //!
 //! `replay` does it. What it writes is the lines of the run of the steps that it read, byte for byte: each answer is the plain server's,
 //! after the entries of its shard that the steps before it made. What is written is defined in `specs/Output.antt`, step lines by
-//! `ns_steps`. It stands on that, on `ns_shard`, which runs the steps, and on `ns_lines`, `ns_events` and `ns_output`, which put the lines
+//! `ns_steps`. It stands on that, on `ns_runs`, which runs the steps, and on `ns_lines`, `ns_events` and `ns_output`, which put the lines
 //! of an answer. It has no streams of its own: a program passes it any `Source` and any `Sink`.
 #![tactic(auto)]
 

@@ -12,7 +12,8 @@ use ns_calls::LentUplink;
 use ns_events::uplink_json;
 use ns_lines::{Line, put_downlink, put_lent_uplink, put_reply};
 use ns_output::Output;
-use ns_shard::{BoxedAnswer, Taken};
+use ns_runs::Taken;
+use ns_shard::BoxedAnswer;
 use std::alloc::AllocError;
 
 // Puts a text and a line feed at the end of a text.

@@ -9,10 +9,10 @@ use Rattle.ns_calls.specs.declared.call.Entry.{Entry}
 use Rattle.ns_calls.specs.Out.{answer}
 use Rattle.ns_calls.specs.Shards.{shard_of_call}
 use Rattle.ns_recorded.specs.Recorded.{matters}
-use Rattle.ns_shard.specs.declared.step.Step.{Step}
+use Rattle.ns_acts.specs.declared.step.Step.{Step}
 use Rattle.ns_shard.specs.State.{State}
-use Rattle.ns_shard.specs.KeptSteps.{AreKeptAfter}
-use Rattle.ns_shard.specs.Steps.{call_taken, shard_history}
+use Rattle.ns_runs.specs.KeptSteps.{AreKeptAfter}
+use Rattle.ns_runs.specs.Steps.{call_taken, shard_history}
 use Rattle.ns_shard.proofs.Entries.{answer-is}
 use Rattle.ns_steps.specs.StepLines.{ended}
 use Rattle.ns_record.specs.StepText.{ReadsBack}

@@ -39,11 +39,11 @@ use Rattle.ns_kept.proofs.ReadLemmas.{open_tickets-with_closings}
 use Rattle.ns_kept.proofs.Within.{All-end}
 use Rattle.ns_sessions.proofs.OpenTickets.{open_asked, at_member, same_ticket-refl}
 use Rattle.ns_shard.specs.State.{State, remains, seen, asked_in, open_tickets_in}
-use Rattle.ns_shard.specs.declared.step.Step.{Step}
-use Rattle.ns_shard.specs.KeptSteps.{AreKeptAfter}
-use Rattle.ns_shard.specs.Steps.{shard_history}
+use Rattle.ns_acts.specs.declared.step.Step.{Step}
+use Rattle.ns_runs.specs.KeptSteps.{AreKeptAfter}
+use Rattle.ns_runs.specs.Steps.{shard_history}
 use Rattle.ns_shard.proofs.Maps.{count-map}
-use Rattle.ns_shard.proofs.RunHistories.{shard_history-is}
+use Rattle.ns_runs.proofs.RunHistories.{shard_history-is}
 use Rattle.ns_resume.specs.Resumed.{AreOpenIn, windows_in, tickets_in}
 
 -- ---- the open windows of one shard

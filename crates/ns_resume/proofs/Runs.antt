@@ -11,10 +11,10 @@ use Rattle.ns_calls.specs.declared.call.Call.{Call}
 use Rattle.ns_calls.specs.declared.answer.Answer.{Answer}
 use Rattle.ns_lines.specs.Text.{up_text, has_line_feed}
 use Rattle.ns_calls.specs.Shards.{shard_of_call}
-use Rattle.ns_shard.specs.declared.step.Step.{Step}
-use Rattle.ns_shard.specs.KeptSteps.{AreKeptAfter}
-use Rattle.ns_shard.specs.Steps.{shard_history, step_taken, AreAfter}
-use Rattle.ns_shard.specs.declared.run.Taken.TheVariants.{Made}
+use Rattle.ns_acts.specs.declared.step.Step.{Step}
+use Rattle.ns_runs.specs.KeptSteps.{AreKeptAfter}
+use Rattle.ns_runs.specs.Steps.{shard_history, step_taken, AreAfter}
+use Rattle.ns_runs.specs.declared.run.Taken.TheVariants.{Made}
 use Rattle.ns_steps.specs.StepLines.{ended, step, step_of}
 use Rattle.ns_record.specs.StepText.{ReadsBack}
 use Rattle.ns_resume.specs.declared.run.Resumed.{Resumed}
@@ -22,7 +22,7 @@ use Rattle.ns_resume.specs.declared.run.Running.{Running}
 use Rattle.ns_resume.specs.Resumed.{IsAllOf, HasRunAll, AreUps, ups_since}
 use Rattle.ns_resume.specs.Private.Ups.{GoOn}
 use Rattle.ns_resume.specs.Private.Running.{HasAnswered, HasRun, RunsOn, RunsUpTo}
-use Rattle.ns_shard.proofs.KeptSteps.{kept-whole}
+use Rattle.ns_runs.proofs.KeptSteps.{kept-whole}
 use Rattle.ns_resume.proofs.Lines.{known-then}
 use Rattle.ns_resume.proofs.Steps.{kept-answered, taken-is, fit-push, ups-push, ups-first, flat_map-push}
 

@@ -12,14 +12,14 @@ use Rattle.ns_calls.specs.Out.{answer}
 use Rattle.ns_calls.specs.Shards.{shard_of_call}
 use Rattle.ns_calls.proofs.Lists.{All-push}
 use Rattle.ns_recorded.specs.Recorded.{matters}
-use Rattle.ns_shard.specs.declared.step.Step.{Step}
-use Rattle.ns_shard.specs.declared.run.Taken.TheVariants.{Made}
+use Rattle.ns_acts.specs.declared.step.Step.{Step}
+use Rattle.ns_runs.specs.declared.run.Taken.TheVariants.{Made}
 use Rattle.ns_shard.specs.State.{State}
-use Rattle.ns_shard.specs.Taken.{call_of}
-use Rattle.ns_shard.specs.KeptSteps.{AreKeptAfter}
-use Rattle.ns_shard.specs.Steps.{shard_history, all_taken, step_taken, call_taken}
+use Rattle.ns_acts.specs.Calls.{call_of}
+use Rattle.ns_runs.specs.KeptSteps.{AreKeptAfter}
+use Rattle.ns_runs.specs.Steps.{shard_history, all_taken, step_taken, call_taken}
 use Rattle.ns_shard.proofs.Entries.{answer-is}
-use Rattle.ns_shard.proofs.KeptSteps.{kept-called}
+use Rattle.ns_runs.proofs.KeptSteps.{kept-called}
 use Rattle.ns_resume.specs.Resumed.{fits, AllFit, up_of, ups_since}
 use Rattle.ns_resume.specs.Private.Running.{HasAnswered}
 

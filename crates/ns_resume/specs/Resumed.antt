@@ -11,13 +11,13 @@ use Rattle.ns_calls.specs.Entries.{open_windows}
 use Rattle.ns_calls.specs.History.{same_ticket, is_ticket_open}
 use Rattle.ns_lines.specs.Text.{up_text, has_line_feed}
 use Rattle.ns_recorded.specs.Recorded.{matters}
-use Rattle.ns_shard.specs.declared.step.Act.{Act}
-use Rattle.ns_shard.specs.declared.step.Step.{Step}
-use Rattle.ns_shard.specs.declared.run.Taken.{Taken}
-use Rattle.ns_shard.specs.declared.run.Taken.TheVariants.{Link, View, Made}
+use Rattle.ns_acts.specs.declared.step.Act.{Act}
+use Rattle.ns_acts.specs.declared.step.Step.{Step}
+use Rattle.ns_runs.specs.declared.run.Taken.{Taken}
+use Rattle.ns_runs.specs.declared.run.Taken.TheVariants.{Link, View, Made}
 use Rattle.ns_shard.specs.State.{State, seen, open_tickets_in}
-use Rattle.ns_shard.specs.KeptSteps.{AreKeptAfter}
-use Rattle.ns_shard.specs.Steps.{step_taken, all_taken}
+use Rattle.ns_runs.specs.KeptSteps.{AreKeptAfter}
+use Rattle.ns_runs.specs.Steps.{step_taken, all_taken}
 use Rattle.ns_steps.specs.StepLines.{ended, step, step_of}
 use Rattle.ns_resume.specs.declared.fault.RecordFault.{RecordFault}
 use Rattle.ns_resume.specs.declared.fault.RecordFault.TheVariants.{NoStep, NoFit}

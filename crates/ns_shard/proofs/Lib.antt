@@ -2,7 +2,6 @@ pub mod Maps
 pub mod WindowSteps
 pub mod Places
 pub mod Roster
-pub mod Datagrams
 pub mod DeviceSteps
 pub mod Entries
 pub mod Totals
@@ -13,11 +12,6 @@ pub mod UplinkSteps
 pub mod Endings
 pub mod PartsAfter
 pub mod Standing
-pub mod RunSteps
-pub mod RunHistories
-pub mod RunTaken
-pub mod StepEnds
-pub mod KeptSteps
 pub mod Openings
 pub mod Live
 pub mod Trimmed

@@ -1,5 +1,4 @@
 -- For private clauses, and for models of public types.
-pub mod Datagram
 pub mod Held
 pub mod Devices
 pub mod Sending
@@ -7,4 +6,3 @@ pub mod Room
 pub mod Reaction
 pub mod Uplink
 pub mod Parts
-pub mod Run

@@ -122,7 +122,7 @@ impl BoxedAnswer {
     }
 
     /// The same answer, in no more memory than it needs. `NoMemory` (`AllocError`) where a growth was refused.
-    pub(crate) fn packed(self, alloc: Global) -> Result<BoxedAnswer, AllocError>
+    pub fn packed(self, alloc: Global) -> Result<BoxedAnswer, AllocError>
         ensures { IfOk result (λ a. a ≡ self) }
     {
         let Some(uplink) = self.lend_uplink() else {

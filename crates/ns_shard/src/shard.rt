@@ -185,8 +185,8 @@ impl Shard {
         self.parts.reserve(entries)
     }
 
-    /// What `apply` does, with a boxed answer. Where a growth was refused, the call may have been taken.
-    pub(crate) fn apply_boxed(
+    /// What `apply` does, with a boxed answer. `NoMemory` (`AllocError`) where a growth was refused: the call may have been taken then.
+    pub fn apply_boxed(
         &mut self,
         alloc: Global,
         call: &Call,
@@ -199,7 +199,7 @@ impl Shard {
     }
 
     /// Takes the memory of what went out with an answer, for a window that is opened later. Contracts see no change.
-    pub(crate) fn reuse(&mut self, answer: BoxedAnswer)
+    pub fn reuse(&mut self, answer: BoxedAnswer)
         ensures same { self.new ≡ self.old }
     {
         self.parts.reuse(answer.into_window());

@@ -19,8 +19,8 @@ use Rattle.ns_types.proofs.ResultLemmas.{bind-some}
 use Rattle.ns_types.specs.declared.identity.DevEui.{DevEui}
 use Rattle.ns_types.specs.declared.identity.WindowName.{WindowName}
 use Rattle.ns_types.specs.declared.ticket.Ticket.{Ticket}
-use Rattle.ns_shard.specs.declared.step.Act.{Act}
-use Rattle.ns_shard.specs.declared.step.Act.TheVariants.{Datagram, Answer, Lost, Close}
+use Rattle.ns_acts.specs.declared.step.Act.{Act}
+use Rattle.ns_acts.specs.declared.step.Act.TheVariants.{Datagram, Answer, Lost, Close}
 use Rattle.ns_steps.specs.StepLines.{without_return, split_by, split_words, is_digit, decimal_value, number, eui, ticket, datagram_step, answer_step, lost_step, later_round, counter_by, counter, window, close_step, act, step}
 use Rattle.ns_steps.specs.Spelled.{Says, SpellsTicket, SpellsCounter, SpellsWindow, SpellsStep, Spells}
 use Rattle.ns_steps.proofs.LineLemmas.{byte_at}

@@ -5,8 +5,8 @@ use Rattle.std.specs.Int.{w64, from_be_bytes}
 use Rattle.hex.specs.Hex.{decode_of, decode_sized}
 use Rattle.ns_types.specs.declared.identity.WindowName.{WindowName}
 use Rattle.ns_types.specs.declared.ticket.Ticket.{Ticket}
-use Rattle.ns_shard.specs.declared.step.Act.{Act}
-use Rattle.ns_shard.specs.declared.step.Act.TheVariants.{Datagram, Answer, Lost, Close}
+use Rattle.ns_acts.specs.declared.step.Act.{Act}
+use Rattle.ns_acts.specs.declared.step.Act.TheVariants.{Datagram, Answer, Lost, Close}
 use Rattle.ns_steps.specs.StepLines.{number}
 
 -- the text is these lines, each with a line feed behind it, but perhaps a last one, which is not empty; no line has a line feed

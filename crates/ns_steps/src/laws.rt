@@ -1,7 +1,7 @@
 //! Laws of step lines, as contracts of functions that do nothing.
 
 ghost use Rattle.std.specs.Prelude.{◌≡◌, ◌↔◌, ℕ, List, Some};
-ghost use Rattle.ns_shard.specs.declared.step.Act.{Act};
+ghost use Rattle.ns_acts.specs.declared.step.Act.{Act};
 ghost use Rattle.ns_steps.specs.Spelled.{AreLines, Spells};
 ghost use Rattle.ns_steps.specs.StepLines.{raw_lines, step};
 

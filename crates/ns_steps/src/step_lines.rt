@@ -1,13 +1,13 @@
 //! Step lines: the step that a line asks for.
 
 ghost use Rattle.std.specs.Prelude.{◌≡◌, ◌<◌, ◌==◌, bytes_eq, codes, length, option_map, IfOk, IfSome, position};
-ghost use Rattle.ns_shard.specs.Lent.{act_lent};
+ghost use Rattle.ns_acts.specs.Lent.{act_lent};
 ghost use Rattle.ns_steps.specs.StepLines.{without_return, split_by, split_words, number, eui, ticket, datagram_step, answer_step, lost_step, later_round, counter, window, close_step, act, step};
 
 use crate::hex_text::datagram;
 use hex::FromHex;
 use memchr::memchr;
-use ns_shard::LentAct;
+use ns_acts::LentAct;
 use ns_types::{DevEui, Ticket, WindowName};
 use std::alloc::AllocError;
 

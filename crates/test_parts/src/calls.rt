@@ -1,9 +1,10 @@
 //! The calls of one device, from the step lines of what gateways and join servers send, and the lines of their answers.
 
+use ns_acts::Act;
 use ns_calls::{Answer, Call, shard_of_call};
 use ns_lines::lines;
 use ns_roster::Roster;
-use ns_shard::{Act, Shard};
+use ns_shard::Shard;
 use ns_steps::step;
 use std::alloc::Global;
 use std::sync::Arc;
@@ -23,7 +24,7 @@ pub fn act_of(alloc: Global, line: &str) -> Option<Act> {
 
 /// The call of a step line.
 pub fn call_of(alloc: Global, line: &str) -> Option<Call> {
-    ns_shard::call_of(alloc, &act_of(alloc, line)?.lend()).ok()?
+    ns_acts::call_of(alloc, &act_of(alloc, line)?.lend()).ok()?
 }
 
 /// Whether this is the first line of an answer.

@@ -5,7 +5,8 @@
 
 use crate::calls::{answers, call_of, roster};
 use ns_calls::{Call, Entry};
-use ns_shard::{Shard, new_shards};
+use ns_runs::new_shards;
+use ns_shard::Shard;
 use ns_types::{BLOCKS, take_all};
 use std::alloc::Global;
 use test_device::worked::{ANSWER, JOIN, JOIN_2, UNKNOWN, UPLINK, UPLINK_2};

@@ -4,10 +4,11 @@
 
 use crate::calls::{act_of, begins_with, roster};
 use crate::growth::{NO_DEVICE, Steps, WORKED};
+use ns_acts::Step;
 use ns_calls::{Call, Reply};
 use ns_record::step_line;
 use ns_roster::Roster;
-use ns_shard::{Shards, Step, TRIM_FROM, Taken};
+use ns_runs::{Shards, TRIM_FROM, Taken};
 use ns_types::{BLOCKS, DevEui, WindowName, take_all};
 use std::alloc::Global;
 use std::sync::Arc;

@@ -2,7 +2,8 @@
 
 use crate::calls::{call_of, roster};
 use ns_calls::{Entry, shard_of_call};
-use ns_shard::{Shard, new_shards};
+use ns_runs::new_shards;
+use ns_shard::Shard;
 use std::alloc::Global;
 use test_device::worked::{ANSWER, JOIN, JOIN_2};
 

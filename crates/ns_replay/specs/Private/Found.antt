@@ -3,8 +3,8 @@ use Rattle.std.specs.Prelude.{◌≡◌, ℕ, ◌+◌, ◌<◌, false, List, [],
 use Rattle.std.specs.List.{All}
 use Rattle.ns_roster.specs.Network.{Network}
 use Rattle.ns_output.specs.declared.output.Output.{Output}
-use Rattle.ns_shard.specs.declared.step.Act.{Act}
-use Rattle.ns_shard.specs.KeptSteps.{AreKeptAfter}
+use Rattle.ns_acts.specs.declared.step.Act.{Act}
+use Rattle.ns_runs.specs.KeptSteps.{AreKeptAfter}
 use Rattle.ns_replay.specs.declared.reading.Answers.{Answers}
 use Rattle.ns_replay.specs.Output.{all_lines, text_of}
 use Rattle.ns_steps.specs.StepLines.{steps}

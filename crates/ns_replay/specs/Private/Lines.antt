@@ -1,10 +1,10 @@
 -- The steps of lines, and what comes of a line.
 use Rattle.std.specs.Prelude.{List, map, filter_map, Option, option_map}
 use Rattle.ns_roster.specs.Network.{Network}
-use Rattle.ns_shard.specs.declared.step.Act.{Act}
-use Rattle.ns_shard.specs.declared.step.Step.{Step}
-use Rattle.ns_shard.specs.declared.run.Taken.{Taken}
-use Rattle.ns_shard.specs.Steps.{step_taken}
+use Rattle.ns_acts.specs.declared.step.Act.{Act}
+use Rattle.ns_acts.specs.declared.step.Step.{Step}
+use Rattle.ns_runs.specs.declared.run.Taken.{Taken}
+use Rattle.ns_runs.specs.Steps.{step_taken}
 use Rattle.ns_steps.specs.StepLines.{step_of}
 
 abbrev pub steps_in : List (Option Act) → List Step

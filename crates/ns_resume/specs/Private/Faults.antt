@@ -5,9 +5,9 @@ use Rattle.ns_roster.specs.Network.{Network}
 use Rattle.ns_calls.specs.declared.call.Call.{Call}
 use Rattle.ns_calls.specs.Shards.{shard_of_call}
 use Rattle.ns_recorded.specs.Recorded.{matters}
-use Rattle.ns_shard.specs.declared.step.Act.{Act}
-use Rattle.ns_shard.specs.declared.step.Step.{Step}
-use Rattle.ns_shard.specs.Taken.{call_of}
+use Rattle.ns_acts.specs.declared.step.Act.{Act}
+use Rattle.ns_acts.specs.declared.step.Step.{Step}
+use Rattle.ns_acts.specs.Calls.{call_of}
 use Rattle.ns_shard.specs.State.{State, answer_in}
 use Rattle.ns_steps.specs.StepLines.{step}
 use Rattle.ns_resume.specs.Resumed.{IsNoStep, DoesNotFit}

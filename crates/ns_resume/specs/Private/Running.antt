@@ -8,9 +8,9 @@ use Rattle.ns_calls.specs.declared.answer.Answer.{Answer}
 use Rattle.ns_calls.specs.Shards.{shard_of_call}
 use Rattle.ns_lines.specs.Text.{has_line_feed}
 use Rattle.ns_recorded.specs.Recorded.{matters}
-use Rattle.ns_shard.specs.declared.step.Step.{Step}
+use Rattle.ns_acts.specs.declared.step.Step.{Step}
 use Rattle.ns_shard.specs.State.{State, MayBeTrimmed, answer_in, after_call}
-use Rattle.ns_shard.specs.KeptSteps.{AreKeptAfter}
+use Rattle.ns_runs.specs.KeptSteps.{AreKeptAfter}
 use Rattle.ns_steps.specs.StepLines as lines
 use Rattle.ns_steps.specs.StepLines.{ended}
 use Rattle.ns_resume.specs.Resumed.{AreStepsOf, AllFit, AreUps, ups_since}

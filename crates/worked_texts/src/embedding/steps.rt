@@ -1,11 +1,11 @@
 //! The steps of the example: a device joins, and two gateways hear an uplink of it.
 
 ghost use Rattle.std.specs.Prelude.{◌≡◌, ◌∷◌, [], map, IfOk, Some};
-ghost use Rattle.ns_shard.specs.declared.step.Act.TheVariants.{Answer, Close};
+ghost use Rattle.ns_acts.specs.declared.step.Act.TheVariants.{Answer, Close};
 ghost use Rattle.worked_texts.specs.Heard.{heard};
 
 use hex::FromHexError;
-use ns_shard::{Act, DatagramBytes, OwnedBytes, Step};
+use ns_acts::{Act, DatagramBytes, OwnedBytes, Step};
 use ns_types::{DevEui, Ticket, WindowName};
 use std::alloc::Global;
 

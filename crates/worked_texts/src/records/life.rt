@@ -1,12 +1,13 @@
 //! A record, and the server that writes it.
 
 use crate::records::lines::{without_end, without_last};
+use ns_acts::call_of;
 use ns_calls::{Answer, Call, shard_of_call};
 use ns_lines::{Line, lines, put_window, up_line};
 use ns_record::{matters, step_line};
 use ns_resume::{RecordFault, Resumed, run_record};
 use ns_roster::Roster;
-use ns_shard::{Shard, call_of};
+use ns_shard::Shard;
 use ns_steps::step;
 use std::alloc::Global;
 use std::fmt::Display;

@@ -1,7 +1,7 @@
 use Rattle.std.proofs.Common.{ap, map, ◌∙◌}
 use Rattle.std.proofs.lemmas.List.{take_all}
 use Rattle.ns_roster.specs.Closing.{nonce_by}
-use Rattle.ns_shard.specs.NextRun.{greatest_among}
+use Rattle.ns_runs.specs.NextRun.{greatest_among}
 use Rattle.ns_roster.proofs.NonceLemmas.{nonces-next}
 use Rattle.ns_replay.proofs.closing.nonces_of.Goals as goal
 

@@ -1,6 +1,6 @@
 use Rattle.std.proofs.Common.{◌++◌, ◌∷◌, [], option_map, refl, sym, subst}
-use Rattle.ns_shard.specs.KeptSteps.{AreKeptAfter}
-use Rattle.ns_shard.specs.Lent.{act_lent}
+use Rattle.ns_runs.specs.KeptSteps.{AreKeptAfter}
+use Rattle.ns_acts.specs.Lent.{act_lent}
 use Rattle.ns_replay.specs.Private.Lines.{steps_in}
 use Rattle.ns_replay.proofs.FoundLemmas.{has_more, text-longer}
 use Rattle.ns_replay.proofs.reading.add.Goals as goal

@@ -1,7 +1,7 @@
 use Rattle.std.proofs.Common.{◌≡◌, ◌<◌, ◌++◌, [], ℕ, List, length, ◌⊎◌}
 use Rattle.ns_roster.specs.Network.{Network}
 use Rattle.ns_output.specs.declared.output.Output.{Output}
-use Rattle.ns_shard.specs.KeptSteps.{AreReached}
+use Rattle.ns_runs.specs.KeptSteps.{AreReached}
 use Rattle.ns_replay.specs.Private.Found.{FoundIn}
 use Rattle.ns_replay.proofs.reading.add_block.Given as goal
 

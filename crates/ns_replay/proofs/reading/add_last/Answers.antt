@@ -1,7 +1,7 @@
 use Rattle.std.proofs.Common.{◌<◌, List, [], ◌∷◌, ◌++◌, length, Option, rules, subst}
 use Rattle.std.proofs.lemmas.List.{nil_from_length}
 use Rattle.std.proofs.lemmas.Result.{on_ok_weaker}
-use Rattle.ns_shard.specs.declared.step.Act.{Act}
+use Rattle.ns_acts.specs.declared.step.Act.{Act}
 use Rattle.ns_replay.specs.Private.Found.{Has}
 use Rattle.ns_replay.proofs.FoundLemmas.{found_all, found_last}
 use Rattle.ns_replay.proofs.reading.add_last.Goals as goal

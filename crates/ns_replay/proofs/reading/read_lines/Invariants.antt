@@ -2,7 +2,7 @@ use Rattle.std.proofs.Common.{◌≡◌, ℕ, List, [], false, ◌+◌, ◌-◌,
 use Rattle.std.specs.Io.KnownBytes.{Consumes}
 use Rattle.ns_roster.specs.Network.{Network}
 use Rattle.ns_output.specs.declared.output.Output.{Output}
-use Rattle.ns_shard.specs.KeptSteps.{AreReached}
+use Rattle.ns_runs.specs.KeptSteps.{AreReached}
 use Rattle.ns_replay.specs.Private.Found.{Has, FoundIn}
 use Rattle.ns_replay.proofs.reading.read_lines.Given as goal
 

@@ -1,6 +1,6 @@
 use Rattle.std.proofs.Common.{◌++◌, ◌∷◌, [], option_map, sym, subst}
-use Rattle.ns_shard.specs.KeptSteps.{AreKeptAfter}
-use Rattle.ns_shard.specs.Lent.{act_lent}
+use Rattle.ns_runs.specs.KeptSteps.{AreKeptAfter}
+use Rattle.ns_acts.specs.Lent.{act_lent}
 use Rattle.ns_replay.specs.Private.Lines.{steps_in}
 use Rattle.ns_replay.proofs.reading.take.Goals as goal
 

@@ -1,7 +1,7 @@
 use Rattle.std.proofs.Common.{◌≡◌, ◌++◌, [], cond, rules, subst, IfSome}
 use Rattle.std.specs.Arc.{arc_value}
 use Rattle.ns_roster.specs.Closing.{network_text, with_greatest}
-use Rattle.ns_shard.specs.NextRun.{greatest_among}
+use Rattle.ns_runs.specs.NextRun.{greatest_among}
 use Rattle.ns_steps.specs.StepLines.{ended, steps}
 use Rattle.ns_replay.specs.Private.Found.{Has}
 use Rattle.ns_replay.proofs.ClosingLemmas.{answered}

@@ -9,7 +9,7 @@ use Rattle.ns_resume.specs.Resumed.{AreOpenIn, HasRunAll, NamesLineFrom}
 use Rattle.ns_resume.specs.Base.{first_number}
 use Rattle.ns_roster.specs.Network.{Network}
 use Rattle.ns_resume.specs.Private.Lines.{feed_of}
-use Rattle.ns_shard.proofs.KeptSteps.{in_place}
+use Rattle.ns_runs.proofs.KeptSteps.{in_place}
 use Rattle.ns_resume.proofs.Runs.{up-to-none, up-to-more, up-to-end, steps-so-far}
 use Rattle.ns_resume.proofs.OpenIn.{open-in}
 use Rattle.ns_resume.proofs.Faults.{from_err, names-line}

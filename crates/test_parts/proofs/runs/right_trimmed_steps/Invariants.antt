@@ -1,4 +1,4 @@
-use Rattle.ns_shard.specs.KeptSteps.{AreReached}
+use Rattle.ns_runs.specs.KeptSteps.{AreReached}
 use Rattle.test_parts.proofs.runs.right_trimmed_steps.Given as goal
 
 -- the shards are what some steps leave

@@ -5,7 +5,7 @@ use Rattle.std.specs.Option.{option_map_or}
 use Rattle.ns_roster.specs.Network.{Network}
 use Rattle.ns_calls.specs.declared.answer.Uplink.{Uplink}
 use Rattle.ns_lines.specs.Text.{up_text}
-use Rattle.ns_shard.specs.declared.step.Step.{Step}
+use Rattle.ns_acts.specs.declared.step.Step.{Step}
 use Rattle.ns_steps.specs.StepLines.{ended}
 use Rattle.ns_resume.specs.declared.ups.Ups.{Ups}
 use Rattle.ns_resume.specs.Resumed.{AreUps}

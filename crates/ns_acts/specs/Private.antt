@@ -1,0 +1,2 @@
+-- For models of public types.
+pub mod Datagram

@@ -1,0 +1,5 @@
+pub mod RunSteps
+pub mod RunHistories
+pub mod RunTaken
+pub mod StepEnds
+pub mod KeptSteps

@@ -1,0 +1,5 @@
+pub mod Taken
+pub mod Steps
+pub mod KeptSteps
+pub mod NextRun
+pub mod Private
