@@ -186,11 +186,7 @@ impl Shard {
     }
 
     /// What `apply` does, with a boxed answer. `NoMemory` (`AllocError`) where a growth was refused: the call may have been taken then.
-    pub fn apply_boxed(
-        &mut self,
-        alloc: Global,
-        call: &Call,
-    ) -> Result<BoxedAnswer, AllocError>
+    pub fn apply_boxed(&mut self, alloc: Global, call: &Call) -> Result<BoxedAnswer, AllocError>
         requires { shard_of_call call.now ≡ self.old.index }
         ensures entry { OnOk result (self.new ≡ after_call self.old call.now) }
         ensures answer { IfOk result (λ a. a ≡ answer_in self.old call.now) }
