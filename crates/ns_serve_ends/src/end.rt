@@ -7,7 +7,6 @@ ghost use Rattle.ns_serve_ends.specs.Closing.{last_lines};
 ghost use Rattle.ns_serve_streams.specs.Output.{Grows, EndsIn, Sends};
 
 use crate::closing::closing_text;
-use crate::fault::no_memory;
 use log::{Log, error};
 use ns_calls::Uplink;
 use ns_events::uplink_json;
@@ -20,6 +19,7 @@ use ns_serve_notices::{note_event, take_notices};
 use ns_serve_parts::ServeFault;
 use ns_serve_queues::times_of;
 use ns_serve_sockets::ToSocket;
+use ns_serve_start::no_memory;
 use ns_serve_state::{State, log_unsent, now_ms};
 use ns_serve_streams::Output;
 use ns_server::{Naming, Settled};

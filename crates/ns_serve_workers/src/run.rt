@@ -6,8 +6,8 @@ ghost use Rattle.ns_serve_workers.specs.Turns.{HasReceipts};
 
 use crate::around::Around;
 use crate::closing::{AfterTurn, CloserKit};
+use crate::helpers::HelperKit;
 use crate::kits::{GatewayEnds, Kits, gateway_ends, kits_of};
-use crate::threads::{Handles, HelperKit, Ran, Starts, join_helpers, run_threads};
 use crate::workers::Back;
 use crossbeam_channel::{Receiver, Sender, unbounded};
 use log::Log;
@@ -16,6 +16,7 @@ use ns_record_files::Upkeep;
 use ns_serve_parts::{ServeFault, ServeOptions};
 use ns_serve_queues::hand_on;
 use ns_serve_state::State;
+use ns_serve_threads::{Handles, Ran, Starts, join_helpers, run_threads};
 use ns_types::{Sink, Ticket, WindowName};
 use std::alloc::{AllocError, Global};
 use std::net::{Net, TcpListener, TcpStream};

@@ -11,7 +11,6 @@ ghost use Rattle.ns_serve_workers.specs.Turns.{HasReceipts, IsServed, IsAnswered
 
 use crate::around::Around;
 use crate::kits::{GatewayEnds, GatewayKit, PassKit};
-use crate::threads::Work;
 use log::{Log, error};
 use ns_outside::{Calls, Connections, Gate, Monitor, WorkerFault};
 use ns_responses::Responses;
@@ -20,6 +19,7 @@ use ns_serve_queues::{FromQueue, IntoQueues, SinceStart};
 use ns_serve_sockets::{FromSocket, ToSocket};
 use ns_serve_state::State;
 use ns_serve_streams::{Lines, ToJoinServer, Within};
+use ns_serve_threads::Work;
 use ns_types::{Sink, Source, Stream};
 use ns_workers::{run_gateway, run_join};
 use std::net::{Net, TcpListener, TcpStream};

@@ -1,43 +1,21 @@
-//! What the threads do, and how they are started.
+//! How threads are started, each with what it takes along, and waited for.
 ghost use Rattle.std.specs.Prelude.{◌≡◌, ◌+◌, true, vec_len};
 
-use crate::around::Around;
-use ns_record_files::Upkeep;
-use ns_serve_state::look_after_record;
-use ns_serve_status::tell;
 use std::alloc::{AllocError, Global};
 use std::sync::Wait;
 use std::thread;
 use std::thread::{JoinHandle, Scope, Threads};
-use std::time::Clock;
 
 /// What a thread does with what it takes along, and what it brings back.
-pub(crate) trait Work<K, O> {
+pub trait Work<K, O> {
+    /// Does it.
     fn work(&self, kit: K) -> O;
 }
 
 /// What the thread takes along that starts the others: what it does with it, where all were made or not, and what it brings back.
-pub(crate) trait Lead<O> {
+pub trait Lead<O> {
+    /// Does it.
     fn lead(self, is_whole: bool) -> O;
-}
-
-/// What a thread takes along that brings nothing back.
-#[derive(Drop)]
-pub(crate) enum HelperKit<U> {
-    /// That of who tells the status.
-    Teller,
-    /// That of who looks after the record.
-    Keeper(U),
-}
-
-impl<'a, S, R: Wait + Clock, G, M, W, U: Upkeep + Drop> Work<HelperKit<U>, ()>
-    for Around<'a, S, R, G, M, W> {
-    fn work(&self, kit: HelperKit<U>) {
-        match kit {
-            HelperKit::Teller => tell(self.rt, self.alloc, self.state),
-            HelperKit::Keeper(upkeep) => look_after_record(self.rt, self.state, upkeep),
-        }
-    }
 }
 
 // Starts a thread, if one can be made.
@@ -86,7 +64,7 @@ fn start_helper<'s, E, A: Work<H, ()> + Sync, H: Send + Drop + 's>(
 }
 
 /// Waits for the ends of these threads.
-pub(crate) fn join_helpers<R: Threads + Wait>(rt: &R, helpers: Vec<JoinHandle<()>>) {
+pub fn join_helpers<R: Threads + Wait>(rt: &R, helpers: Vec<JoinHandle<()>>) {
     for helper in helpers {
         helper.join(rt);
     }
@@ -94,7 +72,7 @@ pub(crate) fn join_helpers<R: Threads + Wait>(rt: &R, helpers: Vec<JoinHandle<()
 
 /// The threads that were made, by what they bring back.
 #[derive(Drop)]
-pub(crate) struct Handles<O> {
+pub struct Handles<O> {
     pub gateways: Vec<JoinHandle<O>>,
     pub joiners: Vec<JoinHandle<O>>,
     pub helpers: Vec<JoinHandle<()>>,
@@ -114,7 +92,7 @@ impl<O: Drop> Handles<O> {
 
 /// What the threads take along that are to be started.
 #[derive(Drop)]
-pub(crate) struct Starts<J, G, H> {
+pub struct Starts<J, G, H> {
     pub joins: Vec<J>,
     pub gateways: Vec<G>,
     /// That of who tells the status, where it is told.
@@ -151,7 +129,7 @@ fn start_threads<
 
 /// What the thread brings back that started the others, and these.
 #[derive(Drop)]
-pub(crate) struct Ran<O> {
+pub struct Ran<O> {
     pub own: O,
     pub handles: Handles<O>,
     /// Whether all were made.
@@ -160,7 +138,7 @@ pub(crate) struct Ran<O> {
 
 /// Starts all join workers, all gateway workers, who tells the status where it is told and who looks after the record where there is one,
 /// does in this thread what is its own, and comes back when all have ended.
-pub(crate) fn run_threads<
+pub fn run_threads<
     R: Threads + Wait,
     A: Work<J, O> + Work<G, O> + Work<H, ()> + Sync,
     J: Send + Drop,

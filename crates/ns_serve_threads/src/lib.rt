@@ -1,0 +1,10 @@
+//! Threads of workers: each is started with what it takes along, and brings something back.
+//!
+//! `run_threads` starts a thread for each kit, does in its own what is the caller's, and comes back when all have ended; `join_helpers` waits
+//! for those that bring nothing back. Promised: where all were made there is a handle for each kit. That a thread does its work is shown by
+//! tests alone. The crate knows no server, and stands on std alone.
+#![tactic(auto)]
+
+mod threads;
+
+pub use threads::{Handles, Lead, Ran, Starts, Work, join_helpers, run_threads};
