@@ -188,19 +188,34 @@ impl<'a> FromSocket<'a> {
             }
             Without::Later => {
                 self.failures += 1;
-                more(&state.counts.unreceived);
-                if let Some(count) = state.seldoms.receive.happened(now_ms(rt, state)) {
-                    warn!(rt; "receiving from {} failed: {error}, {count} since the line before", self.senders());
-                }
-                thread::sleep(rt, Duration::from_millis(FAILURE_MS));
+                wait_out(rt, state, self.senders(), error);
                 Received::Idle
             }
             Without::Lost => {
-                error!(rt; "receiving from {} failed more than {MOST_FAILURES} times in a row: {error}", self.senders());
+                log_lost(rt, self.senders(), error);
                 Received::Failed
             }
         }
     }
+}
+
+// Logs that a receive failed, and how often since the line before.
+fn log_failed<R: Log>(rt: &R, senders: &str, error: &Error, count: u64) {
+    warn!(rt; "receiving from {senders} failed: {error}, {count} since the line before");
+}
+
+// Logs that too many receives failed in a row.
+fn log_lost<R: Log>(rt: &R, senders: &str, error: &Error) {
+    error!(rt; "receiving from {senders} failed more than {MOST_FAILURES} times in a row: {error}");
+}
+
+// Counts a receive that failed, logs it, and waits a while.
+fn wait_out<R: Wait + Clock + Log>(rt: &R, state: &State, senders: &str, error: &Error) {
+    more(&state.counts.unreceived);
+    if let Some(count) = state.seldoms.receive.happened(now_ms(rt, state)) {
+        log_failed(rt, senders, error, count);
+    }
+    thread::sleep(rt, Duration::from_millis(FAILURE_MS));
 }
 
 // A gateway with this number was heard from here, if it speaks this server's own datagrams.

@@ -228,22 +228,48 @@ fn answer<R: Wait + Clock, S: Sink>(
         }
         Route::Devices | Route::Gateways => {
             let mut text = String::with_capacity(alloc, 32_768)?;
-            text.push_str(head_of(found, Content::Json, None).as_str())?;
-            if is_head {
-                return put_piece(sink, &mut text);
-            }
-            let now_ms = now_ms(rt, state);
-            if request.route == Route::Devices {
-                put_front(&mut text, "devices", now_ms, status.clock_start_ms())?;
-                put_device_rows(rt, alloc, status, sink, &mut text)?;
-            } else {
-                put_front(&mut text, "gateways", now_ms, status.clock_start_ms())?;
-                put_gateway_rows(rt, alloc, status, sink, &mut text)?;
-            }
-            put_end(&mut text)?;
-            put_piece(sink, &mut text)
+            put_list(rt, alloc, state, status, sink, &mut text, request)
         }
     }
+}
+
+// Writes a list of devices or of gateways, or its head alone, by this text, in which each piece is made.
+fn put_list<R: Wait + Clock, S: Sink>(
+    rt: &R,
+    alloc: Global,
+    state: &State,
+    status: &Status,
+    sink: &mut S,
+    text: &mut String,
+    request: Request,
+) -> Result<(), Untold> {
+    text.push_str(head_of(Answer::Found, Content::Json, None).as_str())?;
+    if !request.is_head {
+        let now_ms = now_ms(rt, state);
+        put_rows(rt, alloc, status, sink, text, request.route, now_ms)?;
+    }
+    put_piece(sink, text)
+}
+
+// Writes the object of a list but for its last piece, which stays in the text.
+fn put_rows<R: Wait, S: Sink>(
+    rt: &R,
+    alloc: Global,
+    status: &Status,
+    sink: &mut S,
+    text: &mut String,
+    route: Route,
+    now_ms: u64,
+) -> Result<(), Untold> {
+    if route == Route::Devices {
+        put_front(text, "devices", now_ms, status.clock_start_ms())?;
+        put_device_rows(rt, alloc, status, sink, text)?;
+    } else {
+        put_front(text, "gateways", now_ms, status.clock_start_ms())?;
+        put_gateway_rows(rt, alloc, status, sink, text)?;
+    }
+    put_end(text)?;
+    Ok(())
 }
 
 // Writes a piece of an answer, and empties it.
@@ -301,6 +327,18 @@ fn count_of(replies: &[(&'static str, u64)], name: &str) -> u64 {
     0
 }
 
+// How many are open: those that these replies opened, without those that the others ended.
+fn open_of(replies: &[(&'static str, u64)], opened: &[&str], ended: &[&str]) -> u64 {
+    let mut open: u64 = 0;
+    for name in opened {
+        open = open.saturating_add(count_of(replies, name));
+    }
+    for name in ended {
+        open = open.saturating_sub(count_of(replies, name));
+    }
+    open
+}
+
 // The text of all counts.
 fn metrics_of<R: Wait>(
     rt: &R,
@@ -312,7 +350,6 @@ fn metrics_of<R: Wait>(
     let refusals = counts.refusals();
     let replies = state.made.replies();
     let entries = state.made.all();
-    let of = |name: &str| count_of(&replies, name);
     let (devices, sessions) = status.count_devices(rt);
     let totals = Totals {
         start_seconds: status.start_ms() / 1000,
@@ -323,13 +360,12 @@ fn metrics_of<R: Wait>(
         unanswered: counts.unanswered.load(Ordering::SeqCst),
         stale: counts.stale.load(Ordering::SeqCst),
         unsent: counts.unsent.load(Ordering::SeqCst),
-        windows: of("opened")
-            .saturating_add(of("again"))
-            .saturating_sub(of("closed")),
-        tickets: of("ask")
-            .saturating_sub(of("accepted"))
-            .saturating_sub(of("joinrefused"))
-            .saturating_sub(of("joinstale")),
+        windows: open_of(&replies, &["opened", "again"], &["closed"]),
+        tickets: open_of(
+            &replies,
+            &["ask"],
+            &["accepted", "joinrefused", "joinstale"],
+        ),
         devices: devices as u64,
         sessions: sessions as u64,
         gateways: status.count_gateways(rt) as u64,

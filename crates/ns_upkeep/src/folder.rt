@@ -2,10 +2,12 @@
 
 use log::{Log, error};
 use ns_commands::{Fault, Kept, of_record, open_record, read_roster};
-use ns_compact::{Folder, Keeper};
+use ns_compact::{Compacted, Folder, Keeper};
+use ns_resume::RecordFault;
+use ns_roster::Roster;
 use std::fs::File;
 use std::rt::Files;
-use std::sync::Wait;
+use std::sync::{Arc, Wait};
 
 /// What keeps a record short while a server goes on with it, if there is one.
 pub fn keeper<'a, R: Files<File = File> + Wait + AllocGlobal, L: Log>(
@@ -25,6 +27,33 @@ pub fn keeper<'a, R: Files<File = File> + Wait + AllocGlobal, L: Log>(
     }))
 }
 
+// Why a record was not made shorter, which is logged.
+fn refused<L: Log>(log: &L, folder: &str, fault: RecordFault) -> Fault<'static> {
+    error!(log; "{folder}: {fault}");
+    of_record(fault)
+}
+
+// Makes the record of a folder shorter.
+fn shorten<R: Files<File = File> + AllocGlobal, L: Log>(
+    rt: &R,
+    log: &L,
+    folder: &str,
+    roster: &Arc<Roster>,
+) -> Result<Compacted, Fault<'static>> {
+    let files = open_record(rt, log, folder, true)?;
+    let compaction = Folder {
+        rt,
+        log,
+        alloc: rt.alloc(),
+        path: folder,
+        roster,
+    };
+    match compaction.compact(files) {
+        Ok(done) => Ok(done),
+        Err(fault) => Err(refused(log, folder, fault)),
+    }
+}
+
 /// Makes a record shorter, and prints how many lines it had and has.
 pub fn compact<'a, R: Files<File = File> + AllocGlobal + Print, L: Log>(
     rt: &R,
@@ -33,22 +62,7 @@ pub fn compact<'a, R: Files<File = File> + AllocGlobal + Print, L: Log>(
     folder: &str,
 ) -> Result<(), Fault<'a>> {
     let roster = read_roster(rt, log, path)?;
-    let alloc = rt.alloc();
-    let files = open_record(rt, log, folder, true)?;
-    let compaction = Folder {
-        rt,
-        log,
-        alloc,
-        path: folder,
-        roster: &roster,
-    };
-    let done = match compaction.compact(files) {
-        Ok(done) => done,
-        Err(fault) => {
-            error!(log; "{folder}: {fault}");
-            return Err(of_record(fault));
-        }
-    };
+    let done = shorten(rt, log, folder, &roster)?;
     match println!(rt; "compacted {} {}", done.before, done.after) {
         Ok(()) => Ok(()),
         Err(error) => {
