@@ -5,7 +5,7 @@
 //! lines are those that its definition names.
 //!
 //! The crate stands on `ns_server` and `ns_shard` for what was settled, on `ns_serve_events` for what is put down, on `ns_serve_state`,
-//! `ns_serve_parts`, `ns_serve_notices`, `ns_serve_queues`, `ns_serve_streams` and `ns_serve_sockets` for what threads share, on
+//! `ns_serve_parts`, `ns_serve_queues`, `ns_serve_streams` and `ns_serve_sockets` for what threads share, on
 //! `ns_serve_start` for how want of memory is told, on `ns_workers` for the lines of uplinks, on `ns_calls`, `ns_events`, `ns_lines`,
 //! `ns_outside`, `ns_output`, `ns_roster` and `ns_types`, and on `log` of the kit.
 #![tactic(auto)]

@@ -7,7 +7,7 @@
 //!
 //! Promised is that both are safe, and that the lines that are put down of a call are those of its definition; what is counted, kept and
 //! logged, and which calls are put down, is shown by tests alone.
-//! The crate stands on `ns_serve_state` for what all threads share and on `ns_serve_parts` for the parts of it, on `ns_serve_notices` for
+//! The crate stands on `ns_serve_state` for what all threads share and on `ns_serve_parts` for the parts of it, on `ns_serve_queues` for
 //! the lines of joins and acknowledgements, on `ns_serve_streams` for the words of a join server's faults, on `ns_outside` for what workers
 //! tell, on `ns_record` and `ns_record_files` for the record, on `ns_calls`, `ns_front`, `ns_exchange`, `ns_lines` and `ns_types`,
 //! and on `log` of the kit.

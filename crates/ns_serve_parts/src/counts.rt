@@ -4,11 +4,8 @@ ghost use Rattle.ns_serve_parts.specs.Counts.{refusal_place};
 
 use crate::made::Made;
 use crate::seldom::is_minute_later;
-use log::{Log, info, warn};
 use ns_link::LinkFault;
 use ns_outside::Refused;
-use std::fmt;
-use std::fmt::{Display, Formatter};
 use std::sync::atomic::{AtomicU64, Ordering};
 
 // How many kinds of refusals there are.
@@ -41,23 +38,8 @@ pub struct Counts {
     pub unwritten: AtomicU64,
 }
 
-// Names with how often each of them is counted, as they are logged.
-#[derive(Clone, Copy)]
-struct Named<'a> {
-    counts: &'a [(&'static str, u64)],
-}
-
-impl<'a> Display for Named<'a> {
-    fn fmt<W: fmt::Write>(&self, f: &mut Formatter<W>) -> fmt::Result {
-        for (name, count) in self.counts {
-            write!(f, " {name} {count}")?;
-        }
-        Ok(())
-    }
-}
-
-/// What is counted.
-pub(crate) fn value(counter: &AtomicU64) -> u64 {
+/// How often it was counted.
+pub fn value(counter: &AtomicU64) -> u64 {
     counter.load(Ordering::SeqCst)
 }
 
@@ -119,33 +101,5 @@ impl Counts {
             .logged_ms
             .compare_exchange(last_ms, now_ms, Ordering::SeqCst, Ordering::SeqCst);
         was.is_ok()
-    }
-
-    // Logs the counts of datagrams.
-    fn log_datagrams<R: Log>(&self, rt: &R, read: u64) {
-        let refusals = self.refusals();
-        let refusals = Named { counts: &refusals };
-        let (dropped, late) = (value(&self.dropped), value(&self.late));
-        let unreceived = value(&self.unreceived);
-        info!(rt; "datagrams: read {read} dropped {dropped} late {late} failed receives {unreceived}{refusals}");
-    }
-
-    // Logs the counts of replies.
-    fn log_replies<R: Log>(&self, rt: &R, made: &Made) {
-        let replies = made.replies();
-        let replies = Named { counts: &replies };
-        let (unanswered, unsent) = (value(&self.unanswered), value(&self.unsent));
-        let stale = value(&self.stale);
-        info!(rt; "replies:{replies} unanswered {unanswered} unsent {unsent} stale tickets {stale}");
-    }
-
-    /// Logs the counts, with those of so many datagrams and of the replies to them.
-    pub fn log_all<R: Log>(&self, rt: &R, read: u64, made: &Made) {
-        self.log_datagrams(rt, read);
-        self.log_replies(rt, made);
-        let unwritten = value(&self.unwritten);
-        if unwritten > 0 {
-            warn!(rt; "standard output failed: {unwritten} lines did not reach it");
-        }
     }
 }

@@ -2,9 +2,9 @@
 //!
 //! The table of devices that ask; the tickets that wait; counters, those of datagrams and calls so that threads do not write to the same
 //! cache lines; the lines of events; moments of the wall clock; what is to be served and why serving ended. What is computed has a contract
-//! over its definition in `specs/`. What is counted and logged no contract says.
+//! over its definition in `specs/`. What is counted no contract says.
 //! The crate stands on `ns_outside` for what the workers ask of what stands round them, on `ns_calls`, `ns_output`, `ns_exchange`,
-//! `ns_link`, `ns_types` and `ns_views`, and on `crossbeam_utils`, `jiff_core`, `log`, `lru` and `thiserror` of the kit.
+//! `ns_link`, `ns_types` and `ns_views`, and on `crossbeam_utils`, `jiff_core`, `lru` and `thiserror` of the kit.
 #![tactic(auto)]
 
 mod askers;
@@ -20,7 +20,7 @@ mod wall;
 
 pub use askers::Askers;
 pub use asks::Asks;
-pub use counts::{Counts, more};
+pub use counts::{Counts, more, value};
 pub use event_lines::EventLines;
 pub use made::{Made, PLACES};
 pub use options::{ServeFault, ServeOptions};

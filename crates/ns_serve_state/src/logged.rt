@@ -1,6 +1,7 @@
 //! What is logged of what all threads share.
 
 use crate::clock::now_ms;
+use crate::counted::log_all;
 use crate::state::State;
 use log::{Level, Log, log};
 use ns_calls::Downlink;
@@ -47,7 +48,7 @@ pub fn log_unsent<R: Log>(rt: &R, state: &State, downlink: &Downlink) {
 
 /// Logs the counts.
 pub fn log_counts<R: Log>(rt: &R, state: &State) {
-    state.counts.log_all(rt, state.read.all(), &state.made);
+    log_all(rt, &state.counts, state.read.all(), &state.made);
     if let Some((forwarders, _)) = &state.forwarders {
         let what = format_args!("forwarders:{}", forwarders.counts());
         log_at(rt, Level::Info, what);

@@ -37,6 +37,16 @@ fn bind<R: Net<Listener = TcpListener, Stream = TcpStream>>(
     Ok((listener, bound))
 }
 
+// Logs where the status is told.
+fn log_bound<R: Log>(rt: &R, bound: SocketAddr) {
+    info!(rt; "status at http://{bound}/");
+}
+
+// Logs why the status is not told.
+fn log_unbound<R: Log>(rt: &R, addr: SocketAddr, error: &io::Error) {
+    error!(rt; "cannot tell the status at {addr}: {error}");
+}
+
 // The same, where both is logged: its address, and why there is none.
 fn listen<R: Net<Listener = TcpListener, Stream = TcpStream> + Log>(
     rt: &R,
@@ -44,11 +54,11 @@ fn listen<R: Net<Listener = TcpListener, Stream = TcpStream> + Log>(
 ) -> Result<TcpListener, ServeFault> {
     match bind(rt, addr) {
         Ok((listener, bound)) => {
-            info!(rt; "status at http://{bound}/");
+            log_bound(rt, bound);
             Ok(listener)
         }
         Err(error) => {
-            error!(rt; "cannot tell the status at {addr}: {error}");
+            log_unbound(rt, addr, &error);
             Err(ServeFault::Io)
         }
     }

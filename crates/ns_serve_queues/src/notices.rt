@@ -1,6 +1,6 @@
 //! Joins and acknowledgements, told as lines of their own.
 ghost use Rattle.std.specs.Prelude.{IfSome};
-ghost use Rattle.ns_serve_notices.specs.Notices.{IsNoticeOf};
+ghost use Rattle.ns_serve_queues.specs.Notices.{IsNoticeOf};
 
 use log::{Log, warn};
 use ns_calls::{Downlink, Reply};
