@@ -7,7 +7,7 @@ ghost use Rattle.ns_serve_shards.specs.Begun.{IsBegun};
 ghost use Rattle.ns_tally.specs.Tally.{AreNamed, none_made};
 
 use crate::trimming::Trimming;
-use log::{Log, error};
+use log::Log;
 use ns_record_files::Upkeep;
 use ns_roster::Roster;
 use ns_serve_ends::{finish, written};
@@ -45,8 +45,7 @@ fn settled_of<B: Naming, R: Wait + Clock + Log, W: Sink>(
     ensures fault { IfErr passes (λ f. result ≡ Err f) }
 {
     let Ok(mut settled) = server.settle(passes?) else {
-        error!(rt; "no memory for what was settled");
-        return Err(ServeFault::NoMemory);
+        return Err(no_memory(rt, "what was settled"));
     };
     finish(rt, alloc, roster, state, &mut settled, output, closing)
 }

@@ -7,7 +7,7 @@ ghost use Rattle.ns_serve_ends.specs.Closing.{last_lines};
 ghost use Rattle.ns_serve_streams.specs.Output.{Grows, EndsIn, Sends};
 
 use crate::closing::closing_text;
-use log::{Log, error};
+use log::{Level, Log};
 use ns_calls::Uplink;
 use ns_events::uplink_json;
 use ns_lines::up_line;
@@ -19,7 +19,7 @@ use ns_serve_parts::ServeFault;
 use ns_serve_queues::{note_event, take_notices, times_of};
 use ns_serve_sockets::ToSocket;
 use ns_serve_start::no_memory;
-use ns_serve_state::{State, log_unsent, now_ms};
+use ns_serve_state::{State, log_at, log_unsent, now_ms};
 use ns_serve_streams::Output;
 use ns_server::{Naming, Settled};
 use ns_types::Sink;
@@ -156,7 +156,11 @@ pub fn written<R: Log, W: Sink>(
     ensures failed { IsErr outcome → (output.new.lines.items ≡ []) × (Appends (W.taken output.old.writer) (W.taken output.new.writer) output.old.lines.items ⊎ (W.has_failed output.new.writer ≡ true)) }
 {
     if outcome.is_err() && output.flush().is_err() {
-        error!(rt; "the last lines did not reach standard output");
+        log_at(
+            rt,
+            Level::Error,
+            "the last lines did not reach standard output",
+        );
     }
     outcome
 }

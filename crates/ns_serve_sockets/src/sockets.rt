@@ -7,14 +7,14 @@ ghost use Rattle.ns_front.specs.Noted.{IsNoted};
 ghost use Rattle.ns_serve_sockets.specs.Front.{NotesAt, NotesNamed};
 
 use crate::pace::Pace;
-use log::{Log, error, warn};
+use log::{Level, Log};
 use ns_calls::Downlink;
 use ns_forwarder_socket::{Event, Pending};
 use ns_front::{NotedPeers, front_of, read_seen};
 use ns_link::write_down;
 use ns_outside::{Datagrams, Downlinks, Received};
 use ns_serve_parts::more;
-use ns_serve_state::{State, log_counts, log_message, now_ms, write_record};
+use ns_serve_state::{State, log_at, log_counts, log_message, now_ms, write_record};
 use ns_types::Target;
 use std::io::{Error, ErrorKind};
 use std::net::{SocketAddr, UdpSocket};
@@ -192,28 +192,25 @@ impl<'a> FromSocket<'a> {
                 Received::Idle
             }
             Without::Lost => {
-                log_lost(rt, self.senders(), error);
+                let senders = self.senders();
+                let what = format_args!(
+                    "receiving from {senders} failed more than {MOST_FAILURES} times in a row: {error}"
+                );
+                log_at(rt, Level::Error, what);
                 Received::Failed
             }
         }
     }
 }
 
-// Logs that a receive failed, and how often since the line before.
-fn log_failed<R: Log>(rt: &R, senders: &str, error: &Error, count: u64) {
-    warn!(rt; "receiving from {senders} failed: {error}, {count} since the line before");
-}
-
-// Logs that too many receives failed in a row.
-fn log_lost<R: Log>(rt: &R, senders: &str, error: &Error) {
-    error!(rt; "receiving from {senders} failed more than {MOST_FAILURES} times in a row: {error}");
-}
-
 // Counts a receive that failed, logs it, and waits a while.
 fn wait_out<R: Wait + Clock + Log>(rt: &R, state: &State, senders: &str, error: &Error) {
     more(&state.counts.unreceived);
     if let Some(count) = state.seldoms.receive.happened(now_ms(rt, state)) {
-        log_failed(rt, senders, error, count);
+        let what = format_args!(
+            "receiving from {senders} failed: {error}, {count} since the line before"
+        );
+        log_at(rt, Level::Warn, what);
     }
     thread::sleep(rt, Duration::from_millis(FAILURE_MS));
 }

@@ -1,6 +1,7 @@
 //! How the counts are logged.
 
-use log::{Log, info, warn};
+use crate::logged::log_at;
+use log::{Level, Log};
 use ns_serve_parts::{Counts, Made, value};
 use std::fmt;
 use std::fmt::{Display, Formatter};
@@ -26,7 +27,10 @@ fn log_datagrams<R: Log>(rt: &R, counts: &Counts, read: u64) {
     let refusals = Named { counts: &refusals };
     let (dropped, late) = (value(&counts.dropped), value(&counts.late));
     let unreceived = value(&counts.unreceived);
-    info!(rt; "datagrams: read {read} dropped {dropped} late {late} failed receives {unreceived}{refusals}");
+    let what = format_args!(
+        "datagrams: read {read} dropped {dropped} late {late} failed receives {unreceived}{refusals}"
+    );
+    log_at(rt, Level::Info, what);
 }
 
 // Logs the counts of replies.
@@ -35,7 +39,10 @@ fn log_replies<R: Log>(rt: &R, counts: &Counts, made: &Made) {
     let replies = Named { counts: &replies };
     let (unanswered, unsent) = (value(&counts.unanswered), value(&counts.unsent));
     let stale = value(&counts.stale);
-    info!(rt; "replies:{replies} unanswered {unanswered} unsent {unsent} stale tickets {stale}");
+    let what = format_args!(
+        "replies:{replies} unanswered {unanswered} unsent {unsent} stale tickets {stale}"
+    );
+    log_at(rt, Level::Info, what);
 }
 
 /// Logs the counts, with those of so many datagrams and of the replies to them.
@@ -44,6 +51,7 @@ pub(crate) fn log_all<R: Log>(rt: &R, counts: &Counts, read: u64, made: &Made) {
     log_replies(rt, counts, made);
     let unwritten = value(&counts.unwritten);
     if unwritten > 0 {
-        warn!(rt; "standard output failed: {unwritten} lines did not reach it");
+        let what = format_args!("standard output failed: {unwritten} lines did not reach it");
+        log_at(rt, Level::Warn, what);
     }
 }

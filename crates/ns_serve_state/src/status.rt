@@ -1,7 +1,8 @@
 //! What is known of devices and gateways, where it is told.
 
 use crate::clock::BEGIN_MS;
-use log::{Log, error, info};
+use crate::logged::log_at;
+use log::{Level, Log};
 use ns_outside::Receipt;
 use ns_roster::Roster;
 use ns_serve_parts::{ServeFault, keys};
@@ -37,16 +38,6 @@ fn bind<R: Net<Listener = TcpListener, Stream = TcpStream>>(
     Ok((listener, bound))
 }
 
-// Logs where the status is told.
-fn log_bound<R: Log>(rt: &R, bound: SocketAddr) {
-    info!(rt; "status at http://{bound}/");
-}
-
-// Logs why the status is not told.
-fn log_unbound<R: Log>(rt: &R, addr: SocketAddr, error: &io::Error) {
-    error!(rt; "cannot tell the status at {addr}: {error}");
-}
-
 // The same, where both is logged: its address, and why there is none.
 fn listen<R: Net<Listener = TcpListener, Stream = TcpStream> + Log>(
     rt: &R,
@@ -54,11 +45,12 @@ fn listen<R: Net<Listener = TcpListener, Stream = TcpStream> + Log>(
 ) -> Result<TcpListener, ServeFault> {
     match bind(rt, addr) {
         Ok((listener, bound)) => {
-            log_bound(rt, bound);
+            log_at(rt, Level::Info, format_args!("status at http://{bound}/"));
             Ok(listener)
         }
         Err(error) => {
-            log_unbound(rt, addr, &error);
+            let what = format_args!("cannot tell the status at {addr}: {error}");
+            log_at(rt, Level::Error, what);
             Err(ServeFault::Io)
         }
     }
