@@ -1,2 +1,3 @@
 pub mod Begun
 pub mod Trims
+pub mod Closing

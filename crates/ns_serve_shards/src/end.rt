@@ -3,7 +3,7 @@ ghost use Rattle.std.specs.Prelude.{◌≡◌, ◌⊎◌, [], Some, sum_by, IfOk
 ghost use Rattle.std.specs.Io.KnownBytes.{Appends, append_known};
 ghost use Rattle.ns_server.specs.Drain.{NoneOpen, EachIsClosed};
 ghost use Rattle.ns_workers.specs.Lines.{AppendsLine};
-ghost use Rattle.ns_serve_ends.specs.Closing.{last_lines};
+ghost use Rattle.ns_serve_shards.specs.Closing.{last_lines};
 ghost use Rattle.ns_serve_streams.specs.Output.{Grows, EndsIn, Sends};
 
 use crate::closing::closing_text;
@@ -18,7 +18,6 @@ use ns_serve_events::record_call;
 use ns_serve_parts::ServeFault;
 use ns_serve_queues::{note_event, take_notices, times_of};
 use ns_serve_sockets::ToSocket;
-use ns_serve_start::no_memory;
 use ns_serve_state::{State, log_at, log_unsent, now_ms};
 use ns_serve_streams::Output;
 use ns_server::{Naming, Settled};
@@ -139,7 +138,8 @@ pub fn finish<B: Naming, R: Wait + Clock + Log, W: Sink>(
         return Ok(total);
     }
     let Ok(text) = closing_text(alloc, roster, settled) else {
-        return Err(no_memory(rt, "the closing roster"));
+        log_at(rt, Level::Error, "no memory for the closing roster");
+        return Err(ServeFault::NoMemory);
     };
     output.put_settled(total)?;
     output.put_closing(text.as_str())?;

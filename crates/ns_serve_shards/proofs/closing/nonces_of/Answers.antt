@@ -3,7 +3,7 @@ use Rattle.std.proofs.lemmas.List.{take_all}
 use Rattle.ns_roster.specs.Closing.{nonce_by}
 use Rattle.ns_roster.proofs.NonceLemmas.{nonces-next}
 use Rattle.ns_server.specs.Settled.{greatest_of}
-use Rattle.ns_serve_ends.proofs.closing.nonces_of.Goals as goal
+use Rattle.ns_serve_shards.proofs.closing.nonces_of.Goals as goal
 
 pub loop-device-preserved : goal.loop-device-preserved
 loop-device-preserved g c =

@@ -1,6 +1,6 @@
 use Rattle.std.specs.Io.KnownBytes.{append_known}
 use Rattle.ns_serve_streams.specs.Output.{Grows}
-use Rattle.ns_serve_ends.proofs.end.drain.Given as goal
+use Rattle.ns_serve_shards.proofs.end.drain.Given as goal
 
 abbrev pub invariant-loop-turn : goal.invariant-loop-turn
 invariant-loop-turn g l =

@@ -3,7 +3,7 @@
 ghost use Rattle.std.specs.Prelude.{◌≡◌, map, IfOk, string_bytes};
 ghost use Rattle.ns_roster.specs.Closing.{nonce_by};
 ghost use Rattle.ns_server.specs.Settled.{greatest_of};
-ghost use Rattle.ns_serve_ends.specs.Closing.{roster_text};
+ghost use Rattle.ns_serve_shards.specs.Closing.{roster_text};
 
 use ns_roster::{Device, Roster};
 use ns_server::{Naming, Settled};

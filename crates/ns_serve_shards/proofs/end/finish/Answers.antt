@@ -1,10 +1,10 @@
 use Rattle.std.proofs.Common.{◌≡◌, Bool, true, false, List, ℕ, Option, sym, ◌∙◌, subst, rules}
 use Rattle.std.specs.Io.KnownBytes.{Appends, append_known}
-use Rattle.ns_serve_ends.specs.Closing.{roster_text, last_lines}
+use Rattle.ns_serve_shards.specs.Closing.{roster_text, last_lines}
 use Rattle.ns_serve_parts.specs.Lines.{line}
 use Rattle.ns_serve_streams.specs.Output.{EndsIn, settled_line}
 use Rattle.ns_serve_streams.proofs.OutputLemmas.{ends_in, ends_in_both}
-use Rattle.ns_serve_ends.proofs.end.finish.Goals as goal
+use Rattle.ns_serve_shards.proofs.end.finish.Goals as goal
 
 pub returns-then-not-closing-clause-text : goal.returns-then-not-closing-clause-text
 returns-then-not-closing-clause-text g c =

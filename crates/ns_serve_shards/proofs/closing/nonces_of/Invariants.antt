@@ -1,7 +1,7 @@
 use Rattle.std.proofs.Common.{◌≡◌, map, take}
 use Rattle.ns_roster.specs.Closing.{nonce_by}
 use Rattle.ns_server.specs.Settled.{greatest_of}
-use Rattle.ns_serve_ends.proofs.closing.nonces_of.Given as goal
+use Rattle.ns_serve_shards.proofs.closing.nonces_of.Given as goal
 
 -- the nonces so far are those of the devices so far
 abbrev pub invariant-loop-device : goal.invariant-loop-device

@@ -1,5 +1,5 @@
-use Rattle.ns_serve_ends.proofs.DrainLemmas.{grows_line, grows_end}
-use Rattle.ns_serve_ends.proofs.end.drain.Goals as goal
+use Rattle.ns_serve_shards.proofs.DrainLemmas.{grows_line, grows_end}
+use Rattle.ns_serve_shards.proofs.end.drain.Goals as goal
 
 pub loop-turn-preserved : goal.loop-turn-preserved
 loop-turn-preserved g c = grows_line _ _ _ _ _ c.loop-turn.invariant c.in_ok-hand_out-in-Some-drain_next.ensures.ok
