@@ -2,13 +2,13 @@
 ghost use Rattle.std.specs.Prelude.{IfSome};
 ghost use Rattle.ns_serve_queues.specs.Notices.{IsNoticeOf};
 
-use log::{Level, Log};
+use log::{Log, warn};
 use ns_calls::{Downlink, Reply};
 use ns_events::{Text, ack_json, join_json};
 use ns_output::Utc;
 use ns_outside::Receipt;
 use ns_serve_parts::{EventLines, utc_of};
-use ns_serve_state::{State, log_at};
+use ns_serve_state::State;
 use ns_types::DevAddr;
 use std::sync::{Mutex, Wait};
 use std::time::Clock;
@@ -56,9 +56,7 @@ fn put_notice<R: Clock + Wait + Log>(rt: &R, notices: &Mutex<EventLines>, receip
         return;
     };
     if !notices.lock(rt).put(text.as_str()) {
-        let what =
-            "a join or an acknowledgement is not written: too many wait, or there is no memory";
-        log_at(rt, Level::Warn, what);
+        warn!(rt; "a join or an acknowledgement is not written: too many wait, or there is no memory");
     }
 }
 

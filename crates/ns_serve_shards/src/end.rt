@@ -7,7 +7,7 @@ ghost use Rattle.ns_serve_shards.specs.Closing.{last_lines};
 ghost use Rattle.ns_serve_streams.specs.Output.{Grows, EndsIn, Sends};
 
 use crate::closing::closing_text;
-use log::{Level, Log};
+use log::{Log, error};
 use ns_calls::Uplink;
 use ns_events::uplink_json;
 use ns_lines::up_line;
@@ -18,7 +18,7 @@ use ns_serve_events::record_call;
 use ns_serve_parts::ServeFault;
 use ns_serve_queues::{note_event, take_notices, times_of};
 use ns_serve_sockets::ToSocket;
-use ns_serve_state::{State, log_at, log_unsent, now_ms};
+use ns_serve_state::{State, log_unsent, now_ms};
 use ns_serve_streams::Output;
 use ns_server::{Naming, Settled};
 use ns_types::Sink;
@@ -138,7 +138,7 @@ pub fn finish<B: Naming, R: Wait + Clock + Log, W: Sink>(
         return Ok(total);
     }
     let Ok(text) = closing_text(alloc, roster, settled) else {
-        log_at(rt, Level::Error, "no memory for the closing roster");
+        error!(rt; "no memory for the closing roster");
         return Err(ServeFault::NoMemory);
     };
     output.put_settled(total)?;
@@ -156,11 +156,7 @@ pub fn written<R: Log, W: Sink>(
     ensures failed { IsErr outcome → (output.new.lines.items ≡ []) × (Appends (W.taken output.old.writer) (W.taken output.new.writer) output.old.lines.items ⊎ (W.has_failed output.new.writer ≡ true)) }
 {
     if outcome.is_err() && output.flush().is_err() {
-        log_at(
-            rt,
-            Level::Error,
-            "the last lines did not reach standard output",
-        );
+        error!(rt; "the last lines did not reach standard output");
     }
     outcome
 }

@@ -7,14 +7,14 @@ ghost use Rattle.ns_front.specs.Noted.{IsNoted};
 ghost use Rattle.ns_serve_sockets.specs.Front.{NotesAt, NotesNamed};
 
 use crate::pace::Pace;
-use log::{Level, Log};
+use log::{Log, error, warn};
 use ns_calls::Downlink;
 use ns_forwarder_socket::{Event, Pending};
 use ns_front::{NotedPeers, front_of, read_seen};
 use ns_link::write_down;
 use ns_outside::{Datagrams, Downlinks, Received};
 use ns_serve_parts::more;
-use ns_serve_state::{State, log_at, log_counts, log_message, now_ms, write_record};
+use ns_serve_state::{State, log_counts, log_message, now_ms, write_record};
 use ns_types::Target;
 use std::io::{Error, ErrorKind};
 use std::net::{SocketAddr, UdpSocket};
@@ -188,31 +188,19 @@ impl<'a> FromSocket<'a> {
             }
             Without::Later => {
                 self.failures += 1;
-                wait_out(rt, state, self.senders(), error);
+                more(&state.counts.unreceived);
+                if let Some(count) = state.seldoms.receive.happened(now_ms(rt, state)) {
+                    warn!(rt; "receiving from {} failed: {error}, {count} since the line before", self.senders());
+                }
+                thread::sleep(rt, Duration::from_millis(FAILURE_MS));
                 Received::Idle
             }
             Without::Lost => {
-                let senders = self.senders();
-                let what = format_args!(
-                    "receiving from {senders} failed more than {MOST_FAILURES} times in a row: {error}"
-                );
-                log_at(rt, Level::Error, what);
+                error!(rt; "receiving from {} failed more than {MOST_FAILURES} times in a row: {error}", self.senders());
                 Received::Failed
             }
         }
     }
-}
-
-// Counts a receive that failed, logs it, and waits a while.
-fn wait_out<R: Wait + Clock + Log>(rt: &R, state: &State, senders: &str, error: &Error) {
-    more(&state.counts.unreceived);
-    if let Some(count) = state.seldoms.receive.happened(now_ms(rt, state)) {
-        let what = format_args!(
-            "receiving from {senders} failed: {error}, {count} since the line before"
-        );
-        log_at(rt, Level::Warn, what);
-    }
-    thread::sleep(rt, Duration::from_millis(FAILURE_MS));
 }
 
 // A gateway with this number was heard from here, if it speaks this server's own datagrams.

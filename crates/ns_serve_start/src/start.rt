@@ -2,12 +2,12 @@
 
 use crate::fault::no_memory;
 use crate::stop::{Stop, mark_stop};
-use log::{Level, Log, info};
+use log::{Log, error, info};
 use ns_record_files::{RecordFiles, Recorder};
 use ns_roster::Roster;
 use ns_serve_parts::{Made, ServeFault, ServeOptions};
 use ns_serve_sockets::AfterRecord;
-use ns_serve_state::{State, Status, log_at};
+use ns_serve_state::{State, Status};
 use ns_serve_streams::Output;
 use ns_types::Sink;
 use std::alloc::Global;
@@ -39,11 +39,7 @@ fn listen<R: Net + Log>(
     match bind(rt, addr) {
         Ok(bound) => Ok(Some(bound)),
         Err(error) => {
-            log_at(
-                rt,
-                Level::Error,
-                format_args!("cannot listen at {addr}: {error}"),
-            );
+            error!(rt; "cannot listen at {addr}: {error}");
             Err(ServeFault::Io)
         }
     }
@@ -53,8 +49,7 @@ fn listen<R: Net + Log>(
 fn suffice<R: Log>(rt: &R, options: &ServeOptions<'_>, own: Option<SocketAddr>) -> bool {
     let suffice = own.is_none() || options.forwarders.is_none() || options.workers >= 2;
     if !suffice {
-        let what = "one worker does not hear both this server's own datagrams and forwarders";
-        log_at(rt, Level::Error, what);
+        error!(rt; "one worker does not hear both this server's own datagrams and forwarders");
     }
     suffice
 }
@@ -106,11 +101,7 @@ pub fn begin<R: Net<Listener = TcpListener, Stream = TcpStream> + Clock + Log>(
         rt, alloc, own, forwarders, roster, options, made, record, status,
     );
     if let Err(why) = &state {
-        log_at(
-            rt,
-            Level::Error,
-            format_args!("what all threads share: {why}"),
-        );
+        error!(rt; "what all threads share: {why}");
     }
     state
 }
@@ -126,7 +117,7 @@ fn put_heard<R: Log, W: Sink, S>(
     let Some((_, addr)) = heard else {
         return Ok(());
     };
-    log_at(rt, Level::Info, format_args!("{word} {addr}"));
+    info!(rt; "{word} {addr}");
     output.put_address(alloc, word, *addr)
 }
 
@@ -153,7 +144,7 @@ pub fn begun_output<'a, R: Wait + Log, W: Sink + Drop>(
 ) -> Result<Output<AfterRecord<'a, R, W>>, ServeFault> {
     let output = first_lines(rt, alloc, state, AfterRecord::new(rt, state, writer));
     if let Err(why) = &output {
-        log_at(rt, Level::Error, format_args!("the first line: {why}"));
+        error!(rt; "the first line: {why}");
     }
     output
 }
@@ -185,17 +176,9 @@ pub fn log_start<R: Log>(
     info!(rt; "devices {} join server {} host {} workers {} join workers {} window {} ms",
         roster.devices().len(), options.join, options.host.as_str(), options.workers, options.join_workers, options.window_ms);
     if let Some(count) = options.stop_after {
-        log_at(
-            rt,
-            Level::Info,
-            format_args!("stops after {count} datagrams"),
-        );
+        info!(rt; "stops after {count} datagrams");
     }
     if let Some(count) = entries_between {
-        log_at(
-            rt,
-            Level::Info,
-            format_args!("trims a shard after {count} entries"),
-        );
+        info!(rt; "trims a shard after {count} entries");
     }
 }

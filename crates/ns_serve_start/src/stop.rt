@@ -1,9 +1,8 @@
 //! A server that stops when something from outside says so, as the end of its standard input.
 ghost use Rattle.std.specs.Prelude.{◌≡◌};
 
-use log::{Level, Log};
+use log::{Log, error, info};
 use ns_serve_parts::ServeFault;
-use ns_serve_state::log_at;
 use std::io::{ErrorKind, Read};
 use std::sync::atomic::{AtomicBool, Ordering};
 use std::sync::{Arc, Wait};
@@ -61,9 +60,9 @@ pub(crate) fn mark_stop<R: Threads + Log, S: Stop + Send + Drop + 'static>(
         mark.store(true, Ordering::SeqCst);
     };
     if thread::spawn(rt, work).is_err() {
-        log_at(rt, Level::Error, "no thread for the end of standard input");
+        error!(rt; "no thread for the end of standard input");
         return Err(ServeFault::NoMemory);
     }
-    log_at(rt, Level::Info, "stops at the end of standard input");
+    info!(rt; "stops at the end of standard input");
     Ok(())
 }

@@ -1,7 +1,6 @@
 //! How the counts are logged.
 
-use crate::logged::log_at;
-use log::{Level, Log};
+use log::{Log, info, warn};
 use ns_serve_parts::{Counts, Made, value};
 use std::fmt;
 use std::fmt::{Display, Formatter};
@@ -27,10 +26,7 @@ fn log_datagrams<R: Log>(rt: &R, counts: &Counts, read: u64) {
     let refusals = Named { counts: &refusals };
     let (dropped, late) = (value(&counts.dropped), value(&counts.late));
     let unreceived = value(&counts.unreceived);
-    let what = format_args!(
-        "datagrams: read {read} dropped {dropped} late {late} failed receives {unreceived}{refusals}"
-    );
-    log_at(rt, Level::Info, what);
+    info!(rt; "datagrams: read {read} dropped {dropped} late {late} failed receives {unreceived}{refusals}");
 }
 
 // Logs the counts of replies.
@@ -39,10 +35,7 @@ fn log_replies<R: Log>(rt: &R, counts: &Counts, made: &Made) {
     let replies = Named { counts: &replies };
     let (unanswered, unsent) = (value(&counts.unanswered), value(&counts.unsent));
     let stale = value(&counts.stale);
-    let what = format_args!(
-        "replies:{replies} unanswered {unanswered} unsent {unsent} stale tickets {stale}"
-    );
-    log_at(rt, Level::Info, what);
+    info!(rt; "replies:{replies} unanswered {unanswered} unsent {unsent} stale tickets {stale}");
 }
 
 /// Logs the counts, with those of so many datagrams and of the replies to them.
@@ -51,7 +44,6 @@ pub(crate) fn log_all<R: Log>(rt: &R, counts: &Counts, read: u64, made: &Made) {
     log_replies(rt, counts, made);
     let unwritten = value(&counts.unwritten);
     if unwritten > 0 {
-        let what = format_args!("standard output failed: {unwritten} lines did not reach it");
-        log_at(rt, Level::Warn, what);
+        warn!(rt; "standard output failed: {unwritten} lines did not reach it");
     }
 }

@@ -1,8 +1,7 @@
 //! What is known of devices and gateways, where it is told.
 
 use crate::clock::BEGIN_MS;
-use crate::logged::log_at;
-use log::{Level, Log};
+use log::{Log, error, info};
 use ns_outside::Receipt;
 use ns_roster::Roster;
 use ns_serve_parts::{ServeFault, keys};
@@ -45,12 +44,11 @@ fn listen<R: Net<Listener = TcpListener, Stream = TcpStream> + Log>(
 ) -> Result<TcpListener, ServeFault> {
     match bind(rt, addr) {
         Ok((listener, bound)) => {
-            log_at(rt, Level::Info, format_args!("status at http://{bound}/"));
+            info!(rt; "status at http://{bound}/");
             Ok(listener)
         }
         Err(error) => {
-            let what = format_args!("cannot tell the status at {addr}: {error}");
-            log_at(rt, Level::Error, what);
+            error!(rt; "cannot tell the status at {addr}: {error}");
             Err(ServeFault::Io)
         }
     }

@@ -7,10 +7,10 @@ use crate::closer::{Closer, Turn, close_and_write, no_memory, write_notices};
 use crate::kits::PassKit;
 use crate::workers::Back;
 use crossbeam_channel::Receiver;
-use log::{Level, Log};
+use log::{Log, error};
 use ns_outside::{Calls, CloseJob, Gate, Monitor};
 use ns_serve_parts::{Made, ServeFault};
-use ns_serve_state::{log_at, rest_record};
+use ns_serve_state::rest_record;
 use ns_serve_threads::Lead;
 use ns_types::Sink;
 use std::sync::Wait;
@@ -34,7 +34,7 @@ pub(crate) struct CloserKit<'c, 'a, S: Calls<R>, R, G, M, W, A> {
 
 // Logs that a thread could not be made.
 fn log_unmade<R: Log>(rt: &R) {
-    log_at(rt, Level::Error, "a thread could not be made");
+    error!(rt; "a thread could not be made");
 }
 
 impl<

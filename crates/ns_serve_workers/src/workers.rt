@@ -11,13 +11,13 @@ ghost use Rattle.ns_serve_workers.specs.Turns.{HasReceipts, IsServed, IsAnswered
 
 use crate::around::Around;
 use crate::kits::{GatewayEnds, GatewayKit, PassKit};
-use log::{Level, Log};
+use log::{Log, error};
 use ns_outside::{Calls, Connections, Gate, Monitor, WorkerFault};
 use ns_responses::Responses;
 use ns_serve_parts::ServeFault;
 use ns_serve_queues::{FromQueue, IntoQueues, SinceStart};
 use ns_serve_sockets::{FromSocket, ToSocket};
-use ns_serve_state::{State, log_at};
+use ns_serve_state::State;
 use ns_serve_streams::{Lines, ToJoinServer, Within};
 use ns_serve_threads::Work;
 use ns_types::{Sink, Source, Stream};
@@ -36,7 +36,7 @@ pub(crate) struct Back<S: Calls<R>, R> {
 
 /// Logs why a worker ends early.
 pub(crate) fn log_end<R: Log>(rt: &R, worker: &str, why: &str) {
-    log_at(rt, Level::Error, format_args!("{worker}: {why}"));
+    error!(rt; "{worker}: {why}");
 }
 
 // The fault of a worker. Where there is one, it is logged, and all others are to stop.

@@ -49,7 +49,7 @@ static BOTH_HEARD: Trial = Trial {
         window_ms: 500,
         ..USUAL
     },
-    levels: "ns_serve_parts::counts=info",
+    levels: "ns_serve_state::counted=info",
     stands_ms: 0,
     lives: &[Life {
         folder: None,

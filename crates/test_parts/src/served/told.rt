@@ -21,7 +21,7 @@ pub const PORT: u16 = 17091;
 
 /// How the counts are logged.
 pub const LOGGED: &[u8] =
-    b"[INFO  ns_serve_parts::counts] datagrams: read 1000000 dropped 101 late 102 failed receives 103 G1 21 G2 22 G3 23 G4 24 G5 25 G6 26 V1 27 V2 28 V3 29 V4 30 V5 31 V6 32\n[INFO  ns_serve_parts::counts] replies: opened 40 copied 2 crowded 3 old 4 nosession 5 busy 6 ask 60 joincopied 8 joincrowded 9 nonceold 10 nodevice 11 joinbusy 12 accepted 13 joinrefused 14 joinstale 15 noticket 16 closed 17 nowindow 18 again 19 unanswered 104 unsent 105 stale tickets 106\n[WARN  ns_serve_parts::counts] standard output failed: 107 lines did not reach it\n";
+    b"[INFO  ns_serve_state::counted] datagrams: read 1000000 dropped 101 late 102 failed receives 103 G1 21 G2 22 G3 23 G4 24 G5 25 G6 26 V1 27 V2 28 V3 29 V4 30 V5 31 V6 32\n[INFO  ns_serve_state::counted] replies: opened 40 copied 2 crowded 3 old 4 nosession 5 busy 6 ask 60 joincopied 8 joincrowded 9 nonceold 10 nodevice 11 joinbusy 12 accepted 13 joinrefused 14 joinstale 15 noticket 16 closed 17 nowindow 18 again 19 unanswered 104 unsent 105 stale tickets 106\n[WARN  ns_serve_state::counted] standard output failed: 107 lines did not reach it\n";
 
 // All that comes back.
 fn read(alloc: Global, mut stream: &TcpStream) -> Option<String> {
