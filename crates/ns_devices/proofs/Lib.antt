@@ -1,4 +1,5 @@
 pub mod Positions
 pub mod Addressed
 pub mod Euis
+pub mod Fits
 pub mod Rosters

@@ -12,7 +12,6 @@ ghost use Rattle.ns_devices.specs.Devices.{joinless, devices_of, is_own, own_of,
 ghost use Rattle.ns_devices.specs.Places.{AreWithin, first_fit_at};
 
 use crate::own::{Own, Placed};
-use indexmap::IndexMap;
 use ns_calls::Outcome;
 use ns_roster::Roster;
 use ns_rows::{Rows, push_at, row_at};
@@ -26,24 +25,23 @@ use std::marker::Model;
 /// The devices of a shard, in the roster's order. Contracts see the list of them.
 #[derive(Drop)]
 pub struct Devices {
-    alloc: Global,
-    /// The devices at their DevEUIs.
-    list: IndexMap<DevEui, Own>,
+    list: Vec<Own>,
+    /// The place of the device of each DevEUI.
+    euis: HashMap<u64, usize>,
     /// The places of the devices of each address. Few addresses have more than two devices.
     places: Rows<usize, 2>,
 }
 
 impl Model for Devices {
     ghost use Rattle.std.specs.Prelude.{List};
-    ghost use Rattle.std.specs.Map.{values_of};
     ghost use Rattle.ns_devices.specs.declared.own.Own.{Own};
     ghost use Rattle.ns_devices.specs.Places.{Agree};
 
     ghost Value = { List Own };
 
-    ghost view = { λ d. values_of d.list.entries };
+    ghost view = { λ d. d.list.items };
 
-    ghost invariant = { λ d. Agree d.list.entries d.places.entries };
+    ghost invariant = { λ d. Agree d.list.items d.euis.entries d.places.entries };
 }
 
 impl Devices {
@@ -52,31 +50,19 @@ impl Devices {
         ensures are { IfOk result (λ d. d ≡ map (joinless roster.now) (devices_of roster.now index)) }
         ensures valid { IsRoster roster.now }
     {
-        let mut devices = Devices {
-            alloc,
-            list: IndexMap::new(alloc),
-            places: HashMap::new(alloc),
-        };
+        let mut list = Vec::new(alloc);
+        let mut euis = HashMap::new(alloc);
+        let mut places = HashMap::new(alloc);
         for device in roster.devices() {
             if shard_of(device.eui) != index {
                 continue;
             }
-            devices.add(Own::new(roster, device))?;
+            let own = Own::new(roster, device);
+            push_at(&mut places, alloc, u64::from(own.addr.0), list.len())?;
+            euis.insert(own.device.eui.0, list.len())?;
+            list.push(own)?;
         }
-        Ok(devices)
-    }
-
-    // Adds a device after the others. Where a growth is refused, nothing has changed.
-    fn add(&mut self, own: Own) -> Result<(), AllocError>
-        requires { own_of own.device.eui self.old ≡ None }
-        ensures ok { OnOk result (self.new ≡ self.old ++ own ∷ []) }
-        ensures err { OnErr result (self.new ≡ self.old) }
-    {
-        let place = self.list.len();
-        self.list.reserve(1)?;
-        push_at(&mut self.places, self.alloc, u64::from(own.addr.0), place)?;
-        self.list.insert(own.device.eui, own).unwrap();
-        Ok(())
+        Ok(Devices { list, euis, places })
     }
 
     // Where the device of an EUI stands.
@@ -84,7 +70,7 @@ impl Devices {
         ensures place { result ≡ position (is_own eui) self.now }
         ensures within { IfSome result (λ i. i < length self.now) }
     {
-        self.list.get_index_of(&eui)
+        self.euis.get(&eui.0).copied()
     }
 
     // The first of the devices at these places of which a session fits.

@@ -1,2 +1,3 @@
 pub mod MetricsLemmas
+pub mod Places
 pub mod StepLemmas

@@ -1,14 +1,14 @@
 -- What is known of devices.
-use Rattle.std.specs.Prelude.{ℕ, ◌+◌, ◌-◌, ◌==◌, ◌^◌, Bool, nat_lt, min, max, List, Option, Some, None, option_map, if◌then◌else◌}
+use Rattle.std.specs.Prelude.{◌≡◌, ℕ, ◌+◌, ◌-◌, ◌==◌, ◌^◌, Bool, nat_lt, min, max, List, position, Option, Some, None, option_map, if◌then◌else◌}
 use Rattle.std.specs.Map.{lookup}
 use Rattle.std.specs.Option.{option_map_or}
 use Rattle.ns_types.specs.declared.identity.DevEui.{DevEui}
 use Rattle.ns_types.specs.declared.identity.DevAddr.{DevAddr}
+use Rattle.ns_roster.specs.declared.Device.{Device as roster_device}
 use Rattle.ns_status.specs.declared.news.News.{News}
 use Rattle.ns_status.specs.declared.news.News.TheVariants.{Joined, Heard}
 use Rattle.ns_status.specs.declared.devices.HeardBy.{HeardBy}
 use Rattle.ns_status.specs.declared.devices.Device.{Device}
-use Rattle.ns_status.specs.declared.devices.Devices.{Devices}
 
 -- a device whose session begins, and when it was heard last before
 abbrev pub fresh : ℕ → DevAddr → ℕ → Option HeardBy → Device
@@ -47,13 +47,17 @@ abbrev pub eui_of : News → DevEui
 eui_of (Joined eui session addr) = eui
 eui_of (Heard window addr gateway is_new) = window.eui
 
--- the devices of the roster, with what is known of each that joined
-abbrev pub rows : Devices → List (DevEui × Option Device)
-rows d = d.list.entries
+-- the row of a device of the roster that has not joined
+abbrev pub not_joined : roster_device → DevEui × Option Device
+not_joined device = (device.eui, None)
 
 -- what is known of a device, where it is of the roster
-abbrev pub row_of : Devices → DevEui → Option (Option Device)
-row_of d eui = lookup (λ other. eui.0 == other.0) (rows d)
+abbrev pub row_of : List (DevEui × Option Device) → DevEui → Option (Option Device)
+row_of rows eui = lookup (λ other. eui.0 == other.0) rows
+
+-- these are the places of the devices in the list: of each its first, and of one that is not in it none
+abbrev pub ArePlaces : List (DevEui × Option Device) → List (DevEui × ℕ) → Type 0
+ArePlaces rows places = (eui : DevEui) → lookup (λ other. eui.0 == other.0) places ≡ position (λ row. row.0.0 == eui.0) rows
 
 -- a device that joined
 abbrev pub joined_row : DevEui × Option Device → Option (DevEui × Device)

@@ -1,15 +1,15 @@
 //! What is known of the devices of a roster.
 
-ghost use Rattle.std.specs.Prelude.{◌≡◌, ◌==◌, Some, None, IfOk, length, count_by, is_some, option_map, option_and_then, slice_get, IsSome, if◌then◌else◌};
-ghost use Rattle.std.specs.List.{list_any};
+ghost use Rattle.std.specs.Prelude.{◌≡◌, ◌==◌, IfOk, length, map, count_by, is_some, option_map, option_and_then, slice_get, if◌then◌else◌};
 ghost use Rattle.ns_types.specs.declared.identity.DevEui.{DevEui as dev_eui};
-ghost use Rattle.ns_status.specs.Devices.{fresh, renewed, with_frame, after_news, noted, eui_of, row_of, rows, joined_row, missed};
+ghost use Rattle.ns_status.specs.Devices.{fresh, renewed, with_frame, after_news, noted, eui_of, row_of, not_joined, joined_row, missed};
 
 use crate::news::News;
-use indexmap::IndexMap;
 use ns_roster::Roster;
 use ns_types::{DevAddr, DevEui, GatewayId};
 use std::alloc::{AllocError, Global};
+use std::collections::HashMap;
+use std::marker::Model;
 
 /// When and by which gateway a device was heard.
 #[derive(Clone, Copy)]
@@ -124,40 +124,41 @@ impl News {
     }
 }
 
-/// A place for each device of a roster, in its order, and what is known of each that joined.
+/// A place for each device of a roster, in its order, and what is known of each that joined. Contracts see the list of them.
 #[derive(Drop)]
 pub struct Devices {
-    list: IndexMap<DevEui, Option<Device>>,
+    /// Each device of the roster, with what is known of it where it joined.
+    list: Vec<(DevEui, Option<Device>)>,
+    /// The place of each device in the list.
+    places: HashMap<DevEui, usize>,
+}
+
+impl Model for Devices {
+    ghost use Rattle.std.specs.Prelude.{List, Option};
+    ghost use Rattle.ns_types.specs.declared.identity.DevEui.{DevEui};
+    ghost use Rattle.ns_status.specs.declared.devices.Device.{Device};
+    ghost use Rattle.ns_status.specs.Devices.{ArePlaces};
+
+    ghost Value = { List (DevEui × Option Device) };
+
+    ghost view = { λ d. d.list.items };
+
+    ghost invariant = { λ d. ArePlaces d.list.items d.places.entries };
 }
 
 impl Devices {
     /// The devices of a roster, none of which has joined. All the memory that they ever take is taken here.
     pub fn new(alloc: Global, roster: &Roster) -> Result<Devices, AllocError>
-        ensures { IfOk result (λ d. (eui : dev_eui) → row_of d eui
-            ≡ (if list_any (λ device. device.eui.0 == eui.0) roster.now.devices then Some None else None)) }
+        ensures { IfOk result (λ d. d ≡ map not_joined roster.now.devices) }
     {
-        let mut devices = Devices {
-            list: IndexMap::with_capacity(alloc, roster.devices().len())?,
-        };
+        let len = roster.devices().len();
+        let mut list = Vec::with_capacity(alloc, len)?;
+        let mut places = HashMap::with_capacity(alloc, len)?;
         for device in roster.devices() {
-            devices.list.insert(device.eui, None)?;
+            places.insert(device.eui, list.len())?;
+            list.push((device.eui, None))?;
         }
-        Ok(devices)
-    }
-
-    // What is known of a device, where it is of the roster.
-    fn row(&self, eui: DevEui) -> Option<Option<Device>>
-        ensures { result ≡ row_of self.now eui }
-    {
-        self.list.get(&eui).copied()
-    }
-
-    // Keeps what is known of a device of the roster. It takes no memory.
-    fn put(&mut self, eui: DevEui, device: Device)
-        requires { IsSome (row_of self.old eui) }
-        ensures { (d : dev_eui) → row_of self.new d ≡ (if eui.0 == d.0 then Some (Some device) else row_of self.old d) }
-    {
-        self.list.insert(eui, Some(device)).unwrap();
+        Ok(Devices { list, places })
     }
 
     /// Notes what a call and its reply told of a device. It takes no memory. Nothing is noted of another device, nor of one that is
@@ -166,38 +167,38 @@ impl Devices {
         ensures { (d : dev_eui) → row_of self.new d
             ≡ (if (eui_of news.now).0 == d.0 then option_map (noted news.now now_ms) (row_of self.old d) else row_of self.old d) }
     {
-        let Some(before) = self.row(news.eui()) else {
-            return;
-        };
-        self.put(news.eui(), Device::after_news(before, news, now_ms));
+        if let Some(place) = self.places.get(&news.eui()) {
+            let row = &mut self.list[*place];
+            row.1 = Some(Device::after_news(row.1, news, now_ms));
+        }
     }
 
     /// How many places there are.
     pub fn len(&self) -> usize
-        ensures { result ≡ length (rows self.now) }
+        ensures { result ≡ length self.now }
     {
         self.list.len()
     }
 
     /// Whether there is none.
     pub fn is_empty(&self) -> bool
-        ensures { result ≡ (length (rows self.now) == 0) }
+        ensures { result ≡ (length self.now == 0) }
     {
         self.list.is_empty()
     }
 
     /// How many devices have joined.
     pub fn joined(&self) -> usize
-        ensures { result ≡ count_by (λ row. is_some row.1) (rows self.now) }
+        ensures { result ≡ count_by (λ row. is_some row.1) self.now }
     {
         self.list.iter().filter(|row| row.1.is_some()).count()
     }
 
     /// The device at a place, where it has joined.
     pub fn joined_at(&self, place: usize) -> Option<(DevEui, Device)>
-        ensures { result ≡ option_and_then joined_row (slice_get (rows self.now) place) }
+        ensures { result ≡ option_and_then joined_row (slice_get self.now place) }
     {
-        match self.list.get_index(place) {
+        match self.list.get(place) {
             Some((eui, Some(device))) => Some((*eui, *device)),
             _ => None,
         }

@@ -8,7 +8,7 @@
 //! - HTTP/1.1, one request a connection: `read_request` reads a head of at most 4,096 bytes, and `head_of` is that of a response.
 //!
 //! Each text but the page's is exactly the one that `specs/` defines. Stands on ns_types, ns_views, ns_roster and ns_calls, and on arrayvec, hex,
-//! httparse, indexmap, itoa, lru and serde_json of the kit.
+//! httparse, itoa, lru and serde_json of the kit.
 #![tactic(auto)]
 
 mod devices;

@@ -1,9 +1,10 @@
-use Rattle.std.proofs.Common.{◌≡◌, ◌==◌, take, Some, None, if◌then◌else◌}
-use Rattle.std.specs.List.{list_any}
-use Rattle.ns_types.specs.declared.identity.DevEui.{DevEui}
-use Rattle.ns_status.specs.Devices.{row_of}
+use Rattle.std.proofs.Common.{◌≡◌, map, take}
+use Rattle.ns_status.specs.Devices.{not_joined, ArePlaces}
 use Rattle.ns_status.proofs.devices.Devices.new.Given as goal
 
--- the devices so far have a place, and no other has
+-- the devices so far are in the list, and so are their places
 abbrev pub invariant-loop-device : goal.invariant-loop-device
-invariant-loop-device l = (eui : DevEui) → row_of l.devices eui ≡ (if list_any (λ device. device.eui.0 == eui.0) (take l.device-index l.roster.devices) then Some None else None)
+invariant-loop-device l = record {
+  rows : l.list.items ≡ map not_joined (take l.device-index l.roster.devices);
+  places : ArePlaces l.list.items l.places.entries;
+}

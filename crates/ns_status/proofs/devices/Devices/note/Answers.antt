@@ -1,10 +1,19 @@
-use Rattle.std.proofs.Common.{ap, sym, ◌∙◌}
-use Rattle.ns_status.specs.Devices.{eui_of, noted, row_of, rows}
-use Rattle.ns_status.proofs.StepLemmas.{lookup-noted}
+use Rattle.std.proofs.Common.{arith, sym, ◌∙◌}
+use Rattle.std.proofs.lemmas.Grind.{common_steps}
+use Rattle.ns_status.specs.Devices.{eui_of, noted}
+use Rattle.ns_status.proofs.Places.{row-placed, row-unplaced}
 use Rattle.ns_status.proofs.devices.Devices.note.Goals as goal
 
-pub returns : goal.returns
-returns c = λ d.
-    lookup-noted (rows c.args.self.now) (eui_of c.args.news.now) d c.in-Some.before (noted c.args.news.now c.args.now_ms) (row_of c.put.new.self d)
-    (ap (λ e. row_of c.args.self.now e) (sym c.eui.ensures) ∙ sym c.in-Some.ensures)
-    (rw (c.eui-2.ensures, c.after_news.ensures) at (c.put.ensures d))
+pub index_mut-row-requires : goal.index_mut-row-requires
+index_mut-row-requires c = grind (arith, common_steps, c.self.invariant c.eui.result)
+
+pub returns-in-Some : goal.returns-in-Some
+returns-in-Some c = λ d.
+    let at = rw c.eui.ensures at (sym (c.self.invariant c.eui.result) ∙ sym c.in-Some.ensures.value) in
+    rw (c.after_news.ensures, ← c.self.view_is)
+    (row-placed (eui_of c.args.news.now) d (noted c.args.news.now c.args.now_ms) c.self.inside.list.items c.in-Some.place.now c.index_mut-row.result.now at c.index_mut-row.ensures.value)
+
+pub returns-in_default : goal.returns-in_default
+returns-in_default c = λ d.
+    let none = rw c.eui.ensures at (sym (c.self.invariant c.eui.result) ∙ sym c.in_default.ensures.value) in
+    rw (← c.self.view_is) (row-unplaced (eui_of c.args.news.now) d (noted c.args.news.now c.args.now_ms) c.self.inside.list.items none)
