@@ -1,10 +1,9 @@
 -- The first element that passes a test, by its place.
-use Rattle.std.proofs.Common.{◌≡◌, not, nat_lt, IfSome, ℕ, ◌+◌, ◌<◌, get_or, zero, suc, Bool, true, false, cond, List, [], ◌∷◌, ◌++◌, length, find, position, slice_get, slice_index_or, set, Option, None, Some, ◌⊎◌, inl, inr, ⊎_elim, refl, sym, ap, ap₂, ◌∙◌, arith}
+use Rattle.std.proofs.Common.{◌≡◌, nat_lt, IfSome, ℕ, ◌+◌, ◌<◌, get_or, zero, suc, Bool, cond, List, [], ◌∷◌, ◌++◌, length, find, position, slice_get, slice_index_or, set, Option, None, Some, ◌⊎◌, inl, inr, ⊎_elim, refl, sym, ap, ap₂, ◌∙◌, arith}
 use Rattle.std.specs.List.{AllByRecursion, position_or_len}
 use Rattle.std.proofs.lemmas.Grind.{common_steps}
 use Rattle.std.proofs.lemmas.Option.{slice_get_past, slice_get_read, get_or_from_slice_get}
 use Rattle.std.proofs.lemmas.List.{length-set}
-use Rattle.std.proofs.lemmas.List.Sums.{prefix_len-le-length}
 use Rattle.std.proofs.lemmas.List.Folds.{find_at, position_or_len-set, position_or_len_push}
 use Rattle.ns_devices.specs.Devices.{change_first}
 

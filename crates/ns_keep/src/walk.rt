@@ -71,24 +71,24 @@ fn keeps<D: DeviceTable>(
     ensures keeps { IfOk result (λ b. b ≡ keeps_said (D.lives devices.now) (D.has_ticket devices.now) windows.now marks.old (said_in entry.now.call entry.now.reply)) }
     ensures marks { OnOk result (MarksSaid (D.has_ticket devices.now) (said_in entry.now.call entry.now.reply) marks.old marks.new) }
 {
-    Ok(match said_by(entry) {
+    match said_by(entry) {
         Said::Accepted { eui, session } => {
             let last = marks.accept(eui)?;
-            last || devices.is_live(eui, session) || windows.has_session(eui, session)
+            Ok(last || devices.is_live(eui, session) || windows.has_session(eui, session))
         }
-        Said::Opened { window } => keeps_opening(marks, windows, devices, &window)?,
-        Said::Repeated { window } => keeps_repetition(marks, windows, devices, &window)?,
-        Said::Copied { window } => windows.has(&window),
+        Said::Opened { window } => keeps_opening(marks, windows, devices, &window),
+        Said::Repeated { window } => keeps_repetition(marks, windows, devices, &window),
+        Said::Copied { window } => Ok(windows.has(&window)),
         Said::Acknowledged { window } => {
             let last = marks.acknowledge(&window)?;
-            last && devices.is_live(window.eui, window.session)
+            Ok(last && devices.is_live(window.eui, window.session))
         }
-        Said::Asked { ticket } => keeps_asking(marks, devices, &ticket)?,
+        Said::Asked { ticket } => keeps_asking(marks, devices, &ticket),
         Said::JoinCopied { ticket } => {
-            devices.is_ticket_open(&ticket) && !marks.is_asked(&ticket)
+            Ok(devices.is_ticket_open(&ticket) && !marks.is_asked(&ticket))
         }
-        Said::Nothing => false,
-    })
+        Said::Nothing => Ok(false),
+    }
 }
 
 /// The numbers of the entries that a trim keeps, in order: those of `keep`, where the history reads as one of which the table has the

@@ -82,7 +82,7 @@ pub fn read_base<S: BufRead>(alloc: Global, steps: &mut S) -> Result<Option<Base
     ensures bytes { IfOk result (λ base. Consumes (S.remaining steps.old) (S.remaining steps.new) (head_text base)) }
     ensures fault { IfErr result NamesNoLine }
 {
-    if steps.fill_buf()?.first() != Some(&b'b') {
+    if !steps.fill_buf()?.starts_with(b"b") {
         return Ok(None);
     }
     let mut line = Vec::new(alloc);

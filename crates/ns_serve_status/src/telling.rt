@@ -54,9 +54,12 @@ struct Asker<'a, R> {
 }
 
 // Whether a read or a write did nothing but wait.
-fn is_wait(kind: ErrorKind) -> bool {
+fn is_wait(done: &io::Result<usize>) -> bool {
+    let Err(error) = done else {
+        return false;
+    };
     matches!(
-        kind,
+        error.kind(),
         ErrorKind::WouldBlock | ErrorKind::TimedOut | ErrorKind::Interrupted
     )
 }
@@ -75,10 +78,9 @@ impl<'a, R: Wait + Clock> Asker<'a, R> {
             if self.is_over() {
                 return Err(io::Error::from(ErrorKind::TimedOut));
             }
-            match (&self.stream).read(buf) {
-                Ok(n) => return Ok(n),
-                Err(error) if is_wait(error.kind()) => {}
-                Err(error) => return Err(error),
+            let read = (&self.stream).read(buf);
+            if !is_wait(&read) {
+                return read;
             }
         }
         unreachable!()
@@ -91,10 +93,9 @@ impl<'a, R: Wait + Clock> Asker<'a, R> {
             if self.is_over() {
                 return Err(io::Error::from(ErrorKind::TimedOut));
             }
-            match (&self.stream).write(bytes) {
-                Ok(n) => return Ok(n),
-                Err(error) if is_wait(error.kind()) => {}
-                Err(error) => return Err(error),
+            let written = (&self.stream).write(bytes);
+            if !is_wait(&written) {
+                return written;
             }
         }
         unreachable!()

@@ -1,19 +1,24 @@
 -- Passes whose counts rise by receipts.
-use Rattle.std.proofs.Common.{ℕ, List, [], ◌++◌, Option, flat_map}
+use Rattle.std.proofs.Common.{◌≡◌, ℕ, List, [], ◌++◌, Option, flat_map, subst}
 use Rattle.std.proofs.lemmas.List.Elements.{All-append}
-use Rattle.ns_types.specs.declared.ticket.Ticket.{Ticket}
 use Rattle.ns_calls.specs.declared.call.Outcome.{Outcome}
 use Rattle.ns_roster.specs.Network.{Network}
 use Rattle.ns_output.specs.declared.output.Output.{Output}
 use Rattle.ns_outside.specs.declared.receipt.Receipt.{Receipt}
+use Rattle.ns_outside.specs.declared.job.AskJob.{AskJob}
+use Rattle.ns_outside.specs.Given.{Given}
 use Rattle.ns_outside.specs.Notice.{Notice}
 use Rattle.ns_tally.specs.Tally.{none_made}
 use Rattle.ns_workers.specs.Closing.{HasAnswer}
-use Rattle.ns_workers.specs.Serving.{receipts_of}
+use Rattle.ns_workers.specs.declared.gateway.Served.{Served}
+use Rattle.ns_workers.specs.declared.join.Joined.{Joined}
+use Rattle.ns_workers.specs.Answering.{Answers}
+use Rattle.ns_workers.specs.Counts.{RisesByReceipts}
+use Rattle.ns_workers.specs.Effects.{Effects}
+use Rattle.ns_workers.specs.Serving.{ServesAll, receipts_of}
 use Rattle.ns_workers.proofs.Counting.{rises_none, rises_both}
 use Rattle.ns_workers.proofs.Doings.{answered_none}
-use Rattle.ns_serve_parts.specs.declared.options.ServeFault.{ServeFault}
-use Rattle.ns_serve_workers.specs.Turns.{HasReceipts, IsServed, IsAnswered}
+use Rattle.ns_serve_workers.specs.Turns.{HasReceipts}
 
 -- no call was made
 pub receipts_none : (net : Network) (counts : List ℕ) → HasReceipts net counts counts
@@ -28,12 +33,14 @@ receipts_both net old mid new before after = record {
 }
 
 -- those of a gateway worker
-pub receipts_served : (net : Network) (output : Output) (has_heard : Notice → Type 0) (window_ms : ℕ) (pass : List ℕ) (fault : Option ServeFault) → IsServed net output has_heard window_ms pass fault → ∥ HasReceipts net none_made pass ∥₁
-receipts_served net output has_heard window_ms pass fault so =
-    let does = so.serves.serves.does in
-    ∣ record { receipts = flat_map receipts_of so.serves.serves.turns; answered = does.answered; counted = does.counted } ∣₁
+pub receipts_served : (net : Network) (output : Output) (has_heard : Notice → Type 0) (has_told : ℕ → Type 0) (window_ms : ℕ) (given given' : Option (Given (List ℕ))) (before after : Effects) (served : Served)
+    → before.pass ≡ none_made → ServesAll net output has_heard has_told window_ms given given' before after served → ∥ HasReceipts net none_made after.pass ∥₁
+receipts_served net output has_heard has_told window_ms given given' before after served unused so =
+    let does = so.serves.does in
+    ∣ record { receipts = flat_map receipts_of so.serves.turns; answered = does.answered; counted = subst (λ p. RisesByReceipts p after.pass (flat_map receipts_of so.serves.turns)) unused does.counted } ∣₁
 
 -- those of a join worker
-pub receipts_answered : (net : Network) (has_heard : Notice → Type 0) (HasOutcome : Ticket → Outcome → Type 0) (pass : List ℕ) (fault : Option ServeFault) → IsAnswered net has_heard HasOutcome pass fault → ∥ HasReceipts net none_made pass ∥₁
-receipts_answered net has_heard HasOutcome pass fault so =
-    ∣ record { receipts = so.answers.receipts; answered = so.answers.does.answered; counted = so.answers.does.counted } ∣₁
+pub receipts_answered : (net : Network) (has_heard : Notice → Type 0) (IsOutcome : AskJob → Outcome → Type 0) (given given' : Option (Given AskJob)) (before after : Effects) (joined : Joined)
+    → before.pass ≡ none_made → Answers net has_heard IsOutcome given given' before after joined → ∥ HasReceipts net none_made after.pass ∥₁
+receipts_answered net has_heard IsOutcome given given' before after joined unused so =
+    ∣ record { receipts = so.receipts; answered = so.does.answered; counted = subst (λ p. RisesByReceipts p after.pass so.receipts) unused so.does.counted } ∣₁

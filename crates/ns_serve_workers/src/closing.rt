@@ -69,6 +69,20 @@ impl<
     }
 }
 
+// Writes what was told meanwhile, unless there is a fault already: that the server goes on, or the fault.
+fn go_on<S, R: Wait + Log, G, M, W: Sink>(
+    around: &Around<'_, S, R, G, M, W>,
+    fault: Option<ServeFault>,
+) -> Result<bool, ServeFault> {
+    if let Some(fault) = fault {
+        return Err(fault);
+    }
+    match write_notices(around.rt, around.state, around.output) {
+        Some(fault) => Err(fault),
+        None => Ok(true),
+    }
+}
+
 // Closes the windows that are due and writes what was told meanwhile: whether the server goes on, or the fault that ends it.
 #[tactic(auto, using(crate::proofs::ReceiptLemmas::receipts_none))]
 fn close_turn<S: Calls<R>, R: Wait + Clock + Log, G: Gate<R>, M: Monitor<R>, W: Sink>(
@@ -85,18 +99,10 @@ fn close_turn<S: Calls<R>, R: Wait + Clock + Log, G: Gate<R>, M: Monitor<R>, W: 
         return Ok(false);
     }
     match closer.closings.next(rt, around.alloc, state) {
-        Ok(Turn::Close(jobs)) => {
-            if let Some(fault) = close_and_write(around, pass, closer, jobs) {
-                return Err(fault);
-            }
-        }
-        Ok(Turn::Idle) => {}
-        Ok(Turn::End) => return Ok(false),
-        Err(_) => return Err(no_memory(rt, "no memory for its jobs")),
-    }
-    match write_notices(rt, state, around.output) {
-        Some(fault) => Err(fault),
-        None => Ok(true),
+        Ok(Turn::Close(jobs)) => go_on(around, close_and_write(around, pass, closer, jobs)),
+        Ok(Turn::Idle) => go_on(around, None),
+        Ok(Turn::End) => Ok(false),
+        Err(_) => Err(no_memory(rt, "no memory for its jobs")),
     }
 }
 

@@ -64,7 +64,6 @@ impl<'a, S: Calls<R>, R: Wait + Clock + Log, G: Gate<R>, M: Monitor<R>, W: Sink>
     Back<S, R>,
 > for Around<'a, S, R, G, M, W> {
     // A gateway worker, from its start to its end.
-    #[tactic(auto, using(crate::proofs::ReceiptLemmas::receipts_served))]
     fn work(&self, kit: GatewayKit<S, R>) -> Back<S, R>
         ensures { IsServed S.roster self.now.state.now.uplinks (M.has_heard self.now.monitor.now) self.now.state.now.window_ms
             (S.made result.pass) result.fault }
@@ -102,7 +101,6 @@ impl<
     W: Sink,
 > Work<PassKit<S, R>, Back<S, R>> for Around<'a, S, R, G, M, W> {
     // A join worker, from its start to its end.
-    #[tactic(auto, using(crate::proofs::ReceiptLemmas::receipts_answered))]
     fn work(&self, kit: PassKit<S, R>) -> Back<S, R>
         ensures { let has_opened = ⟦<ToJoinServer<'a, R> as Connections<R>>⟧.has_opened in
             let has_none = ⟦<ToJoinServer<'a, R> as Connections<R>>⟧.has_none in

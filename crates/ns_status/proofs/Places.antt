@@ -1,12 +1,11 @@
 -- Devices by their places in the list.
-use Rattle.std.proofs.Common.{◌≡◌, ◌==◌, ◌<◌, ℕ, ◌+◌, suc, Bool, cond, nat_lt, not, refl, sym, true, false, List, [], ◌∷◌, ◌++◌, length, get_or, take, map, set, slice_get, position, Option, Some, None, option_map, if◌then◌else◌, ap, ◌∙◌, arith}
+use Rattle.std.proofs.Common.{◌≡◌, ◌==◌, ◌<◌, ℕ, ◌+◌, suc, Bool, cond, refl, sym, false, List, [], ◌∷◌, ◌++◌, length, get_or, take, map, set, slice_get, position, Option, Some, None, option_map, if◌then◌else◌, ap, ◌∙◌, arith}
 use Rattle.std.specs.Prelude.{AllPairs}
 use Rattle.std.specs.List.{position_or_len}
 use Rattle.std.specs.Map.{lookup}
 use Rattle.std.proofs.lemmas.Bool.Decides.{nat_tests}
 use Rattle.std.proofs.lemmas.Grind.{common_steps}
 use Rattle.std.proofs.lemmas.List.{get_or-map, get_or-take, length-map, length-take}
-use Rattle.std.proofs.lemmas.List.Folds.{length-prefix_len, position_or_len_push}
 use Rattle.std.proofs.lemmas.List.Sums.{position_or_len_is}
 use Rattle.std.proofs.lemmas.Option.{slice_get_read}
 use Rattle.ns_types.proofs.PositionLemmas.{position-push}

@@ -11,7 +11,6 @@ use ns_outside::{Calls, Downlinks, Gate, Monitor, Receipt};
 use std::alloc::AllocError;
 
 // Makes a call and tells its receipt, which it puts in the place of another.
-#[tactic(auto, using(crate::proofs::Doings::counted_answer))]
 pub(crate) fn make_call<S: Calls<R>, R, G: Gate<R>, M: Monitor<R>>(
     shared: &Shared<'_, S, R, G, M>,
     pass: &mut S::Pass,

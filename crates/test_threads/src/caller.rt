@@ -6,7 +6,7 @@ ghost use Rattle.std.specs.Prelude.{◌<◌};
 use crate::gate_tests::{Visited, is_past};
 use crate::work::Told;
 use ns_calls::{Call, Entry, Reply};
-use ns_outside::Receipt;
+use ns_outside::{Calls, Receipt};
 use ns_server::{Naming, Pass, Server, Settled, Trim};
 use ns_shard::{Dropped, TrimFault};
 use std::alloc::Global;
@@ -43,10 +43,7 @@ impl Trimmed {
 }
 
 /// A server, as the workers of a test call it.
-pub trait Serves<R> {
-    /// The right of one worker to make calls.
-    type Pass: Drop;
-
+pub trait Serves<R>: Calls<R> {
     /// The receipt of a call that visits a gate, where memory was not refused.
     fn visit(
         &self,
@@ -71,8 +68,6 @@ pub trait Serves<R> {
 }
 
 impl<B: Naming, R: Wait + Clock> Serves<R> for Server<B> {
-    type Pass = Pass<B>;
-
     fn visit(&self, rt: &R, pass: &mut Pass<B>, call: Call, gate: Visited<'_>) -> Option<Receipt> {
         self.call(rt, pass, call, &gate).ok()
     }

@@ -105,6 +105,18 @@ impl Outcome {
             }
         }
     }
+
+    // What is not as it is to be of a server that has ended, if anything.
+    fn ended<E: Ended + Drop>(
+        &mut self,
+        settled: Result<E, &'static str>,
+        trial: Trial,
+    ) -> Result<(), &'static str> {
+        let mut settled = settled?;
+        let is_right = self.is_right(&mut settled, trial);
+        drop(settled);
+        is_right.then_some(()).ok_or("not all is as it is to be")
+    }
 }
 
 // Makes the trial by one worker. How many entries were made, where all is as it is to be, and of a long run what is to be left.
@@ -171,14 +183,17 @@ pub fn by_last<S: Serves<R>, R: Clock>(
 }
 
 // Makes the trial. The passes when it has ended.
-fn made<B: Naming + Send + Sync, R: Threads + Wait + Clock + Sync>(
+fn made<S: Serves<R> + Sync, R: Threads + Wait + Clock + Sync>(
     rt: &R,
     alloc: Global,
-    server: &Server<B>,
-    mut passes: Vec<Pass<B>>,
+    server: &S,
+    mut passes: Vec<S::Pass>,
     trial: Trial,
     outcome: &mut Outcome,
-) -> Result<Vec<Pass<B>>, AllocError> {
+) -> Result<Vec<S::Pass>, AllocError>
+where
+    S::Pass: Send,
+{
     match trial {
         Trial::InThreads(work) => {
             let done = served(rt, alloc, server, passes, work, outcome)?;
@@ -211,20 +226,6 @@ fn held_back<P: Drop>(passes: &mut Vec<P>, trial: Trial) -> Option<P> {
     }
 }
 
-// Settles the server of a trial. What is not as it is to be, if anything.
-fn is_settled<B: Naming>(
-    server: Server<B>,
-    mut passes: Vec<Pass<B>>,
-    trial: Trial,
-    outcome: &mut Outcome,
-) -> Result<(), &'static str> {
-    let held = held_back(&mut passes, trial);
-    let mut settled = settled(server, passes, held)?;
-    let is_right = outcome.is_right(&mut settled, trial);
-    drop(settled);
-    is_right.then_some(()).ok_or("not all is as it is to be")
-}
-
 // Makes the trial, and settles the server. What is not as it is to be, if anything.
 fn is_right<B: Naming + Send + Sync, R: Threads + Wait + Clock + Sync>(
     rt: &R,
@@ -235,7 +236,7 @@ fn is_right<B: Naming + Send + Sync, R: Threads + Wait + Clock + Sync>(
     outcome: &mut Outcome,
 ) -> Result<(), &'static str> {
     match made(rt, alloc, &server, passes, trial, outcome) {
-        Ok(passes) => is_settled(server, passes, trial, outcome),
+        Ok(passes) => outcome.ended(settled(server, passes, trial), trial),
         Err(AllocError) => {
             drop(server);
             Err("no memory")
@@ -346,22 +347,31 @@ fn named<B: Naming + Send + Sync, R: Threads + Wait + Clock + Sync>(
     }
 }
 
-// Settles a server, which fails where a pass is held back, and gives all back; and then with that pass.
+// Settles the server of a trial: where a pass is held back this fails, and gives all back; and then with that pass.
 fn settled<B: Naming>(
     server: Server<B>,
-    passes: Vec<Pass<B>>,
-    held: Option<Pass<B>>,
+    mut passes: Vec<Pass<B>>,
+    trial: Trial,
 ) -> Result<Settled<B>, &'static str> {
+    let held = held_back(&mut passes, trial);
     match server.settle(passes) {
-        Ok(settled) => match held {
-            None => Ok(settled),
-            Some(pass) => {
-                drop(settled);
-                drop(pass);
-                Err("a pass was missing")
+        Ok(settled) => at_once(settled, held),
+        Err(SettleFault { server, passes }) => match server.settle(whole(passes, held)) {
+            Ok(settled) => Ok(settled),
+            Err(SettleFault { server, passes }) => {
+                drop(server);
+                drop(passes);
+                Err("a pass is missing")
             }
         },
-        Err(SettleFault { server, passes }) => settled_at_last(server, whole(passes, held)),
+    }
+}
+
+// What was settled at once, which fails where a pass was held back.
+fn at_once<S: Drop, P: Drop>(settled: S, held: Option<P>) -> Result<S, &'static str> {
+    match held {
+        None => Ok(settled),
+        Some(_) => Err("a pass was missing"),
     }
 }
 
@@ -371,18 +381,4 @@ fn whole<P: Drop>(mut passes: Vec<P>, held: Option<P>) -> Vec<P> {
         let _ = passes.push(pass).is_ok();
     }
     passes
-}
-
-// Settles a server to which all passes are given back.
-fn settled_at_last<B: Naming>(
-    server: Server<B>,
-    passes: Vec<Pass<B>>,
-) -> Result<Settled<B>, &'static str> {
-    match server.settle(passes) {
-        Ok(settled) => Ok(settled),
-        Err(fault) => {
-            drop(fault);
-            Err("a pass is missing")
-        }
-    }
 }

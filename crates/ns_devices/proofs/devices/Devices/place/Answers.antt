@@ -1,4 +1,4 @@
-use Rattle.std.proofs.Common.{IfSome, ◌<◌, length, subst, sym, ◌∙◌}
+use Rattle.std.proofs.Common.{◌∙◌}
 use Rattle.ns_devices.specs.Devices.{is_own}
 use Rattle.ns_devices.proofs.Positions.{position-within}
 use Rattle.ns_devices.proofs.devices.Devices.place.Goals as goal
