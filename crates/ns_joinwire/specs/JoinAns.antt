@@ -8,15 +8,7 @@ use Rattle.ns_exchange.specs.declared.answer.AnsFault.{AnsFault}
 use Rattle.ns_exchange.specs.declared.answer.AnsFault.TheVariants.{NotJson, Field, AnotherMessage, Refused, NoJoinAccept, NwkSKey}
 use Rattle.ns_roster.specs.Field.{value_of}
 use Rattle.ns_exchange.specs.Front.{code_of}
-use Rattle.ns_joinwire.specs.Parts.{Body, head_of, body_of, nwk_key, app_key, join_accept_of}
-
--- what a join that succeeded hands over, or the first fault
-abbrev pub handed_over : Body → Result JoinAns AnsFault
-handed_over body = do
-  accept ← ok_or (join_accept_of body.phy_payload) NoJoinAccept  -- A5
-  nwk ← ok_or (nwk_key body.nwk) NwkSKey  -- A6
-  app ← ok_or (app_key body.app) Field  -- A2
-  Ok (record { accept = accept; nwk = nwk; app = app })
+use Rattle.ns_joinwire.specs.Parts.{head_of, body_of, nwk_key, app_key, join_accept_of}
 
 -- the answer that a message gives to a transaction, or the first fault, by its number
 abbrev pub answer_of : Data → ℕ → Result JoinAns AnsFault
@@ -25,7 +17,10 @@ answer_of message transaction = do
   _ ← unless AnotherMessage (bytes_eq head.message_type (codes "JoinAns") && head.transaction == transaction)  -- A3
   _ ← unless (Refused (code_of head.result_code)) (bytes_eq head.result_code (codes "Success"))  -- A4
   body ← ok_or (body_of message) Field  -- A2
-  handed_over body
+  accept ← ok_or (join_accept_of body.phy_payload) NoJoinAccept  -- A5
+  nwk ← ok_or (nwk_key body.nwk) NwkSKey  -- A6
+  app ← ok_or (app_key body.app) Field  -- A2
+  Ok (record { accept = accept; nwk = nwk; app = app })
 
 -- that of a text's message
 unfoldable pub joinans : List ℕ → ℕ → Result JoinAns AnsFault

@@ -4,7 +4,7 @@ ghost use Rattle.std.specs.Prelude.{◌≡◌, option_map};
 ghost use Rattle.serde_json.specs.View.{view};
 ghost use Rattle.ns_types.specs.Results.{Gives};
 ghost use Rattle.ns_exchange.specs.declared.answer.AnsFault.TheVariants.{NoMemory};
-ghost use Rattle.ns_joinwire.specs.JoinAns.{answer_of, handed_over, joinans};
+ghost use Rattle.ns_joinwire.specs.JoinAns.{answer_of, joinans};
 ghost use Rattle.ns_joinwire.specs.Parts.{head_of, body_of, transaction_of, result_code_of, app_envelope};
 ghost use Rattle.ns_joinwire.specs.Private.Held.{head_view, body_view, envelope_view};
 
@@ -88,39 +88,22 @@ fn body_of(message: &Value) -> Option<Body<'_>>
     })
 }
 
-// The answer of a join that succeeded, or its first fault.
-fn handed_over(body: &Body<'_>) -> Result<JoinAns, AnsFault>
-    ensures { result ≡ handed_over (body_view body.now) }
-{
-    let Some(accept) = join_accept_of(body.phy_payload) else {
-        return Err(AnsFault::NoJoinAccept);
-    };
-    let Some(nwk) = body.nwk.nwk_key() else {
-        return Err(AnsFault::NwkSKey);
-    };
-    match app_key(body.app) {
-        Some(app) => Ok(JoinAns { accept, nwk, app }),
-        None => Err(AnsFault::Field),
-    }
-}
-
 // What a message answers to a transaction, or its first fault. It takes no memory.
 fn answer_of(message: &Value, transaction: u32) -> Result<JoinAns, AnsFault>
     ensures { result ≡ answer_of (view message.now) transaction }
 {
-    let Some(head) = head_of(message) else {
-        return Err(AnsFault::Field);
-    };
+    let head = head_of(message).ok_or(AnsFault::Field)?;
     if head.message_type != "JoinAns" || head.transaction != transaction {
         return Err(AnsFault::AnotherMessage);
     }
     if head.result_code != "Success" {
         return Err(AnsFault::Refused(ResultCode::of(head.result_code)));
     }
-    match body_of(message) {
-        Some(body) => handed_over(&body),
-        None => Err(AnsFault::Field),
-    }
+    let body = body_of(message).ok_or(AnsFault::Field)?;
+    let accept = join_accept_of(body.phy_payload).ok_or(AnsFault::NoJoinAccept)?;
+    let nwk = body.nwk.nwk_key().ok_or(AnsFault::NwkSKey)?;
+    let app = app_key(body.app).ok_or(AnsFault::Field)?;
+    Ok(JoinAns { accept, nwk, app })
 }
 
 /// What a join server's text answers to a transaction (TS002, JoinAns), or its first fault. The tests come in this order: A1; A2 of
@@ -130,8 +113,6 @@ fn answer_of(message: &Value, transaction: u32) -> Result<JoinAns, AnsFault>
 pub fn join_ans(alloc: Global, bytes: &[u8], transaction: u32) -> Result<JoinAns, AnsFault>
     ensures { Gives NoMemory (λ answer. answer) result (joinans bytes.now transaction) }
 {
-    match value_of(alloc, bytes)? {
-        Some(message) => answer_of(&message, transaction),
-        None => Err(AnsFault::NotJson),
-    }
+    let message = value_of(alloc, bytes)?.ok_or(AnsFault::NotJson)?;
+    answer_of(&message, transaction)
 }

@@ -8,22 +8,22 @@ ghost use Rattle.hex.specs.Hex.{encode_lower};
 ghost use Rattle.ns_roster.specs.Field.{hex_bytes, hex_number};
 ghost use Rattle.ns_roster.specs.Network.{device_addr};
 
-use ns_roster::field::net_id_text;
-use ns_roster::object::Scalar::{Eui, Text, Whole, Word};
+use ns_roster::field::{eui_text, net_id_text};
+use ns_roster::object::Scalar::{Text, Whole, Word};
 use ns_roster::object::object_of;
 use ns_roster::{Device, Roster};
 use ns_types::{Ticket, addr_of};
 use serde_json::Value;
 use std::alloc::{AllocError, Global};
 
-// The fields of a message that differ from one to another, as they are written but for the EUIs.
+// The fields of a message that differ from one to another, as they are written.
 #[derive(Drop)]
 struct Fields {
     settings: String,
     dev_addr: String,
-    dev_eui: u64,
+    dev_eui: String,
     frame: String,
-    join_eui: u64,
+    join_eui: String,
     rx_delay: u8,
     net_id: String,
     transaction: u32,
@@ -68,9 +68,9 @@ fn fields_of(
     Ok(Fields {
         settings: settings_text(alloc, roster)?,
         dev_addr: addr_text(alloc, roster, device)?,
-        dev_eui: device.eui.0,
+        dev_eui: eui_text(alloc, device.eui.0)?,
         frame: frame_text(alloc, &ticket.0)?,
-        join_eui: device.join_eui.0,
+        join_eui: eui_text(alloc, device.join_eui.0)?,
         rx_delay: roster.rx_delay(),
         net_id: net_id_text(alloc, roster.net_id())?,
         transaction: ticket.transaction(),
@@ -78,20 +78,20 @@ fn fields_of(
 }
 
 // The message with some fields.
-fn message(alloc: Global, fields: Fields) -> Result<Value, AllocError>
-    ensures { IfOk result (λ v. view v ≡ message (fields_view fields)) }
+fn message(alloc: Global, fields: &Fields) -> Result<Value, AllocError>
+    ensures { IfOk result (λ v. view v ≡ message (fields_view fields.now)) }
 {
     object_of(
         alloc,
         &[
             ("DLSettings", Text(fields.settings.as_str())),
             ("DevAddr", Text(fields.dev_addr.as_str())),
-            ("DevEUI", Eui(fields.dev_eui)),
+            ("DevEUI", Text(fields.dev_eui.as_str())),
             ("MACVersion", Word("1.0.4")),
             ("MessageType", Word("JoinReq")),
             ("PHYPayload", Text(fields.frame.as_str())),
             ("ProtocolVersion", Word("1.0")),
-            ("ReceiverID", Eui(fields.join_eui)),
+            ("ReceiverID", Text(fields.join_eui.as_str())),
             ("RxDelay", Whole(fields.rx_delay as u64)),
             ("SenderID", Text(fields.net_id.as_str())),
             ("TransactionID", Whole(fields.transaction as u64)),
@@ -112,6 +112,5 @@ pub fn join_req(
     ensures asks { IfOk result (λ s. AsksAbout ticket.now (string_bytes s)) }
 {
     let fields = fields_of(alloc, roster, device, ticket)?;
-    let message = message(alloc, fields)?;
-    message.to_string(alloc)
+    message(alloc, &fields)?.to_string(alloc)
 }

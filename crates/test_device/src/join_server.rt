@@ -69,18 +69,6 @@ fn key_bytes(key: &[u8; 16]) -> &[u8]
     key.as_slice()
 }
 
-// What a text asks.
-fn request_in(alloc: Global, text: &[u8]) -> Result<JoinReq, ReplyFault>
-    ensures is { IfOk result (λ r. request_in text.now ≡ Some r) }
-    ensures net_id { IfOk result (λ r. r.net_id.0 < 2 ^ 24) }
-    ensures fault { IfErr result (λ e. e ≢ NoMemory → request_in text.now ≡ None) }
-{
-    match value_of(alloc, text)? {
-        Some(message) => JoinReq::of(&message).ok_or(ReplyFault::NoJoinReq),
-        None => Err(ReplyFault::NoJoinReq),
-    }
-}
-
 // What the device with this AppKey is granted.
 fn granted(request: &JoinReq, app_key: &Key, nonce: u32) -> Grant
     requires { request.now.net_id.0 < 2 ^ 24 }
@@ -169,7 +157,8 @@ impl TestJoinServer {
         ensures fault { IfErr result (λ e. e ≢ NoMemory → request_in text.now ≡ None) }
         ensures refused { OnErr result (self.new ≡ self.old) }
     {
-        let request = request_in(alloc, text)?;
+        let message = value_of(alloc, text)?.ok_or(ReplyFault::NoJoinReq)?;
+        let request = JoinReq::of(&message).ok_or(ReplyFault::NoJoinReq)?;
         let answer = self.answer(&request);
         let reply = answer.text(alloc, request.transaction)?;
         if answer.is_success() {

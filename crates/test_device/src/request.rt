@@ -2,7 +2,7 @@
 
 ghost use Rattle.std.specs.Prelude.{◌≡◌, ◌<◌, ◌^◌, IfSome};
 ghost use Rattle.serde_json.specs.View as json;
-ghost use Rattle.test_device.specs.Request.{bytes_at, is_join_request, ticket_at, net_id_at, addr_at, settings_at, delay_at, transaction_at, fields_of, request_of};
+ghost use Rattle.test_device.specs.Request.{bytes_at, is_join_request, ticket_at, net_id_at, addr_at, settings_at, delay_at, transaction_at, request_of};
 
 use ns_roster::field::{hex_bytes, text_at, whole_at};
 use ns_types::{DevAddr, NetId, Ticket};
@@ -29,25 +29,22 @@ impl JoinReq {
         ensures is { result ≡ request_of (json.view message.now) }
         ensures net_id { IfSome result (λ r. r.net_id.0 < 2 ^ 24) }
     {
-        if text_at(message, "MessageType")? == "JoinReq" {
-            JoinReq::fields_of(message)
-        } else {
-            None
+        if text_at(message, "MessageType")? != "JoinReq" {
+            return None;
         }
-    }
-
-    // The fields behind the MessageType.
-    fn fields_of(message: &Value) -> Option<JoinReq>
-        ensures is { result ≡ fields_of (json.view message.now) }
-        ensures net_id { IfSome result (λ r. r.net_id.0 < 2 ^ 24) }
-    {
+        let ticket = ticket_at(message)?;
+        let net_id = net_id_at(message)?;
+        let addr = addr_at(message)?;
+        let dl_settings = settings_at(message)?;
+        let rx_delay = delay_at(message)?;
+        let transaction = transaction_at(message)?;
         Some(JoinReq {
-            ticket: ticket_at(message)?,
-            net_id: net_id_at(message)?,
-            addr: addr_at(message)?,
-            dl_settings: settings_at(message)?,
-            rx_delay: delay_at(message)?,
-            transaction: transaction_at(message)?,
+            ticket,
+            net_id,
+            addr,
+            dl_settings,
+            rx_delay,
+            transaction,
         })
     }
 }

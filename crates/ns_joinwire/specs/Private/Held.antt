@@ -1,6 +1,5 @@
 -- What the parts of a message in the code stand for.
 use Rattle.std.specs.Prelude.{option_map, string_bytes}
-use Rattle.ns_roster.specs.Field.{hex_number}
 use Rattle.ns_joinwire.specs.declared.envelope.KeyEnvelope as code_envelope
 use Rattle.ns_joinwire.specs.declared.answer.Head as code_head
 use Rattle.ns_joinwire.specs.declared.answer.Body as code_body
@@ -21,9 +20,9 @@ abbrev pub fields_view : code_fields.Fields → Fields
 fields_view f = record {
   settings = string_bytes f.settings;
   dev_addr = string_bytes f.dev_addr;
-  dev_eui = hex_number 8 f.dev_eui;
+  dev_eui = string_bytes f.dev_eui;
   frame = string_bytes f.frame;
-  join_eui = hex_number 8 f.join_eui;
+  join_eui = string_bytes f.join_eui;
   rx_delay = f.rx_delay;
   net_id = string_bytes f.net_id;
   transaction = f.transaction;
