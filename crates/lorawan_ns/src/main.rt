@@ -5,7 +5,8 @@
 //! their uplinks: `serve` of `ns_serve` does it, with threads and sockets. `lorawan_ns compact ROSTER DIR` makes a record shorter:
 //! `ns_upkeep` does it, and while `serve` goes on. Here is what a run does: what the words ask for, as `ns_words` reads them. `replay`, the
 //! texts of faults, log lines and the exit statuses are those of `ns_commands`. The program stands on these, on `ns_serve` and
-//! `ns_serve_shards`, on `ns_record_files` for the upkeep of a record, on `ns_roster`, on `ns_types` for streams, and on `log` of the kit.
+//! `ns_serve_shards`, on `ns_record_files` for the upkeep of a record, on `ns_roster`, on `ns_types` for streams, on `ns_log` for log
+//! lines, and on `log` of the kit, which takes them.
 #![tactic(auto)]
 
 ghost use Rattle.std.specs.Prelude.{IfOk, map, string_bytes};
@@ -15,11 +16,11 @@ ghost use Rattle.ns_words.specs.Asked.{IsServed};
 ghost use Rattle.ns_commands.specs.Status.{IsRun};
 
 use log::filter::FilteredLog;
-use log::{Log, error};
 use ns_commands::{
     End, Fault, Logging, Timed, VARIABLE, concluded, ended, kept_record, of_record, of_serve,
     open_record, read_filter, read_roster, run_replay, words,
 };
+use ns_log::{Log, error};
 use ns_record_files::Upkeep;
 use ns_roster::Roster;
 use ns_serve::{Begun, EndOfInput, ServeOptions, Stop, WaitingWriter, serve};
@@ -146,7 +147,7 @@ fn fill_closed<R: Files<File = File>>(rt: &R) {
 fn main(rt: HostRuntime) -> ExitCode {
     fill_closed(&rt);
     let Ok(filter) = read_filter(&rt) else {
-        error!(Timed(&rt); "no memory for the value of {VARIABLE}");
+        error!(Logging::new(&rt, Timed(&rt)); "no memory for the value of {VARIABLE}");
         return ended(&rt, &Err(Fault::NoMemory));
     };
     let log = Logging::new(&rt, FilteredLog::new(Timed(&rt), filter));

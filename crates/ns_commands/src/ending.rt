@@ -6,7 +6,7 @@ ghost use Rattle.ns_commands.specs.Status.{IsAskedFor, IsStatusOf, IsEnd};
 
 use crate::fault::{Fault, status_of};
 use clap::Error;
-use log::{Log, error};
+use ns_log::{Log, error};
 use ns_words::BadWords;
 use std::process::ExitCode;
 

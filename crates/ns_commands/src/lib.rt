@@ -4,8 +4,8 @@
 //! Which fault each refusal is and which status follows stand in contracts; the texts are shown by tests. Before a run ends early, a log
 //! line of level error says where and why. The crate stands on `ns_words` for what the words ask for, on `ns_roster`, which reads the
 //! roster, on `ns_roster_place`, which names the place of its fault, on `ns_types` for streams, on `ns_replay`, on `ns_resume`,
-//! `ns_record_files` and `ns_serve_parts` for their faults, on `ns_output` for how uplinks are written, and on `arrayvec`, `clap`,
-//! `jiff_core`, `jiff_fmt`, `log` and `thiserror` of the kit. It does not stand on `ns_serve`.
+//! `ns_record_files` and `ns_serve_parts` for their faults, on `ns_output` for how uplinks are written, on `ns_log` for log lines, and
+//! on `arrayvec`, `clap`, `jiff_core`, `jiff_fmt`, `log` and `thiserror` of the kit. It does not stand on `ns_serve`.
 #![tactic(auto)]
 
 mod ending;

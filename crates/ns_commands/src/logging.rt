@@ -12,7 +12,8 @@ use jiff_fmt::temporal::DateTimePrinter;
 use log::filter::{Builder, Filter};
 use log::kv::Source;
 use log::span::Spans;
-use log::{LevelFilter, Log, Metadata, Record};
+use log::{LevelFilter, Log as Facade, Metadata, Record, log};
+use ns_log::{Level, Log};
 use std::alloc::{AllocError, Global};
 use std::fmt::{Display, Formatter};
 use std::net::{Net, SocketAddr, UdpSocket};
@@ -75,7 +76,7 @@ impl<'a, 'r, D: Display, K, S> Display for TimedLine<'a, 'r, D, K, S> {
 #[derive(Clone, Copy, Drop)]
 pub struct Timed<R>(pub R);
 
-impl<R: Eprint + Clock> Log for Timed<R> {
+impl<R: Eprint + Clock> Facade for Timed<R> {
     ghost enables = { λ _ _ _. Some true };
 
     ghost target_of = { λ _. Some [] };
@@ -99,8 +100,8 @@ impl<R: Eprint + Clock> Log for Timed<R> {
     }
 }
 
-/// A runtime that logs by a logger of the program's. It hands on what `serve` asks of a runtime, UDP sockets and limits for connecting
-/// among it, which the handles of `log` leave out.
+/// A runtime whose log lines go to a logger of the program's, each as a record with the line's module as target. It hands on what `serve`
+/// asks of a runtime, UDP sockets and limits for connecting among it, which the handles of `log` leave out.
 #[derive(Drop)]
 pub struct Logging<R, L> {
     rt: R,
@@ -161,24 +162,18 @@ impl<R: Net, L> Net for Logging<R, L> {
     }
 }
 
-impl<R, L: Log> Log for Logging<R, L> {
-    ghost enables = { λ s level target. L.enables s.log level target };
-
-    ghost target_of = { λ s. L.target_of s.log };
-
-    fn enabled(&self, metadata: &Metadata<'_>) -> bool {
-        self.log.enabled(metadata)
+// The level of the facade.
+fn level_of(level: Level) -> log::Level {
+    match level {
+        Level::Error => log::Level::Error,
+        Level::Warn => log::Level::Warn,
+        Level::Info => log::Level::Info,
+        Level::Debug => log::Level::Debug,
     }
+}
 
-    fn log<D: Display, K: Source, S: Spans>(&self, record: &Record<'_, D, K, S>) {
-        self.log.log(record);
-    }
-
-    fn flush(&self) {
-        self.log.flush();
-    }
-
-    fn target(&self) -> &str {
-        self.log.target()
+impl<R, L: Facade> Log for Logging<R, L> {
+    fn line<D: Display + Drop>(&self, level: Level, module: &str, text: D) {
+        log!(self.log; target: module, level_of(level), "{text}");
     }
 }

@@ -3,7 +3,7 @@
 use crate::ending::End;
 use crate::fault::{Fault, of_files};
 use crate::roster::read_roster;
-use log::{Log, error};
+use ns_log::{Log, error};
 use ns_record_files::RecordFiles;
 use ns_roster::Roster;
 use ns_words::{Asked, BadWords, read_words};

@@ -8,7 +8,7 @@ ghost use Rattle.ns_replay.specs.Output.{output};
 use crate::fault::{Fault, of_replay};
 use crate::roster::read_roster;
 use crate::streams::Told;
-use log::{Log, error};
+use ns_log::{Log, error};
 use ns_output::Output;
 use ns_replay::{ReplayFault, replay};
 use ns_roster::Roster;

@@ -1,7 +1,7 @@
 //! The roster of a file.
 
 use crate::fault::{Fault, of_reading, of_roster};
-use log::{Log, error};
+use ns_log::{Log, error};
 use ns_roster::{Roster, RosterFault};
 use ns_roster_place::first_fault;
 use std::alloc::Global;

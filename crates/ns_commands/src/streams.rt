@@ -2,7 +2,7 @@
 
 ghost use Rattle.std.specs.Prelude.{◌≡◌};
 
-use log::{Log, error};
+use ns_log::{Log, error};
 use std::io;
 use std::io::{Read, Write};
 

@@ -3,7 +3,7 @@
 use crate::part::{NewSteps, Part, PartFile, logged};
 use crate::same::serves_as_well;
 use crate::shortening::{Shortened, shorten};
-use log::{Log, error};
+use ns_log::{Log, error};
 use ns_record_files::{FilesFault, LaterLines, RecordFiles, Recorder, ShorterSteps, read_again};
 use ns_resume::{Base, RecordFault, base_line};
 use ns_roster::Roster;

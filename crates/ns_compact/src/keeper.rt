@@ -3,7 +3,7 @@
 use crate::files::Folder;
 use crate::growth::{bytes_left, is_due};
 use crate::part::Part;
-use log::{Log, info, warn};
+use ns_log::{Log, info, warn};
 use ns_record_files::{RecordFiles, Recorder, Upkeep};
 use std::fs::File;
 use std::rt::Files;

@@ -3,8 +3,8 @@
 //! `shorten` runs a record and writes the lines of it that it chooses. `serves_as_well` runs the lines that were written, and tells true
 //! only where a trim leaves the same of both: then every later answer is the same, by `ns_compacted`. So the choice needs no proof: where it
 //! is wrong the lines are not taken. `Folder` does so with the files of a record, and `Keeper` while a server goes on with them, where
-//! they have grown much. Stands on `ns_resume` for runs of records, on `ns_shard`
-//! and `ns_runs` for runs of single lines, and on `ns_record_files`.
+//! they have grown much. Stands on `ns_resume` for runs of records, on `ns_shard` and `ns_runs` for runs of single lines, on
+//! `ns_record_files`, and on `ns_log` for log lines.
 #![tactic(auto)]
 
 mod choice;

@@ -1,7 +1,7 @@
 //! What of the files of a record is read, and what fewer steps are written to.
 ghost use Rattle.std.specs.Prelude.{◌≡◌};
 
-use log::{Log, error};
+use ns_log::{Log, error};
 use ns_record_files::{Lengths, RecordFiles, Recorder};
 use std::fs::File;
 use std::io;

@@ -3,7 +3,7 @@ ghost use Rattle.std.specs.Prelude.{None};
 
 use crate::disk::Disk;
 use crate::swap::{Swap, swap_in};
-use log::{Log, error};
+use ns_log::{Log, error};
 use ns_types::Failed;
 use std::alloc::Global;
 use std::fs::{File, OpenOptions, TryLockError};

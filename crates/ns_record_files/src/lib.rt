@@ -3,8 +3,8 @@
 //! `Disk` is the two files as a writer sees them, with what a crash at each moment may leave. `RecordWriter` appends batches of lines over
 //! one: steps, then, once these are safe, the `up` lines that they imply. `Recorder` shares one among threads, and forms the lines that calls
 //! have as `RecordLines`. `RecordFiles` are the two files of a folder, and `ShorterSteps` fewer steps, which take the place of its steps:
-//! `swap_in` over a `Swap`, so that a crash at any moment leaves the ones or the others. Stands on ns_types and the kit's arrayvec, log and
-//! thiserror.
+//! `swap_in` over a `Swap`, so that a crash at any moment leaves the ones or the others. Stands on ns_types, on ns_log for log lines,
+//! and on the kit's arrayvec and thiserror.
 #![tactic(auto)]
 
 mod disk;

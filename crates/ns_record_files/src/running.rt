@@ -2,7 +2,7 @@
 
 use crate::files::{FilesFault, Lengths, RecordFiles, ShorterSteps, told};
 use crate::recorder::Recorder;
-use log::Log;
+use ns_log::Log;
 use std::alloc::{AllocError, Global};
 use std::fs::File;
 use std::io;

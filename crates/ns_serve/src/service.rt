@@ -7,14 +7,15 @@ ghost use Rattle.ns_serve_shards.specs.Begun.{IsBegun};
 ghost use Rattle.ns_tally.specs.Tally.{AreNamed, none_made};
 
 use crate::trimming::Trimming;
-use log::Log;
+use ns_log::Log;
 use ns_record_files::Upkeep;
 use ns_roster::Roster;
 use ns_serve_events::{Events, Recording};
 use ns_serve_parts::{ServeFault, ServeOptions};
 use ns_serve_shards::{Begun, entries_between, finish, trims_of, written};
-use ns_serve_sockets::AfterRecord;
-use ns_serve_start::{Stop, begin, begun_output, log_start, no_memory, watch_stop};
+use ns_serve_sockets::{
+    AfterRecord, Stop, begin, begun_output, log_start, no_memory, watch_stop,
+};
 use ns_serve_state::{State, has_failed, log_counts, write_record};
 use ns_serve_streams::Output;
 use ns_serve_workers::{Around, run_all};

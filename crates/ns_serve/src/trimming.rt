@@ -1,6 +1,6 @@
 //! The shards are trimmed between turns of the closer.
 
-use log::Log;
+use ns_log::Log;
 use ns_serve_parts::Made;
 use ns_serve_shards::{Trims, trim_due};
 use ns_serve_workers::AfterTurn;

@@ -1,13 +1,13 @@
 //! What the workers are told to tell: it is counted, kept where it is needed, and logged.
 
-use log::{Level, Log};
+use crate::notices::note_event;
 use ns_calls::{Call, Downlink, Reply};
 use ns_exchange::{AnsFault, AskFault};
 use ns_front::FrameName;
+use ns_log::{Level, Log, debug, info, warn};
 use ns_outside::{JoinFault, Monitor, Receipt, Refused};
 use ns_serve_parts::more;
-use ns_serve_queues::note_event;
-use ns_serve_state::{State, closing_of, log_at, log_seldom, log_unsent, now_ms};
+use ns_serve_state::{State, closing_of, log_seldom, log_unsent, now_ms};
 use ns_serve_streams::words_of;
 use ns_types::{DevEui, Ticket};
 use std::sync::Wait;
@@ -26,8 +26,7 @@ impl<'a, R: Log + Clock + Wait> Monitor<R> for Events<'a> {
             Refused::Link(fault) => ('G', fault.number()),
             Refused::View(fault) => ('V', fault.number()),
         };
-        let what = format_args!("datagram refused: {kind}{number}");
-        log_at(rt, Level::Debug, what);
+        debug!(rt; "datagram refused: {kind}{number}");
     }
 
     fn replied(&self, rt: &R, receipt: &Receipt) {
@@ -42,7 +41,7 @@ impl<'a, R: Log + Clock + Wait> Monitor<R> for Events<'a> {
 
     fn dropped(&self, rt: &R) {
         more(&self.state.counts.dropped);
-        log_at(rt, Level::Warn, "datagram dropped: no memory");
+        warn!(rt; "datagram dropped: no memory");
     }
 
     fn unanswered(&self, rt: &R, ticket: &Ticket, why: &JoinFault) {
@@ -52,12 +51,10 @@ impl<'a, R: Log + Clock + Wait> Monitor<R> for Events<'a> {
         match why {
             // A device that the join server does not take is the device's matter.
             JoinFault::Exchange(AskFault::Answer(AnsFault::Refused(code))) => {
-                let what = format_args!("join of {eui:016x} refused: H7 A4 {code:?}, {words}");
-                log_at(rt, Level::Debug, what);
+                debug!(rt; "join of {eui:016x} refused: H7 A4 {code:?}, {words}");
             }
             why => {
-                let what = format_args!("join of {eui:016x} not answered: {why}, {words}");
-                log_at(rt, Level::Warn, what);
+                warn!(rt; "join of {eui:016x} not answered: {why}, {words}");
             }
         }
     }
@@ -65,8 +62,7 @@ impl<'a, R: Log + Clock + Wait> Monitor<R> for Events<'a> {
     fn stale(&self, rt: &R, ticket: &Ticket) {
         more(&self.state.counts.stale);
         let eui = ticket.dev_eui().0;
-        let what = format_args!("join of {eui:016x} not asked: the ticket is too old");
-        log_at(rt, Level::Debug, what);
+        debug!(rt; "join of {eui:016x} not asked: the ticket is too old");
     }
 
     fn unsent(&self, rt: &R, downlink: &Downlink) {
@@ -163,9 +159,8 @@ fn log_joined<R: Log>(rt: &R, eui: u64, session: u32, addr: u32, downlink: &Opti
     match downlink {
         Some(downlink) => {
             let gateway = downlink.target.gateway.0;
-            let what = format_args!("{joined} gateway {gateway:016x}");
-            log_at(rt, Level::Info, what);
+            info!(rt; "{joined} gateway {gateway:016x}");
         }
-        None => log_at(rt, Level::Info, joined),
+        None => info!(rt; "{joined}"),
     }
 }

@@ -5,7 +5,7 @@ ghost use Rattle.ns_types.specs.Identity.{shard_count};
 ghost use Rattle.ns_server.specs.Begun.{ArePlaced};
 ghost use Rattle.ns_serve_shards.specs.Begun.{IsBegun};
 
-use log::{Log, info, warn};
+use ns_log::{Log, info, warn};
 use ns_record_files::{RecordFiles, RecordWriter, Recorder};
 use ns_resume::{RecordFault, Resumed, run_record};
 use ns_roster::Roster;

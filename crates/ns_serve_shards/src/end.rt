@@ -7,16 +7,15 @@ ghost use Rattle.ns_serve_shards.specs.Closing.{last_lines};
 ghost use Rattle.ns_serve_streams.specs.Output.{Grows, EndsIn, Sends};
 
 use crate::closing::closing_text;
-use log::{Log, error};
 use ns_calls::Uplink;
 use ns_events::uplink_json;
 use ns_lines::up_line;
+use ns_log::{Log, error};
 use ns_output::Output as Written;
 use ns_outside::{Downlinks, Receipt};
 use ns_roster::Roster;
-use ns_serve_events::record_call;
+use ns_serve_events::{note_event, record_call, take_notices, times_of};
 use ns_serve_parts::ServeFault;
-use ns_serve_queues::{note_event, take_notices, times_of};
 use ns_serve_sockets::ToSocket;
 use ns_serve_state::{State, log_unsent, now_ms};
 use ns_serve_streams::Output;

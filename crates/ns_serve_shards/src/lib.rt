@@ -10,9 +10,9 @@
 //! `finish` no window is open, each was closed by its shard's closing, the number is that of all entries, and the last lines are those that
 //! their definition names.
 //! The crate stands on `ns_server` and `ns_shard` for the shards, on `ns_resume` and `ns_record_files` for the record, on `ns_serve_events`
-//! for what is put down, on `ns_serve_state`, `ns_serve_parts`, `ns_serve_queues`, `ns_serve_streams` and `ns_serve_sockets` for what threads
+//! for what is put down, on `ns_serve_state`, `ns_serve_parts`, `ns_serve_streams` and `ns_serve_sockets` for what threads
 //! share, on `ns_workers` for the lines of uplinks, on `ns_calls`, `ns_events`, `ns_lines`, `ns_outside`, `ns_output`, `ns_roster` and
-//! `ns_types`, and on `log` of the kit.
+//! `ns_types`, and on `ns_log` for log lines.
 #![tactic(auto)]
 
 mod begun;

@@ -5,7 +5,7 @@ ghost use Rattle.std.specs.Option.{option_map};
 ghost use Rattle.ns_types.specs.Identity.{shard_count};
 ghost use Rattle.ns_serve_shards.specs.Trims.{is_due, IsTold, IsToldBy, mark_after};
 
-use log::{Log, debug, warn};
+use ns_log::{Log, debug, warn};
 use ns_serve_parts::PLACES;
 use ns_server::{Naming, Server};
 use ns_shard::TrimFault;

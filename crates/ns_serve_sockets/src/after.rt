@@ -2,8 +2,8 @@
 ghost use Rattle.std.specs.Prelude.{◌≡◌, None, true, false, length, is_err, IfOk, if◌then◌else◌};
 
 use crate::sockets::send_down;
-use log::Log;
 use ns_calls::Downlink;
+use ns_log::Log;
 use ns_outside::Downlinks;
 use ns_serve_state::{State, log_unsent, write_record};
 use ns_types::{Failed, Sink, Stream};

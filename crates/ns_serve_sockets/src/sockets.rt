@@ -7,11 +7,11 @@ ghost use Rattle.ns_front.specs.Noted.{IsNoted};
 ghost use Rattle.ns_serve_sockets.specs.Front.{NotesAt, NotesNamed};
 
 use crate::pace::Pace;
-use log::{Log, error, warn};
 use ns_calls::Downlink;
 use ns_forwarder_socket::{Event, Pending};
 use ns_front::{NotedPeers, front_of, read_seen};
 use ns_link::write_down;
+use ns_log::{Log, error, warn};
 use ns_outside::{Datagrams, Downlinks, Received};
 use ns_serve_parts::more;
 use ns_serve_state::{State, log_counts, log_message, now_ms, write_record};

@@ -1,6 +1,6 @@
 //! How the counts are logged.
 
-use log::{Log, info, warn};
+use ns_log::{Log, info, warn};
 use ns_serve_parts::{Counts, Made, value};
 use std::fmt;
 use std::fmt::{Display, Formatter};

@@ -2,11 +2,12 @@
 //!
 //! `State` has the sockets, the queue of tickets, the counters, the record and the status. Around it stand the clock, what is logged, when
 //! the record of the workers' calls is written (`write_record`), and which gateway workers rest while the others are enough. How workers
-//! wait and what they hand each other is `ns_serve_queues`'; who is told what happens `ns_serve_events`'; datagrams and downlinks are
-//! `ns_serve_sockets`', and answers over HTTP `ns_serve_status`'. Which workers hear forwarders, and beside how many one may rest, are
-//! contracts; what stands under a lock and what the system does is shown by tests alone. The crate stands on `ns_serve_parts`, on `ns_outside` for tickets and receipts, on `ns_calls`, `ns_output`, `ns_forwarder`,
-//! `ns_forwarder_socket`, `ns_front`, `ns_roster` and `ns_types`, on `ns_record_files` for the record, on `ns_status`, and on `log` of the
-//! kit.
+//! wait, what they hand each other and who is told what happens is `ns_serve_events`'; datagrams and downlinks are `ns_serve_sockets`', and
+//! answers over HTTP `ns_serve_status`'. Which workers hear forwarders, and beside how many one may rest, are
+//! contracts; what stands under a lock and what the system does is shown by tests alone.
+//! The crate stands on `ns_serve_parts`, on `ns_outside` for tickets and receipts, on `ns_calls`, `ns_output`, `ns_forwarder`,
+//! `ns_forwarder_socket`, `ns_front`, `ns_roster` and `ns_types`, on `ns_record_files` for the record, on `ns_status`, and on `ns_log` for
+//! log lines.
 #![tactic(auto)]
 
 mod clock;
@@ -19,7 +20,7 @@ mod state;
 mod status;
 
 pub use clock::{closing_of, now_ms};
-pub use logged::{Seldoms, log_at, log_counts, log_message, log_seldom, log_unsent};
+pub use logged::{Seldoms, log_counts, log_message, log_seldom, log_unsent};
 pub use queue::AskQueue;
 pub use record::{has_failed, log_failure, look_after_record, rest_record, write_record};
 pub use state::State;

@@ -3,10 +3,10 @@
 use crate::clock::now_ms;
 use crate::counted::log_all;
 use crate::state::State;
-use log::{Level, Log, log};
 use ns_calls::Downlink;
 use ns_forwarder::{ForwarderFault, Outcome};
 use ns_forwarder_socket::{Event, outcome_name};
+use ns_log::{Level, Log, debug, info, warn};
 use ns_serve_parts::{Seldom, more};
 use std::fmt::Display;
 use std::time::Clock;
@@ -42,16 +42,14 @@ impl Seldoms {
 pub fn log_unsent<R: Log>(rt: &R, state: &State, downlink: &Downlink) {
     more(&state.counts.unsent);
     let gateway = downlink.target.gateway.0;
-    let what = format_args!("downlink to gateway {gateway:016x} not sent");
-    log_at(rt, Level::Warn, what);
+    warn!(rt; "downlink to gateway {gateway:016x} not sent");
 }
 
 /// Logs the counts.
 pub fn log_counts<R: Log>(rt: &R, state: &State) {
     log_all(rt, &state.counts, state.read.all(), &state.made);
     if let Some((forwarders, _)) = &state.forwarders {
-        let what = format_args!("forwarders:{}", forwarders.counts());
-        log_at(rt, Level::Info, what);
+        info!(rt; "forwarders:{}", forwarders.counts());
     }
 }
 
@@ -60,11 +58,10 @@ pub fn log_counts<R: Log>(rt: &R, state: &State) {
 pub fn log_message<R: Log + Clock>(rt: &R, state: &State, event: Event) {
     match event {
         Event::Refused(ForwarderFault::NoMemory) => {
-            log_at(rt, Level::Warn, "message of a forwarder dropped: no memory");
+            warn!(rt; "message of a forwarder dropped: no memory");
         }
         Event::Refused(fault) => {
-            let what = format_args!("message of a forwarder refused: {fault}");
-            log_at(rt, Level::Debug, what);
+            debug!(rt; "message of a forwarder refused: {fault}");
         }
         Event::Told(gateway, outcome) if outcome != Outcome::Sent => {
             let (gateway, error) = (gateway.0, outcome_name(outcome));
@@ -83,14 +80,9 @@ pub fn log_seldom<R: Log + Clock, D: Display + Drop>(
     seldom: &Seldom,
     text: D,
 ) {
-    log_at(rt, Level::Debug, &text);
+    debug!(rt; "{text}");
     if let Some(count) = seldom.happened(now_ms(rt, state)) {
         let what = format_args!("{text}, {count} since the line before");
-        log_at(rt, level, what);
+        rt.line(level, module_path!(), what);
     }
-}
-
-/// Logs a text at this level.
-pub fn log_at<R: Log, D: Display + Drop>(rt: &R, level: Level, text: D) {
-    log!(rt; level, "{text}");
 }

@@ -1,7 +1,7 @@
 //! The record of a server while its threads run: when it is written and looked after, and how it failed.
 
 use crate::state::State;
-use log::{Log, error};
+use ns_log::{Log, error};
 use ns_record_files::{RecordFiles, Recorder, Upkeep};
 use ns_types::Failed;
 use std::sync::Wait;

@@ -1,7 +1,7 @@
 //! What is known of devices and gateways, where it is told.
 
 use crate::clock::BEGIN_MS;
-use log::{Log, error, info};
+use ns_log::{Log, error, info};
 use ns_outside::Receipt;
 use ns_roster::Roster;
 use ns_serve_parts::{ServeFault, keys};

@@ -6,8 +6,8 @@
 //!
 //! What is written is a contract over its definition in `specs/`. What stands under a lock, what is logged, and what the system does with a
 //! socket, no contract says. The crate stands on `ns_serve_parts` for why serving ends and what a line is, on `ns_outside`, `ns_exchange`
-//! and `ns_responses` for the exchange with a join server, on `ns_calls`, `ns_lines` and `ns_types`, and on `arrayvec`, `itoa`
-//! and `log` of the kit.
+//! and `ns_responses` for the exchange with a join server, on `ns_calls`, `ns_lines` and `ns_types`, on `ns_log` for log lines, and on `arrayvec`
+//! and `itoa` of the kit.
 #![tactic(auto)]
 
 mod held;

@@ -1,7 +1,7 @@
 //! A writer that is waited for.
 ghost use Rattle.std.specs.Prelude.{◌≡◌};
 
-use log::{Log, error};
+use ns_log::{Log, error};
 use std::io::{ErrorKind, Write};
 use std::sync::Wait;
 use std::time::{Clock, Duration};

@@ -10,11 +10,11 @@ ghost use Rattle.ns_serve_workers.specs.Turns.{HasClosed, HasReceipts, IsTurn, I
 use crate::around::Around;
 use crate::workers::log_end;
 use crossbeam_channel::{Receiver, RecvTimeoutError};
-use log::Log;
+use ns_log::Log;
 use ns_output::Output as Written;
 use ns_outside::{Calls, CloseJob, Gate, Monitor, Receipt, WorkerFault};
+use ns_serve_events::{SinceMoment, nap_ms, take_notices};
 use ns_serve_parts::ServeFault;
-use ns_serve_queues::{SinceMoment, nap_ms, take_notices};
 use ns_serve_sockets::Later;
 use ns_serve_state::{State, now_ms};
 use ns_serve_streams::{Held, Output, put_under_lock};

@@ -7,7 +7,7 @@ use crate::closer::{Closer, Turn, close_and_write, no_memory, write_notices};
 use crate::kits::PassKit;
 use crate::workers::Back;
 use crossbeam_channel::Receiver;
-use log::{Log, error};
+use ns_log::{Log, error};
 use ns_outside::{Calls, CloseJob, Gate, Monitor};
 use ns_serve_parts::{Made, ServeFault};
 use ns_serve_state::rest_record;

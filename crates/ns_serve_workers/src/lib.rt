@@ -8,10 +8,10 @@
 //! answered and the closer closed as the workers' contracts say; no worker's fault is lost. That all threads are started, that one does
 //! what its worker does, that a message or a datagram comes, and what stands under a lock is shown by tests alone.
 //! The crate stands on `ns_workers` and `ns_outside`, on `ns_serve_threads` to start the threads, on `ns_serve_state` for what they share and
-//! `ns_serve_parts` for the parts of it, on `ns_serve_queues` for how they wait and what they hand each other, on `ns_serve_streams` for the
+//! `ns_serve_parts` for the parts of it, on `ns_serve_events` for how they wait and what they hand each other, on `ns_serve_streams` for the
 //! output and the join server, on `ns_serve_sockets` for datagrams and downlinks, on `ns_serve_status` for answers over HTTP, on
-//! `ns_output`, `ns_forwarder_socket`, `ns_exchange`, `ns_record_files`, `ns_responses`, `ns_roster`, `ns_tally` and `ns_types`, and on
-//! `crossbeam_channel` and `log` of the kit.
+//! `ns_output`, `ns_forwarder_socket`, `ns_exchange`, `ns_record_files`, `ns_responses`, `ns_roster`, `ns_tally` and `ns_types`, on
+//! `ns_log` for log lines, and on `crossbeam_channel` of the kit.
 #![tactic(auto)]
 
 mod around;

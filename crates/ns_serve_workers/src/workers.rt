@@ -11,11 +11,11 @@ ghost use Rattle.ns_serve_workers.specs.Turns.{HasReceipts, IsServed, IsAnswered
 
 use crate::around::Around;
 use crate::kits::{GatewayEnds, GatewayKit, PassKit};
-use log::{Log, error};
+use ns_log::{Log, error};
 use ns_outside::{Calls, Connections, Gate, Monitor, WorkerFault};
 use ns_responses::Responses;
+use ns_serve_events::{FromQueue, IntoQueues, SinceStart};
 use ns_serve_parts::ServeFault;
-use ns_serve_queues::{FromQueue, IntoQueues, SinceStart};
 use ns_serve_sockets::{FromSocket, ToSocket};
 use ns_serve_state::State;
 use ns_serve_streams::{Lines, ToJoinServer, Within};

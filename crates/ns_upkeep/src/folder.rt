@@ -1,8 +1,8 @@
 //! The record of a folder, made shorter.
 
-use log::{Log, error};
 use ns_commands::{Fault, Kept, of_record, open_record, read_roster};
 use ns_compact::{Compacted, Folder, Keeper};
+use ns_log::{Log, error};
 use ns_resume::RecordFault;
 use ns_roster::Roster;
 use std::fs::File;

@@ -2,11 +2,11 @@
 
 use crate::stand_in::StandIn;
 use crate::words::words_of;
-use log::sink::Discard;
 use ns_commands::{
     End, Fault, concluded, ended, of_reading, of_replay, of_roster, of_serve, read_roster, refused,
     run_replay, time_text,
 };
+use ns_log::Discard;
 use ns_replay::ReplayFault;
 use ns_roster::RosterFault;
 use ns_serve_parts::ServeFault;

@@ -1,9 +1,9 @@
 //! What runs write to standard output, and what the program's runtime hands on.
 
 use crate::stand_in::{LIMIT, SINCE_1970, SINCE_START, StandIn};
-use log::info;
-use log::sink::Discard;
 use ns_commands::{Logging, Timed, VARIABLE, run_replay};
+use ns_log::{Log, info};
+use ns_log::Discard;
 use ns_output::Output;
 use ns_upkeep::compact;
 use std::alloc::AllocError;

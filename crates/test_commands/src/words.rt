@@ -1,7 +1,7 @@
 //! What words ask for.
 
-use log::sink::Discard;
 use ns_commands::refused;
+use ns_log::Discard;
 use ns_output::Output;
 use ns_serve_parts::ServeOptions;
 use ns_words::{Asked, BadWords, OptionName, read_words};

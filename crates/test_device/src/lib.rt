@@ -5,14 +5,14 @@
 //! `created_accepts_are_taken` says that a device takes each Join-Accept that `JoinAcceptCreator` makes under its AppKey, and
 //! then has exactly the session keys of the fields. `write_uplink` is `uplink` without the loan, and says what it leaves in
 //! the buffer. Nothing of it takes memory. `traffic` has the calls of many such devices, without a join server,
-//! `calls` those of any one, and `worked` the texts of a run of one, with its roster.
+//! `calls` those of any one, and `worked` the texts of a run of one, with its roster. `logged` keeps log lines in memory.
 //!
 //! `TestJoinServer` answers a JoinReq's text with the text of a JoinAns: a Join-Accept of the request's fields and the session
 //! keys, `MICFailed`, or `Other`. `join_ans` of `ns_joinwire` reads that text as this answer, and the device with this AppKey
 //! takes the Join-Accept and has then the same session keys. `reply` refuses B1 exactly where the text is no JoinReq, and a
 //! refusal leaves the server as it was.
 //!
-//! Stands on `ns_types` for identities and keys, on `ns_aes_cmac` for the law of AES-128, on `ns_secure` for MICs, ciphers
+//! Stands on `ns_log` for log lines, on `ns_types` for identities and keys, on `ns_aes_cmac` for the law of AES-128, on `ns_secure` for MICs, ciphers
 //! and session keys, on `ns_creator` for the frames, on `ns_calls` and `ns_views` for calls of these, on `ns_roster` and
 //! `ns_joinwire` for the fields of JSON, and on `serde_json`, `hex` and `thiserror` of the kit.
 #![tactic(auto)]
@@ -24,6 +24,7 @@ mod fault;
 mod join_fault;
 mod join_server;
 mod laws;
+pub mod logged;
 mod request;
 mod session;
 pub mod traffic;

@@ -1,12 +1,7 @@
-//! A runtime with a logger of its own, with a clock that a test may hold, and with short sleeps.
+//! A runtime over a logger, with a clock that a test may hold, and with short sleeps.
 
 use crate::parties::{nap, naps};
-use log::filter::{Builder, FilteredLog};
-use log::kv::Source;
-use log::sink::Locked;
-use log::span::Spans;
-use log::{Log, Metadata, Record};
-use std::alloc::{AllocError, Global};
+use ns_log::{Level, Log};
 use std::fmt::Display;
 use std::io;
 use std::net::{Net, SocketAddr, UdpSocket};
@@ -47,17 +42,6 @@ pub struct Around<'a, R, L> {
     pub rt: &'a R,
     pub log: &'a L,
     pub held: &'a Held,
-}
-
-/// A logger of these lines into memory, of which there is room for 64 KB.
-pub fn logger<'a, R: Wait>(
-    rt: &'a R,
-    alloc: Global,
-    lines: &str,
-) -> Result<FilteredLog<Locked<&'a R, Vec<u8>>>, AllocError> {
-    let filter = Builder::new(alloc).parse(lines)?.build();
-    let lines = Locked::new(rt, Vec::with_capacity(alloc, 65_536)?);
-    Ok(FilteredLog::new(lines, filter))
 }
 
 impl<'a, R: Wait, L> Wait for Around<'a, R, L> {}
@@ -106,19 +90,7 @@ impl<'a, R: Net, L> Net for Around<'a, R, L> {
 }
 
 impl<'a, R, L: Log> Log for Around<'a, R, L> {
-    fn enabled(&self, metadata: &Metadata<'_>) -> bool {
-        self.log.enabled(metadata)
-    }
-
-    fn log<D: Display, K: Source, S: Spans>(&self, record: &Record<'_, D, K, S>) {
-        self.log.log(record);
-    }
-
-    fn flush(&self) {
-        self.log.flush();
-    }
-
-    fn target(&self) -> &str {
-        self.log.target()
+    fn line<D: Display + Drop>(&self, level: Level, module: &str, text: D) {
+        self.log.line(level, module, text);
     }
 }

@@ -5,7 +5,7 @@ use crate::failures::put;
 use crate::running::Deed::{
     Follow, HasLengths, Link, Lock, MakeFolder, Put, Remove, Rename, Replace, Rest,
 };
-use log::sink::Discard;
+use ns_log::Discard;
 use ns_record_files::{
     FilesFault, LaterLines, RecordFiles, RecordWriter, Recorder, ShorterSteps, read_again,
 };

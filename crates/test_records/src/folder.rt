@@ -2,8 +2,8 @@
 
 use crate::rows::holds;
 use crate::worked::{ASKED, BASE, TORN, TORN_UP, roster_of};
-use log::sink::Writer;
 use ns_compact::Folder;
+use ns_log::Discard;
 use ns_record_files::RecordFiles;
 use ns_resume::RecordFault;
 use std::alloc::{AllocError, Global};
@@ -112,13 +112,12 @@ fn compacted<R: Files<File = File> + AllocGlobal>(
 ) -> Result<(u64, u64), RecordFault> {
     let alloc = rt.alloc();
     let roster = roster_of(alloc, ROSTER)?;
-    let log = Writer::new(Vec::new(alloc));
-    let Ok(files) = RecordFiles::open(rt, &log, alloc, path, true) else {
+    let Ok(files) = RecordFiles::open(rt, &Discard, alloc, path, true) else {
         return Err(RecordFault::Io);
     };
     let folder = Folder {
         rt,
-        log: &log,
+        log: &Discard,
         alloc,
         path,
         roster: &roster,

@@ -3,7 +3,6 @@
 use crate::folder::{Place, bytes_of, make, text_of};
 use crate::place;
 use crate::worked::{ASKED, BASE, roster_of};
-use log::sink::Writer;
 use ns_compact::{Folder, Keeper};
 use ns_record_files::{RecordFiles, RecordWriter, Recorder, Upkeep};
 use std::alloc::{AllocError, Global};
@@ -11,6 +10,7 @@ use std::fs::File;
 use std::rt::Files;
 use std::sync::Wait;
 use std::{fs, io};
+use test_device::logged::{Kept, Lines};
 use test_device::worked::{CLOSE, CONFIRMED, JOIN, KEPT_ANSWER, ROSTER, UP};
 
 // What stands in an answer again and again: no JSON, so the join fails.
@@ -51,7 +51,7 @@ fn look<R: Files<File = File> + Wait + AllocGlobal>(
     path: &str,
     steps: &[u8],
     later: &str,
-    keeper: &mut Keeper<'_, R, Writer<Vec<u8>>>,
+    keeper: &mut Keeper<'_, R, Lines<'_, R>>,
     record: &Recorder<RecordFiles>,
 ) -> io::Result<()> {
     fs::write(rt, path, steps)?;
@@ -77,7 +77,7 @@ fn has_bytes<R: Files<File = File> + AllocGlobal>(
 fn look_at_all<R: Files<File = File> + Wait + AllocGlobal>(
     rt: &R,
     grown: &Grown<'_>,
-    keeper: &mut Keeper<'_, R, Writer<Vec<u8>>>,
+    keeper: &mut Keeper<'_, R, Lines<'_, R>>,
     record: &Recorder<RecordFiles>,
 ) -> io::Result<bool> {
     let path = grown.place.steps;
@@ -94,7 +94,7 @@ fn look_at_all<R: Files<File = File> + Wait + AllocGlobal>(
 // The files of a record, to be added to, or at rest.
 fn recorder<R: Files<File = File> + Wait>(
     rt: &R,
-    log: &Writer<Vec<u8>>,
+    log: &Lines<'_, R>,
     alloc: Global,
     grown: &Grown<'_>,
 ) -> Option<Recorder<RecordFiles>> {
@@ -109,7 +109,7 @@ fn recorder<R: Files<File = File> + Wait>(
 // A keeper looks after all that a record has. None where steps did not stay that were to.
 fn keep<R: Files<File = File> + Wait + AllocGlobal>(
     rt: &R,
-    log: &Writer<Vec<u8>>,
+    log: &Lines<'_, R>,
     grown: &Grown<'_>,
 ) -> Option<()> {
     let alloc = rt.alloc();
@@ -135,11 +135,11 @@ fn log_of<R: Files<File = File> + Wait + AllocGlobal>(
     wanted: &[u8],
 ) -> Option<Vec<u8>> {
     make(rt, &grown.place, &[], &[UP]).ok()?;
-    let log = Writer::new(Vec::new(rt.alloc()));
+    let log = Lines::new(rt, rt.alloc(), Kept::All, 0).ok()?;
     keep(rt, &log, grown)?;
     let is_so = has_bytes(rt, grown.place.steps, wanted).ok()?;
     fs::remove_dir_all(rt, grown.place.folder).ok()?;
-    if is_so { Some(log.into_inner()) } else { None }
+    if is_so { Some(log.into_lines()) } else { None }
 }
 
 // Adds a join that failed, of a little more than 64 KiB.

@@ -2,6 +2,7 @@
 
 use crate::trial::{Asked, Life, Sockets, Told, Trial, USUAL, tried};
 use std::test::*;
+use test_device::logged::Kept;
 use test_parties::Side::Near;
 use test_parties::Step::{Byte, Join, Nap, Pull, PushJoin, PushUplink, Receive, Uplink};
 use test_parties::Want;
@@ -13,7 +14,7 @@ static FORWARDED: Trial = Trial {
         sockets: Sockets::Forwarders,
         ..USUAL
     },
-    levels: "off",
+    kept: Kept::None,
     stands_ms: 0,
     lives: &[Life {
         folder: None,
@@ -49,7 +50,7 @@ static BOTH_HEARD: Trial = Trial {
         window_ms: 500,
         ..USUAL
     },
-    levels: "ns_serve_state::counted=info",
+    kept: Kept::Of("ns_serve_state::counted"),
     stands_ms: 0,
     lives: &[Life {
         folder: None,

@@ -6,7 +6,7 @@ ghost use Rattle.std.specs.Arc.{arc_value};
 ghost use Rattle.ns_serve_shards.specs.Begun.{IsBegun};
 
 use crate::trial::{Asked, Life, Told, Trial, USUAL, tried};
-use log::sink::Discard;
+use ns_log::Discard;
 use ns_record_files::RecordFiles;
 use ns_resume::RecordFault;
 use ns_roster::Roster;
@@ -17,6 +17,7 @@ use std::fs::File;
 use std::rt::Files;
 use std::sync::Arc;
 use std::test::*;
+use test_device::logged::Kept;
 use test_device::worked::{CLOSE, CONFIRMED, JOIN, KEPT_ANSWER, ROSTER, UP, roster_of};
 use test_parties::Side::Near;
 use test_parties::Step::{Acknowledged, Again, Byte, Copy, Ended, Filled, First, Join, Uplink};
@@ -105,7 +106,7 @@ pub const SHORT: Asked = Asked {
 // after the first acknowledgement, and there uplink 0 is sent again. In the fourth life it is waited for the `up` line of the open window.
 static LIVES: Trial = Trial {
     asked: SHORT,
-    levels: "off",
+    kept: Kept::None,
     stands_ms: 0,
     lives: &[
         Life {

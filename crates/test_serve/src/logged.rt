@@ -8,6 +8,7 @@ use std::sync::Wait;
 use std::test::*;
 use std::thread::Threads;
 use std::time::Clock;
+use test_device::logged::Kept;
 use test_parties::Side::Near;
 use test_parties::Step::{Ask, First, Frame, Stand};
 use test_parties::{Ended, Want, contains};
@@ -27,7 +28,7 @@ static TWO_MINUTES: Trial = Trial {
         port: 17021,
         ..USUAL
     },
-    levels: "ns_serve_state::counted=info",
+    kept: Kept::Of("ns_serve_state::counted"),
     stands_ms: 1_000_000,
     lives: &[Life {
         folder: None,
@@ -71,7 +72,7 @@ static FOUR_REFUSED: Trial = Trial {
         port: 17023,
         ..USUAL
     },
-    levels: "ns_serve_state::counted=info",
+    kept: Kept::Of("ns_serve_state::counted"),
     stands_ms: 0,
     lives: &[Life {
         folder: None,
@@ -98,7 +99,7 @@ fn refusals_are_counted(rt: HostRuntime) {
 // A server that has little memory, and serves no datagram. What it does rests on how many blocks that is (`served`).
 static LITTLE: Trial = Trial {
     asked: USUAL,
-    levels: "error",
+    kept: Kept::Errors,
     stands_ms: 0,
     lives: &[Life {
         folder: None,

@@ -4,6 +4,7 @@
 use crate::trial::{Asked, Life, Told, Trial, USUAL, tried};
 use ns_serve::ServeFault;
 use std::test::*;
+use test_device::logged::Kept;
 use test_parties::Side::{Far, Near};
 use test_parties::Step::{Ask, Byte, Join, Later, Longest, Nap, Receive, Uplink, Within};
 use test_parties::{ROSTER_B, Want};
@@ -15,7 +16,7 @@ static ONE_DEVICE: Trial = Trial {
         closing: true,
         ..USUAL
     },
-    levels: "off",
+    kept: Kept::None,
     stands_ms: 0,
     lives: &[Life {
         folder: None,
@@ -52,7 +53,7 @@ static LONGEST: Trial = Trial {
         port: 17011,
         ..USUAL
     },
-    levels: "off",
+    kept: Kept::None,
     stands_ms: 0,
     lives: &[Life {
         folder: None,
@@ -86,7 +87,7 @@ static MOVED: Trial = Trial {
         port: 17013,
         ..USUAL
     },
-    levels: "off",
+    kept: Kept::None,
     stands_ms: 0,
     lives: &[Life {
         folder: None,
@@ -118,7 +119,7 @@ static OBJECTS: Trial = Trial {
         json: true,
         ..USUAL
     },
-    levels: "off",
+    kept: Kept::None,
     stands_ms: 0,
     lives: &[Life {
         folder: None,
@@ -150,7 +151,7 @@ static TWO_UPLINKS: Trial = Trial {
         window_ms: 600,
         ..USUAL
     },
-    levels: "off",
+    kept: Kept::None,
     stands_ms: 0,
     lives: &[Life {
         folder: None,
@@ -188,7 +189,7 @@ static TWO_JOINS: Trial = Trial {
         window_ms: 500,
         ..USUAL
     },
-    levels: "off",
+    kept: Kept::None,
     stands_ms: 0,
     lives: &[Life {
         folder: None,
@@ -223,7 +224,7 @@ static FAILING: Trial = Trial {
         texts: 1,
         ..USUAL
     },
-    levels: "off",
+    kept: Kept::None,
     stands_ms: 0,
     lives: &[Life {
         folder: None,

@@ -4,8 +4,8 @@
 ghost use Rattle.std.specs.Prelude.{◌<◌, ◌≤◌, IfSome};
 
 use crate::lives::begun_of;
-use log::{Log, error};
 use ns_exchange::HostName;
+use ns_log::{Log, error};
 use ns_output::Output;
 use ns_record_files::{RecordFiles, Recorder, Upkeep};
 use ns_roster::Roster;
@@ -20,8 +20,9 @@ use std::test::*;
 use std::thread;
 use std::thread::Threads;
 use std::time::Clock;
+use test_device::logged::{Kept, Lines};
 use test_device::worked::{ROSTER, roster_of};
-use test_parties::{Around, Ended, Party, Step, Want, Writer, join_server, local, logger};
+use test_parties::{Around, Ended, Party, Step, Want, Writer, join_server, local};
 
 // What would stop a server from outside, where its options asked for that.
 #[derive(Clone, Copy)]
@@ -103,8 +104,8 @@ pub struct Told {
 /// Servers one after the other, and what those around them do.
 pub struct Trial {
     pub asked: Asked,
-    /// What is logged.
-    pub levels: &'static str,
+    /// Which log lines are kept.
+    pub kept: Kept,
     /// The time at which the clock stands first, in milliseconds, or 0.
     pub stands_ms: u64,
     pub lives: &'static [Life],
@@ -378,11 +379,11 @@ where
 {
     let alloc: Global = host.alloc();
     let mut output: Vec<u8> = Vec::with_capacity(alloc, 4096).ok()?;
-    let log = logger(rt, alloc, trial.levels).ok()?;
+    let log = Lines::new(rt, alloc, trial.kept, 65_536).ok()?;
     let outcome = run_with_log(rt, host, &log, asked, trial, ended, &mut output);
     Some(Ran {
         outcome,
-        log: log.into_inner().into_inner(),
+        log: log.into_lines(),
         output,
     })
 }

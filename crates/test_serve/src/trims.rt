@@ -6,8 +6,8 @@ ghost use Rattle.ns_shard.specs.State.{no_entries};
 ghost use Rattle.ns_tally.specs.Tally.{AreNamed};
 
 use crate::trial::all_but;
-use log::Log;
 use ns_calls::Call;
+use ns_log::Log;
 use ns_outside::{Open, Receipt};
 use ns_roster::Roster;
 use ns_serve_parts::PLACES;

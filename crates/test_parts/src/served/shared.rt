@@ -6,7 +6,7 @@ use crossbeam_channel::{Sender, unbounded};
 use ns_calls::Bytes;
 use ns_output::{Times, Utc};
 use ns_outside::{AskJob, CloseJob, Downlinks, JobSource, Next, Timer};
-use ns_serve_queues::{FromQueue, SinceStart, hand_on};
+use ns_serve_events::{FromQueue, SinceStart, hand_on};
 use ns_serve_sockets::Later;
 use ns_serve_state::State;
 use ns_types::{DevEui, WindowName};

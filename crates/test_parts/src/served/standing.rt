@@ -1,11 +1,6 @@
 //! A runtime whose clock stands until a test sets it, and which logs into memory.
 
-ghost use Rattle.std.specs.Prelude.{Some, [], true};
-
-use log::kv::Source;
-use log::sink::Locked;
-use log::span::Spans;
-use log::{Log, Metadata, Record};
+use ns_log::{Level, Log};
 use std::alloc::{AllocError, Global};
 use std::fmt::Display;
 use std::io;
@@ -13,6 +8,7 @@ use std::net::{Net, SocketAddr, TcpListener, TcpStream};
 use std::sync::Wait;
 use std::sync::atomic::{AtomicU64, Ordering};
 use std::time::{Clock, Duration};
+use test_device::logged::{Kept, Lines};
 
 /// What the wall clock tells always, in milliseconds since 1970: 2025-11-24 20:43:20.123.
 pub const WALL_MS: u64 = 1_764_017_000_123;
@@ -21,7 +17,7 @@ pub const WALL_MS: u64 = 1_764_017_000_123;
 #[derive(Drop)]
 pub struct Standing<'a, R: Wait> {
     rt: &'a R,
-    log: Locked<&'a R, Vec<u8>>,
+    log: Lines<'a, R>,
     // What the clock tells next, in microseconds.
     us: AtomicU64,
     // How much later it is each time that it is read, in microseconds.
@@ -33,7 +29,7 @@ impl<'a, R: Wait> Standing<'a, R> {
     pub fn new(rt: &'a R, alloc: Global) -> Result<Standing<'a, R>, AllocError> {
         Ok(Standing {
             rt,
-            log: Locked::new(rt, Vec::with_capacity(alloc, 4096)?),
+            log: Lines::new(rt, alloc, Kept::All, 4096)?,
             us: AtomicU64::new(1_000_000),
             step: AtomicU64::new(0),
         })
@@ -63,7 +59,7 @@ impl<'a, R: Wait> Standing<'a, R> {
             us: _,
             step: _,
         } = self;
-        log.into_inner()
+        log.into_lines()
     }
 }
 
@@ -99,21 +95,7 @@ impl<'a, R: Wait + Net<Stream = TcpStream, Listener = TcpListener>> Net for Stan
 }
 
 impl<'a, R: Wait> Log for Standing<'a, R> {
-    ghost enables = { λ _ _ _. Some true };
-
-    ghost target_of = { λ _. Some [] };
-
-    fn enabled(&self, _metadata: &Metadata<'_>) -> bool {
-        true
-    }
-
-    fn log<D: Display, K: Source, S: Spans>(&self, record: &Record<'_, D, K, S>) {
-        self.log.log(record);
-    }
-
-    fn flush(&self) {}
-
-    fn target(&self) -> &str {
-        ""
+    fn line<D: Display + Drop>(&self, level: Level, module: &str, text: D) {
+        self.log.line(level, module, text);
     }
 }

@@ -1,10 +1,10 @@
 //! Joins and acknowledgements, told as lines of their own.
 ghost use Rattle.std.specs.Prelude.{IfSome};
-ghost use Rattle.ns_serve_queues.specs.Notices.{IsNoticeOf};
+ghost use Rattle.ns_serve_events.specs.Notices.{IsNoticeOf};
 
-use log::{Log, warn};
 use ns_calls::{Downlink, Reply};
 use ns_events::{Text, ack_json, join_json};
+use ns_log::{Log, warn};
 use ns_output::Utc;
 use ns_outside::Receipt;
 use ns_serve_parts::{EventLines, utc_of};

@@ -1,7 +1,7 @@
 //! A server that stops when something from outside says so, as the end of its standard input.
 ghost use Rattle.std.specs.Prelude.{◌≡◌};
 
-use log::{Log, error, info};
+use ns_log::{Log, error, info};
 use ns_serve_parts::ServeFault;
 use std::io::{ErrorKind, Read};
 use std::sync::atomic::{AtomicBool, Ordering};

@@ -8,7 +8,7 @@ use Rattle.ns_calls.specs.declared.call.Reply.TheVariants.{Accepted, Closed}
 use Rattle.ns_output.specs.declared.times.Utc.{Utc}
 use Rattle.ns_events.specs.Notice.{join_json, ack_json}
 use Rattle.ns_outside.specs.declared.receipt.Receipt.{Receipt}
-use Rattle.ns_serve_queues.specs.Notices.{IsNoticeAs, IsNoticeOf}
+use Rattle.ns_serve_events.specs.Notices.{IsNoticeAs, IsNoticeOf}
 
 pub is_join : (time : Option Utc) (r : Receipt) (text : List ℕ) (eui : DevEui) (session : ℕ) (addr : DevAddr)
     → r.entry.reply ≡ Accepted eui session addr → text ≡ join_json time eui.0 addr.0 session → IsNoticeOf time r text

@@ -1,7 +1,7 @@
 //! Want of memory, told in the log.
 ghost use Rattle.std.specs.Prelude.{◌≡◌};
 
-use log::{Log, error};
+use ns_log::{Log, error};
 use ns_serve_parts::ServeFault;
 
 /// Want of memory for something, which is logged.

@@ -1,12 +1,12 @@
 //! What a server does before its threads start.
 
+use crate::after::AfterRecord;
 use crate::fault::no_memory;
 use crate::stop::{Stop, mark_stop};
-use log::{Log, error, info};
+use ns_log::{Log, error, info};
 use ns_record_files::{RecordFiles, Recorder};
 use ns_roster::Roster;
 use ns_serve_parts::{Made, ServeFault, ServeOptions};
-use ns_serve_sockets::AfterRecord;
 use ns_serve_state::{State, Status};
 use ns_serve_streams::Output;
 use ns_types::Sink;
