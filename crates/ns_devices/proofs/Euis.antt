@@ -3,6 +3,7 @@ use Rattle.std.proofs.Common.{◌≡◌, ◌==◌, ℕ, true, cond, List, [], �
 use Rattle.std.specs.Map.{lookup}
 use Rattle.std.proofs.lemmas.Bool.Decides.{nat_tests}
 use Rattle.smallvec.specs.SmallVec.{SmallVec}
+use Rattle.ns_types.proofs.PositionLemmas.{position-push}
 use Rattle.ns_types.specs.declared.identity.DevAddr.{DevAddr}
 use Rattle.ns_types.specs.declared.identity.DevEui.{DevEui}
 use Rattle.ns_views.specs.Frame.{data_fields}
@@ -14,7 +15,7 @@ use Rattle.ns_devices.specs.Devices.{is_own, own_of, is_addressed, with_state}
 use Rattle.ns_rows.specs.Rows.{row_in}
 use Rattle.ns_devices.specs.Places.{Agree, places_from}
 use Rattle.ns_devices.proofs.Addressed.{places-push, places-set}
-use Rattle.ns_devices.proofs.Positions.{found-nowhere, placed, position-kept, position-push, position-set, get-push, get-set}
+use Rattle.ns_devices.proofs.Positions.{found-nowhere, placed, position-kept, position-set, get-push, get-set}
 
 -- ---- a device more
 

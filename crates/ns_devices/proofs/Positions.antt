@@ -1,10 +1,9 @@
 -- The first element that passes a test, by its place.
-use Rattle.std.proofs.Common.{◌≡◌, not, nat_lt, IfSome, ℕ, ◌+◌, ◌<◌, get_or, zero, suc, Bool, true, false, cond, List, [], ◌∷◌, ◌++◌, length, find, position, slice_get, slice_index_or, set, Option, None, Some, ◌⊎◌, inl, inr, ⊎_elim, refl, sym, ap, ap₂, ◌∙◌, arith}
+use Rattle.std.proofs.Common.{◌≡◌, nat_lt, IfSome, ℕ, ◌+◌, ◌<◌, get_or, zero, suc, Bool, cond, List, [], ◌∷◌, ◌++◌, length, find, position, slice_get, slice_index_or, set, Option, None, Some, ◌⊎◌, inl, inr, ⊎_elim, refl, sym, ap, ap₂, ◌∙◌, arith}
 use Rattle.std.specs.List.{AllByRecursion, position_or_len}
 use Rattle.std.proofs.lemmas.Grind.{common_steps}
 use Rattle.std.proofs.lemmas.Option.{slice_get_past, slice_get_read, get_or_from_slice_get}
 use Rattle.std.proofs.lemmas.List.{length-set}
-use Rattle.std.proofs.lemmas.List.Sums.{prefix_len-le-length}
 use Rattle.std.proofs.lemmas.List.Folds.{find_at, position_or_len-set, position_or_len_push}
 use Rattle.ns_devices.specs.Devices.{change_first}
 
@@ -52,14 +51,6 @@ module _ {X : Type 0} (test : X → Bool) where
   -- one element more at the end leaves the place of the first
   pub position-kept : (xs : List X) (y : X) (i : ℕ) → position test xs ≡ Some i → position test (xs ++ y ∷ []) ≡ Some i
   position-kept xs y i at = grind (arith, common_steps, position_or_len_push test xs y)
-
-  -- one element more at the end is the first itself where it passes and none before it does
-  pub position-push : (xs : List X) (y : X) → (test y ≡ true → position test xs ≡ None) → position test (xs ++ y ∷ []) ≡ cond (test y) (Some (length xs)) (position test xs)
-  position-push xs y new = by (test y) refl
-    where
-      by : (b : Bool) → test y ≡ b → position test (xs ++ y ∷ []) ≡ cond b (Some (length xs)) (position test xs)
-      by true passes = let none = new passes in grind (arith, common_steps, position_or_len_push test xs y, prefix_len-le-length (λ x. not (test x)) xs)
-      by false fails = grind (arith, common_steps, position_or_len_push test xs y)
 
   -- an element is replaced by one that the test cannot tell from it
   pub position-set : (xs : List X) (i : ℕ) (x y : X) → slice_get xs i ≡ Some x → test y ≡ test x → position test (set xs i y) ≡ position test xs

@@ -1,14 +1,14 @@
 -- Devices by their places in the list.
-use Rattle.std.proofs.Common.{◌≡◌, ◌==◌, ◌<◌, ℕ, ◌+◌, suc, Bool, cond, nat_lt, not, refl, sym, true, false, List, [], ◌∷◌, ◌++◌, length, get_or, take, map, set, slice_get, position, Option, Some, None, option_map, if◌then◌else◌, ap, ◌∙◌, arith}
+use Rattle.std.proofs.Common.{◌≡◌, ◌==◌, ◌<◌, ℕ, ◌+◌, suc, Bool, cond, refl, sym, false, List, [], ◌∷◌, ◌++◌, length, get_or, take, map, set, slice_get, position, Option, Some, None, option_map, if◌then◌else◌, ap, ◌∙◌, arith}
 use Rattle.std.specs.Prelude.{AllPairs}
 use Rattle.std.specs.List.{position_or_len}
 use Rattle.std.specs.Map.{lookup}
 use Rattle.std.proofs.lemmas.Bool.Decides.{nat_tests}
 use Rattle.std.proofs.lemmas.Grind.{common_steps}
 use Rattle.std.proofs.lemmas.List.{get_or-map, get_or-take, length-map, length-take}
-use Rattle.std.proofs.lemmas.List.Folds.{length-prefix_len, position_or_len_push}
 use Rattle.std.proofs.lemmas.List.Sums.{position_or_len_is}
 use Rattle.std.proofs.lemmas.Option.{slice_get_read}
+use Rattle.ns_types.proofs.PositionLemmas.{position-push}
 use Rattle.ns_types.specs.declared.identity.DevEui.{DevEui}
 use Rattle.ns_roster.specs.declared.Device.{Device as roster_device}
 use Rattle.ns_roster.specs.Valid.{Differ}
@@ -36,17 +36,6 @@ module _ (ds : List roster_device) (n : ℕ) (d : roster_device) (within : n < l
           let apart : (get_or ds k d).eui.0 ≡ (get_or ds n d).eui.0 → ⊥ = pairs k n d less within in
           let same = get_or-map not_joined (take n ds) k d (not_joined d) (omega (arith, length-take n ds)) ∙ ap not_joined (get_or-take n ds k d less) in
           grind (arith, nat_tests, apart, same)
-
--- the place of the first that passes, with one more element, where that passes and none before it, or does not
-position-push : {X : Type 0} (test : X → Bool) (xs : List X) (x : X) → (test x ≡ true → position test xs ≡ None) → position test (xs ++ x ∷ []) ≡ cond (test x) (Some (length xs)) (position test xs)
-position-push test xs x new = by (test x) refl
-  where
-    pushed : position test (xs ++ x ∷ []) ≡ cond (nat_lt (position_or_len test xs) (length xs)) (Some (position_or_len test xs)) (cond (test x) (Some (length xs)) None)
-    pushed = grind (arith, common_steps, position_or_len_push test xs x, length-prefix_len (λ y. not (test y)) xs)
-
-    by : (b : Bool) → test x ≡ b → position test (xs ++ x ∷ []) ≡ cond b (Some (length xs)) (position test xs)
-    by true passes = let none = new passes in grind (arith, pushed)
-    by false fails = grind (arith, pushed)
 
 -- one more device has the last place
 pub places-push : (rows : List (DevEui × Option Device)) (old new : List (DevEui × ℕ)) (row : DevEui × Option Device) → ArePlaces rows old → position (has row.0) rows ≡ None

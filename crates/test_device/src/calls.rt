@@ -1,10 +1,9 @@
 //! Calls of devices, as gateways and a join server bring them.
 
-use ns_calls::{Call, DataFrame, JoinAccept, JoinAns, Outcome};
-use ns_creator::{DataCreator, Keys};
-use ns_secure::Dir;
+use crate::traffic::uplink_frame;
+use ns_calls::{Call, JoinAccept, JoinAns, Outcome};
+use ns_creator::Keys;
 use ns_types::{DevEui, GatewayId, Heard, Key, NetId, Ticket, addr_of};
-use ns_views::{PhyView, view};
 
 const NET: NetId = NetId(0x24);
 
@@ -74,34 +73,16 @@ pub fn uplink(
     confirmed: bool,
     gateway: u32,
 ) -> Option<Call> {
-    let creator = DataCreator {
-        dir: Dir::Up,
-        confirmed,
-        addr: addr_of(NET, DevEui(u64::from(device)), device % 0x20_0000),
-        flags: 0,
-        counter,
-        fopts: &[],
-        port: Some(1),
-        payload: &[0x55, 0x56, 0x57, 0x58],
-    };
     let nwk = key(device, nonce);
     let keys = Keys {
         nwk,
         app: nwk,
         root: nwk,
     };
-    let mut room = [0; 32];
-    let frame = seen(creator.build_into(&keys, &mut room).ok()?)?;
+    let addr = addr_of(NET, DevEui(u64::from(device)), device % 0x20_0000);
+    let payload = [0x55, 0x56, 0x57, 0x58];
     Some(Call::Uplink {
-        frame,
+        frame: uplink_frame(addr, counter, confirmed, &payload, &keys)?,
         heard: heard(gateway),
     })
-}
-
-// A data frame as a gateway sees it.
-fn seen(frame: &[u8]) -> Option<DataFrame> {
-    match view(frame) {
-        Ok(PhyView::Frame(data)) => Some(DataFrame::of(&data)),
-        _ => None,
-    }
 }

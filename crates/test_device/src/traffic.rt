@@ -8,7 +8,7 @@ use ns_calls::{Call, DataFrame, JoinAccept, JoinAns, Outcome};
 use ns_creator::{DataCreator, Keys};
 use ns_roster::{Roster, RosterFault};
 use ns_secure::Dir;
-use ns_types::{DevEui, GatewayId, Heard, Key, NetId, Ticket, WindowName, addr_of};
+use ns_types::{DevAddr, DevEui, GatewayId, Heard, Key, NetId, Ticket, WindowName, addr_of};
 use ns_views::{PhyView, view};
 use std::alloc::{AllocError, Global};
 
@@ -135,25 +135,40 @@ pub fn uplink(device: u32, counter: u32, confirmed: bool, gateway: u8) -> Option
     if device > 2_097_151 {
         return None;
     }
+    let addr = addr_of(NET, DevEui(u64::from(device)), device);
+    let payload = [
+        0x55, 0x56, 0x57, 0x58, 0x59, 0x5a, 0x5b, 0x5c, 0x5d, 0x5e, 0x5f, 0x60,
+    ];
+    Some(Call::Uplink {
+        frame: uplink_frame(addr, counter, confirmed, &payload, &keys())?,
+        heard: heard(gateway),
+    })
+}
+
+// The frame of an uplink on port 1, as a gateway sees it.
+pub(crate) fn uplink_frame(
+    addr: DevAddr,
+    counter: u32,
+    confirmed: bool,
+    payload: &[u8],
+    keys: &Keys,
+) -> Option<DataFrame> {
     let creator = DataCreator {
         dir: Dir::Up,
         confirmed,
-        addr: addr_of(NET, DevEui(u64::from(device)), device),
+        addr,
         flags: 0,
         counter,
         fopts: &[],
         port: Some(1),
-        payload: &[
-            0x55, 0x56, 0x57, 0x58, 0x59, 0x5a, 0x5b, 0x5c, 0x5d, 0x5e, 0x5f, 0x60,
-        ],
+        payload,
     };
     let mut room = [0; 32];
-    let frame = creator.build_into(&keys(), &mut room).ok()?;
+    let Ok(frame) = creator.build_into(keys, &mut room) else {
+        return None;
+    };
     match view(frame) {
-        Ok(PhyView::Frame(data)) => Some(Call::Uplink {
-            frame: DataFrame::of(&data),
-            heard: heard(gateway),
-        }),
+        Ok(PhyView::Frame(data)) => Some(DataFrame::of(&data)),
         _ => None,
     }
 }
