@@ -195,7 +195,7 @@ fn counter_of(item: &Value) -> Option<u32>
 /// Reads an item of the list `rxpk`, or gives its first fault in this order: `stat` (F7, F8, F9), `freq` (F7), `modu` and `datr` (F7,
 /// F10), the band (F10), `rssi`, `lsnr`, `data` and `size`, `tmst` (F7). NoMemory where memory ran out before the answer was known.
 #[tactic(auto, unfolding(crate::specs::Rxpk::item_of))]
-pub fn read_item(alloc: Global, item: &Value) -> Result<Item, ForwarderFault>
+pub(crate) fn read_item(alloc: Global, item: &Value) -> Result<Item, ForwarderFault>
     ensures gives { Gives NoMemory item_view result (item_of (view item.now)) }
     ensures band { IfOk result (λ i. IsOfBand (item_view i)) }
 {

@@ -26,7 +26,7 @@ pub use crate::downlink::pull_resp;
 pub use crate::fault::ForwarderFault;
 pub use crate::handed::{Handed, hand_on};
 pub use crate::head::{Head, Kind, Message, read_message};
-pub use crate::item::{Item, read_item};
+pub use crate::item::Item;
 pub use crate::laws::{clocks_follow, hertz_exact, messages_exactly};
 pub use crate::outcome::{Outcome, read_tx_ack};
 pub use crate::push::{Push, read_push};

@@ -27,7 +27,7 @@ impl Item {
     }
 
     /// The datagram of the frame, from a gateway at a moment by its clock. It is read back to what the item says. Refused only where
-    /// memory ran out. What `read_item` gives meets the condition.
+    /// memory ran out. What `read_push` gives meets the condition.
     pub fn datagram(
         &self,
         alloc: Global,

@@ -5,7 +5,7 @@
 //!
 //! Of the crates round the shards: where gateways are, and late copies of frames (ns_front), what a server tells of itself over HTTP
 //! (ns_status), texts from outside, in pieces of every size and with each fault (ns_responses, ns_roster_place), the files of a record
-//! (ns_record_files), packet forwarders, over memory and over sockets (ns_forwarder, ns_forwarder_socket), and what the threads of `serve`
+//! (ns_record_files), packet forwarders, over memory and over sockets (ns_forwarder_socket), and what the threads of `serve`
 //! share where none runs (ns_serve_parts, ns_serve_state, ns_serve_sockets, ns_serve_status): which datagrams are late copies, how many
 //! failures a worker waits out, which downlinks leave, what an earlier life left open, the times of a line, the address at which gateways
 //! are heard, the counts and other lines as they are logged, and the status over HTTP.
@@ -31,8 +31,6 @@ mod keys;
 mod lates;
 #[cfg(test)]
 mod loopback;
-#[cfg(test)]
-mod messages;
 #[cfg(test)]
 mod places;
 #[cfg(test)]

@@ -17,7 +17,7 @@ mod messages;
 mod rosters;
 mod runs;
 mod scarce;
-mod text;
+pub mod text;
 mod worked;
 
 use crate::joins::worked::Worked;

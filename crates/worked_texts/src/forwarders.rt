@@ -1,7 +1,9 @@
 //! Reads messages of packet forwarders as the server does, and puts a line for each: what acknowledges it, and what it becomes.
 //!
-//! A line of the text is a time in microseconds and a message in hex, with a space between. The line for it is the fault of a
-//! message that is not acknowledged, as `F3`; else the acknowledgement in hex, or `-`, and behind it
+//! A line of the text is a time in microseconds and a message in hex, with a space between; behind another space may stand the rest of the
+//! message as a text, in which `\r`, `\n`, `\t` and `\xHH;` are a byte, and `\(N PIECE)` is a piece so many times. Any other line is a
+//! remark, and is put again. The line for a message is its fault where it is not acknowledged, as `F3`; else the acknowledgement in hex, or
+//! `-`, and behind it
 //!
 //! - of a PUSH_DATA, its datagrams in hex, with a space before each, and the numbers of the items left out;
 //! - of a PULL_DATA, ` asked` with the address of its gateway's downlinks and the version of their messages;

@@ -1,4 +1,4 @@
-//! Datagrams of gateways.
+//! Datagrams of gateways, and messages to packet forwarders.
 
 ghost use Rattle.std.specs.Prelude.{◌≤◌, length};
 
@@ -6,6 +6,7 @@ use crate::frames::answers::Answers;
 use crate::frames::ask::Ask;
 use ns_link::{read_datagram, write_down, write_down_into};
 use ns_types::{GatewayId, Heard, Target};
+use std::str;
 
 // Puts the version and the kind, gateway, moment, frequency, data rate, RSSI and SNR.
 fn put_heard(heard: &Heard, parts: &mut Answers) {
@@ -84,4 +85,25 @@ fn send_into(ask: Ask, target: &Target, frame: &[u8], out: &mut Answers)
         Err(fault) => out.fault("G", fault.number()),
     }
     out.hex(into);
+}
+
+/// version, token, gateway, moment, freq, dr, power, frame: the message that has a packet forwarder send a frame, its four bytes and its
+/// JSON, or the fault.
+pub fn pull_resp(ask: Ask, frame: &[u8], out: &mut Answers) {
+    if frame.len() > 255 {
+        return;
+    }
+    let (version, token, power) = (
+        ask.number("version"),
+        ask.array("token"),
+        ask.number("power"),
+    );
+    match ns_forwarder::pull_resp(out.alloc(), version, token, &target(ask), power, frame) {
+        Ok(message) => {
+            let (head, json) = message.as_slice().split_at_checked(4).unwrap_or((&[], &[]));
+            out.hex(head);
+            out.word(str::from_utf8(json).unwrap_or("no text"));
+        }
+        Err(fault) => out.fault("F", fault.number()),
+    }
 }

@@ -5,6 +5,7 @@ use ns_forwarder_socket::{Gateways, Route, Taken, take};
 use std::alloc::Global;
 use std::fmt::Write;
 use std::net::{IpAddr, Ipv4Addr, SocketAddr};
+use worked_frames::joins::text::bytes_of;
 use worked_frames::put::{put, put_hex, show};
 
 // What a message has become: what is taken of it, whether that is noted, and where downlinks of its gateway go then.
@@ -61,11 +62,13 @@ fn put_line<K: Known>(
     line: &str,
     out: &mut String,
 ) -> bool {
-    let (now, digits) = line.split_once(" ").unwrap_or(("0", line));
-    let Ok(bytes) = hex::decode(alloc, digits) else {
-        put(out, "no hex");
+    let (now, message) = line.split_once(" ").unwrap_or(("0", line));
+    let (digits, text) = message.split_once(" ").unwrap_or((message, ""));
+    let Ok(mut bytes) = hex::decode(alloc, digits) else {
+        put(out, line);
         return false;
     };
+    let _ = bytes.extend_from_slice(bytes_of(alloc, text, "").as_slice());
     match read_message(bytes.as_slice()) {
         Ok(message) => {
             put_ack(alloc, &message.head(), out);
