@@ -1,4 +1,4 @@
-// AES-128 by four tables and AES-CMAC in plain Rust, timed in the same way as `worked_texts times aes`.
+// AES-128 by four tables and AES-CMAC in plain Rust, timed in the same way as `aes` of times.sh.
 use std::hint::black_box;
 use std::time::Instant;
 

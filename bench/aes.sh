@@ -8,9 +8,10 @@ here=$(cd "$(dirname "$0")" && pwd)
 work=$(mktemp -d)
 trap 'rm -rf "$work"' EXIT
 rustc --edition 2021 -O -o "$work/table" "$here/aes.rs"
-(cd "$here/../crates/worked_texts" && rt run --jobs 2 > "$work/build" 2>&1) || { cat "$work/build"; exit 1; }
+program="$work/bench_times"
+"$here/times.sh" "$program"
 for _ in 1 2 3; do
-    "$here/../crates/worked_texts/out/worked_texts" times aes > "$work/values" 2>> "$work/proved"
+    "$program" aes > "$work/values" 2>> "$work/proved"
     "$work/table" > "$work/table_values" 2>> "$work/rust"
 done
 if grep -vxFf "$work/values" "$work/table_values"; then

@@ -1,4 +1,4 @@
-// One HTTP exchange with a join server over memory in plain Rust, timed in the same way as `worked_texts times joinclient`.
+// One HTTP exchange with a join server over memory in plain Rust, timed in the same way as `joinclient` of times.sh.
 //
 // The head is read by hand, as the crate httparse reads it: empty lines before it, a line feed alone as a line's end, a missing
 // reason, values without the white space around them. It is read anew after each read, as a caller of httparse would do it; the

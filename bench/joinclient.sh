@@ -22,14 +22,14 @@ __attribute__((destructor)) static void told(void) { fprintf(stderr, "allocation
 void _exit(int status) { void (*f)(int) = dlsym(RTLD_NEXT, "_exit"); told(); f(status); __builtin_unreachable(); }
 END
 cc -O2 -shared -fPIC -o "$work/count.so" "$work/count.c" -ldl
-program="$here/../crates/worked_texts/out/worked_texts"
-(cd "$here/../crates/worked_texts" && rt run --jobs 2 > "$work/build" 2>&1) || { cat "$work/build"; exit 1; }
+program="$work/bench_times"
+"$here/times.sh" "$program"
 for _ in 1 2 3; do
-    "$program" times joinclient > "$work/values" 2>> "$work/proved"
+    "$program" joinclient > "$work/values" 2>> "$work/proved"
     "$work/plain" > "$work/plain_values" 2>> "$work/rust"
 done
 cmp "$work/values" "$work/plain_values"
-LD_PRELOAD="$work/count.so" "$program" times joinclient 2>&1 > "$work/values" | grep allocations >> "$work/proved"
+LD_PRELOAD="$work/count.so" "$program" joinclient 2>&1 > "$work/values" | grep allocations >> "$work/proved"
 LD_PRELOAD="$work/count.so" "$work/plain" 2>&1 > "$work/values" | grep allocations >> "$work/rust"
 least() { sort -k1,1 -k2,2n "$1" | awk '!seen[$1]++ {print $1, $2}' | sort -k1,1; }
 join -o 0,1.2,2.2 <(least "$work/proved") <(least "$work/rust") | awk '

@@ -1,5 +1,5 @@
 #!/usr/bin/env bash
-# Times calls by Shard::apply on one thread, and by one Server with 1, 2 and 4 threads on shards of their own: `worked_texts times server`.
+# Times calls by Shard::apply on one thread, and by one Server with 1, 2 and 4 threads on shards of their own: `server` of times.sh.
 #   server.sh [DEVICES FRAMES ROUNDS]    each device joins, and each of its frames is heard by three gateways and its window closed; a
 #                                        shard is trimmed after every 10,000 entries; of each way the fastest round counts
 #   server.sh --instructions             instructions of a call on one thread, by callgrind
@@ -13,11 +13,11 @@ set -euo pipefail
 here=$(cd "$(dirname "$0")" && pwd)
 work=$(mktemp -d)
 trap 'rm -rf "$work"' EXIT
-program="$here/../crates/worked_texts/out/worked_texts"
-(cd "$here/../crates/worked_texts" && rt run --jobs 2 > "$work/build" 2>&1) || { cat "$work/build"; exit 1; }
+program="$work/bench_times"
+"$here/times.sh" "$program"
 if [ "${1:-}" = --instructions ]; then
-    count() { valgrind --tool=callgrind --callgrind-out-file="$work/$1" "$program" times "server,256,8,1,$1" 2>&1 > "$work/lines" | awk '/Collected/ {print $NF}'; }
-    calls=$("$program" times server,256,8,1,none 2> "$work/times" | awk 'NR == 1 {print $1}')
+    count() { valgrind --tool=callgrind --callgrind-out-file="$work/$1" "$program" "server,256,8,1,$1" 2>&1 > "$work/lines" | awk '/Collected/ {print $NF}'; }
+    calls=$("$program" server,256,8,1,none 2> "$work/times" | awk 'NR == 1 {print $1}')
     none=$(count none) apply=$(count apply) server=$(count server)
     awk -v n="$calls" -v none="$none" -v apply="$apply" -v server="$server" 'BEGIN {
         printf "%d calls: %.0f instructions each by apply, %.0f by the server, ratio %.2f\n", n, (apply - none) / n, (server - none) / n, (server - none) / (apply - none) }'
@@ -26,7 +26,7 @@ fi
 if [ "${1:-}" = --processes ]; then
     for count in 1 2 4; do
         for process in $(seq "$count"); do
-            "$program" times "server,64,2000,${2:-5},apply" > "$work/lines.$process" 2> "$work/apply.$process" &
+            "$program" "server,64,2000,${2:-5},apply" > "$work/lines.$process" 2> "$work/apply.$process" &
         done
         wait
         for process in $(seq "$count"); do
@@ -36,7 +36,7 @@ if [ "${1:-}" = --processes ]; then
     exit
 fi
 if [ "${1:-}" = --trim ]; then
-    "$program" times "server,${2:-1000},${3:-250},${4:-5},trim" 2> "$work/times" | uniq
+    "$program" "server,${2:-1000},${3:-250},${4:-5},trim" 2> "$work/times" | uniq
     echo "load average: $(cut -d' ' -f1-3 /proc/loadavg)"
     sort -k3,3n "$work/times" | awk '
         NR == 1 { made = $2; least = $3; again = $4 }
@@ -44,7 +44,7 @@ if [ "${1:-}" = --trim ]; then
         END { printf "%d entries: %.1f to %.1f ms, a second trim %.2f ms\n", made, least / 1e6, most / 1e6, again / 1e6 }'
     exit
 fi
-"$program" times "server,${1:-64},${2:-8000},${3:-3}" > "$work/lines" 2> "$work/times"
+"$program" "server,${1:-64},${2:-8000},${3:-3}" > "$work/lines" 2> "$work/times"
 echo "load average: $(cut -d' ' -f1-3 /proc/loadavg)"
 grep -v '^trim' "$work/times" | sort -k1,1 -k3,3n | awk '!seen[$1]++' | awk '
     BEGIN { printf "%-10s %12s %10s %8s\n", "", "calls/s", "ns a call", "ratio" }

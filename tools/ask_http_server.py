@@ -1,8 +1,8 @@
 #!/usr/bin/env python3
 """Has the join client ask a real HTTP server of another's making: Python's http.server, over a loopback socket.
 
-    (cd crates/worked_texts && rt run)          builds the program
-    python3 tools/ask_http_server.py [PROGRAM]      default: crates/worked_texts/out/worked_texts
+    bench/times.sh PROGRAM                          builds the program
+    python3 tools/ask_http_server.py PROGRAM
 
 The server speaks HTTP/1.0 and HTTP/1.1, with and without a Content-Length, and once each it answers 404 and in chunks. It reads the
 request by its own means and holds it against docs/FORMATS.md. No part of the merge gate. It ends by itself: each exchange has 10 s.
@@ -57,8 +57,9 @@ def handler(version, status, has_length, in_chunks, asked):
 
 
 def main():
-    top = os.path.dirname(os.path.dirname(os.path.abspath(__file__)))
-    program = sys.argv[1] if len(sys.argv) > 1 else os.path.join(top, "crates/worked_texts/out/worked_texts")
+    if len(sys.argv) != 2:
+        sys.exit(__doc__)
+    program = os.path.abspath(sys.argv[1])
     wrong = 0
     for version, status, has_length, in_chunks, wanted in CASES:
         asked = []
@@ -66,7 +67,7 @@ def main():
             server.timeout = 10
             thread = threading.Thread(target=server.handle_request)
             thread.start()
-            ran = subprocess.run([program, "times", "joinclient,127.0.0.1:%d" % server.server_port], capture_output=True, text=True, timeout=10)
+            ran = subprocess.run([program, "joinclient,127.0.0.1:%d" % server.server_port], capture_output=True, text=True, timeout=10)
             thread.join()
         printed = ran.stdout.strip()
         good = printed == wanted and asked == [("POST / HTTP/1.1", REQUEST_HEADERS, JOIN_REQ)]

@@ -2,7 +2,7 @@
 """Draws which crate stands on which, from crates.txt.
 
     python3 tools/crates_graph.py            Mermaid's text of the server's crates, as in docs/DEVELOPING.md
-    python3 tools/crates_graph.py --all      with the tests, examples and benchmarks
+    python3 tools/crates_graph.py --all      with the tests and examples
     python3 tools/crates_graph.py --update   puts the first into docs/DEVELOPING.md
     python3 tools/crates_graph.py --check    status 1 where docs/DEVELOPING.md has another
 

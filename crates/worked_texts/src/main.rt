@@ -1,6 +1,6 @@
-//! Makes worked texts, and prints the titles or the answers of each; and times parts of the server. A word of the arguments is the kind of
-//! the texts behind it, and any other names a text of that kind: a file, or standard input, which is `-`. The form of a kind stands at the
-//! head of its module, here or in `worked_frames`:
+//! Makes worked texts, and prints the titles or the answers of each. A word of the arguments is the kind of the texts behind it, and any
+//! other names a text of that kind: a file, or standard input, which is `-`. The form of a kind stands at the head of its module, here or
+//! in `worked_frames`:
 //!
 //! - `runs`: runs of step lines by `replay`;
 //! - `records`: lives of records;
@@ -8,23 +8,18 @@
 //! - `frames`: questions to the crates for frames, from AES to the device for tests;
 //! - `joins`: rosters, messages to and from join servers, and exchanges with these.
 //!
-//! Behind `times` stand parts that are timed (`times.rt`), for `bench/*.sh`, and `embedding` alone runs the example of a program that embeds
-//! the server (`embedding.rt`): here, since a program of its own would be linked and compiled once more.
+//! `embedding` alone runs the example of a program that embeds the server (`embedding.rt`): here, since a program of its own would be linked
+//! and compiled once more.
 #![tactic(auto)]
 
 mod embedding;
 mod forwarders;
 mod records;
 mod runs;
-mod times;
 
 use anyhow::bail;
 use std::alloc::Global;
-use std::net::Net;
 use std::rt::Files;
-use std::sync::Wait;
-use std::thread::Threads;
-use std::time::Clock;
 use std::{env, fs, io};
 use worked_frames::put::pieces;
 use worked_frames::{frames, joins};
@@ -37,7 +32,6 @@ enum Kind {
     Forwarders,
     Frames,
     Joins,
-    Times,
 }
 
 // The kind that a word names.
@@ -48,7 +42,6 @@ fn kind_of(word: &str) -> Option<Kind> {
         "forwarders" => Some(Kind::Forwarders),
         "frames" => Some(Kind::Frames),
         "joins" => Some(Kind::Joins),
-        "times" => Some(Kind::Times),
         _ => None,
     }
 }
@@ -70,8 +63,6 @@ fn put_made(alloc: Global, kind: Kind, name: &str, pieces: &[&str], out: &mut St
         Kind::Forwarders => forwarders::make(alloc, pieces, out),
         Kind::Frames => frames::make(alloc, pieces, out),
         Kind::Joins => joins::make(alloc, pieces, out),
-        // A part that is timed has no text.
-        Kind::Times => {}
     }
 }
 
@@ -92,24 +83,19 @@ fn printed(alloc: Global, kind: Kind, name: &str, text: &str) -> String {
     out
 }
 
-// Makes the text of this name, and prints what comes of it; or times the part of this name.
-fn make<R: Files + Input + Threads + Wait + Net + Clock + Print + Eprint + AllocGlobal + Sync>(
-    rt: &R,
-    kind: Kind,
-    name: &str,
-) -> io::Result<()> {
-    if let Kind::Times = kind {
-        return times::time(rt, name);
-    }
+// Makes the text of this name, and prints what comes of it.
+fn make<R: Files + Input + Print + AllocGlobal>(rt: &R, kind: Kind, name: &str) -> io::Result<()> {
     let text = text_of(rt, name)?;
     let printed = printed(rt.alloc(), kind, name, text.as_str());
     rt.print(printed.as_str())
 }
 
 // The same; a fault is told with the name.
-fn make_named<
-    R: Files + Input + Threads + Wait + Net + Clock + Print + Eprint + AllocGlobal + Sync,
->(rt: &R, kind: Kind, name: &str) -> anyhow::Result<()> {
+fn make_named<R: Files + Input + Print + AllocGlobal>(
+    rt: &R,
+    kind: Kind,
+    name: &str,
+) -> anyhow::Result<()> {
     match make(rt, kind, name) {
         Ok(()) => Ok(()),
         Err(fault) => bail!("{name}: {fault}"),
