@@ -13,9 +13,7 @@ use ns_roster::Roster;
 use ns_serve_events::{Events, Recording};
 use ns_serve_parts::{ServeFault, ServeOptions};
 use ns_serve_shards::{Begun, entries_between, finish, trims_of, written};
-use ns_serve_sockets::{
-    AfterRecord, Stop, begin, begun_output, log_start, no_memory, watch_stop,
-};
+use ns_serve_sockets::{AfterRecord, Stop, begin, begun_output, log_start, no_memory, watch_stop};
 use ns_serve_state::{State, has_failed, log_counts, write_record};
 use ns_serve_streams::Output;
 use ns_serve_workers::{Around, run_all};

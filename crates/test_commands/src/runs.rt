@@ -2,8 +2,7 @@
 
 use crate::stand_in::{LIMIT, SINCE_1970, SINCE_START, StandIn};
 use ns_commands::{Logging, Timed, VARIABLE, run_replay};
-use ns_log::{Log, info};
-use ns_log::Discard;
+use ns_log::{Discard, Log, info};
 use ns_output::Output;
 use ns_upkeep::compact;
 use std::alloc::AllocError;
