@@ -2,7 +2,7 @@
 
 use crate::stand_in::{LIMIT, SINCE_1970, SINCE_START, StandIn};
 use ns_commands::{Logging, Timed, VARIABLE, run_replay};
-use ns_log::{Discard, Log, info};
+use ns_log::{Discard, Log, debug, error, info, warn};
 use ns_output::Output;
 use ns_upkeep::compact;
 use std::alloc::AllocError;
@@ -140,7 +140,22 @@ fn is_at_the_times<C: Clock>(clock: &C) -> bool {
         && clock.since_1970().ok() == Some(Duration::from_millis(SINCE_1970))
 }
 
-// The program's runtime hands on each call as it is, and writes a log line behind the time of day; the variable is that of OPERATOR.
+// A log line of each level.
+fn log_each<L: Log>(log: &L) {
+    error!(log; "failed");
+    warn!(log; "lost {}", 1);
+    info!(log; "heard {}", 2);
+    debug!(log; "refused");
+}
+
+// These lines as they are written.
+const LOGGED: &str = "[2026-11-24T09:30:00.125Z ERROR test_commands::runs] failed
+[2026-11-24T09:30:00.125Z WARN  test_commands::runs] lost 1
+[2026-11-24T09:30:00.125Z INFO  test_commands::runs] heard 2
+[2026-11-24T09:30:00.125Z DEBUG test_commands::runs] refused
+";
+
+// The program's runtime hands on each call as it is, and writes log lines behind the time of day; the variable is that of OPERATOR.
 #[test]
 fn the_wrapper_hands_on(rt: HostRuntime) {
     let stand_in = StandIn::new(rt, b"");
@@ -154,9 +169,7 @@ fn the_wrapper_hands_on(rt: HostRuntime) {
         Some(ErrorKind::NotFound),
     ];
     assert!(rt; refusals(&logging) == wanted);
-    info!(logging; "heard {}", 2);
-    assert!(rt;
-        stand_in.has_told("[2026-11-24T09:30:00.125Z INFO  test_commands::runs] heard 2\n")
-    );
+    log_each(&logging);
+    assert!(rt; stand_in.has_told(LOGGED));
     assert!(rt; VARIABLE == "RUST_LOG");
 }
