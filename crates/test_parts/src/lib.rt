@@ -3,12 +3,11 @@
 //! Of a shard: a server that searches its entries gives the same replies to Join-Requests, the last round of a session, memory that is refused
 //! to a shard and to a journal, a run of 100,002 steps, and a trim in place.
 //!
-//! Of the crates round the shards: where gateways are, and late copies of frames (ns_front), what a server tells of itself over HTTP
-//! (ns_status), texts from outside, in pieces of every size and with each fault (ns_responses, ns_roster_place), the files of a record
-//! (ns_record_files), packet forwarders, over memory and over sockets (ns_forwarder_socket), and what the threads of `serve`
-//! share where none runs (ns_serve_parts, ns_serve_state, ns_serve_sockets, ns_serve_status): which datagrams are late copies, how many
-//! failures a worker waits out, which downlinks leave, what an earlier life left open, the times of a line, the address at which gateways
-//! are heard, the counts and other lines as they are logged, and the status over HTTP.
+//! Of the crates round the shards: where gateways are, and late copies of frames (ns_front), the files of a record (ns_record_files), packet
+//! forwarders, over memory and over sockets (ns_forwarder_socket), and what the threads of `serve` share where none runs
+//! (ns_serve_parts, ns_serve_state, ns_serve_sockets, ns_serve_status): which datagrams are late copies, how many failures a worker waits
+//! out, which downlinks leave, what an earlier life left open, the times of a line, the address at which gateways are heard, the counts and
+//! other lines as they are logged, and the status over HTTP.
 //!
 //! They call what those crates give in public, and stand here so that no crate is proved once more for its tests.
 #![tactic(auto)]
@@ -32,13 +31,7 @@ mod lates;
 #[cfg(test)]
 mod loopback;
 #[cfg(test)]
-mod places;
-#[cfg(test)]
 mod reads;
-#[cfg(test)]
-mod requests;
-#[cfg(test)]
-mod responses;
 #[cfg(test)]
 mod rounds;
 #[cfg(test)]
@@ -51,7 +44,5 @@ mod runs;
 mod served;
 #[cfg(test)]
 mod sockets;
-#[cfg(test)]
-mod texts;
 #[cfg(test)]
 mod trims;

@@ -1,5 +1,5 @@
-//! Reads the texts of joins as the server does, and puts what each comes to. Each line of the text is put again, and what it
-//! comes to below it:
+//! Reads the texts of joins, and those that go over HTTP, as the server does, and puts what each comes to. Each line of the text is
+//! put again, and what it comes to below it:
 //!
 //! - `> WORD TEXT` is a step: it asks, or says what the questions behind it are about (`worked.rt`). In its text `\r`, `\n`, `\t` and
 //!   `\xHH;` are a byte, `\(N PIECE)` is a piece so many times, and `OLD => NEW` is the last `text` with the first OLD replaced by NEW;
@@ -17,6 +17,7 @@ mod messages;
 mod rosters;
 mod runs;
 mod scarce;
+mod status;
 pub mod text;
 mod worked;
 

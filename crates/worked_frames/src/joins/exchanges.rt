@@ -1,15 +1,18 @@
 //! Exchanges with a join server over memory: each is answered the same however the response is cut, and a stream that ends or fails is
-//! told at each of its calls.
+//! told at each of its calls. The plain form of responses, and requests for the status, in pieces of each size.
 
 ghost use Rattle.std.specs.Prelude.{◌≡◌, ◌<◌, false};
 
 use crate::joins::messages::parts;
 use crate::joins::runs::Runs;
+use crate::joins::status::request;
 use crate::put::{put, put_made, put_number, show};
 use ns_exchange::HostName;
 use ns_joinclient::ask;
-use ns_types::Fuse;
+use ns_responses::Responses;
+use ns_types::{Fuse, read_all};
 use std::alloc::Global;
+use std::fmt::Write;
 use std::str;
 
 // More bytes than any exchange has.
@@ -115,6 +118,37 @@ fn both(mut asked: Asked<'_>, end: usize) -> String {
     whole
 }
 
+// The plain form of a response, or a request for the status, where a read moves at most so many bytes; or the fault.
+fn in_pieces(asked: Asked<'_>, is_request: bool, most: usize) -> String
+    requires { 0 < most }
+{
+    let mut out = String::new(asked.alloc);
+    if let Ok(input) = Vec::from_slice(asked.alloc, asked.response) {
+        let mut stream = Fuse::new(asked.alloc, input, most, None, None);
+        if is_request {
+            request(&mut stream, &mut out);
+        } else {
+            plain(asked.alloc, stream, &mut out);
+        }
+    }
+    out
+}
+
+// Puts the plain form of a stream's response, or the fault.
+fn plain(alloc: Global, stream: Fuse, out: &mut String)
+    requires { stream.failed ≡ false }
+{
+    match read_all(alloc, &mut Responses::new(stream)) {
+        Ok(bytes) => {
+            let text = str::from_utf8(bytes.as_slice()).unwrap_or("no text");
+            let _ = write!(out, "{text:?}");
+        }
+        Err(fault) => {
+            let _ = write!(out, "{fault:?}");
+        }
+    }
+}
+
 /// What is tried of exchanges.
 #[derive(Clone, Copy)]
 pub enum Tries {
@@ -126,6 +160,10 @@ pub enum Tries {
     FailedReads,
     /// Streams of which the first write fails, and of which the second one does.
     FailedWrites,
+    /// The plain form of a response, in pieces of each size.
+    Plain,
+    /// A request for the status, in pieces of 1 to 39 bytes.
+    Request,
 }
 
 // How many tries there are of a response of so many bytes.
@@ -135,6 +173,8 @@ fn count_of(tries: Tries, len: usize) -> usize {
         Tries::Ends => len,
         Tries::FailedReads => len.saturating_add(1),
         Tries::FailedWrites => 2,
+        Tries::Plain => len.saturating_add(1),
+        Tries::Request => 39,
     }
 }
 
@@ -145,6 +185,8 @@ fn tried(asked: Asked<'_>, tries: Tries, at: usize) -> String {
         Tries::Ends => both(asked, at),
         Tries::FailedReads => exchange(asked, 1, Some(at as u64), None),
         Tries::FailedWrites => exchange(asked, WHOLE, None, Some(at as u64)),
+        Tries::Plain => in_pieces(asked, false, at.saturating_add(1)),
+        Tries::Request => in_pieces(asked, true, at.saturating_add(1)),
     }
 }
 

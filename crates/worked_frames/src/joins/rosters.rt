@@ -6,6 +6,7 @@ use crate::joins::text::eui;
 use crate::put::{put, put_hex, put_made, put_number, show};
 use ns_roster::field::{eui_text, hex_bytes, list_at, net_id_text, text_at, value_of, whole_at};
 use ns_roster::{Device, Roster};
+use ns_roster_place::first_fault;
 use ns_types::{DevEui, DevNonce, JoinEui};
 use std::alloc::{AllocError, Global};
 use std::fmt::{Debug, Write};
@@ -42,6 +43,17 @@ pub fn roster(alloc: Global, text: &[u8], out: &mut String) {
     match Roster::read(alloc, text) {
         Ok(roster) => put_roster(alloc, &roster, out),
         Err(fault) => show(out, fault),
+    }
+}
+
+/// Puts what the first fault of a text is about, in words, and the fault.
+pub fn place(alloc: Global, text: &[u8], out: &mut String) {
+    match first_fault(alloc, text) {
+        Ok(Some(placed)) => {
+            let _ = write!(out, "{placed}: {}", placed.fault);
+        }
+        Ok(None) => put(out, "no fault"),
+        Err(_) => put(out, "no memory"),
     }
 }
 

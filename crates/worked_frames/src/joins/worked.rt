@@ -3,7 +3,7 @@
 use crate::joins::exchanges::{Asked, Tries};
 use crate::joins::scarce::Scarce;
 use crate::joins::text::bytes_of;
-use crate::joins::{devices, exchanges, messages, rosters, scarce};
+use crate::joins::{devices, exchanges, messages, rosters, scarce, status};
 use crate::put::{put, show};
 use ns_exchange::{AnsFault, AskFault};
 use ns_roster::field::hex_bytes;
@@ -174,11 +174,12 @@ fn decoded(alloc: Global, digits: &str) -> Vec<u8> {
     }
 }
 
-// Puts what a question about a roster or a message comes to.
+// Puts what a question about a roster, a message or the status comes to.
 fn read(word: &str, text: &str, asked: Asked<'_>, texts: &Texts, out: &mut String) {
     let (alloc, bytes, base) = (asked.alloc, texts.bytes.as_slice(), texts.base.as_slice());
     match word {
         "holds" => rosters::roster(alloc, bytes, out),
+        "place" => rosters::place(alloc, bytes, out),
         "find" | "knows" | "question" => match Roster::read(alloc, base) {
             Ok(roster) => about(alloc, word, text, &roster, out),
             Err(_) => put(out, "no roster"),
@@ -187,6 +188,7 @@ fn read(word: &str, text: &str, asked: Asked<'_>, texts: &Texts, out: &mut Strin
         "answer" => messages::answer(alloc, bytes, asked.transaction, out),
         "fronts" => messages::fronts(alloc, base, asked.transaction, out),
         "words" => words(out),
+        "status" => status::texts(alloc, out),
         _ => exchanged(word, asked, bytes, out),
     }
 }
@@ -200,7 +202,7 @@ fn about(alloc: Global, word: &str, text: &str, roster: &Roster, out: &mut Strin
     }
 }
 
-// Puts what a question about an exchange comes to.
+// Puts what a question about an exchange, a response or a request comes to.
 fn exchanged(word: &str, asked: Asked<'_>, bytes: &[u8], out: &mut String) {
     match word {
         "host" => exchanges::host(bytes, out),
@@ -209,6 +211,8 @@ fn exchanged(word: &str, asked: Asked<'_>, bytes: &[u8], out: &mut String) {
         "ends" => exchanges::each(asked, Tries::Ends, out),
         "failed_reads" => exchanges::each(asked, Tries::FailedReads, out),
         "failed_writes" => exchanges::each(asked, Tries::FailedWrites, out),
+        "plain" => exchanges::each(asked, Tries::Plain, out),
+        "request" => exchanges::each(asked, Tries::Request, out),
         "decided" => exchanges::decided(asked, bytes.len(), out),
         _ => put(out, "no question"),
     }
