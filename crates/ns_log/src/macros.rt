@@ -1,4 +1,4 @@
-//! The macros that write a line, of the module in which they stand.
+//! The macros that write a line, of the module in which they stand. `Log` is to be in scope there.
 
 /// Writes a line at `Level::Error`.
 #[macro_export]

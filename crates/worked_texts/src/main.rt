@@ -9,8 +9,8 @@
 //! - `joins`: rosters, messages to and from join servers, and exchanges with these; responses in plain form; requests for the status and
 //!   its texts.
 //!
-//! `embedding` alone runs the example of a program that embeds the server (`embedding.rt`): here, since a program of its own would be linked
-//! and compiled once more.
+//! `embedding` alone runs the example of a program that embeds the server (`embedding.rt`): here, since a program of its own would be
+//! linked and compiled once more.
 #![tactic(auto)]
 
 mod embedding;
