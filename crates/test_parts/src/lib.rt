@@ -1,10 +1,10 @@
 //! Tests of shards and of the crates round them, of what no text of a worked run can say.
 //!
-//! Of a shard: a server that searches its entries gives the same replies to Join-Requests, the last round of a session, memory that is refused
-//! to a shard and to a journal, a run of 100,002 steps, and a trim in place.
+//! Of a shard: a server that searches its entries gives the same replies to Join-Requests, the last round of a session, memory that is
+//! refused to a shard and to a journal, a run of 100,002 steps, and a trim in place.
 //!
-//! Of the crates round the shards: where gateways are, and late copies of frames (ns_front), the files of a record (ns_record_files), packet
-//! forwarders, over memory and over sockets (ns_forwarder_socket), and what the threads of `serve` share where none runs
+//! Of the crates round the shards: where gateways are, and late copies of frames (ns_front), the files of a record (ns_record_files),
+//! packet forwarders, over memory and over sockets (ns_forwarder_socket), and what the threads of `serve` share where none runs
 //! (ns_serve_parts, ns_serve_state, ns_serve_sockets, ns_serve_status): which datagrams are late copies, how many failures a worker waits
 //! out, which downlinks leave, what an earlier life left open, the times of a line, the address at which gateways are heard, the counts and
 //! other lines as they are logged, and the status over HTTP.

@@ -6,8 +6,8 @@
 //! - `records`: lives of records;
 //! - `forwarders`: messages of packet forwarders;
 //! - `frames`: questions to the crates for frames, from AES to the device for tests;
-//! - `joins`: rosters, messages to and from join servers, and exchanges with these; responses in plain form; requests for the status and
-//!   its texts.
+//! - `joins`: rosters, messages to and from join servers, and exchanges with these; responses in plain form; requests for the status
+//!   and its texts.
 //!
 //! `embedding` alone runs the example of a program that embeds the server (`embedding.rt`): here, since a program of its own would be
 //! linked and compiled once more.
