@@ -7,7 +7,7 @@ ghost use Rattle.ns_tally.specs.Tally.{AreNamed};
 
 use crate::trial::all_but;
 use ns_calls::Call;
-use ns_log::Log;
+use ns_log::{Discard, Log};
 use ns_outside::{Open, Receipt};
 use ns_roster::Roster;
 use ns_serve_parts::PLACES;
@@ -20,6 +20,7 @@ use std::marker::Brand;
 use std::sync::{Arc, Wait};
 use std::test::*;
 use test_device::worked::{ROSTER, roster_of};
+use test_parties::{Around, Ended};
 
 // What is done before it is looked whether a trim is due, and with how much memory that is.
 struct Turn {
@@ -192,7 +193,13 @@ fn trimmed<R: Wait + Log>(rt: &R, alloc: Global, case: &Case) -> Option<Numbers>
 /// Shards are trimmed when they are due, and a trim that was refused comes later.
 #[test]
 fn shards_are_trimmed(rt: HostRuntime) {
+    let ended = Ended::new(0);
+    let around = Around {
+        rt: &rt,
+        log: &Discard,
+        held: &ended.held,
+    };
     for case in &CASES {
-        assert!(rt; trimmed(&rt, rt.alloc(), case) == Some(case.left));
+        assert!(rt; trimmed(&around, rt.alloc(), case) == Some(case.left));
     }
 }
