@@ -5,7 +5,7 @@
 
 `rt check` leaves what it proved in `crates/CRATE/out/incremental`, in files that are written in the order of the proof: what a file took is
 the time since the one before it. Each row has the seconds by the clock, the crate, the function or lemma file, and the megabytes of its
-lowered body (`Lts`), which takes 1.3 to 2 s a megabyte. Where something was checked again since, or several checks ran beside each other
+lowered body (`Lts`), which takes 0.8 to 2 s a megabyte. Where something was checked again since, or several checks ran beside each other
 in one crate, rows are too long or missing; and the clock goes on where a check is halted or waits for a processor. A check in parts reads
 the libraries at the start of each, which the row of the first function there then has too. What else is not of one function has the name
 of its file.
