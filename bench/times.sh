@@ -9,7 +9,7 @@ set -euo pipefail
 top=$(cd "$(dirname "$0")/.." && pwd)
 copy=${TMPDIR:-/tmp}/bench_times
 crate=$copy/crates/bench_times
-libraries="ns_types ns_aes_cmac ns_roster ns_calls ns_exchange ns_joinclient ns_shard ns_tally ns_outside ns_server test_device hex"
+libraries="ns_types ns_aes_cmac ns_roster ns_calls ns_exchange ns_joinclient ns_shard ns_tally ns_outside ns_server ns_device hex"
 mkdir -p "$copy"
 exec 9> "$copy.lock"
 flock 9

@@ -11,7 +11,7 @@ import re
 import sys
 
 ROOT = os.path.dirname(os.path.dirname(os.path.abspath(__file__)))
-LIBRARIES = 'ns_types ns_roster ns_calls ns_acts ns_lines ns_kept ns_shard ns_runs ns_tally ns_outside ns_server test_device hex anyhow'
+LIBRARIES = 'ns_types ns_roster ns_calls ns_acts ns_lines ns_kept ns_shard ns_runs ns_tally ns_outside ns_server ns_device hex anyhow'
 # The example is printed last, and this is its first line.
 FIRST_LINE = 'shard 13, entry 0: ask '
 MAIN = """

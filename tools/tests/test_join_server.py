@@ -14,7 +14,7 @@ from live import (APP_KEY, HAS_PROGRAM, JOIN_EUI, LONGEST, PROGRAM, SLOT, ended,
 from device import Device, WrongAccept
 import join_server
 
-# A JoinReq and its answers, whose Join-Accepts and keys OpenSSL made: the vectors of crates/test_device.
+# A JoinReq and its answers, whose Join-Accepts and keys OpenSSL made: the vectors of crates/ns_device.
 ASKED_1 = ('{"DLSettings":"00","DevAddr":"49be7df1","DevEUI":"000000000000000d","MACVersion":"1.0.4","MessageType":"JoinReq",'
            '"PHYPayload":"0004030201040302010d000000000000000100e4b6745f","ProtocolVersion":"1.0",'
            '"ReceiverID":"0102030401020304","RxDelay":1,"SenderID":"000024","TransactionID":1601484516}')

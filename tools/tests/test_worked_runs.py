@@ -18,8 +18,8 @@ def code(*names):
 
 
 def recorded_steps():
-    """The steps of test_threads: texts, and names of those of test_device."""
-    texts = {name: json.loads(text) for name, text in re.findall(r'pub const (\w+): &str =\s+(".*");', code('test_device', 'src', 'worked.rt'))}
+    """The steps of test_threads: texts, and names of those of ns_device."""
+    texts = {name: json.loads(text) for name, text in re.findall(r'pub const (\w+): &str =\s+(".*");', code('ns_device', 'src', 'worked.rt'))}
     listed = code('test_threads', 'src', 'recorded.rt').partition('&[\n')[2].partition('];')[0]
     words = (line.strip().rstrip(',') for line in listed.splitlines())
     return [json.loads(word) if word.startswith('"') else texts[word] for word in words]

@@ -2,6 +2,7 @@
 
 use crate::stand_in::{LIMIT, SINCE_1970, SINCE_START, StandIn};
 use ns_commands::{Logging, Timed, VARIABLE, run_replay};
+use ns_device::worked::{ANSWER, CLOSE, JOIN, JOIN_2, ROSTER, UPLINK, UPLINK_2};
 use ns_log::{Discard, Log, debug, error, info, warn};
 use ns_output::Output;
 use ns_upkeep::compact;
@@ -12,7 +13,6 @@ use std::net::{Net, SocketAddr};
 use std::rt::Files;
 use std::time::{Clock, Duration};
 use std::{fs, io};
-use test_device::worked::{ANSWER, CLOSE, JOIN, JOIN_2, ROSTER, UPLINK, UPLINK_2};
 
 // A join and an uplink, each with a copy. What follows is what `tools/model.py` says of them.
 const STEPS: &[&str] = &[JOIN, JOIN_2, ANSWER, UPLINK, UPLINK_2, CLOSE];

@@ -2,13 +2,13 @@
 
 use ns_acts::Act;
 use ns_calls::{Answer, Call, shard_of_call};
+use ns_device::worked::{ROSTER, roster_of};
 use ns_lines::lines;
 use ns_roster::Roster;
 use ns_shard::Shard;
 use ns_steps::step;
 use std::alloc::Global;
 use std::sync::Arc;
-use test_device::worked::{ROSTER, roster_of};
 
 /// The roster of the device.
 pub fn roster(alloc: Global) -> Option<Arc<Roster>> {

@@ -5,11 +5,11 @@
 
 use crate::calls::{answers, call_of, roster};
 use ns_calls::{Call, Entry};
+use ns_device::worked::{ANSWER, JOIN, JOIN_2, UNKNOWN, UPLINK, UPLINK_2};
 use ns_runs::new_shards;
 use ns_shard::Shard;
 use ns_types::{BLOCKS, take_all};
 use std::alloc::Global;
-use test_device::worked::{ANSWER, JOIN, JOIN_2, UNKNOWN, UPLINK, UPLINK_2};
 
 /// Each step, the line of its answer, and how often memory is refused to it at least.
 pub type Steps = &'static [(&'static str, &'static str, u64)];

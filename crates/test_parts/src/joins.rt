@@ -3,6 +3,7 @@
 use self::Step::*;
 use crate::calls::{begins_with, roster};
 use ns_calls::{Answer, Call, Entry, Reply, shard_of_call};
+use ns_device::calls::{join, join_reply};
 use ns_lines::lines;
 use ns_plain::reply_to_join;
 use ns_roster::Roster;
@@ -10,7 +11,6 @@ use ns_runs::new_shards;
 use ns_shard::Shard;
 use ns_types::{DevEui, WindowName};
 use std::alloc::Global;
-use test_device::calls::{join, join_reply};
 
 // What comes to shard 13.
 #[derive(Clone, Copy)]

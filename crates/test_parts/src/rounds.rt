@@ -1,11 +1,11 @@
 //! Rounds up to the last one, of one device's state.
 
 use ns_calls::Outcome;
+use ns_device::calls::ticket;
+use ns_device::traffic::{answer, keys};
 use ns_sessions::{DeviceState, Recovery};
 use ns_types::Heard;
 use ns_views::{PhyView, view};
-use test_device::calls::ticket;
-use test_device::traffic::{answer, keys};
 
 // An unconfirmed uplink with counter 2 under the NwkSKey of `keys`.
 const FRAME: [u8; 17] = [

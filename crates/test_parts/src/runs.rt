@@ -6,15 +6,15 @@ use crate::calls::{act_of, begins_with, roster};
 use crate::growth::{NO_DEVICE, Steps, WORKED};
 use ns_acts::Step;
 use ns_calls::{Call, Reply};
+use ns_device::calls::{join, join_reply, ticket, uplink};
+use ns_device::traffic::roster_of;
+use ns_device::worked::{CLOSE, UPLINK};
 use ns_record::step_line;
 use ns_roster::Roster;
 use ns_runs::{Shards, TRIM_FROM, Taken};
 use ns_types::{BLOCKS, DevEui, WindowName, take_all};
 use std::alloc::Global;
 use std::sync::Arc;
-use test_device::calls::{join, join_reply, ticket, uplink};
-use test_device::traffic::roster_of;
-use test_device::worked::{CLOSE, UPLINK};
 
 // How many steps there are: a join, and 50,000 uplinks that are heard and closed.
 const STEPS: u32 = 100_002;

@@ -2,10 +2,10 @@
 
 use crate::calls::{call_of, roster};
 use ns_calls::{Entry, shard_of_call};
+use ns_device::worked::{ANSWER, JOIN, JOIN_2};
 use ns_runs::new_shards;
 use ns_shard::Shard;
 use std::alloc::Global;
-use test_device::worked::{ANSWER, JOIN, JOIN_2};
 
 // Makes the call of a step line at the shard of its device.
 fn is_made(alloc: Global, shard: &mut Shard, line: &str) -> bool {

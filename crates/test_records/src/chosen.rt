@@ -2,9 +2,9 @@
 
 use crate::life::{Fewer, Life};
 use ns_calls::{Call, Reply};
+use ns_device::calls::{join, join_reply, uplink};
 use ns_resume::RecordFault;
 use std::alloc::Global;
-use test_device::calls::{join, join_reply, uplink};
 
 // A device's uplink is heard, and its window is closed.
 fn send(life: &mut Life, counter: u32, confirmed: bool) -> Result<(), RecordFault> {

@@ -3,6 +3,7 @@
 use crate::rows::holds;
 use crate::worked::{ASKED, BASE, TORN, TORN_UP, roster_of};
 use ns_compact::Folder;
+use ns_device::worked::{CLOSE, CONFIRMED, JOIN, KEPT_ANSWER, ROSTER, UP};
 use ns_log::Discard;
 use ns_record_files::RecordFiles;
 use ns_resume::RecordFault;
@@ -11,7 +12,6 @@ use std::fs::File;
 use std::io::Read;
 use std::rt::Files;
 use std::{fs, io};
-use test_device::worked::{CLOSE, CONFIRMED, JOIN, KEPT_ANSWER, ROSTER, UP};
 
 /// The folder of a record, and its files: steps, `up` lines, and fewer steps while they are written.
 #[derive(Clone, Copy)]

@@ -4,14 +4,14 @@ use crate::folder::{Place, bytes_of, make, text_of};
 use crate::place;
 use crate::worked::{ASKED, BASE, roster_of};
 use ns_compact::{Folder, Keeper};
+use ns_device::logged::{Kept, Lines};
+use ns_device::worked::{CLOSE, CONFIRMED, JOIN, KEPT_ANSWER, ROSTER, UP};
 use ns_record_files::{RecordFiles, RecordWriter, Recorder, Upkeep};
 use std::alloc::{AllocError, Global};
 use std::fs::File;
 use std::rt::Files;
 use std::sync::Wait;
 use std::{fs, io};
-use test_device::logged::{Kept, Lines};
-use test_device::worked::{CLOSE, CONFIRMED, JOIN, KEPT_ANSWER, ROSTER, UP};
 
 // What stands in an answer again and again: no JSON, so the join fails.
 const TEXT: [u8; 1024] = [b'x'; 1024];

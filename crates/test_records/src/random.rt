@@ -2,10 +2,10 @@
 
 use crate::life::Life;
 use ns_calls::{Call, Reply};
+use ns_device::calls::{join, join_reply, uplink};
 use ns_resume::RecordFault;
 use ns_types::WindowName;
 use std::alloc::Global;
-use test_device::calls::{join, join_reply, uplink};
 
 const DEVICES: usize = 3;
 

@@ -4,11 +4,11 @@ use crate::folder::text_of;
 use crate::life::resumed;
 use crate::rows::holds;
 use crate::worked::{TORN, TORN_UP, roster_of};
+use ns_device::worked::{CLOSE, CONFIRMED, JOIN, KEPT_ANSWER, ROSTER, UP};
 use ns_resume::RecordFault::{NoFit, NoStep, UpDiffers, UpLonger};
 use ns_resume::{RecordFault, Resumed};
 use ns_types::{DevEui, WindowName};
 use std::alloc::Global;
-use test_device::worked::{CLOSE, CONFIRMED, JOIN, KEPT_ANSWER, ROSTER, UP};
 
 // The roster of the run with one more device before its own.
 const ADDED: &str =

@@ -5,13 +5,13 @@
 ghost use Rattle.std.specs.Prelude.{◌<◌};
 
 use crate::folder::text_of;
+use ns_device::worked::{ANSWER, JOIN, JOIN_2, ROSTER, UNKNOWN, roster_of};
 use ns_output::Output;
 use ns_replay::{ReplayFault, replay};
 use ns_roster::Roster;
 use ns_types::{BLOCKS, Fuse, Stream, take_all};
 use std::alloc::Global;
 use std::sync::Arc;
-use test_device::worked::{ANSWER, JOIN, JOIN_2, ROSTER, UNKNOWN, roster_of};
 
 // A join with its answer, two confirmed uplinks, their closings and a line that is refused; and what is written of them.
 const STEPS: &[&str] = &[

@@ -1,10 +1,10 @@
-//! Lines beside those of the worked run of `test_device`.
+//! Lines beside those of the worked run of `ns_device`.
 
+use ns_device::worked;
 use ns_resume::RecordFault;
 use ns_roster::Roster;
 use std::alloc::Global;
 use std::sync::Arc;
-use test_device::worked;
 
 /// The first 40 bytes of its uplink.
 pub const TORN: &str = "heard 010100000000000000a100000000000f42";

@@ -1,11 +1,11 @@
 //! Servers over loopback that hear packet forwarders: a join and a confirmed uplink, and a server that hears own datagrams too.
 
 use crate::trial::{Asked, Life, Sockets, Told, Trial, USUAL, tried};
+use ns_device::logged::Kept;
+use ns_device::parties::Side::Near;
+use ns_device::parties::Step::{Byte, Join, Nap, Pull, PushJoin, PushUplink, Receive, Uplink};
+use ns_device::parties::Want;
 use std::test::*;
-use test_device::logged::Kept;
-use test_parties::Side::Near;
-use test_parties::Step::{Byte, Join, Nap, Pull, PushJoin, PushUplink, Receive, Uplink};
-use test_parties::Want;
 
 // A device joins and sends a confirmed uplink. Its gateway's forwarder sends by one socket, and asks for downlinks by another.
 static FORWARDED: Trial = Trial {

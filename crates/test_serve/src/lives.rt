@@ -6,6 +6,13 @@ ghost use Rattle.std.specs.Arc.{arc_value};
 ghost use Rattle.ns_serve_shards.specs.Begun.{IsBegun};
 
 use crate::trial::{Asked, Life, Told, Trial, USUAL, tried};
+use ns_device::logged::Kept;
+use ns_device::parties::Side::Near;
+use ns_device::parties::Step::{
+    Acknowledged, Again, Byte, Copy, Ended, Filled, First, Join, Uplink,
+};
+use ns_device::parties::{ROSTER_B, Want, emptied, has_lines, write_record};
+use ns_device::worked::{CLOSE, CONFIRMED, JOIN, KEPT_ANSWER, ROSTER, UP, roster_of};
 use ns_log::Discard;
 use ns_record_files::RecordFiles;
 use ns_resume::RecordFault;
@@ -17,11 +24,6 @@ use std::fs::File;
 use std::rt::Files;
 use std::sync::Arc;
 use std::test::*;
-use test_device::logged::Kept;
-use test_device::worked::{CLOSE, CONFIRMED, JOIN, KEPT_ANSWER, ROSTER, UP, roster_of};
-use test_parties::Side::Near;
-use test_parties::Step::{Acknowledged, Again, Byte, Copy, Ended, Filled, First, Join, Uplink};
-use test_parties::{ROSTER_B, Want, emptied, has_lines, write_record};
 
 // The folder of the record, and what a kill would have left of it after the first acknowledgement.
 const FOLDER: &str = "test_serve_lives";

@@ -1,6 +1,10 @@
 //! What a server logs: the counts once a minute and at the end, and where memory was wanting before the first window.
 
 use crate::trial::{Asked, Life, Ran, Told, Trial, USUAL, run_logged, tried};
+use ns_device::logged::Kept;
+use ns_device::parties::Side::Near;
+use ns_device::parties::Step::{Ask, First, Frame, Stand};
+use ns_device::parties::{Ended, Want, contains};
 use ns_serve::ServeFault;
 use ns_types::BLOCKS;
 use std::net::{Net, TcpListener, TcpStream};
@@ -8,10 +12,6 @@ use std::sync::Wait;
 use std::test::*;
 use std::thread::Threads;
 use std::time::Clock;
-use test_device::logged::Kept;
-use test_parties::Side::Near;
-use test_parties::Step::{Ask, First, Frame, Stand};
-use test_parties::{Ended, Want, contains};
 
 // A frame of an address that no device has.
 const UNKNOWN: [u8; 16] = [

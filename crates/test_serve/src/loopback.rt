@@ -2,12 +2,12 @@
 //! JSON objects, windows closed one after the other, two join workers, and an output that fails.
 
 use crate::trial::{Asked, Life, Told, Trial, USUAL, tried};
+use ns_device::logged::Kept;
+use ns_device::parties::Side::{Far, Near};
+use ns_device::parties::Step::{Ask, Byte, Join, Later, Longest, Nap, Receive, Uplink, Within};
+use ns_device::parties::{ROSTER_B, Want};
 use ns_serve::ServeFault;
 use std::test::*;
-use test_device::logged::Kept;
-use test_parties::Side::{Far, Near};
-use test_parties::Step::{Ask, Byte, Join, Later, Longest, Nap, Receive, Uplink, Within};
-use test_parties::{ROSTER_B, Want};
 
 // A device behind two gateways joins and sends one uplink; then comes one byte.
 static ONE_DEVICE: Trial = Trial {

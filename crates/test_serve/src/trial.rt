@@ -4,6 +4,9 @@
 ghost use Rattle.std.specs.Prelude.{◌<◌, ◌≤◌, IfSome};
 
 use crate::lives::begun_of;
+use ns_device::logged::{Kept, Lines};
+use ns_device::parties::{Around, Ended, Party, Step, Want, Writer, join_server, local};
+use ns_device::worked::{ROSTER, roster_of};
 use ns_exchange::HostName;
 use ns_log::{Log, error};
 use ns_output::Output;
@@ -20,9 +23,6 @@ use std::test::*;
 use std::thread;
 use std::thread::Threads;
 use std::time::Clock;
-use test_device::logged::{Kept, Lines};
-use test_device::worked::{ROSTER, roster_of};
-use test_parties::{Around, Ended, Party, Step, Want, Writer, join_server, local};
 
 // What would stop a server from outside, where its options asked for that.
 #[derive(Clone, Copy)]

@@ -7,6 +7,8 @@ ghost use Rattle.ns_tally.specs.Tally.{AreNamed};
 
 use crate::trial::all_but;
 use ns_calls::Call;
+use ns_device::parties::{Around, Ended};
+use ns_device::worked::{ROSTER, roster_of};
 use ns_log::{Discard, Log};
 use ns_outside::{Open, Receipt};
 use ns_roster::Roster;
@@ -19,8 +21,6 @@ use std::alloc::{AllocError, Global};
 use std::marker::Brand;
 use std::sync::{Arc, Wait};
 use std::test::*;
-use test_device::worked::{ROSTER, roster_of};
-use test_parties::{Around, Ended};
 
 // What is done before it is looked whether a trim is due, and with how much memory that is.
 struct Turn {

@@ -2,6 +2,8 @@
 
 use crate::lives::{SHORT, resumed};
 use ns_calls::{Bytes, Call, Downlink, Reply};
+use ns_device::parties::{Writer, emptied, has_lines};
+use ns_device::worked::{ROSTER, roster_of};
 use ns_outside::{Downlinks, Receipt};
 use ns_roster::Roster;
 use ns_serve::{Begun, ServeOptions};
@@ -16,8 +18,6 @@ use std::rt::Files;
 use std::sync::Wait;
 use std::test::*;
 use std::time::Clock;
-use test_device::worked::{ROSTER, roster_of};
-use test_parties::{Writer, emptied, has_lines};
 
 // The folder of the record.
 const FOLDER: &str = "test_serve_written";

@@ -3,12 +3,12 @@
 use crate::written::Run;
 use itoa::Buffer;
 use ns_creator::DataCreator;
+use ns_device::traffic::keys;
+use ns_device::worked::{ANSWER, JOIN};
 use ns_secure::Dir;
 use ns_types::DevAddr;
 use std::alloc::{AllocError, Global};
 use std::test::*;
-use test_device::traffic::keys;
-use test_device::worked::{ANSWER, JOIN};
 
 /// What comes of a Join-Request and its answer.
 pub const JOINED: &str = "\

@@ -4,13 +4,13 @@ use crate::caller::{Caller, receipt_of};
 use crate::served::Work;
 use crate::trial::{Trial, with_workers};
 use crate::work::Told;
+use ns_device::traffic;
 use ns_outside::{Gate, Open, Receipt};
 use std::rt::Clock;
 use std::sync::atomic::{AtomicU64, Ordering};
 use std::test::*;
 use std::thread;
 use std::time::Duration;
-use test_device::traffic;
 
 /// A call of one shard is held while all other shards answer.
 #[test]

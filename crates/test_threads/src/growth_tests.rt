@@ -9,6 +9,7 @@ use crate::series::{DEVICE, Series, done_of};
 use crate::trial::{Outcome, Trial, is_made, on_server, shared_roster};
 use crate::work::Told;
 use ns_calls::{Call, Reply};
+use ns_device::traffic::{closing, join, join_reply, uplink};
 use ns_roster::Roster;
 use ns_shard::TrimFault;
 use ns_types::{BLOCKS, take_all};
@@ -17,7 +18,6 @@ use std::rt::Clock;
 use std::sync::{Arc, Wait};
 use std::test::*;
 use std::thread::Threads;
-use test_device::traffic::{closing, join, join_reply, uplink};
 
 // All memory that is left, taken.
 fn taken(alloc: Global) -> Option<Vec<Vec<u8>>> {

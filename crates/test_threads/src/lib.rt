@@ -1,4 +1,4 @@
-//! Tests that make the calls of whole runs (`traffic` of `test_device`) on one server from several threads, tests at the largest sizes that
+//! Tests that make the calls of whole runs (`traffic` of `ns_device`) on one server from several threads, tests at the largest sizes that
 //! the server is for, also of `ns_replay`, and those of the workers (`ns_workers`): gateway workers, join workers and closers.
 //!
 //! They call what those crates give in public, and stand here so that none of these is proved once more for its tests.

@@ -4,9 +4,9 @@ ghost use Rattle.std.specs.Prelude.{◌<◌};
 
 use crate::counter_tests::JOINED;
 use crate::written::{Run, is_written};
+use ns_device::worked::{ANSWER, JOIN, ROSTER};
 use std::alloc::{AllocError, Global};
 use std::test::*;
-use test_device::worked::{ANSWER, JOIN, ROSTER};
 
 // A `heard` line up to its Join-Request, and that up to the last byte of its MIC.
 const HEAD: &[u8] = b"heard 010100000000000000a100000000000f424033be27a005fc4a004b17";

@@ -5,13 +5,13 @@ ghost use Rattle.std.specs.Prelude.{◌<◌};
 use crate::caller::{Caller, receipt_of};
 use crate::trial::{Left, Trial, on_server};
 use ns_calls::{Answer, Call, Reply, shard_of_call};
+use ns_device::traffic::{closing, join, join_reply, roster, uplink};
 use ns_outside::Receipt;
 use ns_shard::Shard;
 use ns_types::WindowName;
 use std::alloc::{AllocError, Global};
 use std::sync::Arc;
 use std::test::*;
-use test_device::traffic::{closing, join, join_reply, roster, uplink};
 
 // How many calls are made.
 const CALLS: u32 = 100_000;

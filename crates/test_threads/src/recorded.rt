@@ -1,6 +1,6 @@
 //! The recorded run: its steps, and the lines that are written of them.
 
-use test_device::worked::{ANSWER, CLOSE, JOIN, JOIN_2, UNKNOWN, UPLINK, UPLINK_2};
+use ns_device::worked::{ANSWER, CLOSE, JOIN, JOIN_2, UNKNOWN, UPLINK, UPLINK_2};
 
 /// A device joins, two gateways hear an uplink of it, and it joins anew, with the later of two Join-Requests answered first.
 pub const STEPS: &[&str] = &[

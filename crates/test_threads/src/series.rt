@@ -2,7 +2,7 @@
 
 use crate::caller::{Caller, reply_to};
 use ns_calls::{Call, Reply};
-use test_device::traffic::{closing, join, join_reply, uplink};
+use ns_device::traffic::{closing, join, join_reply, uplink};
 
 /// The device of most tests, which is its shard too.
 pub const DEVICE: u32 = 13;

@@ -4,12 +4,12 @@ use crate::caller::{Caller, Serves, keep};
 use crate::gate_tests::{Turns, Until};
 use crate::trial::{Outcome, Trial, by_last, by_pass};
 use ns_calls::Call;
+use ns_device::traffic;
 use ns_outside::Receipt;
 use std::alloc::{AllocError, Global};
 use std::rt::Clock;
 use std::thread;
 use std::thread::Threads;
-use test_device::traffic;
 
 /// What a worker does.
 #[derive(Clone, Copy)]

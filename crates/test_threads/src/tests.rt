@@ -4,11 +4,11 @@ use crate::caller::{Caller, Ended, receipt_of};
 use crate::served::Work;
 use crate::trial::{Trial, with_workers};
 use ns_calls::Reply;
+use ns_device::traffic;
 use ns_outside::Receipt;
 use std::alloc::AllocError;
 use std::mem;
 use std::test::*;
-use test_device::traffic;
 
 /// 100 devices join, and each of four workers hears one frame of each.
 #[test]

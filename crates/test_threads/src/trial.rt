@@ -14,6 +14,7 @@ use crate::tests::{are_right, has_one, makes_one};
 use crate::trim_tests::Run;
 use crate::work::parted;
 use crate::workers::{Runs, run_on, tell_replies};
+use ns_device::traffic::roster_of;
 use ns_outside::Receipt;
 use ns_roster::Roster;
 use ns_server::{Naming, Pass, Server, SettleFault, Settled};
@@ -25,7 +26,6 @@ use std::rt::Clock;
 use std::sync::{Arc, Wait};
 use std::test::*;
 use std::thread::Threads;
-use test_device::traffic::roster_of;
 
 /// What a test does with a new server and the passes of its workers.
 #[derive(Clone, Copy)]

@@ -6,12 +6,12 @@ use crate::caller::{Caller, Ended, receipt_of};
 use crate::series::DEVICE;
 use crate::trial::{Trial, on_server};
 use ns_calls::{Answer, Call, Entry, Outcome};
+use ns_device::traffic::{answer, closing_of, join, join_end, join_reply, uplink};
 use ns_lines::lines;
 use ns_outside::Receipt;
 use ns_types::Key;
 use std::alloc::Global;
 use std::test::*;
-use test_device::traffic::{answer, closing_of, join, join_end, join_reply, uplink};
 
 // A step of a run: calls of the device, each from gateway 1 where nothing else is said.
 #[derive(Clone, Copy)]

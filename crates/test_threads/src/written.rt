@@ -2,13 +2,13 @@
 
 ghost use Rattle.std.specs.Prelude.{◌<◌};
 
+use ns_device::worked::ROSTER;
 use ns_output::Output;
 use ns_replay::replay;
 use ns_roster::Roster;
 use ns_types::Fuse;
 use std::alloc::{AllocError, Global};
 use std::sync::Arc;
-use test_device::worked::ROSTER;
 
 /// A roster to share. None where it is none, or there is no memory.
 pub fn read_roster(alloc: Global, text: &str) -> Option<Arc<Roster>> {

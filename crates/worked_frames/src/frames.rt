@@ -27,9 +27,9 @@ mod views;
 use crate::frames::answers::Answers;
 use crate::frames::ask::Ask;
 use crate::put::put_line;
+use ns_device::TestDevice;
 use ns_types::Heard;
 use std::alloc::Global;
-use test_device::TestDevice;
 
 // What a line asks.
 #[derive(Clone, Copy)]

@@ -1,5 +1,6 @@
 //! A runtime whose clock stands until a test sets it, and which logs into memory.
 
+use ns_device::logged::{Kept, Lines};
 use ns_log::{Level, Log};
 use std::alloc::{AllocError, Global};
 use std::fmt::Display;
@@ -8,7 +9,6 @@ use std::net::{Net, SocketAddr, TcpListener, TcpStream};
 use std::sync::Wait;
 use std::sync::atomic::{AtomicU64, Ordering};
 use std::time::{Clock, Duration};
-use test_device::logged::{Kept, Lines};
 
 /// What the wall clock tells always, in milliseconds since 1970: 2025-11-24 20:43:20.123.
 pub const WALL_MS: u64 = 1_764_017_000_123;

@@ -1,8 +1,8 @@
 //! The frames that the gateways of these tests hear, and the responses of their join server.
 
 use crate::written::text_of;
+use ns_device::worked::{ANSWER, HEAD};
 use std::alloc::Global;
-use test_device::worked::{ANSWER, HEAD};
 
 /// A Join-Request of device 0d with nonce 1 and transaction 1.
 pub const JOIN_1: [u8; 23] = [

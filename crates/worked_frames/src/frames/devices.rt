@@ -3,8 +3,8 @@
 use crate::frames::answers::Answers;
 use crate::frames::ask::Ask;
 use crate::frames::created::put_made;
+use ns_device::{DeviceFault, TestDevice};
 use ns_types::DevNonce;
-use test_device::{DeviceFault, TestDevice};
 
 /// The device of a DevEUI, a JoinEUI and an AppKey.
 pub fn device(ask: Ask) -> TestDevice {

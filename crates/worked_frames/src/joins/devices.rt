@@ -2,10 +2,10 @@
 
 use crate::joins::text::eui;
 use crate::put::{put, put_hex, show};
+use ns_device::{TestDevice, TestJoinServer};
 use ns_roster::field::hex_bytes;
 use ns_types::{DevEui, DevNonce, JoinEui, Key};
 use std::alloc::Global;
-use test_device::{TestDevice, TestJoinServer};
 
 // The greatest JoinNonce.
 const MAX_JOIN_NONCE: u32 = 0xFF_FFFF;

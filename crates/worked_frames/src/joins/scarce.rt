@@ -10,13 +10,13 @@ use crate::joins::messages::parts;
 use crate::joins::rosters::put_roster;
 use crate::put::put;
 use ns_calls::JoinAns;
+use ns_device::{ReplyFault, TestJoinServer};
 use ns_exchange::{AnsFault, AskFault, HostName};
 use ns_joinclient::ask;
 use ns_joinwire::{join_ans, join_req};
 use ns_roster::{Roster, RosterFault};
 use ns_types::{BLOCKS, DevNonce, Failed, Sink, Source, Stream, Ticket, take_all};
 use std::alloc::Global;
-use test_device::{ReplyFault, TestJoinServer};
 
 /// What is tried.
 #[derive(Drop)]

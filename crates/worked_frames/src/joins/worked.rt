@@ -5,12 +5,12 @@ use crate::joins::scarce::Scarce;
 use crate::joins::text::bytes_of;
 use crate::joins::{devices, exchanges, messages, rosters, scarce, status};
 use crate::put::{put, show};
+use ns_device::{TestDevice, TestJoinServer};
 use ns_exchange::{AnsFault, AskFault};
 use ns_roster::field::hex_bytes;
 use ns_roster::{Roster, RosterFault};
 use ns_types::Ticket;
 use std::alloc::Global;
-use test_device::{TestDevice, TestJoinServer};
 
 /// What the questions are about.
 #[derive(Drop)]

@@ -13,6 +13,7 @@ ghost use Rattle.ns_server.specs.Settled.{AreStates, MergesToLegal};
 use crate::embedding::workers::{round, trim_all};
 use anyhow::anyhow;
 use ns_calls::Answer;
+use ns_device::traffic::roster;
 use ns_lines::lines;
 use ns_outside::Receipt;
 use ns_roster::Roster;
@@ -23,7 +24,6 @@ use std::io;
 use std::marker::Brand;
 use std::sync::{Arc, Wait};
 use std::thread::Threads;
-use test_device::traffic::roster;
 
 /// How many devices there are. Each worker hears two uplinks of each.
 pub const DEVICES: u32 = 3;

@@ -4,6 +4,7 @@
 
 use crate::embedding::threads::DEVICES;
 use ns_calls::Call;
+use ns_device::traffic::{join, join_reply, uplink};
 use ns_outside::{Calls, Open, Receipt};
 use ns_server::{Naming, Server};
 use ns_shard::TrimFault;
@@ -11,7 +12,6 @@ use std::alloc::{AllocError, Global};
 use std::sync::Wait;
 use std::thread;
 use std::thread::Threads;
-use test_device::traffic::{join, join_reply, uplink};
 
 /// Lends the server to a thread for each pass, and waits for all of them. The passes come back; the receipts go behind the others.
 pub fn round<S: Calls<R> + Sync, R: Threads + Sync>(
