@@ -1,17 +1,20 @@
 #!/usr/bin/env python3
-"""Holds the model to the worked texts of frames, joins and HTTP that the program worked_texts makes.
+"""Holds the model to the worked texts of frames, joins, HTTP and packet forwarders that the program worked_texts makes.
 
     check_worked_texts.py [--stdout FILE]
 
-It reads crates/worked_texts/data/frames.txt and join_texts.txt. The models (model_frames.py, model_joins.py, model_http.py, model.py) compute
-what each question comes to. That is compared with what the program prints: the crate's file `stdout`, unless told otherwise, which the gate
-compares with the program. Of the texts of the status only the form is compared, with docs/FORMATS.
+It reads frames.txt, join_texts.txt and forwarders.txt of crates/worked_texts/data. The models (model_frames.py, model_joins.py, model_http.py,
+model.py, and for forwarders the bridge in Python) compute what each question or message comes to. That is compared with what the program
+prints: the crate's file `stdout`, unless told otherwise, which the gate compares with the program. Of the texts of the status only the form
+is compared, with docs/FORMATS.
 Prints how many answers there were and each that differs; status 1 where one does.
 """
 import os
+import re
 import sys
 
 import check_worked_runs
+import hostile_forwarders
 import model_frames
 import model_joins
 
@@ -70,6 +73,24 @@ def check_frames(printed, text):
         printed.differences += differences
 
 
+def check_forwarders(printed, lines):
+    """Compares what the program printed of the messages of packet forwarders."""
+    forwarders = hostile_forwarders.Model()
+    for line in lines:
+        message = re.fullmatch(r'([0-9]+) ([0-9a-f]*)(?: (.*))?', line)
+        if message is None:
+            printed.expect([line], line)
+            continue
+        whole = bytes.fromhex(message[2]) + model_joins.unescaped((message[3] or '').encode())
+        printed.expect([forwarders.line(int(message[1]), whole)], line)
+
+
+def whole_lines(path):
+    """The lines of a file, the last of which ends it."""
+    lines = lines_of(path)
+    return lines[:-1] if not lines[-1] else lines
+
+
 def place_of(lines, first):
     """Where a text begins in what was printed."""
     return lines.index(first)
@@ -78,13 +99,12 @@ def place_of(lines, first):
 def check(path):
     """The differences, and how many answers there were."""
     printed, found, count = lines_of(path), [], 0
-    for name in check_worked_runs.texts('joins'):
-        lines = lines_of(name)
-        if not lines[-1]:
-            lines.pop()
-        joins = Printed(printed, place_of(printed, lines[0]))
-        check_joins(joins, lines)
-        found, count = found + joins.differences, count + joins.answers
+    for kind, check_lines in (('joins', check_joins), ('forwarders', check_forwarders)):
+        for name in check_worked_runs.texts(kind):
+            lines = whole_lines(name)
+            texts = Printed(printed, place_of(printed, lines[0]))
+            check_lines(texts, lines)
+            found, count = found + texts.differences, count + texts.answers
     for name in check_worked_runs.texts('frames'):
         text = '\n'.join(lines_of(name))
         titles = [title for title, _ in model_frames.cases(text)]

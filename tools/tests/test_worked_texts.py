@@ -1,4 +1,4 @@
-"""The model beside the worked texts of frames, joins and HTTP."""
+"""The model beside the worked texts of frames, joins, HTTP and packet forwarders."""
 import contextlib
 import io
 import os
@@ -37,7 +37,7 @@ class WorkedTexts(unittest.TestCase):
         for old, new in ((b'\nH7 A3\n', b'\nH7 A2\n'), (b'\n307 H2\n', b'\n306 H2\n'), (b'A4 MICFailed', b'A4 MICFaile'), (b'\n39 ended\n', b'\n39 page\n'),
                          (b'refused, then 000024 0 1', b'refused, then 000024 1 1'), (b'"heardMs":null', b'"heardMs":0'),
                          (b'open_windows gauge', b'open_windows counter'), (b'hi01234567890123456789a', b'hi0123456789012345678'),
-                         (b'= 09ef6904 09ef6904\nWanted', b'= 09ef6905 09ef6904\nWanted')):
+                         (b'\n02070801 F6\n', b'\n02070801 F5\n'), (b'\n- TooLate\n', b'\n- TooEarly\n'), (b'= 09ef6904 09ef6904\nWanted', b'= 09ef6905 09ef6904\nWanted')):
             text = text_of(STDOUT)
             self.assertIn(old, text)
             with self.subTest(old=old), tempfile.NamedTemporaryFile() as file:
