@@ -25,7 +25,7 @@ use ns_record_files::Upkeep;
 use ns_roster::Roster;
 use ns_serve::{Begun, EndOfInput, ServeOptions, Stop, WaitingWriter, serve};
 use ns_types::OverStd;
-use ns_upkeep::{compact, keeper};
+use ns_upkeep::{compact, keeper, recover};
 use ns_words::{Asked, Recorded, read_words};
 use std::fs::{File, OpenOptions};
 use std::io;
@@ -56,6 +56,11 @@ fn begin<R: Files<File = File> + AllocGlobal, L: Log>(
             }
         };
     };
+    let files = open_record(rt, log, folder, record.sync)?;
+    match Begun::resume(log, alloc, roster, files) {
+        Ok(begun) => return Ok(begun),
+        Err(fault) => recover(rt, log, folder, roster, fault)?,
+    }
     let files = open_record(rt, log, folder, record.sync)?;
     match Begun::resume(log, alloc, roster, files) {
         Ok(begun) => Ok(begun),
