@@ -175,10 +175,10 @@ class Seen:
 
     def note(self, start, end):
         """Notes the time of what was written up to a place."""
-        if self.rows and self.rows[-1][0] <= start:
-            start = max(start, self.rows[-1][1])
-        elif self.rows:
+        if self.rows and start < self.rows[0][0]:
             self.clear()            # another file, or one that was cut
+        elif self.rows:
+            start = max(start, self.rows[-1][1])
         if end > start:
             self.rows.append((start, end, time.time_ns() // 1_000_000))
             self.file.write('%d %d %d\n' % self.rows[-1])
