@@ -6,6 +6,8 @@
 //! record and the texts of faults, and on `ns_log` for log lines.
 #![tactic(auto)]
 
+mod checking;
 mod folder;
 
+pub use checking::check;
 pub use folder::{compact, keeper, recover};
