@@ -16,6 +16,8 @@
 #[cfg(test)]
 mod addresses;
 #[cfg(test)]
+mod alone;
+#[cfg(test)]
 mod calls;
 #[cfg(test)]
 mod counters;
