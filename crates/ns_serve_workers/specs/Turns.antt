@@ -1,12 +1,12 @@
 -- What the threads of a server do with their passes.
-use Rattle.std.specs.Prelude.{ℕ, ◌≡◌, ◌<◌, ◌≤◌, List, length, Option, None, Some, slice_get}
+use Rattle.std.specs.Prelude.{ℕ, ◌≡◌, ◌<◌, ◌≤◌, All, List, length, Option, None, Some, slice_get}
 use Rattle.std.specs.Option.{option_map}
 use Rattle.ns_types.specs.declared.ticket.Ticket.{Ticket}
 use Rattle.ns_calls.specs.declared.call.Outcome.{Outcome}
 use Rattle.ns_roster.specs.Network.{Network}
 use Rattle.ns_output.specs.declared.output.Output.{Output}
 use Rattle.ns_outside.specs.declared.receipt.Receipt.{Receipt}
-use Rattle.ns_outside.specs.Notice.{Notice}
+use Rattle.ns_outside.specs.Notice.{Notice, call_replied}
 use Rattle.ns_tally.specs.Tally.{none_made}
 use Rattle.ns_workers.specs.declared.gateway.Served.{Served}
 use Rattle.ns_outside.specs.declared.job.CloseJob.{CloseJob}
@@ -25,26 +25,31 @@ use Rattle.ns_serve_parts.specs.Ends.{serve_fault}
 abbrev pub Anything : {X : Type 0} → X → Type 0
 Anything x = Unit {0}
 
--- there are receipts, each right for its call, by which the counts of a pass rose
-pub record HasReceipts (net : Network) (old new : List ℕ) : Type 0 where
+-- The counts of a pass rose by these receipts alone, each right for its call, and each of which the monitor was told. A monitor of which
+-- nothing is known may have been told of any: so this says that no call was made of which it was not told.
+pub record HasReceipts (net : Network) (has_heard : Notice → Type 0) (old new : List ℕ) : Type 0 where
   pub receipts : List Receipt
   pub answered : AreAnswered net receipts
+  pub told : All (λ r. has_heard (call_replied r)) receipts
   pub counted : RisesByReceipts old new receipts
 
 -- the same of receipts that are of the closings of these jobs, in order
-pub record HasClosed (net : Network) (jobs : List CloseJob) (old new : List ℕ) : Type 0 where
+pub record HasClosed (net : Network) (has_heard : Notice → Type 0) (jobs : List CloseJob) (old new : List ℕ) : Type 0 where
   pub receipts : List Receipt
   pub closed : calls_made receipts ≡ closings jobs
   pub answered : AreAnswered net receipts
+  pub told : All (λ r. has_heard (call_replied r)) receipts
   pub counted : RisesByReceipts old new receipts
 
--- what a gateway worker did from its start to its end: what comes of the turns of some datagrams (nothing is said of those it was given)
+-- What a gateway worker did from its start to its end: what comes of the turns of some datagrams (nothing is said of those it was given).
+-- The counts of its pass are those of receipts of which the monitor was told, as it was of each refusal and of each call that was dropped.
 pub record IsServed (net : Network) (output : Output) (has_heard : Notice → Type 0) (window_ms : ℕ) (pass : List ℕ) (fault : Option ServeFault) : Type 0 where
   pub served : Served
   pub serves : ServesAll net output has_heard Anything window_ms None None (effects none_made None None None) (effects pass None None None) served
   pub ended : fault ≡ option_map serve_fault served.fault
 
--- what a join worker did from its start to its end: what comes of answers to some tickets (nothing is said of those it was given)
+-- What a join worker did from its start to its end: what comes of answers to some tickets (nothing is said of those it was given). The
+-- counts of its pass are those of receipts of which the monitor was told, as it was of each ticket without an answer.
 pub record IsAnswered (net : Network) (has_heard : Notice → Type 0) (HasOutcome : Ticket → Outcome → Type 0) (pass : List ℕ) (fault : Option ServeFault) : Type 0 where
   pub joined : Joined
   pub answers : Answers net has_heard (IsOutcome has_heard Anything HasOutcome) None None (effects none_made None None None) (effects pass None None None) joined

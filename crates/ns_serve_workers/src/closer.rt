@@ -1,7 +1,8 @@
 //! What the closer does in a turn: windows are closed as they become due, and their lines written.
-ghost use Rattle.std.specs.Prelude.{◌≡◌, ◌≢◌, ◌+◌, ◌^◌, ◌<◌, ◌≤◌, ◌⊎◌, ◌↔◌, ◌++◌, List, Some, None, true, false, IsNone, IsTrue, IfOk, slice_get, vec_len};
+ghost use Rattle.std.specs.Prelude.{◌≡◌, ◌≢◌, ◌+◌, ◌^◌, ◌<◌, ◌≤◌, ◌⊎◌, ◌↔◌, ◌++◌, List, All, Some, None, true, false, IsNone, IsTrue, IfOk, slice_get, vec_len};
 ghost use Rattle.ns_outside.specs.declared.receipt.Receipt.{Receipt as receipt};
 ghost use Rattle.ns_outside.specs.declared.job.CloseJob.{CloseJob as close_job};
+ghost use Rattle.ns_outside.specs.Notice.{call_replied};
 ghost use Rattle.ns_workers.specs.Closing.{AreAnswered, AreClosed, calls_made, closings};
 ghost use Rattle.ns_workers.specs.Counts.{RisesByReceipts};
 ghost use Rattle.ns_workers.specs.Lines.{AppendsLines, AppendsLinesFront};
@@ -19,7 +20,7 @@ use ns_serve_sockets::Later;
 use ns_serve_state::{State, now_ms};
 use ns_serve_streams::{Held, Output, put_under_lock};
 use ns_types::Sink;
-use ns_workers::{Ended, ListedJobs, Shared, run_closer};
+use ns_workers::{Ended, ListedJobs, Shared, run_closer_into};
 use std::alloc::{AllocError, Global};
 use std::sync::{Mutex, Wait};
 use std::time::{Clock, Duration};
@@ -203,11 +204,12 @@ fn close_all<S: Calls<R>, R: Wait + Clock + Log, G: Gate<R>, M: Monitor<R>>(
     ensures closed { (taken rest : List close_job) × (jobs.items ≡ taken ++ rest) × AreClosed result.fault result.receipts.items taken }
     ensures all { result.fault ≡ None → vec_len jobs < 2 ^ 32 → calls_made result.receipts.items ≡ closings jobs.items }
     ensures answered { AreAnswered S.roster result.receipts.items }
+    ensures told { All (λ r. M.has_heard shared.now.monitor.now (call_replied r)) result.receipts.items }
     ensures counted { RisesByReceipts (S.made pass.old) (S.made pass.new) result.receipts.items }
 {
     let limit = u32::try_from(jobs.len()).unwrap_or(u32::MAX);
     let mut jobs = ListedJobs::new(jobs, false);
-    run_closer(receipts, shared, pass, timer, &mut jobs, down, held, limit)
+    run_closer_into(receipts, shared, pass, timer, &mut jobs, down, held, limit)
 }
 
 /// Logs for what the closer had no memory, and gives the fault.
@@ -284,8 +286,8 @@ pub(crate) fn close_and_write<
 ) -> Option<ServeFault>
     requires { closer.old.held.failed ≡ false }
     ensures sound { closer.new.held.failed ≡ false }
-    ensures receipts { HasReceipts S.roster (S.made pass.old) (S.made pass.new) }
-    ensures closed { result ≡ None → vec_len jobs < 2 ^ 32 → HasClosed S.roster jobs.items (S.made pass.old) (S.made pass.new) }
+    ensures receipts { HasReceipts S.roster (M.has_heard around.now.monitor.now) (S.made pass.old) (S.made pass.new) }
+    ensures closed { result ≡ None → vec_len jobs < 2 ^ 32 → HasClosed S.roster (M.has_heard around.now.monitor.now) jobs.items (S.made pass.old) (S.made pass.new) }
 {
     let (rt, state) = (around.rt, around.state);
     let timer = SinceMoment::now(rt, state);

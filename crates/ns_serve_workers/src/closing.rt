@@ -1,5 +1,6 @@
 //! The closer, from its start to its end.
 ghost use Rattle.std.specs.Prelude.{◌≡◌, false};
+ghost use Rattle.ns_tally.specs.Tally.{none_made};
 ghost use Rattle.ns_serve_workers.specs.Turns.{HasReceipts};
 
 use crate::around::Around;
@@ -48,7 +49,9 @@ impl<
     A: AfterTurn<R> + Drop,
 > Lead<Back<S, R>> for CloserKit<'c, 'a, S, R, G, M, W, A> {
     // The closer, from its start to its end. Where a thread could not be made, all others are to stop.
-    fn lead(self, is_whole: bool) -> Back<S, R> {
+    fn lead(self, is_whole: bool) -> Back<S, R>
+        ensures { HasReceipts S.roster (M.has_heard self.around.now.monitor.now) none_made (S.made result.pass) }
+    {
         let CloserKit {
             around,
             own,
@@ -92,7 +95,7 @@ fn close_turn<S: Calls<R>, R: Wait + Clock + Log, G: Gate<R>, M: Monitor<R>, W: 
 ) -> Result<bool, ServeFault>
     requires { closer.old.held.failed ≡ false }
     ensures sound { closer.new.held.failed ≡ false }
-    ensures receipts { HasReceipts S.roster (S.made pass.old) (S.made pass.new) }
+    ensures receipts { HasReceipts S.roster (M.has_heard around.now.monitor.now) (S.made pass.old) (S.made pass.new) }
 {
     let (rt, state) = (around.rt, around.state);
     if state.is_over() {
@@ -121,7 +124,7 @@ fn close_turns<
     after: &mut A,
 ) -> Option<ServeFault>
     requires { closer.old.held.failed ≡ false }
-    ensures { HasReceipts S.roster (S.made pass.old) (S.made pass.new) }
+    ensures { HasReceipts S.roster (M.has_heard around.now.monitor.now) (S.made pass.old) (S.made pass.new) }
 {
     for _turn in around.rt.forever() {
         match close_turn(around, pass, closer) {
@@ -148,7 +151,7 @@ fn close_to_end<
     closes: &Receiver<CloseJob>,
     mut after: A,
 ) -> Option<ServeFault>
-    ensures { HasReceipts S.roster (S.made pass.old) (S.made pass.new) }
+    ensures { HasReceipts S.roster (M.has_heard around.now.monitor.now) (S.made pass.old) (S.made pass.new) }
 {
     match Closer::new(around.state, closes) {
         Ok(mut closer) => close_turns(around, pass, &mut closer, &mut after),

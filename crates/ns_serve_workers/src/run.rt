@@ -2,7 +2,6 @@
 ghost use Rattle.std.specs.Prelude.{◌≡◌, ◌+◌, ◌⊎◌, ◌++◌, ◌∷◌, ◌<◌, ◌^◌, [], All, vec_len, true, Some, Ok, Err, IsNone, IfOk, IfSome};
 ghost use Rattle.ns_tally.specs.Tally.{none_made};
 ghost use Rattle.ns_serve_parts.specs.Ends.{IsWorse};
-ghost use Rattle.ns_serve_workers.specs.Turns.{HasReceipts};
 
 use crate::around::Around;
 use crate::closing::{AfterTurn, CloserKit};
@@ -29,8 +28,6 @@ use std::time::Clock;
 pub struct Ends<S: Calls<R>, R> {
     passes: Vec<S::Pass>,
     fault: Option<ServeFault>,
-    // Each pass rose by receipts.
-    ghost receipts: { All (λ p. ∥ HasReceipts S.roster none_made (S.made p) ∥₁) passes.items },
 }
 
 impl<S: Calls<R>, R> Ends<S, R> {
@@ -228,7 +225,6 @@ where
     S::Pass: Send,
     requires count { vec_len passes ≡ options.now.workers + options.now.join_workers + 1 }
     requires unused { All (λ p. S.made p ≡ none_made) passes.items }
-    ensures { IfOk result (λ ends. All (λ p. ∥ HasReceipts S.roster none_made (S.made p) ∥₁) ends.passes.items) }
 {
     let prepared = prepare::<S, R>(around.rt, around.state, passes, options, windows, tickets)?;
     Ok(run_prepared(around, prepared, after, upkeep))
@@ -262,6 +258,7 @@ where
         gateways,
         teller: state.is_told().then_some(HelperKit::Teller),
         keeper: state.is_recorded().then_some(HelperKit::Keeper(upkeep)),
+        writer: state.is_recorded().then_some(HelperKit::Writer),
     };
     let closer = CloserKit {
         around,

@@ -3,11 +3,10 @@ ghost use Rattle.std.specs.Prelude.{◌≡◌};
 ghost use Rattle.std.specs.Duration.{as_nanos};
 ghost use Rattle.std.specs.Option.{option_map};
 ghost use Rattle.ns_exchange.specs.HostText.{host_text};
-ghost use Rattle.ns_tally.specs.Tally.{none_made};
 ghost use Rattle.ns_workers.specs.Asking.{HasOutcome};
 ghost use Rattle.ns_serve_streams.specs.declared.join_server.ToJoinServer.{ToJoinServer as to_join_server};
 ghost use Rattle.ns_serve_parts.specs.Ends.{serve_fault};
-ghost use Rattle.ns_serve_workers.specs.Turns.{HasReceipts, IsServed, IsAnswered};
+ghost use Rattle.ns_serve_workers.specs.Turns.{IsServed, IsAnswered};
 
 use crate::around::Around;
 use crate::kits::{GatewayEnds, GatewayKit, PassKit};
@@ -26,12 +25,11 @@ use std::net::{Net, TcpListener, TcpStream};
 use std::sync::Wait;
 use std::time::Clock;
 
-/// A pass that came back, which rose by receipts, and why its worker ended early.
+/// A pass that came back, and why its worker ended early.
 #[derive(Drop)]
 pub(crate) struct Back<S: Calls<R>, R> {
     pub pass: S::Pass,
     pub fault: Option<ServeFault>,
-    ghost receipts: { ∥ HasReceipts S.roster none_made (S.made pass) ∥₁ },
 }
 
 /// Logs why a worker ends early.

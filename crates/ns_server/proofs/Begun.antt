@@ -96,10 +96,10 @@ trim_told net k s (Ok d) is mark entries = record { before = s; is_state = is; m
 trim_told net k s (Err why) is mark entries = tt
 
 -- a shard with which a server begins may be put under its lock, with a book that has counted nothing
-pub kept_first : {B : Type 0} (net : Network) (begun : ℕ → State) (k : ℕ) (s : State) (book : ShardBook B) → IsPlaced net begun → s ≡ begun k → IsState s → shard_of_book book ≡ k → total_of_book book ≡ 0 →
+pub kept_first : {B : Type 0} (net : Network) (begun : ℕ → State) (k : ℕ) (s : State) (book : ShardBook B) → ((begun k).roster ≡ net) × ((begun k).index ≡ k) → s ≡ begun k → IsState s → shard_of_book book ≡ k → total_of_book book ≡ 0 →
     IsKept net (begun k) k s book
 kept_first net begun k s book placed is state own none = record {
-  state = record { set_up = ap (λ (q : State). q.roster) is ∙ (placed k).0; index = ap (λ (q : State). q.index) is ∙ (placed k).1; state = state };
+  state = record { set_up = ap (λ (q : State). q.roster) is ∙ placed.0; index = ap (λ (q : State). q.index) is ∙ placed.1; state = state };
   book_of = own;
   counted = omega (arith, none, ap (λ (q : State). q.made) is);
   began = subst (λ q. BeganAs q s) is (began_self s);

@@ -6,6 +6,7 @@ ghost use Rattle.ns_calls.specs.Shards.{shard_of_call};
 ghost use Rattle.ns_kept.specs.Bound.{most_kept};
 ghost use Rattle.ns_shard.specs.State.{IsState, after_call, after_trim, dropped, finds_open};
 ghost use Rattle.ns_shard.specs.declared.trim.TrimFault.TheVariants.{Full};
+ghost use Rattle.ns_tally.specs.Tally.{shard_of_book, total_of_book};
 ghost use Rattle.ns_outside.specs.Answered.{HasHistory, RisesAt};
 ghost use Rattle.ns_server.specs.Receipts.{receipt_for, AnswersFrom};
 ghost use Rattle.ns_server.specs.Kept.{IsStateOf};
@@ -78,9 +79,44 @@ impl<B: Naming, const K: usize> Kept<B, K> {
         self.shard.made()
     }
 
-    /// Makes a call of the shard, counts its entry in the book and in the pass, and puts its receipt in the place of another. Where a
-    /// growth was refused nothing has changed. A closing or a join answer that finds its window or ticket open takes no memory.
-    pub fn step(
+    /// The shard with which the server `B` begins at place `K`, and the book of its ledger, in which nothing is counted yet. A `Server`
+    /// puts each of its sixteen shards so under a lock.
+    pub fn new(shard: Shard, book: ShardBook<B>) -> Self
+        requires begun { shard ≡ B.begun K }
+        requires placed { ((B.begun K).roster ≡ B.roster) × ((B.begun K).index ≡ K) }
+        requires book { (shard_of_book book ≡ K) × (total_of_book book ≡ 0) }
+        ensures { result ≡ shard }
+    {
+        let _made = shard.made();
+        Kept {
+            shard,
+            book,
+            apart: [0; 16],
+        }
+    }
+
+    /// Makes a call of the shard, and counts its entry in the book and in the pass. `NoMemory` (`AllocError`) where a growth was refused:
+    /// then nothing has changed. A closing or a join answer that finds its window or ticket open takes no memory.
+    pub fn step(&mut self, pass: &mut Pass<B>, call: Call) -> Result<Receipt, AllocError>
+        requires { shard_of_call call ≡ K }
+        ensures entry { OnOk result (self.new ≡ after_call self.old call) }
+        ensures receipt { IfOk result (λ r. r ≡ receipt_for self.old call) }
+        ensures counted { OnOk result (RisesAt K pass.old pass.new) }
+        ensures err { OnErr result ((self.new ≡ self.old) × (pass.new ≡ pass.old)) }
+        ensures open { finds_open self.old call ≡ true → IsOk result }
+        ensures state { IsStateOf B.roster K self.new }
+        ensures behind { OnOk result (slice_index pass.old K ≤ self.old.made) }
+        ensures answered { IfOk result (λ r. HasHistory B.roster K r) }
+        ensures begun { IfOk result (AnswersFrom B.roster (B.begun K) K) }
+    {
+        let mut receipt = Receipt::empty();
+        self.step_into(pass, &call, &mut receipt)?;
+        Ok(receipt)
+    }
+
+    /// Makes a call as `step` does, and puts its receipt in the place of another, which stays where a growth was refused. A receipt is
+    /// large: a caller of many calls moves none so.
+    pub fn step_into(
         &mut self,
         pass: &mut Pass<B>,
         call: &Call,

@@ -2,6 +2,7 @@
 
 ghost use Rattle.std.specs.Prelude.{◌≡◌, ◌<◌, slice_index};
 ghost use Rattle.ns_types.specs.Identity.{shard_count};
+ghost use Rattle.ns_tally.specs.Tally.{none_made};
 
 use crate::names::Naming;
 use ns_tally::Shares;
@@ -29,6 +30,18 @@ impl<B: Naming> Model for Pass<B> {
 }
 
 impl<B: Naming> Pass<B> {
+    /// A pass with which nothing was made yet, of one part of the shares.
+    pub fn new(shares: Shares<B>) -> Pass<B>
+        requires part { shares.parts ≡ 1 }
+        requires none { shares.amounts ≡ none_made }
+        ensures { result ≡ none_made }
+    {
+        Pass {
+            counts: [0; PLACES],
+            shares,
+        }
+    }
+
     /// How many entries of the shard were made with this pass.
     pub fn made(&self, shard: u8) -> u64
         requires { shard < shard_count }

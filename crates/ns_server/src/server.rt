@@ -103,7 +103,7 @@ fn run<B: Naming, const K: usize, R: Wait, G: Gate<R>>(
 {
     let mut kept = lock.lock(rt);
     gate.visit(rt, shard_of_call(call), kept.made());
-    kept.step(pass, call, receipt)?;
+    kept.step_into(pass, call, receipt)?;
     gate.made(rt, receipt);
     Ok(())
 }
@@ -156,12 +156,7 @@ fn new_lock<B: Naming, const K: usize>(
     ensures { AreFirst B.roster B.begun K shards.new.items }
 {
     let shard = shards.pop().unwrap();
-    let _made = shard.made();
-    Mutex::new(Kept {
-        shard,
-        book,
-        apart: [0; 16],
-    })
+    Mutex::new(Kept::new(shard, book))
 }
 
 // Puts passes with which nothing was made yet, where there is room for them.
@@ -174,10 +169,7 @@ fn put_passes<B: Naming>(passes: &mut Vec<Pass<B>>, mut shares: Shares<B>, worke
     ensures made { All (λ p. p ≡ none_made) passes.new.items }
 {
     for _i in 0..workers {
-        passes.push_reserved(Pass {
-            counts: [0; PLACES],
-            shares: shares.split_one(),
-        });
+        passes.push_reserved(Pass::new(shares.split_one()));
     }
     drop(shares);
 }

@@ -10,6 +10,7 @@ use Rattle.ns_outside.specs.declared.job.CloseJob.{CloseJob}
 use Rattle.ns_outside.specs.declared.fault.WorkerFault.{WorkerFault}
 use Rattle.ns_outside.specs.declared.fault.WorkerFault.TheVariants.{NoMemory}
 use Rattle.ns_outside.specs.Given.{Given, Gave}
+use Rattle.ns_workers.specs.declared.closer.Ended.{Ended}
 
 -- the call of a job: the closing of its window
 abbrev pub closing : CloseJob → Call
@@ -44,3 +45,10 @@ pub record Closes (has_come : ℕ → Type 0) (limit : ℕ) (old new : Option (G
   pub gave : Gave (length receipts ≡ limit) old new taken fault
   pub waited : All (λ j. has_come j.due) taken
   pub closed : AreClosed fault receipts taken
+
+-- a closer ended with K1 and no receipts: it took no job, and made no call
+pub record NothingDone (old new : Option (Given CloseJob)) (before after : List ℕ) (ended : Ended) : Type 0 where
+  pub no_memory : ended.fault ≡ Some NoMemory
+  pub no_receipts : ended.receipts.items ≡ []
+  pub no_job : new ≡ old
+  pub no_call : after ≡ before

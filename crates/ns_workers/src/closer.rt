@@ -1,7 +1,7 @@
 //! Closes windows as they become due.
 ghost use Rattle.std.specs.Prelude.{◌≡◌, ◌≢◌, ◌+◌, ◌<◌, ◌≤◌, [], None, Some, false, true, option_to_list, take, vec_len, vec_capacity, All, OnOk, OnErr};
 ghost use Rattle.ns_outside.specs.Answered.{RisesAt};
-ghost use Rattle.ns_workers.specs.Closing.{Closes, AreAnswered, HasAnswer, closing};
+ghost use Rattle.ns_workers.specs.Closing.{Closes, AreAnswered, HasAnswer, NothingDone, closing};
 ghost use Rattle.ns_workers.specs.Closed.{ClosesOne, ClosesAll};
 ghost use Rattle.ns_workers.specs.Counts.{RisesByReceipts};
 ghost use Rattle.ns_workers.specs.Effects.{effects};
@@ -17,7 +17,7 @@ use ns_outside::{
     Calls, CloseJob, Downlinks, Gate, JobSource, Monitor, Next, Receipt, Timer, WorkerFault,
 };
 use ns_types::{Failed, Sink};
-use std::alloc::AllocError;
+use std::alloc::{AllocError, Global};
 
 /// What a closer has done: the receipts of its closings, in order, and why it ended early.
 #[derive(Drop)]
@@ -147,6 +147,7 @@ fn close_all<
         ClosesAll S.roster shared.now.output (M.has_heard shared.now.monitor.now) (T.has_come timer.now) limit
         (J.given jobs.old) (J.given jobs.new) before after (take count.new receipts.new.items) result }
     ensures same { J.all jobs.new ≡ J.all jobs.old }
+    ensures room { vec_capacity receipts.new ≡ vec_capacity receipts.old }
     ensures sound { result ≢ Some WorkerFault.SinkFailed → W.has_failed sink.new ≡ false }
     ensures failed { result ≡ Some WorkerFault.SinkFailed → W.has_failed sink.new ≡ true }
 {
@@ -165,14 +166,54 @@ fn close_all<
 }
 
 /// Closes the windows of at most `limit` jobs, each as it becomes due, sends what goes down, and writes the line of each first window
-/// that was open, with a line feed. The receipts come in the places of others, which are gone, and no more of these is written than they need;
-/// where there is no room for `limit` ones, that is taken first. Each receipt tells the plain server's answer after a history of its shard.
+/// that was open, with a line feed. Room for `limit` receipts is taken first. Each receipt tells the plain server's answer after a history
+/// of its shard.
 ///
-/// With no fault and fewer receipts than `limit` the source has ended. K1 where a growth was refused: then nothing was done with the
-/// job taken last, whose window was not open (no clause). K2 where the source failed. K3 where the sink failed: then it has a beginning of the
-/// lines.
-#[tactic(auto, using(crate::proofs::Closings::closes_before, crate::proofs::Counting::rises_none, crate::proofs::Doings::answered_none, crate::proofs::Doings::grows_none, crate::proofs::Doings::lines_none, crate::proofs::Doings::lines_whole,))]
+/// With no fault and fewer receipts than `limit` the source has ended. K1 where a growth was refused: where it is that of the room, at
+/// once, with no receipts, and no job was taken; else nothing was done with the job taken last, whose window was not open (no clause). K2
+/// where the source failed. K3 where the sink failed: then it has a beginning of the lines.
 pub fn run_closer<
+    S: Calls<R>,
+    R,
+    G: Gate<R>,
+    D: Downlinks<R>,
+    M: Monitor<R>,
+    T: Timer<R>,
+    J: JobSource<R, CloseJob>,
+    W: Sink,
+>(
+    alloc: Global,
+    shared: &Shared<'_, S, R, G, M>,
+    pass: &mut S::Pass,
+    timer: &T,
+    jobs: &mut J,
+    down: &mut D,
+    sink: &mut W,
+    limit: u32,
+) -> Ended
+    requires { W.has_failed sink.old ≡ false }
+    ensures jobs { Closes (T.has_come timer.now) limit (J.given jobs.old) (J.given jobs.new) result.receipts.items result.fault }
+    ensures same { J.all jobs.new ≡ J.all jobs.old }
+    ensures answered { AreAnswered S.roster result.receipts.items }
+    ensures told { All (λ r. M.has_heard shared.now.monitor.now (call_replied r)) result.receipts.items }
+    ensures counted { RisesByReceipts (S.made pass.old) (S.made pass.new) result.receipts.items }
+    ensures down { Grows (D.taken down.old) (D.taken down.new) (downlinks_of result.receipts.items) }
+    ensures text { result.fault ≢ Some WorkerFault.SinkFailed
+        → AppendsLines shared.now.output (W.taken sink.old) (W.taken sink.new) result.receipts.items }
+    ensures front { AppendsLinesFront shared.now.output (W.taken sink.old) (W.taken sink.new) result.receipts.items }
+    ensures sound { result.fault ≢ Some WorkerFault.SinkFailed → W.has_failed sink.new ≡ false }
+    ensures failed { result.fault ≡ Some WorkerFault.SinkFailed → W.has_failed sink.new ≡ true }
+    // Room for `limit` receipts is there, or nothing was done: K1 at once.
+    ensures first { vec_capacity result.receipts < limit → NothingDone (J.given jobs.old) (J.given jobs.new) (S.made pass.old) (S.made pass.new) result }
+{
+    let room = Vec::new(alloc);
+    run_closer_into(room, shared, pass, timer, jobs, down, sink, limit)
+}
+
+/// Closes windows as `run_closer` does, with the receipts in the places of others, which are gone. No more of these is written than the
+/// receipts need; where there is no room for `limit` ones, that is taken first.
+#[tactic(auto, using(crate::proofs::Closings::closes_before, crate::proofs::Counting::rises_none, crate::proofs::Doings::answered_none, crate::proofs::Doings::grows_none, crate::proofs::Doings::lines_none, crate::proofs::Doings::lines_whole,))]
+pub fn run_closer_into<
     S: Calls<R>,
     R,
     G: Gate<R>,
@@ -203,6 +244,8 @@ pub fn run_closer<
     ensures front { AppendsLinesFront shared.now.output (W.taken sink.old) (W.taken sink.new) result.receipts.items }
     ensures sound { result.fault ≢ Some WorkerFault.SinkFailed → W.has_failed sink.new ≡ false }
     ensures failed { result.fault ≡ Some WorkerFault.SinkFailed → W.has_failed sink.new ≡ true }
+    // Room for `limit` receipts is there, or nothing was done: K1 at once.
+    ensures first { vec_capacity result.receipts < limit → NothingDone (J.given jobs.old) (J.given jobs.new) (S.made pass.old) (S.made pass.new) result }
 {
     let limit = limit as usize;
     let Ok(()) = receipts.reserve(limit.saturating_sub(receipts.len())) else {

@@ -25,7 +25,7 @@ mod line;
 mod listed;
 mod shared;
 
-pub use closer::{Ended, run_closer};
+pub use closer::{Ended, run_closer, run_closer_into};
 pub use gateway::{Served, run_gateway};
 pub use join::{Joined, run_join};
 pub use laws::lines_are_up_lines;

@@ -32,8 +32,8 @@ impl Trimmed {
         }
     }
 
-    // Of one that hands out what it drops.
-    fn handed_out(dropped: Dropped) -> Trimmed {
+    /// Of one that hands out what it drops.
+    pub fn handed_out(dropped: Dropped) -> Trimmed {
         Trimmed {
             mark: dropped.mark,
             count: dropped.entries.len() as u64,

@@ -15,6 +15,8 @@ mod gate_tests;
 #[cfg(test)]
 mod growth_tests;
 #[cfg(test)]
+mod kept_tests;
+#[cfg(test)]
 mod large_tests;
 #[cfg(test)]
 mod line_tests;

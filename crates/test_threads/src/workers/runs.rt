@@ -313,10 +313,9 @@ fn close<S: Calls<R>, R: Wait + Clock>(
     let most = if writes.is_some() { 2000 } else { 7 };
     let mut down = Sent::new(alloc, true)?;
     let mut sink = Fuse::new(alloc, Vec::new(alloc), most, None, writes);
-    let room = Vec::new(alloc);
     jobs.begin();
     let ended = run_closer(
-        room, shared, pass, around, jobs, &mut down, &mut sink, limit,
+        alloc, shared, pass, around, jobs, &mut down, &mut sink, limit,
     );
     jobs.give_back();
     tell_closed(log, &ended, &sink, &down, around)

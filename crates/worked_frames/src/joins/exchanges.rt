@@ -10,7 +10,7 @@ use crate::put::{put, put_made, put_number, show};
 use ns_exchange::HostName;
 use ns_joinclient::ask;
 use ns_responses::Responses;
-use ns_types::{Fuse, read_all};
+use ns_types::{Fuse, Stream, read_all};
 use std::alloc::Global;
 use std::fmt::Write;
 use std::str;
@@ -204,6 +204,62 @@ pub fn each(asked: Asked<'_>, tries: Tries, out: &mut String) {
 pub fn decided(asked: Asked<'_>, reads: usize, out: &mut String) {
     let answered = exchange(asked, 1, Some(reads as u64), None);
     put(out, answered.as_str());
+}
+
+// Whether an exchange comes to the read, or the write, behind so many, which fails.
+fn comes_to(asked: Asked<'_>, most: usize, is_write: bool, calls: u64) -> bool
+    requires { 0 < most }
+{
+    let mut out = String::new(asked.alloc);
+    let (reads, writes) = if is_write {
+        (None, Some(calls))
+    } else {
+        (Some(calls), None)
+    };
+    let Ok(input) = Vec::from_slice(asked.alloc, asked.response) else {
+        return false;
+    };
+    let mut stream = Fuse::new(asked.alloc, input, most, reads, writes);
+    outcome(asked, &mut stream, &mut out);
+    stream.failed()
+}
+
+// How many reads, or writes, an exchange makes, of 32,767 at most: bit by bit, the greatest number of which the last is made.
+fn count(asked: Asked<'_>, most: usize, is_write: bool) -> u64
+    requires { 0 < most }
+{
+    let mut count = 0u64;
+    for bit in [
+        1u64 << 14,
+        1 << 13,
+        1 << 12,
+        1 << 11,
+        1 << 10,
+        512,
+        256,
+        128,
+        64,
+        32,
+        16,
+        8,
+        4,
+        2,
+        1,
+    ] {
+        let more = count.wrapping_add(bit);
+        if comes_to(asked, most, is_write, more.wrapping_sub(1)) {
+            count = more;
+        }
+    }
+    count
+}
+
+/// Puts how many reads and writes an exchange makes one byte a call, and how many it makes of many bytes.
+pub fn counts(asked: Asked<'_>, out: &mut String) {
+    let (reads, writes) = (count(asked, 1, false), count(asked, 1, true));
+    let _ = write!(out, "{reads} reads and {writes} writes of a byte, ");
+    let (reads, writes) = (count(asked, WHOLE, false), count(asked, WHOLE, true));
+    let _ = write!(out, "{reads} and {writes} of many");
 }
 
 /// Puts what a response answers to an empty message of transaction 1, whole and one byte a read.

@@ -213,6 +213,7 @@ fn exchanged(word: &str, asked: Asked<'_>, bytes: &[u8], out: &mut String) {
         "failed_writes" => exchanges::each(asked, Tries::FailedWrites, out),
         "plain" => exchanges::each(asked, Tries::Plain, out),
         "request" => exchanges::each(asked, Tries::Request, out),
+        "counts" => exchanges::counts(asked, out),
         "decided" => exchanges::decided(asked, bytes.len(), out),
         _ => put(out, "no question"),
     }

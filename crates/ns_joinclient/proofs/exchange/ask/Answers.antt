@@ -3,7 +3,7 @@ use Rattle.std.specs.Io.KnownBytes.{Appends}
 use Rattle.ns_exchange.specs.HostText.{host_text}
 use Rattle.ns_joinclient.specs.Request.{request}
 use Rattle.ns_joinclient.proofs.FaultLemmas.{write_is_not_ended, write_is_no_memory}
-use Rattle.ns_joinclient.proofs.AskLemmas.{answer_clause, fault_clause, ended_clause, memory_clause, failed_clause, on_ok, on_err}
+use Rattle.ns_joinclient.proofs.AskLemmas.{answer_clause, fault_clause, ended_clause, memory_clause, failed_clause, few_written, few_read, on_ok, on_err}
 use Rattle.ns_joinclient.proofs.exchange.ask.Goals as goal
 
 pub returns-clause-answer : goal.returns-clause-answer
@@ -52,3 +52,11 @@ returns-clause-failed g c = λ f. inr (failed_clause _ _ _ _ _ c.read_answer.ens
 
 pub read_answer-requires : goal.read_answer-requires
 read_answer-requires g c = on_ok _ c.send.result c.if-is_err.ensures.value c.send.ensures.sound
+
+pub returns-then-is_err-clause-bounded : goal.returns-then-is_err-clause-bounded
+returns-then-is_err-clause-bounded g c = few_written g.S.Sink.taken g.S.Source.left _ _ _ _ c.send.ensures.front
+
+pub returns-clause-bounded : goal.returns-clause-bounded
+returns-clause-bounded g c =
+    let written : Appends (g.S.Sink.taken c.args.stream.now) (g.S.Sink.taken c.send.new.sink) (request (host_text c.args.host) c.args.body.now) = on_ok _ c.send.result c.if-is_err.ensures.value c.send.ensures.ok in
+    few_read g.S.Sink.taken g.S.Source.left _ _ _ _ _ _ _ c.read_answer.ensures.written written c.read_answer.ensures.answered

@@ -1,4 +1,3 @@
-use Rattle.ns_serve_workers.proofs.ReceiptLemmas.{receipts_answered}
 use Rattle.ns_serve_workers.proofs.workers.AroundWorkPassKitBack.work.Goals as goal
 
 pub returns : goal.returns
@@ -12,6 +11,3 @@ returns g c = (
     ended = c.fault_of-fault.ensures;
   },
 )
-
-pub invariant_of-result : goal.invariant_of-result
-invariant_of-result g c = record { receipts = receipts_answered _ _ _ _ _ _ _ _ c.args.kit.unused c.run_join-joined.ensures.answers }

@@ -3,7 +3,7 @@ use Rattle.ns_shard.specs.State.{State, after_call, finds_open}
 use Rattle.ns_server.specs.Kept.{IsStateOf, IsKept}
 use Rattle.ns_server.proofs.Answered.{has_history, answers_from}
 use Rattle.ns_server.proofs.Begun.{kept_call}
-use Rattle.ns_server.proofs.kept.Kept.step.Goals as goal
+use Rattle.ns_server.proofs.kept.Kept.step_into.Goals as goal
 
 -- a refused call
 

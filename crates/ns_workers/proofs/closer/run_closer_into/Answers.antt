@@ -1,5 +1,6 @@
+use Rattle.std.proofs.Common.{arith}
 use Rattle.ns_workers.proofs.Closings.{closes_within}
-use Rattle.ns_workers.proofs.closer.run_closer.Goals as goal
+use Rattle.ns_workers.proofs.closer.run_closer_into.Goals as goal
 
 pub returns : goal.returns
 returns g c =
@@ -16,4 +17,5 @@ returns g c =
       front = all.does.front;
       sound = ends.sound;
       failed = ends.failed;
+      first = λ few. absurd (omega (arith, few, c.reserve.ensures, c.truncate.ensures.capacity, ends.room));
     }

@@ -1,0 +1,33 @@
+//! Vectors of RFC 4493, through the forms above.
+
+use crate::frames::{aes, cmac};
+use ns_types::Key;
+use std::process::Abort;
+use std::test::*;
+
+const KEY: Key = Key([
+    0x2b, 0x7e, 0x15, 0x16, 0x28, 0xae, 0xd2, 0xa6, 0xab, 0xf7, 0x15, 0x88, 0x09, 0xcf, 0x4f, 0x3c,
+]);
+
+const MESSAGE: [u8; 16] = [
+    0x6b, 0xc1, 0xbe, 0xe2, 0x2e, 0x40, 0x9f, 0x96, 0xe9, 0x3d, 0x7e, 0x11, 0x73, 0x93, 0x17, 0x2a,
+];
+
+const MAC: [u8; 16] = [
+    0x07, 0x0a, 0x16, 0xb4, 0x6b, 0x4d, 0x41, 0x44, 0xf7, 0x9b, 0xdd, 0x9d, 0xd0, 0x4a, 0x28, 0x7c,
+];
+
+/// A message in two pieces.
+#[test]
+fn mac_of_two_pieces(rt: HostRuntime) {
+    let (first, second) = MESSAGE.split_at(1);
+    assert!(rt; cmac(&KEY, first, second) == MAC);
+}
+
+/// What is enciphered is deciphered back.
+#[test]
+fn block_comes_back(rt: HostRuntime) {
+    let (enciphered, _) = aes(&KEY, &MESSAGE);
+    let (_, plain) = aes(&KEY, &enciphered);
+    assert!(rt; plain == MESSAGE);
+}
