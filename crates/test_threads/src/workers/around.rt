@@ -220,19 +220,18 @@ impl<S: Drop> Scarce<S> {
         self.turn = self.turn.wrapping_add(1);
     }
 
-    /// Has a growth from now on be refused, where the faults name one.
-    pub fn begin(&self) {
+    /// Has a growth from now on be refused, where the faults name one, and none in later runs over this source.
+    pub fn begin(&mut self) {
         if self.faults.alone > 0 {
             refuse(self.alloc, self.faults.alone);
         }
+        self.faults.alone = 0;
     }
 
     /// Gives all memory back, and refuses no growth from now on.
     pub fn give_back(&mut self) {
         self.held.clear();
-        if self.faults.alone > 0 {
-            pause(self.alloc);
-        }
+        pause(self.alloc);
     }
 }
 
