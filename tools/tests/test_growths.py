@@ -1,7 +1,8 @@
 """Growths of memory that are refused, each alone: that of number 1, of number 2 and so on, until a run meets no refusal.
 
 `refuse_growth.c` refuses them. The runs are of the built program, and of the tests of test_parts and test_threads that speak to it: the calls of a
-shard and of a server, their trims, whole runs, a new server, and the workers. How `serve` ends without a record is in test_serve_memory.
+shard and of a server, their trims, whole runs, a new server, and the workers. `.ci/run` leaves these programs in crates/*/out; TEST_PARTS=PATH
+and TEST_THREADS=PATH name others. How `serve` ends without a record is in test_serve_memory.
 """
 import concurrent.futures
 import os
