@@ -1,4 +1,5 @@
 """`serve --record DIR`: what gateways heard is in the record soon, however long windows are and whatever else is heard."""
+import os
 import random
 import time
 import unittest
@@ -8,7 +9,7 @@ from serving import NOWHERE
 from test_serve_record import Recorded
 
 EUIS = range(16, 40)
-KILLS = 12          # of each window
+KILLS = int(os.environ.get('KILLS', 12))    # of each window
 SOON = 0.15         # seconds after which a datagram that was sent has its line
 PAUSE = 0.008       # seconds between two uplinks
 
