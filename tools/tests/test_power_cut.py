@@ -34,12 +34,12 @@ class Cut(Recorded):
 
     def names(self):
         """The windows of the whole `up` lines."""
-        return [tuple(int(word, base) for word, base in zip(line.split()[1:4], (16, 10, 10)))
-                for line in self.lines(self.ups) if line.startswith('up ')]
+        *lines, _ = self.bytes_of(self.ups).split(b'\n')
+        return [(int(eui, 16), int(session), int(counter)) for _, eui, session, counter, *_ in (line.split() for line in lines)]
 
     def goes_on(self):
         """A life of the record: what was handed out is heard again and is not handed out again, and no number is used again."""
-        before = self.names()[:self.bytes_of(self.ups).count(b'\n')]
+        before = self.names()
         server = self.life(self.networks, NOWHERE)
         gateway = self.gateway(0xa1, server)
         for eui, _, counter in before:
@@ -71,12 +71,17 @@ class Cut(Recorded):
         self.assertGreater(ahead, 5)
 
     def test_lost_joins(self):
-        """A session that no step tells is not known, and the start begins all the same."""
+        """A session that no step tells is not known, and its number is not used again once the device has joined again."""
         steps, ups = self.begun()
-        for end in (0, 10, len(steps) // 9):
+        for nonce, end in enumerate((0, 10, steps.index(b'\n') + 5), 100):
             self.cut(steps[:end], ups)
-            server = self.life(self.networks, NOWHERE)
+            joins = self.joins([13])
+            server = self.life(self.networks, joins.where)
             wait_for(lambda: server.log.count(' ahead of steps'), 'the warning')
+            gateway, device = self.gateway(0xa1, server), self.device(13)
+            gateway.join(device, nonce)
+            self.acknowledged(gateway, device, 0, 0)
+            wait_for(lambda: (13, 2, 0) in self.names(), 'the uplink of the second session')
             self.kill(server)
             self.assertTrue(self.bytes_of(self.ups).startswith(ups))
             self.kill(self.life(self.networks, NOWHERE))

@@ -1,13 +1,15 @@
 """`serve --record DIR`: what gateways heard is in the record soon, however long windows are and whatever else is heard."""
+import os
 import random
 import time
 import unittest
 
+from live import wait_for
 from serving import NOWHERE
 from test_serve_record import Recorded
 
 EUIS = range(16, 40)
-KILLS = 12          # of each window
+KILLS = int(os.environ.get('KILLS', 12))    # of each window
 SOON = 0.15         # seconds after which a datagram that was sent has its line
 PAUSE = 0.008       # seconds between two uplinks
 
@@ -37,8 +39,20 @@ class InTime(Recorded):
             self.late = max(self.late, time.monotonic() - due)
         return sent
 
+    def close_all(self):
+        """Lives in which all open windows are closed: a device that has eight of them is busy."""
+        for _ in range(20):
+            server = self.life(self.networks, NOWHERE)
+            wait_for(lambda: server.log.count('windows open'), 'the log')
+            if server.log.count('record: 0 windows open'):
+                return self.kill(server)
+            time.sleep(0.3)
+            self.kill(server)
+        return self.fail('windows stay open')
+
     def lost(self, window):
         """Of a life that is ended at any moment: how many frames were sent so early that they have to be in the record, and are not."""
+        self.close_all()
         server = self.serve(self.networks, NOWHERE, '--window', str(window), '--record', self.record)
         sent = self.heard_for(self.gateway(0xa1, server), self.pick.uniform(0.25, 0.8))
         ended = time.monotonic()
