@@ -54,7 +54,7 @@ class Network:
 
     def __init__(self):
         self.gateway = Forwarder(bytes.fromhex('00000000000000a1'), ('127.0.0.1', 1700))
-        self.gateway.up.settimeout(5)
+        self.gateway.up.settimeout(2)
         self.moment = 0
 
     def heard(self, frame):
@@ -62,7 +62,9 @@ class Network:
         end = time.monotonic() + 60
         while True:
             try:
+                self.gateway.down.settimeout(2)
                 self.gateway.pull()
+                self.gateway.down.settimeout(20)
                 self.moment += 10_000_000
                 self.gateway.push(rxpk(frame, self.moment % 2**32))
                 return
@@ -122,6 +124,8 @@ def scenario():
     sends(network, first, 2)
     network.join(second, 1)
     sends(network, second, 0)
+
+    assert 'Failed with result' not in done('journalctl', '-u', 'lorawan_ns', '--no-pager'), done('journalctl', '--no-pager')
 
     # Uplinks are handed on.
     put('/etc/lorawan_ns/follow.conf', 'OPTIONS=--exec "cat >> /var/lib/lorawan_ns_follow/taken"\n')

@@ -1,5 +1,6 @@
 """`tools/package`: what is in the Debian package, that lintian finds no error, and that it is installed, upgraded and purged in a Debian of its
 own. CHROOT=FOLDER names one that debootstrap has made (with python3), of which a copy is used; without it debootstrap makes it, as root."""
+import functools
 import glob
 import gzip
 import os
@@ -26,22 +27,28 @@ def can_be_packed():
     return '(commit 0000000000000000000000000000000000000000)' in ran(PROGRAM, '--version').stdout
 
 
+def packed(folder, *words):
+    done = ran(os.path.join(TOOLS, 'package'), '--program', PROGRAM, '--out', folder, '--dirty', *words)
+    assert done.returncode == 0, done.stderr
+    return done.stdout.strip()
+
+
+@functools.lru_cache(None)
+def made():
+    """A folder, two packages in it, and what is in the first one."""
+    folder = tempfile.TemporaryDirectory()
+    unittest.addModuleCleanup(folder.cleanup)
+    first, second = (packed(folder.name, '--revision', revision) for revision in '12')
+    tree = os.path.join(folder.name, 'tree')
+    subprocess.run(['dpkg-deb', '-R', first, tree], check=True)
+    return folder.name, first, second, tree
+
+
 @unittest.skipUnless(can_be_packed(), PROGRAM + ' is not built by hand, or dpkg-deb, strip or git is missing')
 class Packages(unittest.TestCase):
     @classmethod
     def setUpClass(cls):
-        folder = tempfile.TemporaryDirectory()
-        cls.addClassCleanup(folder.cleanup)
-        cls.folder = folder.name
-        cls.first, cls.second = (cls.packed('--revision', revision) for revision in '12')
-        cls.tree = os.path.join(cls.folder, 'tree')
-        subprocess.run(['dpkg-deb', '-R', cls.first, cls.tree], check=True)
-
-    @classmethod
-    def packed(cls, *words):
-        done = ran(os.path.join(TOOLS, 'package'), '--program', PROGRAM, '--out', cls.folder, '--dirty', *words)
-        assert done.returncode == 0, done.stderr
-        return done.stdout.strip()
+        cls.folder, cls.first, cls.second, cls.tree = made()
 
     def at(self, path):
         return os.path.join(self.tree, path)
@@ -116,8 +123,7 @@ class Packages(unittest.TestCase):
     def test_same_bytes(self):
         other = os.path.join(self.folder, 'again')
         os.mkdir(other)
-        done = ran(os.path.join(TOOLS, 'package'), '--program', PROGRAM, '--out', other, '--dirty')
-        with open(self.first, 'rb') as first, open(done.stdout.strip(), 'rb') as again:
+        with open(self.first, 'rb') as first, open(packed(other), 'rb') as again:
             self.assertEqual(first.read(), again.read())
 
     def test_refusals(self):
@@ -212,6 +218,7 @@ class Chroots(Packages):
             file.write('[Unit]\nAfter=basic.target\n[Service]\nType=oneshot\nExecStart=/usr/bin/python3 -B /tools/tests/booted.py\n'
                        'TimeoutStartSec=600\n[Install]\nWantedBy=multi-user.target\n')
         self.does('systemctl', 'enable', 'booted.service')
+        self.does('systemctl', 'mask', 'systemd-networkd-wait-online.service')      # there is no network to wait for
         for path in (result, os.path.join(self.root, 'etc/machine-id')):
             if os.path.exists(path):
                 os.remove(path)
