@@ -231,12 +231,16 @@ def read_keys(path):
 
 
 def write(path, text, mode):
-    """Writes a file whole, in the place of the old one."""
-    new = path + '.new'
+    """Writes a file whole, in the place of the old one, whose rights it gets."""
+    new, group = path + '.new', -1
+    if os.path.exists(path):
+        mode, group = os.stat(path).st_mode & 0o777, os.stat(path).st_gid
     with open(os.open(new, os.O_WRONLY | os.O_CREAT | os.O_TRUNC, mode), 'w', encoding='utf-8') as file:
         file.write(text)
         file.flush()
         os.fsync(file.fileno())
+    if group >= 0 and group != os.stat(new).st_gid:
+        os.chown(new, -1, group)
     os.chmod(new, mode)
     os.replace(new, path)
 
