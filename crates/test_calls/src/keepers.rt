@@ -25,9 +25,10 @@ pub fn record(last_nonce: Option<DevNonce>) -> DeviceState {
 
 pub fn take_fresh(state: &mut DeviceState, view: &DataView<'_>) -> Option<(u32, u32)> {
     let fresh: Option<(u32, u32)> = state.fresh(view);
-    let (session, fcnt) = fresh?;
-    state.take(session, fcnt);
-    Some((session, fcnt))
+    if let Some((session, fcnt)) = fresh {
+        state.take(session, fcnt);
+    }
+    fresh
 }
 
 pub fn stale(state: &DeviceState, view: &DataView<'_>) -> Option<(u32, u32)> {
