@@ -76,7 +76,7 @@ class Packages(unittest.TestCase):
             self.assertNotIn('/usr/local', text)
             for word in re.findall(r'^(?:Exec\w+=\+?|BindReadOnlyPaths=)(/usr/\S+)|(/usr/share/\S+\.py)', text, re.MULTILINE):
                 for place in filter(None, word):
-                    self.assertTrue(place == '/usr/bin/python3' or os.path.exists(self.at(place[1:])), '%s of %s' % (place, path))
+                    self.assertTrue(place in ('/usr/bin/python3', '/usr/bin/systemd-run') or os.path.exists(self.at(place[1:])), place)
         self.assertEqual(sorted(self.text('DEBIAN/conffiles').split()), ['/etc/logrotate.d/lorawan-ns', '/etc/lorawan_ns/follow.conf',
                                                                          '/etc/lorawan_ns/join_server.conf', '/etc/lorawan_ns/serve.conf'])
 
