@@ -44,9 +44,9 @@ def put(path, text, mode='w'):
 
 def table(*euis):
     """Roster and keys of these devices, by the tool."""
-    put('/root/devices.csv', 'dev_eui,join_eui,app_key\n' + ''.join('%016x,%016x,%s\n' % (eui, JOIN_EUI, APP_KEY.hex()) for eui in euis))
+    put('/srv/devices.csv', 'dev_eui,join_eui,app_key\n' + ''.join('%016x,%016x,%s\n' % (eui, JOIN_EUI, APP_KEY.hex()) for eui in euis))
     old = ['--old', ROSTER] if os.path.exists(ROSTER) else []
-    done('lorawan_ns-roster-from-csv', '/root/devices.csv', '--net-id', '000001', '--roster', ROSTER, '--keys', KEYS, *old)
+    done('lorawan_ns-roster-from-csv', '/srv/devices.csv', '--net-id', '000001', '--roster', ROSTER, '--keys', KEYS, *old)
 
 
 class Network:
