@@ -7,7 +7,7 @@
 
 It reads the `up` lines of the record in DIR as `lorawan_ns serve .. --record DIR` writes them, hands them on in their order, and writes
 CURSOR, the place up to which they were taken, only after the other side has taken them. So it goes on where it was after any restart of the
-server, of itself or of the other side. What was under way at a kill is handed on again, with the same `id`. It needs Python 3.9 and nothing
+server, of itself or of the other side. What was under way at a kill is handed on again, with the same `id`. It needs Python 3.11 and nothing
 else, and ends at SIGTERM and SIGINT with status 0.
 
     DIR                 the folder of the record, of which it reads `up` alone
@@ -26,7 +26,7 @@ else, and ends at SIGTERM and SIGINT with status 0.
     --ca FILE           TLS: the authority that signed the broker's certificate
     --cert FILE --key FILE                    TLS: the follower's own certificate
 
-  Line protocol over HTTP (InfluxDB 1 and 2, VictoriaMetrics, Telegraf): a 2xx answer is the receipt
+  Line protocol over HTTP, a 2xx answer is the receipt (tried with InfluxDB 1 and VictoriaMetrics; InfluxDB 2 and Telegraf speak it too):
     --influx URL        as http://127.0.0.1:8086/write?db=lorawan
     --token-file FILE   FILE's first line follows `Authorization: Token`
     --measurement NAME  (default uplink)

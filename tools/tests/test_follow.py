@@ -6,6 +6,7 @@ import random
 import shutil
 import signal
 import socket
+import sqlite3
 import subprocess
 import sys
 import tempfile
@@ -16,6 +17,7 @@ import urllib.parse
 import urllib.request
 
 from live import LONGEST, TOOLS, wait_for
+from test_serve_record import Recorded
 
 import follow
 
@@ -194,6 +196,18 @@ class ToProgram(Following):
         writer.write(1)
         wait_for(lambda: writer.ids() <= {uplink['id'] for uplink in self.uplinks()}, 'all lines')
 
+    def test_readings(self):
+        """The table of readings.py has a row for each uplink, also of those that are handed on twice."""
+        table = os.path.join(self.folder, 'readings.db')
+        writer = Writer(self.record)
+        writer.write(9)
+        for _ in range(2):
+            self.follow_to_end('--exec', '%s %s %s' % (sys.executable, os.path.join(TOOLS, 'readings.py'), table))
+            os.remove(self.cursor)
+        with sqlite3.connect(table) as rows:
+            found = rows.execute('SELECT device, session, counter, value FROM readings').fetchall()
+        self.assertEqual(sorted(found), sorted(('%016x' % eui, 1, number, number) for eui in (13, 14, 15) for number in range(3)))
+
     def test_one_at_a_time(self):
         Writer(self.record).write(1)
         self.follow(*self.words)
@@ -208,6 +222,51 @@ class ToProgram(Following):
         wait_for(self.uplinks, 'the first uplink')
         self.kill(child, signal.SIGTERM)
         self.assertEqual(child.returncode, 0)
+
+
+class FromServer(Recorded):
+    """The record of a real server that is killed again and again."""
+
+    def test_kills(self):
+        taken, cursor = os.path.join(self.folder, 'taken'), os.path.join(self.folder, 'cursor')
+        words = [sys.executable, FOLLOW, self.record, cursor, '--longest-pause', '0.5', '--exec', 'cat >> ' + taken]
+
+        def begin():
+            child = subprocess.Popen(words, stderr=subprocess.DEVNULL)
+            self.addCleanup(child.wait, LONGEST)
+            self.addCleanup(child.kill)
+            return child
+
+        def ids():
+            if not os.path.exists(taken):
+                return []
+            with open(taken, encoding='ascii') as file:
+                return [json.loads(line)['id'] for line in file if line.endswith('\n')]
+        joins, roster = self.joins([13, 14, 15]), self.roster([13, 14, 15])
+        server, child, counter = self.life(roster, joins.where), begin(), 0
+        gateway, *devices = self.joined(server, 13, 14, 15)
+        for turn in range(KILLS):
+            for _ in range(10):
+                for device in devices:
+                    gateway.heard(device.uplink(counter, 1, bytes([counter % 256])))
+                counter += 1
+                time.sleep(0.01)
+            time.sleep(random.random() / 5)
+            self.kill(server)
+            if turn % 2:
+                child.kill()
+                child.wait(LONGEST)
+                child = begin()
+            server = self.life(roster, joins.where)
+            gateway = self.gateway(0xa1, server)
+        for device in devices:
+            gateway.heard(device.uplink(counter, 1, b'last'))
+        server.out.wait('up ', 3)
+        self.kill(server)
+        uplinks = {'%s-%s-%s' % tuple(line.split()[1:4]) for line in self.lines(self.ups)}
+        self.assertGreater(len(uplinks), 3 * KILLS)
+        wait_for(lambda: uplinks <= set(ids()), 'all uplinks of the record')
+        self.assertEqual(set(ids()), uplinks)
 
 
 class Subscriber(threading.Thread):
