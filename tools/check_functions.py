@@ -35,8 +35,8 @@ def below(crate, libraries):
     return found
 
 
-def words_of(kit, checkout, crate, functions):
-    """The check's command line."""
+def words_of(kit, checkout, crate, functions, keeps=True):
+    """The check's command line. What it checks is kept for the next one unless told otherwise."""
     libraries = stands_on()
     built = {one: os.path.join(checkout, 'crates', one, 'out', 'rlib') for one in below(crate, libraries)}
     missing = [one for one, folder in built.items() if not os.path.isdir(folder)]
@@ -50,10 +50,11 @@ def words_of(kit, checkout, crate, functions):
         words += ['-L', 'dependency=' + folder]
         if name in libraries[crate]:
             words += ['--extern', '%s=%s/%s.rlib' % (name, folder, name)]
-    kept = os.path.join(tempfile.gettempdir(), 'check_functions', crate)
-    os.makedirs(kept, exist_ok=True)
-    words += ['--antt-project', kit + '/rattle/logic/antt-project.json', '--logic-built', kit + '/logic_built', '--links', crate + '=',
-              '--incremental', kept]
+    words += ['--antt-project', kit + '/rattle/logic/antt-project.json', '--logic-built', kit + '/logic_built', '--links', crate + '=']
+    if keeps:
+        kept = os.path.join(tempfile.gettempdir(), 'check_functions', crate)
+        os.makedirs(kept, exist_ok=True)
+        words += ['--incremental', kept]
     return words + [word for function in functions for word in ('--only', function)]
 
 

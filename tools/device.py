@@ -25,19 +25,19 @@ class Device:
         return front + aes_cmac.of(self.app_key).mic(front)
 
     def accept(self, frame):
-        """Takes the Join-Accept to the last Join-Request (6.2.3): the device's cipher is AES encrypt."""
-        if len(frame) != 17 or frame[0] != 0x20:
+        """Takes the Join-Accept to the last Join-Request (6.2.3), and its CFList: the device's cipher is AES encrypt."""
+        if len(frame) not in (17, 33) or frame[0] != 0x20:
             raise WrongAccept('length or MHDR')
         key = aes_cmac.of(self.app_key)
         plain = key.encrypt(frame[1:])
-        if key.mic(b'\x20' + plain[:12]) != plain[12:]:
+        if key.mic(b'\x20' + plain[:-4]) != plain[-4:]:
             raise WrongAccept('MIC')
         join_nonce = int.from_bytes(plain[:3], 'little')
         if self.join_nonce is not None and join_nonce <= self.join_nonce:
             raise WrongAccept('JoinNonce')
         front = plain[:6] + struct.pack('<H', self.nonce) + bytes(7)
         self.join_nonce, self.net_id = join_nonce, plain[5:2:-1]
-        self.settings, self.delay = plain[10], plain[11]
+        self.settings, self.delay, self.channels = plain[10], plain[11], plain[12:-4]
         self.begin(plain[6:10], key.encrypt(b'\x01' + front), key.encrypt(b'\x02' + front))
 
     def begin(self, address, nwk, app):

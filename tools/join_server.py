@@ -1,22 +1,26 @@
 #!/usr/bin/env python3
-"""A small join server by the profile of docs/FORMATS.md, to try `lorawan_ns serve` with.
+"""A small join server by the profile of docs/FORMATS.md, for a network of up to some thousand devices on one machine.
 
-    join_server.py KEYS [--listen ADDR] [--nonces FILE] [--record FILE] [--first-nonce N] [--seconds SECONDS]
+    join_server.py KEYS [--listen ADDR] [--nonces FILE] [--devnonces FILE] [--cflist MHZ,..] [--record FILE] ..
 
-    KEYS                a file with a device a line: its DevEUI in 16 and its AppKey in 32 hex digits; # begins a comment
+    KEYS                a file with a device a line: its DevEUI in 16 and its AppKey in 32 hex digits; # begins a comment. It is read again
+                        when it changes; where it has a fault then, the keys stay as they were
     --listen ADDR       TCP, host:port (default 127.0.0.1:8080); it prints `listening ADDR` once it listens
-    --record FILE       appends each answer to FILE as a line that recorded_to_steps.py reads. It holds session keys
     --nonces FILE       holds a JoinNonce above all that were given (default: KEYS with `.nonces` behind it; see below)
+    --devnonces FILE    keeps each device's last DevNonce, on the disk before the answer leaves: a Join-Request at or below it is refused
+                        (`JoinReqFailed`), but for the last one itself. Without it DevNonces are not looked at
+    --cflist MHZ,..     one to five channels that each Join-Accept tells the device, in MHz, as 867.1,867.3,867.5,867.7,867.9
+    --record FILE       appends each answer to FILE as a line that recorded_to_steps.py reads. It holds session keys
     --first-nonce N     JoinNonce of each device's first Join-Accept where FILE holds no greater one, 1 to 16777215. Without
                         it and without FILE it is made from the clock, one more every 8 seconds until April 2030
     --seconds SECONDS   ends after this time (default 0: never)
 
-It answers each JoinReq that is POSTed to it: `Success` with the Join-Accept and the session keys in clear, `MICFailed`
+It answers each JoinReq that is POSTed to it, many at a time: `Success` with the Join-Accept and the session keys in clear, `MICFailed`
 where the Join-Request's MIC does not fit, `Other` for a device that it does not know; a text that is no JoinReq gets
 status 400. Formulas: LoRaWAN L2 1.0.4, section 6.2; AES and CMAC are those of the package `cryptography`
-(`apt-get install python3-cryptography`), or slow ones of this folder where it is not there. It is for trials: it keeps
-no DevNonces, speaks plain HTTP and wraps no keys, so let it be reached from its own machine only. The interrupt and
-termination signals end it with status 0.
+(`apt-get install python3-cryptography`), or slow ones of this folder where it is not there. It speaks plain HTTP, wraps no keys, and asks
+nobody who they are: let it be reached from its own machine only. The AppKeys stand in a file in clear. The interrupt and termination
+signals end it with status 0.
 
 A device takes no JoinNonce that is not above its last. Here a device's JoinNonce rises by one with each Join-Accept, and none is
 given before FILE holds, on the disk, a number above it: FILE is written again once in 256 Join-Accepts of one device, and the
@@ -85,11 +89,12 @@ class JoinReq:
 
 # ---------------------------------------------------------------- JoinAns
 
-def granted(request, key, join_nonce):
-    """The Join-Accept and the session keys NwkSKey and AppSKey of a JoinNonce."""
+def granted(request, key, join_nonce, channels=b''):
+    """The Join-Accept and the session keys NwkSKey and AppSKey of a JoinNonce. `channels` is its CFList, or nothing."""
     cipher, nonce = aes_cmac.of(key), join_nonce.to_bytes(3, 'little')
-    fields = nonce + request.net_id[::-1] + request.address[::-1] + request.settings + bytes([request.delay])
-    accept = b'\x20' + cipher.decrypt(fields + cipher.mic(b'\x20' + fields))
+    fields = nonce + request.net_id[::-1] + request.address[::-1] + request.settings + bytes([request.delay]) + channels
+    plain = fields + cipher.mic(b'\x20' + fields)
+    accept = b'\x20' + cipher.decrypt(plain)
     front = nonce + request.net_id[::-1] + request.nonce + bytes(7)
     return accept, cipher.encrypt(b'\x01' + front), cipher.encrypt(b'\x02' + front)
 
@@ -121,46 +126,124 @@ class Nonces:
         os.close(self.file)
 
 
+class DevNonces:
+    """The file with the last DevNonce that each device used, and the MIC of that Join-Request: a line `DEVEUI DEVNONCE MIC`, the last one of
+    a device counts. A line that a crash tore is cut off. Raises OSError and ValueError."""
+
+    def __init__(self, path):
+        self.file = os.open(path, os.O_RDWR | os.O_CREAT | os.O_APPEND | os.O_CLOEXEC, 0o600)
+        try:
+            fcntl.flock(self.file, fcntl.LOCK_EX | fcntl.LOCK_NB)
+        except BlockingIOError:
+            os.close(self.file)
+            raise ValueError('%s is held by another join server' % path) from None
+        with open(path, encoding='ascii') as file:
+            text = file.read()
+        whole = text.rpartition('\n')[0] + '\n' if '\n' in text else ''
+        os.ftruncate(self.file, len(whole))
+        self.last, self.lock = {}, threading.Lock()
+        for number, line in enumerate(whole.splitlines(), 1):
+            if not re.fullmatch('[0-9a-f]{16} [0-9]{1,5} [0-9a-f]{8}', line):
+                raise ValueError('%s: line %d is no DevNonce' % (path, number))
+            eui, nonce, mic = line.split()
+            self.last[bytes.fromhex(eui)] = int(nonce), bytes.fromhex(mic)
+
+    def use(self, ticket):
+        """Whether a Join-Request's DevNonce is above the last one, or it is the last one itself. It is on the disk then."""
+        eui, nonce, mic = ticket[9:17][::-1], int.from_bytes(ticket[17:19], 'little'), ticket[19:]
+        with self.lock:
+            last = self.last.get(eui)
+            if last == (nonce, mic):
+                return True
+            if last is not None and nonce <= last[0]:
+                return False
+            os.write(self.file, b'%s %d %s\n' % (eui.hex().encode(), nonce, mic.hex().encode()))
+            os.fdatasync(self.file)
+            self.last[eui] = nonce, mic
+        return True
+
+
+class KeyFile:
+    """The keys of a file, which is read again when it changes. Raises OSError and ValueError at first, and never later."""
+
+    def __init__(self, path):
+        self.path, self.lock, self.state = path, threading.Lock(), None
+        self.keys = self.read()
+
+    def read(self):
+        with open(self.path, encoding='utf-8') as file:
+            about = os.fstat(file.fileno())
+            self.state = about.st_ino, about.st_size, about.st_mtime_ns
+            return keys_of(file.read())
+
+    def get(self, eui):
+        with self.lock:
+            try:
+                about = os.stat(self.path)
+                if self.state != (about.st_ino, about.st_size, about.st_mtime_ns):
+                    self.keys = self.read()
+                    print('keys: %d devices, read again' % len(self.keys), file=sys.stderr, flush=True)
+            except (OSError, ValueError) as why:
+                print('keys: %s; they stay as they were' % why, file=sys.stderr, flush=True)
+            return self.keys.get(eui)
+
+
 class JoinServer:
     """Answers JoinReqs. The AppKeys are 16 bytes by the DevEUI's 8; its calls may come from several threads. Without `nonces` it
-    knows of no other run's JoinNonces."""
+    knows of no other run's JoinNonces, without `devnonces` of no DevNonce."""
 
-    def __init__(self, keys, first_nonce=1, record=None, nonces=None):
+    def __init__(self, keys, first_nonce=1, record=None, nonces=None, devnonces=None, channels=b''):
         self.keys, self.first_nonce, self.record, self.lock = keys, first_nonce, record, threading.Lock()
-        self.next_nonces, self.nonces = {}, nonces
+        self.next_nonces, self.nonces, self.devnonces, self.channels = {}, nonces, devnonces, channels
 
     def take_nonce(self, eui):
         """The device's next JoinNonce; none behind the last one."""
-        nonce = self.next_nonces.get(eui, self.first_nonce)
-        if nonce > LAST_NONCE:
-            return None
-        if self.nonces:
-            self.nonces.hold(nonce)
-        self.next_nonces[eui] = nonce + 1
-        return nonce
+        with self.lock:
+            nonce = self.next_nonces.get(eui, self.first_nonce)
+            if nonce > LAST_NONCE:
+                return None
+            if self.nonces:
+                self.nonces.hold(nonce)
+            self.next_nonces[eui] = nonce + 1
+            return nonce
+
+    def result_of(self, request, key):
+        """The ResultCode of a JoinReq, and the JoinNonce where it is `Success`."""
+        if key is None:
+            return 'Other', None
+        if aes_cmac.of(key).mic(request.ticket[:19]) != request.ticket[19:]:
+            return 'MICFailed', None
+        if self.devnonces and not self.devnonces.use(request.ticket):
+            return 'JoinReqFailed', None
+        nonce = self.take_nonce(request.eui)
+        return ('Other' if nonce is None else 'Success'), nonce
 
     def answer(self, text):
         """The JoinAns to a JoinReq's text. Raises NoJoinReq."""
         request = JoinReq(text)
-        answer = {'MessageType': 'JoinAns', 'Result': {'ResultCode': 'Other'}, 'TransactionID': request.transaction}
-        with self.lock:
-            key, nonce = self.keys.get(request.eui), None
-            if key is not None and aes_cmac.of(key).mic(request.ticket[:19]) != request.ticket[19:]:
-                answer['Result']['ResultCode'] = 'MICFailed'
-            elif key is not None:
-                nonce = self.take_nonce(request.eui)
-            if nonce is not None:
-                accept, nwk, app = granted(request, key, nonce)
-                answer['Result']['ResultCode'] = 'Success'
-                answer['PHYPayload'] = accept.hex()
-                answer['NwkSKey'] = {'AESKey': nwk.hex(), 'KEKLabel': ''}
-                answer['AppSKey'] = {'AESKey': app.hex(), 'KEKLabel': ''}
-            told = json.dumps(answer, separators=(',', ':'), sort_keys=True)
-            if self.record:
-                line = {'ticket': request.ticket.hex(), 'time': time.time(), 'answer': told}
+        key = self.keys.get(request.eui)
+        code, nonce = self.result_of(request, key)
+        answer = {'MessageType': 'JoinAns', 'Result': {'ResultCode': code}, 'TransactionID': request.transaction}
+        if nonce is not None:
+            accept, nwk, app = granted(request, key, nonce, self.channels)
+            answer['PHYPayload'] = accept.hex()
+            answer['NwkSKey'] = {'AESKey': nwk.hex(), 'KEKLabel': ''}
+            answer['AppSKey'] = {'AESKey': app.hex(), 'KEKLabel': ''}
+        told = json.dumps(answer, separators=(',', ':'), sort_keys=True)
+        if self.record:
+            line = {'ticket': request.ticket.hex(), 'time': time.time(), 'answer': told}
+            with self.lock:
                 self.record.write(json.dumps(line, separators=(',', ':')) + '\n')
                 self.record.flush()
         return told
+
+
+def channels_of(text):
+    """A CFList of type 0 (LoRaWAN L2 1.0.4, section 6.2.6; RP002, EU868): five frequencies of three bytes in 100 Hz, then the type."""
+    hertz = [round(float(word) * 1e6) for word in text.split(',')]
+    if not 1 <= len(hertz) <= 5 or not all(863_000_000 <= one <= 870_000_000 for one in hertz):
+        raise argparse.ArgumentTypeError('one to five frequencies from 863 to 870 MHz are wanted')
+    return b''.join((one // 100).to_bytes(3, 'little') for one in hertz + [0] * (5 - len(hertz))) + b'\0'
 
 
 def keys_of(text):
@@ -228,6 +311,8 @@ def options_of(words):
     parser.add_argument('keys', metavar='KEYS')
     parser.add_argument('--listen', type=address, default='127.0.0.1:8080', metavar='ADDR')
     parser.add_argument('--nonces', metavar='FILE')
+    parser.add_argument('--devnonces', metavar='FILE')
+    parser.add_argument('--cflist', type=channels_of, default=b'', metavar='MHZ,..')
     parser.add_argument('--record', metavar='FILE')
     parser.add_argument('--first-nonce', type=int, metavar='N')
     parser.add_argument('--seconds', type=float, default=0, metavar='SECONDS')
@@ -245,14 +330,14 @@ def begun(options, keys):
     if not nonces.above and first > LAST_NONCE:
         raise ValueError('no JoinNonce can be made from the clock any more: give --first-nonce')
     record = open(options.record, 'a', encoding='utf-8') if options.record else None
-    return listener(options.listen, JoinServer(keys, max(first, nonces.above), record, nonces))
+    devnonces = DevNonces(options.devnonces) if options.devnonces else None
+    return listener(options.listen, JoinServer(keys, max(first, nonces.above), record, nonces, devnonces, options.cflist))
 
 
 def main(words):
     options = options_of(words)
     try:
-        with open(options.keys, encoding='utf-8') as file:
-            keys = keys_of(file.read())
+        keys = KeyFile(options.keys)
     except (OSError, ValueError) as why:
         print('keys: %s' % why, file=sys.stderr)
         return 1

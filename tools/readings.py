@@ -1,14 +1,14 @@
 #!/usr/bin/env python3
-"""Keeps the uplinks of `lorawan_ns serve .. --output json`, which it reads from standard input, in a table of an SQLite file, each as
-it comes: `lorawan_ns serve .. --output json | readings.py FILE`. With `-` in place of the file it writes them as lines of InfluxDB's
-line protocol, but for those without a time, as `replay` says them. An uplink that is there stays as it is. What a payload means is the
-device's: here it is one number."""
+"""Keeps uplinks that it reads from standard input, as JSON objects, in a table of an SQLite file, each as it comes:
+`follow.py DIR CURSOR --exec "readings.py FILE"`, or of `lorawan_ns serve .. --output json`, whose objects have RSSI and SNR. With `-` in
+place of the file it writes them as lines of InfluxDB's line protocol, but for those without a time, as `replay` says them. An uplink that
+is there stays as it is. What a payload means is the device's: here it is one number."""
 import json
 import sqlite3
 import sys
 from datetime import datetime
 
-POINT = 'readings,device=%s session=%di,counter=%di,value=%di,rssi=%s,snr=%s %d'
+POINT = 'readings,device=%s session=%di,counter=%di,value=%di%s %d'
 
 
 def value_of(payload):
@@ -21,9 +21,10 @@ def readings(lines):
     for line in lines:
         uplink = json.loads(line) if line.startswith('{') else {}
         if 'payload' in uplink and not uplink['sealed']:
-            best = max(uplink['rxInfo'], key=lambda copy: copy['snr'])
+            best = max(uplink['rxInfo'], key=lambda copy: copy.get('snr', 0))
             value = value_of(bytes.fromhex(uplink['payload']))
-            yield uplink.get('time'), uplink['devEui'], uplink['session'], uplink['fCnt'], uplink.get('fPort'), value, best['rssi'], best['snr']
+            yield (uplink.get('time'), uplink['devEui'], uplink['session'], uplink['fCnt'], uplink.get('fPort'), value, best.get('rssi'),
+                   best.get('snr'))
 
 
 def keep(lines, path):
@@ -41,7 +42,8 @@ def put(lines):
             continue
         moment = datetime.fromisoformat(time)
         nanoseconds = int(moment.timestamp()) * 10**9 + moment.microsecond * 1000
-        print(POINT % (device, session, counter, value, rssi, snr, nanoseconds), flush=True)
+        radio = '' if rssi is None else ',rssi=%s,snr=%s' % (rssi, snr)
+        print(POINT % (device, session, counter, value, radio, nanoseconds), flush=True)
 
 
 if __name__ == '__main__':

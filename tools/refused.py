@@ -102,7 +102,7 @@ def tried(options, folder):
     try:
         whole = runs.ended({'LD_PRELOAD': wrapper, 'GROWTHS': told})
         with open(told, 'rb') as file:
-            print('without a refusal: %s, %d growths' % (whole, int.from_bytes(file.read(), sys.byteorder)), flush=True)
+            print('without a refusal: %s, %d growths' % (whole, int.from_bytes(file.read(8), sys.byteorder)), flush=True)
         for growth in range(options.first, options.last + 1):
             came[runs.ended({'LD_PRELOAD': wrapper, 'REFUSED': '%d%s' % (growth, '+' * options.on)})].append(growth)
             if growth % 100 == 0:

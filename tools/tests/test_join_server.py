@@ -92,6 +92,75 @@ class Answers(unittest.TestCase):
                 join_server.keys_of(text)
 
 
+class Kept(unittest.TestCase):
+    """DevNonces and keys in files."""
+
+    def setUp(self):
+        folder = tempfile.TemporaryDirectory()
+        self.addCleanup(folder.cleanup)
+        self.file = os.path.join(folder.name, 'file')
+        self.devices = {eui: Device(eui, JOIN_EUI, APP_KEY) for eui in (13, 14)}
+        self.keys = {eui.to_bytes(8, 'big'): APP_KEY for eui in self.devices}
+
+    def code(self, server, eui, nonce):
+        ticket = self.devices[eui].join_request(nonce)
+        answer = json.loads(server.answer(join_req(ticket, 36 << 25 | eui << 21 | SLOT, eui)))
+        if 'PHYPayload' in answer:
+            self.devices[eui].accept(bytes.fromhex(answer['PHYPayload']))
+        return answer['Result']['ResultCode']
+
+    def test_dev_nonces(self):
+        """A DevNonce serves once, over runs too; the last Join-Request itself may be asked about again; a wrong MIC uses none."""
+        first = 1
+        for turn in range(3):
+            nonces = join_server.DevNonces(self.file)
+            server = join_server.JoinServer(self.keys, first, devnonces=nonces)
+            other = join_server.JoinServer({eui: bytes(16) for eui in self.keys}, devnonces=nonces)
+            self.assertEqual(self.code(other, 13, 60000), 'MICFailed')
+            if turn:
+                self.assertEqual([self.code(server, 13, nonce) for nonce in (1, 10 * turn - 1, 10 * turn)],
+                                 ['JoinReqFailed', 'JoinReqFailed', 'Success'])
+            self.assertEqual([self.code(server, 13, 10 * turn + 10), self.code(server, 14, 10 * turn + 1)], ['Success'] * 2)
+            os.close(nonces.file)
+            with open(self.file, 'a', encoding='ascii') as file:
+                file.write('000000000000000d 6')        # as a crash leaves it
+            first += 10
+        with open(self.file, 'w', encoding='ascii') as file:
+            file.write('000000000000000d 6\n')
+        with self.assertRaisesRegex(ValueError, 'line 1'):
+            join_server.DevNonces(self.file)
+
+    def test_channels(self):
+        """The CFList with which EU868 networks tell 867.1 to 867.9 MHz; fewer channels leave zeros."""
+        channels = join_server.channels_of('867.1,867.3,867.5,867.7,867.9')
+        self.assertEqual(channels.hex(), '184f84e85684b85e84886684586e8400')
+        self.assertEqual(join_server.channels_of('867.1').hex(), '184f84' + '00' * 13)
+        server = join_server.JoinServer(self.keys, channels=channels)
+        self.assertEqual(self.code(server, 13, 1), 'Success')
+        self.assertEqual(self.devices[13].channels, channels)
+        for text in ('', '915.2', '867.1,' * 6, 'x'):
+            with self.assertRaises((ValueError, join_server.argparse.ArgumentTypeError)):
+                join_server.channels_of(text)
+
+    def test_keys_are_read_again(self):
+        """A new device is known at its next request, and a faulty file changes nothing."""
+        def write(text):
+            with open(self.file + '.new', 'w', encoding='ascii') as file:
+                file.write(text)
+            os.replace(self.file + '.new', self.file)
+        row = '%016x ' + APP_KEY.hex() + '\n'
+        write(row % 13)
+        server = join_server.JoinServer(join_server.KeyFile(self.file))
+        self.assertEqual([self.code(server, 13, 1), self.code(server, 14, 1)], ['Success', 'Other'])
+        write(row % 13 + row % 14)
+        self.assertEqual([self.code(server, 13, 2), self.code(server, 14, 2)], ['Success', 'Success'])
+        for change in (lambda: write('nonsense\n'), lambda: os.remove(self.file)):
+            change()
+            self.assertEqual(self.code(server, 14, self.devices[14].nonce + 1), 'Success')
+        write(row % 13)
+        self.assertEqual(self.code(server, 14, 9), 'Other')
+
+
 class Begun(unittest.TestCase):
     """Join servers over one file of nonces, without sockets."""
 

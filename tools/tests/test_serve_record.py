@@ -246,8 +246,6 @@ class Refused(Recorded):
         self.put(self.steps, steps, 'wb')
         self.put(self.ups, ups.replace(b' plain ', b' plaim ', 1), 'wb')
         self.refused(roster, 'record: up line 1 is not of this record')
-        self.put(self.ups, ups + ups, 'wb')
-        self.refused(roster, 'record: more than the 2 up lines of this record')
 
     def test_words(self):
         done = subprocess.run([PROGRAM, 'serve', 'roster.json', '--join', '127.0.0.1:9', '--record', self.record, '--closing'],

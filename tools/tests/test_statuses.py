@@ -36,7 +36,9 @@ class Statuses(unittest.TestCase):
 
     def test_good_ends(self):
         self.assertEqual(self.ran('replay', ROSTER), (0, '', ''))
-        self.assertEqual(self.ran('--version'), (0, 'lorawan_ns 0.1.0\n', ''))
+        status, output, errors = self.ran('--version')
+        self.assertEqual((status, errors), (0, ''))
+        self.assertRegex(output, r'^lorawan_ns 0\.1\.0 \(commit [0-9a-f]{39}[0-9a-f+]\)\n$')
         status, output, errors = self.ran('serve', '--help')
         self.assertEqual((status, errors), (0, ''))
         self.assertIn('--join-workers', output)
@@ -66,6 +68,16 @@ class Statuses(unittest.TestCase):
             where = '127.0.0.1:%d' % taken.getsockname()[1]
             self.fails(['serve', ROSTER, '--join', '127.0.0.1:9', '--listen', where], 'io', re.escape(where) + '.*Address already in use')
 
+    def test_helps(self):
+        """The help of a command is about that command, with an example and the variable of log lines."""
+        for command in ('replay', 'check', 'compact', 'serve'):
+            status, output, errors = self.ran(command, '--help')
+            self.assertEqual((status, errors), (0, ''))
+            self.assertIn('Example: lorawan_ns %s ' % command, output)
+            self.assertIn('RUST_LOG', output)
+            for other in {'replay', 'compact', 'serve'} - {command}:
+                self.assertNotIn('(%s)' % other, output)
+
     def test_streams(self):
         with open('/dev/full', 'w') as full:
             read, write = os.pipe()
@@ -91,6 +103,8 @@ class Statuses(unittest.TestCase):
                 words = ['serve', ROSTER, '--join', value]
             with self.subTest(option=option, value=value):
                 self.fails(words, 'bad arguments: --' + option, '--%s.*(%s)' % (option, why), status=2)
+        both = ['serve', ROSTER, '--join', '127.0.0.1:9', '--listen', '127.0.0.1:0', '--forwarders', '127.0.0.1:0', '--workers']
+        self.fails([*both, '1'], 'bad arguments: --workers', '--workers.*at least 2', status=2)
         self.fails(['replay', b'\xff'], 'bad arguments', 'no text in UTF-8', status=2)
 
 

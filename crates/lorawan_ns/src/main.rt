@@ -3,7 +3,7 @@
 //! `lorawan_ns replay ROSTER` reads step lines from standard input and writes the lines of their answers to standard output. The
 //! contract of `replay` in `ns_replay` says what is written. `lorawan_ns serve ROSTER --join ADDR` hears gateways over UDP and writes
 //! their uplinks: `serve` of `ns_serve` does it, with threads and sockets. `lorawan_ns compact ROSTER DIR` makes a record shorter:
-//! `ns_upkeep` does it, and while `serve` goes on. Here is what a run does: what the words ask for, as `ns_words` reads them. `replay`, the
+//! `ns_upkeep` does it, and while `serve` goes on; it also does `lorawan_ns check ROSTER`, which says what a start would refuse. Here is what a run does: what the words ask for, as `ns_words` reads them. `replay`, the
 //! texts of faults, log lines and the exit statuses are those of `ns_commands`. The program stands on these, on `ns_serve` and
 //! `ns_serve_shards`, on `ns_record_files` for the upkeep of a record, on `ns_roster`, on `ns_types` for streams, on `ns_log` for log
 //! lines, and on `log` of the kit, which takes them.
@@ -25,7 +25,7 @@ use ns_record_files::Upkeep;
 use ns_roster::Roster;
 use ns_serve::{Begun, EndOfInput, ServeOptions, Stop, WaitingWriter, serve};
 use ns_types::OverStd;
-use ns_upkeep::{compact, keeper};
+use ns_upkeep::{check, compact, keeper, recover};
 use ns_words::{Asked, Recorded, read_words};
 use std::fs::{File, OpenOptions};
 use std::io;
@@ -56,6 +56,11 @@ fn begin<R: Files<File = File> + AllocGlobal, L: Log>(
             }
         };
     };
+    let files = open_record(rt, log, folder, record.sync)?;
+    match Begun::resume(log, alloc, roster, files) {
+        Ok(begun) => return Ok(begun),
+        Err(fault) => recover(rt, log, folder, roster, fault)?,
+    }
     let files = open_record(rt, log, folder, record.sync)?;
     match Begun::resume(log, alloc, roster, files) {
         Ok(begun) => Ok(begun),
@@ -116,6 +121,7 @@ where
         Ok(Asked::Replay(path, uplinks, closing)) => {
             End::Ran(run_replay(rt, log, path, uplinks, closing))
         }
+        Ok(Asked::Check(path, folder)) => End::Ran(check(rt, log, path, folder)),
         Ok(Asked::Serve(path, options, record)) => End::Ran(run_serve(
             rt, log, path, known, &options, record, stop, upkeep,
         )),

@@ -6,13 +6,93 @@ ghost use Rattle.ns_aes_cmac.specs.Cmac.{doubled, cmac};
 ghost use Rattle.ns_aes_cmac.specs.CmacState.{CmacState, state_of, chained_from};
 
 use crate::aes::Aes128;
+use ns_types::Key;
 use std::marker::Model;
 use std::simd::prelude::*;
 
 /// A CMAC in progress under a key. `state_of key m` is its value once the message `m` has come, which each contract hands on: from `new`
 /// over any number of `update` to `finish`.
 #[derive(Drop)]
-pub struct Cmac<'a> {
+pub struct Cmac {
+    cipher: Aes128,
+    /// Whether a block was taken, and the block of zeros enciphered with it.
+    started: bool,
+    enciphered_zeros: [u8; 16],
+    chain: [u8; 16],
+    /// The bytes not taken yet, then zeros.
+    pending: [u8; 16],
+    len: usize,
+}
+
+impl Model for Cmac {
+    ghost Value = { CmacState };
+
+    ghost view = { λ c. record { key = c.cipher; chain = c.chain; pending = take c.len c.pending } };
+
+    ghost invariant = { λ c. (c.len ≤ 16) × (drop c.len c.pending ≡ replicate (16 - c.len) 0) × (c.started ≡ true → c.enciphered_zeros ≡ aes c.cipher (replicate 16 0)) };
+}
+
+impl Cmac {
+    /// An empty message under a key.
+    pub fn new(key: &Key) -> Cmac
+        ensures { result ≡ state_of key.now.0 [] }
+    {
+        Cmac {
+            cipher: Aes128::new(key),
+            started: false,
+            enciphered_zeros: [0; 16],
+            chain: [0; 16],
+            pending: [0; 16],
+            len: 0,
+        }
+    }
+
+    /// Adds bytes to the end of the message.
+    pub fn update(&mut self, bytes: &[u8])
+        ensures { (key m : List ℕ) → self.old ≡ state_of key m → self.new ≡ state_of key (m ++ bytes.now) }
+    {
+        let mut lent = self.lend();
+        lent.update(bytes);
+        let LentCmac {
+            cipher: _,
+            started,
+            enciphered_zeros,
+            chain,
+            pending,
+            len,
+        } = lent;
+        self.started = started;
+        self.enciphered_zeros = enciphered_zeros;
+        self.chain = chain;
+        self.pending = pending;
+        self.len = len;
+    }
+
+    /// The code of the whole message.
+    pub fn finish(self) -> [u8; 16]
+        ensures { (key m : List ℕ) → self ≡ state_of key m → result ≡ cmac key m }
+    {
+        self.lend().finish()
+    }
+
+    // The same CMAC, over this one's cipher.
+    fn lend(&self) -> LentCmac<'_>
+        ensures { result ≡ self.now }
+    {
+        LentCmac {
+            cipher: &self.cipher,
+            started: self.started,
+            enciphered_zeros: self.enciphered_zeros,
+            chain: self.chain,
+            pending: self.pending,
+            len: self.len,
+        }
+    }
+}
+
+/// A CMAC in progress under a key that was expanded before, as for several messages under one key. Its values are those of a `Cmac`.
+#[derive(Drop)]
+pub struct LentCmac<'a> {
     cipher: &'a Aes128,
     /// Whether a block was taken, and the block of zeros enciphered beside it.
     started: bool,
@@ -23,7 +103,7 @@ pub struct Cmac<'a> {
     len: usize,
 }
 
-impl<'a> Model for Cmac<'a> {
+impl<'a> Model for LentCmac<'a> {
     ghost Value = { CmacState };
 
     ghost view = { λ c. record { key = c.cipher.now; chain = c.chain; pending = take c.len c.pending } };
@@ -31,13 +111,13 @@ impl<'a> Model for Cmac<'a> {
     ghost invariant = { λ c. (c.len ≤ 16) × (drop c.len c.pending ≡ replicate (16 - c.len) 0) × (c.started ≡ true → c.enciphered_zeros ≡ aes c.cipher.now (replicate 16 0)) };
 }
 
-impl<'a> Cmac<'a> {
-    /// An empty message under a key, which is expanded already.
+impl<'a> LentCmac<'a> {
+    /// An empty message under a key.
     #[inline(always)]
-    pub fn new(cipher: &'a Aes128) -> Cmac<'a>
+    pub fn new(cipher: &'a Aes128) -> LentCmac<'a>
         ensures { result ≡ state_of cipher.now [] }
     {
-        Cmac {
+        LentCmac {
             cipher,
             started: false,
             enciphered_zeros: [0; 16],
@@ -50,7 +130,8 @@ impl<'a> Cmac<'a> {
     /// The bytes after those of the message so far.
     #[inline(always)]
     pub fn update(&mut self, bytes: &[u8])
-        ensures { (key m : List ℕ) → self.old ≡ state_of key m → self.new ≡ state_of key (m ++ bytes.now) }
+        ensures state { (key m : List ℕ) → self.old ≡ state_of key m → self.new ≡ state_of key (m ++ bytes.now) }
+        ensures key { self.new.key ≡ self.old.key }
     {
         let room = 16 - self.len;
         if bytes.len() <= room {

@@ -23,6 +23,6 @@ pub use fault::{
     Fault, of_files, of_reading, of_record, of_replay, of_roster, of_serve, status_of,
 };
 pub use logging::{Logging, Timed, VARIABLE, filter_of, time_text};
-pub use recorded::{Kept, kept_record, open_record};
+pub use recorded::{Kept, kept_record, named_folder, open_record};
 pub use replaying::{answer, run_replay};
 pub use roster::read_roster;

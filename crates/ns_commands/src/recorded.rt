@@ -4,12 +4,26 @@ use crate::ending::End;
 use crate::fault::{Fault, of_files};
 use crate::roster::read_roster;
 use ns_log::{Log, error};
-use ns_record_files::RecordFiles;
+use ns_record_files::{FilesFault, RecordFiles};
 use ns_roster::Roster;
 use ns_words::{Asked, BadWords, read_words};
+use std::fs;
 use std::fs::File;
 use std::rt::Files;
 use std::sync::Arc;
+
+/// Whether the folder of a record is there. Where it is not, that is logged.
+pub fn named_folder<R: Files<File = File>, L: Log>(
+    rt: &R,
+    log: &L,
+    path: &str,
+) -> Result<(), FilesFault> {
+    if fs::exists(rt, path).unwrap_or(true) {
+        return Ok(());
+    }
+    error!(log; "{path}: there is no such folder; make it for the server's user alone: install -d -m 700 {path}");
+    Err(FilesFault::Io)
+}
 
 /// The files of a record's folder. Why they are not opened is logged.
 pub fn open_record<R: Files<File = File> + AllocGlobal, L: Log>(
@@ -18,6 +32,9 @@ pub fn open_record<R: Files<File = File> + AllocGlobal, L: Log>(
     path: &str,
     sync: bool,
 ) -> Result<RecordFiles, Fault<'static>> {
+    if let Err(fault) = named_folder(rt, log, path) {
+        return Err(of_files(fault));
+    }
     match RecordFiles::open(rt, log, rt.alloc(), path, sync) {
         Ok(files) => Ok(files),
         Err(fault) => {

@@ -1,15 +1,17 @@
 //! The compaction of the files of a record, also of one that a server goes on with.
 
+use crate::ahead::{Ahead, catch_up};
 use crate::part::{NewSteps, Part, PartFile, logged};
 use crate::same::serves_as_well;
 use crate::shortening::{Shortened, shorten};
-use ns_log::{Log, error};
+use ns_log::{Log, error, warn};
 use ns_record_files::{FilesFault, LaterLines, RecordFiles, Recorder, ShorterSteps, read_again};
-use ns_resume::{Base, RecordFault, base_line};
+use ns_resume::{Base, RecordFault, base_line, run_record};
 use ns_roster::Roster;
+use ns_types::Key;
 use std::alloc::Global;
 use std::fs::File;
-use std::io::{BufReader, BufWriter, Write};
+use std::io::{BufReader, BufWriter, Read, Write};
 use std::rt::Files;
 use std::sync::{Arc, Wait};
 
@@ -153,6 +155,23 @@ impl<'a, R: Files<File = File>, L: Log> Folder<'a, R, L> {
         })
     }
 
+    // Mends the files of the record. Why that fails is logged.
+    fn mend(
+        &self,
+        files: &mut RecordFiles,
+        torn: usize,
+        up_torn: usize,
+        missing: &[u8],
+    ) -> Result<(), RecordFault> {
+        if files.mend(torn, up_torn, missing).is_ok() {
+            return Ok(());
+        }
+        if let Some(failure) = files.failure() {
+            error!(self.log; "record: {failure}");
+        }
+        Err(RecordFault::Io)
+    }
+
     // Writes fewer lines into `steps.new`, and brings the record to the disk. First the record is mended, as a start does.
     fn prepare(
         &self,
@@ -161,15 +180,7 @@ impl<'a, R: Files<File = File>, L: Log> Folder<'a, R, L> {
     ) -> Result<Compacted, RecordFault> {
         let part = Part::whole();
         let left = self.choose(&part, shorter)?;
-        if files
-            .mend(left.torn, left.up_torn, left.missing.as_slice())
-            .is_err()
-        {
-            if let Some(failure) = files.failure() {
-                error!(self.log; "record: {failure}");
-            }
-            return Err(RecordFault::Io);
-        }
+        self.mend(files, left.torn, left.up_torn, left.missing.as_slice())?;
         let ups = had(files.sync_all(self.log))?;
         self.tell(&part, shorter, &left, ups)
     }
@@ -186,6 +197,81 @@ impl<'a, R: Files<File = File>, L: Log> Folder<'a, R, L> {
         }
         logged(self.log, self.open("up")?.sync_all())?;
         self.tell(part, shorter, &left, part.ups)
+    }
+
+    // A key that nobody knows, if the system gives one.
+    fn secret(&self) -> Option<Key> {
+        let mut bytes = [0u8; 16];
+        let mut random = logged(self.log, File::open(self.rt, "/dev/urandom")).ok()?;
+        logged(self.log, random.read_exact(&mut bytes)).ok()?;
+        Some(Key(bytes))
+    }
+
+    // Writes the lines of the record into `steps.new`, and those that catch up with its `up` lines, behind room for the line that tells the
+    // base.
+    fn catch_up(&self, part: &Part<'_>, to: &ShorterSteps) -> Result<Ahead, RecordFault> {
+        let mut steps = self.read("steps", part.steps, part)?;
+        let mut ups = self.read("up", part.ups, part)?;
+        let new = NewSteps {
+            log: self.log,
+            file: to.file(),
+        };
+        let mut out = BufWriter::with_capacity(self.alloc, BLOCK, new)?;
+        let none = Base { lines: 0, ups: 0 };
+        out.write_all(base_line(&none).as_str().as_bytes())?;
+        out.write_all(b"\n")?;
+        let roster = self.roster.clone()?;
+        let secret = self.secret();
+        let ahead = catch_up(self.alloc, roster, &mut steps, &mut ups, secret, &mut out)?;
+        out.flush()?;
+        Ok(ahead)
+    }
+
+    // Whether a start from what was written has nothing to mend, beside the `up` lines that are there.
+    fn is_whole(&self, part: &Part<'_>) -> Result<bool, RecordFault> {
+        let mut steps = self.read("steps.new", u64::MAX, part)?;
+        let mut ups = self.read("up", part.ups, part)?;
+        let resumed = run_record(self.alloc, self.roster.clone()?, &mut steps, &mut ups)?;
+        Ok(resumed.torn == 0 && resumed.up_torn == 0 && resumed.missing.is_empty())
+    }
+
+    // Writes steps into `steps.new` that are not behind the `up` lines of the record, brings these to the disk, and tests both.
+    fn prepare_ahead(
+        &self,
+        files: &mut RecordFiles,
+        shorter: &ShorterSteps,
+    ) -> Result<Ahead, RecordFault> {
+        let part = Part::whole();
+        let ahead = self.catch_up(&part, shorter)?;
+        self.mend(files, 0, ahead.up_torn, &[])?;
+        let base = Base {
+            lines: ahead.written,
+            ups: had(files.sync_all(self.log))?,
+        };
+        had(shorter.begin_with(self.log, base_line(&base).as_str().as_bytes()))?;
+        if !self.is_whole(&part)? {
+            return Err(RecordFault::NotAsWell);
+        }
+        Ok(ahead)
+    }
+
+    /// Lets the steps of its record catch up with its `up` lines, of which some are not of these steps, as the end of the machine may leave
+    /// them. All `up` lines stay, and none of their uplinks goes up again as far as the steps know its session. After a crash at any moment
+    /// the folder has the old steps or the new ones; after a fault the steps are as before.
+    pub fn recover(&self, mut files: RecordFiles) -> Result<(), RecordFault> {
+        let shorter = had(ShorterSteps::create(self.rt, self.log, self.alloc, self.path))?;
+        let ahead = match self.prepare_ahead(&mut files, &shorter) {
+            Ok(ahead) => ahead,
+            Err(fault) => {
+                shorter.remove(self.rt);
+                return Err(fault);
+            }
+        };
+        had(files.replace(self.rt, self.log, &shorter))?;
+        let Ahead { lines, unknown, .. } = ahead;
+        let known = lines.saturating_sub(unknown);
+        warn!(self.log; "record: up was {lines} lines ahead of steps: {known} are put down again, {unknown} are of no known session");
+        Ok(())
     }
 
     /// Puts fewer lines in the place of the steps of its record, after which every later answer is the same, and brings them to the disk:

@@ -7,6 +7,7 @@
 //! `ns_record_files`, and on `ns_log` for log lines.
 #![tactic(auto)]
 
+mod ahead;
 mod choice;
 mod device;
 mod files;
@@ -20,6 +21,7 @@ mod session;
 mod shortening;
 mod trims;
 
+pub use ahead::{Ahead, catch_up};
 pub use files::{Compacted, Folder};
 pub use keeper::Keeper;
 pub use same::serves_as_well;

@@ -12,6 +12,8 @@ pub struct Made {
     pub number: u64,
     pub call: Call,
     pub reply: Reply,
+    /// Whether an uplink went up.
+    pub goes_up: bool,
 }
 
 impl Made {

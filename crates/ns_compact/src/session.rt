@@ -74,15 +74,15 @@ impl SessionLines {
         if stays || self.counter.is_none() {
             self.last = None;
             self.counter = Some(window.fcnt);
-            return self.repeated(window, line, out, count);
+            return self.keep(window, line, out, count);
         }
         self.last = Some(*window);
         self.line.clear();
         Ok(self.line.extend_from_slice(line)?)
     }
 
-    /// A window was opened whose line stays.
-    pub fn repeated<W: Write>(
+    // The line that opened a window stays, and so will that of its closing.
+    fn keep<W: Write>(
         &mut self,
         window: &WindowName,
         line: &[u8],
@@ -93,6 +93,19 @@ impl SessionLines {
             return Err(RecordFault::NoMemory);
         }
         put(out, count, line)
+    }
+
+    /// An uplink is acknowledged again: its line stays, and so does the last opening, since only the session's greatest counter is
+    /// acknowledged again (LoRaWAN L2 1.0.4, 4.3.1.2).
+    pub fn repeated<W: Write>(
+        &mut self,
+        window: &WindowName,
+        line: &[u8],
+        out: &mut W,
+        count: &mut u64,
+    ) -> Result<(), RecordFault> {
+        self.keep_last(out, count)?;
+        self.keep(window, line, out, count)
     }
 
     /// A window was closed: its line stays where that of its opening did.

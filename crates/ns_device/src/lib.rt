@@ -5,8 +5,9 @@
 //! `created_accepts_are_taken` says that a device takes each Join-Accept that `JoinAcceptCreator` makes under its AppKey, and
 //! then has exactly the session keys of the fields. `write_uplink` is `uplink` without the loan, and says what it leaves in
 //! the buffer. Nothing of it takes memory. `traffic` has the calls of many such devices, without a join server,
-//! `calls` those of any one, and `worked` the texts of a run of one, with its roster. `logged` keeps log lines in memory. `parties` has
-//! gateways, a device and a join server over loopback, next to a server in a test.
+//! `calls` those of any one, and `worked` the texts of a run of one, with its roster. `logged` keeps log lines in memory,
+//! `growths` has growths of memory refused alone, and `parties` has gateways, a device and a join server over loopback, next to a server in a
+//! test.
 //!
 //! `TestJoinServer` answers a JoinReq's text with the text of a JoinAns: a Join-Accept of the request's fields and the session
 //! keys, `MICFailed`, or `Other`. `join_ans` of `ns_joinwire` reads that text as this answer, and the device with this AppKey
@@ -22,6 +23,7 @@ mod answer;
 pub mod calls;
 mod device;
 mod fault;
+pub mod growths;
 mod join_fault;
 mod join_server;
 mod laws;

@@ -1,5 +1,4 @@
 pub mod Positions
 pub mod Addressed
 pub mod Euis
-pub mod Fits
 pub mod Rosters

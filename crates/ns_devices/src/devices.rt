@@ -1,6 +1,6 @@
 //! The devices of a shard.
 
-ghost use Rattle.std.specs.Prelude.{◌≡◌, ◌<◌, map, option_map, option_and_then, ◌++◌, ◌∷◌, [], length, position, Some, None, IfOk, IfSome, OnOk, OnErr};
+ghost use Rattle.std.specs.Prelude.{◌≡◌, ◌<◌, map, option_map, option_and_then, length, position, Some, None, IfOk, IfSome};
 ghost use Rattle.ns_types.specs.Identity.{shard_of};
 ghost use Rattle.ns_types.specs.Ticket.{dev_eui};
 ghost use Rattle.ns_roster.specs.Valid.{IsRoster};
@@ -12,6 +12,7 @@ ghost use Rattle.ns_devices.specs.Devices.{joinless, devices_of, is_own, own_of,
 ghost use Rattle.ns_devices.specs.Places.{AreWithin, first_fit_at};
 
 use crate::own::{Own, Placed};
+use indexmap::IndexMap;
 use ns_calls::Outcome;
 use ns_roster::Roster;
 use ns_rows::{Rows, push_at, row_at};
@@ -25,23 +26,23 @@ use std::marker::Model;
 /// The devices of a shard, in the roster's order. Contracts see the list of them.
 #[derive(Drop)]
 pub struct Devices {
-    list: Vec<Own>,
-    /// The place of the device of each DevEUI.
-    euis: HashMap<u64, usize>,
+    /// The devices at their DevEUIs.
+    list: IndexMap<DevEui, Own>,
     /// The places of the devices of each address. Few addresses have more than two devices.
     places: Rows<usize, 2>,
 }
 
 impl Model for Devices {
     ghost use Rattle.std.specs.Prelude.{List};
+    ghost use Rattle.std.specs.Map.{values_of};
     ghost use Rattle.ns_devices.specs.declared.own.Own.{Own};
     ghost use Rattle.ns_devices.specs.Places.{Agree};
 
     ghost Value = { List Own };
 
-    ghost view = { λ d. d.list.items };
+    ghost view = { λ d. values_of d.list.entries };
 
-    ghost invariant = { λ d. Agree d.list.items d.euis.entries d.places.entries };
+    ghost invariant = { λ d. Agree d.list.entries d.places.entries };
 }
 
 impl Devices {
@@ -50,8 +51,7 @@ impl Devices {
         ensures are { IfOk result (λ d. d ≡ map (joinless roster.now) (devices_of roster.now index)) }
         ensures valid { IsRoster roster.now }
     {
-        let mut list = Vec::new(alloc);
-        let mut euis = HashMap::new(alloc);
+        let mut list = IndexMap::new(alloc);
         let mut places = HashMap::new(alloc);
         for device in roster.devices() {
             if shard_of(device.eui) != index {
@@ -59,10 +59,9 @@ impl Devices {
             }
             let own = Own::new(roster, device);
             push_at(&mut places, alloc, u64::from(own.addr.0), list.len())?;
-            euis.insert(own.device.eui.0, list.len())?;
-            list.push(own)?;
+            list.insert(own.device.eui, own)?;
         }
-        Ok(Devices { list, euis, places })
+        Ok(Devices { list, places })
     }
 
     // Where the device of an EUI stands.
@@ -70,7 +69,7 @@ impl Devices {
         ensures place { result ≡ position (is_own eui) self.now }
         ensures within { IfSome result (λ i. i < length self.now) }
     {
-        self.euis.get(&eui.0).copied()
+        self.list.get_index_of(&eui)
     }
 
     // The first of the devices at these places of which a session fits.

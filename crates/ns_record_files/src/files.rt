@@ -3,7 +3,7 @@ ghost use Rattle.std.specs.Prelude.{None};
 
 use crate::disk::Disk;
 use crate::swap::{Swap, swap_in};
-use ns_log::{Log, error};
+use ns_log::{Log, error, warn};
 use ns_types::Failed;
 use std::alloc::Global;
 use std::fs::{File, OpenOptions, TryLockError};
@@ -115,17 +115,29 @@ fn cut(file: &File, bytes: u64) -> io::Result<()> {
     file.set_len(len.saturating_sub(bytes))
 }
 
-// Cuts zeros off the end of a file, which no line has: a crash of the machine may keep the length of a file and not what was written last.
-fn cut_zeros(file: &File) -> io::Result<()> {
+// Cuts zeros off the end of a file, which no line has, and says how many: a crash of the machine may keep the length of a file and not what
+// was written last.
+fn cut_zeros(file: &File) -> io::Result<u64> {
     let len = file.metadata()?.len();
     let mut byte = [0u8];
     for zeros in 0..len {
         file.read_exact_at(&mut byte, len - 1 - zeros)?;
         if byte != [0u8] {
-            return cut(file, zeros);
+            cut(file, zeros)?;
+            return Ok(zeros);
         }
     }
-    cut(file, len)
+    cut(file, len)?;
+    Ok(len)
+}
+
+// The same, where it is logged.
+fn cut_end<L: Log>(log: &L, file: &File, name: &str) -> Result<(), FilesFault> {
+    let zeros = told(log, cut_zeros(file))?;
+    if zeros > 0 {
+        warn!(log; "record: {zeros} zeros are cut off the end of {name}");
+    }
+    Ok(())
 }
 
 /// Opens a file of a record's folder, to be read from its beginning.
@@ -218,8 +230,8 @@ impl RecordFiles {
     // Brings the folder to the disk, in which the files may be new, and cuts zeros off their ends.
     fn begin<L: Log>(&self, log: &L) -> Result<(), FilesFault> {
         told(log, self.folder.sync_all())?;
-        told(log, cut_zeros(&self.steps))?;
-        told(log, cut_zeros(&self.ups))
+        cut_end(log, &self.steps, "steps")?;
+        cut_end(log, &self.ups, "up")
     }
 
     /// Lends the file of the steps, to be read from where it was read last.

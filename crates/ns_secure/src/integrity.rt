@@ -5,7 +5,7 @@ ghost use Rattle.ns_secure.specs.Integrity.{mic, mic_fits, join_mic};
 
 use crate::Dir;
 use crate::block::FrameBlocks;
-use ns_aes_cmac::{Aes128, Cmac};
+use ns_aes_cmac::{Aes128, Cmac, LentCmac};
 use ns_types::{DevAddr, Key, Mic};
 use ns_views::DataView;
 
@@ -24,7 +24,7 @@ pub fn mic_under(key: &Aes128, dir: Dir, addr: DevAddr, counter: u32, signed: &[
     ensures { result.0 ≡ mic key.now dir addr.0 counter signed.now }
 {
     let blocks = FrameBlocks { dir, addr, counter };
-    let mut cmac = Cmac::new(key);
+    let mut cmac = LentCmac::new(key);
     cmac.update(&blocks.b0(signed.len() as u8));
     cmac.update(signed);
     front(cmac.finish())
@@ -59,8 +59,7 @@ fn is_same(one: &Mic, other: &Mic) -> bool
 pub fn join_mic_of(app_key: &Key, signed: &[u8]) -> Mic
     ensures { result.0 ≡ join_mic app_key.now.0 signed.now }
 {
-    let cipher = Aes128::new(app_key);
-    let mut cmac = Cmac::new(&cipher);
+    let mut cmac = Cmac::new(app_key);
     cmac.update(signed);
     front(cmac.finish())
 }

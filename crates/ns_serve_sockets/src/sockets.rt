@@ -182,7 +182,6 @@ impl<'a> FromSocket<'a> {
         match after_error(error.kind(), self.failures) {
             Without::Nothing => {
                 self.failures = 0;
-                let _ = write_record(rt, state);
                 look(rt, state);
                 Received::Idle
             }

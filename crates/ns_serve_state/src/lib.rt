@@ -22,6 +22,8 @@ mod status;
 pub use clock::{closing_of, now_ms};
 pub use logged::{Seldoms, log_counts, log_message, log_seldom, log_unsent};
 pub use queue::AskQueue;
-pub use record::{has_failed, log_failure, look_after_record, rest_record, write_record};
+pub use record::{
+    has_failed, log_failure, look_after_record, rest_record, write_in_time, write_record,
+};
 pub use state::State;
 pub use status::{BATCH, Status};

@@ -13,6 +13,9 @@ const NAP_MS: u64 = 50;
 
 const NAPS: u32 = 20;
 
+// How long a line waits at most until its write begins.
+const WRITE_MS: u64 = 50;
+
 /// Writes what was put down so far, before anything that rests on it leaves the server. Where that fails, all workers are to stop.
 pub fn write_record<R: Wait>(rt: &R, state: &State) -> Result<(), Failed> {
     let Some(record) = &state.record else {
@@ -23,6 +26,17 @@ pub fn write_record<R: Wait>(rt: &R, state: &State) -> Result<(), Failed> {
         state.break_off();
     }
     written
+}
+
+/// Writes each line within 50 ms of when it was put down, whatever else the server does, until no gateway worker is left.
+pub fn write_in_time<R: Clock + Wait>(rt: &R, state: &State) {
+    for _turn in rt.forever() {
+        let is_last = state.is_deaf() || state.is_broken();
+        if write_record(rt, state).is_err() || is_last {
+            return;
+        }
+        thread::sleep(rt, Duration::from_millis(WRITE_MS));
+    }
 }
 
 // Whether the record is looked after no more.

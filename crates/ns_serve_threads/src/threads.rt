@@ -99,6 +99,8 @@ pub struct Starts<J, G, H> {
     pub teller: Option<H>,
     /// That of who looks after the record, where there is one.
     pub keeper: Option<H>,
+    /// That of who writes the record's lines in time, where there is one.
+    pub writer: Option<H>,
 }
 
 // Starts a thread for each kit, and says whether all were made. What those take along that were not made is dropped: a sender among it
@@ -120,11 +122,13 @@ fn start_threads<
         gateways,
         teller,
         keeper,
+        writer,
     } = starts;
     start_all(scope, around, joins, &mut handles.joiners)
         && start_all(scope, around, gateways, &mut handles.gateways)
         && start_helper(scope, around, teller, &mut handles.helpers)
         && start_helper(scope, around, keeper, &mut handles.helpers)
+        && start_helper(scope, around, writer, &mut handles.helpers)
 }
 
 /// What the thread brings back that started the others, and these.
@@ -136,8 +140,8 @@ pub struct Ran<O> {
     pub is_whole: bool,
 }
 
-/// Starts all join workers, all gateway workers, who tells the status where it is told and who looks after the record where there is one,
-/// does in this thread what is its own, and comes back when all have ended.
+/// Starts all join workers, all gateway workers, who tells the status where it is told, and who looks after the record and who writes its
+/// lines where there is one, does in this thread what is its own, and comes back when all have ended.
 pub fn run_threads<
     R: Threads + Wait,
     A: Work<J, O> + Work<G, O> + Work<H, ()> + Sync,

@@ -1,8 +1,8 @@
-//! Who tells the status and who looks after the record, each from its start to its end.
+//! Who tells the status, who looks after the record and who writes its lines in time, each from its start to its end.
 
 use crate::around::Around;
 use ns_record_files::Upkeep;
-use ns_serve_state::look_after_record;
+use ns_serve_state::{look_after_record, write_in_time};
 use ns_serve_status::tell;
 use ns_serve_threads::Work;
 use std::sync::Wait;
@@ -15,6 +15,8 @@ pub(crate) enum HelperKit<U> {
     Teller,
     /// That of who looks after the record.
     Keeper(U),
+    /// That of who writes the record's lines in time.
+    Writer,
 }
 
 impl<'a, S, R: Wait + Clock, G, M, W, U: Upkeep + Drop> Work<HelperKit<U>, ()>
@@ -23,6 +25,7 @@ impl<'a, S, R: Wait + Clock, G, M, W, U: Upkeep + Drop> Work<HelperKit<U>, ()>
         match kit {
             HelperKit::Teller => tell(self.rt, self.alloc, self.state),
             HelperKit::Keeper(upkeep) => look_after_record(self.rt, self.state, upkeep),
+            HelperKit::Writer => write_in_time(self.rt, self.state),
         }
     }
 }

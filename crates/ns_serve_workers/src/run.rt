@@ -258,6 +258,7 @@ where
         gateways,
         teller: state.is_told().then_some(HelperKit::Teller),
         keeper: state.is_recorded().then_some(HelperKit::Keeper(upkeep)),
+        writer: state.is_recorded().then_some(HelperKit::Writer),
     };
     let closer = CloserKit {
         around,

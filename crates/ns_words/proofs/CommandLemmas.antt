@@ -7,7 +7,7 @@ use Rattle.clap.specs.declared.builder.command.Command.{Command}
 use Rattle.clap.specs.declared.builder.command.Command.TheViews.{out-Command}
 use Rattle.ns_words.specs.declared.options.Argument.{Argument}
 use Rattle.ns_words.specs.declared.options.Subcommand.{Subcommand}
-use Rattle.ns_words.specs.Commands.{AreAdded, AreBelow, IsArg, IsCommand, app_by, compact_app, program, replay_app, rule_by, serve_app, with_arguments, with_subcommands}
+use Rattle.ns_words.specs.Commands.{AreAdded, AreBelow, IsArg, IsCommand, app_by, check_app, compact_app, program, replay_app, rule_by, serve_app, with_arguments, with_subcommands}
 
 either_false : (a b : Bool) → a ≡ false → b ≡ false → (a || b) ≡ false
 either_false a b is_a is_b = ap₂ ◌||◌ is_a is_b
@@ -68,10 +68,10 @@ IsCommand-subcommands app made old new (c ∷ commands) is added turn =
 
 -- clap gives the matches of the program's words exactly
 pub program_simple : is_simple program ≡ true
-unfolding program serve_app replay_app compact_app
+unfolding program serve_app replay_app check_app compact_app
 program_simple = refl
 
 -- and the kinds of its errors
 pub program_free : is_simple_and_free program ≡ true
-unfolding program serve_app replay_app compact_app
+unfolding program serve_app replay_app check_app compact_app
 program_free = refl

@@ -1,5 +1,5 @@
 -- Lemmas on values that an option cannot have.
-use Rattle.std.proofs.Common.{◌≡◌, ◌≢◌, ◌<◌, ◌^◌, ℕ, List, [], true, Option, Some, None, Ok, Err, Result, option_map, is_some, refl, sym, ap, subst, ◌∙◌, arith, inl, inr}
+use Rattle.std.proofs.Common.{◌≡◌, ◌≢◌, ◌<◌, ◌≤◌, ◌^◌, ℕ, List, [], true, Option, Some, None, Ok, Err, Result, option_map, is_some, refl, sym, ap, subst, ◌∙◌, arith, inl, inr}
 use Rattle.std.specs.Prelude.{IfErr, IfOk, codes, find}
 use Rattle.std.specs.Result.{IsErrAnd}
 use Rattle.std.specs.Str.{bytes_eq}
@@ -18,10 +18,10 @@ use Rattle.ns_words.specs.declared.options.BadWords.{BadWords}
 use Rattle.ns_words.specs.declared.options.BadWords.TheVariants.{NoMemory, NotText, BadValue, Shown}
 use Rattle.ns_words.specs.declared.options.OptionName.{OptionName}
 use Rattle.ns_words.specs.declared.options.OptionName.TheVariants.{Output}
-use Rattle.ns_words.specs.Asked.{IsAsked, IsDoable, IsNumber}
+use Rattle.ns_words.specs.Asked.{IsAddrIfGiven, IsAsked, IsCount, IsDoable, IsNumber}
 use Rattle.ns_words.specs.declared.options.Asked.{Asked}
 use Rattle.clap.specs.declared.error.kind.ErrorKind.TheVariants.{OutOfMemory}
-use Rattle.ns_words.specs.Refused.{HasBadValue, HasNoAddr, HasNoCount, IsNoOutput, IsOfClap, IsRead, IsReadBehind, IsRefusal, IsRefused, IsRefusedBehind, IsThere, IsTold}
+use Rattle.ns_words.specs.Refused.{HasBadValue, IsAddress, HasNoAddr, HasNoCount, IsNoOutput, IsOfClap, IsRead, IsReadBehind, IsRefusal, IsRefused, IsRefusedBehind, IsThere, IsTold}
 use Rattle.ns_words.specs.Commands.{program}
 
 -- no value was read: what the option's text says is none
@@ -160,3 +160,14 @@ refused_replay name rows bad named is other = subst (IsRefusedBehind name rows) 
 pub is_some-map : {A B : Type 0} (f : A → B) (o : Option A) → is_some (option_map f o) ≡ is_some o
 is_some-map f None = refl
 is_some-map f (Some x) = refl
+
+-- an option with an address has it, and one with one worker at most has one
+pub is_address : (id : Text) (rows : List Row) (o : Option SocketAddr) → IsAddrIfGiven id rows o → is_some o ≡ true → IsAddress id rows
+is_address id rows None is there = cc
+is_address id rows (Some addr) is there = (addr, is)
+
+pub one_worker : (rows : List Row) (n : ℕ) → IsCount (codes "workers") 16 rows n → n ≤ 1 → IsCount (codes "workers") 16 rows 1
+one_worker rows n is most =
+    let above : 0 < n = is.1 in
+    let one : n ≡ 1 = omega arith in
+    subst (λ (k : ℕ). IsCount (codes "workers") 16 rows k) one is

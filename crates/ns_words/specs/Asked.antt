@@ -10,7 +10,7 @@ use Rattle.ns_output.specs.declared.output.Output.{Output}
 use Rattle.ns_output.specs.declared.output.Output.TheVariants as output
 use Rattle.ns_serve_parts.specs.declared.options.ServeOptions.{ServeOptions}
 use Rattle.ns_words.specs.declared.options.Asked.{Asked}
-use Rattle.ns_words.specs.declared.options.Asked.TheVariants.{Replay, Serve, Compact}
+use Rattle.ns_words.specs.declared.options.Asked.TheVariants.{Replay, Check, Serve, Compact}
 use Rattle.ns_words.specs.declared.options.Recorded.{Recorded}
 use Rattle.ns_words.specs.declared.options.Addresses.{Addresses}
 use Rattle.ns_words.specs.declared.options.Workers.{Workers}
@@ -90,6 +90,7 @@ pub record HasOptions (rows : List Row) (o : ServeOptions) : Type 0 where
   pub output : IsOutput rows o.output
   pub events : IsFlag (codes "events") rows o.events
   pub closing : IsFlag (codes "closing") rows o.closing
+  pub both : is_some o.listen ≡ true → is_some o.forwarders ≡ true → 1 < o.workers
 
 -- the options about addresses, about threads, and about limits
 pub record HasAddresses (rows : List Row) (a : Addresses) : Type 0 where
@@ -123,12 +124,14 @@ HasRoster rows path = first_of (codes "ROSTER") rows ≡ Some path
 -- what was found behind a command's name
 abbrev pub IsAskedBy : List Row → Asked → Type 0
 IsAskedBy rows (Replay path uplinks closing) = (first_of (codes "ROSTER") rows ≡ Some path.now) × IsOutput rows uplinks × IsFlag (codes "closing") rows closing
+IsAskedBy rows (Check path folder) = (first_of (codes "ROSTER") rows ≡ Some path.now) × (option_map (λ f. f.now) folder ≡ first_of (codes "record") rows)
 IsAskedBy rows (Serve path options recorded) = (first_of (codes "ROSTER") rows ≡ Some path.now) × HasOptions rows options × HasRecord rows recorded
 IsAskedBy rows (Compact path folder) = (first_of (codes "ROSTER") rows ≡ Some path.now) × (first_of (codes "DIR") rows ≡ Some folder.now)
 
 -- the command that is asked for
 abbrev pub command_of : Asked → Text
 command_of (Replay path uplinks closing) = codes "replay"
+command_of (Check path folder) = codes "check"
 command_of (Serve path options recorded) = codes "serve"
 command_of (Compact path folder) = codes "compact"
 
@@ -143,5 +146,6 @@ IsServed options = ((0 < options.workers) × (options.workers ≤ 16)) × ((0 < 
 
 abbrev pub IsDoable : Asked → Type 0
 IsDoable (Replay path uplinks closing) = ⊤
+IsDoable (Check path folder) = ⊤
 IsDoable (Serve path options recorded) = IsServed options
 IsDoable (Compact path folder) = ⊤

@@ -97,6 +97,9 @@ serve_app =
 unfoldable pub replay_app : App
 replay_app = with_rule (with_rules (with_rule (new_app (codes "replay")) roster_rule) output_rules) closing_rule
 
+unfoldable pub check_app : App
+check_app = with_rule (with_rule (new_app (codes "check")) roster_rule) (option_rule (codes "record"))
+
 unfoldable pub compact_app : App
 compact_app = with_rule (with_rule (new_app (codes "compact")) roster_rule) folder_rule
 
@@ -105,7 +108,7 @@ abbrev pub named_app : App
 named_app = let app = new_app (codes "lorawan_ns") in record app { top = record app.top { has_version = true; subcommand_required = true } }
 
 unfoldable pub program : App
-program = with_subcommand (with_subcommand (with_subcommand named_app replay_app.top) compact_app.top) serve_app.top
+program = with_subcommand (with_subcommand (with_subcommand (with_subcommand named_app replay_app.top) check_app.top) compact_app.top) serve_app.top
 
 -- the command is this one, with no argument that holds for the commands below it
 abbrev pub IsCommand : App → Command → Type 0

@@ -43,6 +43,14 @@ IsNoOutput rows = (first_of (codes "output") rows ≢ Some (codes "lines")) × (
 abbrev pub IsWithClosing : List Row → Type 0
 IsWithClosing rows = (is_some (first_of (codes "record") rows) ≡ true) × (one_of (codes "closing") rows ≡ Some (codes "true"))
 
+-- an option has an address
+abbrev pub IsAddress : Text → List Row → Type 0
+IsAddress id rows = (addr : SocketAddr) × IsAddr id rows addr
+
+-- one thread is to hear at two sockets
+abbrev pub IsOneForBoth : List Row → Type 0
+IsOneForBoth rows = IsAddress (codes "listen") rows × IsAddress (codes "forwarders") rows × IsCount (codes "workers") 16 rows 1
+
 -- the option has a value that it cannot have
 abbrev pub HasBadValue : OptionName → List Row → Type 0
 HasBadValue Join rows = HasNoAddr (codes "join") rows
@@ -51,7 +59,7 @@ HasBadValue Listen rows = IsThere (codes "listen") rows × HasNoAddr (codes "lis
 HasBadValue Forwarders rows = IsThere (codes "forwarders") rows × HasNoAddr (codes "forwarders") rows
 HasBadValue Power rows = HasNoCount (codes "power") 27 rows
 HasBadValue Status rows = IsThere (codes "status") rows × HasNoAddr (codes "status") rows
-HasBadValue Workers rows = HasNoCount (codes "workers") 16 rows
+HasBadValue Workers rows = HasNoCount (codes "workers") 16 rows ⊎ IsOneForBoth rows
 HasBadValue JoinWorkers rows = HasNoCount (codes "join-workers") 16 rows
 HasBadValue Window rows = HasNoCount (codes "window") 60000 rows
 HasBadValue StopAfter rows = IsThere (codes "stop-after") rows × HasNoCount (codes "stop-after") 4294967295 rows
@@ -72,7 +80,7 @@ HasOption name option = (name ≡ codes "serve") ⊎ ((name ≡ codes "replay") 
 
 -- the program has a command of this name
 abbrev pub IsCommandName : Text → Type 0
-IsCommandName name = (name ≡ codes "serve") ⊎ (name ≡ codes "replay") ⊎ (name ≡ codes "compact")
+IsCommandName name = (name ≡ codes "serve") ⊎ (name ≡ codes "replay") ⊎ (name ≡ codes "check") ⊎ (name ≡ codes "compact")
 
 -- the same behind a command's name; nothing else is refused but a command that the program has not, one without the roster's file, or a
 -- compaction without a folder

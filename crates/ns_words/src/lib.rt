@@ -6,6 +6,7 @@
 //! kit.
 #![tactic(auto)]
 
+mod help;
 mod options;
 
 pub use options::{Asked, BadWords, OptionName, Recorded, read_words};

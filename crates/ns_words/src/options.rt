@@ -1,6 +1,6 @@
 //! The command line.
 
-ghost use Rattle.std.specs.Prelude.{◌≡◌, ◌<◌, ◌≤◌, codes, false, IfErr, IfOk, Some, map, string_bytes};
+ghost use Rattle.std.specs.Prelude.{◌≡◌, ◌<◌, ◌≤◌, codes, false, true, IfErr, IfOk, Some, is_some, map, string_bytes};
 ghost use Rattle.ns_exchange.specs.HostText.{host_text};
 ghost use Rattle.clap.specs.Words.{app_of, first_of, found_of, new_app, rows_of};
 ghost use Rattle.ns_words.specs.Asked.{HasAddresses, HasLimits, HasOptions, HasRecord, HasRoster, HasWorkers, IsAddr, IsAddrIfGiven, IsAsked, IsDoable, IsFlag, IsNumber, IsNumberIfGiven, IsNumberOrNever, IsOutput, IsServed, name_of};
@@ -8,6 +8,7 @@ ghost use Rattle.ns_words.specs.declared.options.BadWords.TheVariants as refusal
 ghost use Rattle.ns_words.specs.Commands.{AreAdded, AreBelow, IsArg, IsCommand, formed, named_app, plain_rule, program, rule_by, with_arguments, with_subcommands};
 ghost use Rattle.ns_words.specs.Refused.{HasNoAddr, HasNoCount, HasNoHost, IsNoOutput, IsNotNever, IsOfClap, IsRead, IsReadBehind, IsRefusal, IsRefused, IsThere, IsTold};
 
+use crate::help;
 use clap::builder::ValueParser;
 use clap::error::ErrorKind;
 use clap::{Arg, ArgAction, ArgMatches, Command};
@@ -20,8 +21,8 @@ use std::fmt;
 use std::fmt::{Display, Formatter};
 use std::net::SocketAddr;
 
-// What `--version` prints behind the program's name.
-const VERSION: &str = "0.1.0";
+// What `--version` prints behind the program's name. `tools/package` writes the commit over the zeros of the built program.
+const VERSION: &str = "0.1.0 (commit 0000000000000000000000000000000000000000)";
 
 // After how many entries a shard is trimmed where no word says so: sixteen shards then keep some 27 MB of entries, and up to 54 MB
 // while their lists grow.
@@ -30,29 +31,14 @@ const TRIM: &str = "5000";
 // What asks for no trims.
 const NEVER: &str = "never";
 
-// What stands at the end of the help.
-const STREAMS: &str = "\
-Standard input: step lines (replay); with --stop-at-end-of-input, serve stops at
-its end.
-Standard output: the lines of their answers (replay), the uplinks (serve), each
-uplink a line or, with --output json, a JSON object on a line; with --closing the
-last line is the roster from which the next run begins; how many lines a record
-had and has (compact).
-Standard error: log lines, and in the last line why the program ended early.
-
-Status: 0 at a good end; 1 for a roster or a file that could not be read, for
-want of memory, for a record that does not fit, and where a stream, the socket or
-the record failed; 2 for a bad command line.
-
-docs/FORMATS.md describes rosters, datagrams, step lines and answer lines,
-docs/OPERATOR.md says how to use them.";
-
 /// What the words ask for.
 #[derive(Drop)]
 pub enum Asked<'a> {
     /// To answer the step lines of standard input over the roster of this file, how uplinks are written, and whether the closing roster
     /// is.
     Replay(&'a str, Output, bool),
+    /// To check the roster of this file, and over it the record of this folder, if one is given.
+    Check(&'a str, Option<&'a str>),
     /// To serve gateways over the roster of this file.
     Serve(&'a str, ServeOptions<'a>, Recorded<'a>),
     /// To compact, over the roster of this file, the record of this folder.
@@ -107,22 +93,6 @@ impl OptionName {
             OptionName::Output => "output",
         }
     }
-
-    /// What the option takes.
-    pub fn takes(self) -> &'static str {
-        match self {
-            OptionName::Join | OptionName::Listen | OptionName::Forwarders | OptionName::Status =>
-                ADDR,
-            OptionName::Power => "a number of dBm from 1 to 27",
-            OptionName::Host => "a host's name of 1 to 255 visible characters of ASCII",
-            OptionName::Trim => "a number from 1 to 4294967295, or never",
-            OptionName::Workers | OptionName::JoinWorkers => "a number from 1 to 16",
-            OptionName::Window => "a number of milliseconds from 1 to 60000",
-            OptionName::StopAfter => "a number from 1 to 4294967295",
-            OptionName::Record => "a folder, and not with --closing",
-            OptionName::Output => "lines or json",
-        }
-    }
 }
 
 impl Display for OptionName {
@@ -133,9 +103,6 @@ impl Display for OptionName {
 
 impl Error for OptionName {}
 
-// What an address is.
-const ADDR: &str = "an IP address and a port, as 127.0.0.1:8080; no name, and no http:// before it";
-
 /// Why there is nothing to do.
 #[derive(Drop)]
 pub enum BadWords {
@@ -143,7 +110,8 @@ pub enum BadWords {
     NoMemory,
     /// A word is no UTF-8.
     NotText,
-    /// The value of this option is none that it can have, or it is `record` and stands beside `--closing`.
+    /// The value of this option is none that it can have, or none that it can have beside others: `record` with `--closing`, one worker
+    /// for two sockets.
     BadValue(OptionName),
     /// Bad words, or a request for help or the version: the text to print, and whether it is an error.
     Shown(clap::Error),
@@ -173,6 +141,8 @@ impl From<clap::Error> for BadWords {
 struct Subcommand {
     name: &'static str,
     about: &'static str,
+    // What stands at the end of its help.
+    after: &'static str,
     arguments: &'static [Argument],
 }
 
@@ -266,7 +236,7 @@ const WORKERS: Argument = Argument {
     form: Form::Number("N", 16),
     required: false,
     defaults: &["4"],
-    help: "How many threads hear gateways, 1 to 16",
+    help: "How many threads hear gateways, 1 to 16; with --listen and --forwarders at least 2",
 };
 
 const JOIN_WORKERS: Argument = Argument {
@@ -319,6 +289,15 @@ const RECORD: Argument = Argument {
     help: "A folder that is there, for the record with which the next run goes on; not with --closing",
 };
 
+// The record that a start would go on with.
+const CHECKED: Argument = Argument {
+    name: "record",
+    form: Form::Text("DIR"),
+    required: false,
+    defaults: &[],
+    help: "The folder of the record that a start would go on with",
+};
+
 const SYNC: Argument = Argument {
     name: "sync",
     form: Form::Switch,
@@ -360,21 +339,30 @@ const CLOSING: Argument = Argument {
     help: "Writes at the end the roster from which the next run begins",
 };
 
-// The command that answers recorded steps, the one that compacts a record, and the one that serves gateways.
-const COMMANDS: [Subcommand; 3] = [
+// The commands that answer recorded steps, say what a start would refuse, compact a record, and serve gateways.
+const COMMANDS: [Subcommand; 4] = [
     Subcommand {
         name: "replay",
         about: "Answers the step lines of standard input",
+        after: help::REPLAY,
         arguments: &[ROSTER, OUTPUT, CLOSING],
+    },
+    Subcommand {
+        name: "check",
+        about: "Says what a start of the server would refuse, without a start",
+        after: help::CHECK,
+        arguments: &[ROSTER, CHECKED],
     },
     Subcommand {
         name: "compact",
         about: "Makes a record shorter that no server runs on; later answers are the same",
+        after: help::COMPACT,
         arguments: &[ROSTER, FOLDER],
     },
     Subcommand {
         name: "serve",
         about: "Serves gateways over UDP, with a join server over HTTP",
+        after: help::SERVE,
         arguments: &[
             ROSTER,
             JOIN,
@@ -462,6 +450,7 @@ fn command<'a>(
     alloc: Global,
     name: &'static str,
     about: &'static str,
+    after: &'static str,
     arguments: &[Argument],
 ) -> Result<Command<'a>, AllocError>
     ensures { IfOk result (IsCommand (with_arguments (new_app name.entry.now) arguments.now)) }
@@ -469,7 +458,7 @@ fn command<'a>(
     let args = args_of(alloc, arguments)?;
     Command::new(alloc, name)
         .about(about)
-        .after_help(STREAMS)
+        .after_help(after)
         .args(args)
 }
 
@@ -479,7 +468,8 @@ fn commands_of<'a>(alloc: Global, rows: &[Subcommand]) -> Result<Vec<Command<'a>
 {
     let mut commands = Vec::new(alloc);
     for row in rows {
-        commands.push(command(alloc, row.name, row.about, row.arguments)?)?;
+        let made = command(alloc, row.name, row.about, row.after, row.arguments)?;
+        commands.push(made)?;
     }
     Ok(commands)
 }
@@ -496,10 +486,16 @@ fn commands<'a>(alloc: Global) -> Result<Command<'a>, AllocError>
     ensures { IfOk result (λ c. app_of c ≡ program) }
 {
     let commands = subcommands(alloc)?;
-    command(alloc, "lorawan_ns", "A LoRaWAN network server", &[])?
-        .version(VERSION)
-        .subcommand_required(true)
-        .subcommands(commands)
+    command(
+        alloc,
+        "lorawan_ns",
+        "A LoRaWAN network server",
+        help::PROGRAM,
+        &[],
+    )?
+    .version(VERSION)
+    .subcommand_required(true)
+    .subcommands(commands)
 }
 
 // The host that the option names.
@@ -662,12 +658,23 @@ fn read_limits(found: &ArgMatches<'_>) -> Result<Limits, BadWords>
     })
 }
 
+// Whether one thread is to hear at two sockets, of which each needs one of its own.
+fn is_one_for_both(addresses: &Addresses<'_>, workers: &Workers) -> bool
+    ensures one { result ≡ true → (is_some addresses.now.listen ≡ true) × (is_some addresses.now.forwarders ≡ true) × (workers.now.workers ≤ 1) }
+    ensures more { result ≡ false → is_some addresses.now.listen ≡ true → is_some addresses.now.forwarders ≡ true → 1 < workers.now.workers }
+{
+    addresses.listen.is_some() && addresses.forwarders.is_some() && workers.workers <= 1
+}
+
 // What the words after `serve` ask for.
 fn serve_options<'a>(found: &ArgMatches<'a>) -> Result<ServeOptions<'a>, BadWords>
     ensures { IsRead (rows_of (found_of found.now)) (λ options. IsServed options × HasOptions (rows_of (found_of found.now)) options) result }
 {
     let addresses = read_addresses(found)?;
     let workers = read_workers(found)?;
+    if is_one_for_both(&addresses, &workers) {
+        return Err(BadWords::BadValue(OptionName::Workers));
+    }
     let limits = read_limits(found)?;
     let output = output_of(found)?;
     Ok(ServeOptions {
@@ -720,6 +727,13 @@ fn read_replay<'a>(path: &'a str, found: &ArgMatches<'a>) -> Result<Asked<'a>, B
     Ok(Asked::Replay(path, output, flag(found, "closing")))
 }
 
+// And those after `check`.
+fn read_check<'a>(path: &'a str, found: &ArgMatches<'a>) -> Result<Asked<'a>, BadWords>
+    ensures { HasRoster (rows_of (found_of found.now)) path.entry.now → IsReadBehind (codes "check") (rows_of (found_of found.now)) result }
+{
+    Ok(Asked::Check(path, found.get_str("record")))
+}
+
 // And those after `compact`.
 fn read_compact<'a>(path: &'a str, found: &ArgMatches<'a>) -> Result<Asked<'a>, BadWords>
     ensures { HasRoster (rows_of (found_of found.now)) path.entry.now → IsReadBehind (codes "compact") (rows_of (found_of found.now)) result }
@@ -741,6 +755,8 @@ fn read_command<'a>(name: &str, found: &ArgMatches<'a>) -> Result<Asked<'a>, Bad
         read_serve(path, found)
     } else if name == "replay" {
         read_replay(path, found)
+    } else if name == "check" {
+        read_check(path, found)
     } else if name == "compact" {
         read_compact(path, found)
     } else {
@@ -750,7 +766,7 @@ fn read_command<'a>(name: &str, found: &ArgMatches<'a>) -> Result<Asked<'a>, Bad
 
 /// What the words ask for, each field by the option of its name. Where clap finds a fault in them by the program's rules, as an option that
 /// is unknown or a number out of its range, a text that says so is to be printed; and `BadValue` names an option of `serve` only where its
-/// value is none that it can have, or `record`, where it stands beside `--closing`. Want of memory is told as such, and never as a text
+/// value is none that it can have, `record`, where it stands beside `--closing`, or `workers`, where there is one for two sockets. Want of memory is told as such, and never as a text
 /// to print.
 pub fn read_words<'a>(alloc: Global, words: &'a [String]) -> Result<Asked<'a>, BadWords>
     ensures told { IfErr result IsTold }

@@ -10,7 +10,7 @@ use ns_log::Discard;
 use ns_replay::ReplayFault;
 use ns_roster::RosterFault;
 use ns_serve_parts::ServeFault;
-use ns_upkeep::compact;
+use ns_upkeep::{check, compact};
 use ns_words::{Asked, BadWords, read_words};
 use std::alloc::Global;
 use std::fs::File;
@@ -111,6 +111,7 @@ fn end_of<'a, R: Files<File = File> + AllocGlobal + Input + Print>(
             Ok(_) => End::Ran(Ok(())),
             Err(fault) => End::Ran(Err(fault)),
         },
+        Ok(Asked::Check(path, folder)) => End::Ran(check(rt, &Discard, path, folder)),
         Ok(Asked::Compact(path, folder)) => End::Ran(compact(rt, &Discard, path, folder)),
         Err(bad) => End::Refused(bad),
     }
@@ -127,7 +128,8 @@ fn status_of<R: Files<File = File> + AllocGlobal + Input + Print + Eprint>(
 }
 
 // A run whose roster is not there ends with status 1, also one that is to serve, and one of bad words with 2.
-const STATUSES: [(&str, u8); 4] = [
+const STATUSES: [(&str, u8); 5] = [
+    ("lorawan_ns check no/such/roster.json", 1),
     ("lorawan_ns replay no/such/roster.json --closing", 1),
     ("lorawan_ns serve no/such/roster.json --join 127.0.0.1:9", 1),
     ("lorawan_ns compact no/such/roster.json no/such", 1),

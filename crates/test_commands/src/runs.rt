@@ -1,11 +1,11 @@
 //! What runs write to standard output, and what the program's runtime hands on.
 
 use crate::stand_in::{LIMIT, SINCE_1970, SINCE_START, StandIn};
-use ns_commands::{Logging, Timed, VARIABLE, run_replay};
+use ns_commands::{Logging, Timed, VARIABLE, open_record, run_replay};
 use ns_device::worked::{ANSWER, CLOSE, JOIN, JOIN_2, ROSTER, UPLINK, UPLINK_2};
 use ns_log::{Discard, Log, debug, error, info, warn};
 use ns_output::Output;
-use ns_upkeep::compact;
+use ns_upkeep::{check, compact};
 use std::alloc::AllocError;
 use std::fs::File;
 use std::io::ErrorKind;
@@ -112,6 +112,64 @@ fn lines_before_and_after(rt: HostRuntime) {
     let stand_in = StandIn::new(rt, b"");
     assert!(rt; matches!(is_compacted(&stand_in), Ok(true)));
     assert!(rt; stand_in.has_printed("compacted 6 4\n"));
+}
+
+// The roster with another slot, to which no address of the record belongs.
+const MOVED: &str =
+    r#"{"version":1,"net_id":"000024","rx1_offset":0,"rx_delay":1,"devices":[{"dev_eui":"000000000000000d","join_eui":"0102030401020304","slot":1998322}]}"#;
+
+// Whether this file has these bytes.
+fn has_bytes<R: Files + AllocGlobal>(rt: &R, path: &str, wanted: &[u8]) -> io::Result<bool> {
+    Ok(fs::read(rt, path)?.as_slice() == wanted)
+}
+
+// Whether a record that a server has fits its roster, and not another one, a folder that is missing is refused, and no file has changed.
+fn is_checked<R: Files<File = File> + AllocGlobal>(rt: &R) -> io::Result<bool> {
+    let folder = "test_commands_check";
+    let _ = fs::remove_dir_all(rt, folder);
+    fs::create_dir(rt, folder)?;
+    let steps = STEPS.concat(rt.alloc())?;
+    fs::write(rt, "test_commands_check/steps", steps.as_bytes())?;
+    fs::write(rt, "test_commands_check/roster.json", ROSTER.as_bytes())?;
+    fs::write(rt, "test_commands_check/moved.json", MOVED.as_bytes())?;
+    let is_made = fs::exists(rt, "test_commands_check/up")?;
+    let fits = check(
+        rt,
+        &Discard,
+        "test_commands_check/roster.json",
+        Some(folder),
+    )
+    .is_ok();
+    let is_made_by_check = fs::exists(rt, "test_commands_check/up")?;
+    fs::write(rt, "test_commands_check/up", LINE.as_bytes())?;
+    let held = open_record(rt, &Discard, folder, false);
+    let fits_too = check(
+        rt,
+        &Discard,
+        "test_commands_check/roster.json",
+        Some(folder),
+    )
+    .is_ok();
+    let moves = check(rt, &Discard, "test_commands_check/moved.json", Some(folder)).is_ok();
+    let alone = check(rt, &Discard, "test_commands_check/moved.json", None).is_ok();
+    let gone = check(
+        rt,
+        &Discard,
+        "test_commands_check/roster.json",
+        Some("test_commands_check/gone"),
+    )
+    .is_ok();
+    let same = has_bytes(rt, "test_commands_check/steps", steps.as_bytes())?
+        && has_bytes(rt, "test_commands_check/up", LINE.as_bytes())?;
+    fs::remove_dir_all(rt, folder)?;
+    let is_left = !is_made && !is_made_by_check && same;
+    Ok(fits && held.is_ok() && fits_too && !moves && alone && !gone && is_left)
+}
+
+#[test]
+fn records_are_checked(rt: HostRuntime) {
+    let stand_in = StandIn::new(rt, b"");
+    assert!(rt; matches!(is_checked(&stand_in), Ok(true)));
 }
 
 // How it was refused, if it was.

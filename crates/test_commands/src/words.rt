@@ -69,7 +69,8 @@ pub(crate) fn words_of(
     Ok(words)
 }
 
-// What some words ask for: R to replay, J to replay with uplinks as JSON, C to replay with the closing roster, K to compact, U to serve with
+// What some words ask for: R to replay, J to replay with uplinks as JSON, C to replay with the closing roster, H to check
+// a roster, I with a record, K to compact, U to serve with
 // the usual options, D to serve with the closing roster, S to serve with others, O to serve with an own value of each option, T a text that
 // was asked for; V is a value that an option cannot have, E another error.
 fn asked(rt: &HostRuntime, words: &[String]) -> char {
@@ -77,6 +78,8 @@ fn asked(rt: &HostRuntime, words: &[String]) -> char {
         Ok(Asked::Replay("roster.json", Output::Lines, false)) => 'R',
         Ok(Asked::Replay("roster.json", Output::Json, false)) => 'J',
         Ok(Asked::Replay("roster.json", Output::Lines, true)) => 'C',
+        Ok(Asked::Check("roster.json", None)) => 'H',
+        Ok(Asked::Check("roster.json", Some("dir"))) => 'I',
         Ok(Asked::Compact("roster.json", "dir")) => 'K',
         Ok(Asked::Serve(path, options, _)) => letter_of_serving(path, &options),
         Ok(_) => '?',
@@ -125,6 +128,11 @@ const LINES: &[(&str, char)] = &[
     ("lorawan_ns replay roster.json --output json", 'J'),
     ("lorawan_ns replay roster.json --output JSON", 'V'),
     ("lorawan_ns replay roster.json --output ", 'V'),
+    ("lorawan_ns check roster.json", 'H'),
+    ("lorawan_ns check roster.json --record dir", 'I'),
+    ("lorawan_ns check", 'E'),
+    ("lorawan_ns check roster.json dir", 'E'),
+    ("lorawan_ns check roster.json --closing", 'E'),
     ("lorawan_ns compact roster.json dir", 'K'),
     ("lorawan_ns compact roster.json", 'E'),
     ("lorawan_ns --help", 'T'),
@@ -137,6 +145,19 @@ const LINES: &[(&str, char)] = &[
     (
         "lorawan_ns serve roster.json --join 127.0.0.1:8080 --closing",
         'D',
+    ),
+    // Each of two sockets needs a worker of its own.
+    (
+        "lorawan_ns serve roster.json --join 127.0.0.1:8080 --listen 127.0.0.1:1701 --forwarders 127.0.0.1:1700 --workers 1",
+        'V',
+    ),
+    (
+        "lorawan_ns serve roster.json --join 127.0.0.1:8080 --listen 127.0.0.1:1701 --forwarders 127.0.0.1:1700 --workers 2",
+        'S',
+    ),
+    (
+        "lorawan_ns serve roster.json --join 127.0.0.1:8080 --forwarders 127.0.0.1:1700 --workers 1",
+        'S',
     ),
     // Each option's value goes into the field of its name, and no other.
     (
@@ -271,7 +292,8 @@ const SHOWN: &[(&str, &str)] = &[
     ("--help", "Status"),
     ("--help", "docs/FORMATS.md"),
     ("--help", "log lines"),
-    ("--version", "lorawan_ns 0.1.0"),
+    ("--help", "RUST_LOG"),
+    ("--version", "lorawan_ns 0.1.0 (commit "),
 ];
 
 #[test]
@@ -280,6 +302,49 @@ fn help_names_streams_and_statuses(rt: HostRuntime) {
         assert!(rt;
             says(rt.alloc(), word, wanted) == Some(true),
             "{word} {wanted}"
+        );
+    }
+}
+
+// What the help of each command says, and what it does not, since it is of another command.
+const HELPS: &[(&str, &str, bool)] = &[
+    ("replay", "Example: lorawan_ns replay roster.json", true),
+    ("replay", "RUST_LOG", true),
+    ("replay", "--stop-at-end-of-input", false),
+    ("replay", "compact", false),
+    (
+        "check",
+        "Example: lorawan_ns check roster.json --record",
+        true,
+    ),
+    ("check", "RUST_LOG", true),
+    ("check", "step lines (replay)", false),
+    ("compact", "Example: lorawan_ns compact roster.json", true),
+    ("compact", "RUST_LOG", true),
+    ("compact", "--closing", false),
+    (
+        "serve",
+        "Example: lorawan_ns serve roster.json --join",
+        true,
+    ),
+    ("serve", "RUST_LOG", true),
+    ("serve", "compact", false),
+    ("serve", "answer lines", false),
+];
+
+// Whether the help of a command has this in it.
+fn help_says(alloc: Global, command: &str, wanted: &str) -> Option<bool> {
+    let words = words_of(alloc, "lorawan_ns", &[command, "--help"]).ok()?;
+    let text = text_by(alloc, words.as_slice())?;
+    Some(text.as_str().contains(wanted))
+}
+
+#[test]
+fn help_is_of_its_command(rt: HostRuntime) {
+    for &(command, wanted, there) in HELPS {
+        assert!(rt;
+            help_says(rt.alloc(), command, wanted) == Some(there),
+            "{command} {wanted}"
         );
     }
 }

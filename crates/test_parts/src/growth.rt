@@ -1,7 +1,7 @@
 //! Memory that is really gone: it is refused to the calls of a worked run until enough of it was given back.
 //!
 //! Blocks are given back one at a time, the smallest first. Several growths of one call may pass with one block, so these tests show what
-//! a refused call leaves and that it is answered in the end, and not each growth refused alone.
+//! a refused call leaves and that it is answered in the end; each growth is refused alone in `alone`.
 
 use crate::calls::{answers, call_of, roster};
 use ns_calls::{Call, Entry};

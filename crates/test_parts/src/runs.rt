@@ -136,8 +136,8 @@ const CLOSINGS: Steps = &[
 // A run of ten steps.
 const TEN: [Steps; 3] = [WORKED, NO_DEVICE, CLOSINGS];
 
-// The steps of it.
-fn ten_steps(alloc: Global) -> Option<Vec<Step>> {
+/// The steps of it.
+pub fn ten_steps(alloc: Global) -> Option<Vec<Step>> {
     let mut steps = Vec::new(alloc);
     for part in TEN {
         for &(line, _, _) in part {
@@ -155,8 +155,8 @@ fn is_answered(taken: Option<&Taken>, line: &str) -> bool {
     }
 }
 
-// Whether just the steps of the run are answered, each as is wanted.
-fn are_answered(taken: &[Taken]) -> bool {
+/// Whether just the steps of the run are answered, each as is wanted.
+pub fn are_answered(taken: &[Taken]) -> bool {
     let mut place = 0usize;
     for part in TEN {
         for &(_, line, _) in part {
@@ -196,7 +196,7 @@ fn refusals(alloc: Global) -> Option<u64> {
 }
 
 // There is no run, until there is memory for all of it. Blocks are given back one at a time, and several growths may pass with one, so they
-// may be refused together.
+// may be refused together; `alone` refuses each alone.
 #[test]
 fn memory_refused_to_a_whole_run(rt: HostRuntime) {
     assert!(rt; refusals(rt.alloc()) > Some(1));

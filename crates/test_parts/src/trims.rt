@@ -18,8 +18,8 @@ fn is_made(alloc: Global, shard: &mut Shard, line: &str) -> bool {
     shard.apply(call).is_ok()
 }
 
-// Makes a join of two copies and its answer.
-fn is_joined(alloc: Global, shard: &mut Shard) -> bool {
+/// Makes a join of two copies and its answer.
+pub fn is_joined(alloc: Global, shard: &mut Shard) -> bool {
     is_made(alloc, shard, JOIN) && is_made(alloc, shard, JOIN_2) && is_made(alloc, shard, ANSWER)
 }
 

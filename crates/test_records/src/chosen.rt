@@ -4,7 +4,9 @@ use crate::life::{Fewer, Life};
 use ns_calls::{Call, Reply};
 use ns_device::calls::{join, join_reply, uplink};
 use ns_resume::RecordFault;
+use ns_types::WindowName;
 use std::alloc::Global;
+use std::str;
 
 // A device's uplink is heard, and its window is closed.
 fn send(life: &mut Life, counter: u32, confirmed: bool) -> Result<(), RecordFault> {
@@ -130,4 +132,72 @@ fn is_bounded(alloc: Global) -> Result<bool, RecordFault> {
 #[test]
 fn lines_of_a_device_at_rest_are_bounded(rt: HostRuntime) {
     assert!(rt; is_bounded(rt.alloc()) == Ok(true));
+}
+
+// Uplinks with these counters, of which the first was not confirmed, is heard once more, confirmed, behind its closing: a device may do so
+// (LoRaWAN L2 1.0.4, 4.3.1.2). Gives its window.
+fn send_again(life: &mut Life, counter: u32) -> Result<Option<WindowName>, RecordFault> {
+    let Some(call) = uplink(1, 1, counter, true, 0) else {
+        return Ok(None);
+    };
+    let Reply::Again { window } = life.make(call)? else {
+        return Ok(None);
+    };
+    life.make(Call::Close { window })?;
+    Ok(Some(window))
+}
+
+// Of one session six uplinks, of which the third is acknowledged in a later round.
+fn live_again(life: &mut Life) -> Result<Option<WindowName>, RecordFault> {
+    life.make(join(1, 1, 0))?;
+    life.make(join_reply(1, 1, true))?;
+    for counter in 0..3u32 {
+        send(life, counter, false)?;
+    }
+    let window = send_again(life, 2)?;
+    for counter in 3..6u32 {
+        send(life, counter, false)?;
+    }
+    Ok(window)
+}
+
+// Its window is of the second round. Of its lines those stay of the join, of the first uplink, of the one that was acknowledged, of both
+// rounds, and of the last one; and a server that goes on with them acknowledges the next with number 1.
+fn goes_on_after_again(alloc: Global) -> Result<Option<bool>, RecordFault> {
+    let mut life = Life::new(alloc)?;
+    let Some(window) = live_again(&mut life)? else {
+        return Ok(None);
+    };
+    let fewer = life.fewer()?;
+    let once = without(
+        alloc,
+        str::from_utf8(life.steps.as_slice()).unwrap_or(""),
+        10,
+        14,
+    )?;
+    let wanted = without(alloc, once.as_str(), 4, 6)?;
+    if window.round != 2 || fewer.text() != wanted.as_str() || !life.take(&fewer, fewer.text())? {
+        return Ok(Some(false));
+    }
+    life.restart()?;
+    let Some(call) = uplink(1, 1, 6, true, 0) else {
+        return Ok(None);
+    };
+    let Reply::Opened { window } = life.make(call)? else {
+        return Ok(Some(false));
+    };
+    let reply = life.make(Call::Close { window })?;
+    Ok(Some(
+        reply
+            == Reply::Closed {
+                window,
+                ack: Some(1),
+            },
+    ))
+}
+
+/// A counter that came first unconfirmed and then, behind the closing, confirmed.
+#[test]
+fn records_with_a_later_round_are_compacted(rt: HostRuntime) {
+    assert!(rt; goes_on_after_again(rt.alloc()) == Ok(Some(true)));
 }

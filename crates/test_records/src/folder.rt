@@ -92,8 +92,8 @@ fn has_lines<R: Files<File = File> + AllocGlobal>(
     Ok(are_lines(bytes.as_slice(), parts))
 }
 
-// Whether the files of a folder have these lines, and those of a compaction are gone. Then the folder is taken away.
-fn has<R: Files<File = File> + AllocGlobal>(
+/// Whether the files of a folder have these lines, and those of a compaction are gone. Then the folder is taken away.
+pub fn has<R: Files<File = File> + AllocGlobal>(
     rt: &R,
     place: &Place,
     steps: &[&str],

@@ -19,16 +19,13 @@ const TEXT: [u8; 1024] = [b'x'; 1024];
 // From how many bytes on fewer steps take the place.
 const MANY: usize = 4_194_304;
 
-// How many bytes a join has that failed.
-const JOIN_LEN: usize = ASKED.len() + 65_537;
-
 // A record whose keeper looks after it.
 #[derive(Clone, Copy)]
 struct Grown<'a> {
     place: Place,
-    // Steps that it has for a while, one after the other, and that are to stay as they are.
-    before: &'a [&'a [u8]],
-    // Those that it has then.
+    // Steps that it has for so many looks, one after the other, and that are to stay as they are.
+    before: &'a [(&'a [u8], u32)],
+    // Those that it has then, for two looks.
     steps: &'a [u8],
     // Lines that come behind these while fewer are chosen.
     later: &'a str,
@@ -45,12 +42,13 @@ fn come<R: Files<File = File> + AllocGlobal>(rt: &R, path: &str, later: &str) ->
     fs::write(rt, path, steps.as_slice())
 }
 
-// A keeper looks after these steps twice.
+// A keeper looks after these steps so many times.
 fn look<R: Files<File = File> + Wait + AllocGlobal>(
     rt: &R,
     path: &str,
     steps: &[u8],
     later: &str,
+    looks: u32,
     keeper: &mut Keeper<'_, R, Lines<'_, R>>,
     record: &Recorder<RecordFiles>,
 ) -> io::Result<()> {
@@ -58,8 +56,9 @@ fn look<R: Files<File = File> + Wait + AllocGlobal>(
     if !later.is_empty() {
         come(rt, path, later)?;
     }
-    keeper.look_after(record);
-    keeper.look_after(record);
+    for _look in 0..looks {
+        keeper.look_after(record);
+    }
     Ok(())
 }
 
@@ -81,13 +80,13 @@ fn look_at_all<R: Files<File = File> + Wait + AllocGlobal>(
     record: &Recorder<RecordFiles>,
 ) -> io::Result<bool> {
     let path = grown.place.steps;
-    for steps in grown.before {
-        look(rt, path, steps, "", keeper, record)?;
+    for &(steps, looks) in grown.before {
+        look(rt, path, steps, "", looks, keeper, record)?;
         if !has_bytes(rt, path, steps)? {
             return Ok(false);
         }
     }
-    look(rt, path, grown.steps, grown.later, keeper, record)?;
+    look(rt, path, grown.steps, grown.later, 2, keeper, record)?;
     Ok(true)
 }
 
@@ -160,11 +159,6 @@ fn joins(alloc: Global, base: &str, count: usize) -> Result<Vec<u8>, AllocError>
     Ok(steps)
 }
 
-// So many of the first bytes.
-fn front(bytes: &[u8], count: usize) -> &[u8] {
-    bytes.get(..count).unwrap_or(bytes)
-}
-
 // Whether a record of so many joins stays as it is, which is shorter than 4 MiB just where the server does not stop.
 fn stays<R: Files<File = File> + Wait + AllocGlobal>(
     rt: &R,
@@ -218,25 +212,29 @@ fn grown_records_become_small(rt: HostRuntime) {
     assert!(rt; is_so);
 }
 
-// The closing of a window that is not open, which fits no record, and so many of these bytes.
-fn unfit(alloc: Global, steps: &[u8], count: usize) -> Result<Vec<u8>, AllocError> {
+// The closing of a window that is not open, which fits no record, and these bytes.
+fn unfit(alloc: Global, steps: &[u8]) -> Result<Vec<u8>, AllocError> {
     let mut unfit = text_of(alloc, &[CLOSE])?;
-    unfit.extend_from_slice(front(steps, count))?;
+    unfit.extend_from_slice(steps)?;
     Ok(unfit)
 }
 
-// What was logged where a record stays as it is at first, and becomes small later.
+// What was logged where a record stays as it is at first, and becomes small later: it cannot be done at the first look and at the 61st, and
+// is not tried at others before the 181st.
 fn log_of_unfit<R: Files<File = File> + Wait + AllocGlobal>(
     rt: &R,
     steps: &[u8],
 ) -> Option<Vec<u8>> {
-    // Without the last join: not twice what is unfit, which has half of these behind a line of 26 bytes.
-    let fewer = front(steps, steps.len().saturating_sub(JOIN_LEN));
-    let unfit = unfit(rt.alloc(), fewer, fewer.len() / 2).ok()?;
+    let unfit = unfit(rt.alloc(), steps).ok()?;
     let wanted = joins(rt.alloc(), BASE, 0).ok()?;
     let grown = Grown {
         place: place!("test_records_unfit"),
-        before: &[unfit.as_slice(), fewer],
+        before: &[
+            (unfit.as_slice(), 1),
+            (steps, 59),
+            (unfit.as_slice(), 1),
+            (steps, 119),
+        ],
         steps,
         later: "",
         rests: false,
@@ -244,11 +242,21 @@ fn log_of_unfit<R: Files<File = File> + Wait + AllocGlobal>(
     log_of(rt, &grown, wanted.as_slice())
 }
 
-/// Where it cannot be done they stay as they are, and it is tried again once they have twice as many bytes.
+// What is logged then.
+const LOG_OF_UNFIT: &str =
+    "[ERROR ns_compact::keeper] test_records_unfit: not compacted: record: line 1 does not fit the roster, 1 in a row
+[ERROR ns_compact::keeper] test_records_unfit: not compacted: record: line 1 does not fit the roster, 2 in a row
+[INFO  ns_compact::keeper] record: compacted 132 4
+";
+
+/// Where it cannot be done they stay as they are, an error is logged, and it is tried again after a minute of looks, then after two.
 #[test]
 fn unfit_records_are_tried_again(rt: HostRuntime) {
-    let is_so = match joins(rt.alloc(), "", 129) {
-        Ok(steps) => log_of_unfit(&rt, steps.as_slice()).is_some(),
+    let is_so = match joins(rt.alloc(), "", 64) {
+        Ok(steps) => match log_of_unfit(&rt, steps.as_slice()) {
+            Some(log) => log.as_slice() == LOG_OF_UNFIT.as_bytes(),
+            None => false,
+        },
         Err(_) => false,
     };
     assert!(rt; is_so);

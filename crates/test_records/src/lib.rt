@@ -2,12 +2,14 @@
 //!
 //! The lines of calls (ns_record), a start from a record (ns_resume), and compactions (ns_compact): which lines stay, that a
 //! server goes on the same after them, that too few lines are told as such, what is left of the files of a folder, also where `up` lines
-//! are missing, and when the record of a server that runs is compacted, and tried again. Also streams that fail and memory that is refused to
+//! are missing or ahead of the steps, and when the record of a server that runs is compacted, and tried again. Also streams that fail and memory that is refused to
 //! a whole `replay`, and the texts of faults and keys.
 //!
 //! They call what those crates give in public, and stand here so that no crate is proved once more for its tests.
 #![tactic(auto)]
 
+#[cfg(test)]
+mod ahead;
 #[cfg(test)]
 mod chosen;
 #[cfg(test)]

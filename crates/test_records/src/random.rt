@@ -137,6 +137,18 @@ impl Network {
         })
     }
 
+    // The uplink before is heard again, and half of the time as a confirmed one.
+    fn hear_again(&mut self) -> Result<(), RecordFault> {
+        let is_confirmed = self.random.below(2) == 0;
+        match self.last {
+            Some(sent) => self.hear(Sent {
+                is_confirmed: sent.is_confirmed || is_confirmed,
+                ..sent
+            }),
+            None => Ok(()),
+        }
+    }
+
     // An uplink is heard.
     fn hear(&mut self, sent: Sent) -> Result<(), RecordFault> {
         self.last = Some(sent);
@@ -173,10 +185,7 @@ impl Network {
             0..2 => self.ask(at),
             2..5 => self.answer(),
             5..16 => self.send(at),
-            16..24 => match self.last {
-                Some(sent) => self.hear(sent),
-                None => Ok(()),
-            },
+            16..24 => self.hear_again(),
             _ => self.close(),
         }
     }

@@ -9,6 +9,8 @@
 #[cfg(test)]
 mod forwarded;
 #[cfg(test)]
+mod in_time;
+#[cfg(test)]
 mod lives;
 #[cfg(test)]
 mod logged;

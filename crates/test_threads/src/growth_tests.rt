@@ -1,7 +1,7 @@
 //! Memory that is really gone, and given back block by block.
 //!
-//! Several growths may pass with one block, so these tests show what a refusal leaves and that the work is done in the end, and not each
-//! growth refused alone.
+//! Several growths may pass with one block, so these tests show what a refusal leaves and that the work is done in the end; each growth is
+//! refused alone in `alone_tests`.
 
 use crate::caller::{Caller, reply_to};
 use crate::gate_tests::Visited;
@@ -26,8 +26,8 @@ fn taken(alloc: Global) -> Option<Vec<Vec<u8>>> {
     Some(held)
 }
 
-// The reply to a call that is told at the gate.
-fn told<C: Caller>(caller: &mut C, call: Call, gate: &Told) -> Option<Reply> {
+/// The reply to a call that is told at the gate.
+pub fn told<C: Caller>(caller: &mut C, call: Call, gate: &Told) -> Option<Reply> {
     Some(caller.visit(call, Visited::Told(gate))?.entry.reply)
 }
 
@@ -53,8 +53,8 @@ fn until_answered<C: Caller>(
     None
 }
 
-// The calls of a run: a join, its answer, an answer too many, and an uplink that two gateways hear.
-fn call_at(place: u32) -> Option<Call> {
+/// The calls of a run: a join, its answer, an answer too many, and an uplink that two gateways hear.
+pub fn call_at(place: u32) -> Option<Call> {
     match place {
         0 => Some(join(DEVICE, 1)),
         1 | 2 => Some(join_reply(DEVICE, 1)),
@@ -64,8 +64,8 @@ fn call_at(place: u32) -> Option<Call> {
     }
 }
 
-// Whether it is the reply to the run's call at this place, and memory was refused where an entry or a window is the first.
-fn is_at(place: u32, reply: &Reply, refused: bool) -> bool {
+/// Whether it is the reply to the run's call at this place, and memory was refused where an entry or a window is the first.
+pub fn is_at(place: u32, reply: &Reply, refused: bool) -> bool {
     match reply {
         Reply::Ask { .. } => place == 0 && refused,
         Reply::Accepted { .. } => place == 1,
@@ -105,8 +105,8 @@ pub fn calls_refused<C: Caller>(alloc: Global, caller: &mut C) -> Option<u64> {
     Some(6)
 }
 
-// Whether there is memory for a new server of four workers.
-fn is_new<R: Threads + Wait + Clock + Sync>(
+/// Whether there is memory for a new server of four workers.
+pub fn is_new<R: Threads + Wait + Clock + Sync>(
     rt: &R,
     alloc: Global,
     roster: &Arc<Roster>,

@@ -5,6 +5,8 @@
 #![tactic(auto)]
 
 #[cfg(test)]
+mod alone_tests;
+#[cfg(test)]
 mod caller;
 #[cfg(test)]
 mod counter_tests;

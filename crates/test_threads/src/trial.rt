@@ -5,6 +5,7 @@ ghost use Rattle.std.specs.Arc.{arc_value};
 ghost use Rattle.ns_shard.specs.State.{no_entries};
 ghost use Rattle.ns_tally.specs.Tally.{AreNamed};
 
+use crate::alone_tests::{calls_alone, trim_alone};
 use crate::caller::{Caller, Ended, Serves, Worker};
 use crate::growth_tests::{calls_refused, closed_without, trim_refused};
 use crate::large_tests::{are_left_twice, is_half_open, long_trims, many_windows};
@@ -40,6 +41,9 @@ pub enum Trial<'a> {
     Refused,
     Closings,
     TrimRefused,
+    // The growth of this number is refused, and no other: of calls, or of a trim.
+    CallsAlone(u32),
+    TrimAlone(u32),
     LongRun,
     Trimmed(&'a Run),
     LongTrims,
@@ -126,6 +130,8 @@ fn made_by<C: Caller>(alloc: Global, caller: &mut C, trial: Trial, left: &mut Le
         Trial::Refused => calls_refused(alloc, caller),
         Trial::Closings => closed_without(alloc, caller),
         Trial::TrimRefused => trim_refused(alloc, caller),
+        Trial::CallsAlone(n) => calls_alone(alloc, caller, n),
+        Trial::TrimAlone(n) => trim_alone(alloc, caller, n),
         Trial::LongRun => long_run(alloc, caller, left),
         Trial::Trimmed(run) => run.make(alloc, caller),
         Trial::LongTrims => long_trims(caller),
@@ -138,7 +144,7 @@ fn made_by<C: Caller>(alloc: Global, caller: &mut C, trial: Trial, left: &mut Le
 fn is_left<E: Ended>(settled: &mut E, trial: Trial, left: &Left) -> bool {
     match trial {
         Trial::HeldBack => has_one(settled),
-        Trial::TrimRefused => {
+        Trial::TrimRefused | Trial::TrimAlone(_) => {
             let (mark, dropped, _) = settled.counts(13);
             (mark, dropped) == (14, 1)
         }

@@ -4,6 +4,7 @@ ghost use Rattle.std.specs.Prelude.{None};
 
 use crate::workers::frames::Response;
 use ns_calls::Downlink;
+use ns_device::growths::{pause, refuse};
 use ns_outside::{
     Connections, Datagrams, Downlinks, Job, JobSource, Jobs, JoinFault, Monitor, Next, Receipt,
     Received, Refused, Timer,
@@ -15,8 +16,8 @@ use std::sync::atomic::{AtomicU64, Ordering};
 /// A ticket that waits since a time, and the join server's response.
 pub type Asked = (&'static [u8; 23], u64, Response);
 
-/// What fails: the source at its end, each downlink, the write after so many, and memory but for so many blocks from one turn of the
-/// source to another.
+/// What fails: the source at its end, each downlink, the write after so many, memory but for so many blocks from one turn of the source to
+/// another, and the growth of a number alone (`growths` of ns_device; 0 is none).
 #[derive(Clone, Copy)]
 pub struct Faults {
     pub source: bool,
@@ -25,6 +26,7 @@ pub struct Faults {
     pub from: u32,
     pub to: u32,
     pub blocks: u32,
+    pub alone: u32,
 }
 
 /// Nothing fails.
@@ -35,6 +37,7 @@ pub const NONE: Faults = Faults {
     from: u32::MAX,
     to: u32::MAX,
     blocks: 0,
+    alone: 0,
 };
 
 /// A clock that goes on by a step with each look, and to the time that is waited for. It is a monitor too, and a join server that gives
@@ -217,9 +220,18 @@ impl<S: Drop> Scarce<S> {
         self.turn = self.turn.wrapping_add(1);
     }
 
-    /// Gives all memory back.
+    /// Has a growth from now on be refused, where the faults name one, and none in later runs over this source.
+    pub fn begin(&mut self) {
+        if self.faults.alone > 0 {
+            refuse(self.alloc, self.faults.alone);
+        }
+        self.faults.alone = 0;
+    }
+
+    /// Gives all memory back, and refuses no growth from now on.
     pub fn give_back(&mut self) {
         self.held.clear();
+        pause(self.alloc);
     }
 }
 

@@ -227,6 +227,7 @@ fn serve<S: Calls<R>, R: Wait + Clock>(
     let mut source = datagrams(alloc, list, faults)?;
     let mut jobs = Put::new(alloc, room);
     let mut sink = Fuse::new(alloc, Vec::new(alloc), 2000, None, faults.writes);
+    source.begin();
     let served = run_gateway(
         shared,
         pass,
@@ -283,6 +284,7 @@ fn answer<S: Calls<R>, R: Wait + Clock>(
     let host = HostName::new("js.local")?;
     let jobs = ListedJobs::new(askings(alloc, asks)?, faults.source);
     let mut jobs = Scarce::new(alloc, jobs, faults)?;
+    jobs.begin();
     let joined = run_join(
         alloc, shared, pass, around, around, &mut jobs, down, known, host,
     );
@@ -311,6 +313,7 @@ fn close<S: Calls<R>, R: Wait + Clock>(
     let most = if writes.is_some() { 2000 } else { 7 };
     let mut down = Sent::new(alloc, true)?;
     let mut sink = Fuse::new(alloc, Vec::new(alloc), most, None, writes);
+    jobs.begin();
     let ended = run_closer(
         alloc, shared, pass, around, jobs, &mut down, &mut sink, limit,
     );

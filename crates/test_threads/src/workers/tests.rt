@@ -76,16 +76,17 @@ const STARVED_ONCE: Faults = Faults {
     ..NONE
 };
 
-// The response with the worked JoinAns.
-const ACCEPTED: Response = Joined(1, 0x0f, 0);
+/// The response with the worked JoinAns.
+pub const ACCEPTED: Response = Joined(1, 0x0f, 0);
 
-// The device joins.
-const ASKS: Run = At(7, Serve(&[Frame(&JOIN_1, 1)], 1), NONE);
+/// The device joins.
+pub const ASKS: Run = At(7, Serve(&[Frame(&JOIN_1, 1)], 1), NONE);
 
-const JOINS: Run = At(7, Answer(&[(&JOIN_1, 7, ACCEPTED)]), NONE);
+/// Its join is answered.
+pub const JOINS: Run = At(7, Answer(&[(&JOIN_1, 7, ACCEPTED)]), NONE);
 
-// Its uplinks at counters 2 and 3 are heard.
-const HEARD: Run = At(7, Serve(&[Frame(&UP_2, 1), Frame(&UP_3, 1)], 2), NONE);
+/// Its uplinks at counters 2 and 3 are heard.
+pub const HEARD: Run = At(7, Serve(&[Frame(&UP_2, 1), Frame(&UP_3, 1)], 2), NONE);
 
 // Datagrams of four lengths that are refused, a Join-Request and an uplink.
 const MIXED: [Reads; 6] = [

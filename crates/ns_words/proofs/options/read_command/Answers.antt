@@ -26,13 +26,21 @@ returns-then-eq-2 c =
 pub returns-then-eq-3 : goal.returns-then-eq-3
 returns-then-eq-3 c =
     let found = found_of c.args.found.now in
-    let named = (bytes_eq-Decides c.args.name.now (codes "compact")).0 (sym c.if-eq-3.ensures) in
+    let named = (bytes_eq-Decides c.args.name.now (codes "check")).0 (sym c.if-eq-3.ensures) in
+    subst (λ (name : Text). IsReadBehind name (rows_of found) c.read_check.result) (sym named)
+    (c.read_check.ensures (first_of-got found (codes "ROSTER") c.in-Some.path.now (sym c.in-Some.ensures)))
+
+pub returns-then-eq-4 : goal.returns-then-eq-4
+returns-then-eq-4 c =
+    let found = found_of c.args.found.now in
+    let named = (bytes_eq-Decides c.args.name.now (codes "compact")).0 (sym c.if-eq-4.ensures) in
     subst (λ (name : Text). IsReadBehind name (rows_of found) c.read_compact.result) (sym named)
     (c.read_compact.ensures (first_of-got found (codes "ROSTER") c.in-Some.path.now (sym c.in-Some.ensures)))
 
-pub returns-else-eq-3 : goal.returns-else-eq-3
-returns-else-eq-3 c = inr (inr (λ named. elim named [
+pub returns-else-eq-4 : goal.returns-else-eq-4
+returns-else-eq-4 c = inr (inr (λ named. elim named [
   | inl is ↦ (let bad : false ≡ true = c.if-eq.ensures ∙ (bytes_eq-Decides c.args.name.now (codes "serve")).1 is in cc)
   | inr (inl is) ↦ (let bad : false ≡ true = c.if-eq-2.ensures ∙ (bytes_eq-Decides c.args.name.now (codes "replay")).1 is in cc)
-  | inr (inr is) ↦ (let bad : false ≡ true = c.if-eq-3.ensures ∙ (bytes_eq-Decides c.args.name.now (codes "compact")).1 is in cc)
+  | inr (inr (inl is)) ↦ (let bad : false ≡ true = c.if-eq-3.ensures ∙ (bytes_eq-Decides c.args.name.now (codes "check")).1 is in cc)
+  | inr (inr (inr is)) ↦ (let bad : false ≡ true = c.if-eq-4.ensures ∙ (bytes_eq-Decides c.args.name.now (codes "compact")).1 is in cc)
 ]))

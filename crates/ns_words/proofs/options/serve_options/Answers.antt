@@ -1,5 +1,7 @@
+use Rattle.std.proofs.Common.{codes, inr}
+use Rattle.clap.specs.Words.{found_of, rows_of}
 use Rattle.ns_words.specs.declared.options.OptionName.TheVariants.{Output}
-use Rattle.ns_words.proofs.RefusedLemmas.{read_on, refused_for}
+use Rattle.ns_words.proofs.RefusedLemmas.{is_address, one_worker, read_on, refused_for}
 use Rattle.ns_words.proofs.options.serve_options.Goals as goal
 
 pub returns-in_err-addresses : goal.returns-in_err-addresses
@@ -13,6 +15,14 @@ returns-in_err-limits c = read_on c.from_residual-in_err-limits.result _ _ c.in_
 
 pub returns-in_err-output : goal.returns-in_err-output
 returns-in_err-output c = refused_for c.from_residual-in_err-output.result _ _ Output c.in_err-output.field-0.0 c.in_err-output.ensures.refused.0 c.in_err-output.ensures.refused.1 c.from_residual-in_err-output.ensures.1
+
+pub returns-then-is_one_for_both : goal.returns-then-is_one_for_both
+returns-then-is_one_for_both c =
+    let rows = rows_of (found_of c.args.found.now) in
+    let a = c.in_ok-addresses.ensures in
+    let w = c.in_ok-workers.ensures in
+    let one = c.is_one_for_both.ensures.one c.if-is_one_for_both.true in
+    inr (is_address (codes "listen") rows _ a.listen one.0, is_address (codes "forwarders") rows _ a.forwarders one.1, one_worker rows _ w.workers one.2)
 
 pub returns : goal.returns
 returns c =
@@ -36,5 +46,6 @@ returns c =
         output = c.in_ok-output.ensures.output;
         events = c.flag.ensures;
         closing = c.flag-2.ensures;
+        both = c.is_one_for_both.ensures.more c.if-is_one_for_both.false;
       },
     )

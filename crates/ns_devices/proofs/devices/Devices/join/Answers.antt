@@ -1,8 +1,8 @@
 use Rattle.std.proofs.Common.{◌≡◌, None, sym}
 use Rattle.ns_types.specs.Ticket.{dev_eui}
 use Rattle.ns_devices.specs.Devices.{is_own, own_of, with_own_join}
-use Rattle.ns_devices.proofs.Positions.{find-nowhere, find-placed, change-nothing, set-placed}
-use Rattle.ns_devices.proofs.Euis.{agree-set}
+use Rattle.ns_devices.proofs.Positions.{find-nowhere, find-placed, change-nothing}
+use Rattle.ns_devices.proofs.Euis.{values-changed, agree-set}
 use Rattle.ns_devices.proofs.devices.Devices.join.Goals as goal
 use Rattle.ns_devices.proofs.devices.Devices.join.Goals.{After-from_residual}
 
@@ -16,7 +16,7 @@ pub returns-in_err-place-clause-devices : goal.returns-in_err-place-clause-devic
 returns-in_err-place-clause-devices c = change-nothing (is_own (dev_eui c.args.ticket.now)) (with_own_join c.args.ticket.now c.args.heard.now) c.args.self.now (none c)
 
 pub invariant_of-self : goal.invariant_of-self
-invariant_of-self c = agree-set (dev_eui c.args.ticket.now) _ _ _ _ _ _ c.self.invariant (rw (← c.self.view_is, c.dev_eui.ensures) at (sym c.in_ok-place.ensures.place)) c.index_mut.ensures.value c.join.ensures.device c.join.ensures.addr
+invariant_of-self c = agree-set _ _ _ _ _ c.self.invariant c.index_mut.ensures.value c.join.ensures.device c.join.ensures.addr
 
 pub returns-clause-decision : goal.returns-clause-decision
 returns-clause-decision c =
@@ -27,4 +27,4 @@ returns-clause-decision c =
 pub returns-clause-devices : goal.returns-clause-devices
 returns-clause-devices c =
     let at = rw (← c.self.view_is, c.dev_eui.ensures) at (sym c.in_ok-place.ensures.place) in
-    rw (← c.self.view_is) (set-placed (is_own (dev_eui c.args.ticket.now)) (with_own_join c.args.ticket.now c.args.heard.now) _ _ _ _ at c.index_mut.ensures.value c.join.ensures.own)
+    rw (← c.self.view_is) (values-changed (is_own (dev_eui c.args.ticket.now)) (with_own_join c.args.ticket.now c.args.heard.now) _ _ _ _ at c.index_mut.ensures.value c.join.ensures.own)

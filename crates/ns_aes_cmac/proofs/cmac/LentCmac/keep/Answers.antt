@@ -3,7 +3,7 @@ use Rattle.std.proofs.lemmas.List.{length-take-le}
 use Rattle.std.proofs.lemmas.Slice.{drop-put_mid}
 use Rattle.ns_aes_cmac.specs.CmacState.{CmacState}
 use Rattle.ns_aes_cmac.proofs.Pieces.{still_zero}
-use Rattle.ns_aes_cmac.proofs.cmac.Cmac.keep.Goals as goal
+use Rattle.ns_aes_cmac.proofs.cmac.LentCmac.keep.Goals as goal
 
 pub invariant_of-self : goal.invariant_of-self
 invariant_of-self c =

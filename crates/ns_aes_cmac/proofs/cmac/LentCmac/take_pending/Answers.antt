@@ -1,9 +1,9 @@
 use Rattle.std.proofs.Common.{◌≡◌, [], length, take, ap, ◌∙◌}
 use Rattle.ns_aes_cmac.specs.CmacState.{CmacState}
-use Rattle.ns_aes_cmac.specs.declared.cmac.Cmac.TheInside.{Inside}
+use Rattle.ns_aes_cmac.specs.declared.cmac.LentCmac.TheInside.{Inside}
 use Rattle.ns_aes_cmac.proofs.Pieces.{after_pending, pending_taken}
-use Rattle.ns_aes_cmac.proofs.cmac.Cmac.take_pending.Goals as goal
-use Rattle.ns_aes_cmac.proofs.cmac.Cmac.take_pending.Goals.{then-self, else-self}
+use Rattle.ns_aes_cmac.proofs.cmac.LentCmac.take_pending.Goals as goal
+use Rattle.ns_aes_cmac.proofs.cmac.LentCmac.take_pending.Goals.{then-self, else-self}
 
 pub returns : goal.returns
 returns c =

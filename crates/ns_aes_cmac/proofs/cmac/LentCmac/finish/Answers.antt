@@ -5,8 +5,8 @@ use Rattle.ns_aes_cmac.specs.Aes.{aes, xor_bytes}
 use Rattle.ns_aes_cmac.specs.Cmac.{last_block}
 use Rattle.ns_aes_cmac.proofs.Mix.{zip2_xor}
 use Rattle.ns_aes_cmac.proofs.Pieces.{cmac_is, whole_last, short_last, padded_is}
-use Rattle.ns_aes_cmac.proofs.cmac.Cmac.finish.Goals as goal
-use Rattle.ns_aes_cmac.proofs.cmac.Cmac.finish.Goals.{then-self, else-self, then-self-eq16, else-self-eq16}
+use Rattle.ns_aes_cmac.proofs.cmac.LentCmac.finish.Goals as goal
+use Rattle.ns_aes_cmac.proofs.cmac.LentCmac.finish.Goals.{then-self, else-self, then-self-eq16, else-self-eq16}
 
 pub returns : goal.returns
 returns c key m e =
