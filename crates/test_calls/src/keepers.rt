@@ -13,7 +13,7 @@ use ns_sessions::{AnswerDecision, DeviceState, JoinDecision};
 use ns_shard::{Dropped, Shard, TrimFault};
 use ns_types::{DevEui, DevNonce, Heard, Key, Ticket, WindowName};
 use ns_views::DataView;
-use ns_windows::{Window, Windows};
+use ns_windows::{Added, Window, Windows};
 use std::alloc::{AllocError, Global};
 use std::sync::Arc;
 
@@ -57,6 +57,18 @@ pub fn open_first(alloc: Global, window: Window) -> Result<Windows, AllocError> 
     let mut windows = Windows::new(alloc);
     windows.put(window)?;
     Ok(windows)
+}
+
+pub fn window_of(windows: &Windows, frame: &[u8]) -> Option<WindowName> {
+    windows.find(frame)
+}
+
+pub fn add_copy(windows: &mut Windows, name: &WindowName, heard: &Heard) -> Added {
+    windows.add_copy(name, heard)
+}
+
+pub fn open_of(windows: &Windows, eui: DevEui) -> usize {
+    windows.count(eui)
 }
 
 pub fn take_window(windows: &mut Windows, name: &WindowName) -> Option<Window> {
