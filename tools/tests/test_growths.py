@@ -190,8 +190,8 @@ class Calls(unittest.TestCase):
         self.check('test_parts', {'alone::each_growth_of_calls': 10, 'alone::each_growth_of_trims': 8, 'alone::each_growth_of_a_run': 50})
 
     def test_calls_of_a_server_and_its_workers(self):
-        self.check('test_threads', {'alone_tests::each_growth_of_a_servers_calls': 4, 'alone_tests::each_growth_of_a_servers_trim': 3,
-                                    'alone_tests::each_growth_of_a_new_server': 16, 'workers::alone::each_growth_of_workers': 10})
+        self.check('test_threads', {'alone_tests::each_growth_of_a_servers_calls': 10, 'alone_tests::each_growth_of_a_servers_trim': 20,
+                                    'alone_tests::each_growth_of_a_new_server': 100, 'workers::alone::each_growth_of_workers': 50})
 
 
 if __name__ == '__main__':

@@ -191,6 +191,7 @@ pub struct Scarce<S> {
     source: S,
     held: Vec<Vec<u8>>,
     turn: u32,
+    has_begun: bool,
     faults: Faults,
 }
 
@@ -202,6 +203,7 @@ impl<S: Drop> Scarce<S> {
             source,
             held: Vec::with_capacity(alloc, BLOCKS).ok()?,
             turn: 0,
+            has_begun: false,
             faults: *faults,
         })
     }
@@ -222,16 +224,18 @@ impl<S: Drop> Scarce<S> {
 
     /// Has a growth from now on be refused, where the faults name one, and none in later runs over this source.
     pub fn begin(&mut self) {
-        if self.faults.alone > 0 {
+        if self.faults.alone > 0 && !self.has_begun {
             refuse(self.alloc, self.faults.alone);
+            self.has_begun = true;
         }
-        self.faults.alone = 0;
     }
 
     /// Gives all memory back, and refuses no growth from now on.
     pub fn give_back(&mut self) {
         self.held.clear();
-        pause(self.alloc);
+        if self.has_begun {
+            pause(self.alloc);
+        }
     }
 }
 
