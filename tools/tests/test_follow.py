@@ -287,10 +287,9 @@ class FromServer(Recorded):
                 time.sleep(0.01)
             time.sleep(random.random() / 5)
             self.kill(server)
-            if turn % 2:
-                child.kill()
-                child.wait(LONGEST)
-                child = begin()
+            child.kill()
+            child.wait(LONGEST)
+            child = begin()
             server = self.life(roster, joins.where)
             gateway = self.gateway(0xa1, server)
         for device in devices:
@@ -481,7 +480,7 @@ class ToStore(Following):
         """Kills the store and the follower by turns; `count` says how many points there are."""
         store, writer = begin(), Writer(self.record)
         child = self.follow(*self.words)
-        for turn in range(KILLS):
+        for turn in range(2 * KILLS):
             writer.write(random.randrange(1, 100), turn % 3 == 0)
             time.sleep(random.random() / 5)
             if turn % 2:
