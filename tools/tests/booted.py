@@ -138,6 +138,8 @@ def scenario():
         except FileNotFoundError:
             return []
     wait_for(lambda: len(taken()) == 4, 'four uplinks')
+    with open('/var/lib/lorawan_ns_follow/taken', encoding='ascii') as file:
+        assert all('rssi' in json.loads(line)['rxInfo'][0] for line in file), 'no RSSI'
 
     # An upgrade, over which the sessions last; then a kill.
     before = pid()
