@@ -7,7 +7,7 @@
 
 It reads the `up` lines of the record in DIR as `lorawan_ns serve .. --record DIR` writes them, hands them on in their order, and writes
 CURSOR, the place up to which they were taken, only after the other side has taken them. So it goes on where it was after any restart of the
-server, of itself or of the other side. What was under way at a kill is handed on again, with the same `id`. It needs Python 3.9 and nothing
+server, of itself or of the other side. What was under way at a kill is handed on again, with the same `id`. It needs Python 3.11 and nothing
 else, and ends at SIGTERM and SIGINT with status 0.
 
     DIR                 the folder of the record, of which it reads `up` alone
@@ -16,6 +16,8 @@ else, and ends at SIGTERM and SIGINT with status 0.
     --until-end         ends once all that is there was taken
     --batch N           hands on up to N uplinks at a time (default 100)
     --name NAME         stands before each `id`; another one for each record, since an empty folder begins with session 1 again
+    --radio ROSTER      adds what the record's `steps` have of an uplink: address, FCtrl, and each copy's frequency, data rate, RSSI and SNR. An
+                        uplink that `steps` have no longer, after a compaction, goes without
     --decode FILE       Python with `decode(payload, port, dev_eui)`, which gives a dictionary of what a payload (bytes) means
 
   MQTT 3.1.1, QoS 1, a topic for each device:
@@ -26,7 +28,7 @@ else, and ends at SIGTERM and SIGINT with status 0.
     --ca FILE           TLS: the authority that signed the broker's certificate
     --cert FILE --key FILE                    TLS: the follower's own certificate
 
-  Line protocol over HTTP (InfluxDB 1 and 2, VictoriaMetrics, Telegraf): a 2xx answer is the receipt
+  Line protocol over HTTP, a 2xx answer is the receipt (tried with InfluxDB 1 and VictoriaMetrics; InfluxDB 2 and Telegraf speak it too):
     --influx URL        as http://127.0.0.1:8086/write?db=lorawan
     --token-file FILE   FILE's first line follows `Authorization: Token`
     --measurement NAME  (default uplink)
@@ -224,6 +226,91 @@ class Cursor:
         os.replace(self.path + '.new', self.path)
 
 
+# ---------------------------------------------------------------- What `steps` have of an uplink
+
+class Radio:
+    """The copies of the frames that were heard last, from the `heard` lines of `steps`, by address and the low half of the counter."""
+
+    MOST, TAIL = 20000, 1 << 23         # frames that are kept, bytes of `steps` that are read at first
+
+    def __init__(self, folder, roster):
+        self.path, self.roster, self.file, self.rest = os.path.join(folder, 'steps'), roster, None, b''
+        self.frames, self.addresses, self.changed = {}, {}, None
+
+    def read_roster(self):
+        """The addresses of the roster's devices (docs/FORMATS.md part 3), read again when it changes."""
+        try:
+            about = os.stat(self.roster)
+            if self.changed == (about.st_ino, about.st_mtime_ns):
+                return
+            with open(self.roster, encoding='utf-8') as file:
+                roster = json.load(file)
+            part = int(roster['net_id'][-2:], 16) & 63
+            self.addresses = {int(device['dev_eui'], 16): part << 25 | int(device['dev_eui'][-1], 16) << 21 | device['slot']
+                              for device in roster['devices']}
+            self.changed = about.st_ino, about.st_mtime_ns
+        except (OSError, ValueError, KeyError, TypeError) as why:
+            say('roster %s: %s: %s' % (self.roster, type(why).__name__, why))
+
+    def read_steps(self):
+        """Reads what `steps` have more. Other steps in their place are read too."""
+        while os.path.exists(self.path):
+            if self.file is None:
+                self.file, self.rest = open(self.path, 'rb'), b''
+                self.file.seek(max(0, os.fstat(self.file.fileno()).st_size - self.TAIL))
+            while True:
+                text = self.rest + self.file.read(1 << 20)
+                lines, _, self.rest = text.rpartition(b'\n')
+                for line in lines.split(b'\n'):
+                    if line.startswith(b'heard '):
+                        self.take(line[6:])
+                if len(text) < 1 << 20:
+                    break
+            if os.path.samestat(os.stat(self.path), os.fstat(self.file.fileno())):
+                return
+            self.file.close()
+            self.file = None
+
+    def take(self, text):
+        try:
+            datagram = bytes.fromhex(text.decode())
+            _, _, gateway, moment, hertz, rate, rssi, snr, size = struct.unpack_from('>BBQQIBhhB', datagram)
+        except (ValueError, struct.error):
+            return
+        frame = datagram[28:]
+        if size < 12 or frame[0] >> 5 not in (2, 4):
+            return
+        key = int.from_bytes(frame[1:5], 'little'), int.from_bytes(frame[6:8], 'little')
+        old, copies = self.frames.pop(key, (None, {}))
+        copies = copies if old == frame else {}
+        copies.setdefault('%016x' % gateway, (moment, hertz, rate, rssi / 10, snr / 10))
+        self.frames[key] = frame, copies
+        while len(self.frames) > self.MOST:
+            del self.frames[next(iter(self.frames))]
+
+    def add(self, uplinks):
+        """Adds what is known to these."""
+        self.read_roster()
+        self.read_steps()
+        for uplink in uplinks:
+            address = self.addresses.get(int(uplink['devEui'], 16))
+            frame, copies = self.frames.get((address, uplink['fCnt'] % 65536), (None, {}))
+            if frame is None or not all(copy['gatewayId'] in copies for copy in uplink['rxInfo']):
+                continue
+            uplink['devAddr'], uplink['confirmed'] = '%08x' % address, frame[0] >> 5 == 4
+            uplink.update((name, bool(frame[5] & bit)) for name, bit in (('adr', 0x80), ('adrAckReq', 0x40), ('ack', 0x20), ('classB', 0x10)))
+            for copy in uplink['rxInfo']:
+                moment, hertz, rate, rssi, snr = copies[copy['gatewayId']]
+                copy.update(moment=moment, frequency=hertz, dr=rate, **modulation(rate), rssi=rssi, snr=snr)
+
+
+def modulation(rate):
+    """What a data rate of EU868 is (RP002)."""
+    if rate == 7:
+        return {'bitRate': 50000}
+    return {'spreadingFactor': 12 - min(rate, 5), 'bandwidth': 250000 if rate == 6 else 125000}
+
+
 # ---------------------------------------------------------------- Shapes of an uplink
 
 def uplink_of(line, milliseconds, name, decode):
@@ -263,7 +350,14 @@ def chirpstack(uplink, application):
     event = {'deduplicationId': str(uuid.uuid5(NAMESPACE, uplink['id'])), 'time': uplink['time'],
              'deviceInfo': {'applicationId': application, 'applicationName': application, 'deviceName': uplink['devEui'],
                             'devEui': uplink['devEui'], 'tags': {}},
-             'fCnt': uplink['fCnt'], 'fPort': uplink.get('fPort', 0), 'data': uplink['data'], 'rxInfo': uplink['rxInfo']}
+             'fCnt': uplink['fCnt'], 'fPort': uplink.get('fPort', 0), 'data': uplink['data'],
+             'rxInfo': [{name: copy[name] for name in ('gatewayId', 'rssi', 'snr') if name in copy} for copy in uplink['rxInfo']]}
+    first = uplink['rxInfo'][0]
+    if 'devAddr' in uplink:
+        event.update((name, uplink[name]) for name in ('devAddr', 'adr', 'confirmed'))
+        kind = {'fsk': {'datarate': first['bitRate']}} if 'bitRate' in first else {
+            'lora': {'bandwidth': first['bandwidth'], 'spreadingFactor': first['spreadingFactor'], 'codeRate': 'CR_4_5'}}
+        event.update(dr=first['dr'], txInfo={'frequency': first['frequency'], 'modulation': kind})
     if 'object' in uplink:
         event['object'] = uplink['object']
     return event
@@ -272,12 +366,18 @@ def chirpstack(uplink, application):
 def things_stack(uplink, application):
     """The Things Stack's uplink message, as far as a record knows it."""
     message = {'f_port': uplink.get('fPort', 0), 'f_cnt': uplink['fCnt'], 'frm_payload': uplink['data'], 'received_at': uplink['time'],
-               'rx_metadata': [{'gateway_ids': {'gateway_id': 'eui-' + copy['gatewayId'], 'eui': copy['gatewayId'].upper()}}
-                               for copy in uplink['rxInfo']]}
+               'rx_metadata': [{'gateway_ids': {'gateway_id': 'eui-' + copy['gatewayId'], 'eui': copy['gatewayId'].upper()},
+                                **{name: copy[name] for name in ('rssi', 'snr') if name in copy}} for copy in uplink['rxInfo']]}
+    first = uplink['rxInfo'][0]
+    if 'spreadingFactor' in first:
+        message['settings'] = {'data_rate': {'lora': {'bandwidth': first['bandwidth'], 'spreading_factor': first['spreadingFactor']}},
+                               'frequency': str(first['frequency'])}
     if 'object' in uplink:
         message['decoded_payload'] = uplink['object']
     ids = {'device_id': 'eui-' + uplink['devEui'], 'application_ids': {'application_id': application.partition('@')[0]},
            'dev_eui': uplink['devEui'].upper()}
+    if 'devAddr' in uplink:
+        ids['dev_addr'] = uplink['devAddr'].upper()
     return {'end_device_ids': ids, 'correlation_ids': ['lorawan_ns:' + uplink['id']], 'received_at': uplink['time'],
             'uplink_message': message}
 
@@ -290,13 +390,20 @@ SHAPES = {'plain': ('lorawan/{devEui}/up', lambda uplink, application: uplink),
 def point_of(uplink, measurement):
     """A line of the line protocol. The time makes a repetition the same point."""
     fields = {'session': '%di' % uplink['session'], 'fcnt': '%di' % uplink['fCnt'], 'gateways': '%di' % len(uplink['rxInfo']),
-              'payload': '"%s"' % uplink['payload'], 'id': '"%s"' % uplink['id'].replace('\\', '\\\\').replace('"', '\\"')}
+              'payload': '"%s"' % uplink['payload'], **best_of(uplink), 'id': '"%s"' % uplink['id'].replace('\\', '\\\\').replace('"', '\\"')}
     for key, value in uplink.get('object', {}).items():
         fields[re.sub(r'([,= ])', r'\\\1', str(key))] = field_of(value)
     moment = datetime.strptime(uplink['time'], '%Y-%m-%dT%H:%M:%S.%fZ').replace(tzinfo=timezone.utc)
     nanoseconds = int(moment.timestamp()) * 10**9 + moment.microsecond * 1000
     port = ',port=%d' % uplink['fPort'] if 'fPort' in uplink else ''
     return '%s,device=%s%s %s %d' % (measurement, uplink['devEui'], port, ','.join('%s=%s' % row for row in fields.items()), nanoseconds)
+
+
+def best_of(uplink):
+    """The fields of the copy that was heard best."""
+    heard = [copy for copy in uplink['rxInfo'] if 'snr' in copy]
+    best = max(heard, key=lambda copy: copy['snr'], default=None)
+    return {} if best is None else {'rssi': repr(best['rssi']), 'snr': repr(best['snr']), 'dr': '%di' % best['dr']}
 
 
 def field_of(value):
@@ -465,6 +572,7 @@ class Follower:
 
     def __init__(self, options, sink):
         self.options, self.sink = options, sink
+        self.radio = Radio(options.folder, options.radio) if options.radio else None
         self.cursor = Cursor(options.cursor)
         self.seen = Seen(options.cursor + '.seen')
         self.lines = Lines(options.folder, self.cursor.now)
@@ -498,6 +606,8 @@ class Follower:
             return False
         uplinks = [uplink_of(line, self.seen.time_of(place), self.options.name, self.options.decode) for line, place in lines]
         uplinks = [uplink for uplink in uplinks if uplink]
+        if self.radio:
+            self.radio.add(uplinks)
         if uplinks:
             self.sink.take(uplinks)
         self.lines.offset = lines[-1][1]
@@ -569,7 +679,8 @@ def options_of(words):
     sinks.add_argument('--influx', help=argparse.SUPPRESS)
     sinks.add_argument('--exec', help=argparse.SUPPRESS)
     for name, default in (('name', ''), ('application', 'lorawan'), ('measurement', 'uplink'), ('client-id', None), ('topic', None), ('user', None),
-                          ('password-file', None), ('ca', None), ('cert', None), ('key', None), ('token-file', None), ('decode', None)):
+                          ('password-file', None), ('ca', None), ('cert', None), ('key', None), ('token-file', None), ('decode', None),
+                          ('radio', None)):
         parser.add_argument('--' + name, default=default, help=argparse.SUPPRESS)
     parser.add_argument('--shape', choices=sorted(SHAPES), default='plain', help=argparse.SUPPRESS)
     parser.add_argument('--batch', type=int, default=100, help=argparse.SUPPRESS)

@@ -44,9 +44,9 @@ def put(path, text, mode='w'):
 
 def table(*euis):
     """Roster and keys of these devices, by the tool."""
-    put('/root/devices.csv', 'dev_eui,join_eui,app_key\n' + ''.join('%016x,%016x,%s\n' % (eui, JOIN_EUI, APP_KEY.hex()) for eui in euis))
+    put('/srv/devices.csv', 'dev_eui,join_eui,app_key\n' + ''.join('%016x,%016x,%s\n' % (eui, JOIN_EUI, APP_KEY.hex()) for eui in euis))
     old = ['--old', ROSTER] if os.path.exists(ROSTER) else []
-    done('lorawan_ns-roster-from-csv', '/root/devices.csv', '--net-id', '000001', '--roster', ROSTER, '--keys', KEYS, *old)
+    done('lorawan_ns-roster-from-csv', '/srv/devices.csv', '--net-id', '000001', '--roster', ROSTER, '--keys', KEYS, *old)
 
 
 class Network:
@@ -138,6 +138,8 @@ def scenario():
         except FileNotFoundError:
             return []
     wait_for(lambda: len(taken()) == 4, 'four uplinks')
+    with open('/var/lib/lorawan_ns_follow/taken', encoding='ascii') as file:
+        assert all('rssi' in json.loads(line)['rxInfo'][0] for line in file), 'no RSSI'
 
     # An upgrade, over which the sessions last; then a kill.
     before = pid()

@@ -6,6 +6,7 @@ import random
 import shutil
 import signal
 import socket
+import sqlite3
 import subprocess
 import sys
 import tempfile
@@ -16,6 +17,7 @@ import urllib.parse
 import urllib.request
 
 from live import LONGEST, TOOLS, wait_for
+from test_serve_record import Recorded
 
 import follow
 
@@ -194,6 +196,18 @@ class ToProgram(Following):
         writer.write(1)
         wait_for(lambda: writer.ids() <= {uplink['id'] for uplink in self.uplinks()}, 'all lines')
 
+    def test_readings(self):
+        """The table of readings.py has a row for each uplink, also of those that are handed on twice."""
+        table = os.path.join(self.folder, 'readings.db')
+        writer = Writer(self.record)
+        writer.write(9)
+        for _ in range(2):
+            self.follow_to_end('--exec', '%s %s %s' % (sys.executable, os.path.join(TOOLS, 'readings.py'), table))
+            os.remove(self.cursor)
+        with sqlite3.connect(table) as rows:
+            found = rows.execute('SELECT device, session, counter, value FROM readings').fetchall()
+        self.assertEqual(sorted(found), sorted(('%016x' % eui, 1, number, number) for eui in (13, 14, 15) for number in range(3)))
+
     def test_one_at_a_time(self):
         Writer(self.record).write(1)
         self.follow(*self.words)
@@ -208,6 +222,84 @@ class ToProgram(Following):
         wait_for(self.uplinks, 'the first uplink')
         self.kill(child, signal.SIGTERM)
         self.assertEqual(child.returncode, 0)
+
+
+class FromServer(Recorded):
+    """The record of a real server that is killed again and again."""
+
+    def test_radio(self):
+        """With --radio each uplink has what `serve --output json` says of it, but for its times."""
+        taken = os.path.join(self.folder, 'taken')
+        joins, roster = self.joins([13, 14]), self.roster([13, 14])
+        server = self.life(roster, joins.where, '--output', 'json')
+        gateway, *devices = self.joined(server, 13, 14)
+        other = self.gateway(0xa2, server)
+        for counter in range(4):
+            for device in devices:
+                frame = device.uplink(counter, 7, b'test', confirmed=counter % 2 == 0)
+                gateway.heard(frame, snr=75 - counter)
+                other.heard(frame, snr=80)
+        server.out.wait('devEui', 8)
+        words = [sys.executable, FOLLOW, self.record, self.folder + '/cursor', '--until-end', '--exec', 'cat >> ' + taken, '--radio', roster]
+        subprocess.run(words, check=True, timeout=60)
+        said = {}
+        for line in server.out.all:
+            uplink = json.loads(line)
+            said['%s-%d-%d' % (uplink['devEui'], uplink['session'], uplink['fCnt'])] = uplink
+        with open(taken, encoding='ascii') as file:
+            uplinks = [json.loads(line) for line in file]
+        self.assertEqual(len(uplinks), 8)
+        for uplink in uplinks:
+            live = said[uplink.pop('id')]
+            for name in ('time', 'writtenAt'):
+                live.pop(name), uplink.pop(name, None)
+            self.assertEqual(uplink, live)
+        event = follow.chirpstack({**uplinks[0], 'id': 'x', 'time': 'y'}, 'meters')
+        self.assertEqual((event['txInfo']['modulation'], event['dr'], event['rxInfo'][0]['snr'], event['devAddr']),
+                         ({'lora': {'bandwidth': 125000, 'spreadingFactor': 7, 'codeRate': 'CR_4_5'}}, 5, uplinks[0]['rxInfo'][0]['snr'], uplinks[0]['devAddr']))
+        message = follow.things_stack({**uplinks[0], 'id': 'x', 'time': 'y'}, 'meters')['uplink_message']
+        self.assertEqual(message['settings'], {'data_rate': {'lora': {'bandwidth': 125000, 'spreading_factor': 7}}, 'frequency': '868100000'})
+        self.assertIn(',snr=8.0,dr=5i,', follow.point_of({**uplinks[0], 'id': 'x', 'time': '2026-12-01T00:00:00.000Z'}, 'uplink'))
+
+    def test_kills(self):
+        taken, cursor = os.path.join(self.folder, 'taken'), os.path.join(self.folder, 'cursor')
+        words = [sys.executable, FOLLOW, self.record, cursor, '--longest-pause', '0.5', '--exec', 'cat >> ' + taken]
+
+        def begin():
+            child = subprocess.Popen(words, stderr=subprocess.DEVNULL)
+            self.addCleanup(child.wait, LONGEST)
+            self.addCleanup(child.kill)
+            return child
+
+        def ids():
+            if not os.path.exists(taken):
+                return []
+            with open(taken, encoding='ascii') as file:
+                return [json.loads(line)['id'] for line in file if line.endswith('\n')]
+        joins, roster = self.joins([13, 14, 15]), self.roster([13, 14, 15])
+        server, child, counter = self.life(roster, joins.where), begin(), 0
+        gateway, *devices = self.joined(server, 13, 14, 15)
+        for turn in range(KILLS):
+            for _ in range(10):
+                for device in devices:
+                    gateway.heard(device.uplink(counter, 1, bytes([counter % 256])))
+                counter += 1
+                time.sleep(0.01)
+            time.sleep(random.random() / 5)
+            self.kill(server)
+            child.kill()
+            child.wait(LONGEST)
+            child = begin()
+            server = self.life(roster, joins.where)
+            gateway = self.gateway(0xa1, server)
+        for device in devices:
+            gateway.heard(device.uplink(counter, 1, b'last'))
+        server.out.wait('up ', 3)
+        self.kill(server)
+        uplinks = {'%s-%s-%s' % tuple(line.split()[1:4]) for line in self.lines(self.ups)}
+        self.assertGreater(len(uplinks), 3 * KILLS)
+        wait_for(lambda: uplinks <= set(ids()), 'all uplinks of the record')
+        self.assertEqual(set(ids()), uplinks)
 
 
 class Subscriber(threading.Thread):
@@ -388,7 +480,7 @@ class ToStore(Following):
         """Kills the store and the follower by turns; `count` says how many points there are."""
         store, writer = begin(), Writer(self.record)
         child = self.follow(*self.words)
-        for turn in range(KILLS):
+        for turn in range(2 * KILLS):
             writer.write(random.randrange(1, 100), turn % 3 == 0)
             time.sleep(random.random() / 5)
             if turn % 2:

@@ -76,7 +76,7 @@ class Packages(unittest.TestCase):
             self.assertNotIn('/usr/local', text)
             for word in re.findall(r'^(?:Exec\w+=\+?|BindReadOnlyPaths=)(/usr/\S+)|(/usr/share/\S+\.py)', text, re.MULTILINE):
                 for place in filter(None, word):
-                    self.assertTrue(place == '/usr/bin/python3' or os.path.exists(self.at(place[1:])), '%s of %s' % (place, path))
+                    self.assertTrue(place in ('/usr/bin/python3', '/usr/bin/systemd-run') or os.path.exists(self.at(place[1:])), place)
         self.assertEqual(sorted(self.text('DEBIAN/conffiles').split()), ['/etc/logrotate.d/lorawan-ns', '/etc/lorawan_ns/follow.conf',
                                                                          '/etc/lorawan_ns/join_server.conf', '/etc/lorawan_ns/serve.conf'])
 
@@ -174,8 +174,8 @@ class Chroots(Packages):
                          '-o', '-name', '*lorawan*', '-print').split()
 
     def bring(self, package):
-        shutil.copy(package, os.path.join(self.root, 'tmp', os.path.basename(package)))
-        return '/tmp/' + os.path.basename(package)
+        shutil.copy(package, os.path.join(self.root, 'srv', os.path.basename(package)))
+        return '/srv/' + os.path.basename(package)
 
     def test_life(self):
         """Installed, configured, upgraded with what the operator changed, removed and purged, after which nothing of it is left."""
@@ -183,9 +183,9 @@ class Chroots(Packages):
         self.assertIn('(commit ', self.does('lorawan_ns', '--version'))
         self.assertIn('--devnonces', self.does('lorawan_ns-join-server', '--help'))
         self.does('lorawan_ns-follow', '--help')
-        with open(os.path.join(self.root, 'tmp', 'table'), 'w', encoding='ascii') as file:
+        with open(os.path.join(self.root, 'srv', 'table'), 'w', encoding='ascii') as file:
             file.write('dev_eui,join_eui,app_key\n000000000000000d,0102030401020304,2b7e151628aed2a6abf7158809cf4f3c\n')
-        self.does('lorawan_ns-roster-from-csv', '/tmp/table', '--net-id', '000001', '--roster', '/etc/lorawan_ns/roster.json', '--keys', '/etc/lorawan_ns/keys')
+        self.does('lorawan_ns-roster-from-csv', '/srv/table', '--net-id', '000001', '--roster', '/etc/lorawan_ns/roster.json', '--keys', '/etc/lorawan_ns/keys')
         self.does('lorawan_ns', 'check', '/etc/lorawan_ns/roster.json')
         self.assertEqual(self.does('getent', 'group', 'lorawan_keys').split(':')[0], 'lorawan_keys')
         self.does('systemd-analyze', 'verify', '/usr/lib/systemd/system/lorawan_ns.service')

@@ -255,20 +255,32 @@ impl<'a, R: Files<File = File>, L: Log> Folder<'a, R, L> {
         Ok(ahead)
     }
 
+    // Puts steps that are prepared in the place of those of the record, or takes them away.
+    fn swap<T: Drop>(
+        &self,
+        files: &RecordFiles,
+        shorter: &ShorterSteps,
+        prepared: Result<T, RecordFault>,
+    ) -> Result<T, RecordFault> {
+        match prepared {
+            Ok(prepared) => {
+                had(files.replace(self.rt, self.log, shorter))?;
+                Ok(prepared)
+            }
+            Err(fault) => {
+                shorter.remove(self.rt);
+                Err(fault)
+            }
+        }
+    }
+
     /// Lets the steps of its record catch up with its `up` lines, of which some are not of these steps, as the end of the machine may leave
     /// them. All `up` lines stay, and none of their uplinks goes up again as far as the steps know its session. After a crash at any moment
     /// the folder has the old steps or the new ones; after a fault the steps are as before.
     pub fn recover(&self, mut files: RecordFiles) -> Result<(), RecordFault> {
         let shorter = had(ShorterSteps::create(self.rt, self.log, self.alloc, self.path))?;
-        let ahead = match self.prepare_ahead(&mut files, &shorter) {
-            Ok(ahead) => ahead,
-            Err(fault) => {
-                shorter.remove(self.rt);
-                return Err(fault);
-            }
-        };
-        had(files.replace(self.rt, self.log, &shorter))?;
-        let Ahead { lines, unknown, .. } = ahead;
+        let prepared = self.prepare_ahead(&mut files, &shorter);
+        let Ahead { lines, unknown, .. } = self.swap(&files, &shorter, prepared)?;
         let known = lines.saturating_sub(unknown);
         warn!(self.log; "record: up was {lines} lines ahead of steps: {known} are put down again, {unknown} are of no known session");
         Ok(())
@@ -279,15 +291,8 @@ impl<'a, R: Files<File = File>, L: Log> Folder<'a, R, L> {
     /// whole lines are there as before.
     pub fn compact(&self, mut files: RecordFiles) -> Result<Compacted, RecordFault> {
         let shorter = had(ShorterSteps::create(self.rt, self.log, self.alloc, self.path))?;
-        let compacted = match self.prepare(&mut files, &shorter) {
-            Ok(compacted) => compacted,
-            Err(fault) => {
-                shorter.remove(self.rt);
-                return Err(fault);
-            }
-        };
-        had(files.replace(self.rt, self.log, &shorter))?;
-        Ok(compacted)
+        let prepared = self.prepare(&mut files, &shorter);
+        self.swap(&files, &shorter, prepared)
     }
 }
 

@@ -156,7 +156,12 @@ fn new_lock<B: Naming, const K: usize>(
     ensures { AreFirst B.roster B.begun K shards.new.items }
 {
     let shard = shards.pop().unwrap();
-    Mutex::new(Kept::new(shard, book))
+    let _made = shard.made();
+    Mutex::new(Kept {
+        shard,
+        book,
+        apart: [0; 16],
+    })
 }
 
 // Puts passes with which nothing was made yet, where there is room for them.

@@ -141,7 +141,7 @@ pub fn uplink(
     requires open { CanOpen devices.old windows.old frame.now }
     ensures { UplinkEnds frame.now heard.now devices.old windows.old (uplink_reply devices.old windows.old frame.now) result devices.new windows.new }
 {
-    if let Some(addition) = windows.add_copy(frame, heard) {
+    if let Some(addition) = windows.add_copy_of(frame, heard) {
         return Ok(Event::Quiet(copy_reply(addition)));
     }
     let view = frame.view();

@@ -1,6 +1,7 @@
 pub mod Passing
 pub mod Pairs
 pub mod Names
+pub mod Counted
 pub mod Frames
 pub mod Opened
 pub mod Spots

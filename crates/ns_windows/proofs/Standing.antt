@@ -153,7 +153,7 @@ module _ (n : ℕ) (ps : List (Option Window)) (spots : WindowIndex) (s : Agree 
   copied-places : (heard : Heard) (i : ℕ) (w : Window) → window_at ps i ≡ Some w → places_with_copy i heard ps ≡ slice_set ps i (Some (with_copy heard w))
   copied-places heard i w at = ap (λ o. slice_set ps i (option_map (with_copy heard) o)) at
 
-  copied-in : (heard : Heard) (i : ℕ) (w : Window) → window_at ps i ≡ Some w → open_of (places_with_copy i heard ps) ≡ with_copy_in w.name heard (open_of ps)
+  pub copied-in : (heard : Heard) (i : ℕ) (w : Window) → window_at ps i ≡ Some w → open_of (places_with_copy i heard ps) ≡ with_copy_in w.name heard (open_of ps)
   copied-in heard i w at =
       ap open_of (copied-places heard i w at) ∙ open-changed w.name (with_copy heard) ps i w at (same_window-refl w.name) s.names
 

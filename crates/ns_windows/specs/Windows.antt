@@ -1,5 +1,5 @@
 -- Open windows as a list, in the order of their opening.
-use Rattle.std.specs.Prelude.{◌≡◌, ℕ, ◌+◌, Bool, false, not, ◌==◌, nat_lt, List, [], ◌∷◌, ◌++◌, length, map, filter, find, count_by, Option, bytes_eq, if◌then◌else◌}
+use Rattle.std.specs.Prelude.{◌≡◌, ℕ, ◌+◌, Bool, false, not, ◌==◌, nat_lt, List, [], ◌∷◌, ◌++◌, length, map, filter, find, count_by, Option, None, Some, bytes_eq, if◌then◌else◌}
 use Rattle.std.specs.List.{AllByRecursion}
 use Rattle.std.specs.Option.{option_map_or}
 use Rattle.ns_types.specs.declared.identity.DevEui.{DevEui}
@@ -11,6 +11,8 @@ use Rattle.ns_calls.specs.Entries.{most_copies}
 use Rattle.ns_windows.specs.declared.window.Window.{Window}
 use Rattle.ns_windows.specs.declared.window.Addition.{Addition}
 use Rattle.ns_windows.specs.declared.window.Addition.TheVariants.{Copied, Crowded}
+use Rattle.ns_windows.specs.declared.window.Added.{Added}
+use Rattle.ns_windows.specs.declared.window.Added.TheVariants as to_name
 
 abbrev pub is_named : WindowName → Window → Bool
 is_named name w = same_window w.name name
@@ -44,6 +46,15 @@ with_copy_in name heard windows = map (λ w. if is_named name w then with_copy h
 -- what comes of a copy for a window: the copy's place, from 1 on
 abbrev pub addition : Window → Addition
 addition w = if nat_lt (length w.copies.items) most_copies then Copied w.name (length w.copies.items + 1) else Crowded w.name
+
+-- what comes of a copy for the window of a name, if there is one
+abbrev pub added : Option Window → Added
+added None = to_name.NoWindow
+added (Some w) = if nat_lt (length w.copies.items) most_copies then to_name.Copied (length w.copies.items + 1) else to_name.Crowded
+
+-- the windows, where the one of a name, if there is one, has one copy more
+abbrev pub with_copy_named : WindowName → Heard → List Window → List Window
+with_copy_named name heard windows = option_map_or (λ w. with_copy_in w.name heard windows) (window_named name windows) windows
 
 -- the windows, where the one of a frame has one copy more
 abbrev pub with_copy_of : List ℕ → Heard → List Window → List Window

@@ -47,6 +47,14 @@ pub(crate) fn no_spots(alloc: Global) -> WindowIndex
     }
 }
 
+/// How many windows of a device are at places, where the first place has this number.
+pub(crate) fn count(places: &Places, first: usize, index: &WindowIndex, eui: DevEui) -> usize
+    requires { AreIndexed first places.now.items index.now }
+    ensures { result ≡ count eui (open_of places.now.items) }
+{
+    count_open(places, first, row_at(&index.devices, eui.0))
+}
+
 /// Whether so many windows of a device are at places, of which the first has this number. Only where it has as many spots they are counted.
 pub(crate) fn are_as_many(
     places: &Places,

@@ -12,5 +12,5 @@ mod rows;
 mod window;
 mod windows;
 
-pub use window::{Addition, BoxedWindow, Window};
+pub use window::{Added, Addition, BoxedWindow, Window};
 pub use windows::Windows;

@@ -1,9 +1,10 @@
 //! Windows at places in a queue, in the order of their opening.
 
-ghost use Rattle.std.specs.Prelude.{◌≡◌, true, ◌<◌, ◌+◌, ◌^◌, ◌++◌, length, map, option_map, option_to_list, filter, is_some, IfSome, IfNone, OnOk};
+ghost use Rattle.std.specs.Prelude.{◌≡◌, true, false, ◌<◌, ◌+◌, ◌^◌, ◌++◌, None, find, length, map, option_map, option_to_list, filter, is_some, IfSome, IfNone, OnOk};
+ghost use Rattle.std.specs.Option.{option_map_or};
 ghost use Rattle.std.specs.VecDeque.{deque_capacity};
-ghost use Rattle.ns_windows.specs.Windows.{with_copy, addition};
-ghost use Rattle.ns_windows.specs.Places.{window_at, is_open_at, passes, passes_at, places_with_copy, places_without, is_sparse, Leaves};
+ghost use Rattle.ns_windows.specs.Windows.{with_copy, addition, is_of};
+ghost use Rattle.ns_windows.specs.Places.{window_at, is_open_at, open_of, passes, passes_at, places_with_copy, places_without, is_sparse, Leaves};
 ghost use Rattle.ns_windows.specs.Rows.{NoneIsThere};
 
 use crate::rows::Spot;
@@ -52,6 +53,32 @@ pub(crate) fn is_at(places: &Places, place: usize, sought: Sought) -> bool
         return false;
     };
     is_sought(sought, window.as_ref())
+}
+
+// Whether the window at a place, if there is one, has a frame of these bytes.
+fn has_frame(place: &Option<BoxedWindow>, frame: &[u8]) -> bool
+    ensures { result ≡ option_map_or (is_of frame.now) place.now false }
+{
+    match place {
+        Some(window) => window.as_ref().frame.bytes() == frame,
+        None => false,
+    }
+}
+
+/// The place of the window of a frame of these bytes.
+pub(crate) fn place_of_frame(places: &Places, frame: &[u8]) -> Option<usize>
+    ensures found { IfSome result (λ place. passes_at (is_of frame.now) place places.now.items ≡ true) }
+    ensures none { IfNone result (find (is_of frame.now) (open_of places.now.items) ≡ None) }
+{
+    for at in 0..places.len() {
+        let Some(place) = places.get(at) else {
+            unreachable!()
+        };
+        if has_frame(place, frame) {
+            return Some(at);
+        }
+    }
+    None
 }
 
 /// The place of the window that is sought, where the first place has this number and the window has this mark, if it is at one of these

@@ -2,13 +2,14 @@
 
 ghost use Rattle.std.specs.Prelude.{◌≡◌, [], ◌∷◌, ◌++◌, None, is_some, nat_le, map, option_map, IfOk, OnOk, OnErr};
 ghost use Rattle.ns_calls.specs.Queries.{first};
-ghost use Rattle.ns_windows.specs.Windows.{window_named, window_of_frame, new_window, count, addition, with_copy_of, without};
+ghost use Rattle.ns_windows.specs.Windows.{window_named, window_of_frame, new_window, count, added, addition, with_copy_named, with_copy_of, without};
 
-use crate::index::{WindowIndex, are_as_many, clear, find, no_spots, put, reindexed};
+use crate::index::{WindowIndex, are_as_many, clear, count, find, no_spots, put, reindexed};
 use crate::places::{
-    Places, Sought, add_at, is_sparse, put_name, remove_empty, remove_leading_empty, take_at,
+    Places, Sought, add_at, is_sparse, place_of_frame, put_name, remove_empty,
+    remove_leading_empty, take_at,
 };
-use crate::window::{Addition, BoxedWindow, Window};
+use crate::window::{Added, Addition, BoxedWindow, Window};
 use ns_calls::DataFrame;
 use ns_types::{DevEui, Heard, Key, WindowName};
 use std::alloc::{AllocError, Global};
@@ -100,8 +101,41 @@ impl Windows {
         find(&self.places, self.first, &self.index, Sought::Name(name)).is_some()
     }
 
+    /// The name of the window of a frame of these bytes. It looks at each window; `add_copy_of` finds its window by the frame's address.
+    pub fn find(&self, frame: &[u8]) -> Option<WindowName>
+        ensures { result ≡ option_map (λ w. w.name) (window_of_frame frame.now self.now) }
+    {
+        let place = place_of_frame(&self.places, frame)?;
+        match self.places.get(place) {
+            Some(Some(window)) => Some(window.as_ref().name),
+            _ => None,
+        }
+    }
+
+    /// How many windows of a device are open.
+    pub fn count(&self, eui: DevEui) -> usize
+        ensures { result ≡ count eui self.now }
+    {
+        count(&self.places, self.first, &self.index, eui)
+    }
+
+    /// Adds a copy to the window of a name, where there is one, and where it has fewer than 16.
+    pub fn add_copy(&mut self, name: &WindowName, heard: &Heard) -> Added
+        ensures result { result ≡ added (window_named name.now self.old) }
+        ensures windows { self.new ≡ with_copy_named name.now heard.now self.old }
+    {
+        let Some(place) = find(&self.places, self.first, &self.index, Sought::Name(name)) else {
+            return Added::NoWindow;
+        };
+        match add_at(&mut self.places, place, heard) {
+            Some(Addition::Copied { place, .. }) => Added::Copied(place),
+            Some(Addition::Crowded { .. }) => Added::Crowded,
+            None => Added::NoWindow,
+        }
+    }
+
     /// Adds a copy to the window of a frame of equal bytes, where there is one, and where it has fewer than 16.
-    pub fn add_copy(&mut self, frame: &DataFrame, heard: &Heard) -> Option<Addition>
+    pub fn add_copy_of(&mut self, frame: &DataFrame, heard: &Heard) -> Option<Addition>
         ensures result { result ≡ option_map addition (window_of_frame frame.now self.old) }
         ensures windows { self.new ≡ with_copy_of frame.now heard.now self.old }
     {

@@ -166,7 +166,7 @@ pub is_address : (id : Text) (rows : List Row) (o : Option SocketAddr) → IsAdd
 is_address id rows None is there = cc
 is_address id rows (Some addr) is there = (addr, is)
 
-pub one_worker : (rows : List Row) (n : ℕ) → IsCount (codes "workers") 16 rows n → n ≤ 1 → IsCount (codes "workers") 16 rows 1
+pub one_worker : (rows : List Row) (n : ℕ) → IsCount (codes "workers") 16 rows n → n ≤ 1 → IsCount (codes "workers") 16 rows (1)
 one_worker rows n is most =
     let above : 0 < n = is.1 in
     let one : n ≡ 1 = omega arith in

@@ -65,7 +65,7 @@ address_rules =
 
 -- those about how many threads there are
 abbrev pub worker_rules : List Rule
-worker_rules = else_value (codes "4") (number_rule (codes "workers") 16) ∷ else_value (codes "1") (number_rule (codes "join-workers") 16) ∷ []
+worker_rules = else_value (codes "4") (number_rule (codes "workers") 16) ∷ else_value (codes "4") (number_rule (codes "join-workers") 16) ∷ []
 
 -- those about when a window is closed, the server stops, and a shard is trimmed
 abbrev pub limit_rules : List Rule

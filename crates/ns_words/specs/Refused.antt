@@ -49,7 +49,7 @@ IsAddress id rows = (addr : SocketAddr) × IsAddr id rows addr
 
 -- one thread is to hear at two sockets
 abbrev pub IsOneForBoth : List Row → Type 0
-IsOneForBoth rows = IsAddress (codes "listen") rows × IsAddress (codes "forwarders") rows × IsCount (codes "workers") 16 rows 1
+IsOneForBoth rows = IsAddress (codes "listen") rows × IsAddress (codes "forwarders") rows × IsCount (codes "workers") 16 rows (1)
 
 -- the option has a value that it cannot have
 abbrev pub HasBadValue : OptionName → List Row → Type 0

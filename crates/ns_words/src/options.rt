@@ -243,7 +243,7 @@ const JOIN_WORKERS: Argument = Argument {
     name: "join-workers",
     form: Form::Number("N", 16),
     required: false,
-    defaults: &["1"],
+    defaults: &["4"],
     help: "How many threads ask the join server, 1 to 16",
 };
 

@@ -147,7 +147,7 @@ fn close_all<
         ClosesAll S.roster shared.now.output (M.has_heard shared.now.monitor.now) (T.has_come timer.now) limit
         (J.given jobs.old) (J.given jobs.new) before after (take count.new receipts.new.items) result }
     ensures same { J.all jobs.new ≡ J.all jobs.old }
-    ensures room { vec_capacity receipts.new ≡ vec_capacity receipts.old }
+    ensures room { limit ≤ vec_capacity receipts.new }
     ensures sound { result ≢ Some WorkerFault.SinkFailed → W.has_failed sink.new ≡ false }
     ensures failed { result ≡ Some WorkerFault.SinkFailed → W.has_failed sink.new ≡ true }
 {

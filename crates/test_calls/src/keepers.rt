@@ -13,7 +13,7 @@ use ns_sessions::{AnswerDecision, DeviceState, JoinDecision};
 use ns_shard::{Dropped, Shard, TrimFault};
 use ns_types::{DevEui, DevNonce, Heard, Key, Ticket, WindowName};
 use ns_views::DataView;
-use ns_windows::{Window, Windows};
+use ns_windows::{Added, Window, Windows};
 use std::alloc::{AllocError, Global};
 use std::sync::Arc;
 
@@ -25,9 +25,10 @@ pub fn record(last_nonce: Option<DevNonce>) -> DeviceState {
 
 pub fn take_fresh(state: &mut DeviceState, view: &DataView<'_>) -> Option<(u32, u32)> {
     let fresh: Option<(u32, u32)> = state.fresh(view);
-    let (session, fcnt) = fresh?;
-    state.take(session, fcnt);
-    Some((session, fcnt))
+    if let Some((session, fcnt)) = fresh {
+        state.take(session, fcnt);
+    }
+    fresh
 }
 
 pub fn stale(state: &DeviceState, view: &DataView<'_>) -> Option<(u32, u32)> {
@@ -56,6 +57,18 @@ pub fn open_first(alloc: Global, window: Window) -> Result<Windows, AllocError> 
     let mut windows = Windows::new(alloc);
     windows.put(window)?;
     Ok(windows)
+}
+
+pub fn window_of(windows: &Windows, frame: &[u8]) -> Option<WindowName> {
+    windows.find(frame)
+}
+
+pub fn add_copy(windows: &mut Windows, name: &WindowName, heard: &Heard) -> Added {
+    windows.add_copy(name, heard)
+}
+
+pub fn open_of(windows: &Windows, eui: DevEui) -> usize {
+    windows.count(eui)
 }
 
 pub fn take_window(windows: &mut Windows, name: &WindowName) -> Option<Window> {

@@ -18,7 +18,7 @@ fn are_usual(options: &ServeOptions<'_>) -> bool {
         && options.power == 14
         && options.status.is_none()
         && options.workers == 4
-        && options.join_workers == 1
+        && options.join_workers == 4
         && options.window_ms == 200
         && options.stop_after.is_none()
         && !options.stop_at_end

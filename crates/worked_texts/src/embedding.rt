@@ -12,7 +12,7 @@ mod steps;
 mod threads;
 mod workers;
 
-use ns_calls::{Answer, Call, shard_of_call};
+use ns_calls::{Answer, Call, Outcome, shard_of_call};
 use ns_kept::untrimmed_histories_read_as_they_are;
 use ns_lines::lines;
 use ns_roster::Roster;
@@ -48,9 +48,13 @@ fn print_taken(rt: &impl Print, taken: &Taken) -> io::Result<()> {
     }
 }
 
-/// Takes a call to its shard, which has no entries before: the answer is the plain server's first one.
-pub fn first_answer(alloc: Global, roster: Arc<Roster>, call: Call) -> Result<Answer, AllocError>
-    ensures { IfOk result (λ a. a ≡ answer (arc_value roster) [] call) }
+/// Takes a call to its shard, which has no entries before: the answer is the plain server's first one. The shard is given back with it.
+pub fn first_answer(
+    alloc: Global,
+    roster: Arc<Roster>,
+    call: Call,
+) -> Result<(Shard, Answer), AllocError>
+    ensures { IfOk result (λ given. given.1 ≡ answer (arc_value roster) [] call) }
 {
     // A new shard has no entries. Its number has to be less than 16, and that of each call is.
     let mut shard = Shard::new(alloc, roster, shard_of_call(&call))?;
@@ -59,7 +63,8 @@ pub fn first_answer(alloc: Global, roster: Arc<Roster>, call: Call) -> Result<An
     // of the call is added. Where memory is refused nothing has changed, and the same call can be made again. A law of ns_kept says
     // that entries of which none was dropped read as they are.
     untrimmed_histories_read_as_they_are();
-    shard.apply(call)
+    let answer = shard.apply(call)?;
+    Ok((shard, answer))
 }
 
 // Runs the steps, then makes the one call, all on one thread, and prints what came of them.
@@ -92,8 +97,13 @@ fn own_shard(rt: &impl Print, alloc: Global, roster: Arc<Roster>) -> anyhow::Res
             snr: 75,
         },
     };
-    let answer = first_answer(alloc, roster, call)?;
-    print_answer(rt, shard_of_call(&call), 0, &answer)?;
+    let (mut shard, answer) = first_answer(alloc, roster, call)?;
+    print_answer(rt, shard.index(), 0, &answer)?;
+
+    // No answer came from the join server. The ticket is open, so this makes an entry, and takes no memory.
+    if let Some(answer) = shard.join_reply(&steps::TICKET, Outcome::Failed) {
+        print_answer(rt, shard.index(), 1, &answer)?;
+    }
     Ok(())
 }
 

@@ -1,27 +1,11 @@
-use Rattle.std.proofs.Common.{◌≡◌, ℕ, nat_le, length, count_by, false, List, Option, sym, ap, ◌∙◌, arith}
+use Rattle.std.proofs.Common.{◌≡◌, nat_le, length, count_by, false, sym, ap, ◌∙◌, arith}
 use Rattle.std.proofs.lemmas.Bool.Decides.{nat_tests}
-use Rattle.std.proofs.lemmas.List.Sums.{length-filter, count_by-le-length}
-use Rattle.ns_types.specs.declared.identity.DevEui.{DevEui}
-use Rattle.ns_rows.specs.Rows.{row_in}
-use Rattle.ns_windows.specs.declared.index.WindowIndex.{WindowIndex}
+use Rattle.std.proofs.lemmas.List.Sums.{count_by-le-length}
 use Rattle.ns_windows.specs.declared.rows.Spot.{Spot}
-use Rattle.ns_windows.specs.declared.window.Window.{Window}
 use Rattle.ns_windows.specs.Windows.{count}
 use Rattle.ns_windows.specs.Places.{open_of, is_open_at}
-use Rattle.ns_windows.specs.Rows.{device_of, counter_of, open_spots}
-use Rattle.ns_windows.specs.Indexed.{AreIndexed}
-use Rattle.ns_windows.proofs.Spots.{spots-count}
+use Rattle.ns_windows.proofs.Counted.{counted}
 use Rattle.ns_windows.proofs.index.are_as_many.Goals as goal
-
-module _ (first : ℕ) (ps : List (Option Window)) where
-  -- as many spots of a device are of open windows as it has
-  counted : (index : WindowIndex) → AreIndexed first ps index → (eui : DevEui) (spots : List Spot) → spots ≡ row_in index.devices.entries eui.0
-      → count_by (λ (s : Spot). is_open_at first ps s.number) spots ≡ count eui (open_of ps)
-  counted index known eui spots is =
-      sym (length-filter (λ s. is_open_at first ps s.number) spots)
-      ∙ ap (λ ss. length (open_spots first ps ss)) is
-      ∙ ap length (known.devices.spots eui.0)
-      ∙ spots-count device_of counter_of eui.0 first ps
 
 pub returns-then-spots-limit : goal.returns-then-spots-limit
 returns-then-spots-limit c =

@@ -21,7 +21,7 @@ returns-then-is_some-clause-closes g c =
 pub loop-count-init : goal.loop-count-init
 loop-count-init g c =
     let none = c.requires.none in
-    (c.requires.sound, none_yet _ _ none, none_yet _ _ none, refl, closed_begun _ _ _ _ _ _ _ _ none, refl)
+    (c.requires.sound, none_yet _ _ none, none_yet _ _ none, c.requires.room, closed_begun _ _ _ _ _ _ _ _ none, refl)
 
 pub loop-count-preserved : goal.loop-count-preserved
 loop-count-preserved g c =
@@ -32,7 +32,7 @@ loop-count-preserved g c =
       next.sound (not_that fault SinkFailed none),
       one_more_fits _ _ _ c.loop-count-test.true (next.count none),
       next.place,
-      next.room ∙ so.3,
+      subst (λ n. c.args.limit ≤ n) (sym next.room) so.3,
       closed_more _ _ _ _ _ _ _ _ _ _ _ _ c.in-Job.job fault none so.4 c.in-Job.ensures.given next.waited next.closes,
       c.in-Job.ensures.same ∙ so.5,
     )

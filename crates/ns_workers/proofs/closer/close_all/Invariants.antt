@@ -6,7 +6,7 @@ use Rattle.ns_workers.proofs.closer.close_all.Given as goal
 
 abbrev pub invariant-loop-count : goal.invariant-loop-count
 invariant-loop-count g l =
-    (g.W.Stream.has_failed l.sink ≡ false) × (l.count ≤ l.limit) × (l.count ≤ vec_len l.receipts) × (vec_capacity l.receipts ≡ vec_capacity l.fn.receipts)
+    (g.W.Stream.has_failed l.sink ≡ false) × (l.count ≤ l.limit) × (l.count ≤ vec_len l.receipts) × (l.limit ≤ vec_capacity l.receipts)
     × Closed g.S.Calls.roster l.shared.output (g.M.Monitor.has_heard l.shared.monitor.now) (g.T.Timer.has_come l.timer)
     (g.J.JobSource.given l.fn.jobs) (g.J.JobSource.given l.jobs)
     (effects (g.S.Calls.made l.fn.pass) None (g.D.Downlinks.taken l.fn.down) (g.W.Sink.taken l.fn.sink)) (effects (g.S.Calls.made l.pass) None (g.D.Downlinks.taken l.down) (g.W.Sink.taken l.sink)) (take l.count l.receipts.items)

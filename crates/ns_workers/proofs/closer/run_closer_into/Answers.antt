@@ -17,5 +17,5 @@ returns g c =
       front = all.does.front;
       sound = ends.sound;
       failed = ends.failed;
-      first = λ few. absurd (omega (arith, few, c.reserve.ensures, c.truncate.ensures.capacity, ends.room));
+      first = λ few. absurd (omega (arith, few, c.truncate.ensures.capacity, ends.room));
     }

@@ -4,8 +4,8 @@ use Rattle.ns_windows.specs.Windows.{is_of, window_of_frame, with_copy_of, addit
 use Rattle.ns_windows.specs.Places.{open_of, window_at}
 use Rattle.ns_windows.proofs.Opened.{passes-there}
 use Rattle.ns_windows.proofs.Standing.{framed-there, copied-open, copied-stand}
-use Rattle.ns_windows.proofs.windows.Windows.add_copy.Goals as goal
-use Rattle.ns_windows.proofs.windows.Windows.add_copy.Goals.{After-add_at}
+use Rattle.ns_windows.proofs.windows.Windows.add_copy_of.Goals as goal
+use Rattle.ns_windows.proofs.windows.Windows.add_copy_of.Goals.{After-add_at}
 
 here : (c : After-add_at) → (w : Window) × (window_at c.self.inside.places.items c.in_ok-place.place ≡ Some w) × (is_of c.args.frame.now w ≡ true)
 here c = passes-there (is_of c.args.frame.now) c.self.inside.places.items c.in_ok-place.place c.in_ok-place.ensures.found
