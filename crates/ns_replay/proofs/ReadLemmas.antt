@@ -1,15 +1,17 @@
 -- The lines of a source, as its blocks are read.
-use Rattle.std.proofs.Common.{◌≡◌, ℕ, ◌<◌, Bool, true, false, List, [], ◌∷◌, ◌++◌, length, Option, None, Some, option_map, refl, sym, ap, ◌∙◌, subst}
-use Rattle.std.specs.Prelude.{map}
+use Rattle.std.proofs.Common.{◌≡◌, ℕ, ◌+◌, ◌-◌, ◌≤◌, ◌<◌, Bool, true, false, List, [], ◌∷◌, ◌++◌, length, Option, None, Some, option_map, refl, sym, ap, ◌∙◌, subst, arith, eqb, take, drop, take-take, drop-drop}
+use Rattle.std.specs.Prelude.{map, position}
+use Rattle.std.specs.List.{slice_range}
+use Rattle.std.proofs.lemmas.Grind.{common_steps}
 use Rattle.std.specs.Io.KnownBytes.{Consumes, IsAtEnd}
-use Rattle.std.proofs.lemmas.List.{append_assoc, append-nil}
+use Rattle.std.proofs.lemmas.List.{append_assoc, append-nil, drop-take}
 use Rattle.ns_acts.specs.declared.step.Step.{Step}
-use Rattle.ns_runs.specs.Lines.{Gives, HasAll, Advances}
+use Rattle.ns_runs.specs.Lines.{Gives, Advances}
 use Rattle.ns_runs.proofs.LineSteps.{gives-more, gives-all}
-use Rattle.ns_steps.specs.StepLines.{step, steps, step_of}
-use Rattle.ns_steps.proofs.LineLemmas.{raw_lines_nil, raw_lines_ended, raw_lines_last}
+use Rattle.ns_steps.specs.StepLines.{step, step_of}
+use Rattle.ns_steps.proofs.LineLemmas.{feed_at, unended_before, raw_lines_nil, raw_lines_ended, raw_lines_last}
 use Rattle.ns_replay.specs.Output.{step_lines}
-use Rattle.ns_replay.specs.Private.Read.{ReadText, Unended, AreOf, left_by, lines_left}
+use Rattle.ns_replay.specs.Private.Read.{ReadText, Unended, left_by, lines_left}
 
 -- the step of a line
 abbrev pub step_in : List ℕ → Option Step
@@ -26,6 +28,39 @@ lines-ended line more unended = ap of_raw (raw_lines_ended line more unended)
 
 lines-last : (line : List ℕ) → 0 < length line → Unended line → step_lines line ≡ step_in line ∷ []
 lines-last line some unended = ap of_raw (raw_lines_last line some unended)
+
+-- ---- parts of a block
+
+pub take-range : (xs : List ℕ) (s e n : ℕ) → s + n ≤ e → take n (slice_range xs s e) ≡ slice_range xs s (s + n)
+take-range xs s e n within =
+    let count : s + n - s ≡ n = omega arith in
+    take-take n (e - s) (drop s xs) (omega arith) ∙ ap (λ k. take k (drop s xs)) (sym count)
+
+drop-range : (xs : List ℕ) (s e n : ℕ) → s + n ≤ e → drop n (slice_range xs s e) ≡ slice_range xs (s + n) e
+drop-range xs s e n within =
+    let count : e - s ≡ n + (e - (s + n)) = omega arith in
+    ap (λ k. drop n (take k (drop s xs))) count
+    ∙ drop-take n (e - (s + n)) (drop s xs)
+    ∙ ap (take (e - (s + n))) (drop-drop n s xs)
+
+length_range : (xs : List ℕ) (s e : ℕ) → s ≤ e → e ≤ length xs → length (slice_range xs s e) ≡ e - s
+length_range xs s e ordered within = grind (arith, common_steps)
+
+-- where a line ends in a block, it lies before the end of what was read
+pub end-within : (xs : List ℕ) (s e n : ℕ) → s ≤ e → e ≤ length xs → n < length (slice_range xs s e) → s + n < e
+end-within xs s e n ordered within less = omega (arith, length_range xs s e ordered within, less)
+
+-- what is read, where a line ends behind n bytes of it
+pub split-range : (xs : List ℕ) (s e n : ℕ) → s + n < e → position (λ b. eqb b 10) (slice_range xs s e) ≡ Some n
+    → slice_range xs s e ≡ slice_range xs s (s + n) ++ 10 ∷ slice_range xs (s + n + 1) e
+split-range xs s e n within at =
+    let sum : s + (n + 1) ≡ s + n + 1 = omega arith in
+    feed_at (slice_range xs s e) n at
+    ∙ ap (λ l. l ++ 10 ∷ drop (n + 1) (slice_range xs s e)) (take-range xs s e n (omega (arith, within)))
+    ∙ ap (λ l. slice_range xs s (s + n) ++ 10 ∷ l) (drop-range xs s e (n + 1) (omega (arith, within)) ∙ ap (λ k. slice_range xs k e) sum)
+
+pub unended-range : (xs : List ℕ) (s e n : ℕ) → s + n < e → position (λ b. eqb b 10) (slice_range xs s e) ≡ Some n → Unended (slice_range xs s (s + n))
+unended-range xs s e n within at = subst Unended (take-range xs s e n (omega (arith, within))) (unended_before (slice_range xs s e) n at)
 
 -- ---- a line that ends in the block
 
@@ -103,7 +138,7 @@ was-at-end old o empty ended =
     (subst (λ e. Gives (left_by e (old.begun ++ []) o) (Some (step_lines old.begun)) []) (sym ended) (ap step_lines (append-nil old.begun)))
 
 -- what was read of a line is the last one, where there is any
-pub last-line : (begun : List ℕ) (new : ReadText) (p : Option (List ℕ)) (more : Bool) → (more ≡ true → (0 < length begun) × Unended begun × (new.here ≡ begun)) → (more ≡ false → begun ≡ [])
+pub last-line : (begun : List ℕ) (new : ReadText) (p : Option (List ℕ)) (more : Bool) → (more ≡ true → (0 < length begun) × Unended new.here × (new.here ≡ begun)) → (more ≡ false → begun ≡ [])
     → new.begun ≡ [] → new.block ≡ [] → new.ended ≡ true → Advances (Some (step_lines begun)) (lines_left new p) more (step_in new.here)
 last-line begun new p false last none no_line no_block ended = ap step_lines (none refl) ∙ lines-nil
 last-line begun new p true last none no_line no_block ended =
@@ -112,4 +147,4 @@ last-line begun new p true last none no_line no_block ended =
     (subst (λ b. Gives (Some (step_lines begun)) (Some (step_lines (b ++ new.block))) (step_in new.here ∷ [])) (sym no_line)
     (subst (λ b. Gives (Some (step_lines begun)) (Some (step_lines b)) (step_in new.here ∷ [])) (sym no_block)
     (subst (λ l. step_lines begun ≡ step_in l ∷ step_lines []) (sym here)
-    (lines-last begun some unended ∙ ap (λ ls. step_in begun ∷ ls) (sym lines-nil)))))
+    (lines-last begun some (subst Unended here unended) ∙ ap (λ ls. step_in begun ∷ ls) (sym lines-nil)))))

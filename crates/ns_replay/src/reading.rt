@@ -1,6 +1,6 @@
 //! The lines of a source, read block by block.
 
-ghost use Rattle.std.specs.Prelude.{◌≡◌, ◌<◌, ◌+◌, ◌^◌, ◌∷◌, ◌++◌, [], false, true, length, option_map, take, IfOk, IfErr, OnOk, IfSome, ◌↔◌};
+ghost use Rattle.std.specs.Prelude.{◌≡◌, ◌<◌, ◌+◌, ◌^◌, ◌∷◌, ◌++◌, [], false, true, length, option_map, IfOk, IfErr, OnOk, OnErr, ◌↔◌};
 ghost use Rattle.ns_types.specs.declared.transfer.ReadFault.TheVariants.{Io};
 ghost use Rattle.ns_runs.specs.Lines.{Advances};
 ghost use Rattle.ns_steps.specs.StepLines.{step, step_of};
@@ -11,6 +11,7 @@ use ns_steps::{place_of, step};
 use ns_types::{Failed, ReadFault, Source};
 use std::alloc::{AllocError, Global};
 use std::marker::Model;
+use std::mem;
 
 // How many bytes are read at once, into memory that is taken before anything is read.
 const READ_ROOM: usize = 65_536;
@@ -26,28 +27,29 @@ pub struct LineReader {
     // Where in the block the line is that it is at, where it is not `carried`.
     start: usize,
     end: usize,
-    // What was read of a line before the block. It is the line that it is at, where that is `carried`.
+    // What was read of the next line before the block.
     line: Vec<u8>,
+    // The line that it is at, where that was `carried` from block to block.
+    whole: Vec<u8>,
     carried: bool,
     // Whether the source is at its end.
     ended: bool,
 }
 
 impl Model for LineReader {
-    ghost use Rattle.std.specs.Prelude.{◌≡◌, ◌<◌, ◌≤◌, ◌==◌, ℕ, [], false, length, if◌then◌else◌, slice_range};
-    ghost use Rattle.std.specs.List.{All};
+    ghost use Rattle.std.specs.Prelude.{◌≡◌, ◌<◌, ◌≤◌, ℕ, length, if◌then◌else◌, slice_range};
     ghost use Rattle.ns_replay.specs.Private.Read.{ReadText, Unended};
 
     ghost Value = { ReadText };
 
     ghost view = { λ r. record {
-      here = if r.carried then r.line.items else slice_range r.block.items r.start r.end;
-      begun = if r.carried then [] else r.line.items;
+      here = if r.carried then r.whole.items else slice_range r.block.items r.start r.end;
+      begun = r.line.items;
       block = slice_range r.block.items r.next r.filled;
       ended = r.ended;
     } };
 
-    ghost invariant = { λ r. (0 < length r.block.items) × (r.next ≤ r.filled) × (r.filled ≤ length r.block.items) × (r.start ≤ r.end) × (r.end ≤ length r.block.items) × (r.carried ≡ false → Unended r.line.items) };
+    ghost invariant = { λ r. (0 < length r.block.items) × (r.next ≤ r.filled) × (r.filled ≤ length r.block.items) × (r.start ≤ r.end) × (r.end ≤ length r.block.items) × Unended r.line.items };
 }
 
 // Memory of n bytes.
@@ -69,6 +71,7 @@ impl LineReader {
             start: 0,
             end: 0,
             line: Vec::new(alloc),
+            whole: Vec::new(alloc),
             carried: false,
             ended: false,
         })
@@ -81,10 +84,6 @@ impl LineReader {
         ensures part { IfOk result (λ found. found ≡ false → (self.new.begun ≡ self.old.begun ++ self.old.block) × (self.new.block ≡ []) × (length self.new.begun < 2 ^ 64)) }
         ensures ended { OnOk result (self.new.ended ≡ self.old.ended) }
     {
-        if self.carried {
-            self.line.clear();
-            self.carried = false;
-        }
         let rest = &self.block[self.next..self.filled];
         let Some(end) = place_of(b'\n', rest) else {
             self.line.extend_from_slice(rest)?;
@@ -93,12 +92,28 @@ impl LineReader {
         };
         if !self.line.is_empty() {
             self.line.extend_from_slice(&rest[..end])?;
-            self.carried = true;
+            self.next = self.next + end + 1;
+            self.carry();
+            return Ok(true);
         }
         self.start = self.next;
         self.end = self.next + end;
         self.next = self.end + 1;
+        self.carried = false;
         Ok(true)
+    }
+
+    // Goes to what was read of a line before the block, of which nothing is left then.
+    fn carry(&mut self)
+        ensures here { self.new.here ≡ self.old.begun }
+        ensures unended { Unended self.new.here }
+        ensures begun { self.new.begun ≡ [] }
+        ensures block { self.new.block ≡ self.old.block }
+        ensures ended { self.new.ended ≡ self.old.ended }
+    {
+        mem::swap(&mut self.line, &mut self.whole);
+        self.line.clear();
+        self.carried = true;
     }
 
     // Reads a block, and says whether the source is at its end.
@@ -120,15 +135,15 @@ impl LineReader {
     // Goes to what was read of a line that has no end, and says whether there is any.
     fn end(&mut self) -> bool
         requires { self.old.block ≡ [] }
-        ensures last { result ≡ true → (0 < length self.old.begun) × Unended self.old.begun × (self.new.here ≡ self.old.begun) }
+        ensures last { result ≡ true → (0 < length self.old.begun) × Unended self.new.here × (self.new.here ≡ self.old.begun) }
         ensures none { result ≡ false → self.old.begun ≡ [] }
         ensures rest { (self.new.begun ≡ []) × (self.new.block ≡ []) × (self.new.ended ≡ true) }
     {
         self.ended = true;
-        if self.carried || self.line.is_empty() {
+        if self.line.is_empty() {
             return false;
         }
-        self.carried = true;
+        self.carry();
         true
     }
 
@@ -177,7 +192,7 @@ impl<S: Source> StepSource<S> for LineReader {
     #[inline(always)]
     fn step<'a>(&'a self, room: &'a mut Vec<u8>) -> Result<Option<LentStep<'a>>, AllocError> {
         let line = if self.carried {
-            self.line.as_slice()
+            self.whole.as_slice()
         } else {
             &self.block[self.start..self.end]
         };

@@ -1,7 +1,7 @@
 use Rattle.std.proofs.Common.{inr}
 use Rattle.std.specs.Arc.{arc_value}
 use Rattle.ns_replay.specs.Output.{output}
-use Rattle.ns_replay.proofs.ClosingLemmas.{replay-output, replay-written}
+use Rattle.ns_replay.proofs.ClosingLemmas.{replay-output}
 use Rattle.ns_replay.proofs.FrontLemmas.{front-of}
 use Rattle.ns_replay.proofs.run.replay.Goals as goal
 
