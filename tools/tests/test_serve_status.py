@@ -1,14 +1,22 @@
 """What `serve --status` tells over HTTP: counts, devices and gateways, and a page; who is silent holds nobody up; no key stands in it."""
+import base64
+import hashlib
 import http.client
 import json
+import os
 import re
+import shutil
 import socket
 import subprocess
 import time
 import unittest
 
-from live import LONGEST, PROGRAM
+from json_schema import faults, schema
+from live import LONGEST, PROGRAM, TOOLS, Forwarder, rxpk, wait_for
 from serving import NOWHERE, Served
+
+MONITORING = os.path.join(TOOLS, 'monitoring')
+PROMTOOL, CHROMIUM = shutil.which('promtool'), shutil.which('chromium')
 
 EUIS = range(1, 9)
 WINDOW = ('--window', '20', '--status', '127.0.0.1:0')
@@ -24,11 +32,11 @@ class Told(Served):
         self.where = where.group(1), int(where.group(2))
         return server, joins
 
-    def asked(self, path, method='GET'):
+    def asked(self, path, method='GET', **fields):
         """The status, the head's fields and the body of a response."""
         connection = http.client.HTTPConnection(*self.where, timeout=LONGEST)
         try:
-            connection.request(method, path)
+            connection.request(method, path, headers=fields)
             response = connection.getresponse()
             return response.status, response.headers, response.read()
         finally:
@@ -37,6 +45,8 @@ class Told(Served):
     def list_of(self, name):
         status, fields, body = self.asked('/' + name)
         self.assertEqual((status, fields['Content-Type']), (200, 'application/json'))
+        rule = schema(name.partition('?')[0])
+        self.assertEqual(list(faults(json.loads(body), rule, rule)), [])
         return json.loads(body)
 
     def metrics(self):
@@ -45,9 +55,9 @@ class Told(Served):
         found = {}
         for line in body.decode().splitlines():
             if not line.startswith('#'):
-                name, number = re.fullmatch(r'lorawan_ns_(\w+(?:\{\w+="\w+"\})?) ([0-9]+)', line).groups()
+                name, number = re.fullmatch(r'(?:lorawan_)?(\w+(?:\{\w+="[^"]+"\})?) ([0-9.]+)', line).groups()
                 self.assertNotIn(name, found)
-                found[name] = int(number)
+                found[name] = float(number) if '.' in number else int(number)
         return found
 
     def network(self, server):
@@ -68,7 +78,8 @@ class Told(Served):
         """What is told agrees with what the devices did, and with the counts of the log."""
         server, joins = self.told('--stop-after', '41')
         before = time.time()
-        self.assertEqual(self.list_of('devices')['devices'], [])
+        self.assertEqual([(row['devEui'], row['session'], row['heardMs']) for row in self.list_of('devices')['devices']],
+                         [('%016x' % eui, None, None) for eui in EUIS])
         self.assertEqual(self.list_of('gateways')['gateways'], [])
         self.network(server)
         devices, gateways, metrics = self.list_of('devices'), self.list_of('gateways'), self.metrics()
@@ -83,6 +94,15 @@ class Told(Served):
             self.assertLessEqual(row['sinceMs'], row['heardMs'])
             self.assertLessEqual(row['heardMs'], devices['nowMs'])
         self.assertEqual({row['gatewayId']: row['frames'] for row in gateways['gateways']}, {'%016x' % 0xa1: 24, '%016x' % 0xa2: 16})
+        # 8 Join-Accepts of 33 bytes and 16 acknowledgements of 12, all at SF7 by the near gateway: 71.936 and 41.216 ms by Semtech's formula.
+        self.assertEqual({row['gatewayId']: (row['sent'], row['airtimeMs']) for row in gateways['gateways']},
+                         {'%016x' % 0xa1: (24, (8 * 71936 + 16 * 41216) // 1000), '%016x' % 0xa2: (0, 0)})
+        self.assertEqual(metrics['heard_devices{within="1h"}'], 8)
+        self.assertEqual(metrics['join_server_answer_seconds_count'], 8)
+        self.assertGreaterEqual(metrics['acknowledgement_delay_seconds_count'], 1)
+        self.assertEqual(metrics['build_info{version="%s"}' % subprocess.run([PROGRAM, '--version'], capture_output=True, text=True).stdout.split()[-1]], 1)
+        self.assertGreater(metrics['process_resident_memory_bytes'], 1_000_000)
+        self.assertLess(abs(metrics['process_open_fds'] - len(os.listdir('/proc/%d/fd' % server.child.pid))), 4)
         self.assertEqual((metrics['devices'], metrics['sessions'], metrics['gateways']), (8, 8, 2))
         self.assertEqual((metrics['open_windows'], metrics['open_tickets'], metrics['datagrams_total']), (0, 0, 40))
         self.assertEqual((metrics['replies_total{reply="opened"}'], metrics['replies_total{reply="closed"}']), (16, 16))
@@ -109,8 +129,20 @@ class Told(Served):
         self.assertEqual((status, fields['Content-Type'], fields['Content-Length']), (200, 'text/html; charset=utf-8', str(len(body))))
         self.assertTrue(body.startswith(b'<!doctype html>'))
         self.assertNotIn(b'http', body.replace(b'/devices', b''))
-        for path in ('/', '/metrics', '/devices', '/gateways'):
+        policy = fields['Content-Security-Policy']
+        for tag in ('script', 'style'):
+            text = re.search('<%s>(.*?)</%s>' % (tag, tag), body.decode(), re.DOTALL).group(1)
+            named = base64.b64encode(hashlib.sha256(text.encode()).digest()).decode()
+            self.assertIn("%s-src 'sha256-%s'" % (tag, named), policy)
+        for rule in ("default-src 'none'", "base-uri 'none'", "form-action 'none'", "frame-ancestors 'none'"):
+            self.assertIn(rule, policy)
+        for path in ('/', '/metrics', '/devices', '/gateways', '/healthz', '/devices?limit=1', '/metrics?x'):
             self.assertEqual(self.asked(path, 'HEAD')[::2], (200, b''))
+        self.assertEqual(self.asked('/healthz')[::2], (200, b'ok\n'))
+        self.assertEqual([row['devEui'] for row in self.list_of('devices?after=%016x&limit=2' % EUIS[2])['devices']],
+                         ['%016x' % eui for eui in EUIS[3:5]])
+        self.assertEqual(self.list_of('devices?since=0')['devices'], [])
+        self.assertEqual([self.asked('/devices?' + query)[0] for query in ('limit=x', 'after=%016x' % 99)], [400, 404])
         self.assertEqual(self.asked('/keys')[::2], (404, b'404 Not Found'))
         status, fields, body = self.asked('/devices', 'DELETE')
         self.assertEqual((status, fields['Allow'], body), (405, 'GET, HEAD', b'405 Method Not Allowed'))
@@ -120,6 +152,129 @@ class Told(Served):
                 self.assertIn(b' %s ' % status, asker.recv(100))
         self.gateway(0xa1, server).send(b'')
         self.assertEqual(server.lines(), ['settled 0'])
+
+    def test_hosts(self):
+        """Addresses, `localhost` and the name of an option are met; a page of another name is not, whatever it asks for (DNS rebinding)."""
+        server, _ = self.told('--stop-after', '1', '--status-host', 'ns.example')
+        for host, status in (('127.0.0.1:9108', 200), ('[::1]', 200), ('localhost', 200), ('NS.example:80', 200), ('ns.example.org', 421),
+                             ('evil.example', 421), ('127.0.0.1.evil.example', 421)):
+            self.assertEqual(self.asked('/devices', Host=host)[0], status, host)
+        with socket.create_connection(self.where, LONGEST) as asker:
+            asker.sendall(b'GET / HTTP/1.1\r\nHost: 127.0.0.1\r\nHost: evil.example\r\n\r\n')
+            self.assertIn(b' 400 ', asker.recv(100))
+        self.gateway(0xa1, server).send(b'')
+        self.assertEqual(server.lines(), ['settled 0'])
+
+    def test_record(self):
+        """A start with a record knows the sessions and counters of before, and counts what is missed from there."""
+        record = os.path.join(self.folder, 'record')
+        os.mkdir(record)
+        joins = self.joins(EUIS)
+        server = self.serve(self.roster(EUIS), joins.where, '--window', '20', '--record', record, '--stop-after', '3', level='info')
+        near = self.gateway(0xa1, server)
+        device = self.device(3)
+        near.join(device, 1)
+        for counter in (0, 500):
+            near.heard(device.uplink(counter, 1, b'x', confirmed=True))
+            near.downlink()
+        server.lines()
+        server, _ = self.told('--record', record, '--stop-after', '1')
+        rows = {row['devEui']: row for row in self.list_of('devices')['devices']}
+        self.assertEqual(len(rows), 8)
+        self.assertEqual(rows['%016x' % 3], {'devAddr': device.address[::-1].hex(), 'devEui': '%016x' % 3, 'fCnt': 500, 'gatewayId': None,
+                                            'heardMs': None, 'missed': 0, 'session': 1, 'sinceMs': None})
+        self.assertEqual(self.metrics()['sessions'], 1)
+        near = self.gateway(0xa1, server)
+        near.heard(device.uplink(503, 1, b'x', confirmed=True))
+        near.downlink()
+        server.lines()
+
+    def test_lost(self):
+        """What the system drops since the buffer of the socket is full is counted and logged."""
+        server, _ = self.told('--workers', '1')
+        os.kill(server.child.pid, 19)
+        gateway = self.gateway(0xa1, server)
+        for _ in range(3000):
+            gateway.send(bytes(500))
+        os.kill(server.child.pid, 18)
+        server.log.wait('datagrams lost: the system dropped them')
+        told = sum(int(line.split()[-14].split(']')[-1]) for line in server.log.all if 'datagrams lost: the system' in line)
+        wait_for(lambda: self.metrics()['datagrams_total'] + told == 3000, 'all 3,000 datagrams')
+        self.assertEqual(self.metrics()['lost_datagrams_total'], told)
+
+    def test_forwarders(self):
+        """Counts of forwarders, and of each gateway what it sent and what was sent to it; one that sends no frame is listed."""
+        server, _ = self.told('--workers', '2', '--forwarders', '127.0.0.1:0', level='debug')
+        where = next(line.split()[-1] for line in server.log.all if line.split(']')[-1].startswith(' forwarders '))
+        where = where.rpartition(':')[0], int(where.rpartition(':')[2])
+        forwarder, quiet = (Forwarder(eui.to_bytes(8, 'big'), where) for eui in (0xa1, 0xa2))
+        self.addCleanup(forwarder.close)
+        self.addCleanup(quiet.close)
+        quiet.pull()
+        quiet.send(quiet.up, 0, b'{ "stat" : {"time":"2026-07-18 09:34:10 GMT","rxnb":0}}')
+        quiet.up.recv(100)
+        forwarder.pull()
+        device = self.device(3)
+        forwarder.push(rxpk(device.join_request(1), 1_000_000), rxpk(b'x', 1, stat=-1), rxpk(b'x', 1, freq=915.0))
+        downlink = forwarder.downlink(error='TOO_LATE')
+        device.accept(base64.b64decode(downlink['data']))
+        server.log.wait('frame of gateway 00000000000000a1 refused: F8')
+        server.log.wait('frame of gateway 00000000000000a1 refused: F10, freq, modu or datr')
+        wait_for(lambda: self.metrics()['forwarder_downlinks_total{outcome="TOO_LATE"}'] == 1, 'an outcome')
+        metrics = self.metrics()
+        self.assertEqual([metrics['forwarder_%s' % name] for name in (
+            'messages_total{kind="push"}', 'messages_total{kind="pull"}', 'messages_total{kind="tx_ack"}', 'frames_total',
+            'refusals_total{fault="F8"}', 'refusals_total{fault="F10"}')], [2, 2, 1, 1, 1, 1])
+        rows = {row['gatewayId']: row for row in self.list_of('gateways')['gateways']}
+        one, two = rows['%016x' % 0xa1], rows['%016x' % 0xa2]
+        self.assertEqual((one['frames'], one['sent'], one['refused'], one['airtimeMs'], one['statMs']), (1, 1, 1, 71, None))
+        self.assertIsNotNone(one['pullMs'])
+        self.assertEqual((two['frames'], two['sent'], two['heardMs']), (0, 0, None))
+        self.assertIsNotNone(two['pullMs'])
+        self.assertIsNotNone(two['statMs'])
+        self.assertIn('gateway_last_heard_timestamp_seconds{gateway="%016x"}' % 0xa2, metrics)
+
+    @unittest.skipUnless(PROMTOOL, 'promtool is not installed (apt-get install prometheus)')
+    def test_promtool(self):
+        """Prometheus' own tool finds no fault in the metrics, and none in the rules; and these fire on worked series."""
+        server, _ = self.told('--workers', '2', '--forwarders', '127.0.0.1:0')
+        self.gateway(0xa1, server).heard(b'x')
+        done = subprocess.run([PROMTOOL, 'check', 'metrics'], input=self.asked('/metrics')[2], capture_output=True, timeout=LONGEST)
+        self.assertEqual((done.returncode, done.stdout, done.stderr), (0, b'', b''))
+        rules = os.path.join(MONITORING, 'lorawan_ns.rules.yml')
+        for words in (('check', 'rules', rules), ('test', 'rules', os.path.join(MONITORING, 'lorawan_ns.test.yml'))):
+            done = subprocess.run([PROMTOOL, *words], capture_output=True, text=True, timeout=60)
+            self.assertEqual(done.returncode, 0, done.stdout + done.stderr)
+
+    def test_board(self):
+        """Each metric that the rules and the Grafana board ask for is told."""
+        server, _ = self.told('--workers', '2', '--forwarders', '127.0.0.1:0')
+        forwarder = self.gateway(0xa1, server)
+        forwarder.heard(self.device(3).join_request(1))
+        forwarder.downlink()
+        told = set(re.findall('^([a-z_]+)', self.asked('/metrics')[2].decode(), re.MULTILINE))
+        with open(os.path.join(MONITORING, 'grafana.json'), encoding='utf-8') as file:
+            board = json.load(file)
+        asked = [target['expr'] for panel in board['panels'] for target in panel['targets']]
+        self.assertEqual(len({panel['id'] for panel in board['panels']}), len(board['panels']))
+        with open(os.path.join(MONITORING, 'lorawan_ns.rules.yml'), encoding='utf-8') as file:
+            asked += [line for line in file.read().splitlines() if not line.lstrip().startswith(('#', 'summary', 'description', 'job'))]
+        for text in asked:
+            for name in re.findall(r'\b(?:lorawan|process)_[a-z_]+', text):
+                self.assertTrue(name in told or name == 'lorawan_ns', name)
+
+    @unittest.skipUnless(CHROMIUM, 'chromium is not installed (apt-get install chromium)')
+    def test_page(self):
+        """A browser runs the page's script under its policy: the tables have the devices and the gateways."""
+        server, _ = self.told()
+        self.network(server)
+        done = subprocess.run([CHROMIUM, '--headless', '--no-sandbox', '--disable-gpu', '--virtual-time-budget=5000', '--dump-dom',
+                               'http://%s:%d/' % self.where], capture_output=True, text=True, timeout=60)
+        self.assertIn('running for', done.stdout)
+        rows = re.findall('<td class="id"[^>]*>([0-9a-f]{16})</td>', done.stdout)
+        self.assertEqual({*rows}, {'%016x' % number for number in (*EUIS, 0xa1, 0xa2)})
+        self.assertIn('aria-sort="ascending"', done.stdout)
+        self.assertNotIn('Content Security Policy', done.stderr)
 
     def test_silent_clients(self):
         """One that sends nothing and one that reads nothing are left after some seconds, and the server's end waits for neither."""

@@ -6,6 +6,7 @@
 //! The crate stands on `ns_serve_state`, on `ns_serve_streams` to write whole texts, on `ns_status`, and on `ns_types`.
 #![tactic(auto)]
 
+mod metrics;
 mod telling;
 
 pub use telling::tell;

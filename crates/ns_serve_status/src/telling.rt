@@ -3,18 +3,18 @@
 ghost use Rattle.std.specs.Prelude.{None};
 ghost use Rattle.std.specs.Io.{ReadsAtMost, WritesAtMost};
 
+use crate::metrics::metrics_of;
 use ns_serve_state::{BATCH, State, Status, now_ms};
 use ns_serve_streams::write_whole;
 use ns_status::{
-    Content, Lists, Request, RequestFault, Route, Status as Answer, Totals, head_of, page_text,
-    put_devices, put_end, put_front, put_gateways, put_metrics, read_request,
+    Content, Part, Request, RequestFault, Route, Status as Answer, head_of, page_text, put_devices,
+    put_end, put_front, put_gateways, read_request,
 };
 use ns_types::{Failed, Sink, Source, Stream};
 use std::alloc::{AllocError, Global};
 use std::io::{ErrorKind, Read, Write};
 use std::net::TcpStream;
 use std::sync::Wait;
-use std::sync::atomic::Ordering;
 use std::time::{Clock, Duration};
 use std::{io, thread};
 
@@ -176,7 +176,7 @@ fn exchange<R: Wait + Clock>(
         until_ms: now_ms(rt, state).saturating_add(REQUEST_MS),
         failed: false,
     };
-    let request = read_request(&mut asker);
+    let request = read_request(&mut asker, status.host());
     asker.until_ms = now_ms(rt, state).saturating_add(ANSWER_MS);
     let told = match request {
         Ok(request) => answer(rt, alloc, state, status, &mut asker, request),
@@ -223,33 +223,64 @@ fn answer<R: Wait + Clock, S: Sink>(
     let (found, is_head) = (Answer::Found, request.is_head);
     match request.route {
         Route::Page => put_response(sink, found, Content::Html, page_text(), is_head),
+        Route::Health => put_response(sink, found, Content::Text, "ok\n", is_head),
         Route::Metrics => {
             let text = metrics_of(rt, alloc, state, status)?;
             put_response(sink, found, Content::Metrics, text.as_str(), is_head)
         }
-        Route::Devices | Route::Gateways => {
-            let mut text = String::with_capacity(alloc, 32_768)?;
-            put_list(rt, alloc, state, status, sink, &mut text, request)
-        }
+        Route::Devices => match places_of(rt, status, request.part) {
+            Ok(places) => put_list(rt, alloc, state, status, sink, Some(places), is_head),
+            Err(why) => refuse(sink, why, is_head),
+        },
+        Route::Gateways => put_list(rt, alloc, state, status, sink, None, is_head),
     }
 }
 
-// Writes a list of devices or of gateways, or its head alone, by this text, in which each piece is made.
+// Which devices of the list are told: those from this place on, at most so many, and only those of which something is known since this
+// moment, where one is given.
+#[derive(Clone, Copy)]
+struct Places {
+    from: usize,
+    most: u64,
+    since_ms: Option<u64>,
+}
+
+// The places that a part of the list has. A value in the query that is none is malformed, and a device that is not of the roster not found.
+fn places_of<R: Wait>(rt: &R, status: &Status, part: Option<Part>) -> Result<Places, Answer> {
+    let Some(part) = part else {
+        return Err(Answer::Malformed);
+    };
+    let from = match part.after {
+        None => 0,
+        Some(eui) => match status.place(rt, eui) {
+            Some(place) => place.saturating_add(1),
+            None => return Err(Answer::NotFound),
+        },
+    };
+    Ok(Places {
+        from,
+        most: part.limit.unwrap_or(u64::MAX),
+        since_ms: part.since_ms,
+    })
+}
+
+// Writes a list of the devices at these places, or of gateways, or its head alone.
 fn put_list<R: Wait + Clock, S: Sink>(
     rt: &R,
     alloc: Global,
     state: &State,
     status: &Status,
     sink: &mut S,
-    text: &mut String,
-    request: Request,
+    places: Option<Places>,
+    is_head: bool,
 ) -> Result<(), Untold> {
+    let mut text = String::with_capacity(alloc, 32_768)?;
     text.push_str(head_of(Answer::Found, Content::Json, None).as_str())?;
-    if !request.is_head {
+    if !is_head {
         let now_ms = now_ms(rt, state);
-        put_rows(rt, alloc, status, sink, text, request.route, now_ms)?;
+        put_rows(rt, alloc, status, sink, &mut text, places, now_ms)?;
     }
-    put_piece(sink, text)
+    put_piece(sink, &mut text)
 }
 
 // Writes the object of a list but for its last piece, which stays in the text.
@@ -259,15 +290,18 @@ fn put_rows<R: Wait, S: Sink>(
     status: &Status,
     sink: &mut S,
     text: &mut String,
-    route: Route,
+    places: Option<Places>,
     now_ms: u64,
 ) -> Result<(), Untold> {
-    if route == Route::Devices {
-        put_front(text, "devices", now_ms, status.clock_start_ms())?;
-        put_device_rows(rt, alloc, status, sink, text)?;
-    } else {
-        put_front(text, "gateways", now_ms, status.clock_start_ms())?;
-        put_gateway_rows(rt, alloc, status, sink, text)?;
+    match places {
+        Some(places) => {
+            put_front(text, "devices", now_ms, status.clock_start_ms())?;
+            put_device_rows(rt, alloc, status, sink, text, places)?;
+        }
+        None => {
+            put_front(text, "gateways", now_ms, status.clock_start_ms())?;
+            put_gateway_rows(rt, alloc, status, sink, text, now_ms)?;
+        }
     }
     put_end(text)?;
     Ok(())
@@ -280,19 +314,26 @@ fn put_piece<S: Sink>(sink: &mut S, text: &mut String) -> Result<(), Untold> {
     Ok(())
 }
 
-// Writes the rows of all devices that have joined, in pieces. No lock is held while one is written.
+// Writes the rows of devices, in pieces. No lock is held while one is written.
 fn put_device_rows<R: Wait, S: Sink>(
     rt: &R,
     alloc: Global,
     status: &Status,
     sink: &mut S,
     text: &mut String,
+    places: Places,
 ) -> Result<(), Untold> {
     let (count, _) = status.count_devices(rt);
     let mut batch = Vec::with_capacity(alloc, BATCH)?;
-    let mut is_first = true;
+    let (mut is_first, mut left) = (true, places.most);
     for part in 0..(count / BATCH).saturating_add(1) {
-        status.batch(rt, part.saturating_mul(BATCH), &mut batch)?;
+        let from = places.from.saturating_add(part.saturating_mul(BATCH));
+        if left == 0 || from >= count {
+            return Ok(());
+        }
+        status.batch(rt, from, places.since_ms, &mut batch)?;
+        batch.truncate(usize::try_from(left).unwrap_or(usize::MAX));
+        left = left.saturating_sub(batch.len() as u64);
         put_devices(alloc, text, is_first, batch.as_slice())?;
         is_first = is_first && batch.is_empty();
         put_piece(sink, text)?;
@@ -307,76 +348,14 @@ fn put_gateway_rows<R: Wait, S: Sink>(
     status: &Status,
     sink: &mut S,
     text: &mut String,
+    now_ms: u64,
 ) -> Result<(), Untold> {
     let all = status.all_gateways(rt, alloc)?;
     let mut is_first = true;
     for part in all.as_slice().chunks(BATCH) {
-        put_gateways(alloc, text, is_first, part)?;
+        put_gateways(alloc, text, is_first, part, now_ms)?;
         is_first = false;
         put_piece(sink, text)?;
     }
     Ok(())
-}
-
-// How often a reply was made.
-fn count_of(replies: &[(&'static str, u64)], name: &str) -> u64 {
-    for reply in replies {
-        if reply.0 == name {
-            return reply.1;
-        }
-    }
-    0
-}
-
-// How many are open: those that these replies opened, without those that the others ended.
-fn open_of(replies: &[(&'static str, u64)], opened: &[&str], ended: &[&str]) -> u64 {
-    let mut open: u64 = 0;
-    for name in opened {
-        open = open.saturating_add(count_of(replies, name));
-    }
-    for name in ended {
-        open = open.saturating_sub(count_of(replies, name));
-    }
-    open
-}
-
-// The text of all counts.
-fn metrics_of<R: Wait>(
-    rt: &R,
-    alloc: Global,
-    state: &State,
-    status: &Status,
-) -> Result<String, AllocError> {
-    let counts = &state.counts;
-    let refusals = counts.refusals();
-    let replies = state.made.replies();
-    let entries = state.made.all();
-    let (devices, sessions) = status.count_devices(rt);
-    let totals = Totals {
-        start_seconds: status.start_ms() / 1000,
-        read: state.read.all(),
-        dropped: counts.dropped.load(Ordering::SeqCst),
-        late: counts.late.load(Ordering::SeqCst),
-        unreceived: counts.unreceived.load(Ordering::SeqCst),
-        unanswered: counts.unanswered.load(Ordering::SeqCst),
-        stale: counts.stale.load(Ordering::SeqCst),
-        unsent: counts.unsent.load(Ordering::SeqCst),
-        windows: open_of(&replies, &["opened", "again"], &["closed"]),
-        tickets: open_of(
-            &replies,
-            &["ask"],
-            &["accepted", "joinrefused", "joinstale"],
-        ),
-        devices: devices as u64,
-        sessions: sessions as u64,
-        gateways: status.count_gateways(rt) as u64,
-    };
-    let lists = Lists {
-        refusals: &refusals,
-        replies: &replies,
-        entries: &entries,
-    };
-    let mut text = String::with_capacity(alloc, 8192)?;
-    put_metrics(&mut text, &totals, lists)?;
-    Ok(text)
 }
