@@ -143,6 +143,12 @@ impl Status {
         self.start_ms.saturating_sub(BEGIN_MS)
     }
 
+    /// How many devices there are.
+    pub fn count_all<R: Wait>(&self, rt: &R) -> usize {
+        let devices = self.devices.lock(rt);
+        devices.len()
+    }
+
     /// How many devices there are, and how many of them have joined.
     pub fn count_devices<R: Wait>(&self, rt: &R) -> (usize, usize) {
         let devices = self.devices.lock(rt);
