@@ -3,6 +3,7 @@ import base64
 import hashlib
 import http.client
 import json
+import math
 import os
 import re
 import shutil
@@ -20,6 +21,12 @@ PROMTOOL, CHROMIUM = shutil.which('promtool'), shutil.which('chromium')
 
 EUIS = range(1, 9)
 WINDOW = ('--window', '20', '--status', '127.0.0.1:0')
+
+
+def airtime(size):
+    """Microseconds that a downlink is on air at SF7 and 125 kHz, by AN1200.13 of Semtech: no CRC, a header, coding rate 4/5."""
+    symbols = 8 + max(math.ceil((8 * size - 4 * 7 + 28) / (4 * 7)) * 5, 0)
+    return int((8 + 4.25 + symbols) * 1024)
 
 
 class Told(Served):
@@ -64,15 +71,21 @@ class Told(Served):
         """Eight devices that join by two gateways and send frames 0 and 1, the last of them 0 and 5, each heard twice."""
         self.near, self.far = self.gateway(0xa1, server), self.gateway(0xa2, server)
         self.devices = [self.device(eui) for eui in EUIS]
+        self.sizes = []
         for device in self.devices:
-            self.near.join(device, 1)
+            self.near.heard(device.join_request(1))
+            accept = self.near.downlink()[1]
+            device.accept(accept)
+            self.sizes.append(len(accept))
         for counter in (0, 1):
             for device in self.devices:
                 counter = 5 if counter and device is self.devices[-1] else counter
                 frame = device.uplink(counter, 1, b'x', confirmed=True)
                 self.near.heard(frame)
                 self.far.heard(frame, snr=50)
-                self.assertTrue(device.is_acknowledgement(self.near.downlink()[1], min(counter, 1)))
+                frame = self.near.downlink()[1]
+                self.sizes.append(len(frame))
+                self.assertTrue(device.is_acknowledgement(frame, min(counter, 1)))
 
     def test_network(self):
         """What is told agrees with what the devices did, and with the counts of the log."""
@@ -94,9 +107,9 @@ class Told(Served):
             self.assertLessEqual(row['sinceMs'], row['heardMs'])
             self.assertLessEqual(row['heardMs'], devices['nowMs'])
         self.assertEqual({row['gatewayId']: row['frames'] for row in gateways['gateways']}, {'%016x' % 0xa1: 24, '%016x' % 0xa2: 16})
-        # 8 Join-Accepts of 33 bytes and 16 acknowledgements of 12, all at SF7 by the near gateway: 71.936 and 41.216 ms by Semtech's formula.
+        self.assertEqual((airtime(12), airtime(33)), (41216, 71936))
         self.assertEqual({row['gatewayId']: (row['sent'], row['airtimeMs']) for row in gateways['gateways']},
-                         {'%016x' % 0xa1: (24, (8 * 71936 + 16 * 41216) // 1000), '%016x' % 0xa2: (0, 0)})
+                         {'%016x' % 0xa1: (24, sum(airtime(size) for size in self.sizes) // 1000), '%016x' % 0xa2: (0, 0)})
         self.assertEqual(metrics['heard_devices{within="1h"}'], 8)
         self.assertEqual(metrics['join_server_answer_seconds_count'], 8)
         self.assertGreaterEqual(metrics['acknowledgement_delay_seconds_count'], 1)
@@ -198,7 +211,7 @@ class Told(Served):
             gateway.send(bytes(500))
         os.kill(server.child.pid, 18)
         server.log.wait('datagrams lost: the system dropped them')
-        told = sum(int(line.split()[-14].split(']')[-1]) for line in server.log.all if 'datagrams lost: the system' in line)
+        told = sum(int(re.search('([0-9]+) datagrams lost', line).group(1)) for line in server.log.all if 'datagrams lost: the system' in line)
         wait_for(lambda: self.metrics()['datagrams_total'] + told == 3000, 'all 3,000 datagrams')
         self.assertEqual(self.metrics()['lost_datagrams_total'], told)
 
@@ -227,7 +240,8 @@ class Told(Served):
             'refusals_total{fault="F8"}', 'refusals_total{fault="F10"}')], [2, 2, 1, 1, 1, 1])
         rows = {row['gatewayId']: row for row in self.list_of('gateways')['gateways']}
         one, two = rows['%016x' % 0xa1], rows['%016x' % 0xa2]
-        self.assertEqual((one['frames'], one['sent'], one['refused'], one['airtimeMs'], one['statMs']), (1, 1, 1, 71, None))
+        self.assertEqual((one['frames'], one['sent'], one['refused'], one['airtimeMs'], one['statMs']),
+                         (1, 1, 1, airtime(downlink['size']) // 1000, None))
         self.assertIsNotNone(one['pullMs'])
         self.assertEqual((two['frames'], two['sent'], two['heardMs']), (0, 0, None))
         self.assertIsNotNone(two['pullMs'])
@@ -277,21 +291,45 @@ class Told(Served):
         self.assertNotIn('Content Security Policy', done.stderr)
 
     def test_silent_clients(self):
-        """One that sends nothing and one that reads nothing are left after some seconds, and the server's end waits for neither."""
+        """Those that send nothing or read nothing hold nobody up, also where there are many; and the server's end waits for none."""
         server, _ = self.told('--stop-after', '2')
         gateway = self.gateway(0xa1, server)
-        with socket.create_connection(self.where, LONGEST), socket.create_connection(self.where, LONGEST) as other:
-            other.sendall(b'GET /devices HTTP/1.1\r\n')
-            begin = time.monotonic()
-            gateway.send(b'')
-            self.assertEqual(self.metrics()['datagrams_total'], 1)
-            self.assertLess(time.monotonic() - begin, 8)
+        gateway.send(b'')
+        silent = [socket.create_connection(self.where, LONGEST) for _ in range(40)]
+        for other in silent:
+            self.addCleanup(other.close)
+        silent[-1].sendall(b'GET /devices HTTP/1.1\r\n')
+        begin = time.monotonic()
+        self.assertEqual(self.metrics()['datagrams_total'], 1)
+        self.assertEqual(self.asked('/healthz')[0], 200)
+        self.assertLess(time.monotonic() - begin, 1)
+        self.assertEqual(silent[0].recv(1), b'')
+        begin = time.monotonic()
+        self.assertEqual(silent[-2].recv(1), b'')
+        self.assertLess(time.monotonic() - begin, 4)
         with socket.create_connection(self.where, LONGEST):
             time.sleep(0.3)
             begin = time.monotonic()
             gateway.send(b'')
             self.assertEqual(server.lines(), ['settled 0'])
             self.assertLess(time.monotonic() - begin, 1.5)
+
+    def test_side_by_side(self):
+        """Sixteen that read a list slowly each get it whole."""
+        server, _ = self.told('--stop-after', '1')
+        askers = [socket.create_connection(self.where, LONGEST) for _ in range(16)]
+        for asker in askers:
+            self.addCleanup(asker.close)
+            asker.sendall(b'GET /devices HTTP/1.1\r\nHost: ')
+        for asker in reversed(askers):
+            asker.sendall(b'localhost\r\n\r\n')
+        for asker in askers:
+            text = b''
+            while piece := asker.recv(100):
+                text += piece
+            self.assertEqual(len(json.loads(text.partition(b'\r\n\r\n')[2])['devices']), 8)
+        self.gateway(0xa1, server).send(b'')
+        self.assertEqual(server.lines(), ['settled 0'])
 
     def test_bad_address(self):
         """An address that is another's ends the start with a fault, and one that is none is a bad argument."""

@@ -1,6 +1,4 @@
 //! How long something took, by how often.
-ghost use Rattle.std.specs.Prelude.{◌≤◌};
-
 use std::sync::atomic::{AtomicU64, Ordering};
 
 // How many bounds there are.
@@ -27,9 +25,7 @@ pub struct Times {
 }
 
 // The place of the first bound that a number of milliseconds is not over.
-fn place_of(ms: u64) -> usize
-    ensures { result ≤ 8 }
-{
+fn place_of(ms: u64) -> usize {
     for (place, limit) in LIMITS.iter().enumerate() {
         if ms <= limit.0 {
             return place;

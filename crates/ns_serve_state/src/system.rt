@@ -20,6 +20,9 @@ const MOST_PIECES: u64 = 1024;
 // How many bytes of a line of a table are kept. The tables pad theirs to fewer.
 const LINE: usize = 256;
 
+// The digits of the tables.
+const HEX: [u8; 16] = *b"0123456789ABCDEF";
+
 /// What the system says of this process.
 #[derive(Clone, Copy)]
 pub struct Process {
@@ -70,7 +73,7 @@ fn cpu_ms(file: &File) -> Option<u64> {
     let n = file.read_at(&mut buf, 0).ok()?;
     let text = &buf[..n];
     let end = text.iter().rposition(|byte| *byte == b')')?;
-    let fields = &text[end..];
+    let fields = text.get(end..)?;
     let user = number(word(fields, 12)?, 10)?;
     let system = number(word(fields, 13)?, 10)?;
     Some(user.saturating_add(system).saturating_mul(TICK_MS))
@@ -115,13 +118,8 @@ impl Local {
     }
 
     fn put_hex(&mut self, byte: u8) {
-        for digit in &[byte / 16, byte % 16] {
-            self.put(if *digit < 10 {
-                b'0' + *digit
-            } else {
-                b'A' + (*digit - 10)
-            });
-        }
+        self.put(HEX[usize::from(byte / 16)]);
+        self.put(HEX[usize::from(byte % 16)]);
     }
 
     fn put_groups(&mut self, octets: &[u8]) {

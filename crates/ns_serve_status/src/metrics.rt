@@ -4,7 +4,7 @@ use ns_serve_parts::{Times as Counted, value};
 use ns_serve_state::{Process, State, Status, now_ms};
 use ns_status::{
     Family, Gateway, Histogram, Kind, Lists, Times, Totals, VERSION, put_by_gateway, put_histogram,
-    put_metrics, put_named, put_one, put_timed,
+    put_metrics, put_named, put_one, put_timed, put_timed_by_gateway,
 };
 use ns_types::GatewayId;
 use std::alloc::{AllocError, Global};
@@ -126,7 +126,7 @@ fn put_times(text: &mut String, of: Histogram, counted: &Counted) -> Result<(), 
     let times = Times {
         within: &within,
         sum_ms: counted.sum_ms(),
-        count: within[within.len() - 1].1,
+        count: within.last().map_or(0, |last| last.1),
     };
     put_histogram(text, of, times)
 }
@@ -199,6 +199,7 @@ fn told_of(gateway: &Gateway, told: Told, clock_start_ms: u64, now_ms: u64) -> O
         Told::Frames => Some(gateway.frames),
         Told::Sent => Some(gateway.sent),
         Told::Refused => Some(gateway.refused),
+        // In milliseconds.
         Told::Airtime => Some(gateway.airtime.spent(now_ms) / 1000),
     }
 }
@@ -225,7 +226,11 @@ fn put_told(
             samples.push((*id, value))?;
         }
     }
-    put_by_gateway(alloc, text, family, samples.as_slice())
+    if matches!(told, Told::Airtime) {
+        put_timed_by_gateway(alloc, text, family, samples.as_slice())
+    } else {
+        put_by_gateway(alloc, text, family, samples.as_slice())
+    }
 }
 
 // Puts what is known of the gateways that were heard last.
@@ -255,8 +260,8 @@ fn put_gateways(alloc: Global, text: &mut String, listed: Listed<'_>) -> Result<
     );
     put_told(alloc, text, listed, Told::Refused, refused)?;
     let airtime = family(
-        "lorawan_gateway_airtime_last_hour_milliseconds",
-        "For how long a gateway's downlinks of the last hour are on air.",
+        "lorawan_gateway_airtime_last_hour_seconds",
+        "For how long the downlinks of a gateway in the last hour are on air.",
         Kind::Gauge,
     );
     put_told(alloc, text, listed, Told::Airtime, airtime)

@@ -1,6 +1,6 @@
 -- What is known of devices.
 use Rattle.std.specs.Prelude.{ℕ, ◌+◌, ◌-◌, ◌==◌, ◌^◌, ◌||◌, Bool, false, nat_lt, nat_le, min, max, List, position, Option, Some, None, option_map, if◌then◌else◌}
-use Rattle.std.specs.Map.{lookup}
+use Rattle.std.specs.Map.{lookup, keys_of}
 use Rattle.std.specs.Option.{option_map_or}
 use Rattle.ns_types.specs.declared.identity.DevEui.{DevEui}
 use Rattle.ns_types.specs.declared.identity.DevAddr.{DevAddr}
@@ -92,4 +92,4 @@ row_of rows eui = lookup (λ other. eui.0 == other.0) rows
 
 -- the place of a device, where it is of the roster
 abbrev pub place_of : List (DevEui × Option Device) → DevEui → Option ℕ
-place_of rows eui = position (λ row. eui.0 == row.0.0) rows
+place_of rows eui = position (λ other. eui.0 == other.0) (keys_of rows)

@@ -1,5 +1,6 @@
 -- What is known of gateways.
-use Rattle.std.specs.Prelude.{ℕ, ◌+◌, ◌-◌, ◌^◌, min, max, List, repeat, Option, Some, None, unwrap_or, nat_eq}
+use Rattle.std.specs.Prelude.{ℕ, ◌+◌, ◌-◌, ◌^◌, min, max, List, Option, Some, None, unwrap_or, nat_eq}
+use Rattle.std.specs.List.{repeat}
 use Rattle.std.specs.Map.{lookup}
 use Rattle.ns_types.specs.declared.identity.GatewayId.{GatewayId}
 use Rattle.lru.specs.LruCache.{lru_cache, put_entries}

@@ -85,6 +85,17 @@ gateway_texts name (sample ∷ samples) = labelled_text name (codes "gateway") (
 unfoldable pub by_gateway_text : List ℕ → List ℕ → Kind → List (GatewayId × ℕ) → List ℕ
 by_gateway_text name help kind samples = family_text name help kind ++ gateway_texts name samples
 
+-- the name of a metric with the label of a gateway, and samples by gateways that are numbers of milliseconds
+unfoldable pub gateway_name : List ℕ → GatewayId → List ℕ
+gateway_name name gateway = name ++ codes "{gateway=\"" ++ hex_number 8 gateway.0 ++ codes "\"}"
+
+abbrev pub timed_gateway_texts : List ℕ → List (GatewayId × ℕ) → List ℕ
+timed_gateway_texts name [] = []
+timed_gateway_texts name (sample ∷ samples) = seconds_text (gateway_name name sample.0) sample.1 ++ timed_gateway_texts name samples
+
+unfoldable pub timed_by_gateway_text : List ℕ → List ℕ → Kind → List (GatewayId × ℕ) → List ℕ
+timed_by_gateway_text name help kind samples = family_text name help kind ++ timed_gateway_texts name samples
+
 -- what came of datagrams
 unfoldable pub datagram_texts : Totals → List ℕ
 datagram_texts t =

@@ -49,9 +49,12 @@ request_of method target =
 abbrev pub is_address_byte : ℕ → Bool
 is_address_byte byte = is_ascii_digit byte || byte == 46 || byte == 58
 
+abbrev pub begins_with : ℕ → List ℕ → Bool
+begins_with mark [] = false
+begins_with mark (byte ∷ bytes) = byte == mark
+
 abbrev pub is_address : List ℕ → Bool
-is_address [] = true
-is_address (byte ∷ bytes) = byte == 91 || list_all is_address_byte (byte ∷ bytes)
+is_address host = begins_with 91 host || list_all is_address_byte host
 
 -- whether a host has a name, in either case, with a port or without
 abbrev pub is_host_named : List ℕ → List ℕ → Bool
@@ -61,11 +64,14 @@ is_host_named name host = str_eq_ignore_ascii_case (take (length name) host) nam
 abbrev pub is_trusted : List ℕ → List ℕ → Bool
 is_trusted name host = is_address host || is_host_named (codes "localhost") host || is_host_named name host
 
--- the value of the one `Host` among these headers, behind one that was found or none; two are malformed (RFC 9112, 3.2)
+-- whether a header is `Host`, and the value of the one among these headers, behind one that was found or none; two are malformed (RFC 9112, 3.2)
+abbrev pub is_host : List ℕ × List ℕ → Bool
+is_host header = str_eq_ignore_ascii_case header.0 (codes "host")
+
 abbrev pub hosts_of : Option (List ℕ) → List (List ℕ × List ℕ) → Result (Option (List ℕ)) RequestFault
 hosts_of host [] = Ok host
 hosts_of host (header ∷ headers) =
-    if str_eq_ignore_ascii_case header.0 (codes "host") then (if is_some host then Err (Refused Malformed) else hosts_of (Some header.1) headers)
+    if is_host header then (if is_some host then Err (Refused Malformed) else hosts_of (Some header.1) headers)
     else hosts_of host headers
 
 -- the same, of a value that is lent

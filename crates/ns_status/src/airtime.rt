@@ -1,6 +1,7 @@
 //! How long a gateway's downlinks were on air.
 
-ghost use Rattle.std.specs.Prelude.{◌≡◌, ◌<◌, ◌≤◌, ◌^◌, repeat};
+ghost use Rattle.std.specs.Prelude.{◌≡◌, ◌<◌, ◌≤◌, ◌^◌};
+ghost use Rattle.std.specs.List.{repeat};
 ghost use Rattle.ns_status.specs.Airtime.{quarter_us, symbols_of, airtime_us, slot_of, no_slot, added_at, spent_at, recent};
 
 // How many slots make an hour, and how long each is.

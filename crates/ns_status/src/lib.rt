@@ -27,7 +27,7 @@ pub use devices::{Device, Devices, HeardBy};
 pub use gateways::{Gateway, Gateways, Sign};
 pub use metrics::{
     Family, Histogram, Kind, Lists, Times, Totals, VERSION, put_by_gateway, put_histogram,
-    put_metrics, put_named, put_one, put_timed,
+    put_metrics, put_named, put_one, put_timed, put_timed_by_gateway,
 };
 pub use news::{News, gateway_of, news_of};
 pub use page::page_text;

@@ -1,7 +1,7 @@
 //! The counts, in the text format of Prometheus (version 0.0.4).
 
 ghost use Rattle.std.specs.Prelude.{◌≡◌, ◌++◌, ◌≤◌, length, map, string_bytes, OnOk};
-ghost use Rattle.ns_status.specs.Metrics.{line_text, family_text, labelled_text, named_texts, single_text, singles_text, seconds_text, timed_text, histogram_text, by_gateway_text, single, named, named_family, numbered_family, kind_word, datagram_texts, join_texts, open_texts, known_texts, metrics_text};
+ghost use Rattle.ns_status.specs.Metrics.{line_text, family_text, labelled_text, named_texts, single_text, singles_text, seconds_text, timed_text, histogram_text, by_gateway_text, gateway_name, timed_by_gateway_text, single, named, named_family, numbered_family, kind_word, datagram_texts, join_texts, open_texts, known_texts, metrics_text};
 
 use crate::parts::put_parts;
 use itoa::Buffer;
@@ -388,6 +388,34 @@ fn put_numbered(
     put_family(text, name, help, Kind::Counter)?;
     for (place, value) in values.iter().enumerate() {
         put_labelled(text, name, label, Buffer::new().format(place), *value)?;
+    }
+    Ok(())
+}
+
+// The name of a metric with the label of a gateway.
+fn name_of(alloc: Global, name: &str, gateway: GatewayId) -> Result<String, AllocError>
+    ensures { IfOk result (λ s. string_bytes s ≡ gateway_name name.now gateway) }
+{
+    let eui = eui_text(alloc, gateway.0)?;
+    let mut text = String::new(alloc);
+    put_parts(&mut text, &[name, "{gateway=\"", eui.as_str(), "\"}"])?;
+    Ok(text)
+}
+
+/// Puts a metric with a number of milliseconds for each of these gateways, as seconds.
+pub fn put_timed_by_gateway(
+    alloc: Global,
+    text: &mut String,
+    family: Family,
+    samples: &[(GatewayId, u64)],
+) -> Result<(), AllocError>
+    ensures { OnOk result (string_bytes text.new ≡ string_bytes text.old
+        ++ timed_by_gateway_text family.name.now family.help.now family.kind samples.now) }
+{
+    put_family(text, family.name, family.help, family.kind)?;
+    for sample in samples {
+        let name = name_of(alloc, family.name, sample.0)?;
+        put_seconds(text, name.as_str(), sample.1)?;
     }
     Ok(())
 }

@@ -2,9 +2,10 @@
 
 ghost use Rattle.std.specs.Prelude.{◌≡◌, ◌≢◌, ◌+◌, ◌≤◌, ◌↔◌, ◌++◌, ℕ, List, All, false, length, map, option_map, Some, Ok, Err, None, IsOk, OnOk, IfOk, IfErr, IfSome};
 ghost use Rattle.std.specs.Io.KnownBytes.{Consumes};
+ghost use Rattle.std.specs.List.{list_all};
 ghost use Rattle.httparse.specs.Grammar.{RequestHead, ReadsRequest, HasNoRequest};
 ghost use Rattle.httparse.specs.Spans.{header_bytes, IsHeaderWithin};
-ghost use Rattle.ns_status.specs.Request.{is_path, is_address_byte, is_address, is_host_named, is_trusted, hosts_of, hosts_seen, host_fault, route_of, request_of, Asks, IsAsked};
+ghost use Rattle.ns_status.specs.Request.{is_path, begins_with, is_address_byte, is_address, is_host, is_host_named, is_trusted, hosts_of, hosts_seen, host_fault, route_of, request_of, Asks, IsAsked};
 ghost use Rattle.ns_status.specs.declared.request.RequestFault.TheVariants.{Ended};
 
 use crate::response::Status;
@@ -121,19 +122,33 @@ fn is_address_byte(byte: u8) -> bool
     byte.is_ascii_digit() || byte == b'.' || byte == b':'
 }
 
-// Whether a host is an address: an IPv6 address stands in brackets, and no name has digits and dots alone.
-fn is_address(host: &[u8]) -> bool
-    ensures { result ≡ is_address host.now }
+// Whether a host begins with a bracket.
+fn has_bracket(host: &[u8]) -> bool
+    ensures { result ≡ begins_with 91 host.now }
 {
-    if !host.is_empty() && host[0] == b'[' {
-        return true;
+    match host.first() {
+        Some(byte) => *byte == b'[',
+        None => false,
     }
+}
+
+// Whether all bytes of a host are those of an IPv4 address and a port.
+fn are_address_bytes(host: &[u8]) -> bool
+    ensures { result ≡ list_all is_address_byte host.now }
+{
     for byte in host {
         if !is_address_byte(*byte) {
             return false;
         }
     }
     true
+}
+
+// Whether a host is an address: an IPv6 address stands in brackets, and no name has digits and dots alone.
+fn is_address(host: &[u8]) -> bool
+    ensures { result ≡ is_address host.now }
+{
+    has_bracket(host) || are_address_bytes(host)
 }
 
 // Whether a host has this name, in either case, with a port or without.
@@ -155,6 +170,14 @@ fn is_trusted(host: &[u8], name: &[u8]) -> bool
     is_address(host) || is_host_named(host, b"localhost") || is_host_named(host, name)
 }
 
+// Whether a header is `Host`.
+fn is_host(bytes: &[u8], header: HeaderSpan) -> bool
+    requires { IsHeaderWithin (length bytes.now) header }
+    ensures { result ≡ is_host (header_bytes bytes.now header) }
+{
+    header.name.of(bytes).eq_ignore_ascii_case(b"host")
+}
+
 // The value of the one header `Host`, if there is any. Two are malformed (RFC 9112, 3.2).
 fn host_of<'b>(bytes: &'b [u8], headers: &[HeaderSpan]) -> Result<Option<&'b [u8]>, RequestFault>
     requires { All (IsHeaderWithin (length bytes.now)) headers.now }
@@ -162,7 +185,7 @@ fn host_of<'b>(bytes: &'b [u8], headers: &[HeaderSpan]) -> Result<Option<&'b [u8
 {
     let mut host = None;
     for header in headers {
-        if header.name.of(bytes).eq_ignore_ascii_case(b"host") {
+        if is_host(bytes, *header) {
             if host.is_some() {
                 return Err(RequestFault::Refused(Status::Malformed));
             }

@@ -6,7 +6,8 @@ use crate::put::put;
 use ns_status::{
     Airtime, Content, Device, Family, Gateway, HeardBy, Histogram, Kind, Lists, Part, RequestFault,
     Route, Slot, Status, Times, Totals, airtime_us, head_of, put_by_gateway, put_devices, put_end,
-    put_front, put_gateways, put_histogram, put_metrics, put_named, put_timed, read_request,
+    put_front, put_gateways, put_histogram, put_metrics, put_named, put_timed,
+    put_timed_by_gateway, read_request,
 };
 use ns_types::{DevAddr, DevEui, Fuse, GatewayId};
 use std::alloc::Global;
@@ -183,4 +184,5 @@ fn metrics(alloc: Global, out: &mut String) {
     let _ = put_timed(out, COUNTED, 12_345);
     let _ = put_histogram(out, TIMED, TIMES);
     let _ = put_by_gateway(alloc, out, COUNTED, &[(GatewayId(0xa1), 20)]);
+    let _ = put_timed_by_gateway(alloc, out, COUNTED, &[(GatewayId(0xa1), 20)]);
 }
