@@ -1,5 +1,5 @@
 -- What a request asks for.
-use Rattle.std.specs.Prelude.{◌≡◌, ℕ, ◌==◌, ◌&&◌, ◌||◌, Bool, true, false, not, List, [], ◌∷◌, length, take, drop, map, codes, bytes_eq, is_some, option_map, Option, Some, None, Result, Ok, Err, if◌then◌else◌}
+use Rattle.std.specs.Prelude.{◌≡◌, ℕ, ◌==◌, ◌&&◌, ◌||◌, nat_le, Bool, true, false, not, List, [], ◌∷◌, length, take, drop, map, codes, bytes_eq, is_some, option_map, Option, Some, None, Result, Ok, Err, if◌then◌else◌}
 use Rattle.std.specs.Borrow.{Bor}
 use Rattle.std.specs.Char.{is_ascii_digit}
 use Rattle.std.specs.List.{list_all}
@@ -58,7 +58,8 @@ is_address host = begins_with 91 host || list_all is_address_byte host
 
 -- whether a host has a name, in either case, with a port or without
 abbrev pub is_host_named : List ℕ → List ℕ → Bool
-is_host_named name host = str_eq_ignore_ascii_case (take (length name) host) name && ends_or_has 58 (drop (length name) host)
+is_host_named name host =
+    nat_le (length name) (length host) && (str_eq_ignore_ascii_case (take (length name) host) name && ends_or_has 58 (drop (length name) host))
 
 -- whether a request to a host is meant for a server of this name: an address, this name or `localhost`, none of which another can give to it
 abbrev pub is_trusted : List ℕ → List ℕ → Bool

@@ -1,6 +1,7 @@
 //! The counts, in the text format of Prometheus (version 0.0.4).
 
-ghost use Rattle.std.specs.Prelude.{◌≡◌, ◌++◌, ◌≤◌, length, map, string_bytes, OnOk};
+ghost use Rattle.std.specs.Prelude.{◌≡◌, ◌++◌, ◌≤◌, codes, length, map, string_bytes, IfOk, OnOk};
+ghost use Rattle.ns_roster.specs.Field.{hex_number};
 ghost use Rattle.ns_status.specs.Metrics.{line_text, family_text, labelled_text, named_texts, single_text, singles_text, seconds_text, timed_text, histogram_text, by_gateway_text, gateway_name, timed_by_gateway_text, single, named, named_family, numbered_family, kind_word, datagram_texts, join_texts, open_texts, known_texts, metrics_text};
 
 use crate::parts::put_parts;
@@ -357,6 +358,20 @@ pub fn put_histogram(text: &mut String, of: Histogram, times: Times<'_>) -> Resu
     put_line(text, "", of.count, Buffer::new().format(times.count))
 }
 
+// Puts a sample of a gateway.
+fn put_gateway(
+    alloc: Global,
+    text: &mut String,
+    name: &str,
+    gateway: GatewayId,
+    value: u64,
+) -> Result<(), AllocError>
+    ensures { OnOk result (string_bytes text.new ≡ string_bytes text.old ++ labelled_text name.now (codes "gateway") (hex_number 8 gateway.0) value) }
+{
+    let eui = eui_text(alloc, gateway.0)?;
+    put_labelled(text, name, "gateway", eui.as_str(), value)
+}
+
 /// Puts a metric with a sample for each of these gateways.
 pub fn put_by_gateway(
     alloc: Global,
@@ -369,8 +384,7 @@ pub fn put_by_gateway(
 {
     put_family(text, family.name, family.help, family.kind)?;
     for sample in samples {
-        let gateway = eui_text(alloc, (sample.0).0)?;
-        put_labelled(text, family.name, "gateway", gateway.as_str(), sample.1)?;
+        put_gateway(alloc, text, family.name, sample.0, sample.1)?;
     }
     Ok(())
 }
@@ -402,6 +416,20 @@ fn name_of(alloc: Global, name: &str, gateway: GatewayId) -> Result<String, Allo
     Ok(text)
 }
 
+// Puts a sample of a gateway, a number of milliseconds, as seconds.
+fn put_gateway_seconds(
+    alloc: Global,
+    text: &mut String,
+    name: &str,
+    gateway: GatewayId,
+    ms: u64,
+) -> Result<(), AllocError>
+    ensures { OnOk result (string_bytes text.new ≡ string_bytes text.old ++ seconds_text (gateway_name name.now gateway) ms) }
+{
+    let name = name_of(alloc, name, gateway)?;
+    put_seconds(text, name.as_str(), ms)
+}
+
 /// Puts a metric with a number of milliseconds for each of these gateways, as seconds.
 pub fn put_timed_by_gateway(
     alloc: Global,
@@ -414,8 +442,7 @@ pub fn put_timed_by_gateway(
 {
     put_family(text, family.name, family.help, family.kind)?;
     for sample in samples {
-        let name = name_of(alloc, family.name, sample.0)?;
-        put_seconds(text, name.as_str(), sample.1)?;
+        put_gateway_seconds(alloc, text, family.name, sample.0, sample.1)?;
     }
     Ok(())
 }

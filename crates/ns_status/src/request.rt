@@ -3,6 +3,7 @@
 ghost use Rattle.std.specs.Prelude.{◌≡◌, ◌≢◌, ◌+◌, ◌≤◌, ◌↔◌, ◌++◌, ℕ, List, All, false, length, map, option_map, Some, Ok, Err, None, IsOk, OnOk, IfOk, IfErr, IfSome};
 ghost use Rattle.std.specs.Io.KnownBytes.{Consumes};
 ghost use Rattle.std.specs.List.{list_all};
+ghost use Rattle.std.specs.Str.{str_eq_ignore_ascii_case};
 ghost use Rattle.httparse.specs.Grammar.{RequestHead, ReadsRequest, HasNoRequest};
 ghost use Rattle.httparse.specs.Spans.{header_bytes, IsHeaderWithin};
 ghost use Rattle.ns_status.specs.Request.{is_path, begins_with, is_address_byte, is_address, is_host, is_host_named, is_trusted, hosts_of, hosts_seen, host_fault, route_of, request_of, Asks, IsAsked};
@@ -151,15 +152,22 @@ fn is_address(host: &[u8]) -> bool
     has_bracket(host) || are_address_bytes(host)
 }
 
+// Whether two names are the same, in either case.
+fn is_same_name(name: &[u8], other: &[u8]) -> bool
+    ensures { result ≡ str_eq_ignore_ascii_case name.now other.now }
+{
+    name.eq_ignore_ascii_case(other)
+}
+
 // Whether a host has this name, in either case, with a port or without.
 fn is_host_named(host: &[u8], name: &[u8]) -> bool
     ensures { result ≡ is_host_named name.now host.now }
 {
     let n = name.len();
-    if host.len() < n || !host[..n].eq_ignore_ascii_case(name) {
+    if host.len() < n {
         return false;
     }
-    host.len() == n || host[n] == b':'
+    is_same_name(&host[..n], name) && (host.len() == n || host[n] == b':')
 }
 
 // Whether a request to this host is meant for this server: its page could else be read under the name of another, whose owner lets it lead
@@ -175,7 +183,7 @@ fn is_host(bytes: &[u8], header: HeaderSpan) -> bool
     requires { IsHeaderWithin (length bytes.now) header }
     ensures { result ≡ is_host (header_bytes bytes.now header) }
 {
-    header.name.of(bytes).eq_ignore_ascii_case(b"host")
+    is_same_name(header.name.of(bytes), b"host")
 }
 
 // The value of the one header `Host`, if there is any. Two are malformed (RFC 9112, 3.2).
