@@ -21,7 +21,9 @@ const MOST_PIECES: u64 = 1024;
 const LINE: usize = 256;
 
 // The digits of the tables.
-const HEX: [u8; 16] = *b"0123456789ABCDEF";
+const HEX: [u8; 16] = [
+    b'0', b'1', b'2', b'3', b'4', b'5', b'6', b'7', b'8', b'9', b'A', b'B', b'C', b'D', b'E', b'F',
+];
 
 /// What the system says of this process.
 #[derive(Clone, Copy)]
