@@ -30,10 +30,10 @@ def airtime(size):
 
 
 class Told(Served):
-    def told(self, *words):
+    def told(self, *words, level='info'):
         """A server that tells its status, its join server, and where the status is."""
         joins = self.joins(EUIS)
-        server = self.serve(self.roster(EUIS), joins.where, *WINDOW, *words, level='info')
+        server = self.serve(self.roster(EUIS), joins.where, *WINDOW, *words, level=level)
         server.log.wait('status at http://')
         where = next(re.search('http://(.*):([0-9]+)/$', line) for line in server.log.all if 'status at' in line)
         self.where = where.group(1), int(where.group(2))
@@ -211,9 +211,9 @@ class Told(Served):
             gateway.send(bytes(500))
         os.kill(server.child.pid, 18)
         server.log.wait('datagrams lost: the system dropped them')
-        told = sum(int(re.search('([0-9]+) datagrams lost', line).group(1)) for line in server.log.all if 'datagrams lost: the system' in line)
-        wait_for(lambda: self.metrics()['datagrams_total'] + told == 3000, 'all 3,000 datagrams')
-        self.assertEqual(self.metrics()['lost_datagrams_total'], told)
+        wait_for(lambda: self.metrics()['datagrams_total'] + self.metrics()['lost_datagrams_total'] == 3000, 'all 3,000 datagrams')
+        said = [re.search('([0-9]+) datagrams lost', line) for line in list(server.log.all)]
+        self.assertEqual(sum(int(found.group(1)) for found in said if found), self.metrics()['lost_datagrams_total'])
 
     def test_forwarders(self):
         """Counts of forwarders, and of each gateway what it sent and what was sent to it; one that sends no frame is listed."""
