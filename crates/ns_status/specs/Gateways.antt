@@ -1,6 +1,5 @@
 -- What is known of gateways.
-use Rattle.std.specs.Prelude.{ℕ, ◌+◌, ◌-◌, ◌^◌, min, max, List, Option, Some, None, unwrap_or, nat_eq}
-use Rattle.std.specs.List.{repeat}
+use Rattle.std.specs.Prelude.{ℕ, ◌+◌, ◌-◌, ◌^◌, min, max, List, replicate, Option, Some, None, unwrap_or, nat_eq}
 use Rattle.std.specs.Map.{lookup}
 use Rattle.ns_types.specs.declared.identity.GatewayId.{GatewayId}
 use Rattle.lru.specs.LruCache.{lru_cache, put_entries}
@@ -23,7 +22,7 @@ gateway_at g number = lookup (nat_eq number) (known g)
 
 -- a gateway of which nothing is known
 abbrev pub unheard : Gateway
-unheard = record { frames = 0; frame_ms = None; pull_ms = None; stat_ms = None; sent = 0; refused = 0; airtime = record { slots = repeat 12 no_slot } }
+unheard = record { frames = 0; frame_ms = None; pull_ms = None; stat_ms = None; sent = 0; refused = 0; airtime = record { slots = replicate 12 no_slot } }
 
 -- a counter of 64 bits, counted once more
 abbrev pub more : ℕ → ℕ

@@ -1,7 +1,6 @@
 //! How long a gateway's downlinks were on air.
 
-ghost use Rattle.std.specs.Prelude.{◌≡◌, ◌<◌, ◌≤◌, ◌^◌};
-ghost use Rattle.std.specs.List.{repeat};
+ghost use Rattle.std.specs.Prelude.{◌≡◌, ◌<◌, ◌≤◌, ◌^◌, replicate};
 ghost use Rattle.ns_status.specs.Airtime.{quarter_us, symbols_of, airtime_us, slot_of, no_slot, added_at, spent_at, recent};
 
 // How many slots make an hour, and how long each is.
@@ -46,7 +45,7 @@ fn recent(slot: Slot, now: u32) -> u64
 impl Airtime {
     /// None.
     pub fn none() -> Airtime
-        ensures { result.slots ≡ repeat 12 no_slot }
+        ensures { result.slots ≡ replicate 12 no_slot }
     {
         Airtime {
             slots: [Slot { number: 0, us: 0 }; SLOTS],

@@ -411,8 +411,8 @@ fn name_of(alloc: Global, name: &str, gateway: GatewayId) -> Result<String, Allo
     ensures { IfOk result (λ s. string_bytes s ≡ gateway_name name.now gateway) }
 {
     let eui = eui_text(alloc, gateway.0)?;
-    let mut text = String::new(alloc);
-    put_parts(&mut text, &[name, "{gateway=\"", eui.as_str(), "\"}"])?;
+    let mut text = String::from_str(alloc, name)?;
+    put_parts(&mut text, &["{gateway=\"", eui.as_str(), "\"}"])?;
     Ok(text)
 }
 

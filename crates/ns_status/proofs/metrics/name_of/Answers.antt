@@ -1,7 +1,7 @@
-use Rattle.std.proofs.Common.{append_assoc, append-nil}
+use Rattle.std.proofs.Common.{append-nil}
 use Rattle.ns_status.specs.Metrics.{gateway_name}
 use Rattle.ns_status.proofs.metrics.name_of.Goals as goal
 
 pub returns : goal.returns
 unfolding gateway_name
-returns c = simp (append_assoc, append-nil, c.new-text.ensures, c.in_ok-eui.ensures.text) at c.in_ok-put_parts.ensures
+returns c = simp append-nil (rw (c.as_str.ensures.value, c.in_ok-eui.ensures.text) at c.in_ok-put_parts.ensures)

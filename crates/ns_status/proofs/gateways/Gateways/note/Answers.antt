@@ -6,5 +6,5 @@ use Rattle.ns_status.proofs.gateways.Gateways.note.Goals as goal
 
 pub returns-in-Ok-clause-here : goal.returns-in-Ok-clause-here
 returns-in-Ok-clause-here c =
-    rw (c.in-Ok.ensures.entries, c.after.ensures, c.at.ensures)
+    rw (c.in-Ok.ensures.entries, c.after-after.ensures, c.at.ensures)
     (lookup-put_entries nat_eq c.args.self.now.list c.args.gateway.0 (changed (unwrap_or (gateway_at c.args.self.now c.args.gateway.0) unheard) c.args.sign c.args.now_ms) nat_eq_equiv)
