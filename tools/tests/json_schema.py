@@ -5,7 +5,8 @@ import re
 
 from live import TOOLS
 
-TYPES = {'object': dict, 'array': list, 'string': str, 'boolean': bool, 'integer': int, 'number': (int, float)}
+TYPES = {'object': dict, 'array': list, 'string': str, 'boolean': bool, 'integer': int, 'number': (int, float),
+         'null': type(None)}
 WORDS = {'$schema', '$defs', 'title', 'description', 'examples', '$ref', 'type', 'const', 'enum', 'pattern', 'minimum', 'maximum',
          'minItems', 'maxItems', 'items', 'required', 'properties', 'additionalProperties', 'oneOf'}
 

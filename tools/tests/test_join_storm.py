@@ -54,7 +54,7 @@ class Storms(unittest.TestCase):
 
 class Words(unittest.TestCase):
     def test_counts_of_log_lines(self):
-        lines = ['[2026-11-24T05:00:00Z INFO  ns_serve_state::counted] datagrams: read 7 dropped 0 late 3 G1 2',
+        lines = ['[2026-11-24T05:00:00Z INFO  ns_serve_state::counted] datagrams: read 7 lost 0 dropped 0 late 3 G1 2',
                  '[2026-11-24T05:00:00Z INFO  ns_serve_state::counted] replies: opened 1 nonceold 4 joinbusy 0 stale tickets 12',
                  '[2026-11-24T05:01:00Z INFO  ns_serve_state::counted] replies: opened 1 nonceold 5 joinbusy 0 stale tickets 13']
         self.assertEqual(join_storm.counts_of(lines), {'stale tickets': 13, 'late': 3, 'nonceold': 5, 'joinbusy': 0})

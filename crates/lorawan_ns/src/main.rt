@@ -23,7 +23,7 @@ use ns_commands::{
 use ns_log::{Log, error};
 use ns_record_files::Upkeep;
 use ns_roster::Roster;
-use ns_serve::{Begun, EndOfInput, ServeOptions, Stop, WaitingWriter, serve};
+use ns_serve::{Begun, EndOfInput, ServeOptions, Stop, SystemFiles, WaitingWriter, serve};
 use ns_types::OverStd;
 use ns_upkeep::{check, compact, keeper, recover};
 use ns_words::{Asked, Recorded, read_words};
@@ -97,7 +97,10 @@ where
     let begun = begin(rt, log, &roster, record)?;
     let writer = OverStd::new(WaitingWriter::new(log, io::writer(rt)));
     let alloc = rt.alloc();
-    of_serve(serve(log, alloc, roster, options, begun, stop, upkeep, writer))
+    let system = SystemFiles::open(rt);
+    of_serve(serve(
+        log, alloc, roster, options, begun, system, stop, upkeep, writer,
+    ))
 }
 
 // Does what the words ask for.

@@ -122,6 +122,35 @@ impl ForwarderCounts {
     }
 }
 
+impl ForwarderCounts {
+    /// How many messages of each kind came, with its name.
+    pub fn messages(&self) -> [(&'static str, u64); 3] {
+        let mut all = [("", 0); 3];
+        for place in 0..3 {
+            all[place] = (KINDS[place], self.kinds[place].load(Ordering::SeqCst));
+        }
+        all
+    }
+
+    /// How many messages, bodies and items were refused for each fault, with its number.
+    pub fn refusals(&self) -> [(&'static str, u64); 12] {
+        let mut all = [("", 0); 12];
+        for place in 0..12 {
+            all[place] = (FAULTS[place], self.faults[place].load(Ordering::SeqCst));
+        }
+        all
+    }
+
+    /// How often each thing came of a downlink, with its name.
+    pub fn downlinks(&self) -> [(&'static str, u64); 9] {
+        let mut all = [("", 0); 9];
+        for place in 0..9 {
+            all[place] = (OUTCOMES[place], self.outcomes[place].load(Ordering::SeqCst));
+        }
+        all
+    }
+}
+
 impl Display for ForwarderCounts {
     fn fmt<W: fmt::Write>(&self, f: &mut Formatter<W>) -> fmt::Result {
         let (kinds, faults) = (self.kinds.as_slice(), self.faults.as_slice());

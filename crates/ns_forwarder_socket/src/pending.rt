@@ -3,10 +3,23 @@
 ghost use Rattle.std.specs.Prelude.{◌≡◌, ◌≤◌, [], map, IfOk, IfSome, IfNone};
 ghost use Rattle.ns_forwarder_socket.specs.Pending.{waiting, IsGiven};
 
+use ns_forwarder::{ForwarderFault, Kind};
+use ns_types::GatewayId;
 use std::alloc::{AllocError, Global};
 
 // The longest message that is looked at has 16,384 bytes. A longer one is cut behind one byte more, and so refused.
 const ROOM: usize = 16_385;
+
+/// What a message was that was taken.
+#[derive(Drop)]
+pub struct Heard {
+    pub gateway: GatewayId,
+    pub kind: Kind,
+    /// Whether it has the status of a gateway (`stat`).
+    pub has_stat: bool,
+    /// Why each of its items was left out that became no datagram (F7 to F10), in order.
+    pub left_out: Vec<ForwarderFault>,
+}
 
 /// One worker's room for a message, and the datagrams of its last one that wait to be given.
 #[derive(Drop)]
@@ -14,6 +27,8 @@ pub struct Pending {
     pub(crate) room: Vec<u8>,
     datagrams: Vec<Vec<u8>>,
     given: usize,
+    // The last message that was taken, until it is asked for.
+    pub(crate) heard: Option<Heard>,
 }
 
 impl Pending {
@@ -27,6 +42,7 @@ impl Pending {
             room,
             datagrams: Vec::new(alloc),
             given: 0,
+            heard: None,
         })
     }
 
@@ -36,6 +52,13 @@ impl Pending {
     {
         self.datagrams = datagrams;
         self.given = 0;
+    }
+
+    /// What the last message was that was taken, once.
+    pub fn take_heard(&mut self) -> Option<Heard>
+        ensures { waiting self.new ≡ waiting self.old }
+    {
+        self.heard.take()
     }
 
     /// Puts the next of them at the front of the buffer, and gives its length, or none where none waits. One of more than 512 bytes, which

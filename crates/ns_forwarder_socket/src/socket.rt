@@ -6,9 +6,9 @@ ghost use Rattle.ns_forwarder_socket.specs.Token.{token_of};
 
 use crate::counts::ForwarderCounts;
 use crate::gateways::{Gateways, Route};
-use crate::pending::Pending;
+use crate::pending::{Heard, Pending};
 use crate::taken::{Taken, take};
-use ns_forwarder::{ForwarderFault, Outcome, pull_resp, read_message};
+use ns_forwarder::{ForwarderFault, Head, Outcome, pull_resp, read_message};
 use ns_types::{GatewayId, Target};
 use std::alloc::{AllocError, Global};
 use std::collections::hash_map::RandomState;
@@ -56,6 +56,35 @@ fn token_of(version: u8, count: u64) -> [u8; 2]
     }
 }
 
+// Whether a message has the status of a gateway: a member `stat` that is an object. In an item of `rxpk` a `stat` is a number.
+fn has_stat(message: &[u8]) -> bool {
+    for piece in message.split(|byte| *byte == b'{') {
+        let before = piece.trim_ascii_end();
+        if let Some(before) = before.strip_suffix(b":".as_slice()) {
+            if before.trim_ascii_end().ends_with(b"\"stat\"") {
+                return true;
+            }
+        }
+    }
+    false
+}
+
+// What a message was. Without memory the faults of its items are not told.
+fn heard_of(alloc: Global, head: &Head, has_stat: bool, taken: &Taken) -> Heard {
+    let mut left_out = Vec::new(alloc);
+    if let Taken::Handed(handed, _) = taken {
+        for fault in &handed.left_out {
+            let _ = left_out.push(*fault);
+        }
+    }
+    Heard {
+        gateway: head.gateway,
+        kind: head.kind,
+        has_stat,
+        left_out,
+    }
+}
+
 impl Forwarders {
     /// The forwarders of a socket, which has no message yet. Downlinks are sent with a power in dBm.
     pub fn new(
@@ -98,7 +127,11 @@ impl Forwarders {
         }
         let (n, peer) = self.socket.recv_from(pending.room.as_mut_slice())?;
         match self.hear(rt, alloc, &pending.room.as_slice()[..n], peer) {
-            Ok((gateway, taken)) => Ok(self.event(gateway, taken, pending, buf)),
+            Ok((head, taken)) => {
+                let has_stat = has_stat(&pending.room.as_slice()[..n]);
+                pending.heard = Some(heard_of(alloc, &head, has_stat, &taken));
+                Ok(self.event(head.gateway, taken, pending, buf))
+            }
             Err(fault) => {
                 self.counts.refused(fault);
                 Ok(Event::Refused(fault))
@@ -146,14 +179,14 @@ impl Forwarders {
         }
     }
 
-    // Takes one message, with the number of its gateway.
+    // Takes one message, with its head.
     fn hear<R: Wait + Clock>(
         &self,
         rt: &R,
         alloc: Global,
         bytes: &[u8],
         peer: SocketAddr,
-    ) -> Result<(GatewayId, Taken), ForwarderFault> {
+    ) -> Result<(Head, Taken), ForwarderFault> {
         let message = read_message(bytes)?;
         let head = message.head();
         self.counts.heard(head.kind);
@@ -165,7 +198,7 @@ impl Forwarders {
         let clock = self.gateways.lock(rt).gateway(head.gateway).clock;
         let taken = take(alloc, &message, clock, self.now(rt))?;
         self.gateways.lock(rt).note(&head, &taken, peer)?;
-        Ok((head.gateway, taken))
+        Ok((head, taken))
     }
 
     // Microseconds since the start.

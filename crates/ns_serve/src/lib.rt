@@ -14,5 +14,6 @@ mod trimming;
 pub use ns_serve_parts::{ServeFault, ServeOptions};
 pub use ns_serve_shards::Begun;
 pub use ns_serve_sockets::{EndOfInput, Stop};
+pub use ns_serve_state::SystemFiles;
 pub use ns_serve_streams::WaitingWriter;
 pub use service::serve;

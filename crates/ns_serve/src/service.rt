@@ -14,7 +14,7 @@ use ns_serve_events::{Events, Recording};
 use ns_serve_parts::{ServeFault, ServeOptions};
 use ns_serve_shards::{Begun, entries_between, finish, trims_of, written};
 use ns_serve_sockets::{AfterRecord, Stop, begin, begun_output, log_start, no_memory, watch_stop};
-use ns_serve_state::{State, has_failed, log_counts, write_record};
+use ns_serve_state::{State, SystemFiles, has_failed, log_counts, look_at_drops, write_record};
 use ns_serve_streams::Output;
 use ns_serve_workers::{Around, run_all};
 use ns_server::{Naming, Pass, Server};
@@ -158,6 +158,7 @@ fn run_server<
     );
     let outcome = written(rt, &mut output, outcome);
     let _ = write_record(rt, state);
+    look_at_drops(rt, state, true);
     log_counts(rt, state);
     outcome
 }
@@ -230,7 +231,7 @@ fn end_of<R: Log>(
 /// for that. Writes `listening ADDR` and `forwarders ADDR` for the addresses at which gateways are heard, the uplinks as windows close,
 /// each on a line as the options say, those of the windows that are still open at the end, `settled T`, and the closing roster where the
 /// options ask for it, each with a line feed, and gives T, which is how many entries there are in all shards. `upkeep` looks after the
-/// record, if there is one, about once a second.
+/// record, if there is one, about once a second, and `system` is what the system says of the process.
 ///
 /// `NoMemory` where a growth was refused, or a thread could not be made; `Io` where the socket, the writer, the record or a clock failed.
 /// Each is logged with where it was; the lines of what was closed before it are written all the same.
@@ -245,6 +246,7 @@ pub fn serve<
     roster: Arc<Roster>,
     options: &ServeOptions<'_>,
     begun: Begun,
+    system: SystemFiles,
     stop: S,
     upkeep: U,
     writer: W,
@@ -255,7 +257,8 @@ pub fn serve<
 {
     let mut begun = begun;
     let record = begun.record.take();
-    let state = begin(rt, alloc, &roster, options, begun.made(), record)?;
+    let state = begin(rt, alloc, &roster, options, begun.made(), record, system)?;
+    begun.recall(rt, &state);
     log_start(
         rt,
         &roster,

@@ -4,6 +4,7 @@ ghost use Rattle.ns_serve_parts.specs.Counts.{refusal_place};
 
 use crate::made::Made;
 use crate::seldom::is_minute_later;
+use crate::times::Times;
 use ns_link::LinkFault;
 use ns_outside::Refused;
 use std::sync::atomic::{AtomicU64, Ordering};
@@ -22,6 +23,8 @@ pub struct Counts {
     // When they were logged last, in milliseconds of the server's clock.
     logged_ms: AtomicU64,
     refusals: [AtomicU64; KINDS],
+    /// Datagrams that the system dropped, by what it said last.
+    pub lost: AtomicU64,
     /// Datagrams whose calls were refused memory.
     pub dropped: AtomicU64,
     /// Datagrams that were late copies.
@@ -36,6 +39,10 @@ pub struct Counts {
     pub stale: AtomicU64,
     /// Lines that standard output did not take: `up` lines the record alone has, and lines of events, which are in no record.
     pub unwritten: AtomicU64,
+    /// How long exchanges with the join server took, from connecting on.
+    pub exchanges: Times,
+    /// How long after its time the first window was closed of those closed together, with its downlink sent.
+    pub closings: Times,
 }
 
 /// How often it was counted.
@@ -65,6 +72,7 @@ impl Counts {
         Counts {
             logged_ms: AtomicU64::new(0),
             refusals: Default::default(),
+            lost: AtomicU64::new(0),
             dropped: AtomicU64::new(0),
             late: AtomicU64::new(0),
             unreceived: AtomicU64::new(0),
@@ -72,6 +80,8 @@ impl Counts {
             unsent: AtomicU64::new(0),
             stale: AtomicU64::new(0),
             unwritten: AtomicU64::new(0),
+            exchanges: Times::new(),
+            closings: Times::new(),
         }
     }
 

@@ -25,6 +25,8 @@ pub struct ServeOptions<'a> {
     pub power: u8,
     /// The address at which the status is told over HTTP, if one is given.
     pub status: Option<SocketAddr>,
+    /// The name under which the status is asked for, where that is neither an address nor `localhost`.
+    pub status_host: Option<&'a str>,
     /// How many workers hear them, 1 to 16. Where both addresses are given, at least 2: every second one hears forwarders.
     pub workers: usize,
     /// How many workers ask the join server, 1 to 16.

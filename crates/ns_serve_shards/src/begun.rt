@@ -10,13 +10,13 @@ use ns_record_files::{RecordFiles, RecordWriter, Recorder};
 use ns_resume::{RecordFault, Resumed, run_record};
 use ns_roster::Roster;
 use ns_serve_parts::{Made, PLACES};
-use ns_serve_state::log_failure;
+use ns_serve_state::{State, log_failure};
 use ns_server::new_shards;
 use ns_shard::Shard;
 use ns_types::{Ticket, WindowName};
 use std::alloc::{AllocError, Global};
 use std::io::BufReader;
-use std::sync::Arc;
+use std::sync::{Arc, Wait};
 
 // How many bytes of each file are read at once.
 const BLOCK: usize = 262_144;
@@ -97,6 +97,19 @@ impl Begun {
             tickets,
             record: Some(Recorder::new(alloc, RecordWriter::new(files))?),
         })
+    }
+
+    /// Tells the status, if it is told, what the shards know of each device: its last session, and the greatest counter in it. Of this they
+    /// hold an entry each, however far they were trimmed.
+    pub fn recall<R: Wait>(&self, rt: &R, state: &State) {
+        let Some(status) = &state.status else {
+            return;
+        };
+        for shard in &self.shards {
+            for entry in shard.entries() {
+                status.recall(rt, &entry.call, &entry.reply);
+            }
+        }
     }
 
     /// How many entries each shard has.

@@ -10,6 +10,7 @@ use ns_types::{Failed, Sink, Stream};
 use std::alloc::{AllocError, Global};
 use std::sync::Wait;
 use std::sync::atomic::Ordering;
+use std::time::Clock;
 
 /// A writer of lines that takes none before what they rest on is written. Where there is a record, which has the `up` lines, the writer's
 /// failure is none of the server: from then on it gets nothing, and the lines that it would have got are counted, also those of events,
@@ -99,7 +100,7 @@ impl<'a> Later<'a> {
     }
 
     /// Sends those that wait.
-    pub fn send_all<R: Wait + Log>(&mut self, rt: &R) {
+    pub fn send_all<R: Wait + Clock + Log>(&mut self, rt: &R) {
         for downlink in &self.waiting {
             if !send_down(rt, self.state, downlink) {
                 log_unsent(rt, self.state, downlink);
@@ -109,7 +110,7 @@ impl<'a> Later<'a> {
     }
 }
 
-impl<'a, R: Wait> Downlinks<R> for Later<'a> {
+impl<'a, R: Wait + Clock> Downlinks<R> for Later<'a> {
     fn send(&mut self, rt: &R, downlink: &Downlink) -> bool {
         self.waiting.push(*downlink).is_ok() || send_down(rt, self.state, downlink)
     }

@@ -14,7 +14,10 @@ use ns_link::write_down;
 use ns_log::{Log, error, warn};
 use ns_outside::{Datagrams, Downlinks, Received};
 use ns_serve_parts::more;
-use ns_serve_state::{State, log_counts, log_message, now_ms, write_record};
+use ns_serve_state::{
+    State, log_counts, log_message, look_at_drops, note_message, now_ms, write_record,
+};
+use ns_status::{Sign, airtime_us};
 use ns_types::Target;
 use std::io::{Error, ErrorKind};
 use std::net::{SocketAddr, UdpSocket};
@@ -144,7 +147,9 @@ impl<'a> FromSocket<'a> {
         let state = self.state;
         let event = match (&mut self.pending, &state.forwarders) {
             (Some(pending), Some((forwarders, _))) => {
-                forwarders.next(rt, state.alloc, pending, buf)
+                let event = forwarders.next(rt, state.alloc, pending, buf);
+                note(rt, state, pending);
+                event
             }
             _ => Err(Error::from(ErrorKind::NotConnected)),
         };
@@ -199,6 +204,13 @@ impl<'a> FromSocket<'a> {
                 Received::Failed
             }
         }
+    }
+}
+
+// Notes what the message was that was taken, where one was.
+fn note<R: Wait + Clock + Log>(rt: &R, state: &State, pending: &mut Pending) {
+    if let Some(heard) = pending.take_heard() {
+        note_message(rt, state, &heard);
     }
 }
 
@@ -342,9 +354,10 @@ impl<'a, R: Wait + Clock + Log> Datagrams<R> for FromSocket<'a> {
     }
 }
 
-// Logs the counts where a minute has passed.
+// Looks whether the system dropped datagrams, and logs the counts where a minute has passed.
 #[inline(never)]
 fn look<R: Clock + Log>(rt: &R, state: &State) {
+    look_at_drops(rt, state, false);
     if state.counts.is_due(now_ms(rt, state)) {
         log_counts(rt, state);
     }
@@ -356,17 +369,27 @@ pub struct ToSocket<'a> {
     pub state: &'a State,
 }
 
-impl<'a, R: Wait> Downlinks<R> for ToSocket<'a> {
+impl<'a, R: Wait + Clock> Downlinks<R> for ToSocket<'a> {
     fn send(&mut self, rt: &R, downlink: &Downlink) -> bool {
         send_down(rt, self.state, downlink)
     }
 }
 
-/// Sends a downlink once what it rests on is written, and says whether it was sent.
-pub(crate) fn send_down<R: Wait>(rt: &R, state: &State, downlink: &Downlink) -> bool {
-    if write_record(rt, state).is_err() {
+/// Sends a downlink once what it rests on is written, and says whether it was sent. A sent one is noted of its gateway, with its airtime.
+pub(crate) fn send_down<R: Wait + Clock>(rt: &R, state: &State, downlink: &Downlink) -> bool {
+    if write_record(rt, state).is_err() || !send_now(rt, state, downlink) {
         return false;
     }
+    if let Some(status) = &state.status {
+        let target = &downlink.target;
+        let sent = Sign::Sent(airtime_us(target.dr, downlink.frame.as_slice().len()));
+        status.note_sign(rt, target.gateway, sent, now_ms(rt, state));
+    }
+    true
+}
+
+// Sends a downlink, and says whether it was sent.
+fn send_now<R: Wait>(rt: &R, state: &State, downlink: &Downlink) -> bool {
     let (gateway, frame) = (downlink.target.gateway, downlink.frame.as_slice());
     if let Some((forwarders, _)) = &state.forwarders {
         if let Some(route) = forwarders.route(rt, gateway) {

@@ -7,7 +7,7 @@ use ns_log::{Log, error, info};
 use ns_record_files::{RecordFiles, Recorder};
 use ns_roster::Roster;
 use ns_serve_parts::{Made, ServeFault, ServeOptions};
-use ns_serve_state::{State, Status};
+use ns_serve_state::{State, Status, SystemFiles};
 use ns_serve_streams::Output;
 use ns_types::Sink;
 use std::alloc::Global;
@@ -78,7 +78,7 @@ fn open_all<R: Net<Listener = TcpListener, Stream = TcpStream> + Clock + Log>(
     Ok(Opened {
         own,
         forwarders,
-        status: Status::open(rt, alloc, roster, options.status)?,
+        status: Status::open(rt, alloc, roster, options.status, options.status_host)?,
     })
 }
 
@@ -91,6 +91,7 @@ pub fn begin<R: Net<Listener = TcpListener, Stream = TcpStream> + Clock + Log>(
     options: &ServeOptions<'_>,
     made: Made,
     record: Option<Recorder<RecordFiles>>,
+    system: SystemFiles,
 ) -> Result<State, ServeFault> {
     let Opened {
         own,
@@ -98,7 +99,7 @@ pub fn begin<R: Net<Listener = TcpListener, Stream = TcpStream> + Clock + Log>(
         status,
     } = open_all(rt, alloc, roster, options)?;
     let state = State::new(
-        rt, alloc, own, forwarders, roster, options, made, record, status,
+        rt, alloc, own, forwarders, roster, options, made, record, status, system,
     );
     if let Err(why) = &state {
         error!(rt; "what all threads share: {why}");

@@ -25,8 +25,8 @@ fn log_datagrams<R: Log>(rt: &R, counts: &Counts, read: u64) {
     let refusals = counts.refusals();
     let refusals = Named { counts: &refusals };
     let (dropped, late) = (value(&counts.dropped), value(&counts.late));
-    let unreceived = value(&counts.unreceived);
-    info!(rt; "datagrams: read {read} dropped {dropped} late {late} failed receives {unreceived}{refusals}");
+    let (unreceived, lost) = (value(&counts.unreceived), value(&counts.lost));
+    info!(rt; "datagrams: read {read} lost {lost} dropped {dropped} late {late} failed receives {unreceived}{refusals}");
 }
 
 // Logs the counts of replies.

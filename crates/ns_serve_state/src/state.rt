@@ -8,6 +8,7 @@ use crate::logged::Seldoms;
 use crate::queue::AskQueue;
 use crate::rest::Resting;
 use crate::status::Status;
+use crate::system::SystemFiles;
 use ns_forwarder_socket::{Forwarders, Pending};
 use ns_front::{Addresses, Lates, Peers};
 use ns_output::Output;
@@ -150,6 +151,8 @@ pub struct State {
     pub record: Option<Recorder<RecordFiles>>,
     /// What is told over HTTP, where it is.
     pub status: Option<Status>,
+    /// What the system says of this process.
+    pub system: SystemFiles,
 }
 
 // Proved here once, where a derived one is proved again by each crate that lets a state go.
@@ -178,6 +181,7 @@ impl Drop for State {
             notices: _,
             record: _,
             status: _,
+            system: _,
         } = self;
     }
 }
@@ -194,6 +198,7 @@ impl State {
         made: Made,
         record: Option<Recorder<RecordFiles>>,
         status: Option<Status>,
+        system: SystemFiles,
     ) -> Result<State, ServeFault>
         ensures window { IfOk result (λ s. s.window_ms ≡ options.now.window_ms) }
         ensures uplinks { IfOk result (λ s. s.uplinks ≡ options.now.output) }
@@ -222,6 +227,7 @@ impl State {
             notices: notices(alloc, options.events),
             record,
             status,
+            system,
         })
     }
 

@@ -1,11 +1,12 @@
 //! What is known of devices and gateways, where it is told.
 
 use crate::clock::BEGIN_MS;
+use ns_calls::{Call, Reply};
 use ns_log::{Log, error, info};
 use ns_outside::Receipt;
 use ns_roster::Roster;
 use ns_serve_parts::{ServeFault, keys};
-use ns_status::{Device, Devices, Gateway, Gateways, gateway_of, news_of};
+use ns_status::{Device, Devices, Gateway, Gateways, Sign, gateway_of, news_of};
 use ns_types::{DevEui, GatewayId};
 use std::alloc::{AllocError, Global};
 use std::io;
@@ -16,10 +17,21 @@ use std::time::Clock;
 /// How many places of devices are looked at under the lock at once.
 pub const BATCH: usize = 64;
 
+/// Within which times devices that were heard are counted, in milliseconds, and their names. A device that sends once a day is heard within
+/// 25 hours.
+pub const AGES: [(u64, &str); 4] = [
+    (3_600_000, "1h"),
+    (21_600_000, "6h"),
+    (90_000_000, "25h"),
+    (604_800_000, "7d"),
+];
+
 /// What is known of devices and gateways, and where it is told.
 #[derive(Drop)]
 pub struct Status {
     listener: TcpListener,
+    // The name under which it may be asked for, empty where none is given.
+    host: String,
     // When the server began, in milliseconds since 1970.
     start_ms: u64,
     devices: Mutex<Devices>,
@@ -61,6 +73,7 @@ impl Status {
         alloc: Global,
         roster: &Roster,
         addr: Option<SocketAddr>,
+        host: Option<&str>,
     ) -> Result<Option<Status>, ServeFault> {
         let Some(addr) = addr else {
             return Ok(None);
@@ -70,8 +83,13 @@ impl Status {
         };
         let devices = Mutex::new(Devices::new(alloc, roster)?);
         let gateways = Mutex::new(Gateways::new(alloc, keys)?);
+        let mut name = String::new(alloc);
+        if let Some(host) = host {
+            name.push_str(host)?;
+        }
         Ok(Some(Status {
             listener: listen(rt, addr)?,
+            host: name,
             start_ms: u64::try_from(since_1970.as_millis()).unwrap_or(u64::MAX),
             devices,
             gateways,
@@ -86,9 +104,27 @@ impl Status {
             devices.note(&news, now_ms);
         }
         if let Some(gateway) = gateway_of(&entry.call) {
-            let mut gateways = self.gateways.lock(rt);
-            let _ = gateways.note(gateway, now_ms);
+            self.note_sign(rt, gateway, Sign::Frame, now_ms);
         }
+    }
+
+    /// Notes a sign of a gateway.
+    pub fn note_sign<R: Wait>(&self, rt: &R, gateway: GatewayId, sign: Sign, now_ms: u64) {
+        let mut gateways = self.gateways.lock(rt);
+        let _ = gateways.note(gateway, sign, now_ms);
+    }
+
+    /// Notes what an entry of the record tells of a device.
+    pub fn recall<R: Wait>(&self, rt: &R, call: &Call, reply: &Reply) {
+        if let Some(news) = news_of(call, reply) {
+            let mut devices = self.devices.lock(rt);
+            devices.recall(&news);
+        }
+    }
+
+    /// The name under which it may be asked for.
+    pub fn host(&self) -> &[u8] {
+        self.host.as_str().as_bytes()
     }
 
     /// Takes the next connection of who asks, if there is one.
@@ -107,10 +143,33 @@ impl Status {
         self.start_ms.saturating_sub(BEGIN_MS)
     }
 
+    /// How many devices there are.
+    pub fn count_all<R: Wait>(&self, rt: &R) -> usize {
+        let devices = self.devices.lock(rt);
+        devices.len()
+    }
+
     /// How many devices there are, and how many of them have joined.
     pub fn count_devices<R: Wait>(&self, rt: &R) -> (usize, usize) {
         let devices = self.devices.lock(rt);
         (devices.len(), devices.joined())
+    }
+
+    /// How many devices were heard within each of the times.
+    pub fn count_heard<R: Wait>(&self, rt: &R, now_ms: u64) -> [(&'static str, u64); 4] {
+        let mut counts = [("", 0); 4];
+        for (count, age) in counts.iter_mut().zip(AGES.iter()) {
+            let devices = self.devices.lock(rt);
+            let heard = devices.heard_since(now_ms.saturating_sub(age.0));
+            *count = (age.1, heard as u64);
+        }
+        counts
+    }
+
+    /// The place of a device in the list, if it is of the roster.
+    pub fn place<R: Wait>(&self, rt: &R, eui: DevEui) -> Option<usize> {
+        let devices = self.devices.lock(rt);
+        devices.place(eui)
     }
 
     /// How many gateways are known.
@@ -129,20 +188,32 @@ impl Status {
         gateways.all(alloc)
     }
 
-    /// The devices that have joined, among those at so many places from this one on. They replace what the list had.
+    /// The devices at so many places from this one on, and what is known of each: of all of them, or of those of which something is known
+    /// since this moment. They replace what the list had.
     pub fn batch<R: Wait>(
         &self,
         rt: &R,
         place: usize,
-        batch: &mut Vec<(DevEui, Device)>,
+        since_ms: Option<u64>,
+        batch: &mut Vec<(DevEui, Option<Device>)>,
     ) -> Result<(), AllocError> {
         batch.clear();
         let devices = self.devices.lock(rt);
         for i in place..place.saturating_add(BATCH) {
-            if let Some(row) = devices.joined_at(i) {
-                batch.push(row)?;
+            match devices.at(i) {
+                Some(row) if is_wanted(&row.1, since_ms) => batch.push(row)?,
+                _ => {}
             }
         }
         Ok(())
+    }
+}
+
+// Whether something is known of a device since a moment, where only such are wanted.
+fn is_wanted(device: &Option<Device>, since_ms: Option<u64>) -> bool {
+    match (device, since_ms) {
+        (_, None) => true,
+        (Some(device), Some(since_ms)) => device.changed_since(since_ms),
+        (None, Some(_)) => false,
     }
 }

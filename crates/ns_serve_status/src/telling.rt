@@ -1,382 +1,238 @@
-//! Who asks over HTTP for the status, and what is told.
+//! Who asks over HTTP for the status: connections side by side, none of which waits for another.
 
-ghost use Rattle.std.specs.Prelude.{None};
-ghost use Rattle.std.specs.Io.{ReadsAtMost, WritesAtMost};
+ghost use Rattle.std.specs.Prelude.{◌≤◌};
 
-use ns_serve_state::{BATCH, State, Status, now_ms};
-use ns_serve_streams::write_whole;
-use ns_status::{
-    Content, Lists, Request, RequestFault, Route, Status as Answer, Totals, head_of, page_text,
-    put_devices, put_end, put_front, put_gateways, put_metrics, read_request,
-};
-use ns_types::{Failed, Sink, Source, Stream};
+use crate::answer::{Answer, Untold};
+use ns_serve_state::{State, Status, now_ms};
+use ns_status::{Request, RequestFault, Status as Code, request_in};
 use std::alloc::{AllocError, Global};
 use std::io::{ErrorKind, Read, Write};
 use std::net::TcpStream;
 use std::sync::Wait;
-use std::sync::atomic::Ordering;
 use std::time::{Clock, Duration};
 use std::{io, thread};
 
+// How many connections there are at most. One more takes the place of the oldest that has not asked yet.
+const MOST: usize = 16;
+
 // How long a request may take to come, and then its answer to go, in milliseconds.
-const REQUEST_MS: u64 = 2000;
+const REQUEST_MS: u64 = 2_000;
 
-const ANSWER_MS: u64 = 8000;
+const ANSWER_MS: u64 = 8_000;
 
-// How long it is waited before it is looked whether the server stops.
-const NAP_MS: u64 = 50;
+// How long it is waited while nothing moves: with connections, and without any.
+const NAP_MS: u64 = 3;
 
-/// Answers who asks for the status, one after the other, until no gateway worker is left or a worker has met a fault. It comes back at once
-/// where the status is not told.
+const IDLE_MS: u64 = 50;
+
+// The most bytes of a head.
+const HEAD_MAX: usize = 4_096;
+
+// What a step of a connection came to.
+#[derive(Clone, Copy, PartialEq, Eq)]
+enum Step {
+    /// Bytes came or went.
+    Moved,
+    /// Nothing did.
+    Waits,
+    /// Nothing more will.
+    Over,
+}
+
+// A connection: the head that came of its request, and, once that is whole, its answer.
+#[derive(Drop)]
+struct Asker {
+    stream: TcpStream,
+    head: Vec<u8>,
+    answer: Option<Answer>,
+    until_ms: u64,
+    is_over: bool,
+}
+
+// What a read or a write came to that gave no bytes.
+fn without(error: &io::Error) -> Step {
+    match error.kind() {
+        ErrorKind::WouldBlock | ErrorKind::TimedOut | ErrorKind::Interrupted => Step::Waits,
+        _ => Step::Over,
+    }
+}
+
+// What the bytes of a head ask for, if they are whole.
+fn asked(head: &[u8], host: &[u8]) -> Option<Result<Request, Code>> {
+    match request_in(head, host) {
+        Ok(Some(request)) => Some(Ok(request)),
+        Ok(None) if head.len() < HEAD_MAX => None,
+        Ok(None) => Some(Err(Code::TooLong)),
+        Err(RequestFault::Refused(why)) => Some(Err(why)),
+        Err(RequestFault::Ended) => Some(Err(Code::Malformed)),
+    }
+}
+
+impl Asker {
+    // A connection whose request has to come until then.
+    fn new(alloc: Global, stream: TcpStream, until_ms: u64) -> Result<Asker, AllocError> {
+        Ok(Asker {
+            stream,
+            head: Vec::with_capacity(alloc, HEAD_MAX)?,
+            answer: None,
+            until_ms,
+            is_over: false,
+        })
+    }
+
+    // Reads what is there of the request, and begins the answer once it is whole.
+    fn read<R: Wait + Clock>(
+        &mut self,
+        rt: &R,
+        alloc: Global,
+        state: &State,
+        status: &Status,
+    ) -> Step {
+        let mut piece = [0u8; HEAD_MAX];
+        let room = HEAD_MAX.saturating_sub(self.head.len());
+        let read = match piece.get_mut(..room) {
+            Some(room) => (&self.stream).read(room),
+            None => Ok(0),
+        };
+        let n = match &read {
+            Ok(0) => return Step::Over,
+            Ok(n) => *n,
+            Err(error) => return without(error),
+        };
+        let come = piece.get(..n).unwrap_or(&[]);
+        if self.head.extend_from_slice(come).is_err() {
+            return Step::Over;
+        }
+        if let Some(asked) = asked(self.head.as_slice(), status.host()) {
+            self.until_ms = now_ms(rt, state).saturating_add(ANSWER_MS);
+            self.answer = Answer::begin(rt, alloc, state, status, asked).ok();
+            if self.answer.is_none() {
+                return Step::Over;
+            }
+        }
+        Step::Moved
+    }
+
+    // Writes what goes of the answer, and makes its next piece once it is gone.
+    fn write<R: Wait>(&mut self, rt: &R, alloc: Global, status: &Status) -> Step {
+        let Some(answer) = &mut self.answer else {
+            return Step::Over;
+        };
+        if answer.left().is_empty() {
+            return match answer.go_on(rt, alloc, status) {
+                Ok(true) => Step::Moved,
+                Ok(false) | Err(Untold) => Step::Over,
+            };
+        }
+        match &(&self.stream).write(answer.left()) {
+            Ok(0) => Step::Over,
+            Ok(n) => {
+                answer.went(*n);
+                Step::Moved
+            }
+            Err(error) => without(error),
+        }
+    }
+
+    // One step, which does not wait.
+    fn step<R: Wait + Clock>(
+        &mut self,
+        rt: &R,
+        alloc: Global,
+        state: &State,
+        status: &Status,
+    ) -> Step {
+        if now_ms(rt, state) >= self.until_ms {
+            return Step::Over;
+        }
+        match self.answer {
+            None => self.read(rt, alloc, state, status),
+            Some(_) => self.write(rt, alloc, status),
+        }
+    }
+}
+
+// The place of the connection that goes for a further one: of those that have not asked, or else of all, the one with the least time left.
+fn oldest(askers: &[Asker]) -> Option<usize> {
+    let mut oldest: Option<(bool, u64, usize)> = None;
+    for (place, asker) in askers.iter().enumerate() {
+        let (has_asked, until_ms) = (asker.answer.is_some(), asker.until_ms);
+        let is_older = match oldest {
+            None => true,
+            Some((other_has, other_until, _)) => {
+                (!has_asked && other_has) || (has_asked == other_has && until_ms < other_until)
+            }
+        };
+        if is_older {
+            oldest = Some((has_asked, until_ms, place));
+        }
+    }
+    let (_, _, place) = oldest?;
+    Some(place)
+}
+
+// Takes a connection in, if one waits. Where there are as many as there may be, the oldest goes.
+fn accept<R: Wait + Clock>(
+    rt: &R,
+    alloc: Global,
+    state: &State,
+    status: &Status,
+    askers: &mut Vec<Asker>,
+) -> bool {
+    let Ok(stream) = status.accept() else {
+        return false;
+    };
+    if askers.len() >= MOST {
+        if let Some(asker) = oldest(askers.as_slice()).and_then(|place| askers.get_mut(place)) {
+            asker.is_over = true;
+        }
+        askers.retain(|asker| !asker.is_over);
+    }
+    let until_ms = now_ms(rt, state).saturating_add(REQUEST_MS);
+    if stream.set_nonblocking(true).is_ok() {
+        if let Ok(asker) = Asker::new(alloc, stream, until_ms) {
+            let _ = askers.push(asker);
+        }
+    }
+    true
+}
+
+// A step of each connection. Whether bytes came or went at one.
+fn step_all<R: Wait + Clock>(
+    rt: &R,
+    alloc: Global,
+    state: &State,
+    status: &Status,
+    askers: &mut Vec<Asker>,
+) -> bool {
+    let mut has_moved = false;
+    for asker in askers.iter_mut() {
+        match asker.step(rt, alloc, state, status) {
+            Step::Moved => has_moved = true,
+            Step::Waits => {}
+            Step::Over => asker.is_over = true,
+        }
+    }
+    askers.retain(|asker| !asker.is_over);
+    has_moved
+}
+
+/// Answers who asks for the status, up to sixteen connections side by side, until no gateway worker is left or a worker has met a fault. It
+/// comes back at once where the status is not told.
 pub fn tell<R: Wait + Clock>(rt: &R, alloc: Global, state: &State) {
     let Some(status) = &state.status else {
         return;
     };
+    let mut askers = Vec::new(alloc);
     for _turn in rt.forever() {
         if state.is_deaf() || state.is_broken() {
             return;
         }
-        match status.accept() {
-            Ok(stream) => exchange(rt, alloc, state, status, stream),
-            Err(_) => thread::sleep(rt, Duration::from_millis(NAP_MS)),
+        let has_come = accept(rt, alloc, state, status, &mut askers);
+        let has_moved = step_all(rt, alloc, state, status, &mut askers);
+        if !has_come && !has_moved {
+            let nap = if askers.is_empty() { IDLE_MS } else { NAP_MS };
+            thread::sleep(rt, Duration::from_millis(nap));
         }
     }
-}
-
-// A connection, which fails once its time is up or the server stops.
-#[derive(Drop)]
-struct Asker<'a, R> {
-    rt: &'a R,
-    state: &'a State,
-    stream: TcpStream,
-    until_ms: u64,
-    failed: bool,
-}
-
-// Whether a read or a write did nothing but wait.
-fn is_wait(done: &io::Result<usize>) -> bool {
-    let Err(error) = done else {
-        return false;
-    };
-    matches!(
-        error.kind(),
-        ErrorKind::WouldBlock | ErrorKind::TimedOut | ErrorKind::Interrupted
-    )
-}
-
-impl<'a, R: Wait + Clock> Asker<'a, R> {
-    // Whether there is no time left.
-    fn is_over(&self) -> bool {
-        let state = self.state;
-        state.is_deaf() || state.is_broken() || now_ms(self.rt, state) >= self.until_ms
-    }
-
-    fn read_some(&self, buf: &mut [u8]) -> io::Result<usize>
-        ensures { ReadsAtMost result buf.new }
-    {
-        for _turn in self.rt.forever() {
-            if self.is_over() {
-                return Err(io::Error::from(ErrorKind::TimedOut));
-            }
-            let read = (&self.stream).read(buf);
-            if !is_wait(&read) {
-                return read;
-            }
-        }
-        unreachable!()
-    }
-
-    fn write_some(&self, bytes: &[u8]) -> io::Result<usize>
-        ensures { WritesAtMost result bytes.now }
-    {
-        for _turn in self.rt.forever() {
-            if self.is_over() {
-                return Err(io::Error::from(ErrorKind::TimedOut));
-            }
-            let written = (&self.stream).write(bytes);
-            if !is_wait(&written) {
-                return written;
-            }
-        }
-        unreachable!()
-    }
-}
-
-impl<'a, R> Stream for Asker<'a, R> {
-    ghost has_failed = { λ s. s.failed };
-
-    fn failed(&self) -> bool {
-        self.failed
-    }
-}
-
-impl<'a, R: Wait + Clock> Source for Asker<'a, R> {
-    ghost left = { λ _. None };
-
-    fn read(&mut self, buf: &mut [u8]) -> Result<usize, Failed> {
-        match self.read_some(buf) {
-            Ok(n) => Ok(n),
-            Err(_) => {
-                self.failed = true;
-                Err(Failed)
-            }
-        }
-    }
-}
-
-impl<'a, R: Wait + Clock> Sink for Asker<'a, R> {
-    ghost taken = { λ _. None };
-
-    fn write(&mut self, bytes: &[u8]) -> Result<usize, Failed> {
-        match self.write_some(bytes) {
-            Ok(n) if n > 0 => Ok(n),
-            _ => {
-                self.failed = true;
-                Err(Failed)
-            }
-        }
-    }
-}
-
-// Why an answer was not given whole.
-#[derive(Clone, Copy, PartialEq, Eq)]
-enum Untold {
-    NoMemory,
-    Failed,
-}
-
-impl From<AllocError> for Untold {
-    fn from(_error: AllocError) -> Untold {
-        Untold::NoMemory
-    }
-}
-
-impl From<Failed> for Untold {
-    fn from(_failed: Failed) -> Untold {
-        Untold::Failed
-    }
-}
-
-// Reads a request, and answers it.
-fn exchange<R: Wait + Clock>(
-    rt: &R,
-    alloc: Global,
-    state: &State,
-    status: &Status,
-    stream: TcpStream,
-) {
-    let nap = Some(Duration::from_millis(NAP_MS));
-    if stream.set_read_timeout(nap).is_err() || stream.set_write_timeout(nap).is_err() {
-        return;
-    }
-    let mut asker = Asker {
-        rt,
-        state,
-        stream,
-        until_ms: now_ms(rt, state).saturating_add(REQUEST_MS),
-        failed: false,
-    };
-    let request = read_request(&mut asker);
-    asker.until_ms = now_ms(rt, state).saturating_add(ANSWER_MS);
-    let told = match request {
-        Ok(request) => answer(rt, alloc, state, status, &mut asker, request),
-        Err(RequestFault::Refused(why)) => refuse(&mut asker, why, false),
-        Err(RequestFault::Ended) => return,
-    };
-    if told == Err(Untold::NoMemory) {
-        let _ = refuse(&mut asker, Answer::NoMemory, false);
-    }
-}
-
-// Writes a response of a head and a body, or the head alone.
-fn put_response<S: Sink>(
-    sink: &mut S,
-    why: Answer,
-    content: Content,
-    body: &str,
-    is_head: bool,
-) -> Result<(), Untold> {
-    write_whole(
-        sink,
-        head_of(why, content, Some(body.len())).as_str().as_bytes(),
-    )?;
-    if !is_head {
-        write_whole(sink, body.as_bytes())?;
-    }
-    Ok(())
-}
-
-// Answers a request that is not met.
-fn refuse<S: Sink>(sink: &mut S, why: Answer, is_head: bool) -> Result<(), Untold> {
-    put_response(sink, why, Content::Text, why.words(), is_head)
-}
-
-// Answers a request.
-fn answer<R: Wait + Clock, S: Sink>(
-    rt: &R,
-    alloc: Global,
-    state: &State,
-    status: &Status,
-    sink: &mut S,
-    request: Request,
-) -> Result<(), Untold> {
-    let (found, is_head) = (Answer::Found, request.is_head);
-    match request.route {
-        Route::Page => put_response(sink, found, Content::Html, page_text(), is_head),
-        Route::Metrics => {
-            let text = metrics_of(rt, alloc, state, status)?;
-            put_response(sink, found, Content::Metrics, text.as_str(), is_head)
-        }
-        Route::Devices | Route::Gateways => {
-            let mut text = String::with_capacity(alloc, 32_768)?;
-            put_list(rt, alloc, state, status, sink, &mut text, request)
-        }
-    }
-}
-
-// Writes a list of devices or of gateways, or its head alone, by this text, in which each piece is made.
-fn put_list<R: Wait + Clock, S: Sink>(
-    rt: &R,
-    alloc: Global,
-    state: &State,
-    status: &Status,
-    sink: &mut S,
-    text: &mut String,
-    request: Request,
-) -> Result<(), Untold> {
-    text.push_str(head_of(Answer::Found, Content::Json, None).as_str())?;
-    if !request.is_head {
-        let now_ms = now_ms(rt, state);
-        put_rows(rt, alloc, status, sink, text, request.route, now_ms)?;
-    }
-    put_piece(sink, text)
-}
-
-// Writes the object of a list but for its last piece, which stays in the text.
-fn put_rows<R: Wait, S: Sink>(
-    rt: &R,
-    alloc: Global,
-    status: &Status,
-    sink: &mut S,
-    text: &mut String,
-    route: Route,
-    now_ms: u64,
-) -> Result<(), Untold> {
-    if route == Route::Devices {
-        put_front(text, "devices", now_ms, status.clock_start_ms())?;
-        put_device_rows(rt, alloc, status, sink, text)?;
-    } else {
-        put_front(text, "gateways", now_ms, status.clock_start_ms())?;
-        put_gateway_rows(rt, alloc, status, sink, text)?;
-    }
-    put_end(text)?;
-    Ok(())
-}
-
-// Writes a piece of an answer, and empties it.
-fn put_piece<S: Sink>(sink: &mut S, text: &mut String) -> Result<(), Untold> {
-    write_whole(sink, text.as_str().as_bytes())?;
-    text.clear();
-    Ok(())
-}
-
-// Writes the rows of all devices that have joined, in pieces. No lock is held while one is written.
-fn put_device_rows<R: Wait, S: Sink>(
-    rt: &R,
-    alloc: Global,
-    status: &Status,
-    sink: &mut S,
-    text: &mut String,
-) -> Result<(), Untold> {
-    let (count, _) = status.count_devices(rt);
-    let mut batch = Vec::with_capacity(alloc, BATCH)?;
-    let mut is_first = true;
-    for part in 0..(count / BATCH).saturating_add(1) {
-        status.batch(rt, part.saturating_mul(BATCH), &mut batch)?;
-        put_devices(alloc, text, is_first, batch.as_slice())?;
-        is_first = is_first && batch.is_empty();
-        put_piece(sink, text)?;
-    }
-    Ok(())
-}
-
-// Writes the rows of all gateways, in pieces. No lock is held while one is written.
-fn put_gateway_rows<R: Wait, S: Sink>(
-    rt: &R,
-    alloc: Global,
-    status: &Status,
-    sink: &mut S,
-    text: &mut String,
-) -> Result<(), Untold> {
-    let all = status.all_gateways(rt, alloc)?;
-    let mut is_first = true;
-    for part in all.as_slice().chunks(BATCH) {
-        put_gateways(alloc, text, is_first, part)?;
-        is_first = false;
-        put_piece(sink, text)?;
-    }
-    Ok(())
-}
-
-// How often a reply was made.
-fn count_of(replies: &[(&'static str, u64)], name: &str) -> u64 {
-    for reply in replies {
-        if reply.0 == name {
-            return reply.1;
-        }
-    }
-    0
-}
-
-// How many are open: those that these replies opened, without those that the others ended.
-fn open_of(replies: &[(&'static str, u64)], opened: &[&str], ended: &[&str]) -> u64 {
-    let mut open: u64 = 0;
-    for name in opened {
-        open = open.saturating_add(count_of(replies, name));
-    }
-    for name in ended {
-        open = open.saturating_sub(count_of(replies, name));
-    }
-    open
-}
-
-// The text of all counts.
-fn metrics_of<R: Wait>(
-    rt: &R,
-    alloc: Global,
-    state: &State,
-    status: &Status,
-) -> Result<String, AllocError> {
-    let counts = &state.counts;
-    let refusals = counts.refusals();
-    let replies = state.made.replies();
-    let entries = state.made.all();
-    let (devices, sessions) = status.count_devices(rt);
-    let totals = Totals {
-        start_seconds: status.start_ms() / 1000,
-        read: state.read.all(),
-        dropped: counts.dropped.load(Ordering::SeqCst),
-        late: counts.late.load(Ordering::SeqCst),
-        unreceived: counts.unreceived.load(Ordering::SeqCst),
-        unanswered: counts.unanswered.load(Ordering::SeqCst),
-        stale: counts.stale.load(Ordering::SeqCst),
-        unsent: counts.unsent.load(Ordering::SeqCst),
-        windows: open_of(&replies, &["opened", "again"], &["closed"]),
-        tickets: open_of(
-            &replies,
-            &["ask"],
-            &["accepted", "joinrefused", "joinstale"],
-        ),
-        devices: devices as u64,
-        sessions: sessions as u64,
-        gateways: status.count_gateways(rt) as u64,
-    };
-    let lists = Lists {
-        refusals: &refusals,
-        replies: &replies,
-        entries: &entries,
-    };
-    let mut text = String::with_capacity(alloc, 8192)?;
-    put_metrics(&mut text, &totals, lists)?;
-    Ok(text)
 }

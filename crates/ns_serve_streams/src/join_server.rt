@@ -5,6 +5,7 @@ ghost use Rattle.std.specs.Io.{ReadsAtMost, WritesAtMost};
 
 use ns_outside::Connections;
 use ns_responses::Responses;
+use ns_serve_parts::Times;
 use ns_types::{Failed, Sink, Source, Stream};
 use std::io;
 use std::io::{ErrorKind, Read, Write};
@@ -22,11 +23,13 @@ pub struct ToJoinServer<'a, R> {
     addr: SocketAddr,
     // How long connecting and the exchange take together at most.
     limit: Duration,
+    // How long they took.
+    times: &'a Times,
 }
 
 impl<'a, R> ToJoinServer<'a, R> {
-    /// Connections to this address, each for 4 s at most.
-    pub fn new(rt: &'a R, addr: SocketAddr) -> ToJoinServer<'a, R>
+    /// Connections to this address, each for 4 s at most. How long each took is counted.
+    pub fn new(rt: &'a R, addr: SocketAddr, times: &'a Times) -> ToJoinServer<'a, R>
         ensures addr { result.addr ≡ addr }
         ensures limit { as_nanos result.limit ≡ 4_000_000_000 }
     {
@@ -34,18 +37,36 @@ impl<'a, R> ToJoinServer<'a, R> {
             rt,
             addr,
             limit: Duration::from_millis(EXCHANGE_MS),
+            times,
         }
     }
 }
 
-/// A stream that fails once its time is up.
-#[derive(Drop)]
-pub struct Within<'a, R> {
+/// A stream that fails once its time is up. How long it was open is counted at its end.
+pub struct Within<'a, R: Clock> {
     rt: &'a R,
     stream: TcpStream,
     start: Instant,
     limit: Duration,
     failed: bool,
+    times: &'a Times,
+}
+
+impl<'a, R: Clock> Drop for Within<'a, R> {
+    fn drop(self) {
+        if let Ok(elapsed) = self.start.elapsed(self.rt) {
+            self.times
+                .add(u64::try_from(elapsed.as_millis()).unwrap_or(u64::MAX));
+        }
+        let Within {
+            rt: _,
+            stream: _,
+            start: _,
+            limit: _,
+            failed: _,
+            times: _,
+        } = self;
+    }
 }
 
 impl<'a, R: Net<Listener = TcpListener, Stream = TcpStream> + Clock> Connections<R>
@@ -64,6 +85,7 @@ impl<'a, R: Net<Listener = TcpListener, Stream = TcpStream> + Clock> Connections
             start,
             limit: self.limit,
             failed: false,
+            times: self.times,
         }))
     }
 }
@@ -104,7 +126,7 @@ impl<'a, R: Clock> Within<'a, R> {
     }
 }
 
-impl<'a, R> Stream for Within<'a, R> {
+impl<'a, R: Clock> Stream for Within<'a, R> {
     ghost has_failed = { λ s. s.failed };
 
     fn failed(&self) -> bool {

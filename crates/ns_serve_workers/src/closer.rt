@@ -271,6 +271,14 @@ impl<'a> Closer<'a> {
     }
 }
 
+// When the first of these windows was to be closed.
+fn first_due(jobs: &Vec<CloseJob>) -> u64 {
+    match jobs.first() {
+        Some(job) => job.due,
+        None => u64::MAX,
+    }
+}
+
 /// Closes the windows of these jobs, sends their downlinks and writes their lines, also where it meets a fault, which it gives.
 pub(crate) fn close_and_write<
     S: Calls<R>,
@@ -291,6 +299,7 @@ pub(crate) fn close_and_write<
 {
     let (rt, state) = (around.rt, around.state);
     let timer = SinceMoment::now(rt, state);
+    let due = first_due(&jobs);
     let room = mem::replace(&mut closer.receipts, Vec::new(state.alloc()));
     let ended = close_all(
         room,
@@ -302,6 +311,10 @@ pub(crate) fn close_and_write<
         &mut closer.held,
     );
     closer.later.send_all(rt);
+    state
+        .counts
+        .closings
+        .add(now_ms(rt, state).saturating_sub(due));
     let is_written = put_under_lock(rt, around.output, closer.held.lines()).is_ok();
     closer.held.clear();
     closer.receipts = ended.receipts;

@@ -114,7 +114,7 @@ impl<
         let (rt, state) = (self.rt, self.state);
         let mut jobs = FromQueue { state };
         let mut down = ToSocket { state };
-        let connections = ToJoinServer::new(rt, self.join);
+        let connections = ToJoinServer::new(rt, self.join, &state.counts.exchanges);
         let joined = run_join(
             self.alloc,
             &self.shared(),

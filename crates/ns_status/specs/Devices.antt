@@ -1,6 +1,6 @@
 -- What is known of devices.
-use Rattle.std.specs.Prelude.{◌≡◌, ℕ, ◌+◌, ◌-◌, ◌==◌, ◌^◌, Bool, nat_lt, min, max, List, position, Option, Some, None, option_map, if◌then◌else◌}
-use Rattle.std.specs.Map.{lookup}
+use Rattle.std.specs.Prelude.{ℕ, ◌+◌, ◌-◌, ◌==◌, ◌^◌, ◌||◌, Bool, false, nat_lt, nat_le, min, max, List, position, Option, Some, None, option_map, if◌then◌else◌}
+use Rattle.std.specs.Map.{lookup, keys_of}
 use Rattle.std.specs.Option.{option_map_or}
 use Rattle.ns_types.specs.declared.identity.DevEui.{DevEui}
 use Rattle.ns_types.specs.declared.identity.DevAddr.{DevAddr}
@@ -12,7 +12,7 @@ use Rattle.ns_status.specs.declared.devices.Device.{Device}
 
 -- a device whose session begins, and when it was heard last before
 abbrev pub fresh : ℕ → DevAddr → ℕ → Option HeardBy → Device
-fresh session addr now heard = record { session = session; addr = addr; since_ms = now; counters = 0; fcnt = None; heard = heard }
+fresh session addr now heard = record { session = session; addr = addr; since_ms = Some now; counters = 0; fcnt = None; heard = heard }
 
 -- what is known once a session is told of: a later one begins, and of an earlier one nothing changes
 abbrev pub renewed : Option Device → ℕ → DevAddr → ℕ → Device
@@ -33,6 +33,41 @@ after_news before (Heard window addr gateway is_new) now =
 -- the same, of a device of the roster
 abbrev pub noted : News → ℕ → Option Device → Option Device
 noted news now before = Some (after_news before news now)
+
+-- a device as the record leaves it: its session began before the server did, it was heard last at an unknown time, and what was missed before is
+-- not known, so all counters up to the greatest count as heard
+abbrev pub all_up_to : Option ℕ → ℕ
+all_up_to None = 0
+all_up_to (Some fcnt) = min (fcnt + 1) (2 ^ 32 - 1)
+
+abbrev pub before_start : Device → Device
+before_start d = record d { since_ms = None; counters = all_up_to d.fcnt; heard = None }
+
+abbrev pub recalled : Option Device → News → Device
+recalled before news = before_start (after_news before news 0)
+
+abbrev pub recalled_row : News → Option Device → Option Device
+recalled_row news before = Some (recalled before news)
+
+-- whether a device was heard at this time or later
+abbrev pub heard_at_or_after : ℕ → Option HeardBy → Bool
+heard_at_or_after from None = false
+heard_at_or_after from (Some heard) = nat_le from heard.at_ms
+
+abbrev pub is_heard_since : ℕ → Device → Bool
+is_heard_since from d = heard_at_or_after from d.heard
+
+abbrev pub is_row_heard_since : ℕ → Option Device → Bool
+is_row_heard_since from None = false
+is_row_heard_since from (Some d) = is_heard_since from d
+
+-- or its session began then
+abbrev pub began_at_or_after : ℕ → Option ℕ → Bool
+began_at_or_after from None = false
+began_at_or_after from (Some since) = nat_le from since
+
+abbrev pub changed_since : ℕ → Device → Bool
+changed_since from d = began_at_or_after from d.since_ms || is_heard_since from d
 
 -- how many counters of the session, from 0 to the greatest that was heard, were not counted as new
 abbrev pub missed_of : Option ℕ → ℕ → ℕ
@@ -55,10 +90,6 @@ not_joined device = (device.eui, None)
 abbrev pub row_of : List (DevEui × Option Device) → DevEui → Option (Option Device)
 row_of rows eui = lookup (λ other. eui.0 == other.0) rows
 
--- these are the places of the devices in the list: of each its first, and of one that is not in it none
-abbrev pub ArePlaces : List (DevEui × Option Device) → List (DevEui × ℕ) → Type 0
-ArePlaces rows places = (eui : DevEui) → lookup (λ other. eui.0 == other.0) places ≡ position (λ row. row.0.0 == eui.0) rows
-
--- a device that joined
-abbrev pub joined_row : DevEui × Option Device → Option (DevEui × Device)
-joined_row row = option_map (λ d. (row.0, d)) row.1
+-- the place of a device, where it is of the roster
+abbrev pub place_of : List (DevEui × Option Device) → DevEui → Option ℕ
+place_of rows eui = position (λ other. eui.0 == other.0) (keys_of rows)

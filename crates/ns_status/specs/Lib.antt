@@ -1,3 +1,4 @@
+pub mod Airtime
 pub mod Devices
 pub mod Gateways
 pub mod Metrics

@@ -1,7 +1,7 @@
 -- The heads of responses.
 use Rattle.std.specs.Prelude.{ℕ, List, [], ◌++◌, codes, decimal, Option, Some, None}
 use Rattle.ns_status.specs.declared.response.Status.{Status}
-use Rattle.ns_status.specs.declared.response.Status.TheVariants.{Found, Malformed, NotFound, NoMethod, TooLong, NoMemory}
+use Rattle.ns_status.specs.declared.response.Status.TheVariants.{Found, Malformed, NotFound, NoMethod, Misdirected, TooLong, NoMemory}
 use Rattle.ns_status.specs.declared.response.Content.{Content}
 use Rattle.ns_status.specs.declared.response.Content.TheVariants.{Text, Html, Json, Metrics}
 
@@ -11,6 +11,7 @@ status_words Found = codes "200 OK"
 status_words Malformed = codes "400 Bad Request"
 status_words NotFound = codes "404 Not Found"
 status_words NoMethod = codes "405 Method Not Allowed"
+status_words Misdirected = codes "421 Misdirected Request"
 status_words TooLong = codes "431 Request Header Fields Too Large"
 status_words NoMemory = codes "503 Service Unavailable"
 
@@ -28,7 +29,7 @@ length_text (Some len) = codes "\r\nContent-Length: " ++ decimal len
 
 -- the fields of each head, and the empty line behind them
 unfoldable pub fields_text : List ℕ
-fields_text = codes "\r\nAllow: GET, HEAD\r\nCache-Control: no-store\r\nX-Content-Type-Options: nosniff\r\nContent-Security-Policy: default-src 'none'; script-src 'unsafe-inline'; style-src 'unsafe-inline'; connect-src 'self'\r\nConnection: close\r\n\r\n"
+fields_text = codes "\r\nAllow: GET, HEAD\r\nCache-Control: no-store\r\nX-Content-Type-Options: nosniff\r\nContent-Security-Policy: default-src 'none'; script-src 'sha256-9xcnh6u41bU0VC9IjiNqLPKS8s+pPmF0/vyiBZ3wpVo='; style-src 'sha256-iC89hB0PydlYUHrR7b/eUzpNa3oiXj9Ira8h5jUvNZE='; connect-src 'self'; base-uri 'none'; form-action 'none'; frame-ancestors 'none'\r\nConnection: close\r\n\r\n"
 
 -- the head of a response
 abbrev pub head_text : Status → Content → Option ℕ → List ℕ

@@ -1,14 +1,14 @@
 //! What is known of the devices of a roster.
 
-ghost use Rattle.std.specs.Prelude.{◌≡◌, ◌==◌, IfOk, length, map, count_by, is_some, option_map, option_and_then, slice_get, if◌then◌else◌};
+ghost use Rattle.std.specs.Prelude.{◌≡◌, ◌==◌, IfOk, length, map, count_by, is_some, option_map, slice_get, if◌then◌else◌};
 ghost use Rattle.ns_types.specs.declared.identity.DevEui.{DevEui as dev_eui};
-ghost use Rattle.ns_status.specs.Devices.{fresh, renewed, with_frame, after_news, noted, eui_of, row_of, not_joined, joined_row, missed};
+ghost use Rattle.ns_status.specs.Devices.{fresh, renewed, with_frame, after_news, noted, recalled, recalled_row, eui_of, row_of, place_of, not_joined, missed, is_heard_since, is_row_heard_since, changed_since};
 
 use crate::news::News;
+use indexmap::IndexMap;
 use ns_roster::Roster;
 use ns_types::{DevAddr, DevEui, GatewayId};
 use std::alloc::{AllocError, Global};
-use std::collections::HashMap;
 use std::marker::Model;
 
 /// When and by which gateway a device was heard.
@@ -26,9 +26,10 @@ pub struct Device {
     pub session: u32,
     /// Its address in that session.
     pub addr: DevAddr,
-    /// When the session was first told of, in milliseconds of the server's clock.
-    pub since_ms: u64,
-    /// How many new counters were heard in the session.
+    /// When the session was first known, in milliseconds of the server's clock. None where it began before the server did, as its record
+    /// says.
+    pub since_ms: Option<u64>,
+    /// How many counters of the session were not missed: those that were heard as new, and all up to the greatest that the record has.
     pub counters: u32,
     /// The greatest counter that was heard in it, also by a copy alone.
     pub fcnt: Option<u32>,
@@ -44,7 +45,7 @@ impl Device {
         Device {
             session,
             addr,
-            since_ms: now_ms,
+            since_ms: Some(now_ms),
             counters: 0,
             fcnt: None,
             heard,
@@ -101,7 +102,41 @@ impl Device {
         }
     }
 
-    /// How many counters of the session, from 0 to the greatest that was heard, were not counted as new.
+    // What is known of a device once the record has said this of it. Which counters were missed before is not known, so none of them
+    // counts as missed.
+    fn recalled(before: Option<Device>, news: &News) -> Device
+        ensures { result ≡ recalled before news.now }
+    {
+        let device = Device::after_news(before, news, 0);
+        Device {
+            since_ms: None,
+            counters: device.fcnt.map_or(0, |fcnt| fcnt.saturating_add(1)),
+            heard: None,
+            ..device
+        }
+    }
+
+    // Whether it was heard at this time or later.
+    fn is_heard_since(&self, from_ms: u64) -> bool
+        ensures { result ≡ is_heard_since from_ms self.now }
+    {
+        match self.heard {
+            Some(heard) => from_ms <= heard.at_ms,
+            None => false,
+        }
+    }
+
+    /// Whether it was heard, or its session began, at this time or later.
+    pub fn changed_since(&self, from_ms: u64) -> bool
+        ensures { result ≡ changed_since from_ms self.now }
+    {
+        match self.since_ms {
+            Some(since_ms) if from_ms <= since_ms => true,
+            _ => self.is_heard_since(from_ms),
+        }
+    }
+
+    /// How many counters of the session, from 0 to the greatest that was heard, were missed since the server began.
     pub fn missed(&self) -> u64
         ensures { result ≡ missed self.now }
     {
@@ -127,23 +162,17 @@ impl News {
 /// A place for each device of a roster, in its order, and what is known of each that joined. Contracts see the list of them.
 #[derive(Drop)]
 pub struct Devices {
-    /// Each device of the roster, with what is known of it where it joined.
-    list: Vec<(DevEui, Option<Device>)>,
-    /// The place of each device in the list.
-    places: HashMap<DevEui, usize>,
+    rows: IndexMap<DevEui, Option<Device>>,
 }
 
 impl Model for Devices {
     ghost use Rattle.std.specs.Prelude.{List, Option};
     ghost use Rattle.ns_types.specs.declared.identity.DevEui.{DevEui};
     ghost use Rattle.ns_status.specs.declared.devices.Device.{Device};
-    ghost use Rattle.ns_status.specs.Devices.{ArePlaces};
 
     ghost Value = { List (DevEui × Option Device) };
 
-    ghost view = { λ d. d.list.items };
-
-    ghost invariant = { λ d. ArePlaces d.list.items d.places.entries };
+    ghost view = { λ d. d.rows.entries };
 }
 
 impl Devices {
@@ -151,14 +180,11 @@ impl Devices {
     pub fn new(alloc: Global, roster: &Roster) -> Result<Devices, AllocError>
         ensures { IfOk result (λ d. d ≡ map not_joined roster.now.devices) }
     {
-        let len = roster.devices().len();
-        let mut list = Vec::with_capacity(alloc, len)?;
-        let mut places = HashMap::with_capacity(alloc, len)?;
+        let mut rows = IndexMap::with_capacity(alloc, roster.devices().len())?;
         for device in roster.devices() {
-            places.insert(device.eui, list.len())?;
-            list.push((device.eui, None))?;
+            rows.insert(device.eui, None)?;
         }
-        Ok(Devices { list, places })
+        Ok(Devices { rows })
     }
 
     /// Notes what a call and its reply told of a device. It takes no memory. Nothing is noted of another device, nor of one that is
@@ -167,9 +193,19 @@ impl Devices {
         ensures { (d : dev_eui) → row_of self.new d
             ≡ (if (eui_of news.now).0 == d.0 then option_map (noted news.now now_ms) (row_of self.old d) else row_of self.old d) }
     {
-        if let Some(place) = self.places.get(&news.eui()) {
-            let row = &mut self.list[*place];
-            row.1 = Some(Device::after_news(row.1, news, now_ms));
+        if let Some(row) = self.rows.get_mut(&news.eui()) {
+            *row = Some(Device::after_news(*row, news, now_ms));
+        }
+    }
+
+    /// Notes what the record says of a device, before the server hears any. It takes no memory. Nothing is noted of another device, nor of
+    /// one that is not of the roster.
+    pub fn recall(&mut self, news: &News)
+        ensures { (d : dev_eui) → row_of self.new d
+            ≡ (if (eui_of news.now).0 == d.0 then option_map (recalled_row news.now) (row_of self.old d) else row_of self.old d) }
+    {
+        if let Some(row) = self.rows.get_mut(&news.eui()) {
+            *row = Some(Device::recalled(*row, news));
         }
     }
 
@@ -177,30 +213,55 @@ impl Devices {
     pub fn len(&self) -> usize
         ensures { result ≡ length self.now }
     {
-        self.list.len()
+        self.rows.len()
     }
 
     /// Whether there is none.
     pub fn is_empty(&self) -> bool
         ensures { result ≡ (length self.now == 0) }
     {
-        self.list.is_empty()
+        self.rows.len() == 0
     }
 
     /// How many devices have joined.
     pub fn joined(&self) -> usize
         ensures { result ≡ count_by (λ row. is_some row.1) self.now }
     {
-        self.list.iter().filter(|row| row.1.is_some()).count()
+        self.rows.iter().filter(|row| row.1.is_some()).count()
     }
 
-    /// The device at a place, where it has joined.
-    pub fn joined_at(&self, place: usize) -> Option<(DevEui, Device)>
-        ensures { result ≡ option_and_then joined_row (slice_get self.now place) }
+    /// How many devices were heard at this time or later.
+    pub fn heard_since(&self, from_ms: u64) -> usize
+        ensures { result ≡ count_by (λ row. is_row_heard_since from_ms row.1) self.now }
     {
-        match self.list.get(place) {
-            Some((eui, Some(device))) => Some((*eui, *device)),
-            _ => None,
-        }
+        self.rows
+            .iter()
+            .filter(|row| is_row_heard(row.1, from_ms))
+            .count()
+    }
+
+    /// The device at a place, and what is known of it where it has joined.
+    pub fn at(&self, place: usize) -> Option<(DevEui, Option<Device>)>
+        ensures { result ≡ slice_get self.now place }
+    {
+        let (eui, device) = self.rows.get_index(place)?;
+        Some((*eui, *device))
+    }
+
+    /// The place of a device.
+    pub fn place(&self, eui: DevEui) -> Option<usize>
+        ensures { result ≡ place_of self.now eui }
+    {
+        self.rows.get_index_of(&eui)
+    }
+}
+
+// Whether a device was heard at this time or later.
+fn is_row_heard(row: &Option<Device>, from_ms: u64) -> bool
+    ensures { result ≡ is_row_heard_since from_ms row.now }
+{
+    match row {
+        Some(device) => device.is_heard_since(from_ms),
+        None => false,
     }
 }

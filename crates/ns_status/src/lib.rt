@@ -11,6 +11,7 @@
 //! httparse, itoa, lru and serde_json of the kit.
 #![tactic(auto)]
 
+mod airtime;
 mod devices;
 mod gateways;
 mod metrics;
@@ -21,11 +22,15 @@ mod request;
 mod response;
 mod rows;
 
+pub use airtime::{Airtime, Slot, airtime_us};
 pub use devices::{Device, Devices, HeardBy};
-pub use gateways::{Gateway, Gateways};
-pub use metrics::{Lists, Totals, put_metrics};
+pub use gateways::{Gateway, Gateways, Sign};
+pub use metrics::{
+    Family, Histogram, Kind, Lists, Times, Totals, VERSION, put_by_gateway, put_histogram,
+    put_metrics, put_named, put_one, put_timed, put_timed_by_gateway,
+};
 pub use news::{News, gateway_of, news_of};
 pub use page::page_text;
-pub use request::{Request, RequestFault, Route, read_request, request_in};
+pub use request::{Part, Request, RequestFault, Route, read_request, request_in};
 pub use response::{Content, Status, head_of};
 pub use rows::{put_devices, put_end, put_front, put_gateways};

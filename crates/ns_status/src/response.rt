@@ -9,7 +9,7 @@ use itoa::Buffer;
 
 // The fields of each head, and the empty line behind them.
 const FIELDS: &str =
-    "\r\nAllow: GET, HEAD\r\nCache-Control: no-store\r\nX-Content-Type-Options: nosniff\r\nContent-Security-Policy: default-src 'none'; script-src 'unsafe-inline'; style-src 'unsafe-inline'; connect-src 'self'\r\nConnection: close\r\n\r\n";
+    "\r\nAllow: GET, HEAD\r\nCache-Control: no-store\r\nX-Content-Type-Options: nosniff\r\nContent-Security-Policy: default-src 'none'; script-src 'sha256-9xcnh6u41bU0VC9IjiNqLPKS8s+pPmF0/vyiBZ3wpVo='; style-src 'sha256-iC89hB0PydlYUHrR7b/eUzpNa3oiXj9Ira8h5jUvNZE='; connect-src 'self'; base-uri 'none'; form-action 'none'; frame-ancestors 'none'\r\nConnection: close\r\n\r\n";
 
 /// What a response says of a request.
 #[derive(Clone, Copy, PartialEq, Eq)]
@@ -22,6 +22,8 @@ pub enum Status {
     NotFound,
     /// 405
     NoMethod,
+    /// 421
+    Misdirected,
     /// 431
     TooLong,
     /// 503
@@ -52,6 +54,7 @@ impl Status {
             Status::Malformed => "400 Bad Request",
             Status::NotFound => "404 Not Found",
             Status::NoMethod => "405 Method Not Allowed",
+            Status::Misdirected => "421 Misdirected Request",
             Status::TooLong => "431 Request Header Fields Too Large",
             Status::NoMemory => "503 Service Unavailable",
         }
@@ -74,8 +77,8 @@ impl Content {
 }
 
 // Puts the length of a body, where it is told.
-fn put_length(head: &mut ArrayString<512>, len: Option<usize>)
-    requires { array_string_len head.old + 38 ≤ 512 }
+fn put_length(head: &mut ArrayString<1024>, len: Option<usize>)
+    requires { array_string_len head.old + 38 ≤ 1024 }
     ensures bytes { head.new.bytes ≡ head.old.bytes ++ length_text len }
     ensures len { array_string_len head.new ≤ array_string_len head.old + 38 }
 {
@@ -86,9 +89,10 @@ fn put_length(head: &mut ArrayString<512>, len: Option<usize>)
 }
 
 /// The head of a response with a body of so many bytes, or with one that goes on to the end of the connection. The connection is closed
-/// behind it, it is not to be kept by anybody, and the page may ask this server alone and run no script but its own.
+/// behind it, it is not to be kept by anybody, and the page may ask this server alone, run no script and have no style but its own, which are
+/// named by their SHA-256, and stand in no other page.
 #[tactic(auto, unfolding(crate::specs::Response::fields_text))]
-pub fn head_of(status: Status, content: Content, len: Option<usize>) -> ArrayString<512>
+pub fn head_of(status: Status, content: Content, len: Option<usize>) -> ArrayString<1024>
     ensures { result.bytes ≡ head_text status content len }
 {
     let mut head = ArrayString::new();

@@ -5,7 +5,7 @@ ghost use Rattle.serde_json.specs.View.{view};
 ghost use Rattle.serde_json.specs.Written.{compact_text, has_float};
 ghost use Rattle.ns_roster.specs.Field.{hex_number};
 ghost use Rattle.ns_roster.specs.Object.{scalar_data};
-ghost use Rattle.ns_status.specs.Rows.{front_text, end_text, fcnt_data, heard_gateway_data, heard_ms_data, device_data, gateway_data, row_text, rows_text, device_row, gateway_row};
+ghost use Rattle.ns_status.specs.Rows.{front_text, end_text, whole_data, heard_gateway_data, heard_ms_data, joined_data, unjoined_data, device_data, gateway_data, row_text, rows_text, device_row, gateway_row};
 
 use crate::devices::{Device, HeardBy};
 use crate::gateways::Gateway;
@@ -57,9 +57,19 @@ fn addr_text(alloc: Global, addr: DevAddr) -> Result<String, AllocError>
     hex::encode(alloc, addr.0.to_be_bytes())
 }
 
+// A number that may be unknown.
+fn whole<'a>(number: Option<u64>) -> Scalar<'a>
+    ensures { scalar_data result ≡ whole_data number }
+{
+    match number {
+        Some(number) => Whole(number),
+        None => Null,
+    }
+}
+
 // The greatest counter of a device.
 fn fcnt<'a>(fcnt: Option<u32>) -> Scalar<'a>
-    ensures { scalar_data result ≡ fcnt_data fcnt }
+    ensures { scalar_data result ≡ whole_data fcnt }
 {
     match fcnt {
         Some(fcnt) => Whole(fcnt as u64),
@@ -87,9 +97,9 @@ fn heard_ms<'a>(heard: Option<HeardBy>) -> Scalar<'a>
     }
 }
 
-// The value of a device.
-fn device_value(alloc: Global, eui: DevEui, device: &Device) -> Result<Value, AllocError>
-    ensures { IfOk result (λ v. view v ≡ device_data eui device.now) }
+// The value of a device that joined.
+fn joined_value(alloc: Global, eui: DevEui, device: &Device) -> Result<Value, AllocError>
+    ensures { IfOk result (λ v. view v ≡ joined_data eui device.now) }
 {
     let dev_addr = addr_text(alloc, device.addr)?;
     object_of(
@@ -102,21 +112,60 @@ fn device_value(alloc: Global, eui: DevEui, device: &Device) -> Result<Value, Al
             ("heardMs", heard_ms(device.heard)),
             ("missed", Whole(device.missed())),
             ("session", Whole(device.session as u64)),
-            ("sinceMs", Whole(device.since_ms)),
+            ("sinceMs", whole(device.since_ms)),
         ],
     )
 }
 
-// The value of a gateway.
-fn gateway_value(alloc: Global, id: GatewayId, gateway: &Gateway) -> Result<Value, AllocError>
-    ensures { IfOk result (λ v. view v ≡ gateway_data id gateway.now) }
+// The value of a device of which no session is known.
+fn unjoined_value(alloc: Global, eui: DevEui) -> Result<Value, AllocError>
+    ensures { IfOk result (λ v. view v ≡ unjoined_data eui) }
 {
     object_of(
         alloc,
         &[
+            ("devAddr", Null),
+            ("devEui", Eui(eui.0)),
+            ("fCnt", Null),
+            ("gatewayId", Null),
+            ("heardMs", Null),
+            ("missed", Whole(0)),
+            ("session", Null),
+            ("sinceMs", Null),
+        ],
+    )
+}
+
+// The value of a device.
+fn device_value(alloc: Global, eui: DevEui, device: &Option<Device>) -> Result<Value, AllocError>
+    ensures { IfOk result (λ v. view v ≡ device_data eui device.now) }
+{
+    match device {
+        Some(device) => joined_value(alloc, eui, device),
+        None => unjoined_value(alloc, eui),
+    }
+}
+
+// The value of a gateway.
+fn gateway_value(
+    alloc: Global,
+    id: GatewayId,
+    gateway: &Gateway,
+    now_ms: u64,
+) -> Result<Value, AllocError>
+    ensures { IfOk result (λ v. view v ≡ gateway_data now_ms id gateway.now) }
+{
+    object_of(
+        alloc,
+        &[
+            ("airtimeMs", Whole(gateway.airtime.spent(now_ms) / 1000)),
             ("frames", Whole(gateway.frames)),
             ("gatewayId", Eui(id.0)),
-            ("heardMs", Whole(gateway.at_ms)),
+            ("heardMs", whole(gateway.frame_ms)),
+            ("pullMs", whole(gateway.pull_ms)),
+            ("refused", Whole(gateway.refused)),
+            ("sent", Whole(gateway.sent)),
+            ("statMs", whole(gateway.stat_ms)),
         ],
     )
 }
@@ -144,7 +193,7 @@ pub fn put_devices(
     alloc: Global,
     text: &mut String,
     is_first: bool,
-    devices: &[(DevEui, Device)],
+    devices: &[(DevEui, Option<Device>)],
 ) -> Result<(), AllocError>
     ensures { OnOk result (string_bytes text.new ≡ string_bytes text.old ++ rows_text is_first (map device_row devices.now)) }
 {
@@ -156,18 +205,24 @@ pub fn put_devices(
     Ok(())
 }
 
-/// Puts rows of gateways, of which the first is the first of the list or not.
+/// Puts rows of gateways at a moment of the server's clock, of which the first is the first of the list or not.
 pub fn put_gateways(
     alloc: Global,
     text: &mut String,
     is_first: bool,
     gateways: &[(GatewayId, Gateway)],
+    now_ms: u64,
 ) -> Result<(), AllocError>
-    ensures { OnOk result (string_bytes text.new ≡ string_bytes text.old ++ rows_text is_first (map gateway_row gateways.now)) }
+    ensures { OnOk result (string_bytes text.new ≡ string_bytes text.old ++ rows_text is_first (map (gateway_row now_ms) gateways.now)) }
 {
     let mut is_first = is_first;
     for row in gateways {
-        put_row(alloc, text, is_first, gateway_value(alloc, row.0, &row.1)?)?;
+        put_row(
+            alloc,
+            text,
+            is_first,
+            gateway_value(alloc, row.0, &row.1, now_ms)?,
+        )?;
         is_first = false;
     }
     Ok(())

@@ -81,6 +81,7 @@ pub record HasOptions (rows : List Row) (o : ServeOptions) : Type 0 where
   pub forwarders : IsAddrIfGiven (codes "forwarders") rows o.forwarders
   pub power : IsCount (codes "power") 27 rows o.power
   pub status : IsAddrIfGiven (codes "status") rows o.status
+  pub status_host : option_map (λ n. n.now) o.status_host ≡ first_of (codes "status-host") rows
   pub workers : IsCount (codes "workers") 16 rows o.workers
   pub join_workers : IsCount (codes "join-workers") 16 rows o.join_workers
   pub window_ms : IsCount (codes "window") 60000 rows o.window_ms

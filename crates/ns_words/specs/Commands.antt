@@ -41,6 +41,10 @@ closing_rule = switch_rule (codes "closing")
 abbrev pub status_rule : Rule
 status_rule = option_rule (codes "status")
 
+-- the option with a name under which it may be asked for
+abbrev pub status_host_rule : Rule
+status_host_rule = option_rule (codes "status-host")
+
 -- the option that asks for events
 abbrev pub events_rule : Rule
 events_rule = switch_rule (codes "events")
@@ -92,7 +96,7 @@ unfoldable pub serve_app : App
 serve_app =
     let heard = with_rules (with_rule (new_app (codes "serve")) roster_rule) address_rules in
     let kept = with_rules (with_rules (with_rules heard worker_rules) limit_rules) record_rules in
-    with_rule (with_rule (with_rule (with_rules kept output_rules) events_rule) status_rule) closing_rule
+    with_rule (with_rule (with_rule (with_rule (with_rules kept output_rules) events_rule) status_rule) status_host_rule) closing_rule
 
 unfoldable pub replay_app : App
 replay_app = with_rule (with_rules (with_rule (new_app (codes "replay")) roster_rule) output_rules) closing_rule

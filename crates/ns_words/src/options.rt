@@ -331,6 +331,14 @@ const STATUS: Argument = Argument {
     help: "The address at which HTTP tells the status, as 127.0.0.1:9108; without it, none",
 };
 
+const STATUS_HOST: Argument = Argument {
+    name: "status-host",
+    form: Form::Text("NAME"),
+    required: false,
+    defaults: &[],
+    help: "A name under which the status may be asked for, besides addresses and localhost",
+};
+
 const CLOSING: Argument = Argument {
     name: "closing",
     form: Form::Switch,
@@ -381,6 +389,7 @@ const COMMANDS: [Subcommand; 4] = [
             OUTPUT,
             EVENTS,
             STATUS,
+            STATUS_HOST,
             CLOSING,
         ],
     },
@@ -684,6 +693,7 @@ fn serve_options<'a>(found: &ArgMatches<'a>) -> Result<ServeOptions<'a>, BadWord
         forwarders: addresses.forwarders,
         power: addresses.power,
         status: workers.status,
+        status_host: found.get_str("status-host"),
         workers: workers.workers,
         join_workers: workers.join_workers,
         window_ms: limits.window_ms,

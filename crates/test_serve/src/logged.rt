@@ -50,11 +50,11 @@ static TWO_MINUTES: Trial = Trial {
         ended: Ok(4),
         output: Want::Is(&["listening 127.0.0.1:17021\n", "settled 4\n"]),
         log: Want::Is(&[
-            "[INFO  ns_serve_state::counted] datagrams: read 3 dropped 0 late 0 failed receives 0 G1 0 G2 0 G3 0 G4 0 G5 0 G6 0 V1 0 V2 0 V3 0 V4 0 V5 0 V6 0\n",
+            "[INFO  ns_serve_state::counted] datagrams: read 3 lost 0 dropped 0 late 0 failed receives 0 G1 0 G2 0 G3 0 G4 0 G5 0 G6 0 V1 0 V2 0 V3 0 V4 0 V5 0 V6 0\n",
             "[INFO  ns_serve_state::counted] replies: opened 0 copied 0 crowded 0 old 0 nosession 2 busy 0 ask 0 joincopied 0 joincrowded 0 nonceold 0 nodevice 1 joinbusy 0 accepted 0 joinrefused 0 joinstale 0 noticket 0 closed 0 nowindow 0 again 0 unanswered 0 unsent 0 stale tickets 0\n",
-            "[INFO  ns_serve_state::counted] datagrams: read 4 dropped 0 late 0 failed receives 0 G1 0 G2 0 G3 0 G4 0 G5 0 G6 0 V1 0 V2 0 V3 0 V4 0 V5 0 V6 0\n",
+            "[INFO  ns_serve_state::counted] datagrams: read 4 lost 0 dropped 0 late 0 failed receives 0 G1 0 G2 0 G3 0 G4 0 G5 0 G6 0 V1 0 V2 0 V3 0 V4 0 V5 0 V6 0\n",
             "[INFO  ns_serve_state::counted] replies: opened 0 copied 0 crowded 0 old 0 nosession 3 busy 0 ask 0 joincopied 0 joincrowded 0 nonceold 0 nodevice 1 joinbusy 0 accepted 0 joinrefused 0 joinstale 0 noticket 0 closed 0 nowindow 0 again 0 unanswered 0 unsent 0 stale tickets 0\n",
-            "[INFO  ns_serve_state::counted] datagrams: read 5 dropped 0 late 0 failed receives 0 G1 1 G2 0 G3 0 G4 0 G5 0 G6 0 V1 0 V2 0 V3 0 V4 0 V5 0 V6 0\n",
+            "[INFO  ns_serve_state::counted] datagrams: read 5 lost 0 dropped 0 late 0 failed receives 0 G1 1 G2 0 G3 0 G4 0 G5 0 G6 0 V1 0 V2 0 V3 0 V4 0 V5 0 V6 0\n",
             "[INFO  ns_serve_state::counted] replies: opened 0 copied 0 crowded 0 old 0 nosession 3 busy 0 ask 0 joincopied 0 joincrowded 0 nonceold 0 nodevice 1 joinbusy 0 accepted 0 joinrefused 0 joinstale 0 noticket 0 closed 0 nowindow 0 again 0 unanswered 0 unsent 0 stale tickets 0\n",
         ]),
     },
@@ -84,7 +84,7 @@ static FOUR_REFUSED: Trial = Trial {
         ended: Ok(0),
         output: Want::Is(&["listening 127.0.0.1:17023\n", "settled 0\n"]),
         log: Want::Is(&[
-            "[INFO  ns_serve_state::counted] datagrams: read 4 dropped 0 late 0 failed receives 0 G1 2 G2 0 G3 0 G4 0 G5 0 G6 1 V1 0 V2 0 V3 0 V4 1 V5 0 V6 0\n",
+            "[INFO  ns_serve_state::counted] datagrams: read 4 lost 0 dropped 0 late 0 failed receives 0 G1 2 G2 0 G3 0 G4 0 G5 0 G6 1 V1 0 V2 0 V3 0 V4 1 V5 0 V6 0\n",
             "[INFO  ns_serve_state::counted] replies: opened 0 copied 0 crowded 0 old 0 nosession 0 busy 0 ask 0 joincopied 0 joincrowded 0 nonceold 0 nodevice 0 joinbusy 0 accepted 0 joinrefused 0 joinstale 0 noticket 0 closed 0 nowindow 0 again 0 unanswered 0 unsent 0 stale tickets 0\n",
         ]),
     },

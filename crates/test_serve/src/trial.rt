@@ -12,7 +12,7 @@ use ns_log::{Log, error};
 use ns_output::Output;
 use ns_record_files::{RecordFiles, Recorder, Upkeep};
 use ns_roster::Roster;
-use ns_serve::{Begun, ServeFault, ServeOptions, Stop, serve};
+use ns_serve::{Begun, ServeFault, ServeOptions, Stop, SystemFiles, serve};
 use ns_types::{BLOCKS, take_all};
 use std::alloc::Global;
 use std::net::{Net, SocketAddr, TcpListener, TcpStream};
@@ -153,6 +153,7 @@ impl Asked {
             forwarders,
             power: 16,
             status: None,
+            status_host: None,
             workers,
             join_workers: self.join_workers.max(1).min(16),
             window_ms: self.window_ms,
@@ -225,7 +226,10 @@ where
                 count: &common.ended.looks,
             };
             let writer = Writer::new(output, common.asked.texts);
-            serve(rt, alloc, roster, options, begun, Unused, looks, writer)
+            let system = SystemFiles::none();
+            serve(
+                rt, alloc, roster, options, begun, system, Unused, looks, writer,
+            )
         }
         Err(_) => not_begun(rt),
     }

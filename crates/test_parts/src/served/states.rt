@@ -7,7 +7,7 @@ use ns_exchange::HostName;
 use ns_output::Output;
 use ns_roster::Roster;
 use ns_serve_parts::{Made, PLACES, ServeOptions};
-use ns_serve_state::{State, Status};
+use ns_serve_state::{State, Status, SystemFiles};
 use ns_types::{GatewayId, Target, Ticket};
 use std::alloc::{AllocError, Global};
 use std::net::{Net, SocketAddr, TcpListener, TcpStream, UdpSocket};
@@ -32,6 +32,7 @@ pub fn options() -> Option<ServeOptions<'static>> {
         forwarders: None,
         power: 14,
         status: None,
+        status_host: None,
         workers: 1,
         join_workers: 1,
         window_ms: 2000,
@@ -86,11 +87,15 @@ where
 {
     let options = options()?;
     let roster = roster(alloc)?;
-    let Ok(status) = Status::open(rt, alloc, &roster, port.map(local)) else {
+    let Ok(status) = Status::open(rt, alloc, &roster, port.map(local), None) else {
         return None;
     };
     let made = Made::of(&[0; PLACES]);
-    State::new(rt, alloc, own, None, &roster, &options, made, None, status).ok()
+    let system = SystemFiles::none();
+    State::new(
+        rt, alloc, own, None, &roster, &options, made, None, status, system,
+    )
+    .ok()
 }
 
 /// A downlink of the gateway 161 with this frame.

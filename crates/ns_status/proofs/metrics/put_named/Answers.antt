@@ -1,8 +1,7 @@
-use Rattle.std.proofs.Common.{refl}
 use Rattle.ns_status.specs.Metrics.{named_family}
-use Rattle.ns_status.proofs.StepLemmas.{put_more}
+use Rattle.ns_status.proofs.StepLemmas.{put_last}
 use Rattle.ns_status.proofs.metrics.put_named.Goals as goal
 
-pub loop-sample-init : goal.loop-sample-init
+pub returns : goal.returns
 unfolding named_family
-loop-sample-init c = put_more _ _ _ _ _ c.in_ok-put_family.ensures refl
+returns c = put_last c.put_samples.result _ _ _ _ _ c.in_ok-put_family.ensures c.put_samples.ensures

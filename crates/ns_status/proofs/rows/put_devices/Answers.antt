@@ -1,4 +1,4 @@
-use Rattle.std.proofs.Common.{◌+◌, ◌++◌, ℕ, List, None, drop, map, false, string_bytes, ap, ◌∙◌}
+use Rattle.std.proofs.Common.{◌+◌, ◌++◌, ℕ, List, Option, None, drop, map, false, string_bytes, ap, ◌∙◌}
 use Rattle.serde_json.specs.Data.{Data}
 use Rattle.ns_types.specs.declared.identity.DevEui.{DevEui}
 use Rattle.ns_status.specs.declared.devices.Device.{Device}
@@ -6,8 +6,8 @@ use Rattle.ns_status.specs.Rows.{row_text, rows_text, device_row}
 use Rattle.ns_status.proofs.StepLemmas.{rows_more}
 use Rattle.ns_status.proofs.rows.put_devices.Goals as goal
 
-abbrev nobody : DevEui × Device
-nobody = (record { 0 = 0 }, record { session = 0; addr = record { 0 = 0 }; since_ms = 0; counters = 0; fcnt = None; heard = None })
+abbrev nobody : DevEui × Option Device
+nobody = (record { 0 = 0 }, None)
 
 pub loop-row-preserved : goal.loop-row-preserved
 loop-row-preserved c =

@@ -1,5 +1,6 @@
-use Rattle.std.proofs.Common.{codes, inr}
+use Rattle.std.proofs.Common.{◌∙◌, codes, inr}
 use Rattle.clap.specs.Words.{found_of, rows_of}
+use Rattle.clap.proofs.WalkLemmas.{first_value-rows}
 use Rattle.ns_words.specs.declared.options.OptionName.TheVariants.{Output}
 use Rattle.ns_words.proofs.RefusedLemmas.{is_address, one_worker, read_on, refused_for}
 use Rattle.ns_words.proofs.options.serve_options.Goals as goal
@@ -37,6 +38,7 @@ returns c =
         forwarders = a.forwarders;
         power = a.power;
         status = w.status;
+        status_host = c.get_str.ensures ∙ first_value-rows (found_of c.args.found.now) (codes "status-host");
         workers = w.workers;
         join_workers = w.join_workers;
         window_ms = l.window_ms;

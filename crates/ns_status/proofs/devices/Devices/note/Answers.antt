@@ -1,19 +1,21 @@
-use Rattle.std.proofs.Common.{arith, sym, ◌∙◌}
-use Rattle.std.proofs.lemmas.Grind.{common_steps}
+use Rattle.std.proofs.Common.{◌≡◌, Option, Some, IsSome, refl, ap, subst}
+use Rattle.ns_status.specs.declared.devices.Device.{Device}
 use Rattle.ns_status.specs.Devices.{eui_of, noted}
-use Rattle.ns_status.proofs.Places.{row-placed, row-unplaced}
+use Rattle.ns_status.proofs.Places.{row-written, row-unplaced}
 use Rattle.ns_status.proofs.devices.Devices.note.Goals as goal
+use Rattle.ns_status.proofs.devices.Devices.note.Goals.{in-Some, in_default}
 
-pub index_mut-row-requires : goal.index_mut-row-requires
-index_mut-row-requires c = grind (arith, common_steps, c.self.invariant c.eui.result)
+there : (o : Option (Option Device)) (row : Option Device) → Some row ≡ o → IsSome o
+there o row is = subst (λ (p : Option (Option Device)). IsSome p) is refl
 
-pub returns-in-Some : goal.returns-in-Some
-returns-in-Some c = λ d.
-    let at = rw c.eui.ensures at (sym (c.self.invariant c.eui.result) ∙ sym c.in-Some.ensures.value) in
-    rw (c.after_news.ensures, ← c.self.view_is)
-    (row-placed (eui_of c.args.news.now) d (noted c.args.news.now c.args.now_ms) c.self.inside.list.items c.in-Some.place.now c.index_mut-row.result.now at c.index_mut-row.ensures.value)
-
-pub returns-in_default : goal.returns-in_default
-returns-in_default c = λ d.
-    let none = rw c.eui.ensures at (sym (c.self.invariant c.eui.result) ∙ sym c.in_default.ensures.value) in
-    rw (← c.self.view_is) (row-unplaced (eui_of c.args.news.now) d (noted c.args.news.now c.args.now_ms) c.self.inside.list.items none)
+pub returns : goal.returns
+returns c = rw (← c.self.view_is) (λ d. elim c.match-get_mut.branch [
+  | in-Some w ↦
+      (let at = rw c.eui.ensures at w.in-Some.ensures.value in
+      let known = Some w.after_news.result in
+      let writes = rw c.eui.ensures at (((c.get_mut.follows.holds known).3 (there _ _ w.in-Some.ensures.value)).0 d) in
+      rw w.self-inside-is (row-written (eui_of c.args.news.now) d (noted c.args.news.now c.args.now_ms) c.self.inside.rows.entries (c.get_mut.follows.lender known).entries w.in-Some.row.now known at (ap Some w.after_news.ensures) writes))
+  | in_default w ↦
+      (let none = rw c.eui.ensures at w.in_default.ensures.value in
+      rw (w.self-inside-is, c.get_mut.follows.holds-at-none) (row-unplaced (eui_of c.args.news.now) d (noted c.args.news.now c.args.now_ms) c.self.inside.rows.entries none))
+])
