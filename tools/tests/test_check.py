@@ -91,11 +91,22 @@ class Check(Recorded):
         self.put(self.ups, ups, 'wb')
         self.assertIn('is no step line', self.is_of_start(roster, '--record', self.record))
         self.put(self.steps, steps, 'wb')
-        self.put(self.ups, ups + ups[-40:], 'wb')
-        self.assertIn('record: ', self.is_of_start(roster, '--record', self.record))
-        os.remove(self.steps)
-        self.put(self.ups, ups, 'wb')
-        self.assertIn('up lines of this record', self.is_of_start(roster, '--record', self.record))
+        self.put(self.ups, ups.replace(b' plain ', b' pleine ', 1), 'wb')
+        self.assertIn('is not of this record', self.is_of_start(roster, '--record', self.record))
+
+    def test_up_lines_ahead(self):
+        """`up` lines that no step implies are no fault, since a start lets the steps catch up. The check says so and changes nothing."""
+        roster, server, *_ = self.lived(13)
+        self.kill(server)
+        steps, ups = self.bytes_of(self.steps), self.bytes_of(self.ups)
+        last = steps[:-1].rindex(b'\n') + 1
+        for left in (steps[:last], b''):
+            self.put(self.steps, left, 'wb')
+            self.put(self.ups, ups, 'wb')
+            status, line = self.check(roster, '--record', self.record)
+            self.assertEqual((status, 'catch up' in line), (0, True), line)
+            server = self.life(roster, NOWHERE)
+            self.kill(server)
 
     def test_beside_a_server(self):
         """A hundred checks while uplinks come: none finds a fault."""

@@ -1,3 +1,3 @@
-pub mod FoundLemmas
+pub mod ReadLemmas
 pub mod FrontLemmas
 pub mod ClosingLemmas

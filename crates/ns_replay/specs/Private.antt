@@ -1,3 +1,2 @@
 -- For private clauses alone: no promise rests on these.
-pub mod Lines
-pub mod Found
+pub mod Read

@@ -1,209 +1,204 @@
-//! The lines of a source, answered one after the other as they are read.
+//! The lines of a source, read block by block.
 
-ghost use Rattle.std.specs.Prelude.{◌≡◌, ◌<◌, ◌∷◌, ◌++◌, [], ℕ, List, Option, false, true, vec_len, length, option_map, IfOk, IfErr, OnOk, IfSome, ◌↔◌};
-ghost use Rattle.std.specs.Arc.{arc_value};
+ghost use Rattle.std.specs.Prelude.{◌≡◌, ◌<◌, ◌+◌, ◌^◌, ◌∷◌, ◌++◌, [], false, true, length, option_map, IfOk, IfErr, OnOk, OnErr, ◌↔◌};
 ghost use Rattle.ns_types.specs.declared.transfer.ReadFault.TheVariants.{Io};
-ghost use Rattle.ns_roster.specs.Network.{Network};
-ghost use Rattle.ns_output.specs.declared.output.Output.{Output};
-ghost use Rattle.ns_acts.specs.declared.step.Act.{Act};
-ghost use Rattle.ns_acts.specs.declared.step.Step.{Step};
-ghost use Rattle.ns_runs.specs.KeptSteps.{AreKeptAfter, AreReached};
-ghost use Rattle.ns_acts.specs.Lent.{act_lent};
-ghost use Rattle.ns_steps.specs.StepLines.{step, steps};
-ghost use Rattle.ns_replay.specs.Private.Lines.{line_taken, steps_in};
-ghost use Rattle.ns_replay.specs.Private.Found.{Has, FoundIn, Longer};
+ghost use Rattle.ns_runs.specs.Lines.{Advances};
+ghost use Rattle.ns_steps.specs.StepLines.{step, step_of};
+ghost use Rattle.ns_replay.specs.Private.Read.{AreOf, Unended, lines_left};
 
-use crate::taken::put_taken;
-use ns_acts::LentAct;
-use ns_lines::Line;
-use ns_output::Output;
-use ns_roster::Roster;
-use ns_runs::{Shards, Taken};
+use ns_runs::{LentStep, StepSource};
 use ns_steps::{place_of, step};
-use ns_types::{ReadFault, Source};
+use ns_types::{Failed, ReadFault, Source};
 use std::alloc::{AllocError, Global};
-use std::sync::Arc;
+use std::marker::Model;
+use std::mem;
 
 // How many bytes are read at once, into memory that is taken before anything is read.
 const READ_ROOM: usize = 65_536;
 
-/// What comes of lines.
+/// The lines of a source. Of its text one block and one line are in memory at a time. A line that is in the block whole is not copied.
+/// Contracts see the line that it is at, what was read of the line behind it, and whether more will be read.
 #[derive(Drop)]
-pub struct Answers {
-    /// What the steps of the lines leave in the shards, each trimmed or not.
-    pub shards: Shards,
-    /// How uplinks are written.
-    pub uplinks: Output,
-    /// The lines that are written of them, each with a line feed.
-    pub text: Vec<u8>,
-    /// Room for the line that is made next.
-    pub line: Line,
+pub struct LineReader {
+    block: Vec<u8>,
+    // Where in the block the next line, or the rest of it, begins, and where what was read ends.
+    next: usize,
+    filled: usize,
+    // Where in the block the line is that it is at, where it is not `carried`.
+    start: usize,
+    end: usize,
+    // What was read of the next line before the block.
+    line: Vec<u8>,
+    // The line that it is at, where that was `carried` from block to block.
+    whole: Vec<u8>,
+    carried: bool,
+    // Whether the source is at its end.
+    ended: bool,
 }
 
-// Makes the step of a line, where it is a step line. Shards are trimmed as they grow, since no entry is read again.
-#[inline(always)]
-fn take(
-    alloc: Global,
-    shards: &mut Shards,
-    act: &Option<LentAct<'_>>,
-) -> Result<Option<Taken>, AllocError>
-    requires { AreReached shards.old }
-    ensures taken { IfOk result (λ t. (net : Network) (before : List Step) → AreKeptAfter net before shards.old → t ≡ line_taken net before (option_map act_lent act.now)) }
-    ensures kept { OnOk result ((net : Network) (before : List Step) → AreKeptAfter net before shards.old → AreKeptAfter net (before ++ steps_in (option_map act_lent act.now ∷ [])) shards.new) }
-    ensures reached { OnOk result (AreReached shards.new) }
-{
-    match act {
-        Some(act) => Ok(Some(shards.step_and_trim(alloc, 0, act)?)),
-        None => Ok(None),
-    }
-}
+impl Model for LineReader {
+    ghost use Rattle.std.specs.Prelude.{◌≡◌, ◌<◌, ◌≤◌, ℕ, length, if◌then◌else◌, slice_range};
+    ghost use Rattle.ns_replay.specs.Private.Read.{ReadText, Unended};
 
-// Takes the memory of what came of a line, for the windows of later ones.
-#[inline(always)]
-fn reuse(shards: &mut Shards, taken: Option<Taken>)
-    ensures { shards.new ≡ shards.old }
-{
-    if let Some(taken) = taken {
-        shards.reuse(taken);
-    }
-}
+    ghost Value = { ReadText };
 
-// Answers what a line asks for.
-#[inline(always)]
-fn add(alloc: Global, answers: &mut Answers, act: &Option<LentAct<'_>>) -> Result<(), AllocError>
-    requires { AreReached answers.old.shards }
-    ensures lines { OnOk result ((net : Network) (uplinks : Output) (lines : List (Option Act)) → Has net uplinks answers.old lines → Has net uplinks answers.new (lines ++ option_map act_lent act.now ∷ [])) }
-    ensures longer { OnOk result (length answers.old.text.items < length answers.new.text.items) }
-    ensures reached { OnOk result (AreReached answers.new.shards) }
-{
-    let taken = take(alloc, &mut answers.shards, act)?;
-    put_taken(
-        &mut answers.text,
-        &mut answers.line,
-        answers.uplinks,
-        &taken,
-    )?;
-    reuse(&mut answers.shards, taken);
-    Ok(())
-}
+    ghost view = { λ r. record {
+      here = if r.carried then r.whole.items else slice_range r.block.items r.start r.end;
+      begun = r.line.items;
+      block = slice_range r.block.items r.next r.filled;
+      ended = r.ended;
+    } };
 
-// Answers a line, of which `line` has what stands before its end, and empties that. A line that stands in `end` whole is not copied, and a
-// datagram lies in `room`.
-fn add_line(
-    alloc: Global,
-    answers: &mut Answers,
-    line: &mut Vec<u8>,
-    room: &mut Vec<u8>,
-    end: &[u8],
-) -> Result<(), AllocError>
-    requires { AreReached answers.old.shards }
-    ensures lines { OnOk result ((net : Network) (uplinks : Output) (lines : List (Option Act)) → Has net uplinks answers.old lines → Has net uplinks answers.new (lines ++ step (line.old.items ++ end.now) ∷ [])) }
-    ensures longer { OnOk result (length answers.old.text.items < length answers.new.text.items) }
-    ensures reached { OnOk result (AreReached answers.new.shards) }
-    ensures line { OnOk result (line.new.items ≡ []) }
-{
-    if !line.is_empty() {
-        line.extend_from_slice(end)?;
-        add(alloc, answers, &step(room, line.as_slice())?)?;
-        line.clear();
-        return Ok(());
-    }
-    add(alloc, answers, &step(room, end)?)
-}
-
-// Answers the lines that end in a block of a text. `line` has what stands in the text behind its last line feed, so each line is
-// looked at once, however the blocks fall.
-fn add_block(
-    alloc: Global,
-    answers: &mut Answers,
-    line: &mut Vec<u8>,
-    room: &mut Vec<u8>,
-    block: &[u8],
-) -> Result<(), AllocError>
-    requires { AreReached answers.old.shards }
-    ensures found { OnOk result ((net : Network) (uplinks : Output) (text : List ℕ) → FoundIn net uplinks answers.old line.old.items text → FoundIn net uplinks answers.new line.new.items (text ++ block.now)) }
-    ensures longer { OnOk result (Longer answers.old line.old.items answers.new line.new.items (length block.now)) }
-    ensures reached { OnOk result (AreReached answers.new.shards) }
-{
-    let mut rest = block;
-    'lines: while let Some(end) = place_of(b'\n', rest) {
-        add_line(alloc, answers, line, room, &rest[..end])?;
-        rest = &rest[end + 1..];
-    }
-    line.extend_from_slice(rest)?;
-    Ok(())
-}
-
-// Answers what stands behind the last line feed, which is a line where it isn't empty.
-fn add_last(
-    alloc: Global,
-    answers: &mut Answers,
-    room: &mut Vec<u8>,
-    line: &[u8],
-) -> Result<(), AllocError>
-    requires { AreReached answers.old.shards }
-    ensures { OnOk result ((net : Network) (uplinks : Output) (text : List ℕ) → FoundIn net uplinks answers.old line.now text → Has net uplinks answers.new (steps text)) }
-{
-    if line.is_empty() {
-        return Ok(());
-    }
-    add(alloc, answers, &step(room, line)?)
+    ghost invariant = { λ r. (0 < length r.block.items) × (r.next ≤ r.filled) × (r.filled ≤ length r.block.items) × (r.start ≤ r.end) × (r.end ≤ length r.block.items) × Unended r.line.items };
 }
 
 // Memory of n bytes.
 fn zeros(alloc: Global, n: usize) -> Result<Vec<u8>, AllocError>
-    ensures { IfOk result (λ bytes. vec_len bytes ≡ n) }
+    ensures { IfOk result (λ bytes. length bytes.items ≡ n) }
 {
     vec![in alloc; 0u8; n]
 }
 
-// Answers all the lines that a source gives, read to `block`.
-#[tactic(auto, using(crate::proofs::FoundLemmas::found_none))]
-fn read_lines<S: Source>(
-    alloc: Global,
-    answers: &mut Answers,
-    source: &mut S,
-    block: &mut [u8],
-) -> Result<(), ReadFault>
-    requires sound { S.Stream.has_failed source.old ≡ false }
-    requires room { 0 < length block.old }
-    requires reached { AreReached answers.old.shards }
-    ensures lines { OnOk result ((net : Network) (uplinks : Output) → Has net uplinks answers.old [] → IfSome (S.left source.old) (λ text. Has net uplinks answers.new (steps text))) }
-    ensures sound { OnOk result (S.Stream.has_failed source.new ≡ false) }
-    ensures io { IfErr result (λ e. (e ≡ Io) ↔ (S.Stream.has_failed source.new ≡ true)) }
-{
-    let mut line = Vec::new(alloc);
-    let mut room = Vec::new(alloc);
-    'reading: loop {
-        let n = source.read(block)?;
-        if n == 0 {
-            add_last(alloc, answers, &mut room, line.as_slice())?;
-            return Ok(());
+impl LineReader {
+    /// Before anything is read.
+    pub fn new(alloc: Global) -> Result<LineReader, AllocError>
+        ensures { IfOk result (λ r. (r.begun ≡ []) × (r.block ≡ []) × (r.ended ≡ false)) }
+    {
+        Ok(LineReader {
+            block: zeros(alloc, READ_ROOM)?,
+            next: 0,
+            filled: 0,
+            start: 0,
+            end: 0,
+            line: Vec::new(alloc),
+            whole: Vec::new(alloc),
+            carried: false,
+            ended: false,
+        })
+    }
+
+    // Goes to the next line, where it ends in the block. Else what there is of it is kept, and the block is empty.
+    #[inline(always)]
+    fn take_line(&mut self) -> Result<bool, AllocError>
+        ensures line { IfOk result (λ found. found ≡ true → (self.old.begun ++ self.old.block ≡ self.new.here ++ 10 ∷ self.new.block) × Unended self.new.here × (self.new.begun ≡ [])) }
+        ensures part { IfOk result (λ found. found ≡ false → (self.new.begun ≡ self.old.begun ++ self.old.block) × (self.new.block ≡ []) × (length self.new.begun < 2 ^ 64)) }
+        ensures ended { OnOk result (self.new.ended ≡ self.old.ended) }
+    {
+        let rest = &self.block[self.next..self.filled];
+        let Some(end) = place_of(b'\n', rest) else {
+            self.line.extend_from_slice(rest)?;
+            self.next = self.filled;
+            return Ok(false);
+        };
+        if !self.line.is_empty() {
+            self.line.extend_from_slice(&rest[..end])?;
+            self.next = self.next + end + 1;
+            self.carry();
+            return Ok(true);
         }
-        add_block(alloc, answers, &mut line, &mut room, &block[..n])?;
+        self.start = self.next;
+        self.end = self.next + end;
+        self.next = self.end + 1;
+        self.carried = false;
+        Ok(true)
+    }
+
+    // Goes to what was read of a line before the block, of which nothing is left then.
+    fn carry(&mut self)
+        ensures here { self.new.here ≡ self.old.begun }
+        ensures unended { Unended self.new.here }
+        ensures begun { self.new.begun ≡ [] }
+        ensures block { self.new.block ≡ self.old.block }
+        ensures ended { self.new.ended ≡ self.old.ended }
+    {
+        mem::swap(&mut self.line, &mut self.whole);
+        self.line.clear();
+        self.carried = true;
+    }
+
+    // Reads a block, and says whether the source is at its end.
+    fn read<S: Source>(&mut self, source: &mut S) -> Result<bool, Failed>
+        requires sound { S.Stream.has_failed source.old ≡ false }
+        requires empty { self.old.block ≡ [] }
+        ensures bytes { IfOk result (λ is_end. AreOf (S.left source.old) (S.left source.new) is_end self.new.block) }
+        ensures begun { OnOk result (self.new.begun ≡ self.old.begun) }
+        ensures ended { OnOk result (self.new.ended ≡ self.old.ended) }
+        ensures failed { OnOk result (S.Stream.has_failed source.new ≡ false) }
+        ensures io { OnErr result (S.Stream.has_failed source.new ≡ true) }
+    {
+        let n = source.read(self.block.as_mut_slice())?;
+        self.next = 0;
+        self.filled = n;
+        Ok(n == 0)
+    }
+
+    // Goes to what was read of a line that has no end, and says whether there is any.
+    fn end(&mut self) -> bool
+        requires { self.old.block ≡ [] }
+        ensures last { result ≡ true → (0 < length self.old.begun) × Unended self.new.here × (self.new.here ≡ self.old.begun) }
+        ensures none { result ≡ false → self.old.begun ≡ [] }
+        ensures rest { (self.new.begun ≡ []) × (self.new.block ≡ []) × (self.new.ended ≡ true) }
+    {
+        self.ended = true;
+        if self.line.is_empty() {
+            return false;
+        }
+        self.carry();
+        true
+    }
+
+    // Reads on, to the next line.
+    fn read_line<S: Source>(&mut self, source: &mut S) -> Result<bool, ReadFault>
+        requires sound { S.Stream.has_failed source.old ≡ false }
+        requires empty { self.old.block ≡ [] }
+        requires bounded { length self.old.begun < 2 ^ 64 }
+        ensures lines { IfOk result (λ more. Advances (lines_left self.old (S.left source.old)) (lines_left self.new (S.left source.new)) more (option_map step_of (step self.new.here))) }
+        ensures sound { OnOk result (S.Stream.has_failed source.new ≡ false) }
+        ensures io { IfErr result (λ e. (e ≡ Io) ↔ (S.Stream.has_failed source.new ≡ true)) }
+    {
+        'reading: loop {
+            if self.ended {
+                return Ok(self.end());
+            }
+            if self.read(source)? {
+                return Ok(self.end());
+            }
+            if self.take_line()? {
+                return Ok(true);
+            }
+        }
     }
 }
 
-/// Answers all the lines that a source gives, in order. Of the text itself one block and one line are in memory at a time. The
-/// block is the first memory that a run takes.
-pub fn read_answers<S: Source>(
-    alloc: Global,
-    roster: Arc<Roster>,
-    uplinks: Output,
-    source: &mut S,
-) -> Result<Answers, ReadFault>
-    requires { S.Stream.has_failed source.old ≡ false }
-    ensures lines { IfOk result (λ answers. IfSome (S.left source.old) (λ text. Has (arc_value roster) uplinks answers (steps text))) }
-    ensures sound { OnOk result (S.Stream.has_failed source.new ≡ false) }
-    ensures io { IfErr result (λ e. (e ≡ Io) ↔ (S.Stream.has_failed source.new ≡ true)) }
-{
-    let mut block = zeros(alloc, READ_ROOM)?;
-    let mut answers = Answers {
-        shards: Shards::new(alloc, roster)?,
-        uplinks,
-        text: Vec::new(alloc),
-        line: Line::new(),
-    };
-    read_lines(alloc, &mut answers, source, block.as_mut_slice())?;
-    Ok(answers)
+impl<S: Source> StepSource<S> for LineReader {
+    ghost use Rattle.std.specs.Prelude.{option_map};
+    ghost use Rattle.ns_steps.specs.StepLines.{step, step_of};
+    ghost use Rattle.ns_replay.specs.Private.Read.{lines_left};
+
+    ghost has_failed = { S.Stream.has_failed };
+
+    ghost left = { λ r source. lines_left r (S.left source) };
+
+    ghost here = { λ r. option_map step_of (step r.here) };
+
+    #[inline(always)]
+    fn advance(&mut self, source: &mut S) -> Result<bool, ReadFault> {
+        if self.take_line()? {
+            return Ok(true);
+        }
+        self.read_line(source)
+    }
+
+    #[inline(always)]
+    fn step<'a>(&'a self, room: &'a mut Vec<u8>) -> Result<Option<LentStep<'a>>, AllocError> {
+        let line = if self.carried {
+            self.whole.as_slice()
+        } else {
+            &self.block[self.start..self.end]
+        };
+        match step(room, line)? {
+            Some(act) => Ok(Some(LentStep { worker: 0, act })),
+            None => Ok(None),
+        }
+    }
 }

@@ -1,16 +1,18 @@
 //! A run of recorded steps, from a source of step lines to a sink of answer lines.
 
-ghost use Rattle.std.specs.Prelude.{◌≡◌, ◌⊎◌, false, true, OnOk, OnErr, IfErr, IfOk, IfSome, ◌↔◌};
+ghost use Rattle.std.specs.Prelude.{◌≡◌, ◌⊎◌, ℕ, List, false, true, OnOk, OnErr, IfErr, IfOk, IfSome, ◌↔◌};
 ghost use Rattle.ns_types.specs.declared.transfer.ReadFault.TheVariants.{Io};
 ghost use Rattle.std.specs.Arc.{arc_value};
 ghost use Rattle.std.specs.Io.KnownBytes.{Appends};
 ghost use Rattle.ns_types.specs.Streams.{AppendsFront};
-ghost use Rattle.ns_replay.specs.Output.{output};
+ghost use Rattle.ns_replay.specs.Output.{output, IsReplay};
 
 use crate::closing::put_closing;
-use crate::reading::{Answers, read_answers};
+use crate::reading::LineReader;
+use crate::taken::AnswerText;
 use ns_output::Output;
 use ns_roster::Roster;
+use ns_runs::Shards;
 use ns_types::{Failed, ReadFault, Sink, Source, write_all};
 use std::alloc::Global;
 use std::sync::Arc;
@@ -37,17 +39,21 @@ fn answers_of<R: Source>(
 ) -> Result<Vec<u8>, ReadFault>
     requires { R.Stream.has_failed reader.old ≡ false }
     ensures lines { IfOk result (λ text. IfSome (R.left reader.old)
-        (λ input. text.items ≡ output uplinks closing (arc_value roster) input)) }
+        (λ input. IsReplay uplinks closing (arc_value roster) input text.items)) }
     ensures sound { OnOk result (R.Stream.has_failed reader.new ≡ false) }
     ensures io { IfErr result (λ e. (e ≡ Io) ↔ (R.Stream.has_failed reader.new ≡ true)) }
 {
-    let Answers {
-        shards,
-        mut text,
-        uplinks: _,
-        line: _,
-    } = read_answers(alloc, roster.clone()?, uplinks, reader)?;
-    shards.end();
+    let mut lines = LineReader::new(alloc)?;
+    let mut answers = AnswerText::new(alloc, uplinks);
+    let shards = Shards::run_over(
+        alloc,
+        roster.clone()?,
+        true,
+        &mut lines,
+        reader,
+        &mut answers,
+    )?;
+    let mut text = answers.text;
     put_closing(alloc, &mut text, closing, &roster, &shards)?;
     Ok(text)
 }
@@ -83,6 +89,12 @@ pub fn replay<R: Source, W: Sink>(
 ) -> Result<(), ReplayFault>
     requires reader_sound { R.Stream.has_failed reader.old ≡ false }
     requires writer_sound { W.Stream.has_failed writer.old ≡ false }
+
+    // What is written is the lines of a run of the steps that were read. There are sixteen shards with their whole histories, each legal, with
+    // one entry for each call that reached its shard, in order, and each answer is that of its entry. Each uplink goes out at most once,
+    // with just its copies, and counters, nonces and acknowledgement numbers rise.
+    ensures run { OnOk result (IfSome (R.left reader.old)
+        (λ input. (written : List ℕ) × IsReplay uplinks closing (arc_value roster) input written × Appends (W.taken writer.old) (W.taken writer.new) written)) }
 
     // What is written is the answers' lines, or where the writer fails a beginning of them.
     ensures ok { OnOk result (IfSome (R.left reader.old)

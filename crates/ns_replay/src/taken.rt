@@ -1,6 +1,6 @@
 //! The lines that are written of what came of step lines.
 
-ghost use Rattle.std.specs.Prelude.{◌≡◌, ◌≤◌, ◌++◌, None, length, flat_map, option_map, OnOk};
+ghost use Rattle.std.specs.Prelude.{◌≡◌, ◌≤◌, ◌++◌, None, ℕ, [], length, flat_map, option_map, OnOk};
 ghost use Rattle.std.specs.Option.{option_to_list};
 ghost use Rattle.ns_events.specs.Output.{line_of};
 ghost use Rattle.ns_events.specs.Uplink.{uplink_json};
@@ -12,9 +12,9 @@ use ns_calls::LentUplink;
 use ns_events::uplink_json;
 use ns_lines::{Line, put_downlink, put_lent_uplink, put_reply};
 use ns_output::Output;
-use ns_runs::Taken;
+use ns_runs::{Answers, Taken};
 use ns_shard::BoxedAnswer;
-use std::alloc::AllocError;
+use std::alloc::{AllocError, Global};
 
 // Puts a text and a line feed at the end of a text.
 #[inline(always)]
@@ -115,5 +115,44 @@ pub fn put_taken(
         Some(Taken::Link(fault)) => put_refusal(text, line, "refused G", Some(fault.number())),
         Some(Taken::View(fault)) => put_refusal(text, line, "refused V", Some(fault.number())),
         Some(Taken::Made { answer, .. }) => put_answer(text, line, uplinks, answer),
+    }
+}
+
+/// The text of answers, line by line.
+#[derive(Drop)]
+pub struct AnswerText {
+    /// How uplinks are written.
+    pub uplinks: Output,
+    /// The lines, each with a line feed.
+    pub text: Vec<u8>,
+    // Room for the line that is made next.
+    line: Line,
+}
+
+impl AnswerText {
+    /// Before any answer.
+    pub fn new(alloc: Global, uplinks: Output) -> AnswerText
+        ensures text { result.text.items ≡ [] }
+        ensures uplinks { result.uplinks ≡ uplinks }
+    {
+        AnswerText {
+            uplinks,
+            text: Vec::new(alloc),
+            line: Line::new(),
+        }
+    }
+}
+
+impl Answers for AnswerText {
+    ghost Piece = { ℕ };
+
+    ghost held = { λ s. s.text.items };
+
+    ghost pieces = { λ s. text_of s.uplinks };
+
+    #[inline(always)]
+    fn put(&mut self, _alloc: Global, taken: Option<Taken>) -> Result<Option<Taken>, AllocError> {
+        put_taken(&mut self.text, &mut self.line, self.uplinks, &taken)?;
+        Ok(taken)
     }
 }

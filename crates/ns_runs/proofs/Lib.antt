@@ -3,3 +3,5 @@ pub mod RunHistories
 pub mod RunTaken
 pub mod StepEnds
 pub mod KeptSteps
+pub mod LineSteps
+pub mod Whole

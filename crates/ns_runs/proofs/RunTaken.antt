@@ -34,7 +34,7 @@ use Rattle.ns_calls.proofs.WindowLemmas.{windows_open_once, closings-added}
 use Rattle.ns_acts.specs.declared.step.Step.{Step}
 use Rattle.ns_shard.specs.State.{State}
 use Rattle.ns_acts.specs.Calls.{call_of}
-use Rattle.ns_runs.specs.Taken.{calls_of, HasCopiesAt, HasCopies, hands_out, AreHandedOutOnce}
+use Rattle.ns_runs.specs.Taken.{calls_of, HasCopiesAt, HasCopies, IsOfItsEntry, hands_out, AreHandedOutOnce}
 use Rattle.ns_runs.specs.Steps.{shard_history, call_taken, made, all_taken, state_after, AreAfter}
 use Rattle.ns_runs.proofs.RunHistories.{shard_history-is}
 use Rattle.ns_runs.proofs.RunSteps.{one_call, calls_of-joined, shard_history-other, shard_history-own, shard_small, history-joined}
@@ -156,6 +156,41 @@ all-copies net before (step ∷ steps) shards are =
 
 pub taken-copies : (net : Network) (steps : List Step) (shards : List State) → AreAfter net steps shards → AllByRecursion (HasCopies shards) (all_taken net [] steps)
 taken-copies net steps shards are = all-copies net [] steps shards are
+
+-- ---- each answer is that of its entry
+
+call-entry : (net : Network) (before after : List Step) (step : Step) (shards : List State) (c : Call) → AreAfter net ((before ++ step ∷ []) ++ after) shards → call_of step.act ≡ Ok c
+    → IsOfItsEntry net shards (made net (shard_history net (shard_of_call c) before) c)
+call-entry net before after step shards c are is =
+    let shard : ℕ = shard_of_call c in
+    let h : List Entry = shard_history net shard before in
+    let e : Entry = entry_for net h (length h) c in
+    let own : shard_history net shard (before ++ step ∷ []) ≡ h ++ e ∷ [] = shard_history-own net shard before step c (ap (one_call shard) is ∙ one_call-own c) in
+    let more = shard_history-begins net shard (before ++ step ∷ []) after in
+    let whole : shard_history net shard ((before ++ step ∷ []) ++ after) ≡ h ++ e ∷ more.0 = more.1 ∙ (ap (λ es. es ++ more.0) own ∙ append_assoc h (e ∷ []) more.0) in
+    record {
+      state = state_after net shard ((before ++ step ∷ []) ++ after);
+      of_shard = are.each shard (shard_small c);
+      entry = e;
+      at = ap (λ es. slice_get es (length h)) whole ∙ at-front h more.0 e;
+      reply = refl;
+      is = ap (λ es. answer net es c) (sym (ap (take (length h)) whole ∙ take-append_seam h (e ∷ more.0)));
+    }
+
+result-entry : (net : Network) (before after : List Step) (step : Step) (shards : List State) → AreAfter net ((before ++ step ∷ []) ++ after) shards
+    → (r : Result Call Refusal) → call_of step.act ≡ r → IsOfItsEntry net shards (call_taken net before r)
+result-entry net before after step shards are (Err (link fault)) is = tt
+result-entry net before after step shards are (Err (view fault)) is = tt
+result-entry net before after step shards are (Ok c) is = call-entry net before after step shards c are is
+
+all-entries : (net : Network) (before steps : List Step) (shards : List State) → AreAfter net (before ++ steps) shards → AllByRecursion (IsOfItsEntry net shards) (all_taken net before steps)
+all-entries net before [] shards are = tt
+all-entries net before (step ∷ steps) shards are =
+    let next : AreAfter net ((before ++ step ∷ []) ++ steps) shards = subst (λ ss. AreAfter net ss shards) (sym (append_assoc before (step ∷ []) steps)) are in
+    (result-entry net before steps step shards next (call_of step.act) refl, all-entries net (before ++ step ∷ []) steps shards next)
+
+pub taken-entries : (net : Network) (steps : List Step) (shards : List State) → AreAfter net steps shards → AllByRecursion (IsOfItsEntry net shards) (all_taken net [] steps)
+taken-entries net steps shards are = all-entries net [] steps shards are
 
 -- ---- once of an uplink
 

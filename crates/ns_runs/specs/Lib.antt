@@ -2,4 +2,6 @@ pub mod Taken
 pub mod Steps
 pub mod KeptSteps
 pub mod NextRun
+pub mod Lines
+pub mod Whole
 pub mod Private

@@ -7,7 +7,10 @@ use Rattle.ns_types.specs.Identity.{same_uplink}
 use Rattle.ns_calls.specs.declared.call.Call.{Call}
 use Rattle.ns_calls.specs.declared.call.Call.TheVariants as call
 use Rattle.ns_calls.specs.declared.call.Entry.{Entry}
+use Rattle.ns_calls.specs.declared.answer.Answer.{Answer}
 use Rattle.ns_calls.specs.declared.answer.Uplink.{Uplink}
+use Rattle.ns_calls.specs.Out.{answer}
+use Rattle.ns_roster.specs.Network.{Network}
 use Rattle.ns_calls.specs.Shards.{shard_of_call}
 use Rattle.ns_calls.specs.Laws.{hands_out_uplink}
 use Rattle.ns_calls.specs.Open.{HasJustItsCopies}
@@ -39,6 +42,20 @@ pub record HasCopiesAt (shards : List State) (shard number : ℕ) (u : Uplink) :
   pub at : slice_get state.entries number ≡ Some entry
   pub closing : entry.call ≡ call.Close u.window
   pub copies : HasJustItsCopies (take number state.entries) u
+
+-- the answer is that of the entry of this number in this shard, after the entries before it
+pub record IsOfEntry (net : Network) (shards : List State) (shard number : ℕ) (a : Answer) : Type 0 where
+  pub state : State
+  pub of_shard : slice_get shards shard ≡ Some state
+  pub entry : Entry
+  pub at : slice_get state.entries number ≡ Some entry
+  pub reply : entry.reply ≡ a.reply
+  pub is : a ≡ answer net (take number state.entries) entry.call
+
+-- so is an answer, if any
+abbrev pub IsOfItsEntry : Network → List State → Taken → Type 0
+IsOfItsEntry net shards (Made shard number a) = IsOfEntry net shards shard number a
+IsOfItsEntry net shards _ = Unit {0}
 
 -- the uplink that goes out, if any, has just its copies
 abbrev pub HasCopies : List State → Taken → Type 0

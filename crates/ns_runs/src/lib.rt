@@ -8,6 +8,10 @@
 #![tactic(auto)]
 
 pub mod laws;
+mod lines;
+mod list;
 mod run;
 
+pub use lines::{Answers, LentStep, StepSource};
+pub use list::{StepList, TakenList};
 pub use run::{Run, Shards, TRIM_FROM, Taken, new_shards, trim_if_due};

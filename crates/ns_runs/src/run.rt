@@ -1,10 +1,12 @@
 //! A run of steps over the sixteen shards.
 
 ghost use Rattle.ns_types.specs.declared.identity.DevEui.{DevEui};
-ghost use Rattle.std.specs.Prelude.{◌≡◌, ◌<◌, ℕ, List, [], ◌∷◌, ◌++◌, length, map, slice_get, Some, IsOk, IfOk, OnOk, OnErr, IfSome, option_map};
+ghost use Rattle.std.specs.Prelude.{◌≡◌, ◌<◌, ℕ, List, [], ◌∷◌, ◌++◌, length, map, flat_map, slice_get, Option, Some, IsOk, IfOk, IfErr, OnOk, OnErr, IfSome, option_map, false, true, ◌↔◌};
 ghost use Rattle.std.specs.Arc.{arc_value};
 ghost use Rattle.std.specs.List.{AllByRecursion};
+ghost use Rattle.std.specs.Option.{option_to_list};
 ghost use Rattle.ns_types.specs.Identity.{shard_count};
+ghost use Rattle.ns_types.specs.declared.transfer.ReadFault.TheVariants.{Io};
 ghost use Rattle.ns_roster.specs.Network.{Network};
 ghost use Rattle.ns_calls.specs.Legal.{IsHistory};
 ghost use Rattle.ns_calls.specs.Laws.{NoncesRise, CountersRise, WindowsOpenOnce};
@@ -17,15 +19,19 @@ ghost use Rattle.ns_acts.specs.Lent.{act_lent, step_lent};
 ghost use Rattle.ns_runs.specs.Steps.{step_taken, all_taken, AreAfter};
 ghost use Rattle.ns_acts.specs.Calls.{call_of};
 ghost use Rattle.ns_runs.specs.Taken.{calls_of, OfEach, HandsOut, HasCopies, AreHandedOutOnce};
+ghost use Rattle.ns_runs.specs.Lines.{lent, HasAll};
+ghost use Rattle.ns_runs.specs.Whole.{HasRun};
 ghost use Rattle.ns_runs.specs.NextRun.{greatest_among, greatest_after};
 ghost use Rattle.ns_runs.specs.Private.Run.{refused_as, StepEnds};
 
+use crate::lines::{Answers, LentStep, StepSource};
+use crate::list::{StepList, TakenList};
 use ns_acts::{LentAct, Step, answer_call};
 use ns_calls::{Call, DataFrame, Outcome, shard_of_call};
 use ns_link::{LinkFault, read_datagram};
 use ns_roster::Roster;
 use ns_shard::{BoxedAnswer, Shard};
-use ns_types::{DevEui, DevNonce, SHARDS, shard_of};
+use ns_types::{DevEui, DevNonce, ReadFault, SHARDS, shard_of};
 use ns_views::{PhyView, ViewFault, view};
 use std::alloc::{AllocError, Global};
 use std::marker::Model;
@@ -47,8 +53,8 @@ pub enum Taken {
 }
 
 impl Taken {
-    // The same, in no more memory than it needs.
-    fn packed(self, alloc: Global) -> Result<Taken, AllocError>
+    /// The same, in no more memory than it needs.
+    pub fn packed(self, alloc: Global) -> Result<Taken, AllocError>
         ensures { IfOk result (λ t. t ≡ self) }
     {
         match self {
@@ -169,6 +175,27 @@ impl Shards {
         }
     }
 
+    // Makes the step of a line, where it asks for one, and trims its shard where trims are wanted and this one is due.
+    #[inline(always)]
+    fn run_line(
+        &mut self,
+        alloc: Global,
+        trims: bool,
+        step: &Option<LentStep<'_>>,
+    ) -> Result<Option<Taken>, AllocError>
+        requires { AreReached self.old }
+        ensures taken { IfOk result (λ t. (net : Network) (before : List Step) → AreKeptAfter net before self.old → t ≡ option_map (step_taken net before) (option_map lent step.now)) }
+        ensures shards { OnOk result (trims ≡ false → (net : Network) (before : List Step) → AreAfter net before self.old → AreAfter net (before ++ option_to_list (option_map lent step.now)) self.new) }
+        ensures kept { OnOk result ((net : Network) (before : List Step) → AreKeptAfter net before self.old → AreKeptAfter net (before ++ option_to_list (option_map lent step.now)) self.new) }
+        ensures reached { OnOk result (AreReached self.new) }
+    {
+        match step {
+            Some(step) if trims => Ok(Some(self.step_and_trim(alloc, step.worker, &step.act)?)),
+            Some(step) => Ok(Some(self.run_act(alloc, step.worker, &step.act)?)),
+            None => Ok(None),
+        }
+    }
+
     /// Runs the step of this worker and act as `step` does, and trims its shard where that is due (no clause says when): what comes of later
     /// steps is the same. `NoMemory` (`AllocError`) where a growth of the step was refused: the run is over. A trim that is refused is left
     /// out.
@@ -269,13 +296,50 @@ impl Shards {
         ensures copies { IfOk result (λ run. AllByRecursion (HasCopies run.shards) run.taken.items) }
         ensures handed_out_once { IfOk result (λ run. AreHandedOutOnce run.taken.items) }
     {
-        let mut shards = Shards::new(alloc, roster)?;
-        let mut taken = Vec::new(alloc);
-        'steps: for step in steps {
-            let one = shards.step(alloc, step)?.packed(alloc)?;
-            taken.push(one)?;
+        let mut lines = StepList::new(steps);
+        let mut answers = TakenList {
+            taken: Vec::new(alloc),
+        };
+        match Shards::run_over(alloc, roster, false, &mut lines, &mut (), &mut answers) {
+            Ok(shards) => Ok(Run {
+                shards,
+                taken: answers.taken,
+            }),
+            Err(_) => Err(AllocError),
         }
-        Ok(Run { shards, taken })
+    }
+
+    /// Runs the steps of lines on one thread, in order, until there are no more lines, and puts what came of each. It is the loop of every
+    /// run, of `run` and of `replay` of ns_replay. With `trims`, shards are trimmed as they grow, as `step_and_trim` does: what comes of each
+    /// step is the same, and of each history is kept what trims leave.
+    ///
+    /// `Io` where `from` failed. `NoMemory` where a growth was refused, or after 2^64 - 1 lines.
+    pub fn run_over<R, L: StepSource<R>, A: Answers>(
+        alloc: Global,
+        roster: Arc<Roster>,
+        trims: bool,
+        lines: &mut L,
+        from: &mut R,
+        answers: &mut A,
+    ) -> Result<Shards, ReadFault>
+        requires { L.has_failed from.old ≡ false }
+        ensures run { IfOk result (λ shards. (given : List (Option Step)) × (told : List (Option Taken)) × HasAll (L.left lines.old from.old) given × HasRun (arc_value roster) trims given told shards × (A.held answers.new ≡ A.held answers.old ++ flat_map (A.pieces answers.old) told)) }
+        ensures sound { OnOk result (L.has_failed from.new ≡ false) }
+        ensures io { IfErr result (λ e. (e ≡ Io) ↔ (L.has_failed from.new ≡ true)) }
+    {
+        let mut shards = Shards::new(alloc, roster)?;
+        let mut room = Vec::new(alloc);
+        'given: for _ in 0..u64::MAX {
+            if !lines.advance(from)? {
+                return Ok(shards);
+            }
+            let step = lines.step(&mut room)?;
+            let taken = shards.run_line(alloc, trims, &step)?;
+            if let Some(done) = answers.put(alloc, taken)? {
+                shards.reuse(done);
+            }
+        }
+        Err(ReadFault::NoMemory)
     }
 }
 

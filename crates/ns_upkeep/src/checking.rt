@@ -1,7 +1,7 @@
 //! What a start would refuse, without a start.
 
 use ns_commands::{Fault, named_folder, of_files, of_record, read_roster};
-use ns_log::{Log, error};
+use ns_log::{Log, error, warn};
 use ns_record_files::{FilesFault, read_again};
 use ns_resume::{RecordFault, run_record};
 use ns_roster::Roster;
@@ -91,7 +91,8 @@ fn of_opening(outcome: Result<File, FilesFault>) -> Result<File, RecordFault> {
 }
 
 // Whether a start would go on with the record of this folder. A fault counts where it is found twice: a server that compacts its record
-// meanwhile may put other steps in place between the opening of the two files.
+// meanwhile may put other steps in place between the opening of the two files. `up` lines that are ahead of the steps are none: a start lets
+// these catch up.
 fn check_record<R: Files<File = File> + AllocGlobal, L: Log>(
     rt: &R,
     log: &L,
@@ -106,6 +107,10 @@ fn check_record<R: Files<File = File> + AllocGlobal, L: Log>(
     }
     match run_folder(rt, log, folder, roster) {
         Ok(()) => Ok(()),
+        Err(RecordFault::UpLonger(_)) => {
+            warn!(log; "{folder}: up is ahead of steps: a start lets these catch up");
+            Ok(())
+        }
         Err(fault) => {
             error!(log; "{folder}: {fault}");
             Err(of_record(fault))
