@@ -191,6 +191,23 @@ def exchanged(response, transaction):
     return answer
 
 
+def bytes_that_decide(response):
+    """How many bytes of a response that has a head decide what it answers: one more than it has, if the end of the stream does."""
+    head = model_http._HEAD.match(response[:model_http.MOST_HEAD])
+    fields = {name.lower(): value.strip(b' \t') for name, value in model_http._FIELDS.findall(head[2])}
+    if b'content-length' in fields:
+        return head.end() + int(fields[b'content-length'])
+    return min(len(response), head.end() + model_http.MOST_BODY) + 1
+
+
+def counts(response, message):
+    """How many reads and writes are made, one byte a call and as many as there is room for: a read has room for a head, or for the rest. The
+    request's head and its body are a write each."""
+    reads = bytes_that_decide(response)
+    many = 1 if reads <= min(len(response), model_http.MOST_HEAD) else 2
+    return '%d reads and %d writes of a byte, %d and 2 of many' % (reads, len(request_text(message)), many)
+
+
 def request_text(message):
     """What is written to a join server (part 13)."""
     head = 'POST / HTTP/1.1\r\nHost: js.local\r\nContent-Type: application/json\r\nContent-Length: %d\r\nConnection: close\r\n\r\n'
@@ -355,9 +372,11 @@ class Worked:
             return outcome.split('\n')
         if word == 'ends':
             return in_runs(exchanged(response[:size], self.transaction) for size in range(len(response)))
+        if word == 'counts':
+            return [counts(response, self.message)]
         if word == 'failed_reads':
             return in_runs(['H2'] * len(response) + [exchanged(response, self.transaction)])
-        return ['2 H1']     # the head and the body are a write each
+        return ['2 H1']     # `failed_writes`: the head and the body are a write each
 
     def about_device(self, word, rest):
         if word == 'reply':
@@ -398,7 +417,7 @@ class Worked:
             return ['refused, then ' + first] + others
         if word in ('holds', 'place', 'find', 'knows', 'field', 'question'):
             return self.about_roster(word, rest)
-        if word in ('exchange', 'written', 'ends', 'failed_reads', 'failed_writes'):
+        if word in ('exchange', 'written', 'ends', 'counts', 'failed_reads', 'failed_writes'):
             return self.about_exchange(word, rest)
         if word in ('reply', 'join_request', 'accept'):
             return self.about_device(word, rest)

@@ -1,5 +1,5 @@
 -- The lines of a run, of which some ask for a step, and what comes of each.
-use Rattle.std.specs.Prelude.{◌≡◌, ℕ, Bool, true, false, List, [], ◌∷◌, ◌++◌, filter_map, flat_map, Option, None, Some}
+use Rattle.std.specs.Prelude.{◌≡◌, Bool, true, false, List, [], ◌∷◌, ◌++◌, filter_map, Option, None, Some}
 use Rattle.ns_acts.specs.declared.step.Step.{Step}
 use Rattle.ns_acts.specs.Lent.{step_lent}
 use Rattle.ns_runs.specs.declared.lines.LentStep.{LentStep}

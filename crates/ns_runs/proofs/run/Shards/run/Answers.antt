@@ -1,4 +1,3 @@
-use Rattle.std.proofs.Common.{List, Option}
 use Rattle.std.specs.Arc.{arc_value}
 use Rattle.ns_runs.proofs.Whole.{listed-run, listed-greatest}
 use Rattle.ns_runs.proofs.run.Shards.run.Goals as goal

@@ -1,10 +1,9 @@
-use Rattle.std.proofs.Common.{rules, ◌≡◌, ◌++◌, [], ◌∷◌, List, Option, flat_map, option_map, true, false, refl, sym, ap, ◌∙◌, subst, append-nil}
+use Rattle.std.proofs.Common.{rules, ◌≡◌, ◌++◌, [], ◌∷◌, Option, flat_map, option_map, true, false, refl, sym, ap, ◌∙◌, subst, append-nil}
 use Rattle.std.specs.Arc.{arc_value}
-use Rattle.std.specs.Option.{option_to_list}
 use Rattle.ns_acts.specs.declared.step.Step.{Step}
 use Rattle.ns_runs.specs.KeptSteps.{AreKeptAfter}
 use Rattle.ns_runs.specs.Lines.{lent, steps_in, HasAll, Advances}
-use Rattle.ns_runs.specs.Steps.{AreAfter, step_taken}
+use Rattle.ns_runs.specs.Steps.{AreAfter}
 use Rattle.ns_runs.proofs.LineSteps.{all_lines, all_lines-more, steps_in-more, pieces-more, gives-none, gives-more, gives-all}
 use Rattle.ns_runs.proofs.Whole.{has-run}
 use Rattle.ns_runs.proofs.run.Shards.run_over.Goals as goal
