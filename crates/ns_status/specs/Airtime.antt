@@ -1,5 +1,5 @@
 -- How long downlinks are on air, in microseconds (Semtech AN1200.13 for LoRa; RP002 for the data rates of EU868).
-use Rattle.std.specs.Prelude.{ℕ, ◌+◌, ◌-◌, ◌*◌, ◌/◌, ◌%◌, ◌^◌, ◌==◌, min, sum, nat_lt, List, map, set, get_or, if◌then◌else◌}
+use Rattle.std.specs.Prelude.{ℕ, ◌+◌, ◌-◌, ◌*◌, ◌/◌, ◌%◌, ◌^◌, ◌^◌, ◌==◌, min, nat_lt, List, [], ◌∷◌, set, get_or, if◌then◌else◌}
 use Rattle.std.specs.Int.{div_ceil}
 use Rattle.ns_status.specs.declared.airtime.Slot.{Slot}
 
@@ -49,9 +49,13 @@ no_slot = record { number = 0; us = 0 }
 abbrev pub added_at : List Slot → ℕ → ℕ → List Slot
 added_at slots number us = set slots (number % 12) (one_more (get_or slots (number % 12) no_slot) number us)
 
--- what counts of a slot at another, and of all
+-- what counts of a slot at another, and of all slots beside what is spent already: their sum, in 64 bits
 abbrev pub recent : ℕ → Slot → ℕ
 recent now slot = if nat_lt now (slot.number + 12) then slot.us else 0
 
+abbrev pub spent_with : ℕ → ℕ → List Slot → ℕ
+spent_with now spent [] = spent
+spent_with now spent (slot ∷ slots) = spent_with now (min (spent + recent now slot) (2 ^ 64 - 1)) slots
+
 abbrev pub spent_at : List Slot → ℕ → ℕ
-spent_at slots now = min (sum (map (recent now) slots)) (2 ^ 64 - 1)
+spent_at slots now = spent_with now 0 slots

@@ -205,6 +205,21 @@ pub fn put_devices(
     Ok(())
 }
 
+// Puts the row of a gateway.
+fn put_gateway(
+    alloc: Global,
+    text: &mut String,
+    is_first: bool,
+    id: GatewayId,
+    gateway: &Gateway,
+    now_ms: u64,
+) -> Result<(), AllocError>
+    ensures { OnOk result (string_bytes text.new ≡ string_bytes text.old ++ row_text is_first (gateway_data now_ms id gateway.now)) }
+{
+    let row = gateway_value(alloc, id, gateway, now_ms)?;
+    put_row(alloc, text, is_first, row)
+}
+
 /// Puts rows of gateways at a moment of the server's clock, of which the first is the first of the list or not.
 pub fn put_gateways(
     alloc: Global,
@@ -217,12 +232,7 @@ pub fn put_gateways(
 {
     let mut is_first = is_first;
     for row in gateways {
-        put_row(
-            alloc,
-            text,
-            is_first,
-            gateway_value(alloc, row.0, &row.1, now_ms)?,
-        )?;
+        put_gateway(alloc, text, is_first, row.0, &row.1, now_ms)?;
         is_first = false;
     }
     Ok(())
