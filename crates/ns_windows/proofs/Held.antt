@@ -1,24 +1,26 @@
 -- Entries, frames and numbers, as a window comes, changes and goes.
-use Rattle.std.proofs.Common.{◌≡◌, ℕ, zero, suc, ◌+◌, ◌-◌, ◌≤◌, ◌==◌, Bool, true, false, not, cond, List, [], ◌∷◌, ◌++◌, length, filter, map, find, drop, take, slice_get, option_to_list, Option, None, Some, option_map, IfSome, bytes_eq, refl, sym, ap, subst, ◌∙◌, arith}
-use Rattle.std.specs.List.{AllByRecursion, IsDistinct, slice_set}
+use Rattle.std.proofs.Common.{◌≡◌, ℕ, zero, suc, ◌+◌, ◌-◌, ◌≤◌, ◌<◌, nat_lt, ◌==◌, true, false, not, cond, List, [], ◌∷◌, ◌++◌, length, drop, take, slice_get, option_to_list, Option, None, Some, option_map, IfSome, bytes_eq, refl, sym, ap, subst, ◌∙◌, arith, inl, inr}
+use Rattle.std.specs.List.{IsDistinct, slice_set}
 use Rattle.std.specs.Map.{lookup, keys_of, values_of}
 use Rattle.std.specs.Option.{option_map_or}
-use Rattle.std.proofs.lemmas.List.{map-append, length-map}
+use Rattle.std.proofs.lemmas.List.{map-append}
+use Rattle.std.proofs.lemmas.List.Sums.{count_by-le-length}
 use Rattle.indexmap.specs.IndexMap.{set_value_at}
-use Rattle.ns_types.specs.declared.identity.DevEui.{DevEui}
 use Rattle.ns_types.specs.declared.identity.WindowName.{WindowName}
 use Rattle.ns_types.specs.declared.heard.Heard.{Heard}
 use Rattle.ns_types.specs.Identity.{same_window}
 use Rattle.ns_calls.specs.Queries.{first}
+use Rattle.ns_calls.specs.Entries.{most_copies}
+use Rattle.ns_calls.proofs.LocalLemmas.{bool_tells}
 use Rattle.ns_calls.proofs.NameLemmas.{same_window-refl}
 use Rattle.ns_windows.specs.declared.window.Window.{Window}
-use Rattle.ns_windows.specs.Windows.{is_named, is_of, window_named, window_of_frame, with_copy, with_copy_in, count, without, AreApart, AreOfFrames}
-use Rattle.ns_windows.specs.Places.{open_of, opened, window_at, leading, passes_at, AreNamed, Agree, count_in, Holds}
+use Rattle.ns_windows.specs.Windows.{is_named, is_of, window_named, window_of_frame, with_copy, with_copy_in, addition, added, count, without, AreApart, AreOfFrames}
+use Rattle.ns_windows.specs.Places.{open_of, opened, added_by, window_at, leading, passes_at, AreNamed, Agree, count_in, Holds}
 use Rattle.ns_windows.proofs.Passing.{none_found}
 use Rattle.ns_windows.proofs.Pairs.{NoTwo-filter}
 use Rattle.ns_windows.proofs.Names.{of_one_name, name-alike, apart-push, copied-apart, copy-name, keep_name, keep_frame}
 use Rattle.ns_windows.proofs.Frames.{of_one_frame, frame-alike, of_frames-push, of_frames-map}
-use Rattle.ns_windows.proofs.Opened.{open-push, passes-there, found-there, open-changed, open-taken}
+use Rattle.ns_windows.proofs.Opened.{open-push, open-length, passes-there, found-there, open-changed, open-taken}
 use Rattle.ns_windows.proofs.Placed.{Entries, AreOwn, leading-within, entries-length}
 use Rattle.ns_windows.proofs.Known.{name_of, found-passes, found-named, mapped, known-push, count-push, known-taken, count-taken, known-map, count-map}
 
@@ -59,6 +61,24 @@ value-at (d ∷ es) zero e at = by d (cc at)
     by : (x : WindowName × Option Window) → x ≡ e → Some x.1 ≡ Some e.1
     by x is = ap (λ (y : WindowName × Option Window). Some y.1) is
 value-at (d ∷ es) (suc i) e at = value-at es i e at
+
+-- what says the same of each device has the same numbers
+pub numbers-same : (old new : List (ℕ × ℕ)) → ((q : ℕ) → lookup (λ k. q == k) new ≡ lookup (λ k. q == k) old) → (k : ℕ) → count_in new k ≡ count_in old k
+numbers-same old new same k = ap (λ (o : Option ℕ). option_map_or (λ (n : ℕ). n) o 0) (same k)
+
+pub same-some : (v w : Window) → Some v ≡ Some w → v ≡ w
+same-some v w same = cc same
+
+pub opened-push : (es : Entries) (k : WindowName) (w : Window) → opened (es ++ (k, Some w) ∷ []) ≡ opened es ++ w ∷ []
+opened-push es k w = ap open_of (values-push es k (Some w)) ∙ open-push (values_of es) w
+
+pub added-is : (o : Option Window) → added_by (option_map addition o) ≡ added o
+added-is None = refl
+added-is (Some w) =
+    elim (bool_tells (nat_lt (length w.copies.items) most_copies)) [
+      | inl is ↦ rw is refl
+      | inr isnt ↦ rw isnt refl
+    ]
 
 -- ---- the first window
 
@@ -145,6 +165,18 @@ module _ (es : Entries) (place : ℕ) (table : List (List ℕ × WindowName)) (n
     counts = λ k. h.counts k ∙ ap (count (record { 0 = k })) (sym is);
   }
 
+  pub held-cleared : (fs gs : Entries) (p : ℕ) (new_table : List (List ℕ × WindowName)) (new_numbers : List (ℕ × ℕ)) → AreNamed fs → opened fs ≡ opened es → p ≡ leading (values_of fs)
+      → gs ≡ fs → new_table ≡ table → ((k : ℕ) → count_in new_numbers k ≡ count_in numbers k) → Holds gs p new_table new_numbers
+  held-cleared fs gs p new_table new_numbers named is start same_entries same_table same_numbers =
+      let held = held-same fs p named is start in
+      subst (λ t. Holds gs p t new_numbers) (sym same_table)
+      (subst (λ xs. Holds xs p table new_numbers) (sym same_entries) (record { agree = held.agree; first = held.first; counts = λ k. same_numbers k ∙ held.counts k }))
+
+  -- no number is greater than that of the places
+  pub numbers-fit : (fs : Entries) (new_numbers : List (ℕ × ℕ)) (k : ℕ) → opened fs ≡ opened es → length fs < 9223372036854775808 → ((j : ℕ) → count_in new_numbers j ≡ count_in numbers j) → count_in new_numbers k + 1 < 18446744073709551616
+  numbers-fit fs new_numbers k is fits same =
+      omega (arith, same k, h.counts k, count_by-le-length (λ (w : Window). w.name.eui.0 == k) (opened es), ap length is, open-length (values_of fs), entries-length fs, fits)
+
   -- with a window more
   pub held-pushed : (w : Window) (fs : Entries) (new_table : List (List ℕ × WindowName)) (new_numbers : List (ℕ × ℕ)) → window_named w.name (opened es) ≡ None → window_of_frame w.frame (opened es) ≡ None
       → AreNamed fs → fs ≡ es ++ (w.name, Some w) ∷ [] → ((q : List ℕ) → lookup (λ k. bytes_eq q k) new_table ≡ cond (bytes_eq w.frame q) (Some w.name) (lookup (λ k. bytes_eq q k) table))
@@ -212,8 +244,8 @@ module _ (es : Entries) (place : ℕ) (table : List (List ℕ × WindowName)) (n
           let there = named-there es table h.agree name i w at named in
           let gone : (k : ℕ) → count (record { 0 = k }) (opened fs) ≡ count (record { 0 = k }) (opened es) - cond (name.eui.0 == k) 1 0 =
           λ k. ap (count (record { 0 = k })) taken-open
-              ∙ omega (arith, count-taken (record { 0 = k }) name (opened es) w h.agree.apart_names there)
-              ∙ ap (λ (n : WindowName). count (record { 0 = k }) (opened es) - cond (n.eui.0 == k) 1 0) own in
+          ∙ omega (arith, count-taken (record { 0 = k }) name (opened es) w h.agree.apart_names there)
+          ∙ ap (λ (n : WindowName). count (record { 0 = k }) (opened es) - cond (n.eui.0 == k) 1 0) own in
           record {
             agree = record {
               named = record {

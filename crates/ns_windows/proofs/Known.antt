@@ -1,8 +1,7 @@
 -- What is known of windows by their frames and their devices, as one comes and goes.
-use Rattle.std.proofs.Common.{◌≡◌, ℕ, ◌+◌, ◌-◌, ◌==◌, Bool, true, false, not, cond, List, [], ◌∷◌, ◌++◌, filter, map, find, count_by, Option, None, Some, option_map, IfSome, bytes_eq, refl, sym, ap, subst, ◌∙◌, arith, inl, inr}
+use Rattle.std.proofs.Common.{◌≡◌, ℕ, ◌+◌, ◌==◌, Bool, true, false, cond, List, [], ◌∷◌, ◌++◌, map, find, Option, None, Some, option_map, IfSome, bytes_eq, refl, sym, ap, subst, ◌∙◌, arith, inl, inr}
 use Rattle.std.specs.List.{AllByRecursion}
-use Rattle.std.proofs.lemmas.Bool.{true≢false, false≢true}
-use Rattle.std.proofs.lemmas.Bool.Decides.{nat_tests}
+use Rattle.std.proofs.lemmas.Bool.{true≢false}
 use Rattle.std.proofs.lemmas.List.Sums.{sum_by-cons, sum_by-append}
 use Rattle.ns_types.specs.declared.identity.DevEui.{DevEui}
 use Rattle.ns_types.specs.declared.identity.WindowName.{WindowName}
@@ -13,7 +12,7 @@ use Rattle.ns_calls.proofs.NameLemmas.{same_window-refl}
 use Rattle.ns_windows.specs.declared.window.Window.{Window}
 use Rattle.ns_windows.specs.Windows.{is_named, is_of, window_named, window_of_frame, count, without, AreApart, AreOfFrames}
 use Rattle.ns_windows.proofs.Names.{apart-sym, none_else}
-use Rattle.ns_windows.proofs.Frames.{frame-is, frame-alike}
+use Rattle.ns_windows.proofs.Frames.{frame-is}
 use Rattle.ns_windows.proofs.Passing.{NonePasses, found_cases, none_found, filter-none}
 
 abbrev pub name_of : Window → WindowName
@@ -65,7 +64,7 @@ known-push q (v ∷ vs) w new =
     elim (bool_tells (is_of q v)) [
       | inl is ↦
           elim (bool_tells (bytes_eq w.frame q)) [
-            | inl too ↦ absurd (false≢true (sym (ap (λ f. bytes_eq v.frame f) (frame-is q w too) ∙ is) ∙ none.0))
+            | inl too ↦ absurd (true≢false (sym (ap (λ f. bytes_eq v.frame f) (frame-is q w too) ∙ is) ∙ none.0))
             | inr isnt ↦ rw (is, isnt) refl
           ]
       | inr isnt ↦ rw isnt (known-push q vs w (find-none (is_of w.frame) vs none.1))

@@ -1,5 +1,5 @@
 -- The windows at places, as one comes, changes and goes.
-use Rattle.std.proofs.Common.{◌≡◌, ℕ, zero, suc, ◌+◌, ◌<◌, ◌≤◌, Bool, drop, take, get_or, true, false, cond, List, [], ◌∷◌, ◌++◌, length, filter, find, map, replicate, option_to_list, Option, None, Some, is_some, refl, sym, ap, subst, ◌∙◌, arith, inl, inr}
+use Rattle.std.proofs.Common.{◌≡◌, ℕ, zero, suc, ◌<◌, ◌≤◌, Bool, take, get_or, true, false, cond, List, [], ◌∷◌, ◌++◌, length, filter, find, map, option_to_list, Option, None, Some, is_some, refl, sym, ap, subst, ◌∙◌, arith, inl, inr}
 use Rattle.std.specs.List.{AllByRecursion, slice_set}
 use Rattle.std.specs.Option.{option_map_or}
 use Rattle.std.proofs.lemmas.Bool.{true≢false}
@@ -9,7 +9,7 @@ use Rattle.ns_windows.specs.declared.window.Window.{Window}
 use Rattle.ns_windows.specs.Windows.{is_named, without, AreApart, NoTwo}
 use Rattle.ns_windows.specs.Places.{open_of, window_at, passes_at}
 use Rattle.ns_windows.proofs.Names.{none_else}
-use Rattle.ns_windows.proofs.Passing.{NonePasses, filter-none, map-none}
+use Rattle.ns_windows.proofs.Passing.{filter-none, map-none}
 
 -- ---- one place more
 

@@ -1,5 +1,5 @@
 -- Entries of windows by name.
-use Rattle.std.proofs.Common.{◌≡◌, ℕ, zero, suc, ◌+◌, ◌≤◌, ◌<◌, ◌==◌, ◌&&◌, Bool, true, false, cond, List, [], ◌∷◌, ◌++◌, length, filter, map, find, drop, slice_get, Option, None, Some, is_some, IfSome, IfNone, refl, sym, ap, subst, ◌∙◌, arith, inl, inr}
+use Rattle.std.proofs.Common.{◌≡◌, ℕ, zero, suc, ◌+◌, ◌≤◌, ◌<◌, ◌==◌, ◌&&◌, Bool, true, false, cond, List, [], ◌∷◌, length, filter, drop, slice_get, Option, None, Some, is_some, IfSome, refl, sym, ap, subst, ◌∙◌, arith, inl, inr}
 use Rattle.std.specs.List.{AllByRecursion, IsDistinct}
 use Rattle.std.specs.Map.{lookup, keys_of, values_of}
 use Rattle.std.specs.Option.{option_map_or}
@@ -12,10 +12,10 @@ use Rattle.ns_types.specs.Identity.{same_window}
 use Rattle.ns_types.specs.contracts.identity.WindowNamePartialEq.TheImpl as name_eq
 use Rattle.ns_calls.proofs.NameLemmas.{same_window-eq}
 use Rattle.ns_windows.specs.declared.window.Window.{Window}
-use Rattle.ns_windows.specs.Windows.{is_named, window_named}
-use Rattle.ns_windows.specs.Places.{open_of, opened, window_at, leading, count_in}
+use Rattle.ns_windows.specs.Windows.{is_named}
+use Rattle.ns_windows.specs.Places.{opened, window_at, leading, count_in}
 use Rattle.ns_windows.proofs.Names.{same_window-sym}
-use Rattle.ns_windows.proofs.Passing.{NonePasses, found_cases, none_found}
+use Rattle.ns_windows.proofs.Passing.{NonePasses, found_cases}
 
 abbrev pub Entries : Type 0
 Entries = List (WindowName × Option Window)

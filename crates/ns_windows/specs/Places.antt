@@ -9,6 +9,10 @@ use Rattle.ns_types.specs.Identity.{same_window}
 use Rattle.ns_windows.specs.declared.places.Sought.{Sought}
 use Rattle.ns_windows.specs.declared.places.Sought.TheVariants.{Name, Frame}
 use Rattle.ns_windows.specs.declared.window.Window.{Window}
+use Rattle.ns_windows.specs.declared.window.Addition.{Addition}
+use Rattle.ns_windows.specs.declared.window.Addition.TheVariants.{Copied, Crowded}
+use Rattle.ns_windows.specs.declared.window.Added.{Added}
+use Rattle.ns_windows.specs.declared.window.Added.TheVariants as to_name
 use Rattle.ns_windows.specs.Windows.{is_named, is_of, window_of_frame, count, AreApart, AreOfFrames}
 
 -- the windows that are open
@@ -29,6 +33,12 @@ abbrev pub leading : List (Option Window) → ℕ
 leading [] = 0
 leading (None ∷ ps) = suc (leading ps)
 leading (Some w ∷ ps) = 0
+
+-- what came of a copy for the window of a name, as it came of the copy for the window
+abbrev pub added_by : Option Addition → Added
+added_by None = to_name.NoWindow
+added_by (Some (Copied window place)) = to_name.Copied place
+added_by (Some (Crowded window)) = to_name.Crowded
 
 -- whether a window is the one that is sought
 abbrev pub passes : Sought → Window → Bool

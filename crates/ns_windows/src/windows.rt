@@ -9,7 +9,7 @@ use crate::frame_key::{FrameKey, LentFrame};
 use crate::places::{
     Frames, Names, Sought, add_at, clear, first_from, name_at, place_of, push, put_name, take_at,
 };
-use crate::window::{Added, Addition, BoxedWindow, Window};
+use crate::window::{Added, Addition, BoxedWindow, Window, added_by};
 use indexmap::IndexMap;
 use ns_calls::DataFrame;
 use ns_types::{DevEui, Heard, Key, WindowName};
@@ -121,11 +121,7 @@ impl Windows {
         let Some(place) = place_of(&self.names, self.first, &self.frames, Sought::Name(name)) else {
             return Added::NoWindow;
         };
-        match add_at(&mut self.names, place, heard) {
-            Some(Addition::Copied { place, .. }) => Added::Copied(place),
-            Some(Addition::Crowded { .. }) => Added::Crowded,
-            None => Added::NoWindow,
-        }
+        added_by(add_at(&mut self.names, place, heard))
     }
 
     /// Adds a copy to the window of a frame of equal bytes, where there is one, and where it has fewer than 16.

@@ -1,10 +1,9 @@
-use Rattle.std.proofs.Common.{◌≡◌, ℕ, Option, None, Some, IfNone, slice_get, is_some, Bool, true, false, sym, ap, subst, ◌∙◌}
+use Rattle.std.proofs.Common.{◌≡◌, ℕ, Option, None, Some, IfNone, slice_get, is_some, true, false, sym, subst, ◌∙◌}
 use Rattle.std.specs.Map.{lookup, values_of}
 use Rattle.std.proofs.lemmas.Bool.{true≢false}
 use Rattle.ns_types.specs.Identity.{same_window}
 use Rattle.ns_calls.proofs.Lists.{find-none}
-use Rattle.ns_windows.specs.declared.window.Window.{Window}
-use Rattle.ns_windows.specs.Windows.{is_named, window_named}
+use Rattle.ns_windows.specs.Windows.{is_named}
 use Rattle.ns_windows.specs.Places.{opened, window_at, passes_at}
 use Rattle.ns_windows.proofs.Placed.{names_eq, at-some, unknown-none, empty-none}
 use Rattle.ns_windows.proofs.places.place_known.Goals as goal

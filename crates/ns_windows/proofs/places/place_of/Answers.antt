@@ -1,6 +1,6 @@
-use Rattle.std.proofs.Common.{◌≡◌, ℕ, Option, None, Some, IfSome, IfNone, sym, ◌∙◌}
-use Rattle.ns_windows.specs.Windows.{is_of, window_of_frame}
-use Rattle.ns_windows.specs.Places.{opened, passes_at}
+use Rattle.std.proofs.Common.{ℕ, Option, None, Some, IfSome, IfNone, sym, ◌∙◌}
+use Rattle.ns_windows.specs.Windows.{window_of_frame}
+use Rattle.ns_windows.specs.Places.{opened}
 use Rattle.ns_windows.proofs.Known.{unmapped}
 use Rattle.ns_windows.proofs.Held.{framed-place, framed-somewhere}
 use Rattle.ns_windows.proofs.places.place_of.Goals as goal
@@ -27,15 +27,15 @@ returns-in_ok-name-in-Frame-clause-found c =
     let frame = c.in-Frame.frame.now in
     let name = c.in_ok-name-in-Frame.name.now in
     rw c.in-Frame.is
-        (some_map c.place_known-in-Frame.result
-        (λ place is. framed-place c.args.names.now.entries c.args.frames.now.entries c.requires frame name (sym c.in_ok-name-in-Frame.ensures.value) place is)
-        c.place_known-in-Frame.ensures.found)
+    (some_map c.place_known-in-Frame.result
+    (λ place is. framed-place c.args.names.now.entries c.args.frames.now.entries c.requires frame name (sym c.in_ok-name-in-Frame.ensures.value) place is)
+    c.place_known-in-Frame.ensures.found)
 
 pub returns-in_ok-name-in-Frame-clause-none : goal.returns-in_ok-name-in-Frame-clause-none
 returns-in_ok-name-in-Frame-clause-none c =
     let frame = c.in-Frame.frame.now in
     let name = c.in_ok-name-in-Frame.name.now in
     rw c.in-Frame.is
-        (none_map c.place_known-in-Frame.result
-        (λ none. absurd (framed-somewhere c.args.names.now.entries c.args.frames.now.entries c.requires frame name (sym c.in_ok-name-in-Frame.ensures.value) none))
-        c.place_known-in-Frame.ensures.none)
+    (none_map c.place_known-in-Frame.result
+    (λ none. absurd (framed-somewhere c.args.names.now.entries c.args.frames.now.entries c.requires frame name (sym c.in_ok-name-in-Frame.ensures.value) none))
+    c.place_known-in-Frame.ensures.none)

@@ -1,8 +1,6 @@
 use Rattle.std.proofs.Common.{◌≡◌, ◌+◌, suc, ◌++◌, map, take, option_to_list, sym, ap, arith, ◌∙◌}
 use Rattle.std.proofs.lemmas.List.{map-append, take_all}
 use Rattle.std.specs.Map.{values_of}
-use Rattle.ns_types.specs.declared.identity.WindowName.{WindowName}
-use Rattle.ns_windows.specs.declared.window.Window.{Window}
 use Rattle.ns_windows.specs.Places.{open_of}
 use Rattle.ns_windows.proofs.Placed.{entries-length}
 use Rattle.ns_windows.proofs.Known.{name_of}
