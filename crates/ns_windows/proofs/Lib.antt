@@ -1,10 +1,8 @@
 pub mod Passing
 pub mod Pairs
 pub mod Names
-pub mod Counted
 pub mod Frames
 pub mod Opened
-pub mod Spots
-pub mod OpenSpots
-pub mod Sought
-pub mod Standing
+pub mod Placed
+pub mod Known
+pub mod Held

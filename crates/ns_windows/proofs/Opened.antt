@@ -1,5 +1,5 @@
 -- The windows at places, as one comes, changes and goes.
-use Rattle.std.proofs.Common.{◌≡◌, ℕ, zero, suc, ◌+◌, ◌<◌, ◌≤◌, Bool, drop, take, get_or, true, false, cond, List, [], ◌∷◌, ◌++◌, length, filter, find, map, replicate, option_to_list, Option, None, Some, is_some, refl, sym, ap, subst, ◌∙◌, arith, inl, inr}
+use Rattle.std.proofs.Common.{◌≡◌, ℕ, zero, suc, ◌<◌, ◌≤◌, Bool, take, get_or, true, false, cond, List, [], ◌∷◌, ◌++◌, length, filter, find, map, option_to_list, Option, None, Some, is_some, refl, sym, ap, subst, ◌∙◌, arith, inl, inr}
 use Rattle.std.specs.List.{AllByRecursion, slice_set}
 use Rattle.std.specs.Option.{option_map_or}
 use Rattle.std.proofs.lemmas.Bool.{true≢false}
@@ -7,9 +7,9 @@ use Rattle.ns_types.specs.declared.identity.WindowName.{WindowName}
 use Rattle.ns_calls.proofs.LocalLemmas.{bool_tells}
 use Rattle.ns_windows.specs.declared.window.Window.{Window}
 use Rattle.ns_windows.specs.Windows.{is_named, without, AreApart, NoTwo}
-use Rattle.ns_windows.specs.Places.{open_of, window_at, passes_at, StartsOpen, Leaves}
+use Rattle.ns_windows.specs.Places.{open_of, window_at, passes_at}
 use Rattle.ns_windows.proofs.Names.{none_else}
-use Rattle.ns_windows.proofs.Passing.{NonePasses, filter-none, map-none}
+use Rattle.ns_windows.proofs.Passing.{filter-none, map-none}
 
 -- ---- one place more
 
@@ -17,11 +17,6 @@ pub open-push : (ps : List (Option Window)) (w : Window) → open_of (ps ++ Some
 open-push [] w = refl
 open-push (None ∷ ps) w = open-push ps w
 open-push (Some v ∷ ps) w = ap (λ ws. v ∷ ws) (open-push ps w)
-
-pub starts-push : (ps : List (Option Window)) (w : Window) → StartsOpen ps → StartsOpen (ps ++ Some w ∷ [])
-starts-push [] w starts = tt
-starts-push (None ∷ ps) w starts = starts
-starts-push (Some v ∷ ps) w starts = tt
 
 -- ---- the window at a place
 
@@ -65,12 +60,6 @@ found-there test alike same (Some v ∷ ps) (suc i) w at is apart =
       | inr isnt ↦ rw isnt (found-there test alike same ps i w at is apart.1)
     ]
 
--- where no window at a place passes, none does
-pub none-at : (test : Window → Bool) (ps : List (Option Window)) → ((i : ℕ) (w : Window) → window_at ps i ≡ Some w → test w ≡ false) → NonePasses test (open_of ps)
-none-at test [] none = tt
-none-at test (None ∷ ps) none = none-at test ps (λ i w at. none (suc i) w at)
-none-at test (Some v ∷ ps) none = (none 0 v refl, none-at test ps (λ i w at. none (suc i) w at))
-
 -- ---- a change of the window of a name, which is at a place
 
 -- a window before it has another name
@@ -94,12 +83,6 @@ open-changed name f (Some v ∷ ps) zero w at is apart =
 open-changed name f (Some v ∷ ps) (suc i) w at is apart =
     rw (other-named name v ps i w at is apart.0) (ap (λ ws. v ∷ ws) (open-changed name f ps i w at is apart.1))
 
-pub starts-changed : (ps : List (Option Window)) (i : ℕ) (w : Window) → StartsOpen ps → StartsOpen (slice_set ps i (Some w))
-starts-changed [] i w starts = tt
-starts-changed (None ∷ ps) i w starts = absurd starts
-starts-changed (Some v ∷ ps) zero w starts = tt
-starts-changed (Some v ∷ ps) (suc i) w starts = tt
-
 -- ---- a window less
 
 pub open-taken : (name : WindowName) (ps : List (Option Window)) (i : ℕ) (w : Window) → window_at ps i ≡ Some w → is_named name w ≡ true → AreApart (open_of ps)
@@ -114,53 +97,6 @@ open-taken name (Some v ∷ ps) zero w at is apart =
 open-taken name (Some v ∷ ps) (suc i) w at is apart =
     rw (other-named name v ps i w at is apart.0) (ap (λ ws. v ∷ ws) (open-taken name ps i w at is apart.1))
 
--- ---- empty places
-
-pub open-left : (e : ℕ) (ps : List (Option Window)) → open_of (replicate e None ++ ps) ≡ open_of ps
-open-left zero ps = refl
-open-left (suc e) ps = open-left e ps
-
--- so many empty places were left out so far
-abbrev pub Left : ℕ → List (Option Window) → ℕ → List (Option Window) → Type 0
-Left n before m after = (e : ℕ) × (before ≡ replicate e None ++ after) × (m ≡ n + e)
-
-empty-more : (e : ℕ) (ps : List (Option Window)) → replicate e None ++ None ∷ ps ≡ replicate (suc e) None ++ ps
-empty-more zero ps = refl
-empty-more (suc e) ps = ap (λ os. None ∷ os) (empty-more e ps)
-
--- one more is left out
-pub left-more : (n : ℕ) (before : List (Option Window)) (m : ℕ) (after rest : List (Option Window)) → Left n before m after → after ≡ None ∷ rest → Left n before (m + 1) rest
-left-more n before m after rest left at =
-    (suc left.0, left.1 ∙ ap (λ ps. replicate left.0 None ++ ps) at ∙ empty-more left.0 rest, omega (arith, left.2))
-
--- the first place is empty
-pub starts-empty : (ps : List (Option Window)) (o : Option Window) → 0 < length ps → o ≡ get_or ps 0 o → is_some o ≡ false → ps ≡ None ∷ drop 1 ps
-starts-empty [] o some at none = absurd (omega (arith, some))
-starts-empty (None ∷ ps) o some at none = refl
-starts-empty (Some w ∷ ps) o some at none = absurd (true≢false (sym (ap is_some at) ∙ none))
-
--- it is not
-pub starts-some : (ps : List (Option Window)) (w : Window) → 0 < length ps → Some w ≡ get_or ps 0 (Some w) → StartsOpen ps
-starts-some [] w some at = absurd (omega (arith, some))
-starts-some (None ∷ ps) w some at = absurd (cc at)
-starts-some (Some v ∷ ps) w some at = tt
-
--- there is none
-pub starts-none : (ps : List (Option Window)) → length ps ≡ 0 → StartsOpen ps
-starts-none [] none = tt
-starts-none (p ∷ ps) none = absurd (omega (arith, none))
-
-pub length-left : (e : ℕ) (ps : List (Option Window)) → length (replicate e None ++ ps) ≡ e + length ps
-length-left zero ps = omega arith
-length-left (suc e) ps = omega (arith, length-left e ps)
-
--- the number behind the last place stays
-pub left-end : (n : ℕ) (before : List (Option Window)) (m : ℕ) (after : List (Option Window)) → Left n before m after → n + length before ≡ m + length after
-left-end n before m after left = omega (arith, ap length left.1, length-left left.0 after, left.2)
-
-pub leaves : (n : ℕ) (before : List (Option Window)) (m : ℕ) (after : List (Option Window)) → Left n before m after → StartsOpen after → Leaves n before m after
-leaves n before m after left starts = record { empty = left.0; places = left.1; number = left.2; starts = starts }
-
 -- without the empty places
 pub filled-is : (ps : List (Option Window)) → filter is_some ps ≡ map Some (open_of ps)
 filled-is [] = refl
@@ -170,10 +106,6 @@ filled-is (Some w ∷ ps) = ap (λ os. Some w ∷ os) (filled-is ps)
 pub open-filled : (ws : List Window) → open_of (map Some ws) ≡ ws
 open-filled [] = refl
 open-filled (w ∷ ws) = ap (λ vs. w ∷ vs) (open-filled ws)
-
-pub starts-filled : (ws : List Window) → StartsOpen (map Some ws)
-starts-filled [] = tt
-starts-filled (w ∷ ws) = tt
 
 pub open-length : (ps : List (Option Window)) → length (open_of ps) ≤ length ps
 open-length [] = omega arith

@@ -3,12 +3,12 @@
 //! A window is open from the first copy of an uplink until it is closed, and gathers the copies that other gateways heard. It holds
 //! the keys of its session, since the session can end before the window closes. The crate promises that `Windows` is a list of
 //! windows: what is found, counted, added and taken is what a list says. It stands on `ns_types`, `ns_views` and
-//! `ns_calls`, and on `ns_rows` for where the windows of a device and of an address are.
+//! `ns_calls`, and holds the windows in two maps: by name in the order of their opening, and by frame.
 #![tactic(auto)]
 
-mod index;
+mod counts;
+mod frame_key;
 mod places;
-mod rows;
 mod window;
 mod windows;
 

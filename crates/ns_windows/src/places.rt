@@ -1,21 +1,23 @@
-//! Windows at places in a queue, in the order of their opening.
+//! Windows by name, each at a place, in the order of their opening.
 
-ghost use Rattle.std.specs.Prelude.{◌≡◌, true, false, ◌<◌, ◌+◌, ◌^◌, ◌++◌, None, find, length, map, option_map, option_to_list, filter, is_some, IfSome, IfNone, OnOk};
-ghost use Rattle.std.specs.Option.{option_map_or};
-ghost use Rattle.std.specs.VecDeque.{deque_capacity};
-ghost use Rattle.ns_windows.specs.Windows.{with_copy, addition, is_of};
-ghost use Rattle.ns_windows.specs.Places.{window_at, is_open_at, open_of, passes, passes_at, places_with_copy, places_without, is_sparse, Leaves};
-ghost use Rattle.ns_windows.specs.Rows.{NoneIsThere};
+ghost use Rattle.std.specs.Prelude.{◌≡◌, true, false, ◌<◌, ◌≤◌, ◌+◌, ◌^◌, ◌++◌, ◌∷◌, [], None, Some, find, drop, length, map, option_map, option_to_list, is_some, IfSome, IfNone, OnOk};
+ghost use Rattle.std.specs.HashMap.{spare, get, values};
+ghost use Rattle.indexmap.specs.IndexMap.{set_value_at};
+ghost use Rattle.ns_types.specs.Identity.{same_window};
+ghost use Rattle.ns_windows.specs.Windows.{with_copy, addition, is_named, window_named, window_of_frame};
+ghost use Rattle.ns_windows.specs.Places.{window_at, open_of, opened, leading, passes, passes_at, AreNamed, Agree};
 
-use crate::rows::Spot;
+use crate::frame_key::{FrameKey, LentFrame};
 use crate::window::{Addition, BoxedWindow, Window};
-use ns_calls::DataFrame;
+use indexmap::IndexMap;
 use ns_types::{Heard, WindowName};
 use std::alloc::AllocError;
-use std::collections::VecDeque;
 
-/// Windows in the order of their opening, each at a place. A window that was closed leaves its place empty.
-pub(crate) type Places = VecDeque<Option<BoxedWindow>>;
+/// The windows by name, in the order of their opening, each at a place. A window that was closed leaves its place empty.
+pub(crate) type Names = IndexMap<WindowName, Option<BoxedWindow>>;
+
+/// The name of the open window of each frame.
+pub(crate) type Frames = IndexMap<FrameKey, WindowName>;
 
 // With fewer places the empty ones stay, however few windows are open.
 const FEW: usize = 64;
@@ -24,7 +26,7 @@ const FEW: usize = 64;
 #[derive(Clone, Copy)]
 pub(crate) enum Sought<'a> {
     Name(&'a WindowName),
-    Frame(&'a DataFrame),
+    Frame(&'a [u8]),
 }
 
 // Whether a window is the one that is sought.
@@ -33,73 +35,79 @@ fn is_sought(sought: Sought, window: &Window) -> bool
 {
     match sought {
         Sought::Name(name) => window.name == *name,
-        Sought::Frame(frame) => window.frame.bytes() == frame.bytes(),
+        Sought::Frame(frame) => window.frame.bytes() == frame,
     }
 }
 
-/// Whether the place of a number has a window, where the first place has that one.
-pub(crate) fn is_open_at(places: &Places, first: usize, number: u32) -> bool
-    ensures { result ≡ is_open_at first places.now.items number }
+// Whether the window that is sought is at a place.
+fn is_at(names: &Names, place: usize, sought: Sought) -> bool
+    ensures { result ≡ passes_at (passes sought.entry) place (values names.now) }
 {
-    let number = number as usize;
-    number >= first && matches!(places.get(number - first), Some(Some(_)))
-}
-
-/// Whether the window that is sought is at a place.
-pub(crate) fn is_at(places: &Places, place: usize, sought: Sought) -> bool
-    ensures { result ≡ passes_at (passes sought.entry) place places.now.items }
-{
-    let Some(Some(window)) = places.get(place) else {
+    let Some((_, Some(window))) = names.get_index(place) else {
         return false;
     };
     is_sought(sought, window.as_ref())
 }
 
-// Whether the window at a place, if there is one, has a frame of these bytes.
-fn has_frame(place: &Option<BoxedWindow>, frame: &[u8]) -> bool
-    ensures { result ≡ option_map_or (is_of frame.now) place.now false }
+/// The name of the window at a place.
+pub(crate) fn name_at(names: &Names, place: usize) -> Option<WindowName>
+    ensures { result ≡ option_map (λ w. w.name) (window_at (values names.now) place) }
 {
-    match place {
-        Some(window) => window.as_ref().frame.bytes() == frame,
-        None => false,
-    }
+    let Some((_, Some(window))) = names.get_index(place) else {
+        return None;
+    };
+    Some(window.as_ref().name)
 }
 
-/// The place of the window of a frame of these bytes.
-pub(crate) fn place_of_frame(places: &Places, frame: &[u8]) -> Option<usize>
-    ensures found { IfSome result (λ place. passes_at (is_of frame.now) place places.now.items ≡ true) }
-    ensures none { IfNone result (find (is_of frame.now) (open_of places.now.items) ≡ None) }
+// Whether a window is at a place.
+fn is_open_at(names: &Names, place: usize) -> bool
+    ensures { result ≡ is_some (window_at (values names.now) place) }
 {
-    for at in 0..places.len() {
-        let Some(place) = places.get(at) else {
-            unreachable!()
-        };
-        if has_frame(place, frame) {
-            return Some(at);
-        }
-    }
-    None
+    matches!(names.get_index(place), Some((_, Some(_))))
 }
 
-/// The place of the window that is sought, where the first place has this number and the window has this mark, if it is at one of these
-/// spots.
+// The place of the window of a name, where it is known at all.
+fn place_known(names: &Names, name: &WindowName) -> Option<usize>
+    requires { AreNamed names.now.entries }
+    ensures found { IfSome result (λ place. passes_at (is_named name.now) place (values names.now) ≡ true) }
+    ensures none { IfNone result (window_named name.now (opened names.now.entries) ≡ None) }
+{
+    let place = names.get_index_of(name)?;
+    if !is_at(names, place, Sought::Name(name)) {
+        return None;
+    }
+    Some(place)
+}
+
+/// The place of the window that is sought, of which the first window is at this one.
 pub(crate) fn place_of(
-    places: &Places,
+    names: &Names,
     first: usize,
-    spots: &[Spot],
-    mark: u32,
+    frames: &Frames,
     sought: Sought,
 ) -> Option<usize>
-    ensures found { IfSome result (λ place. passes_at (passes sought.entry) place places.now.items ≡ true) }
-    ensures none { IfNone result (NoneIsThere (passes sought.entry) first mark places.now.items spots.now) }
+    requires { Agree names.now.entries frames.now.entries }
+    ensures found { IfSome result (λ place. passes_at (passes sought.entry) place (values names.now) ≡ true) }
+    ensures none { IfNone result (find (passes sought.entry) (opened names.now.entries) ≡ None) }
 {
-    for spot in spots {
-        let place = (spot.number as usize).saturating_sub(first);
-        if spot.mark == mark && is_at(places, place, sought) {
-            return Some(place);
+    match sought {
+        Sought::Name(name) => {
+            // Windows are mostly closed in the order of their opening.
+            if is_at(names, first, sought) {
+                return Some(first);
+            }
+            place_known(names, name)
+        }
+        Sought::Frame(frame) => {
+            // A copy mostly comes right behind the first one.
+            let last = names.len().saturating_sub(1);
+            if is_at(names, last, sought) {
+                return Some(last);
+            }
+            let name = frames.get(LentFrame(frame))?;
+            place_known(names, name)
         }
     }
-    None
 }
 
 // Adds a copy to the window that stands here.
@@ -114,19 +122,19 @@ fn add_here(place: &mut Option<BoxedWindow>, heard: &Heard) -> Option<Addition>
 }
 
 /// Adds a copy to the window at a place, where it has fewer than 16.
-pub(crate) fn add_at(places: &mut Places, place: usize, heard: &Heard) -> Option<Addition>
-    ensures result { result ≡ option_map addition (window_at places.old.items place) }
-    ensures places { places.new.items ≡ places_with_copy place heard.now places.old.items }
+pub(crate) fn add_at(names: &mut Names, place: usize, heard: &Heard) -> Option<Addition>
+    ensures result { result ≡ option_map addition (window_at (values names.old) place) }
+    ensures entries { names.new.entries ≡ set_value_at names.old.entries place (option_map (with_copy heard.now) (window_at (values names.old) place)) }
 {
-    add_here(places.get_mut(place)?, heard)
+    add_here(names.get_index_mut(place)?, heard)
 }
 
 /// Takes the window at a place out, which is empty then.
-pub(crate) fn take_at(places: &mut Places, place: usize) -> Option<BoxedWindow>
-    ensures result { result ≡ window_at places.old.items place }
-    ensures places { places.new.items ≡ places_without place places.old.items }
+pub(crate) fn take_at(names: &mut Names, place: usize) -> Option<BoxedWindow>
+    ensures result { result ≡ window_at (values names.old) place }
+    ensures entries { names.new.entries ≡ set_value_at names.old.entries place None }
 {
-    let Some(window) = places.get_mut(place) else {
+    let Some(window) = names.get_index_mut(place) else {
         return None;
     };
     window.take()
@@ -146,40 +154,72 @@ pub(crate) fn put_name(
     Ok(())
 }
 
-/// Removes the empty places before the first window.
-pub(crate) fn remove_leading_empty(places: &mut Places, first: &mut usize)
-    requires { first.old + length places.old.items < 2 ^ 64 }
-    ensures { Leaves first.old places.old.items first.new places.new.items }
+/// The place of the first window from a place on, or else that behind the last.
+pub(crate) fn first_from(names: &Names, from: usize) -> usize
+    requires { from ≤ length names.now.entries }
+    ensures { result ≡ from + leading (drop from (values names.now)) }
 {
-    while let Some(place) = places.front() {
-        if place.is_some() {
-            return;
+    for at in from..names.len() {
+        if is_open_at(names, at) {
+            return at;
         }
-        places.pop_front();
-        *first += 1;
     }
+    names.len()
 }
 
-/// Removes all empty places.
-pub(crate) fn remove_empty(places: &mut Places)
-    ensures { places.new.items ≡ filter is_some places.old.items }
+// Removes all empty places.
+fn remove_empty(names: &mut Names)
+    requires { AreNamed names.old.entries }
+    ensures named { AreNamed names.new.entries }
+    ensures windows { opened names.new.entries ≡ opened names.old.entries }
+    ensures first { leading (values names.new) ≡ 0 }
+    ensures fewer { length names.new.entries ≤ length names.old.entries }
+    ensures absent { (name : _) → window_named name (opened names.old.entries) ≡ None → get same_window names.new name ≡ None }
 {
-    places.retain(|place| place.is_some());
+    names.retain(|_, window| window.is_some());
 }
 
-/// Whether the room is full, with 64 places or more, and fewer than half of them have a window.
-pub(crate) fn is_sparse(places: &Places) -> bool
-    ensures { result ≡ is_sparse (deque_capacity places.now) places.now.items }
+// Whether the room is full, with 64 places or more, and fewer than half of them have a window.
+fn is_sparse(names: &Names) -> bool
+    ensures { length names.now.entries < 2 ^ 63 }
 {
-    if places.len() < FEW || places.len() < places.capacity() {
+    if names.len() < FEW || names.len() < names.capacity() {
         return false;
     }
     let mut windows = 0;
-    for at in 0..places.len() {
-        let Some(place) = places.get(at) else {
-            unreachable!()
-        };
-        windows += usize::from(place.is_some());
+    for at in 0..names.len() {
+        windows += usize::from(is_open_at(names, at));
     }
-    windows < places.len() / 2
+    windows < names.len() / 2
+}
+
+/// Removes the empty places where the room is full of them, or where one is of this name. The place of the first window.
+pub(crate) fn clear(names: &mut Names, first: usize, name: &WindowName) -> usize
+    requires named { AreNamed names.old.entries }
+    requires first { first ≡ leading (values names.old) }
+    ensures named { AreNamed names.new.entries }
+    ensures first { result ≡ leading (values names.new) }
+    ensures windows { opened names.new.entries ≡ opened names.old.entries }
+    ensures absent { window_named name.now (opened names.old.entries) ≡ None → get same_window names.new name.now ≡ None }
+    ensures fits { length names.new.entries < 2 ^ 63 }
+{
+    if !is_sparse(names) && !names.contains_key(name) {
+        return first;
+    }
+    remove_empty(names);
+    0
+}
+
+/// Adds a window behind the others. It takes no memory.
+pub(crate) fn push(names: &mut Names, window: BoxedWindow)
+    requires room { 0 < spare names.old }
+    requires absent { get same_window names.old window.name ≡ None }
+    requires named { AreNamed names.old.entries }
+    ensures entries { names.new.entries ≡ names.old.entries ++ (window.name, Some window) ∷ [] }
+    ensures named { AreNamed names.new.entries }
+{
+    let name = window.as_ref().name;
+    let Ok(_) = names.insert(name, Some(window)) else {
+        unreachable!()
+    };
 }

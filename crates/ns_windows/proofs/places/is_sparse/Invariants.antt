@@ -1,7 +1,6 @@
-use Rattle.std.proofs.Common.{◌≡◌, length, take}
-use Rattle.ns_windows.specs.Places.{open_of}
+use Rattle.std.proofs.Common.{◌≤◌}
 use Rattle.ns_windows.proofs.places.is_sparse.Given as goal
 
--- so many windows are at the places so far
+-- no more windows than places so far
 abbrev pub invariant-loop-at : goal.invariant-loop-at
-invariant-loop-at l = l.windows ≡ length (open_of (take l.at l.places.items))
+invariant-loop-at l = l.windows ≤ l.at
