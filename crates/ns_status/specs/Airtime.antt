@@ -1,5 +1,5 @@
 -- How long downlinks are on air, in microseconds (Semtech AN1200.13 for LoRa; RP002 for the data rates of EU868).
-use Rattle.std.specs.Prelude.{ℕ, ◌+◌, ◌-◌, ◌*◌, ◌/◌, ◌%◌, ◌^◌, ◌^◌, ◌==◌, min, nat_lt, List, [], ◌∷◌, set, get_or, if◌then◌else◌}
+use Rattle.std.specs.Prelude.{ℕ, ◌+◌, ◌-◌, ◌*◌, ◌/◌, ◌%◌, ◌^◌, ◌==◌, min, nat_lt, List, [], ◌∷◌, set, get_or, if◌then◌else◌}
 use Rattle.std.specs.Int.{div_ceil}
 use Rattle.ns_status.specs.declared.airtime.Slot.{Slot}
 

@@ -86,7 +86,7 @@ unfoldable pub by_gateway_text : List ℕ → List ℕ → Kind → List (Gatewa
 by_gateway_text name help kind samples = family_text name help kind ++ gateway_texts name samples
 
 -- the name of a metric with the label of a gateway, and samples by gateways that are numbers of milliseconds
-unfoldable pub gateway_name : List ℕ → GatewayId → List ℕ
+abbrev pub gateway_name : List ℕ → GatewayId → List ℕ
 gateway_name name gateway = name ++ codes "{gateway=\"" ++ hex_number 8 gateway.0 ++ codes "\"}"
 
 abbrev pub timed_gateway_texts : List ℕ → List (GatewayId × ℕ) → List ℕ

@@ -1,6 +1,4 @@
-use Rattle.ns_status.specs.Metrics.{gateway_name}
 use Rattle.ns_status.proofs.metrics.name_of.Goals as goal
 
 pub returns : goal.returns
-unfolding gateway_name
 returns c = rw (c.as_str.ensures.value, c.in_ok-eui.ensures.text, c.in_ok-text.ensures.ok) at c.in_ok-put_parts.ensures
