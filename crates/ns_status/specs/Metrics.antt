@@ -87,7 +87,7 @@ by_gateway_text name help kind samples = family_text name help kind ++ gateway_t
 
 -- the name of a metric with the label of a gateway, and samples by gateways that are numbers of milliseconds
 abbrev pub gateway_name : List ℕ → GatewayId → List ℕ
-gateway_name name gateway = name ++ codes "{gateway=\"" ++ hex_number 8 gateway.0 ++ codes "\"}"
+gateway_name name gateway = name ++ (codes "{gateway=\"" ++ (hex_number 8 gateway.0 ++ codes "\"}"))
 
 abbrev pub timed_gateway_texts : List ℕ → List (GatewayId × ℕ) → List ℕ
 timed_gateway_texts name [] = []
