@@ -76,7 +76,7 @@ impl Own {
         requires { IsNewCounter (session_in self.old.state session) fcnt }
         ensures { self.new ≡ with_state (with_uplink session fcnt) self.old }
     {
-        self.state.open(session, fcnt);
+        self.state.take(session, fcnt);
     }
 
     /// Opens the uplink with the greatest counter of a session again, in this round.

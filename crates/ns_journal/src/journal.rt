@@ -85,8 +85,20 @@ impl Journal {
     }
 
     /// Adds the entry of a call and its reply, and answers its number. It takes no memory.
+    pub fn push(&mut self, call: Call, reply: Reply) -> u64
+        requires { self.old.reserved < self.old.room }
+        ensures number { result ≡ self.old.made }
+        ensures made { self.new.made ≡ self.old.made + 1 }
+        ensures entries { self.new.entries ≡ self.old.entries ++ next_entry self.old call reply ∷ [] }
+        ensures reserved { self.new.reserved ≡ self.old.reserved }
+        ensures room { self.old.room ≤ self.new.room + 1 }
+    {
+        self.push_lent(&call, reply)
+    }
+
+    /// What `push` does with a lent call, of which no more is copied than the entry needs.
     #[inline(always)]
-    pub fn push(&mut self, call: &Call, reply: Reply) -> u64
+    pub fn push_lent(&mut self, call: &Call, reply: Reply) -> u64
         requires { self.old.reserved < self.old.room }
         ensures number { result ≡ self.old.made }
         ensures made { self.new.made ≡ self.old.made + 1 }
@@ -100,7 +112,7 @@ impl Journal {
         number
     }
 
-    /// Adds an entry, and reserves room for one more. It takes no memory.
+    /// Adds the entry of a lent call, and reserves room for one more. It takes no memory.
     #[inline(always)]
     pub fn push_reserving(&mut self, call: &Call, reply: Reply) -> u64
         requires { self.old.reserved + 2 ≤ self.old.room }
@@ -111,10 +123,10 @@ impl Journal {
         ensures room { self.old.room ≤ self.new.room + 1 }
     {
         self.reserved += 1;
-        self.push(call, reply)
+        self.push_lent(call, reply)
     }
 
-    /// Adds an entry in the room of a reserved one. It takes no memory, and no other room is made before.
+    /// Adds the entry of a lent call in the room of a reserved one. It takes no memory, and no other room is made before.
     #[inline(always)]
     pub fn push_reserved(&mut self, call: &Call, reply: Reply) -> u64
         requires { 0 < self.old.reserved }
@@ -125,7 +137,7 @@ impl Journal {
         ensures room { self.old.room ≤ self.new.room + 1 }
     {
         self.reserved -= 1;
-        self.push(call, reply)
+        self.push_lent(call, reply)
     }
 
     /// Cuts entries out: those of these numbers stay, and the others are handed out, in order. The reserved room stays. Where the growth

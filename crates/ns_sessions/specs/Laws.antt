@@ -50,7 +50,7 @@ pub record OthersStay : Type 0 where
 
 -- ---- uplinks
 
--- A frame fits where the plain server says, and an uplink that is opened changes the state as `open` does. A counter of a live session has
+-- A frame fits where the plain server says, and an uplink that is opened changes the state as `take` does. A counter of a live session has
 -- the next round that the plain server says, and an uplink that is opened again changes the state as `open_again` does.
 pub record UplinksAgree (net : Network) (h : List Entry) : Type 0 where
   pub fits : (recover : Option ℕ → ℕ → Option ℕ) (frame : List ℕ) (eui : DevEui) →

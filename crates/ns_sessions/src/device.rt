@@ -3,7 +3,7 @@
 ghost use Rattle.std.specs.Prelude.{◌≡◌, ◌<◌, IfSome, IfNone, option_map, is_some};
 ghost use Rattle.std.specs.List.{list_any};
 ghost use Rattle.ns_types.specs.Ticket.{nonce};
-ghost use Rattle.ns_secure.specs.Counter.{Exceeds};
+ghost use Rattle.ns_secure.specs.Counter.{Exceeds, above, below};
 ghost use Rattle.ns_calls.specs.History.{same_ticket};
 ghost use Rattle.ns_sessions.specs.declared.recovery.Recovery.TheVariants.{Above};
 ghost use Rattle.ns_sessions.specs.Recovery.{recovery_counter};
@@ -106,8 +106,9 @@ impl DeviceState {
         }
     }
 
-    /// Opens an uplink in a session: the session before it, if any, ends.
-    pub fn open(&mut self, session: u32, fcnt: u32)
+    /// Takes the counter of an uplink that is opened in a live session. The counter is above the session's greatest one. The session before it, if
+    /// any, ends.
+    pub fn take(&mut self, session: u32, fcnt: u32)
         requires { IsNewCounter (session_in self.old session) fcnt }
         ensures { self.new ≡ with_uplink session fcnt self.old }
     {
@@ -233,7 +234,23 @@ impl DeviceState {
         number
     }
 
-    /// The first live session in which the frame's MIC fits at the counter that is recovered, and that counter.
+    /// A new uplink: the first live session in which the frame's MIC fits at the least counter above the session's greatest, and that counter.
+    pub fn fresh(&self, view: &DataView) -> Option<(u32, u32)>
+        ensures is { result ≡ device_fit above view.now self.now }
+        ensures new { IfSome result (λ w. IsNewCounter (session_in self.now w.0) w.1) }
+    {
+        self.fit(Recovery::Above, view)
+    }
+
+    /// An uplink that was opened already: the first live session in which the frame's MIC fits at the greatest counter of at most the
+    /// session's greatest, and that counter.
+    pub fn stale(&self, view: &DataView) -> Option<(u32, u32)>
+        ensures { result ≡ device_fit below view.now self.now }
+    {
+        self.fit(Recovery::Below, view)
+    }
+
+    /// What `fresh` answers, or what `stale` does, by how the counter is recovered.
     pub fn fit(&self, recovery: Recovery, view: &DataView) -> Option<(u32, u32)>
         ensures is { result ≡ device_fit (recovery_counter recovery) view.now self.now }
         ensures new { recovery ≡ Above → IfSome result (λ w. IsNewCounter (session_in self.now w.0) w.1) }

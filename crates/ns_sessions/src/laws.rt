@@ -11,7 +11,7 @@ pub fn others_stay()
     ensures { OthersStay }
 {}
 
-/// A frame fits where the plain server says, and `open` leaves what the history with the opening says.
+/// `fresh` and `stale` say where the plain server finds that a frame fits the device, and `take` leaves what the history with the opening says.
 pub fn uplinks_agree()
     ensures { (net : Network) (h : List Entry) → UplinksAgree net h }
 {}

@@ -30,11 +30,22 @@ fn lend(lain: &Lain) -> LentUplink<'_>
     }
 }
 
-// What goes out with a reply.
+/// What goes out with a reply.
 #[derive(Drop)]
-struct Sent {
+pub(crate) struct Sent {
     uplink: Option<Lain>,
     downlink: Option<Downlink>,
+}
+
+impl Sent {
+    /// Memory for what goes out, with nothing in it yet. It is taken before a call changes anything.
+    pub(crate) fn empty(alloc: Global) -> Result<Box<Sent>, AllocError> {
+        let sent = Sent {
+            uplink: None,
+            downlink: None,
+        };
+        Ok(Box::new(alloc, sent)?)
+    }
 }
 
 /// An answer of which what goes out lies in memory of its own: an uplink in that of its window, or in no more than it needs. Contracts see
@@ -72,52 +83,49 @@ impl BoxedAnswer {
     // A reply with what goes out with it, if anything does.
     #[inline(always)]
     fn sending(
-        alloc: Global,
+        mut sent: Box<Sent>,
         reply: Reply,
         uplink: Option<Lain>,
         downlink: Option<Downlink>,
-    ) -> Result<BoxedAnswer, AllocError>
-        ensures { IfOk result (λ a. a ≡ record { reply = reply; uplink = option_map lain_uplink uplink; downlink = downlink }) }
+    ) -> BoxedAnswer
+        ensures { result ≡ record { reply = reply; uplink = option_map lain_uplink uplink; downlink = downlink } }
     {
         if uplink.is_none() && downlink.is_none() {
-            return Ok(BoxedAnswer::quiet(reply));
+            return BoxedAnswer::quiet(reply);
         }
-        let sent = Sent { uplink, downlink };
-        Ok(BoxedAnswer {
+        sent.uplink = uplink;
+        sent.downlink = downlink;
+        BoxedAnswer {
             reply,
-            sent: Some(Box::new(alloc, sent)?),
-        })
+            sent: Some(sent),
+        }
     }
 
     // The answer where something was ended. It stays a function of its own, so that a call that ends nothing makes no room for what goes out.
     #[inline(never)]
-    fn ending(alloc: Global, roster: &Roster, ended: Ended) -> Result<BoxedAnswer, AllocError>
-        ensures { IfOk result (λ a. a ≡ answer_of roster.now (event.Ended ended)) }
+    fn ending(sent: Box<Sent>, roster: &Roster, ended: Ended) -> BoxedAnswer
+        ensures { result ≡ answer_of roster.now (event.Ended ended) }
     {
         match ended {
             Ended::Answered { reply, downlink } => {
-                BoxedAnswer::sending(alloc, reply, None, downlink)
+                BoxedAnswer::sending(sent, reply, None, downlink)
             }
             Ended::Closed { window, ack } => {
                 let name = window.as_ref().name;
                 let downlink = ack_from(roster, window.as_ref(), ack);
                 let uplink = BoxedUplink::of(window).map(Lain::Window);
-                BoxedAnswer::sending(alloc, Reply::Closed { window: name, ack }, uplink, downlink)
+                BoxedAnswer::sending(sent, Reply::Closed { window: name, ack }, uplink, downlink)
             }
         }
     }
 
-    /// The answer to a call of which this came. `NoMemory` (`AllocError`) where what goes out finds no memory.
-    pub(crate) fn of(
-        alloc: Global,
-        roster: &Roster,
-        event: Event,
-    ) -> Result<BoxedAnswer, AllocError>
-        ensures { IfOk result (λ a. a ≡ answer_of roster.now event) }
+    /// The answer to a call of which this came, in memory that was taken before the call.
+    pub(crate) fn of(sent: Box<Sent>, roster: &Roster, event: Event) -> BoxedAnswer
+        ensures { result ≡ answer_of roster.now event }
     {
         match event {
-            Event::Quiet(reply) | Event::Opened(reply) => Ok(BoxedAnswer::quiet(reply)),
-            Event::Ended(ended) => BoxedAnswer::ending(alloc, roster, ended),
+            Event::Quiet(reply) | Event::Opened(reply) => BoxedAnswer::quiet(reply),
+            Event::Ended(ended) => BoxedAnswer::ending(sent, roster, ended),
         }
     }
 
@@ -129,7 +137,8 @@ impl BoxedAnswer {
             return Ok(self);
         };
         let uplink = Lain::Packed(PackedUplink::of(alloc, &uplink)?);
-        BoxedAnswer::sending(alloc, self.reply, Some(uplink), self.downlink())
+        let sent = Sent::empty(alloc)?;
+        Ok(BoxedAnswer::sending(sent, self.reply, Some(uplink), self.downlink()))
     }
 
     /// The uplink that went out, where it lies in the memory of its window.

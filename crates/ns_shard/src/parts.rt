@@ -5,13 +5,13 @@ ghost use Rattle.std.specs.Arc.{arc_value};
 ghost use Rattle.ns_types.specs.Identity.{shard_count};
 ghost use Rattle.ns_calls.specs.declared.call.Call.TheVariants as call;
 ghost use Rattle.ns_calls.specs.Shards.{shard_of_call};
-ghost use Rattle.ns_shard.specs.State.{no_entries, after_call, answer_in, finds_open};
+ghost use Rattle.ns_shard.specs.State.{no_entries, after_call, answer_in, finds_open, quiet};
 ghost use Rattle.ns_shard.specs.Private.Parts.{AreParts, AreTaken, state_of};
 
 use crate::closing::close;
 use crate::event::Event;
 use crate::joining::{answer, join};
-use crate::packed::BoxedAnswer;
+use crate::packed::{BoxedAnswer, Sent};
 use crate::room::push;
 use crate::uplink::uplink;
 use ns_calls::{Answer, Call, DataFrame, Downlink, Outcome, Reply};
@@ -225,33 +225,64 @@ impl Parts {
         }
     }
 
-    // Adds the entry of a call that was taken, and gives the boxed answer, for which there may be no memory.
+    // Adds the entry of a call that was taken, and gives the answer, with which nothing goes out.
     #[inline(always)]
-    fn boxed(&mut self, alloc: Global, call: &Call, event: Event) -> Result<BoxedAnswer, AllocError>
-        requires { AreTaken self.old call.now event }
-        ensures answer { IfOk result (λ a. a ≡ answer_in (state_of self.old) call.now) }
+    fn quieted(&mut self, call: &Call, event: Event) -> BoxedAnswer
+        requires taken { AreTaken self.old call.now event }
+        requires quiet { answer_in (state_of self.old) call.now ≡ quiet (answer_in (state_of self.old) call.now).reply }
+        ensures answer { result ≡ answer_in (state_of self.old) call.now }
         ensures state { state_of self.new ≡ after_call (state_of self.old) call.now }
         ensures agree { AreParts self.new }
     {
         let (reply, room) = (event.reply(), event.room());
-        let answer = BoxedAnswer::of(alloc, &self.roster, event);
+        push(&mut self.journal, call, reply, room);
+        BoxedAnswer::quiet(reply)
+    }
+
+    // Adds the entry of a call that was taken, and gives the boxed answer, in memory that was taken before the call.
+    fn boxed(&mut self, sent: Box<Sent>, call: &Call, event: Event) -> BoxedAnswer
+        requires { AreTaken self.old call.now event }
+        ensures answer { result ≡ answer_in (state_of self.old) call.now }
+        ensures state { state_of self.new ≡ after_call (state_of self.old) call.now }
+        ensures agree { AreParts self.new }
+    {
+        let (reply, room) = (event.reply(), event.room());
+        let answer = BoxedAnswer::of(sent, &self.roster, event);
         push(&mut self.journal, call, reply, room);
         answer
     }
 
-    /// Answers a call, with a boxed answer. Where a growth is refused, the call may have been taken.
+    // Answers a call that may end something: the memory of what then goes out is taken first.
+    fn apply_ending(&mut self, alloc: Global, call: &Call) -> Result<BoxedAnswer, AllocError>
+        requires own { shard_of_call call.now ≡ self.old.index }
+        requires agree { AreParts self.old }
+        ensures answer { IfOk result (λ a. a ≡ answer_in (state_of self.old) call.now) }
+        ensures state { OnOk result (state_of self.new ≡ after_call (state_of self.old) call.now) }
+        ensures err { OnErr result (state_of self.new ≡ state_of self.old) }
+        ensures agree { AreParts self.new }
+    {
+        let sent = Sent::empty(alloc)?;
+        let event = self.take(call)?;
+        Ok(self.boxed(sent, call, event))
+    }
+
+    /// Answers a call, with a boxed answer. Where a growth is refused, nothing has changed.
     pub fn apply_boxed(&mut self, alloc: Global, call: &Call) -> Result<BoxedAnswer, AllocError>
         requires own { shard_of_call call.now ≡ self.old.index }
         requires agree { AreParts self.old }
         ensures answer { IfOk result (λ a. a ≡ answer_in (state_of self.old) call.now) }
         ensures state { OnOk result (state_of self.new ≡ after_call (state_of self.old) call.now) }
+        ensures err { OnErr result (state_of self.new ≡ state_of self.old) }
         ensures agree { AreParts self.new }
     {
         if let Call::Uplink { frame, heard } = call {
             let event = self.uplink(frame, heard)?;
-            return self.boxed(alloc, call, event);
+            return Ok(self.quieted(call, event));
         }
-        let event = self.take(call)?;
-        self.boxed(alloc, call, event)
+        if let Call::Join { ticket, heard } = call {
+            let event = self.join(ticket, heard)?;
+            return Ok(self.quieted(call, event));
+        }
+        self.apply_ending(alloc, call)
     }
 }

@@ -27,7 +27,7 @@ pub fn push(journal: &mut Journal, call: &Call, reply: Reply, room: Room)
     ensures reserved { journal.new.reserved ≡ reserved_after room journal.old.reserved }
 {
     match room {
-        Room::Free => journal.push(call, reply),
+        Room::Free => journal.push_lent(call, reply),
         Room::Reserving => journal.push_reserving(call, reply),
         Room::Reserved => journal.push_reserved(call, reply),
     };

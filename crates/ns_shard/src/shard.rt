@@ -185,11 +185,14 @@ impl Shard {
         self.parts.reserve(entries)
     }
 
-    /// What `apply` does, with a boxed answer. `NoMemory` (`AllocError`) where a growth was refused: the call may have been taken then.
+    /// What `apply` does, with a boxed answer. `NoMemory` (`AllocError`) where a growth was refused: then nothing has changed. The memory of
+    /// what goes out is taken first, so that a closing, or a join server's answer, may be refused too.
     pub fn apply_boxed(&mut self, alloc: Global, call: &Call) -> Result<BoxedAnswer, AllocError>
         requires { shard_of_call call.now ≡ self.old.index }
         ensures entry { OnOk result (self.new ≡ after_call self.old call.now) }
         ensures answer { IfOk result (λ a. a ≡ answer_in self.old call.now) }
+        ensures err { OnErr result (self.new ≡ self.old) }
+        ensures state { IsState self.new }
     {
         self.parts.apply_boxed(alloc, call)
     }

@@ -21,7 +21,7 @@ fn closing(fcnt: u32) -> Call {
 // Adds the entry of the closing of a window, and gives its number.
 fn add(journal: &mut Journal, fcnt: u32) -> Result<u64, AllocError> {
     journal.room(1)?;
-    Ok(journal.push(&closing(fcnt), Reply::NoWindow))
+    Ok(journal.push(closing(fcnt), Reply::NoWindow))
 }
 
 // Whether room for more entries than there can be is refused.

@@ -1,7 +1,8 @@
 //! Tests of shards and of the crates round them, of what no text of a worked run can say.
 //!
-//! Of a shard: a server that searches its entries gives the same replies to Join-Requests, the last round of a session, memory that is
-//! refused to a shard and to a journal, a run of 100,002 steps, and a trim in place.
+//! Of a shard: a server that searches its entries gives the same replies to Join-Requests, the last round of a session, which uplinks are
+//! new at counters over 65,535 and at the last one, memory that is refused to a shard and to a journal, windows and tickets that are ended
+//! without memory, a run of 100,002 steps, and a trim in place.
 //!
 //! Of the crates round the shards: where gateways are, and late copies of frames (ns_front), the files of a record (ns_record_files),
 //! packet forwarders, over memory and over sockets (ns_forwarder_socket), and what the threads of `serve` share where none runs
@@ -16,6 +17,10 @@
 mod addresses;
 #[cfg(test)]
 mod calls;
+#[cfg(test)]
+mod counters;
+#[cfg(test)]
+mod endings;
 #[cfg(test)]
 mod failures;
 #[cfg(test)]

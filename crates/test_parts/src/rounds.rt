@@ -3,7 +3,7 @@
 use ns_calls::Outcome;
 use ns_device::calls::ticket;
 use ns_device::traffic::{answer, keys};
-use ns_sessions::{DeviceState, Recovery};
+use ns_sessions::DeviceState;
 use ns_types::Heard;
 use ns_views::{PhyView, view};
 
@@ -37,8 +37,8 @@ fn opened(state: &mut DeviceState) -> Option<(u32, u32)> {
     let Ok(PhyView::Frame(frame)) = view(&FRAME) else {
         return None;
     };
-    let (session, counter) = state.fit(Recovery::Above, &frame)?;
-    state.open(session, counter);
+    let (session, counter) = state.fresh(&frame)?;
+    state.take(session, counter);
     Some((session, counter))
 }
 

@@ -1,6 +1,5 @@
-use Rattle.std.proofs.Common.{◌≡◌, IfOk, ap, subst, ◌∙◌}
+use Rattle.std.proofs.Common.{ap, ◌∙◌}
 use Rattle.ns_roster.specs.Network.{Network}
-use Rattle.ns_calls.specs.declared.answer.Answer.{Answer}
 use Rattle.ns_shard.specs.Private.Sending.{answer_of}
 use Rattle.ns_shard.proofs.PartsAfter.{pushed-state, pushed-parts}
 use Rattle.ns_shard.proofs.parts.Parts.boxed.Goals as goal
@@ -12,7 +11,7 @@ returns c =
     let event = c.args.event in
     let after = pushed-state p call event c.push.new.journal c.requires c.reply-reply.result c.reply-reply.ensures c.push.ensures.made c.push.ensures.entries in
     record {
-      answer = subst (λ (x : Answer). IfOk c.of-answer.result (λ a. a ≡ x)) (ap (λ (n : Network). answer_of n event) c.deref.ensures ∙ c.requires.answer) c.of-answer.ensures;
+      answer = c.of-answer.ensures ∙ (ap (λ (n : Network). answer_of n event) c.deref.ensures ∙ c.requires.answer);
       state = after;
       agree = pushed-parts p call event c.push.new.journal c.requires c.room-room.result c.room-room.ensures after c.push.ensures.reserved;
     }
