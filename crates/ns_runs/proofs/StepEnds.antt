@@ -1,5 +1,6 @@
 -- How a step of a run ends.
-use Rattle.std.proofs.Common.{◌≡◌, ℕ, List, slice_get, slice_set, Option, Some, option_map, Result, Ok, Err, IfOk, OnOk, refl, sym, ap, ◌∙◌, subst}
+use Rattle.std.proofs.Common.{◌≡◌, ℕ, zero, suc, List, [], ◌∷◌, slice_get, slice_set, Option, Some, option_map, Result, Ok, Err, IfOk, OnOk, OnErr, refl, sym, ap, ◌∙◌, subst}
+use Rattle.std.proofs.lemmas.Option.{same_Some}
 use Rattle.std.specs.declared.alloc.AllocError.{AllocError}
 use Rattle.std.specs.Result.{IsErr, IsOk}
 use Rattle.std.specs.Option.{option_map_or}
@@ -12,10 +13,19 @@ use Rattle.ns_runs.specs.declared.run.Taken.TheVariants.{Made}
 use Rattle.ns_shard.specs.State.{State, after_call, answer_in}
 use Rattle.ns_runs.specs.Private.Run.{taken_in, states_after, refused_as, IsMade, StepEnds}
 
+set-own : (states : List State) (index : ℕ) (s : State) → slice_get states index ≡ Some s → slice_set states index s ≡ states
+set-own [] index s found = refl
+set-own (x ∷ states) zero s found = ap (λ y. y ∷ states) (sym (same_Some x s found))
+set-own (x ∷ states) (suc index) s found = ap (λ ys. x ∷ ys) (set-own states index s found)
+
 module _ (states : List State) where
-  pub refused-ends : (made : Result Call Taken) (after : List State) (r : Result Taken AllocError) → IsErr r → IsOk made → StepEnds states made r after
-  refused-ends made after (Ok what) failed is_call = absurd (cc failed)
-  refused-ends made after (Err e) failed is_call = is_call
+  pub refused-ends : (made : Result Call Taken) (after : List State) (r : Result Taken AllocError) → IsErr r → IsOk made → after ≡ states → StepEnds states made r after
+  refused-ends made after (Ok what) failed is_call same = absurd (cc failed)
+  refused-ends made after (Err e) failed is_call same = (is_call, same)
+
+  -- a shard that is put back as it was
+  pub kept-shard : (index : ℕ) (s next : State) → slice_get states index ≡ Some s → next ≡ s → slice_set states index next ≡ states
+  kept-shard index s next found same = rw same (set-own states index s found)
 
   -- a step that makes no call
   pub none-made : {what : Taken} (made : Result Call Taken) → Err what ≡ made → IsMade states made what states
@@ -42,3 +52,7 @@ ends-taken states made (Err e) after ends = tt
 pub ends-shards : (states : List State) (made : Result Call Taken) (r : Result Taken AllocError) (after : List State) → StepEnds states made r after → OnOk r (after ≡ states_after states made)
 ends-shards states made (Ok what) after ends = ends.shards
 ends-shards states made (Err e) after ends = tt
+
+pub ends-same : (states : List State) (made : Result Call Taken) (r : Result Taken AllocError) (after : List State) → StepEnds states made r after → OnErr r (after ≡ states)
+ends-same states made (Ok what) after ends = tt
+ends-same states made (Err e) after ends = ends.1

@@ -137,13 +137,14 @@ impl Shards {
     }
 
     /// Runs one step more, at shards that were trimmed before or not; those that never were it leaves so. `NoMemory` (`AllocError`) where a
-    /// growth was refused: the step may have been taken then, so the run is over.
+    /// growth was refused: then nothing has changed.
     pub fn step(&mut self, alloc: Global, step: &Step) -> Result<Taken, AllocError>
         requires { AreReached self.old }
         ensures taken { IfOk result (λ t. (net : Network) (before : List Step) → AreKeptAfter net before self.old → t ≡ step_taken net before step.now) }
         ensures shards { OnOk result ((net : Network) (before : List Step) → AreAfter net before self.old → AreAfter net (before ++ step.now ∷ []) self.new) }
         ensures kept { OnOk result ((net : Network) (before : List Step) → AreKeptAfter net before self.old → AreKeptAfter net (before ++ step.now ∷ []) self.new) }
         ensures reached { OnOk result (AreReached self.new) }
+        ensures err { OnErr result (self.new ≡ self.old) }
     {
         self.run_act(alloc, step.worker, &step.act.lend())
     }
@@ -160,6 +161,7 @@ impl Shards {
         ensures shards { OnOk result ((net : Network) (before : List Step) → AreAfter net before self.old → AreAfter net (before ++ step_lent worker act.now ∷ []) self.new) }
         ensures kept { OnOk result ((net : Network) (before : List Step) → AreKeptAfter net before self.old → AreKeptAfter net (before ++ step_lent worker act.now ∷ []) self.new) }
         ensures reached { OnOk result (AreReached self.new) }
+        ensures err { OnErr result (self.new ≡ self.old) }
     {
         run_act(alloc, &mut self.list, act)
     }
@@ -197,8 +199,8 @@ impl Shards {
     }
 
     /// Runs the step of this worker and act as `step` does, and trims its shard where that is due (no clause says when): what comes of later
-    /// steps is the same. `NoMemory` (`AllocError`) where a growth of the step was refused: the run is over. A trim that is refused is left
-    /// out.
+    /// steps is the same. `NoMemory` (`AllocError`) where a growth of the step was refused: then nothing has changed. A trim that is refused
+    /// is left out.
     pub fn step_and_trim(
         &mut self,
         alloc: Global,
@@ -209,6 +211,7 @@ impl Shards {
         ensures taken { IfOk result (λ t. (net : Network) (before : List Step) → AreKeptAfter net before self.old → t ≡ step_taken net before (step_lent worker act.now)) }
         ensures kept { OnOk result ((net : Network) (before : List Step) → AreKeptAfter net before self.old → AreKeptAfter net (before ++ step_lent worker act.now ∷ []) self.new) }
         ensures reached { OnOk result (AreReached self.new) }
+        ensures err { OnErr result (self.new ≡ self.old) }
     {
         let taken = self.run_act(alloc, worker, act)?;
         if let Taken::Made { shard, .. } = &taken {

@@ -24,11 +24,12 @@ abbrev pub states_after : List State → Result Call Taken → List State
 states_after shards (Err refusal) = shards
 states_after shards (Ok c) = option_map_or (λ s. slice_set shards (shard_of_call c) (after_call s c)) (slice_get shards (shard_of_call c)) shards
 
--- this comes of it, and these are the states after it. A growth is refused where a call is made alone
+-- this comes of it, and these are the states after it
 pub record IsMade (states : List State) (made : Result Call Taken) (what : Taken) (after : List State) : Type 0 where
   pub taken : taken_in states made ≡ Some what
   pub shards : after ≡ states_after states made
 
+-- how a step ends. A growth is refused where a call is made alone, and then the states are as before
 abbrev pub StepEnds : List State → Result Call Taken → Result Taken AllocError → List State → Type 0
 StepEnds states made (Ok what) after = IsMade states made what after
-StepEnds states made (Err _) after = IsOk made
+StepEnds states made (Err _) after = IsOk made × (after ≡ states)

@@ -13,7 +13,7 @@ run_datagram-requires c = record { sixteen = c.requires.sixteen; in_place = c.re
 pub returns-in_err-call-in-Answer : goal.returns-in_err-call-in-Answer
 returns-in_err-call-in-Answer c =
     refused-ends c.args.shards.now.items (refused_as (call_of (act_lent c.args.act.now))) c.args.shards.now.items c.from_residual.result c.from_residual.ensures.0
-    (subst (λ (a : LentAct). IsOk (refused_as (call_of (act_lent a)))) (sym c.in-Answer.is) refl)
+    (subst (λ (a : LentAct). IsOk (refused_as (call_of (act_lent a)))) (sym c.in-Answer.is) refl) refl
 
 pub apply-requires : goal.apply-requires
 apply-requires c = record { sixteen = c.requires.sixteen; in_place = c.requires.in_place }
