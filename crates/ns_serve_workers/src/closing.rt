@@ -50,7 +50,7 @@ impl<
 > Lead<Back<S, R>> for CloserKit<'c, 'a, S, R, G, M, W, A> {
     // The closer, from its start to its end. Where a thread could not be made, all others are to stop.
     fn lead(self, is_whole: bool) -> Back<S, R>
-        ensures { HasReceipts S.roster (M.has_heard self.around.now.monitor.now) none_made (S.made result.pass) }
+        ensures { HasReceipts S.roster (M.has_heard self.entry.around.now.monitor.now) none_made (S.made result.pass) }
     {
         let CloserKit {
             around,
