@@ -2,6 +2,7 @@
 the crates' sources. `Worked` takes the lines of crates/worked_texts/data/join_texts.txt, whose form stands at that file's head.
 """
 import itertools
+import ipaddress
 import json
 import re
 
@@ -259,7 +260,31 @@ def shown(text):
     return json.dumps(text.decode('latin-1'))
 
 
-ROUTES = {b'/': 'page', b'/metrics': 'metrics', b'/devices': 'devices', b'/gateways': 'gateways'}
+ROUTES = {b'/': 'page', b'/metrics': 'metrics', b'/devices': 'devices', b'/gateways': 'gateways', b'/healthz': 'health'}
+# What `--status-host` gives in the file's questions.
+STATUS_HOST = 'status.example'
+
+
+def is_own_host(host):
+    """Whether a Host is an address, `localhost` or the name of `--status-host`, with a port or without."""
+    name = re.sub(r'(?<=[^:]):\d+$|(?<=\]):\d+$', '', host)
+    try:
+        ipaddress.ip_address(name.strip('[]'))
+        return True
+    except ValueError:
+        return name.lower() in ('localhost', STATUS_HOST)
+
+
+def part_of(query):
+    """The part of the devices that a query asks for, or that one of its values is none."""
+    said = []
+    pairs = [it.partition('=') for it in query.split('&')]
+    for name, form, base in ('after', r'[0-9a-fA-F]{16}', 16), ('limit', r'[0-9]+', 10), ('since', r'[0-9]+', 10):
+        values = [value for it, _, value in pairs if it == name]
+        if values and not re.fullmatch(form, values[0]):
+            return ' of no part'
+        said += [' %s %s' % (name, '%x' % int(values[0], 16) if base == 16 else int(values[0]))] if values else []
+    return ''.join(said)
 
 
 def asked_of_status(text):
@@ -271,37 +296,48 @@ def asked_of_status(text):
     words = re.fullmatch(rb"([A-Za-z0-9!#$%&'*+\-.^_`|~]+) ([\x21-\x7e]+) HTTP/1\.[01]", line)
     if words is None or len(fields) > MOST_FIELDS or not all(model_http._FIELDS.fullmatch(it + b'\n') for it in fields):
         return '400 Bad Request'
+    hosts = [it.partition(b':')[2].strip().decode('latin-1') for it in fields if it[:5].lower() == b'host:']
+    if len(hosts) > 1:
+        return '400 Bad Request'
+    if hosts and not is_own_host(hosts[0]):
+        return '421 Misdirected Request'
     if words[1] not in (b'GET', b'HEAD'):
         return '405 Method Not Allowed'
-    if words[2] not in ROUTES:
+    path, _, query = words[2].partition(b'?')
+    if path not in ROUTES:
         return '404 Not Found'
-    return ('head of ' if words[1] == b'HEAD' else '') + ROUTES[words[2]]
+    part = part_of(query.decode('latin-1')) if path == b'/devices' else ''
+    return ('head of ' if words[1] == b'HEAD' else '') + ROUTES[path] + part
 
 
 # ---------------------------------------------------------------- the status
 
-GAUGES = 'start_time_seconds', 'open_windows', 'open_tickets', 'devices', 'sessions', 'gateways'
-COUNTERS = ('datagrams_total', 'dropped_total', 'late_total', 'failed_receives_total', 'unanswered_total', 'stale_tickets_total', 'unsent_total',
-            'refusals_total', 'replies_total', 'entries_total')
-LABELS = {'refusals_total': 'fault', 'replies_total': 'reply', 'entries_total': 'shard'}
+METRICS = [(name, 'gauge') for name in ('process_start_time_seconds', 'lorawan_open_windows', 'lorawan_open_tickets', 'lorawan_devices',
+                                        'lorawan_sessions', 'lorawan_gateways')]
+METRICS += [('lorawan_%s_total' % name, 'counter') for name in ('datagrams', 'lost_datagrams', 'dropped_datagrams', 'late_datagrams', 'failed_receives',
+                                                                'unanswered_joins', 'stale_tickets', 'unsent_downlinks', 'unwritten_lines', 'refusals',
+                                                                'replies', 'entries')]
+LABELS = {'lorawan_refusals_total': 'fault', 'lorawan_replies_total': 'reply', 'lorawan_entries_total': 'shard'}
 ROW = 'devAddr', 'devEui', 'fCnt', 'gatewayId', 'heardMs', 'missed', 'session', 'sinceMs'
+GATEWAY = ['airtimeMs', 'frames', 'gatewayId', 'heardMs', 'pullMs', 'refused', 'sent', 'statMs']
 
 
 def status_faults(lines):
     """How the texts of the status differ from FORMATS. The numbers are the reader's own, so only their form is looked at, and which are null."""
-    rows, gateway, metrics, head = lines[:4], lines[5], lines[6:-1], json.loads(lines[-1])
-    lists, faults = json.loads('\n'.join(rows)), []
-    silent, heard = lists['devices']
-    faults += ['devices'] * (list(lists) != ['nowMs', 'startMs', 'devices'] or any(tuple(row) != ROW for row in (silent, heard)))
-    faults += ['a silent device'] * ([name for name in ROW if silent[name] is None] != ['fCnt', 'gatewayId', 'heardMs'] or silent['missed'] != 0)
+    end = lines.index(']}') + 1
+    gateway, metrics, head = lines[end + 1], lines[end + 2:-1], json.loads(lines[-1])
+    lists, faults = json.loads('\n'.join(lines[:end])), []
+    silent, heard, absent = lists['devices']
+    faults += ['devices'] * (list(lists) != ['nowMs', 'startMs', 'devices'] or any(tuple(row) != ROW for row in lists['devices']))
+    faults += ['a silent device'] * ([name for name in ROW if silent[name] is None] != ['fCnt', 'gatewayId', 'heardMs', 'sinceMs'] or silent['missed'] != 0)
     faults += ['a device that was heard'] * any(heard[name] is None for name in ROW)
-    faults += ['a gateway'] * (list(json.loads(gateway)) != ['frames', 'gatewayId', 'heardMs'])
-    names = [(name, 'gauge') for name in GAUGES] + [(name, 'counter') for name in COUNTERS]
-    found = re.findall(r'# HELP lorawan_ns_(\w+) [^\n]+\n# TYPE lorawan_ns_(\w+) (\w+)\n((?:lorawan_ns_[^\n]*\n)+)', '\n'.join(metrics) + '\n')
-    faults += ['metrics'] * ([(name, kind) for name, typed, kind, _ in found if name == typed] != names)
-    for name, _, _, samples in found:
+    faults += ['a device without a session'] * ([name for name in ROW if absent[name] is not None] != ['devEui', 'missed'])
+    faults += ['a gateway'] * (list(json.loads(gateway)) != GATEWAY)
+    found = re.findall(r'# HELP (\w+) [^\n]+\n# TYPE (\w+) (\w+)\n((?:[a-z]\w*[ {][^\n]*\n)+)', '\n'.join(metrics) + '\n')
+    faults += ['metrics'] * ([(name, kind) for name, typed, kind, _ in found if name == typed][:len(METRICS)] != METRICS)
+    for name, _, _, samples in found[:len(METRICS)]:
         label = r'\{%s="\w+"\}' % LABELS[name] if name in LABELS else ''
-        faults += ['samples of %s' % name] * (not re.fullmatch(r'(?:lorawan_ns_%s%s [0-9]+\n)+' % (name, label), samples))
+        faults += ['samples of %s' % name] * (not re.fullmatch(r'(?:%s%s [0-9]+\n)+' % (name, label), samples))
     fields = dict(re.findall(r'(\S+): ([^\r]*)\r\n', head))
     body = '404 Not Found\n'
     is_head = head.startswith('HTTP/1.1 404 Not Found\r\n') and head.endswith('\r\n\r\n') and fields.get('Content-Length') == str(len(body))
