@@ -9,7 +9,7 @@ use ns_roster::Roster;
 use ns_serve::{Begun, ServeOptions};
 use ns_serve_events::record_call;
 use ns_serve_sockets::{AfterRecord, ToSocket};
-use ns_serve_state::State;
+use ns_serve_state::{State, SystemFiles};
 use ns_types::{DevEui, GatewayId, Sink, Target, WindowName};
 use std::alloc::{Alloc, Global};
 use std::fs;
@@ -65,7 +65,7 @@ fn is_written<R: Wait>(rt: &R, alloc: Global, state: &State) -> bool {
 }
 
 // Puts down two steps. Whether each is written when something leaves, and the first not before that.
-fn write_two<R: Files<File = File> + Wait>(rt: &R, alloc: Global, state: &State) -> bool {
+fn write_two<R: Files<File = File> + Wait + Clock>(rt: &R, alloc: Global, state: &State) -> bool {
     record_call(rt, state, &closed(0));
     let is_late = are_steps(rt, alloc, &[]);
     let is_sent = ToSocket { state }.send(rt, &downlink());
@@ -90,7 +90,10 @@ fn write_with<R: Files<File = File> + Wait + Clock>(
     let mut begun = begun;
     let record = begun.record.take();
     let made = begun.made();
-    match State::new(rt, alloc, None, None, roster, options, made, record, None) {
+    let system = SystemFiles::none();
+    match State::new(
+        rt, alloc, None, None, roster, options, made, record, None, system,
+    ) {
         Ok(state) => write_two(rt, alloc, &state),
         Err(_) => false,
     }
