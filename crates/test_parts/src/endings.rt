@@ -95,8 +95,12 @@ fn is_closed(shard: &mut Shard, fcnt: u32, ack: Option<u32>) -> bool {
     let Some(closed) = shard.close(&window) else {
         return false;
     };
+    let is_its_uplink = match &closed.uplink {
+        Some(uplink) => uplink.window == window,
+        None => false,
+    };
     closed.reply == Reply::Closed { window, ack }
-        && closed.uplink.is_some_and(|uplink| uplink.window == window)
+        && is_its_uplink
         && closed.downlink.is_some() == ack.is_some()
         && shard.made() == made.wrapping_add(1)
 }
@@ -142,10 +146,9 @@ fn are_ended(shard: &mut Shard) -> bool {
 
 // Closes a closed window until memory is refused. Whether each answer before made one entry, and the refused call none.
 fn is_refused_at_last(shard: &mut Shard) -> bool {
-    let call = Call::Close { window: window(0) };
     for _ in 0..1_000_000u32 {
         let (made, count) = (shard.made(), shard.entries().len());
-        let now = reply(shard, call);
+        let now = reply(shard, Call::Close { window: window(0) });
         if now.is_none() {
             return shard.made() == made && shard.entries().len() == count;
         }
