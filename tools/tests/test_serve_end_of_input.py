@@ -67,10 +67,11 @@ class EndOfInput(Served):
             def command(name):
                 words = re.search("^%s=/bin/sh -c '(.*)'$" % name, text, re.MULTILINE).group(1)
                 for old, new in (('$$CREDENTIALS_DIRECTORY/roster.json', self.roster([13])), ('$$', '$'), ('%t/lorawan_ns', folder),
-                                 ('/usr/local/bin/lorawan_ns', PROGRAM), ('10.0.0.2:1700', '127.0.0.1:0')):
+                                 ('/usr/local/bin/lorawan_ns', PROGRAM)):
                     words = words.replace(old, new)
                 return ['/bin/sh', '-c', words]
-            child = subprocess.Popen(command('ExecStart'), stdout=subprocess.PIPE, stderr=subprocess.PIPE, text=True)
+            options = {'JOIN': '127.0.0.1:9', 'FORWARDERS': '127.0.0.1:0', 'OPTIONS': ''}
+            child = subprocess.Popen(command('ExecStart'), env={**os.environ, **options}, stdout=subprocess.PIPE, stderr=subprocess.PIPE, text=True)
             out, log = Lines(child.stdout), Lines(child.stderr)
             log.wait('stops at the end of standard input')
             stop = subprocess.Popen(command('ExecStop'), env={**os.environ, 'MAINPID': str(child.pid)})

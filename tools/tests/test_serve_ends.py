@@ -34,7 +34,7 @@ class GoodEnds(Served):
     def test_tickets_are_open(self):
         """The ticket that is being asked about is answered within 4 s; the others stay open and have no further entry."""
         joins = self.joins([10, 11, 12], 'is_silent')
-        server = self.serve(self.roster([10, 11, 12]), joins.where, '--stop-after', '4')
+        server = self.serve(self.roster([10, 11, 12]), joins.where, '--join-workers', '1', '--stop-after', '4')
         gateway = self.gateway(0xa1, server)
         for eui in (10, 11, 12):
             gateway.heard(self.device(eui).join_request(1))
@@ -52,8 +52,8 @@ class GoodEnds(Served):
     def check_load(self, workers, window):
         """A flood goes on beyond the last datagram: so many are read, and the entries are those of the calls."""
         joins = self.joins([13])
-        server = self.serve(self.roster([13]), joins.where, '--workers', str(workers), '--window', str(window),
-                            '--stop-after', '5000')
+        server = self.serve(self.roster([13]), joins.where, '--workers', str(workers), '--join-workers', '1',
+                            '--window', str(window), '--stop-after', '5000')
         gateway, device, over = self.gateway(0xa1, server), self.device(13), threading.Event()
         gateway.join(device, 1)
         # Gateway workers, a join worker and the closer.

@@ -116,7 +116,7 @@ class Forwarders(unittest.TestCase):
         """A gateway of own datagrams beside a forwarder; one worker alone does not hear both."""
         done = subprocess.run([PROGRAM, 'serve', self.roster, '--join', '127.0.0.1:9', '--listen', '127.0.0.1:0', '--forwarders', '127.0.0.1:0',
                                '--workers', '1'], capture_output=True, text=True, timeout=LONGEST)
-        self.assertEqual((done.returncode, done.stdout), (1, ''))
+        self.assertEqual((done.returncode, done.stdout), (2, ''))
         child = subprocess.Popen([PROGRAM, 'serve', self.roster, '--join', '127.0.0.1:9', '--listen', '127.0.0.1:0', '--forwarders',
                                   '127.0.0.1:0', '--workers', '2', '--stop-after', '2'], stdout=subprocess.PIPE, stderr=subprocess.DEVNULL, text=True)
         self.addCleanup(child.stdout.close)

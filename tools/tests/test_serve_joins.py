@@ -63,7 +63,7 @@ class FailingJoins(Served):
     def check_slow(self, does):
         """Two tickets: the second is asked about at most 4 s after the first, and uplinks go on meanwhile."""
         joins = self.joins([10, 11, 12])
-        server = self.serve(self.roster([10, 11, 12]), joins.where, '--window', '20', '--stop-after', '7')
+        server = self.serve(self.roster([10, 11, 12]), joins.where, '--join-workers', '1', '--window', '20', '--stop-after', '7')
         gateway = self.gateway(0xa1, server)
         goes_on, first, second = (self.device(eui) for eui in (10, 11, 12))
         gateway.join(goes_on, 1)
@@ -90,7 +90,7 @@ class FailingJoins(Served):
         listener.bind(('127.0.0.1', 0))
         listener.listen(0)
         self.full(listener.getsockname())
-        server = self.serve(self.roster([10, 11]), listener.getsockname(), '--stop-after', '3')
+        server = self.serve(self.roster([10, 11]), listener.getsockname(), '--join-workers', '1', '--stop-after', '3')
         gateway = self.gateway(0xa1, server)
         for eui in (10, 11):
             gateway.heard(self.device(eui).join_request(1))

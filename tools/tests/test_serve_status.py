@@ -113,7 +113,7 @@ class Told(Served):
         self.assertEqual(metrics['heard_devices{within="1h"}'], 8)
         self.assertEqual(metrics['join_server_answer_seconds_count'], 8)
         self.assertGreaterEqual(metrics['acknowledgement_delay_seconds_count'], 1)
-        self.assertEqual(metrics['build_info{version="%s"}' % subprocess.run([PROGRAM, '--version'], capture_output=True, text=True).stdout.split()[-1]], 1)
+        self.assertEqual(metrics['build_info{version="%s"}' % subprocess.run([PROGRAM, '--version'], capture_output=True, text=True).stdout.split()[1]], 1)
         self.assertGreater(metrics['process_resident_memory_bytes'], 1_000_000)
         self.assertLess(abs(metrics['process_open_fds'] - len(os.listdir('/proc/%d/fd' % server.child.pid))), 4)
         self.assertEqual((metrics['devices'], metrics['sessions'], metrics['gateways']), (8, 8, 2))
