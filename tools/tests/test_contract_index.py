@@ -1,4 +1,5 @@
-"""The pages of docs/generated fit the code, and each function is found there by its name; each link of the documents leads somewhere."""
+"""The pages of docs/generated fit the code, and each function is found there by its name; links of documents lead somewhere, and the
+crates that they name are there."""
 import os
 import re
 import subprocess
@@ -56,6 +57,12 @@ class Pages(unittest.TestCase):
                 self.assertTrue(os.path.exists(os.path.join(TOP, target)), '%s: %s' % (page, link))
                 if anchor and target.endswith('.md'):
                     self.assertIn(anchor, anchors(target), '%s: %s' % (page, link))
+
+    def test_each_crate_that_is_named_is_there(self):
+        crates = set(re.findall(r'(?m)^(\w+):', read('crates.txt')))
+        for page in pages():
+            named = {name for name in re.findall(r'(?<![\w-])(ns_[a-z_]+)', read(page)) if not name.endswith('_')}
+            self.assertEqual(named - crates, set(), page)
 
 
 if __name__ == '__main__':
