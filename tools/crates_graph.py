@@ -1,22 +1,18 @@
 #!/usr/bin/env python3
 """Draws which crate stands on which, from crates.txt.
 
-    python3 tools/crates_graph.py            Mermaid's text of the server's crates, as in docs/DEVELOPING.md
+    python3 tools/crates_graph.py            Mermaid's text of the server's crates
     python3 tools/crates_graph.py --all      with the tests and examples
-    python3 tools/crates_graph.py --update   puts the first into docs/DEVELOPING.md
-    python3 tools/crates_graph.py --check    status 1 where docs/DEVELOPING.md has another
 
 crates.txt lists for each crate the libraries that its files name. Drawn is what is not implied: an arrow leads from a
 crate to one that it lists and that no other of its libraries stands on, directly or by others. Crates of the kit are
-left out.
+left out. `contract_index.py` writes the first into docs/generated/CRATES.md.
 """
 import argparse
 import sys
 from pathlib import Path
 
 ROOT = Path(__file__).resolve().parent.parent
-PAGE = ROOT / "docs" / "DEVELOPING.md"
-BEGIN, END = "<!-- crates: begin -->\n", "<!-- crates: end -->\n"
 BESIDE = "# Beside the server"
 
 
@@ -58,24 +54,10 @@ def graph(all_of_them):
     return "```mermaid\ngraph TD\n" + "\n".join(rows) + "\n```\n"
 
 
-def page_with(text):
-    before, rest = PAGE.read_text().split(BEGIN)
-    return before + BEGIN + text + END + rest.split(END)[1]
-
-
 def main():
     words = argparse.ArgumentParser(description=__doc__, formatter_class=argparse.RawDescriptionHelpFormatter)
     words.add_argument("--all", action="store_true")
-    words.add_argument("--update", action="store_true")
-    words.add_argument("--check", action="store_true")
-    asked = words.parse_args()
-    text = graph(asked.all)
-    if asked.update:
-        PAGE.write_text(page_with(text))
-    elif asked.check:
-        return 0 if PAGE.read_text() == page_with(text) else 1
-    else:
-        print(text, end="")
+    print(graph(words.parse_args().all), end="")
     return 0
 
 
