@@ -17,7 +17,7 @@ from live import LONGEST, PROGRAM, TOOLS, Forwarder, rxpk, wait_for
 from serving import NOWHERE, Served
 
 MONITORING = os.path.join(TOOLS, 'monitoring')
-PROMTOOL, CHROMIUM = shutil.which('promtool'), shutil.which('chromium')
+PROMTOOL, CHROMIUM, CURL = shutil.which('promtool'), shutil.which('chromium'), shutil.which('curl')
 
 EUIS = range(1, 9)
 WINDOW = ('--window', '20', '--status', '127.0.0.1:0')
@@ -94,6 +94,7 @@ class Told(Served):
         self.assertEqual([(row['devEui'], row['session'], row['heardMs']) for row in self.list_of('devices')['devices']],
                          [('%016x' % eui, None, None) for eui in EUIS])
         self.assertEqual(self.list_of('gateways')['gateways'], [])
+        self.assertEqual(self.metrics()['device_last_heard_age_seconds_count'], 0)
         self.network(server)
         devices, gateways, metrics = self.list_of('devices'), self.list_of('gateways'), self.metrics()
         self.assertLess(abs(devices['startMs'] / 1000 + 5 - before), 5)
@@ -110,7 +111,10 @@ class Told(Served):
         self.assertEqual((airtime(12), airtime(33)), (41216, 71936))
         self.assertEqual({row['gatewayId']: (row['sent'], row['airtimeMs']) for row in gateways['gateways']},
                          {'%016x' % 0xa1: (24, sum(airtime(size) for size in self.sizes) // 1000), '%016x' % 0xa2: (0, 0)})
-        self.assertEqual(metrics['heard_devices{within="1h"}'], 8)
+        ages = [metrics['device_last_heard_age_seconds_%s' % name] for name in (
+            'bucket{le="3600"}', 'bucket{le="21600"}', 'bucket{le="90000"}', 'bucket{le="604800"}', 'bucket{le="+Inf"}', 'count')]
+        self.assertEqual(ages, [8] * 6)
+        self.assertLessEqual(metrics['device_last_heard_age_seconds_sum'], 8 * devices['nowMs'] / 1000)
         self.assertEqual(metrics['join_server_answer_seconds_count'], 8)
         self.assertGreaterEqual(metrics['acknowledgement_delay_seconds_count'], 1)
         self.assertEqual(metrics['build_info{version="%s"}' % subprocess.run([PROGRAM, '--version'], capture_output=True, text=True).stdout.split()[1]], 1)
@@ -165,6 +169,38 @@ class Told(Served):
                 self.assertIn(b' %s ' % status, asker.recv(100))
         self.gateway(0xa1, server).send(b'')
         self.assertEqual(server.lines(), ['settled 0'])
+
+    @unittest.skipUnless(CURL, 'curl is not installed')
+    def test_tags(self):
+        """A program that keeps the tag of the list is sent it again only once it has changed, as curl does by its options."""
+        server, _ = self.told('--stop-after', '3')
+        tags, taken = (os.path.join(self.folder, name) for name in ('tags', 'taken'))
+
+        def fetch():
+            """The status, and whether a list came. curl keeps the tag of the last list that came."""
+            done = subprocess.run([CURL, '--silent', '--etag-save', tags, '--etag-compare', tags, '--output', taken, '--write-out',
+                                   '%{http_code} %{size_download}', 'http://%s:%d/devices' % self.where],
+                                  capture_output=True, text=True, timeout=LONGEST, check=True)
+            return tuple(int(word) for word in done.stdout.split())
+        status, size = fetch()
+        self.assertEqual((status, size), (200, os.path.getsize(taken)))
+        self.assertEqual([fetch(), fetch()], [(304, 0)] * 2)
+        near, device = self.gateway(0xa1, server), self.device(3)
+        near.join(device, 1)
+        self.assertEqual(fetch()[0], 200)
+        with open(taken, encoding='ascii') as file:
+            self.assertEqual([row['devEui'] for row in json.load(file)['devices'] if row['session']], ['%016x' % 3])
+        self.assertEqual(fetch(), (304, 0))
+        near.heard(device.uplink(0, 1, b'x', confirmed=True))
+        near.downlink()
+        self.assertEqual(fetch()[0], 200)
+        first, second = (self.asked('/devices', **{'If-None-Match': tag})[::2] for tag in ('"1"', '*'))
+        self.assertEqual((first[0], second[0]), (200, 200))
+        tag = self.asked('/devices?limit=1')[1]['ETag']
+        self.assertEqual(self.asked('/devices?limit=1', **{'If-None-Match': tag})[::2], (304, b''))
+        self.assertEqual(self.asked('/devices?limit=x', **{'If-None-Match': tag})[0], 400)
+        near.send(b'')
+        server.lines()
 
     def test_hosts(self):
         """Addresses, `localhost` and the name of an option are met; a page of another name is not, whatever it asks for (DNS rebinding)."""

@@ -292,7 +292,7 @@ function showCounts(of) {
 }
 function showTiles(of) {
   const lost = of["lost_datagrams"] + of["dropped_datagrams"] + of["failed_receives"];
-  const tiles = [[of["heard_devices within=25h"], "of " + number(of["devices"]) + " devices heard within 25 h"], [of["gateways"], "gateways heard"],
+  const tiles = [[of["device_last_heard_age_seconds_bucket le=90000"], "of " + number(of["devices"]) + " devices heard within 25 h"], [of["gateways"], "gateways heard"],
     [of["replies reply=opened"], "new uplinks"], [of["datagrams"], "datagrams"], [of["open_windows"], "uplinks waiting for copies"],
     [of["open_tickets"], "joins waiting for the join server"], [lost, "datagrams lost", lost > 0]];
   at("tiles").replaceChildren(...tiles.map(([value, name, isBad]) => {
