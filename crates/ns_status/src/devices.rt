@@ -241,13 +241,14 @@ impl Devices {
     }
 
     /// How long ago the devices were last heard, in milliseconds, summed over those that were heard since the server began.
+    #[tactic(auto, using(crate::proofs::Ages::ages_more))]
     pub fn sum_of_ages(&self, now_ms: u64) -> u64
         ensures { result ≡ ages_with now_ms 0 self.now }
     {
         let mut sum: u64 = 0;
-        for place in 0..self.rows.len() {
-            if let Some((_, device)) = self.rows.get_index(place) {
-                sum = sum.saturating_add(age_of(device, now_ms));
+        for place in 0..self.len() {
+            if let Some((_, device)) = self.at(place) {
+                sum = sum.saturating_add(age_of(&device, now_ms));
             }
         }
         sum

@@ -9,7 +9,7 @@ use itoa::Buffer;
 
 // The fields of each head, and the empty line behind them.
 const FIELDS: &str =
-    "\r\nAllow: GET, HEAD\r\nCache-Control: no-store\r\nX-Content-Type-Options: nosniff\r\nContent-Security-Policy: default-src 'none'; script-src 'sha256-o8Bj+tFPhirotFeEtDO0udWGGFIGBeWXhziS3U3tGpE='; style-src 'sha256-iC89hB0PydlYUHrR7b/eUzpNa3oiXj9Ira8h5jUvNZE='; connect-src 'self'; base-uri 'none'; form-action 'none'; frame-ancestors 'none'\r\nConnection: close\r\n\r\n";
+    "\r\nAllow: GET, HEAD\r\nCache-Control: no-store\r\nX-Content-Type-Options: nosniff\r\nContent-Security-Policy: default-src 'none'; script-src 'sha256-nfpn4u/agwmbR7fIhNKE1Erb9EYMzXY01sq/KzJ40pQ='; style-src 'sha256-k2OWu7Q3zfUvLXHrBvFTF5s59RCB0x9oo1JwiZz4nUg='; connect-src 'self'; base-uri 'none'; form-action 'none'; frame-ancestors 'none'\r\nConnection: close\r\n\r\n";
 
 /// What a response says of a request.
 #[derive(Clone, Copy, PartialEq, Eq)]
