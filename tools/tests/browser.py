@@ -17,14 +17,14 @@ class Fault(Exception):
 
 
 class Browser:
-    """One page of a browser of its own."""
+    """One page of a browser of its own, which is started with these further words."""
 
-    def __init__(self):
+    def __init__(self, *more):
         self.profile = tempfile.TemporaryDirectory()
         to_read, self.to = os.pipe()
         self.of, to_write = os.pipe()
         words = [CHROMIUM, '--headless=new', '--no-sandbox', '--disable-gpu', '--no-first-run', '--remote-debugging-pipe',
-                 '--user-data-dir=' + self.profile.name, 'about:blank']
+                 '--user-data-dir=' + self.profile.name, *more, 'about:blank']
         self.child = subprocess.Popen(['bash', '-c', 'exec "$@" 3<&%d 4>&%d' % (to_read, to_write), 'chromium', *words],
                                       pass_fds=(to_read, to_write), stdout=subprocess.DEVNULL, stderr=subprocess.DEVNULL)
         os.close(to_read)
