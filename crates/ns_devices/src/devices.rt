@@ -7,7 +7,7 @@ ghost use Rattle.ns_roster.specs.Valid.{IsRoster};
 ghost use Rattle.ns_calls.specs.Reply.{window_of};
 ghost use Rattle.ns_sessions.specs.declared.recovery.Recovery.TheVariants.{Above};
 ghost use Rattle.ns_sessions.specs.Recovery.{recovery_counter};
-ghost use Rattle.ns_sessions.specs.Record.{with_uplink, with_round, with_ack, ack_in};
+ghost use Rattle.ns_sessions.specs.Record.{with_uplink, with_round, with_rounds, with_ack, ack_in};
 ghost use Rattle.ns_devices.specs.Devices.{joinless, devices_of, is_own, own_of, fit_at, first_own_fit, IsNew, with_change_of, after_answer, join_decision_of, with_join_of, answer_decision_of, keys_in, next_round, lives_in, has_ticket_in};
 ghost use Rattle.ns_devices.specs.Places.{AreWithin, first_fit_at};
 
@@ -182,6 +182,17 @@ impl Devices {
         ensures { self.new ≡ with_change_of name.now.eui (with_round name.now.session name.now.round) self.old }
     {
         self.list[place].open_again(name.session, name.round);
+    }
+
+    /// Goes on in a window's session, as if rounds of its uplink had been opened, closed and acknowledged: this is the last one then, and
+    /// this the number of the next acknowledgement.
+    pub fn go_on(&mut self, name: &WindowName, round: u32, next_ack: u64)
+        ensures { self.new ≡ with_change_of name.now.eui (with_rounds name.now.session round next_ack) self.old }
+    {
+        let Some(place) = self.place(name.eui) else {
+            return;
+        };
+        self.list[place].go_on(name.session, round, next_ack);
     }
 
     /// Uses the next acknowledgement number of a session.

@@ -7,7 +7,7 @@ ghost use Rattle.ns_secure.specs.Counter.{Exceeds, above, below};
 ghost use Rattle.ns_calls.specs.History.{same_ticket};
 ghost use Rattle.ns_sessions.specs.declared.recovery.Recovery.TheVariants.{Above};
 ghost use Rattle.ns_sessions.specs.Recovery.{recovery_counter};
-ghost use Rattle.ns_sessions.specs.Record.{no_joins, session_in, device_fit, IsNewCounter, with_uplink, next_round_in, with_round, ack_in, with_ack, nonce_at_or_above, join_decision, with_join, after_acceptance, answer_decision, with_reply};
+ghost use Rattle.ns_sessions.specs.Record.{no_joins, session_in, device_fit, IsNewCounter, with_uplink, next_round_in, with_round, with_rounds, ack_in, with_ack, nonce_at_or_above, join_decision, with_join, after_acceptance, answer_decision, with_reply};
 
 use crate::decision::{AnswerDecision, JoinDecision};
 use crate::recovery::Recovery;
@@ -150,6 +150,26 @@ impl DeviceState {
         if let Some(pending) = &mut self.pending {
             if pending.number == session {
                 pending.round = round;
+            }
+        }
+    }
+
+    /// Goes on in a session as if rounds of its greatest counter had been opened, closed and acknowledged: this is the last round then, and
+    /// this the number of the next acknowledgement.
+    pub fn go_on(&mut self, session: u32, round: u32, next_ack: u64)
+        ensures { self.new ≡ with_rounds session round next_ack self.old }
+    {
+        if let Some(active) = &mut self.active {
+            if active.number == session {
+                active.round = round;
+                active.next_ack = next_ack;
+                return;
+            }
+        }
+        if let Some(pending) = &mut self.pending {
+            if pending.number == session {
+                pending.round = round;
+                pending.next_ack = next_ack;
             }
         }
     }

@@ -6,3 +6,4 @@ pub mod Room
 pub mod Reaction
 pub mod Uplink
 pub mod Parts
+pub mod Jump
