@@ -19,6 +19,9 @@ use ns_types::{DevNonce, Heard, Key, Ticket};
 use ns_views::DataView;
 use std::marker::Model;
 
+/// The greatest number of live sessions of a device.
+pub const MOST_SESSIONS: usize = 2;
+
 /// What a server keeps of one device: its greatest nonce, its live sessions, and its open tickets, each with the count of its copies and the best of them.
 #[derive(Drop)]
 pub struct DeviceState {

@@ -25,6 +25,20 @@ pub struct Session {
     pub next_ack: u64,
 }
 
+// A place of an `ArrayVec` has a value before a session is there.
+impl Default for Session {
+    fn default() -> Self {
+        Session {
+            number: 0,
+            nwk: Key([0; 16]),
+            app: None,
+            greatest_counter: None,
+            round: 0,
+            next_ack: 0,
+        }
+    }
+}
+
 impl Session {
     /// A session in which nothing was opened yet.
     pub(crate) fn new(number: u32, join: &JoinAns) -> Session

@@ -33,6 +33,15 @@ impl Model for Copies {
 }
 
 impl Copies {
+    /// So many copies, this the best of them.
+    pub fn new(count: u8, best: &Heard) -> Copies
+        requires some { 0 < count }
+        requires few { count ≤ most_copies }
+        ensures { result ≡ record { count = count; best = Some best.now } }
+    {
+        Copies { count, best: *best }
+    }
+
     /// The first copy.
     fn of(heard: &Heard) -> Copies
         ensures { result ≡ copies_record (heard.now ∷ []) }
@@ -43,7 +52,8 @@ impl Copies {
         }
     }
 
-    pub(crate) fn count(&self) -> u8
+    /// The number of copies.
+    pub fn count(&self) -> u8
         ensures is { result ≡ self.now.count }
         ensures within { result ≤ most_copies }
     {
@@ -59,7 +69,7 @@ impl Copies {
     }
 
     /// The best copy.
-    pub(crate) fn best(&self) -> Heard
+    pub fn best(&self) -> Heard
         ensures { self.now.best ≡ Some result }
     {
         self.best
