@@ -80,6 +80,16 @@ fn begins_with<S: BufRead>(source: &mut S, letter: u8) -> Result<bool, Checkpoin
     Ok(source.fill_buf()?.first() == Some(&letter))
 }
 
+// Adds an element at the end of a list.
+fn append<T: Drop>(list: &mut Vec<T>, element: T) -> Result<(), CheckpointFault>
+    ensures { OnOk result (list.new.items ≡ list.old.items ++ element ∷ []) }
+{
+    match list.push(element) {
+        Ok(()) => Ok(()),
+        Err(_) => Err(CheckpointFault::NoMemory),
+    }
+}
+
 impl Reading {
     // Nothing is read yet.
     fn new(alloc: Global) -> Reading
@@ -239,9 +249,7 @@ impl Reading {
                 return Ok(devices);
             }
             let device = self.read_device(source)?;
-            if devices.push(device).is_err() {
-                return Err(CheckpointFault::NoMemory);
-            }
+            append(&mut devices, device)?;
         }
         Ok(devices)
     }
@@ -256,9 +264,7 @@ impl Reading {
                 return Ok(windows);
             }
             let window = self.read_window(source)?;
-            if windows.push(window).is_err() {
-                return Err(CheckpointFault::NoMemory);
-            }
+            append(&mut windows, window)?;
         }
         Ok(windows)
     }
@@ -281,9 +287,7 @@ impl Reading {
         let mut shards = Vec::new(alloc);
         'shards: for number in 0..SHARDS {
             let tables = self.read_tables(alloc, source, number)?;
-            if shards.push(tables).is_err() {
-                return Err(CheckpointFault::NoMemory);
-            }
+            append(&mut shards, tables)?;
         }
         Ok(shards)
     }

@@ -179,7 +179,8 @@ fn lines_of(shards: &[Tables]) -> Option<u64>
 {
     let mut lines: u64 = 0;
     for tables in shards {
-        lines = lines.checked_add(tables.lines()?)?;
+        let more = tables.lines()?;
+        lines = lines.checked_add(more)?;
     }
     Some(lines)
 }
