@@ -101,7 +101,7 @@ pub shards-read : (a b c : Option (List ℕ)) (x y z : Reading) (old new : List 
     → HasRead a b x y (shards_lines 0 old) → length old ≡ n → HasRead b c y z (tables_lines n t) → new ≡ old ++ t ∷ [] → HasRead a c x z (shards_lines 0 new)
 shards-read a b c x y z old new n t p long q is =
     let more : shards_lines 0 new ≡ shards_lines 0 old ++ tables_lines n t =
-        ap (shards_lines 0) is ∙ shards-more 0 old t ∙ ap (λ k. shards_lines 0 old ++ tables_lines k t) (omega (arith, long)) in
+    ap (shards_lines 0) is ∙ shards-more 0 old t ∙ ap (λ k. shards_lines 0 old ++ tables_lines k t) (omega (arith, long)) in
     subst (HasRead a c x z) (sym more) (read-then a b c x y z (shards_lines 0 old) (tables_lines n t) p q)
 
 abbrev head_with : ℕ → ℕ → Head
@@ -110,7 +110,7 @@ head_with lines ups = record { lines = lines; ups = ups }
 -- the whole: the head, the tables, and the sum of both
 pub read-whole : (a b c d : Option (List ℕ)) (x y z : Reading) (head : Head) (w : Checkpoint)
     → x.number ≡ 0 → x.mac ≡ state_of sum_key [] → HasRead a b x y (head_line head ∷ []) → HasRead b c y z (shards_lines 0 w.shards.items)
-    → z.number - 1 ≡ head.lines → head.ups ≡ w.ups
+    → z.number ≡ head.lines + 1 → head.ups ≡ w.ups
     → ((text : List ℕ) → z.mac ≡ state_of sum_key text → Consumes c d (end_line (checksum text) ++ 10 ∷ []))
     → Consumes a d (checkpoint_text w)
 read-whole a b c d x y z head w none sum p q count ups end =

@@ -23,9 +23,10 @@ shards-taken xs i d within =
     ∙ ap (λ k. shards_lines 0 (take i xs) ++ tables_lines k (get_or xs i d)) place
 
 -- their number of lines
-pub count-taken : (xs : List Tables) (i : ℕ) (d : Tables) (lines n : ℕ) → i < length xs → lines ≡ length (shards_lines 0 (take i xs))
-    → ((k : ℕ) → n ≡ length (tables_lines k (get_or xs i d))) → lines + n ≡ length (shards_lines 0 (take (i + 1) xs))
-count-taken xs i d lines n within so more =
-    let now : length (shards_lines 0 (take (i + 1) xs)) ≡ length (shards_lines 0 (take i xs)) + length (tables_lines i (get_or xs i d)) =
-        ap length (shards-taken xs i d within) ∙ length-append (shards_lines 0 (take i xs)) (tables_lines i (get_or xs i d)) in
-    omega (arith, so, more i, now)
+pub count-taken : (xs : List Tables) (i : ℕ) (t : Tables) (lines n : ℕ) → i < length xs → t ≡ get_or xs i t → lines ≡ length (shards_lines 0 (take i xs))
+    → ((k : ℕ) → n ≡ length (tables_lines k t)) → lines + n ≡ length (shards_lines 0 (take (i + 1) xs))
+count-taken xs i t lines n within is so more =
+    let now : length (shards_lines 0 (take (i + 1) xs)) ≡ length (shards_lines 0 (take i xs)) + length (tables_lines i t) =
+    ap length (shards-taken xs i t within ∙ ap (λ u. shards_lines 0 (take i xs) ++ tables_lines i u) (sym is)) ∙ length-append (shards_lines 0 (take i xs)) (tables_lines i t) in
+    let this : n ≡ length (tables_lines i t) = more i in
+    omega (arith, so, this, now)
