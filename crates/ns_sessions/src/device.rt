@@ -211,8 +211,7 @@ impl DeviceState {
         }
     }
 
-    /// Goes on in a session as if rounds of its greatest counter had been opened, closed and acknowledged: this is the last round then, and
-    /// this the number of the next acknowledgement.
+    /// Sets the last round and the next acknowledgement number of a session, as rounds of its greatest counter leave them.
     pub fn go_on(&mut self, session: u32, round: u32, next_ack: u64)
         ensures { self.new ≡ with_rounds session round next_ack self.old }
     {
