@@ -1,4 +1,4 @@
--- A round that was run, and then so many that were not, are the rounds: what a trim between them leaves makes no difference.
+-- One round that was run and more that were not leave what all rounds leave: a trim between them makes no difference.
 use Rattle.std.proofs.Common.{◌≡◌, ℕ, suc, ◌+◌, ◌*◌, ◌-◌, ◌<◌, ◌≤◌, ◌^◌, ◌==◌, Bool, true, false, nat_lt, List, [], ◌∷◌, ◌++◌, length, Option, Some, option_map, unwrap_or, refl, sym, ap, subst, ◌∙◌, arith, length-append}
 use Rattle.std.specs.List.{list_any}
 use Rattle.std.specs.Arc.{arc_value}
