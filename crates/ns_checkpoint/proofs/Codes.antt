@@ -32,7 +32,7 @@ append-split xs ys r s long e = (
   sym (drop-append_seam xs r) ∙ ap (drop (length xs)) e ∙ ap (λ n. drop n (ys ++ s)) long ∙ drop-append_seam ys s,
 )
 
-apart : (a b r c d s : List ℕ) → (a ++ b) ++ r ≡ (c ++ d) ++ s → a ++ (b ++ r) ≡ c ++ (d ++ s)
+pub apart : (a b r c d s : List ℕ) → (a ++ b) ++ r ≡ (c ++ d) ++ s → a ++ (b ++ r) ≡ c ++ (d ++ s)
 apart a b r c d s e = sym (append_assoc a b r) ∙ e ∙ append_assoc c d s
 
 -- one after the other

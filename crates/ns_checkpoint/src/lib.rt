@@ -16,7 +16,7 @@ mod tables;
 mod write;
 
 pub use fault::CheckpointFault;
-pub use laws::lines_have_one_reading;
+pub use laws::{lines_have_one_reading, texts_have_one_reading};
 pub use lines::{
     copy_line, device_line, end_line, head_line, shard_line, ticket_line, window_line,
 };
