@@ -1,10 +1,8 @@
 -- No two checkpoints have one text.
-use Rattle.std.proofs.Common.{◌≡◌, ℕ, ◌+◌, ◌<◌, List, [], ◌∷◌, ◌++◌, length, get_or, map, flat_map, Option, refl, sym, ap, subst, ◌∙◌, append_assoc, append-nil, arith}
-use Rattle.std.specs.Prelude.{codes}
+use Rattle.std.proofs.Common.{◌≡◌, ℕ, ◌+◌, List, [], ◌∷◌, ◌++◌, length, get_or, map, flat_map, refl, sym, ap, subst, ◌∙◌, append_assoc, arith}
 use Rattle.std.specs.List.{AllByRecursion}
 use Rattle.std.proofs.lemmas.List.{append_cancel_left}
 use Rattle.std.proofs.lemmas.List.Folds.{flat_map-map}
-use Rattle.ns_types.specs.Identity.{shard_count}
 use Rattle.ns_types.specs.declared.heard.Heard.{Heard}
 use Rattle.ns_sessions.specs.declared.ticket.OpenTicket.{OpenTicket}
 use Rattle.ns_windows.specs.declared.window.Window.{Window}
@@ -13,10 +11,10 @@ use Rattle.ns_checkpoint.specs.declared.tables.Tables.{Tables}
 use Rattle.ns_checkpoint.specs.declared.tables.Head.{Head}
 use Rattle.ns_checkpoint.specs.declared.tables.Checkpoint.{Checkpoint}
 use Rattle.ns_checkpoint.specs.Text.{lines_text, head_line, shard_line, device_line, ticket_line, window_line, copy_line, end_line, device_lines, window_lines, tables_lines, shards_lines, summed_lines, checksum, checkpoint_text}
-use Rattle.ns_checkpoint.specs.Whole.{IsHead, IsHeard, IsOpenTicket, IsDevice, IsWindow, AreTables, IsCheckpoint, contents}
+use Rattle.ns_checkpoint.specs.Whole.{IsHead, IsDevice, IsWindow, AreTables, IsCheckpoint, contents}
 use Rattle.ns_checkpoint.proofs.ReadLines.{text-append}
 use Rattle.ns_checkpoint.proofs.Codes.{Splits, SplitsLine, apart, to-line}
-use Rattle.ns_checkpoint.proofs.OneReading.{DeviceParts, AreDeviceParts, device-parts, device-code, device-line, are-device-parts, WindowParts, AreWindowParts, window-parts, window-code, window-line, are-window-parts, ticket-split, copy-split, head-split}
+use Rattle.ns_checkpoint.proofs.OneReading.{DeviceParts, device-parts, device-line, are-device-parts, WindowParts, window-parts, window-line, are-window-parts, ticket-split, copy-split, head-split}
 
 letter : List ℕ → ℕ
 letter l = get_or l 0 0

@@ -1,5 +1,8 @@
 //! What shards answer from, as plain values.
 
+ghost use Rattle.std.specs.Prelude.{◌↔◌, IsTrue};
+ghost use Rattle.ns_checkpoint.specs.Unjoined.{IsUnjoined};
+
 use arrayvec::ArrayVec;
 use ns_calls::MOST_TICKETS;
 use ns_sessions::{MOST_SESSIONS, OpenTicket, Session};
@@ -18,6 +21,19 @@ pub struct DeviceTable {
     pub sessions: ArrayVec<Session, MOST_SESSIONS>,
     /// The open tickets, in the order in which they were asked for.
     pub tickets: ArrayVec<OpenTicket, MOST_TICKETS>,
+}
+
+impl DeviceTable {
+    /// Whether this is the table of a device that has not joined and has no open ticket, where the roster has this last nonce. Such a device
+    /// needs no line: a device without one is read as this.
+    pub fn is_unjoined(&self, last_nonce: Option<DevNonce>) -> bool
+        ensures { IsTrue result ↔ IsUnjoined last_nonce self.now }
+    {
+        self.greatest == last_nonce
+            && self.next_session == 1
+            && self.sessions.is_empty()
+            && self.tickets.is_empty()
+    }
 }
 
 /// What one shard answers from.
