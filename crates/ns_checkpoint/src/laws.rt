@@ -10,7 +10,7 @@ ghost use Rattle.ns_checkpoint.specs.declared.tables.Head.{Head};
 ghost use Rattle.ns_checkpoint.specs.Text.{head_line, device_line, ticket_line, window_line, copy_line, checkpoint_text};
 ghost use Rattle.ns_checkpoint.specs.Whole.{IsHead, IsDevice, IsOpenTicket, IsWindow, IsHeard, IsCheckpoint, HaveOneLine, HaveOneWindowLine, contents};
 
-/// A line has one reading: what two values of one line are differs in nothing that the line has.
+/// A line has one reading: two values with the same line are equal, but for what other lines have of them.
 pub fn lines_have_one_reading()
     ensures head { (a b : Head) → IsHead a → IsHead b → head_line a ≡ head_line b → a ≡ b }
     ensures device { (a b : DeviceTable) → IsDevice a → IsDevice b → device_line a ≡ device_line b → HaveOneLine a b }

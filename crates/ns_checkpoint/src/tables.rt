@@ -13,7 +13,7 @@ use ns_windows::Window;
 #[derive(Drop)]
 pub struct DeviceTable {
     pub eui: DevEui,
-    /// The greatest DevNonce: of those accepted, and of the last one that the roster has.
+    /// The greatest of the accepted DevNonces and the roster's last one.
     pub greatest: Option<DevNonce>,
     /// The number of the session that the next join begins.
     pub next_session: u32,
@@ -24,8 +24,8 @@ pub struct DeviceTable {
 }
 
 impl DeviceTable {
-    /// Whether this is the table of a device that has not joined and has no open ticket, where the roster has this last nonce. Such a device
-    /// needs no line: a device without one is read as this.
+    /// Whether the device has not joined and has no open ticket, and the roster's last nonce is this. Such a device needs no line, since a
+    /// missing device means the same.
     pub fn is_unjoined(&self, last_nonce: Option<DevNonce>) -> bool
         ensures { IsTrue result ↔ IsUnjoined last_nonce self.now }
     {
@@ -54,7 +54,7 @@ pub struct Head {
     pub ups: u64,
 }
 
-/// A checkpoint as it is read.
+/// What a checkpoint has.
 #[derive(Drop)]
 pub struct Checkpoint {
     /// The number of bytes of `up` lines that were written before it.
