@@ -1,5 +1,6 @@
 mod Codes
 mod OneReading
+mod OneText
 mod ReadLines
 mod Shards
 mod WrittenLines

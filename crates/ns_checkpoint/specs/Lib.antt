@@ -2,3 +2,4 @@ pub mod Text
 pub mod Whole
 pub mod Written
 pub mod Private
+pub mod Unjoined

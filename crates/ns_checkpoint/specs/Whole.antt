@@ -1,5 +1,5 @@
 -- What a program's types say of the values of a checkpoint: numbers fit their widths, and keys, tickets and frames are bytes.
-use Rattle.std.specs.Prelude.{◌≡◌, ℕ, ◌<◌, ◌^◌, List, length, IfSome, FitsSigned}
+use Rattle.std.specs.Prelude.{◌≡◌, ℕ, ◌<◌, ◌^◌, List, length, map, IfSome, FitsSigned}
 use Rattle.std.specs.List.{AllByRecursion}
 use Rattle.std.specs.Int.{w16}
 use Rattle.ns_types.specs.Bytes.{AreBytes}
@@ -10,6 +10,10 @@ use Rattle.ns_sessions.specs.declared.ticket.OpenTicket.{OpenTicket}
 use Rattle.ns_windows.specs.declared.window.Window.{Window}
 use Rattle.ns_checkpoint.specs.declared.tables.DeviceTable.{DeviceTable}
 use Rattle.ns_checkpoint.specs.declared.tables.Head.{Head}
+use Rattle.ns_checkpoint.specs.declared.tables.Tables.{Tables}
+use Rattle.ns_checkpoint.specs.declared.tables.Checkpoint.{Checkpoint}
+use Rattle.ns_types.specs.Identity.{shard_count}
+use Rattle.ns_checkpoint.specs.Text.{shards_lines}
 
 -- so many bytes
 pub record AreSoManyBytes (n : ℕ) (text : List ℕ) : Type 0 where
@@ -45,6 +49,7 @@ pub record IsDevice (d : DeviceTable) : Type 0 where
   pub greatest : IfSome d.greatest (λ n. n.0 < 2 ^ 16)
   pub next_session : d.next_session < 2 ^ 32
   pub sessions : AllByRecursion IsSession d.sessions.items
+  pub tickets : AllByRecursion IsOpenTicket d.tickets.items
 
 pub record IsWindow (w : Window) : Type 0 where
   pub eui : w.name.eui.0 < 2 ^ 64
@@ -54,10 +59,26 @@ pub record IsWindow (w : Window) : Type 0 where
   pub nwk : IsKey w.nwk
   pub app : IfSome w.app IsKey
   pub frame : AreBytes w.frame
+  pub copies : AllByRecursion IsHeard w.copies.items
 
 pub record IsHead (head : Head) : Type 0 where
   pub lines : head.lines < 2 ^ 64
   pub ups : head.ups < 2 ^ 64
+
+pub record AreTables (t : Tables) : Type 0 where
+  pub devices : AllByRecursion IsDevice t.devices.items
+  pub windows : AllByRecursion IsWindow t.windows.items
+
+-- there are sixteen shards, and so few lines that 64 bits have their number
+pub record IsCheckpoint (c : Checkpoint) : Type 0 where
+  pub ups : c.ups < 2 ^ 64
+  pub shards : AllByRecursion AreTables c.shards.items
+  pub sixteen : length c.shards.items ≡ shard_count
+  pub few : length (shards_lines 0 c.shards.items) < 2 ^ 64
+
+-- the devices and the windows of each shard
+abbrev pub contents : Checkpoint → List (List DeviceTable × List Window)
+contents c = map (λ t. (t.devices.items, t.windows.items)) c.shards.items
 
 -- two devices are the same but for their tickets, which have lines of their own
 pub record HaveOneLine (d e : DeviceTable) : Type 0 where

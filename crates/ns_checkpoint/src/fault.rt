@@ -16,7 +16,7 @@ pub enum CheckpointFault {
     /// The source failed.
     #[error("checkpoint: io")]
     Io,
-    /// The first line is not the head of a checkpoint of version 1, or it announces more lines than 65,536 devices can have.
+    /// The first line is not the head of a checkpoint of version 1.
     #[error("checkpoint: line 1 is not the head of a checkpoint of version 1")]
     BadHead,
     /// This line has no line feed, or is longer than any line of a checkpoint.
@@ -25,7 +25,7 @@ pub enum CheckpointFault {
     /// This line is not of the form that its place needs.
     #[error("checkpoint: line {0} is not a line that belongs there")]
     BadLine(u64),
-    /// The number of lines up to this one differs from the head's.
+    /// The tables end in this line, and the head has another number of lines.
     #[error("checkpoint: line {0} is not the last one that line 1 announces")]
     BadCount(u64),
     /// The checksum in this line differs from that of the lines before it.

@@ -103,7 +103,7 @@ impl<'a> Fields<'a> {
         })
     }
 
-    /// The sessions that the rest of the line tells.
+    /// The sessions in the rest of the line.
     pub(crate) fn sessions(&mut self) -> Option<ArrayVec<Session, MOST_SESSIONS>> {
         let mut sessions = ArrayVec::new();
         'sessions: for _ in 0..MOST_SESSIONS {

@@ -1,7 +1,7 @@
 //! The text of a checkpoint: the tables that the shards answer from, line by line, with a checksum.
 //!
-//! `specs/Text.antt` has the text. `write_checkpoint` writes exactly that, and `read_checkpoint` reads it alone: each line is compared with the
-//! one that what was read of it would be written as, so a line has one reading. A law says that no two checkpoints have one text.
+//! `specs/Text.antt` has the text. `write_checkpoint` writes exactly that, and `read_checkpoint` accepts nothing else: it
+//! writes each value that it read again, and compares the lines. A law says that no two checkpoints have the same text.
 //! The crate stands on the types of `ns_sessions` and `ns_windows`, and on the CMAC of `ns_aes_cmac` for the checksum.
 #![tactic(auto)]
 
@@ -16,7 +16,7 @@ mod tables;
 mod write;
 
 pub use fault::CheckpointFault;
-pub use laws::lines_have_one_reading;
+pub use laws::{lines_have_one_reading, texts_have_one_reading};
 pub use lines::{
     copy_line, device_line, end_line, head_line, shard_line, ticket_line, window_line,
 };

@@ -1,4 +1,4 @@
-//! The lines of a checkpoint, read one by one. Each is compared with the line that its reading is written as.
+//! The lines of a checkpoint, read one by one. Each value is written again, and accepted only if that gives the same line.
 
 ghost use Rattle.std.specs.Prelude.{◌≡◌, [], IfSome};
 ghost use Rattle.std.specs.Bool.{OnTrue};
@@ -22,7 +22,7 @@ fn is_line(line: &[u8], written: &Line) -> bool
     line == written.as_str().as_bytes()
 }
 
-/// The head that a first line tells.
+/// The head in a first line.
 pub fn head_in(line: &[u8]) -> Option<Head>
     ensures { IfSome result (λ head. line.now ≡ head_line head) }
 {
@@ -38,7 +38,7 @@ pub fn head_in(line: &[u8]) -> Option<Head>
     }
 }
 
-/// The device that a line tells, with no tickets.
+/// The device in a line, with no tickets.
 pub fn device_in(line: &[u8]) -> Option<DeviceTable>
     ensures line { IfSome result (λ d. line.now ≡ device_line d) }
     ensures no_tickets { IfSome result (λ d. d.tickets.items ≡ []) }
@@ -58,7 +58,7 @@ pub fn device_in(line: &[u8]) -> Option<DeviceTable>
     }
 }
 
-/// The open ticket that a line tells.
+/// The open ticket in a line.
 pub fn ticket_in(line: &[u8]) -> Option<OpenTicket>
     ensures { IfSome result (λ t. line.now ≡ ticket_line t) }
 {
@@ -95,7 +95,7 @@ fn frame_in(fields: &Fields) -> Option<DataFrame> {
     }
 }
 
-/// The open window that a line tells, with no copies.
+/// The open window in a line, with no copies.
 pub fn window_in(line: &[u8]) -> Option<Window>
     ensures line { IfSome result (λ w. line.now ≡ window_line w) }
     ensures no_copies { IfSome result (λ w. w.copies.items ≡ []) }
@@ -121,7 +121,7 @@ pub fn window_in(line: &[u8]) -> Option<Window>
     }
 }
 
-/// The copy that a line tells.
+/// The copy in a line.
 pub fn copy_in(line: &[u8]) -> Option<Heard>
     ensures { IfSome result (λ h. line.now ≡ copy_line h) }
 {

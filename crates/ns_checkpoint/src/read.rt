@@ -27,10 +27,10 @@ use std::mem;
 // The longest line, that of a window with a frame of 255 bytes, has fewer bytes.
 const MOST_BYTES: usize = 1024;
 
-// A shard has at most so many devices: all that a roster can have.
+// The greatest number of devices of a shard: all that a roster can have.
 const MOST_DEVICES: usize = 65_536;
 
-// A shard has at most so many windows: eight of each device.
+// The greatest number of open windows of a shard: eight of each device.
 const MOST_WINDOWS: usize = 524_288;
 
 // The lines of a checkpoint, as they are read.
@@ -55,7 +55,7 @@ fn before_feed(shown: &[u8]) -> (usize, bool)
     }
 }
 
-// Reads of a line what the source has at hand, and returns whether that ends the line.
+// Reads the bytes of a line that the source has buffered, and returns whether the line ends there.
 fn read_part<S: BufRead>(
     source: &mut S,
     line: &mut Vec<u8>,
@@ -73,7 +73,7 @@ fn read_part<S: BufRead>(
     Ok(is_whole)
 }
 
-// Whether the next line begins with a letter. Lines of two kinds never begin with the same one where both may follow.
+// Whether the next line begins with a letter. Where lines of two kinds may follow, their first letters differ.
 fn begins_with<S: BufRead>(source: &mut S, letter: u8) -> Result<bool, CheckpointFault>
     ensures { OnOk result (Keeps (S.remaining source.old) (S.remaining source.new)) }
 {
@@ -132,7 +132,7 @@ impl Reading {
         Ok(())
     }
 
-    // That the last line is not one that belongs there.
+    // The fault of the last line, which does not belong there.
     fn bad_line(&self) -> CheckpointFault {
         CheckpointFault::BadLine(self.number)
     }
@@ -318,7 +318,7 @@ impl Reading {
         Ok(shards)
     }
 
-    // Whether the head announces as many lines as came after it.
+    // Refuses a head with another number of lines than came after it.
     fn check_count(&self, head: &Head) -> Result<(), CheckpointFault>
         ensures { OnOk result (self.now.number ≡ head.now.lines + 1) }
     {
@@ -354,7 +354,8 @@ impl Reading {
     }
 }
 
-/// Reads a checkpoint from its first line to its last one, and nothing that follows.
+/// Reads a checkpoint from its first line to its last one, and nothing after it. Memory grows with the tables alone: a line has at most
+/// 1,024 bytes, a shard at most 65,536 devices and 524,288 windows.
 pub fn read_checkpoint<S: BufRead>(
     alloc: Global,
     source: &mut S,

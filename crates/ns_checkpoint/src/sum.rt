@@ -1,4 +1,5 @@
-//! The checksum of a text: the front of its AES-CMAC (RFC 4493) under a key that everybody knows. It finds accidents, and no forger.
+//! The checksum of a text: the front of its AES-CMAC (RFC 4493) under a key that everybody knows. It detects accidents.
+//! It does not stop anybody who changes a text on purpose.
 
 ghost use Rattle.std.specs.Prelude.{◌≡◌, ℕ, List, [], take};
 ghost use Rattle.ns_aes_cmac.specs.Cmac.{cmac};

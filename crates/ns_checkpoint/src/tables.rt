@@ -1,5 +1,8 @@
 //! What shards answer from, as plain values.
 
+ghost use Rattle.std.specs.Prelude.{◌↔◌, IsTrue};
+ghost use Rattle.ns_checkpoint.specs.Unjoined.{IsUnjoined};
+
 use arrayvec::ArrayVec;
 use ns_calls::MOST_TICKETS;
 use ns_sessions::{MOST_SESSIONS, OpenTicket, Session};
@@ -10,7 +13,7 @@ use ns_windows::Window;
 #[derive(Drop)]
 pub struct DeviceTable {
     pub eui: DevEui,
-    /// The greatest DevNonce: of those accepted, and of the last one that the roster has.
+    /// The greatest of the accepted DevNonces and the roster's last one.
     pub greatest: Option<DevNonce>,
     /// The number of the session that the next join begins.
     pub next_session: u32,
@@ -18,6 +21,19 @@ pub struct DeviceTable {
     pub sessions: ArrayVec<Session, MOST_SESSIONS>,
     /// The open tickets, in the order in which they were asked for.
     pub tickets: ArrayVec<OpenTicket, MOST_TICKETS>,
+}
+
+impl DeviceTable {
+    /// Whether the device has not joined and has no open ticket, and the roster's last nonce is this. Such a device needs no line, since a
+    /// missing device means the same.
+    pub fn is_unjoined(&self, last_nonce: Option<DevNonce>) -> bool
+        ensures { IsTrue result ↔ IsUnjoined last_nonce self.now }
+    {
+        self.greatest == last_nonce
+            && self.next_session == 1
+            && self.sessions.is_empty()
+            && self.tickets.is_empty()
+    }
 }
 
 /// What one shard answers from.
@@ -38,7 +54,7 @@ pub struct Head {
     pub ups: u64,
 }
 
-/// A checkpoint as it is read.
+/// What a checkpoint has.
 #[derive(Drop)]
 pub struct Checkpoint {
     /// The number of bytes of `up` lines that were written before it.

@@ -171,7 +171,7 @@ fn window_count(windows: &[Window]) -> Option<u64>
 }
 
 impl Tables {
-    /// The number of lines of these tables. There is none of 64 bits if there are too many.
+    /// The number of lines of these tables, with that of their shard. None if it does not fit 64 bits.
     pub fn lines(&self) -> Option<u64>
         ensures { IfSome result (λ n. (number : ℕ) → n ≡ length (tables_lines number self.now)) }
     {
@@ -181,7 +181,7 @@ impl Tables {
     }
 }
 
-// The sum of two numbers, if it has 64 bits.
+// The sum of two numbers. None if it does not fit 64 bits.
 fn sum_of(a: u64, b: u64) -> Option<u64>
     ensures { IfSome result (λ n. n ≡ a + b) }
 {

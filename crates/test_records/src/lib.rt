@@ -11,6 +11,8 @@
 #[cfg(test)]
 mod ahead;
 #[cfg(test)]
+mod checkpoint;
+#[cfg(test)]
 mod chosen;
 #[cfg(test)]
 mod folder;

@@ -1,4 +1,4 @@
-use Rattle.std.proofs.Common.{◌≡◌, [], ◌∷◌, take}
+use Rattle.std.proofs.Common.{[], ◌∷◌, take}
 use Rattle.ns_aes_cmac.specs.CmacState.{state_of}
 use Rattle.ns_checkpoint.specs.Text.{sum_key, head_line, shards_lines}
 use Rattle.ns_checkpoint.specs.Written.{HasWritten}

@@ -1,4 +1,4 @@
-use Rattle.std.proofs.Common.{◌++◌, [], ◌∷◌, length, length-append, ap, arith}
+use Rattle.std.proofs.Common.{[], ◌∷◌, length, length-append, ap, arith}
 use Rattle.ns_checkpoint.proofs.ReadLines.{shards-read}
 use Rattle.ns_checkpoint.proofs.read.Reading.read_shards.Goals as goal
 

@@ -1,4 +1,4 @@
-use Rattle.std.proofs.Common.{◌-◌, length, map, flat_map}
+use Rattle.std.proofs.Common.{◌-◌, length, map}
 use Rattle.ns_checkpoint.specs.Text.{ticket_line}
 use Rattle.ns_checkpoint.specs.Private.Reading.{HasRead}
 use Rattle.ns_checkpoint.proofs.read.Reading.read_tickets.Given as goal

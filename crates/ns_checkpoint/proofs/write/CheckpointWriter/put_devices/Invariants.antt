@@ -1,4 +1,4 @@
-use Rattle.std.proofs.Common.{map, flat_map, take}
+use Rattle.std.proofs.Common.{flat_map, take}
 use Rattle.ns_checkpoint.specs.Text.{device_lines}
 use Rattle.ns_checkpoint.specs.Written.{HasWritten}
 use Rattle.ns_checkpoint.proofs.write.CheckpointWriter.put_devices.Given as goal
