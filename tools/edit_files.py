@@ -88,18 +88,44 @@ def without_brackets(text):
     return kept
 
 
+def arguments_of(text):
+    """What stands between the first < and its >, cut at commas that stand in no other brackets."""
+    depth, found = 0, [""]
+    for sign in text.partition("<")[2]:
+        depth += {"<": 1, ">": -1}.get(sign, 0)
+        if depth < 0:
+            return [it.strip() for it in found]
+        if sign == "," and depth == 0:
+            found.append("")
+        else:
+            found[-1] += sign
+    return []
+
+
+def name_in(text):
+    """The last name of a path, without what stands between < and >."""
+    return (re.findall(r"\w+", without_brackets(text)) or [""])[-1]
+
+
 def owner_at(text, place):
     """The type, and the trait where there is one, of the `impl` or `trait` that a place lies in, as a check prints them: `FuseSource` of
-    `impl Source for Fuse`. None where it lies in none."""
+    `impl Source for Fuse`, `FaultFromFailed` of `impl From<Failed> for Fault`. None where it lies in none."""
     found = None
     for head in re.finditer(r"(?m)^( *)(?:pub(?:\(\w+\))? )?(impl|trait)\b([^{;]*)\{", text[:place]):
         if not re.search(rf"(?m)^{head[1]}\}}", text[head.end():place]):
             found = head
     if found is None:
         return None
-    words = re.sub(r"\bwhere\b.*", "", without_brackets(found[3]), flags=re.S)
-    names = [re.findall(r"\w+", part)[-1] for part in re.split(r"\bfor\b", words) if re.findall(r"\w+", part)]
-    return re.match(r"\s*(\w+)", words)[1] if found[2] == "trait" else "".join(reversed(names))
+    words = re.sub(r"\bwhere\b.*", "", found[3], flags=re.S)
+    if found[2] == "trait":
+        return re.match(r"\s*(\w+)", words)[1]
+    own = []
+    if words.startswith("<"):
+        own = [name_in(it.partition(":")[0]) for it in arguments_of(words)]
+        words = words[len(words) - len(re.sub(r"^<(?:[^<>]|<[^<>]*>)*>", "", words)):]
+    trait, _, kind = words.rpartition(" for ")
+    given = [name_in(it) for it in arguments_of(trait)]
+    return name_in(kind) + name_in(trait) + "".join(it for it in given if it not in own)
 
 
 def functions_of(edit, folder):

@@ -187,9 +187,23 @@ fn steps_are_counted(rt: HostRuntime) {
     assert!(rt; made == 6, "{made}");
 }
 
+/// A refused step leaves shard and pass as they were, and succeeds with memory.
+#[test]
+fn steps_refused_until_memory_is_back(rt: HostRuntime) {
+    let made = made_by(rt.alloc(), Deed::Refused);
+    assert!(rt; made == 6, "{made}");
+}
+
 /// Closings and join answers that find their window or ticket open take no memory.
 #[test]
 fn closing_steps_take_no_memory(rt: HostRuntime) {
     let made = made_by(rt.alloc(), Deed::Closings);
     assert!(rt; made >= 26, "{made}");
+}
+
+/// A refused trim leaves windows and tickets open.
+#[test]
+fn kept_trim_refused_until_memory_is_back(rt: HostRuntime) {
+    let made = made_by(rt.alloc(), Deed::TrimRefused);
+    assert!(rt; made == 26, "{made}");
 }
