@@ -3,9 +3,9 @@
 use ns_calls::{Call, Outcome, Reply, shard_of_call};
 use ns_device::calls::ticket;
 use ns_device::traffic::{answer, join, join_reply, keys, roster, uplink};
-use ns_shard::{BoxedAnswer, Shard};
+use ns_shard::Shard;
 use ns_types::{BLOCKS, DevAddr, DevEui, DevNonce, WindowName, take_all};
-use std::alloc::{AllocError, Global};
+use std::alloc::Global;
 use std::sync::Arc;
 
 const DEVICE: u32 = 13;
@@ -172,53 +172,4 @@ fn are_ended_without(alloc: Global) -> Option<bool> {
 #[test]
 fn endings_take_no_memory(rt: HostRuntime) {
     assert!(rt; are_ended_without(rt.alloc()) == Some(true));
-}
-
-// Takes the blocks of a size that are left.
-fn take_size(alloc: Global, size: usize, held: &mut Vec<Vec<u8>>) -> Result<(), AllocError> {
-    for _ in held.len()..BLOCKS {
-        let Ok(block) = Vec::with_capacity(alloc, size) else {
-            return Ok(());
-        };
-        held.push(block)?;
-    }
-    Ok(())
-}
-
-// Takes all memory that is left, of each size up to 2 KB. An allocator keeps freed blocks by size, and gives them for that size alone.
-fn take_each_size(alloc: Global, held: &mut Vec<Vec<u8>>) -> Result<(), AllocError> {
-    take_all(alloc, held)?;
-    for sixteenths in 1..129usize {
-        take_size(alloc, sixteenths.wrapping_mul(16), held)?;
-    }
-    Ok(())
-}
-
-// The boxed answer to a call of the shard. None where memory was refused.
-fn boxed(alloc: Global, shard: &mut Shard, call: &Call) -> Option<BoxedAnswer> {
-    if shard_of_call(call) != shard.index() {
-        return None;
-    }
-    shard.apply_boxed(alloc, call).ok()
-}
-
-// Whether a boxed closing with no memory left is refused and changes nothing, and is answered where memory is given back.
-fn is_refused_and_answered(alloc: Global) -> Option<bool> {
-    let mut held: Vec<Vec<u8>> = Vec::with_capacity(alloc, BLOCKS).ok()?;
-    let mut shard = opened(alloc)?;
-    let (made, window) = (shard.made(), window(0));
-    take_each_size(alloc, &mut held).ok()?;
-    let call = Call::Close { window };
-    let is_refused = boxed(alloc, &mut shard, &call).is_none();
-    let is_same = shard.made() == made && shard.oldest() == Some(window);
-    drop(held);
-    let closed = boxed(alloc, &mut shard, &call)?;
-    let is_closed = closed.reply() == Reply::Closed { window, ack: None } && closed.has_uplink();
-    Some(is_refused && is_same && is_closed && shard.made() == made.wrapping_add(1))
-}
-
-/// A boxed closing takes memory for what goes out before it changes anything: refused, the window is still open.
-#[test]
-fn boxed_closing_is_refused_whole(rt: HostRuntime) {
-    assert!(rt; is_refused_and_answered(rt.alloc()) == Some(true));
 }
