@@ -35,11 +35,11 @@ def below(crate, libraries):
     return found
 
 
-def words_of(kit, checkout, crate, functions, keeps=True):
-    """The check's command line. What it checks is kept for the next one unless told otherwise."""
+def words_of(kit, checkout, crate, functions, kept=None):
+    """The command line of a check of functions, or with none of the whole crate. What it checks is kept in a folder, where one is given."""
     libraries = stands_on()
     built = {one: os.path.join(checkout, 'crates', one, 'out', 'rlib') for one in below(crate, libraries)}
-    missing = [one for one, folder in built.items() if not os.path.isdir(folder)]
+    missing = [one for one, folder in built.items() if not os.path.isdir(os.path.join(folder, one + '.rlib'))]
     if missing:
         sys.exit('not built in %s: %s' % (checkout, ', '.join(missing)))
     root = 'src/main.rt' if os.path.exists(os.path.join(ROOT, 'crates', crate, 'src', 'main.rt')) else 'src/lib.rt'
@@ -51,8 +51,7 @@ def words_of(kit, checkout, crate, functions, keeps=True):
         if name in libraries[crate]:
             words += ['--extern', '%s=%s/%s.rlib' % (name, folder, name)]
     words += ['--antt-project', kit + '/rattle/logic/antt-project.json', '--logic-built', kit + '/logic_built', '--links', crate + '=']
-    if keeps:
-        kept = os.path.join(tempfile.gettempdir(), 'check_functions', crate)
+    if kept:
         os.makedirs(kept, exist_ok=True)
         words += ['--incremental', kept]
     return words + [word for function in functions for word in ('--only', function)]
@@ -62,7 +61,8 @@ def main():
     if len(sys.argv) < 4:
         sys.exit(__doc__)
     kit = os.path.dirname(subprocess.run(['rt', 'doc'], capture_output=True, text=True, check=True).stdout.strip())
-    words = words_of(kit, os.path.abspath(sys.argv[1]), sys.argv[2], sys.argv[3:])
+    kept = os.path.join(tempfile.gettempdir(), 'check_functions', sys.argv[2])
+    words = words_of(kit, os.path.abspath(sys.argv[1]), sys.argv[2], sys.argv[3:], kept)
     ran = subprocess.run(words, cwd=os.path.join(ROOT, 'crates', sys.argv[2]), stdout=subprocess.PIPE, stderr=subprocess.STDOUT, text=True)
     for line in ran.stdout.splitlines():
         if not QUIET.match(line):

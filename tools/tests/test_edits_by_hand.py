@@ -14,9 +14,11 @@ SCRIPT = os.path.join(TOOLS, 'edits_by_hand')
 RT = r'''#!/bin/sh
 if [ "$1" = check ]; then
     if grep -q HANG src/*; then exec sleep 60; fi
-    sed -n 's/.*WRONG_\([a-z]*\).*/fn low::\1: no proof: `search` did not prove `is`/p; s/.*LATER_\([a-z]*\).*/fn low::\1: no proof: it calls another/p' src/*
+    sed -n 's/.*WRONG_\([a-zA-Z:]*\).*/fn low::\1: no proof: `search` did not prove `is`/p; s/.*LATER_\([a-zA-Z:]*\).*/fn low::\1: no proof: it calls another/p' src/*
     if grep -q 'WRONG\|LATER' src/*; then echo "note: src/lib.rt:1:1: it is not proved"; echo logic=not-proved; exit 1; fi
     echo "crate: modules loaded"; echo logic=proved
+elif [ "$1" = doc ]; then
+    echo "$(dirname "$0")/../kit/START-HERE.md"
 elif [ -f src/main.rt ]; then
     echo "$*"; cat ../low/src/lib.rt; printf '\nrun=ended\n' >&2
 else
@@ -24,6 +26,25 @@ else
     echo "test it::fails ... FAILED"; echo "test result: FAILED."
 fi
 '''
+
+# The checker: of a function that is asked for it says what its line has a word for, and that it is proved if no line names it. With no
+# function it checks the whole crate. It cannot read a file with the word UNREAD.
+RATTLE = r'''#!/bin/sh
+if grep -q UNREAD src/*; then echo "src/lib.rt:1:1: error: no such name"; exit 1; fi
+if echo "$*" | grep -q -e --only; then
+    while [ $# -gt 0 ]; do
+        if [ "$1" = --only ]; then
+            if grep -q "WRONG_$2" src/*; then echo "fn low::$2: no proof: \`search\` did not prove \`is\`"
+            elif grep -q "LATER_$2" src/*; then echo "fn low::$2: no proof: it calls another"
+            else echo "fn low::$2: proved"; fi
+        fi
+        shift
+    done
+elif grep -q 'WRONG\|LATER\|= 3' src/*; then echo "note: src/lib.rt:1:1: it is not proved"; echo logic=not-proved; exit 1
+else echo "crate: modules loaded"; echo logic=proved; fi
+'''
+FUNCTIONS = ('const A: u8 = 1;\nfn f() {\n    two\n}\n\nimpl B {\n    pub fn g(&self)\n        ensures { x }\n'
+             '    {\n        three\n    }\n\n    fn h() {\n        four\n    }\n}\n')
 
 
 class Edits(unittest.TestCase):
@@ -35,7 +56,10 @@ class Edits(unittest.TestCase):
         os.chmod(self.room + '/bin/rt', 0o755)
         os.mkdir(self.room + '/tmp')
         os.mkdir(self.room + '/tools')
-        shutil.copy(SCRIPT, self.room + '/tools')
+        for name in ('edits_by_hand', 'edit_files.py', 'body_checks.py', 'check_functions.py'):
+            shutil.copy(os.path.join(TOOLS, name), self.room + '/tools')
+        self.put('kit/bin/rattle', RATTLE)
+        os.chmod(self.room + '/kit/bin/rattle', 0o755)
         self.put('crates.txt', '# Crates: low\nlow:\nhigh: low itoa\n')
         self.put('crates/low/src/lib.rt', 'one\ntwo two\n')
         self.put('crates/high/src/lib.rt', 'three\n')
@@ -57,7 +81,7 @@ class Edits(unittest.TestCase):
     def says(self, *words):
         """The status, and each line without its seconds."""
         child = self.started(*words)
-        lines = child.communicate(timeout=60)[0].splitlines()
+        lines = [line for line in child.communicate(timeout=60)[0].splitlines() if not line.startswith('processor time: ')]
         self.assertEqual(os.listdir(self.room + '/tmp'), [])
         with open(self.room + '/crates/low/src/lib.rt', encoding='utf-8') as file:
             self.assertEqual(file.read(), 'one\ntwo two\n')
@@ -73,18 +97,32 @@ class Edits(unittest.TestCase):
         self.assertEqual(self.says('high')[0], 1)
 
     def test_functions_together(self):
-        self.put('crates/low/src/lib.rt', 'const A: u8 = 1;\nfn f() {\n    two\n}\n\nimpl B {\n    pub fn g(&self)\n        ensures { x }\n'
-                 '    {\n        three\n    }\n\n    fn h() {\n        four\n    }\n}\n')
+        self.put('crates/low/src/lib.rt', FUNCTIONS)
         self.edit('a', '    two', '    WRONG_f')
-        self.edit('b', '        three', '        WRONG_g')
-        self.edit('c', '        four', '        LATER_h')
+        self.edit('b', '        three', '        WRONG_B::g')
+        self.edit('c', '        four', '        LATER_B::h')
         self.edit('d', 'A: u8 = 1', 'A: u8 = 2')
         self.edit('e', '    two', '    three')
-        lines = self.started('low').communicate(timeout=60)[0].splitlines()
+        lines = [line for line in self.started('low').communicate(timeout=60)[0].splitlines() if not line.startswith('processor time: ')]
         told = [(line.partition(' (')[0], line.partition(') ')[2]) for line in lines]
-        self.assertEqual(told, [('low/a: refused', 'low::f: no proof: `search` did not prove `is`'), ('low/b: refused', 'low::g: no proof: `search` did not prove `is`'),
+        self.assertEqual(told, [('low/a: refused', 'f: no proof: `search` did not prove `is`'), ('low/b: refused', 'B::g: no proof: `search` did not prove `is`'),
                                 ('low/c: refused', 'note: src/lib.rt:1:1: it is not proved'), ('low/d: ACCEPTED', ''),
                                 ('low/e: ACCEPTED', ''), ('3 refused, 2 ACCEPTED, 0 NOT TRIED', '')])
+
+    def test_over_the_libraries_of_a_checkout(self):
+        self.put('crates/low/src/lib.rt', FUNCTIONS)
+        self.edit('a', '    two', '    WRONG_f')
+        self.edit('b', '        three', '        right')
+        self.edit('c', '        four', '        LATER_B::h')
+        self.edit('d', 'A: u8 = 1', 'A: u8 = 3')
+        self.edit('e', 'A: u8 = 1', 'A: u8 = 2')
+        self.edit('f', '    two', '    UNREAD')
+        child = self.started('--over', self.room, '--no-tests', 'low')
+        lines = [line.partition(' (')[0] for line in child.communicate(timeout=60)[0].splitlines()]
+        self.assertEqual(os.listdir(self.room + '/tmp'), [])
+        self.assertEqual(sorted(lines[:-2]), ['low/a: refused', 'low/b: ACCEPTED', 'low/c: refused', 'low/d: refused', 'low/e: ACCEPTED',
+                                              'low/f: NOT TRIED'])
+        self.assertEqual((child.returncode, lines[-1]), (1, '3 refused, 2 ACCEPTED, 1 NOT TRIED'))
 
     def test_by_tests(self):
         self.edit('a', 'one', 'SLOW', 'tests: high\n')
@@ -97,7 +135,7 @@ class Edits(unittest.TestCase):
             self.put('crates/made/' + name, text)
         self.edit('a', 'one', 'three', 'tests: made one\n')
         self.edit('b', 'one', 'three', 'tests: made\n')
-        self.assertEqual(self.says(), (1, ['low/a: refused', 'low: NOT TRIED: made is not well as it stands', '1 refused, 0 ACCEPTED, 1 NOT TRIED']))
+        self.assertEqual(self.says(), (1, ['low/a: refused', 'low/b: NOT TRIED', '1 refused, 0 ACCEPTED, 1 NOT TRIED']))
         self.put('crates/made/stdout', 'try --data a.txt=data/a.txt -- all of it\none\ntwo two\n')
         self.assertEqual(self.says('low/b'), (0, ['low/b: refused', '1 refused, 0 ACCEPTED, 0 NOT TRIED']))
 
@@ -113,7 +151,10 @@ class Edits(unittest.TestCase):
     def test_ended_in_between(self):
         self.edit('a', 'one', 'HANG')
         child = self.started('low')
-        time.sleep(2)
+        for _ in range(300):
+            if os.listdir(self.room + '/tmp'):
+                break
+            time.sleep(0.1)
         self.assertEqual(len(os.listdir(self.room + '/tmp')), 1)
         child.send_signal(signal.SIGTERM)
         child.communicate(timeout=20)

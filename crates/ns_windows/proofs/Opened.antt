@@ -129,3 +129,24 @@ open-take-length ps zero = omega arith
 open-take-length [] (suc i) = omega arith
 open-take-length (None ∷ ps) (suc i) = omega (arith, open-take-length ps i)
 open-take-length (Some w ∷ ps) (suc i) = omega (arith, open-take-length ps i)
+
+pub open-take-all : (ps : List (Option Window)) → open_of (take (length ps) ps) ≡ open_of ps
+open-take-all [] = refl
+open-take-all (None ∷ ps) = open-take-all ps
+open-take-all (Some w ∷ ps) = ap (λ ws. w ∷ ws) (open-take-all ps)
+
+-- one more where there is a window
+pub open-take-some : (ps : List (Option Window)) (i : ℕ) → is_some (window_at ps i) ≡ true → length (open_of (take (suc i) ps)) ≡ suc (length (open_of (take i ps)))
+open-take-some [] i at = absurd (cc at)
+open-take-some (None ∷ ps) zero at = absurd (cc at)
+open-take-some (Some v ∷ ps) zero at = refl
+open-take-some (None ∷ ps) (suc i) at = open-take-some ps i at
+open-take-some (Some v ∷ ps) (suc i) at = ap suc (open-take-some ps i at)
+
+pub open-take-none : (ps : List (Option Window)) (i : ℕ) → is_some (window_at ps i) ≡ false → length (open_of (take (suc i) ps)) ≡ length (open_of (take i ps))
+open-take-none [] zero at = refl
+open-take-none [] (suc i) at = refl
+open-take-none (None ∷ ps) zero at = refl
+open-take-none (Some v ∷ ps) zero at = absurd (cc at)
+open-take-none (None ∷ ps) (suc i) at = open-take-none ps i at
+open-take-none (Some v ∷ ps) (suc i) at = ap suc (open-take-none ps i at)

@@ -86,6 +86,11 @@ filled-leading [] = refl
 filled-leading ((k, None) ∷ es) = filled-leading es
 filled-leading ((k, Some w) ∷ es) = refl
 
+pub filled-length : (es : Entries) → length (filter is_filled es) ≡ length (opened (filter is_filled es))
+filled-length [] = refl
+filled-length ((k, None) ∷ es) = filled-length es
+filled-length ((k, Some w) ∷ es) = ap suc (filled-length es)
+
 -- a window at its own name has another one, where that name differs
 own-differs : (name k : WindowName) (w : Window) → w.name ≡ k → same_window name k ≡ false → is_named name w ≡ false
 own-differs name k w own differs = ap (λ m. same_window m name) own ∙ same_window-sym k name ∙ differs

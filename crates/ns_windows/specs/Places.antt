@@ -1,6 +1,6 @@
 -- Windows by name, each at a place, in the order of their opening, and the name of the window of each frame; for private clauses. A window that was
 -- closed leaves its place empty.
-use Rattle.std.specs.Prelude.{◌≡◌, ℕ, suc, ◌==◌, Bool, false, List, [], ◌∷◌, Option, Some, None, option_map, IfSome, bytes_eq}
+use Rattle.std.specs.Prelude.{◌≡◌, ◌≤◌, ◌<◌, ◌+◌, ℕ, suc, ◌==◌, Bool, false, List, [], ◌∷◌, length, Option, Some, None, option_map, IfSome, bytes_eq}
 use Rattle.std.specs.List.{slice_index_or, AllByRecursion, IsDistinct}
 use Rattle.std.specs.Map.{lookup, keys_of, values_of}
 use Rattle.std.specs.Option.{option_map_or}
@@ -53,6 +53,15 @@ passes_at test place places = option_map_or test (window_at places place) false
 pub record AreNamed (entries : List (WindowName × Option Window)) : Type 0 where
   pub own : AllByRecursion (λ e. IfSome e.1 (λ w. w.name ≡ e.0)) entries
   pub apart : IsDistinct same_window (keys_of entries)
+
+-- With 64 places or more, and no room for another, at least half of the places have a window. So a growth of the places is asked for only
+-- where no more of them are empty than have a window.
+abbrev pub IsDense : ℕ → List (WindowName × Option Window) → Type 0
+IsDense room entries = 64 ≤ length entries → room ≡ 0 → length entries ≤ length (opened entries) + length (opened entries)
+
+-- there are 64 places or more, there is no room for another, and more of them are empty than have a window
+abbrev pub IsSparse : ℕ → List (WindowName × Option Window) → Type 0
+IsSparse room entries = (64 ≤ length entries) × (room ≡ 0) × (length (opened entries) + length (opened entries) < length entries)
 
 -- No two windows have one name, nor one frame. At the frame of each window is its name, and no other frame is known.
 pub record Agree (entries : List (WindowName × Option Window)) (table : List (List ℕ × WindowName)) : Type 0 where

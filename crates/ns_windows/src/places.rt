@@ -5,7 +5,7 @@ ghost use Rattle.std.specs.HashMap.{spare, get, values};
 ghost use Rattle.indexmap.specs.IndexMap.{set_value_at};
 ghost use Rattle.ns_types.specs.Identity.{same_window};
 ghost use Rattle.ns_windows.specs.Windows.{with_copy, addition, is_named, window_named, window_of_frame};
-ghost use Rattle.ns_windows.specs.Places.{window_at, open_of, opened, leading, passes, passes_at, AreNamed, Agree};
+ghost use Rattle.ns_windows.specs.Places.{window_at, open_of, opened, leading, passes, passes_at, AreNamed, Agree, IsDense, IsSparse};
 
 use crate::frame_key::{FrameKey, LentFrame};
 use crate::window::{Addition, BoxedWindow, Window};
@@ -174,23 +174,28 @@ fn remove_empty(names: &mut Names)
     ensures windows { opened names.new.entries ≡ opened names.old.entries }
     ensures first { leading (values names.new) ≡ 0 }
     ensures fewer { length names.new.entries ≤ length names.old.entries }
+    ensures full { length names.new.entries ≡ length (opened names.new.entries) }
     ensures absent { (name : _) → window_named name (opened names.old.entries) ≡ None → get same_window names.new name ≡ None }
 {
     names.retain(|_, window| window.is_some());
 }
 
-// Whether the room is full, with 64 places or more, and fewer than half of them have a window.
+// Whether the room is full, with 64 places or more, and fewer of them have a window than are empty.
 fn is_sparse(names: &Names) -> bool
-    ensures { length names.now.entries < 2 ^ 63 }
+    ensures fits { length names.now.entries < 2 ^ 63 }
+    ensures sparse { result ≡ true → IsSparse (spare names.now) names.now.entries }
+    ensures dense { result ≡ false → IsDense (spare names.now) names.now.entries }
 {
     if names.len() < FEW || names.len() < names.capacity() {
         return false;
     }
     let mut windows = 0;
     for at in 0..names.len() {
-        windows += usize::from(is_open_at(names, at));
+        if is_open_at(names, at) {
+            windows += 1;
+        }
     }
-    windows < names.len() / 2
+    windows < names.len().saturating_sub(windows)
 }
 
 /// Removes the empty places where the room is full of them, or where one is of this name. The place of the first window.
@@ -202,6 +207,7 @@ pub(crate) fn clear(names: &mut Names, first: usize, name: &WindowName) -> usize
     ensures windows { opened names.new.entries ≡ opened names.old.entries }
     ensures absent { window_named name.now (opened names.old.entries) ≡ None → get same_window names.new name.now ≡ None }
     ensures fits { length names.new.entries < 2 ^ 63 }
+    ensures dense { IsDense (spare names.new) names.new.entries }
 {
     if !is_sparse(names) && !names.contains_key(name) {
         return first;

@@ -7,12 +7,12 @@ ghost use Rattle.ns_calls.specs.Shards.{shard_of_call};
 ghost use Rattle.ns_shard.specs.State.{no_entries};
 ghost use Rattle.ns_tally.specs.Tally.{AreNamed};
 
-use ns_calls::{Call, Entry};
+use ns_calls::{Call, Downlink, Entry};
 use ns_device::{DeviceFault, ReplyFault, TestDevice, TestJoinServer};
 use ns_exchange::HostName;
 use ns_outside::{
     AskJob, Calls, CloseJob, Connections, Datagrams, Downlinks, Gate, Job, JobSource, Jobs,
-    Monitor, Receipt, Timer,
+    Monitor, Next, Receipt, Received, Timer,
 };
 use ns_roster::Roster;
 use ns_server::{Kept, Naming, Pass, Server, SettleFault, Settled};
@@ -119,6 +119,36 @@ pub fn check<B: Naming>(settled: &Settled<B>, receipts: &[Receipt]) -> Result<()
 
 pub fn drain_next<B: Naming>(settled: &mut Settled<B>) -> Option<Receipt> {
     settled.drain_next()
+}
+
+// ---- ns_outside: what a worker is given
+
+pub fn datagram<R, I: Datagrams<R>>(datagrams: &mut I, rt: &R, buf: &mut [u8; 512]) -> Received {
+    datagrams.next(rt, buf)
+}
+
+pub fn put_job<R, P: Jobs<R, Job>>(jobs: &mut P, rt: &R, job: Job) -> Result<(), Job> {
+    jobs.put(rt, job)
+}
+
+pub fn take_job<R, J: JobSource<R, CloseJob>>(jobs: &mut J, rt: &R) -> Next<CloseJob> {
+    jobs.take(rt)
+}
+
+pub fn connection<R, C: Connections<R>>(connections: &C, rt: &R) -> Option<C::S> {
+    connections.open(rt)
+}
+
+pub fn now<R, T: Timer<R>>(timer: &T, rt: &R) -> u64 {
+    timer.now(rt)
+}
+
+pub fn until<R, T: Timer<R>>(timer: &T, rt: &R, due: u64) {
+    timer.until(rt, due)
+}
+
+pub fn send<R, D: Downlinks<R>>(down: &mut D, rt: &R, downlink: &Downlink) -> bool {
+    down.send(rt, downlink)
 }
 
 // ---- ns_workers

@@ -5,10 +5,12 @@ use crate::calls::{answers, call_of, roster};
 use crate::growth::{NO_DEVICE, Steps, WORKED};
 use crate::runs::{are_answered, ten_steps};
 use crate::trims::is_joined;
-use ns_calls::{Call, Entry};
+use ns_calls::{Call, Entry, Reply, shard_of_call};
 use ns_device::growths::{pause, refuse, resume, was_refused};
+use ns_device::worked::UPLINK;
 use ns_runs::{Shards, new_shards};
-use ns_shard::{Shard, TrimFault};
+use ns_shard::{BoxedAnswer, Shard, TrimFault};
+use ns_types::WindowName;
 use std::alloc::Global;
 
 // More growths than any of these has.
@@ -19,6 +21,8 @@ const MOST: u32 = 10_000;
 enum Refused {
     // The calls of these steps, on the shard of this index.
     Calls(usize, Steps),
+    // A closing with a boxed answer, of the window of the worked uplink.
+    BoxedClosing,
     // A trim of the worked join, in place or not.
     Trim(bool),
     // A whole run of steps.
@@ -62,6 +66,50 @@ fn calls_alone(alloc: Global, index: usize, steps: Steps, n: u32) -> Option<bool
         before.push(*shard.entries().last()?).ok()?;
     }
     Some(was_refused(alloc))
+}
+
+// Opens the window of the worked uplink, after the worked join.
+fn opened(alloc: Global, shard: &mut Shard) -> Option<WindowName> {
+    let uplink = call_of(alloc, UPLINK)?;
+    let is_open = is_joined(alloc, shard)
+        && answers(shard, &uplink, "opened 000000000000000d 1 2") == Some(true);
+    if is_open { shard.oldest() } else { None }
+}
+
+// Closes a window, with a boxed answer. None where memory was refused.
+fn closed(alloc: Global, shard: &mut Shard, window: WindowName) -> Option<BoxedAnswer> {
+    let call = Call::Close { window };
+    if shard_of_call(&call) != shard.index() {
+        return None;
+    }
+    shard.apply_boxed(alloc, &call).ok()
+}
+
+// Closes a window, and once more if memory was refused, which left the shard as it was.
+fn closed_at_last(alloc: Global, shard: &mut Shard, window: WindowName) -> Option<BoxedAnswer> {
+    let made = shard.made();
+    let first = closed(alloc, shard, window);
+    pause(alloc);
+    if first.is_some() {
+        return first;
+    }
+    if shard.made() != made || shard.oldest() != Some(window) {
+        return None;
+    }
+    closed(alloc, shard, window)
+}
+
+// Closes the window of the worked uplink, with growth `n` of the closing refused. Whether one was; None if the uplink does not go out.
+fn closing_alone(alloc: Global, n: u32) -> Option<bool> {
+    let mut shards = new_shards(alloc, roster(alloc)?).ok()?;
+    let shard = shards.get_mut(13)?;
+    let window = opened(alloc, shard)?;
+    refuse(alloc, n);
+    let answer = closed_at_last(alloc, shard, window)?;
+    let is_closed = answer.reply() == Reply::Closed { window, ack: None }
+        && answer.has_uplink()
+        && shard.oldest().is_none();
+    is_closed.then_some(was_refused(alloc))
 }
 
 // Trims a shard, in place or not.
@@ -114,6 +162,7 @@ fn run_alone(alloc: Global, n: u32) -> Option<bool> {
 fn made_alone(alloc: Global, what: Refused, n: u32) -> Option<bool> {
     match what {
         Refused::Calls(index, steps) => calls_alone(alloc, index, steps, n),
+        Refused::BoxedClosing => closing_alone(alloc, n),
         Refused::Trim(is_in_place) => trim_alone(alloc, is_in_place, n),
         Refused::Run => run_alone(alloc, n),
     }
@@ -138,6 +187,13 @@ fn each_growth_of_calls(rt: HostRuntime) {
     assert!(rt; worked.is_ok(), "{worked:?}");
     let unknown = each_alone(rt.alloc(), Refused::Calls(14, NO_DEVICE));
     assert!(rt; unknown.is_ok(), "{unknown:?}");
+}
+
+/// A boxed closing takes memory for what goes out before it changes anything: refused, the window is still open.
+#[test]
+fn each_growth_of_a_boxed_closing(rt: HostRuntime) {
+    let refused = each_alone(rt.alloc(), Refused::BoxedClosing);
+    assert!(rt; refused.is_ok(), "{refused:?}");
 }
 
 /// Each growth of a trim, which hands out its entries or not.

@@ -1,4 +1,4 @@
-use Rattle.std.proofs.Common.{◌≡◌, filter, rules, ap, subst, ◌∙◌, sym}
+use Rattle.std.proofs.Common.{◌≡◌, length, filter, rules, ap, subst, ◌∙◌, sym}
 use Rattle.std.specs.List.{IsDistinct}
 use Rattle.std.specs.Map.{lookup, keys_of, values_of}
 use Rattle.indexmap.proofs.CallerLemmas.{filter-RetainsPairs}
@@ -7,7 +7,7 @@ use Rattle.ns_calls.proofs.Lists.{All-filter}
 use Rattle.ns_windows.specs.Windows.{is_named}
 use Rattle.ns_windows.specs.Places.{opened, leading}
 use Rattle.ns_windows.proofs.Passing.{none_found}
-use Rattle.ns_windows.proofs.Placed.{AreOwn, names_eq, is_filled, filled-open, filled-leading, filled-absent}
+use Rattle.ns_windows.proofs.Placed.{AreOwn, names_eq, is_filled, filled-open, filled-leading, filled-length, filled-absent}
 use Rattle.ns_windows.proofs.places.remove_empty.Goals as goal
 use Rattle.ns_windows.proofs.places.remove_empty.Goals.{After-retain}
 
@@ -25,6 +25,10 @@ returns-clause-windows c = ap opened (kept c) ∙ filled-open c.args.names.now.e
 
 pub returns-clause-first : goal.returns-clause-first
 returns-clause-first c = ap (λ es. leading (values_of es)) (kept c) ∙ filled-leading c.args.names.now.entries
+
+pub returns-clause-full : goal.returns-clause-full
+returns-clause-full c =
+    ap length (kept c) ∙ filled-length c.args.names.now.entries ∙ ap (λ es. length (opened es)) (sym (kept c))
 
 pub returns-clause-absent : goal.returns-clause-absent
 returns-clause-absent c name none =
