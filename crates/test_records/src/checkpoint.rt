@@ -35,15 +35,35 @@ end 20f615784c7b2a0c\n\
 // A text in it, what is put in the place of its first occurrence, and the fault of that.
 const CHANGES: &[(&str, &str, CheckpointFault)] = &[
     ("checkpoint 1", "checkpoint 2", CheckpointFault::BadHead),
-    (" 0000000000001234\n", " 0000000000001235\n", CheckpointFault::BadSum(24)),
-    ("1 0000000000000016", "1 0000000000000017", CheckpointFault::BadCount(23)),
+    (
+        " 0000000000001234\n",
+        " 0000000000001235\n",
+        CheckpointFault::BadSum(24),
+    ),
+    (
+        "1 0000000000000016",
+        "1 0000000000000017",
+        CheckpointFault::BadCount(23),
+    ),
     ("fffe", "ffFe", CheckpointFault::BadLine(3)),
     ("13141516 10", "13141516 11", CheckpointFault::BadLine(4)),
-    ("000102030405060708090a0b0c0d0e0f10111213141516", "0001", CheckpointFault::BadLine(4)),
+    (
+        "000102030405060708090a0b0c0d0e0f10111213141516",
+        "0001",
+        CheckpointFault::BadLine(4),
+    ),
     ("shard 0f", "shard 0e", CheckpointFault::BadLine(23)),
-    ("copy 00000000000000a2", "copy 00000000000000a3", CheckpointFault::BadSum(24)),
+    (
+        "copy 00000000000000a2",
+        "copy 00000000000000a3",
+        CheckpointFault::BadSum(24),
+    ),
     ("end ", "end  ", CheckpointFault::BadSum(24)),
-    ("shard 05\nshard 06\n", "shard 06\nshard 05\n", CheckpointFault::BadLine(13)),
+    (
+        "shard 05\nshard 06\n",
+        "shard 06\nshard 05\n",
+        CheckpointFault::BadLine(13),
+    ),
     ("7b2a0c\n", "7b2a0c", CheckpointFault::Incomplete(24)),
 ];
 

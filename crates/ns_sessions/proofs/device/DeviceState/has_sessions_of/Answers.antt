@@ -43,8 +43,7 @@ module _ (a b : Inside) (is_a : IsState a) (is_b : IsState b) (r s : DeviceRecor
 
 pub returns-then-active : goal.returns-then-active
 returns-then-active c =
-    let active = c.is_same_session-active.ensures.0 c.if-active.true in
-    (
+    let active = c.is_same_session-active.ensures.0 c.if-active.true in (
       (λ is. together c.self.inside c.other.inside c.self.invariant c.other.invariant _ _ c.self.view_is c.other.view_is active (c.is_same_session-pending.ensures.0 is)),
       (λ same. c.is_same_session-pending.ensures.1 (apart c.self.inside c.other.inside c.self.invariant c.other.invariant _ _ c.self.view_is c.other.view_is same).1),
     )
