@@ -1,6 +1,6 @@
 //! The devices of a shard.
 
-ghost use Rattle.std.specs.Prelude.{◌≡◌, ◌<◌, map, option_map, option_and_then, length, position, Some, None, IfOk, IfSome};
+ghost use Rattle.std.specs.Prelude.{◌≡◌, ◌<◌, map, option_map, option_and_then, option_copied, length, position, Some, None, IfOk, IfSome, IsTrue, ◌↔◌};
 ghost use Rattle.ns_types.specs.Identity.{shard_of};
 ghost use Rattle.ns_types.specs.Ticket.{dev_eui};
 ghost use Rattle.ns_roster.specs.Valid.{IsRoster};
@@ -13,6 +13,7 @@ ghost use Rattle.ns_devices.specs.Places.{AreWithin, first_fit_at};
 
 use crate::own::{Own, Placed};
 use indexmap::IndexMap;
+use indexmap::map::Values;
 use ns_calls::Outcome;
 use ns_roster::Roster;
 use ns_rows::{Rows, push_at, row_at};
@@ -62,6 +63,35 @@ impl Devices {
             list.insert(own.device.eui, own)?;
         }
         Ok(Devices { list, places })
+    }
+
+    /// Lends the devices, in the roster's order.
+    pub fn iter(&self) -> Values<'_, DevEui, Own>
+        ensures { result ≡ self.now }
+    {
+        self.list.values()
+    }
+
+    /// Lends the device of an EUI.
+    pub fn get(&self, eui: DevEui) -> Option<&Own>
+        ensures { option_copied result ≡ own_of eui self.now }
+    {
+        self.list.get(&eui)
+    }
+
+    /// Whether these are the same devices in the same states.
+    pub fn is_same(&self, other: &Devices) -> bool
+        ensures { IsTrue result ↔ (self.now ≡ other.now) }
+    {
+        if self.list.len() != other.list.len() {
+            return false;
+        }
+        for place in 0..self.list.len() {
+            if !self.list[place].is_same(&other.list[place]) {
+                return false;
+            }
+        }
+        true
     }
 
     // Where the device of an EUI stands.

@@ -1,6 +1,6 @@
 //! One device of a shard.
 
-ghost use Rattle.std.specs.Prelude.{◌≡◌, IfSome, Contains, option_map};
+ghost use Rattle.std.specs.Prelude.{◌≡◌, IfSome, Contains, option_map, IsTrue, ◌↔◌};
 ghost use Rattle.ns_calls.specs.Reply.{window_of, in_round};
 ghost use Rattle.ns_sessions.specs.declared.recovery.Recovery.TheVariants.{Above};
 ghost use Rattle.ns_sessions.specs.Recovery.{recovery_counter};
@@ -32,6 +32,13 @@ impl Own {
             addr: roster.device_addr(device),
             state: DeviceState::new(device.last_nonce),
         }
+    }
+
+    /// Whether these are the same device in the same state.
+    pub fn is_same(&self, other: &Own) -> bool
+        ensures { IsTrue result ↔ (self.now ≡ other.now) }
+    {
+        self.device == other.device && self.addr == other.addr && self.state.is_same(&other.state)
     }
 
     /// Where the frame fits in the sessions of the device, which stands at this place.

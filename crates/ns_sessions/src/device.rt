@@ -1,6 +1,6 @@
 //! The state of one device.
 
-ghost use Rattle.std.specs.Prelude.{◌≡◌, ◌<◌, IfSome, IfNone, option_map, is_some};
+ghost use Rattle.std.specs.Prelude.{◌≡◌, ◌<◌, IfSome, IfNone, option_map, is_some, IsTrue, ◌↔◌};
 ghost use Rattle.std.specs.List.{list_any};
 ghost use Rattle.ns_types.specs.Ticket.{nonce};
 ghost use Rattle.ns_secure.specs.Counter.{Exceeds, above, below};
@@ -12,12 +12,15 @@ ghost use Rattle.ns_sessions.specs.Record.{no_joins, session_in, device_fit, IsN
 use crate::decision::{AnswerDecision, JoinDecision};
 use crate::recovery::Recovery;
 use crate::session::Session;
-use crate::ticket::{OpenTicket, add_copy, has_ticket, remove_ticket};
+use crate::ticket::{OpenTicket, add_copy, has_ticket, remove_ticket, same_tickets};
 use arrayvec::ArrayVec;
 use ns_calls::{JoinAns, MOST_TICKETS, Outcome};
 use ns_types::{DevNonce, Heard, Key, Ticket};
 use ns_views::DataView;
 use std::marker::Model;
+
+/// The greatest number of live sessions of a device.
+pub const MOST_SESSIONS: usize = 2;
 
 /// What a server keeps of one device: its greatest nonce, its live sessions, and its open tickets, each with the count of its copies and the best of them.
 #[derive(Drop)]
@@ -65,6 +68,45 @@ impl DeviceState {
             Some(greatest) => Some(DevNonce(greatest)),
             None => None,
         }
+    }
+
+    /// The number of the next session.
+    pub fn next_session(&self) -> u32
+        ensures { result ≡ self.now.next_session }
+    {
+        self.next_session
+    }
+
+    /// The live sessions, the oldest first.
+    pub fn sessions(&self) -> ArrayVec<Session, MOST_SESSIONS>
+        ensures { result.items ≡ self.now.sessions }
+    {
+        let mut sessions = ArrayVec::new();
+        if let Some(active) = self.active {
+            sessions.push(active);
+        }
+        if let Some(pending) = self.pending {
+            sessions.push(pending);
+        }
+        sessions
+    }
+
+    /// Lends the open tickets, in the order in which they were asked for.
+    pub fn tickets(&self) -> &[OpenTicket]
+        ensures { result.now ≡ self.now.tickets }
+    {
+        self.tickets.as_slice()
+    }
+
+    /// Whether these are the same state.
+    pub fn is_same(&self, other: &DeviceState) -> bool
+        ensures { IsTrue result ↔ (self.now ≡ other.now) }
+    {
+        self.greatest_nonce == other.greatest_nonce
+            && self.next_session == other.next_session
+            && self.active == other.active
+            && self.pending == other.pending
+            && same_tickets(self.tickets(), other.tickets())
     }
 
     /// The NwkSKey of a live session, and its AppSKey where the join server told it.

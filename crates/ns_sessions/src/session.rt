@@ -11,7 +11,7 @@ use ns_types::Key;
 use ns_views::DataView;
 
 /// A live session.
-#[derive(Clone, Copy)]
+#[derive(Clone, Copy, PartialEq, Eq)]
 pub struct Session {
     /// Its number, from 1.
     pub number: u32,
@@ -23,6 +23,20 @@ pub struct Session {
     pub round: u32,
     /// The number of the next acknowledgement. From 2^32 on there is none.
     pub next_ack: u64,
+}
+
+// A place of an `ArrayVec` has a value before a session is there.
+impl Default for Session {
+    fn default() -> Self {
+        Session {
+            number: 0,
+            nwk: Key([0; 16]),
+            app: None,
+            greatest_counter: None,
+            round: 0,
+            next_ack: 0,
+        }
+    }
 }
 
 impl Session {

@@ -7,10 +7,111 @@ ghost use Rattle.ns_shard.specs.Private.Parts.{AreParts, state_of};
 ghost use Rattle.ns_shard.specs.Private.Jump.{EndsWithRound};
 
 use crate::parts::Parts;
+use crate::trim::TrimFault;
 use ns_calls::{Call, DataFrame, Reply};
 use ns_types::{Heard, WindowName};
+use std::alloc::{AllocError, Global};
+use thiserror::Error;
+
+/// Why there were no rounds of an uplink. The shard may have heard the uplink once, and is lawful: it is let go by who wanted the rounds.
+#[derive(Clone, Copy, Debug, PartialEq, Eq, Error)]
+pub enum JumpFault {
+    /// The plain server does not acknowledge the uplink again, or not that often.
+    #[error("no such rounds")]
+    NoRounds,
+    /// More than 2^63 entries would be dropped from the shard in all.
+    #[error("too many entries")]
+    Full,
+    /// A growth was refused.
+    #[error("no memory")]
+    NoMemory,
+}
+
+impl From<AllocError> for JumpFault {
+    ghost from_gives = { λ _ e. e ≡ NoMemory };
+
+    fn from(_error: AllocError) -> JumpFault {
+        JumpFault::NoMemory
+    }
+}
+
+impl From<TrimFault> for JumpFault {
+    ghost from_gives = { λ fault e. e ≡ jump_fault fault };
+
+    fn from(fault: TrimFault) -> JumpFault {
+        match fault {
+            TrimFault::Full => JumpFault::Full,
+            TrimFault::NoMemory => JumpFault::NoMemory,
+        }
+    }
+}
+
+// How many entries may be dropped from a shard, so that no number passes 2^64 - 1.
+const MOST_DROPPED: u64 = 1 << 63;
 
 impl Parts {
+    // Hears an uplink again and closes its window: the window, and the number of its acknowledgement.
+    fn round(&mut self, frame: &DataFrame, heard: &Heard) -> Result<(WindowName, u32), JumpFault>
+        requires own { shard_of_call (Uplink frame.now heard.now) ≡ self.old.index }
+        requires agree { AreParts self.old }
+        ensures state { IfOk result (λ r. state_of self.new ≡ after_calls (state_of self.old) (round_calls 1 frame.now heard.now r.0)) }
+        ensures again { IfOk result (λ r. (answer_in (state_of self.old) (Uplink frame.now heard.now)).reply ≡ Again r.0) }
+        ensures closed { IfOk result (λ r. (answer_in (after_call (state_of self.old) (Uplink frame.now heard.now)) (Close r.0)).reply ≡ Closed r.0 (Some r.1)) }
+        ensures agree { AreParts self.new }
+    {
+        let (mut reply, mut uplink, mut downlink) = (Reply::NoWindow, None, None);
+        let call = Call::Uplink {
+            frame: *frame,
+            heard: *heard,
+        };
+        self.apply(&call, &mut reply, &mut uplink, &mut downlink)?;
+        let Reply::Again { window } = reply else {
+            return Err(JumpFault::NoRounds);
+        };
+        self.apply(
+            &Call::Close { window },
+            &mut reply,
+            &mut uplink,
+            &mut downlink,
+        )?;
+        let Reply::Closed { ack: Some(ack), .. } = reply else {
+            return Err(JumpFault::NoRounds);
+        };
+        Ok((window, ack))
+    }
+
+    /// Hears an uplink again and closes its window, so many times, and trims: the window of the first round.
+    pub fn jump(
+        &mut self,
+        alloc: Global,
+        frame: &DataFrame,
+        heard: &Heard,
+        rounds: u32,
+    ) -> Result<WindowName, JumpFault>
+        requires own { shard_of_call (Uplink frame.now heard.now) ≡ self.old.index }
+        requires agree { AreParts self.old }
+        ensures state { IfOk result (λ w. state_of self.new ≡ after_trim (after_calls (state_of self.old) (round_calls rounds frame.now heard.now w))) }
+        ensures agree { AreParts self.new }
+    {
+        let Some(more) = rounds.checked_sub(1) else {
+            return Err(JumpFault::NoRounds);
+        };
+        let (window, ack) = self.round(frame, heard)?;
+        if more > u32::MAX - window.round || more > u32::MAX - ack {
+            return Err(JumpFault::NoRounds);
+        }
+        self.trim_in_place(alloc)?;
+        if more == 0 {
+            return Ok(window);
+        }
+        let kept = self.journal.entries().len() as u64;
+        if self.journal.made() - kept > MOST_DROPPED - u64::from(more) * 2 {
+            return Err(JumpFault::Full);
+        }
+        self.go_on(frame, heard, &window, ack, more);
+        Ok(window)
+    }
+
     /// Goes on behind a round of an uplink with which a trim ended, by so many rounds more that are not run, and a trim.
     pub fn go_on(
         &mut self,
@@ -41,13 +142,13 @@ impl Parts {
             frame: *frame,
             heard: *heard,
         };
-        self.journal.push(&call, Reply::Again { window: last });
+        self.journal.push_lent(&call, Reply::Again { window: last });
         let closing = Call::Close { window: last };
         let closed = Reply::Closed {
             window: last,
             ack: Some(number),
         };
-        self.journal.push(&closing, closed);
+        self.journal.push_lent(&closing, closed);
         self.mark = self.journal.made();
     }
 }

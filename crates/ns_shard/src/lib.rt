@@ -17,9 +17,11 @@ mod parts;
 mod room;
 mod sending;
 mod shard;
+mod tables;
 mod trim;
 mod uplink;
 
+pub use jump::JumpFault;
 pub use laws::{
     answers_rest_on_tables, lives_are_one_run, many_rounds_are_a_jump,
     many_rounds_change_one_session,
@@ -27,4 +29,5 @@ pub use laws::{
 pub use ns_uplinks::BoxedUplink;
 pub use packed::BoxedAnswer;
 pub use shard::Shard;
+pub use tables::same_tables;
 pub use trim::{Dropped, TrimFault};
