@@ -1,37 +1,48 @@
 //! What a shard answers from, compared with tables.
 
+ghost use Rattle.std.specs.Prelude.{◌≡◌, IsTrue, ◌↔◌};
+ghost use Rattle.ns_restore.specs.Tables.{table_of, tables_of, HasTables};
+
 use crate::table::is_told;
 use ns_checkpoint::{DeviceTable, Tables};
-use ns_devices::Own;
-use ns_sessions::DeviceState;
+use ns_devices::{Devices, Own};
+use ns_sessions::OpenTicket;
 use ns_shard::Shard;
+use ns_windows::{Window, Windows};
 
 // Whether these are the same tickets, in one order.
-fn has_tickets(state: &DeviceState, table: &DeviceTable) -> bool {
-    let mut rest = table.tickets.as_slice();
-    for open in state.tickets() {
-        match rest.split_first() {
-            Some((first, after)) if first.is_same(open) => rest = after,
-            _ => return false,
+fn are_same(tickets: &[OpenTicket], others: &[OpenTicket]) -> bool
+    ensures { IsTrue result → tickets.now ≡ others.now }
+{
+    if tickets.len() != others.len() {
+        return false;
+    }
+    for place in 0..tickets.len() {
+        if !tickets[place].is_same(&others[place]) {
+            return false;
         }
     }
-    rest.is_empty()
+    true
 }
 
 // Whether a device has this table.
-fn has_table(own: &Own, table: &DeviceTable) -> bool {
+fn has_table(own: &Own, table: &DeviceTable) -> bool
+    ensures { IsTrue result → table.now ≡ table_of own.now }
+{
     let state = &own.state;
     own.device.eui == table.eui
         && state.greatest() == table.greatest
         && state.next_session() == table.next_session
         && state.sessions() == table.sessions
-        && has_tickets(state, table)
+        && are_same(state.tickets(), table.tickets.as_slice())
 }
 
-// Whether the devices that joined or asked to join have these tables.
-fn has_devices(shard: &Shard, tables: &[DeviceTable]) -> bool {
+// Whether the devices that have tables have these.
+fn have_tables(devices: &Devices, tables: &[DeviceTable]) -> bool
+    ensures { IsTrue result → tables.now ≡ tables_of devices.now }
+{
     let mut rest = tables;
-    for own in shard.devices().iter() {
+    for own in devices.iter() {
         if !is_told(own) {
             continue;
         }
@@ -44,9 +55,11 @@ fn has_devices(shard: &Shard, tables: &[DeviceTable]) -> bool {
 }
 
 // Whether the open windows are these.
-fn has_windows(shard: &Shard, tables: &Tables) -> bool {
-    let mut rest = tables.windows.as_slice();
-    for window in shard.windows().iter() {
+fn are_open(windows: &Windows, tables: &[Window]) -> bool
+    ensures { IsTrue result → tables.now ≡ windows.now }
+{
+    let mut rest = tables;
+    for window in windows.iter() {
         match rest.split_first() {
             Some((first, after)) if *first == *window => rest = after,
             _ => return false,
@@ -55,7 +68,10 @@ fn has_windows(shard: &Shard, tables: &Tables) -> bool {
     rest.is_empty()
 }
 
-/// Whether a shard answers from these tables.
-pub fn has_tables(shard: &Shard, tables: &Tables) -> bool {
-    has_devices(shard, tables.devices.as_slice()) && has_windows(shard, tables)
+/// Whether these are the tables of a shard.
+pub fn has_tables(shard: &Shard, tables: &Tables) -> bool
+    ensures { IsTrue result → HasTables shard.now tables.now }
+{
+    have_tables(shard.devices(), tables.devices.as_slice())
+        && are_open(shard.windows(), tables.windows.as_slice())
 }

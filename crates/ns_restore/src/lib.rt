@@ -9,13 +9,12 @@
 mod compare;
 mod devices;
 mod fault;
-
 mod frames;
 mod joins;
 mod maker;
 mod making;
 mod plan;
-mod restore;
+mod shard;
 mod table;
 mod uplinks;
 mod windows;
@@ -23,5 +22,5 @@ mod windows;
 pub use compare::has_tables;
 pub use fault::RestoreFault;
 
-pub use restore::restore;
+pub use shard::restore;
 pub use table::{table_of, tables_of};
