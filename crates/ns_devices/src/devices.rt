@@ -76,22 +76,24 @@ impl Devices {
     pub fn get(&self, eui: DevEui) -> Option<&Own>
         ensures { option_copied result ≡ own_of eui self.now }
     {
-        self.list.get(&eui)
+        let place = self.place(eui)?;
+        Some(&self.list[place])
     }
 
     /// Whether these are the same devices in the same states.
     pub fn is_same(&self, other: &Devices) -> bool
         ensures { IsTrue result ↔ (self.now ≡ other.now) }
     {
-        if self.list.len() != other.list.len() {
-            return false;
-        }
-        for place in 0..self.list.len() {
-            if !self.list[place].is_same(&other.list[place]) {
+        let (mut ours, mut theirs) = (self.iter(), other.iter());
+        'ours: while let Some(own) = ours.next() {
+            let Some(another) = theirs.next() else {
+                return false;
+            };
+            if !own.is_same(another) {
                 return false;
             }
         }
-        true
+        theirs.next().is_none()
     }
 
     // Where the device of an EUI stands.

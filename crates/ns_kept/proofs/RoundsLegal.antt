@@ -186,14 +186,17 @@ module _ (net : Network) (h : List Entry) (number : ℕ) (frame : List ℕ) (hea
   pub acks-opened : next_ack opened w.eui w.session ≡ next_ack h w.eui w.session
   acks-opened = ap (λ (cs : List Closing). next_by (acks_by w.session cs)) (closings-push h opens w.eui ∙ append-nil (closings h w.eui))
 
-  -- it is acknowledged with the next number
-  pub closed-now : is_uplink_open h w ≡ false → is_confirmed frame ≡ true → is_live h w.eui w.session ≡ true → next_ack h w.eui w.session ≡ ack → ack < 2 ^ 32 → reply_to_close opened w ≡ reply.Closed w (Some ack)
-  closed-now shut confirmed lives number_is small =
+  -- it is acknowledged with the next number, if there is one
+  pub closed-by : is_uplink_open h w ≡ false → is_confirmed frame ≡ true → is_live h w.eui w.session ≡ true → next_ack h w.eui w.session ≡ ack → reply_to_close opened w ≡ reply.Closed w (when (nat_lt ack (2 ^ 32)) ack)
+  closed-by shut confirmed lives number_is =
       let acks : next_ack opened w.eui w.session ≡ ack = acks-opened ∙ number_is in
       let lives_now : is_live opened w.eui w.session ≡ true = live-opened ∙ lives in
       ap (λ o. first_case (option_map (λ p. reply.Closed w (ack_number opened p)) o ∷ []) reply.NoWindow) (open-now shut)
-      ∙ ((λ i. reply.Closed w (cond (confirmed i && lives_now i) (when (nat_lt (acks i) (2 ^ 32)) (acks i)) None))
-      ∙ ap (λ b. reply.Closed w (when b ack)) (lt-ltb ack (2 ^ 32) small))
+      ∙ (λ i. reply.Closed w (cond (confirmed i && lives_now i) (when (nat_lt (acks i) (2 ^ 32)) (acks i)) None))
+
+  -- it is acknowledged with the next number
+  pub closed-now : is_uplink_open h w ≡ false → is_confirmed frame ≡ true → is_live h w.eui w.session ≡ true → next_ack h w.eui w.session ≡ ack → ack < 2 ^ 32 → reply_to_close opened w ≡ reply.Closed w (Some ack)
+  closed-now shut confirmed lives number_is small = closed-by shut confirmed lives number_is ∙ ap (λ b. reply.Closed w (when b ack)) (lt-ltb ack (2 ^ 32) small)
 
   -- and the number after that is the next one then
   pub ack-after : next_ack h w.eui w.session ≡ ack → next_ack now w.eui w.session ≡ ack + 1

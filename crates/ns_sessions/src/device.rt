@@ -11,7 +11,7 @@ ghost use Rattle.ns_sessions.specs.Record.{no_joins, session_in, device_fit, IsN
 
 use crate::decision::{AnswerDecision, JoinDecision};
 use crate::recovery::Recovery;
-use crate::session::Session;
+use crate::session::{Session, is_same_session};
 use crate::ticket::{OpenTicket, add_copy, has_ticket, remove_ticket, same_tickets};
 use arrayvec::ArrayVec;
 use ns_calls::{JoinAns, MOST_TICKETS, Outcome};
@@ -98,15 +98,30 @@ impl DeviceState {
         self.tickets.as_slice()
     }
 
+    // Whether the live sessions are the same.
+    fn has_sessions_of(&self, other: &DeviceState) -> bool
+        ensures { IsTrue result ↔ (self.now.sessions ≡ other.now.sessions) }
+    {
+        let active = is_same_session(&self.active, &other.active);
+        let pending = is_same_session(&self.pending, &other.pending);
+        active && pending
+    }
+
+    // Whether the numbers are the same: the greatest nonce, and the number of the next session.
+    fn has_numbers_of(&self, other: &DeviceState) -> bool
+        ensures { IsTrue result ↔ ((self.now.greatest_nonce ≡ other.now.greatest_nonce) × (self.now.next_session ≡ other.now.next_session)) }
+    {
+        self.greatest_nonce == other.greatest_nonce && self.next_session == other.next_session
+    }
+
     /// Whether these are the same state.
     pub fn is_same(&self, other: &DeviceState) -> bool
         ensures { IsTrue result ↔ (self.now ≡ other.now) }
     {
-        self.greatest_nonce == other.greatest_nonce
-            && self.next_session == other.next_session
-            && self.active == other.active
-            && self.pending == other.pending
-            && same_tickets(self.tickets(), other.tickets())
+        if !self.has_numbers_of(other) || !self.has_sessions_of(other) {
+            return false;
+        }
+        same_tickets(self.tickets(), other.tickets())
     }
 
     /// The NwkSKey of a live session, and its AppSKey where the join server told it.

@@ -1,6 +1,6 @@
 //! One live session.
 
-ghost use Rattle.std.specs.Prelude.{◌≡◌, ◌<◌, IfSome};
+ghost use Rattle.std.specs.Prelude.{◌≡◌, ◌<◌, IfSome, IsTrue, ◌↔◌};
 ghost use Rattle.ns_sessions.specs.Recovery.{recovery_counter};
 ghost use Rattle.ns_sessions.specs.Record.{session_fit, session_next_round, session_ack, session_after_ack, new_session};
 
@@ -88,5 +88,16 @@ impl Session {
         let number = self.next_ack as u32;
         self.next_ack += 1;
         Some(number)
+    }
+}
+
+/// Whether these are the same session, or none.
+pub(crate) fn is_same_session(one: &Option<Session>, other: &Option<Session>) -> bool
+    ensures { IsTrue result ↔ (one.now ≡ other.now) }
+{
+    match (one, other) {
+        (Some(one), Some(other)) => *one == *other,
+        (None, None) => true,
+        _ => false,
     }
 }

@@ -28,13 +28,12 @@ use Rattle.ns_shard.specs.State.{State, Keeps, remains, answer_in, after_call, a
 use Rattle.ns_shard.specs.Rounds.{round_calls, after_calls, after_jump}
 use Rattle.ns_sessions.specs.Record.{with_rounds}
 use Rattle.ns_shard.specs.Private.Parts.{Agrees, AreParts, state_of}
-use Rattle.ns_shard.specs.Private.Devices.{devices_in}
-use Rattle.ns_shard.specs.Private.Held.{windows_in}
+use Rattle.ns_shard.specs.Tables.{devices_in, windows_in}
 use Rattle.ns_shard.proofs.Entries.{keeps-more}
 use Rattle.ns_shard.proofs.RoundCalls.{IsRound, history-is, next-round, reply-is, jump-is}
 use Rattle.ns_shard.proofs.ManyRounds.{many-devices, windows-stay-many}
 
-trim-keeps : (h : List Entry) (s : State) → Keeps h s → Keeps h (after_trim s)
+pub trim-keeps : (h : List Entry) (s : State) → Keeps h s → Keeps h (after_trim s)
 trim-keeps h s keeps = record {
   made = keeps.made;
   left = subst (λ n. Leaves s.roster h (keep n (remains s))) (sym keeps.made) (leaves-trim s.roster h (remains s) keeps.left);

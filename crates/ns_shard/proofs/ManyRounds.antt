@@ -32,8 +32,7 @@ use Rattle.ns_sessions.specs.declared.session.Session.{Session}
 use Rattle.ns_sessions.specs.Record.{DeviceRecord, session_with, with_rounds, device_record, change_session, session_in, session_in_round, session_ack, session_after_ack, with_round, with_ack, ack_in}
 use Rattle.ns_sessions.proofs.Uplinks.{record_stays, uplink_again, window_closed, ack_of_live}
 use Rattle.ns_devices.specs.Devices.{with_change_of}
-use Rattle.ns_shard.specs.Private.Devices.{devices_in}
-use Rattle.ns_shard.specs.Private.Held.{window_from, window_of_opening, windows_in}
+use Rattle.ns_shard.specs.Tables.{devices_in, window_from, window_of_opening, windows_in}
 use Rattle.ns_shard.proofs.Maps.{map-same}
 use Rattle.ns_shard.proofs.PartSteps.{same_device-false}
 use Rattle.ns_shard.proofs.DeviceSteps.{OthersSame, devices-changed}

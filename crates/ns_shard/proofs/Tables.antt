@@ -24,9 +24,7 @@ use Rattle.ns_windows.specs.Windows.{window_named, without}
 use Rattle.ns_devices.specs.declared.own.Own.{Own}
 use Rattle.ns_devices.specs.Devices.{with_change_of, with_join_of, after_answer}
 use Rattle.ns_shard.specs.State.{quiet}
-use Rattle.ns_shard.specs.Tables.{TellTheSame, Life, AreLives, calls_of, answers_of_lives}
-use Rattle.ns_shard.specs.Private.Devices.{devices_in}
-use Rattle.ns_shard.specs.Private.Held.{windows_in}
+use Rattle.ns_shard.specs.Tables.{TellTheSame, Life, AreLives, calls_of, answers_of_lives, devices_in, windows_in}
 use Rattle.ns_shard.specs.Private.Parts.{Agrees}
 use Rattle.ns_shard.specs.Private.Reaction.{uplink_reply, shard_join_reply, shard_answer_ended, close_ended, with_closing, with_shard_uplink, with_copy_or_window}
 use Rattle.ns_shard.proofs.PartSteps.{ended_or, join-replied, agrees-join}

@@ -1,6 +1,4 @@
 -- For private clauses, and for models of public types.
-pub mod Held
-pub mod Devices
 pub mod Sending
 pub mod Room
 pub mod Reaction

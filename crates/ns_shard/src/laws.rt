@@ -9,8 +9,7 @@ ghost use Rattle.ns_calls.specs.History.{next_ack};
 ghost use Rattle.ns_calls.specs.Reply.{reply_to};
 ghost use Rattle.ns_kept.specs.Rounds.{many_rounds};
 ghost use Rattle.ns_devices.specs.Devices.{with_change_of};
-ghost use Rattle.ns_shard.specs.Private.Devices.{devices_in};
-ghost use Rattle.ns_shard.specs.Private.Held.{windows_in};
+ghost use Rattle.ns_shard.specs.Tables.{devices_in, windows_in, TellTheSame, Life, AreLives, calls_of, answers_of_lives};
 ghost use Rattle.ns_shard.specs.State.{State, Keeps, answer_in, after_trim};
 ghost use Rattle.ns_sessions.specs.Record.{with_rounds};
 ghost use Rattle.ns_shard.specs.Rounds.{round_calls, after_calls, after_jump};
@@ -23,7 +22,6 @@ ghost use Rattle.ns_calls.specs.Shards.{shard_of_call};
 ghost use Rattle.ns_calls.specs.Out.{answer};
 ghost use Rattle.ns_calls.specs.Runs.{answers_after};
 ghost use Rattle.ns_calls.specs.Legal as calls;
-ghost use Rattle.ns_shard.specs.Tables.{TellTheSame, Life, AreLives, calls_of, answers_of_lives};
 
 /// Histories of a shard that tell the same of its devices and open windows have the same answers to each call of the shard, tell the same
 /// after it, and so have the same answers to all later calls.

@@ -29,7 +29,7 @@ impl<'a> Model for OpenWindows<'a> {
 impl<'a> OpenWindows<'a> {
     /// The windows at these places.
     pub(crate) fn new(places: Values<'a, WindowName, Option<BoxedWindow>>) -> OpenWindows<'a>
-        ensures { result ≡ open_of places }
+        ensures { result ≡ open_of places.entry }
     {
         OpenWindows { places }
     }
@@ -43,7 +43,7 @@ impl<'a> Iterator for OpenWindows<'a> {
     ghost remaining = { λ s. at_most (length s) };
 
     fn next(&mut self) -> Option<&'a Window> {
-        while let Some(place) = self.places.next() {
+        'places: while let Some(place) = self.places.next() {
             if let Some(window) = place {
                 return Some(window.as_ref());
             }

@@ -89,16 +89,16 @@ impl Windows {
     pub fn is_same(&self, other: &Windows) -> bool
         ensures { IsTrue result ↔ (self.now ≡ other.now) }
     {
-        let mut others = other.iter();
-        for window in self.iter() {
-            let Some(another) = others.next() else {
+        let (mut ours, mut theirs) = (self.iter(), other.iter());
+        'ours: while let Some(window) = ours.next() {
+            let Some(another) = theirs.next() else {
                 return false;
             };
-            if *window != *another {
+            if !window.is_same(another) {
                 return false;
             }
         }
-        others.next().is_none()
+        theirs.next().is_none()
     }
 
     /// The names of the windows, in the order of their opening. `NoMemory` (`AllocError`) where a growth was refused.
