@@ -8,8 +8,7 @@ use Rattle.ns_devices.specs.declared.own.Own.{Own}
 use Rattle.ns_checkpoint.specs.declared.tables.DeviceTable.{DeviceTable}
 use Rattle.ns_checkpoint.specs.declared.tables.Tables.{Tables}
 use Rattle.ns_shard.specs.State.{State, Keeps}
-use Rattle.ns_shard.specs.Private.Devices.{devices_in}
-use Rattle.ns_shard.specs.Private.Held.{windows_in}
+use Rattle.ns_shard.specs.Tables.{devices_in, windows_in}
 
 -- whether a device has a table: it has joined, or it has an open ticket
 abbrev pub is_told : Own → Bool

@@ -1,16 +1,21 @@
 //! The devices: what is made of them before and after the windows.
 
+ghost use Rattle.std.specs.Prelude.{OnOk};
+ghost use Rattle.ns_restore.specs.Tables.{AreOfOneShard};
+
 use crate::fault::RestoreFault;
+use crate::frames::uplink;
 use crate::joins::{ask, join_to, stale_tickets};
 use crate::maker::Maker;
 use crate::making::Making;
 use crate::plan::Plan;
-use crate::frames::uplink;
 use crate::uplinks::{Link, climb, spend, use_counter};
 use ns_sessions::Session;
 
 /// Asks for the tickets that were open before the last session of their device began.
-pub(crate) fn ask_first(maker: &mut Maker, makings: &[Making]) -> Result<(), RestoreFault> {
+pub(crate) fn ask_first(maker: &mut Maker, makings: &[Making]) -> Result<(), RestoreFault>
+    ensures { OnOk result (AreOfOneShard maker.new.shard maker.old.shard) }
+{
     for making in makings {
         let table = making.table;
         let (first, _) = table.tickets.as_slice().split_at(stale_tickets(table));
@@ -36,7 +41,9 @@ fn close_last(
     making: &mut Making,
     active: &Session,
     counter: u32,
-) -> Result<(), RestoreFault> {
+) -> Result<(), RestoreFault>
+    ensures { OnOk result (AreOfOneShard maker.new.shard maker.old.shard) }
+{
     let link = Link {
         session: active.number,
         nwk: active.nwk,
@@ -49,14 +56,17 @@ fn close_last(
     let is_confirmed = is_first_confirmed(making, active);
     let mut frame = use_counter(maker, making, link, counter, is_confirmed)?;
     if active.round > 1 && !is_confirmed {
-        frame = uplink(making.addr, link.nwk, counter, true, maker.options)
-            .ok_or(RestoreFault::Unreached)?;
+        frame = uplink(making.addr, link.nwk, counter, true, maker.options).ok_or(
+            RestoreFault::Unreached,
+        )?;
     }
     maker.repeat(&frame, active.round.saturating_sub(1))
 }
 
 // Brings a device to where its table is.
-fn finish(maker: &mut Maker, making: &mut Making, plan: &Plan) -> Result<(), RestoreFault> {
+fn finish(maker: &mut Maker, making: &mut Making, plan: &Plan) -> Result<(), RestoreFault>
+    ensures { OnOk result (AreOfOneShard maker.new.shard maker.old.shard) }
+{
     let table = making.table;
     if let Some(active) = making.active {
         let counter = active.greatest_counter.ok_or(RestoreFault::Unreached)?;
@@ -73,7 +83,9 @@ pub(crate) fn finish_all(
     maker: &mut Maker,
     makings: &mut [Making],
     plan: &Plan,
-) -> Result<(), RestoreFault> {
+) -> Result<(), RestoreFault>
+    ensures { OnOk result (AreOfOneShard maker.new.shard maker.old.shard) }
+{
     for making in makings.iter_mut().rev() {
         finish(maker, making, plan)?;
     }

@@ -1,5 +1,8 @@
 //! Joins.
 
+ghost use Rattle.std.specs.Prelude.{OnOk};
+ghost use Rattle.ns_restore.specs.Tables.{AreOfOneShard};
+
 use crate::fault::RestoreFault;
 use crate::frames::{HEARD, accepted, unasked};
 use crate::maker::Maker;
@@ -15,7 +18,9 @@ fn begin(
     making: &mut Making,
     plan: &Plan,
     number: u32,
-) -> Result<(), RestoreFault> {
+) -> Result<(), RestoreFault>
+    ensures { OnOk result (AreOfOneShard maker.new.shard maker.old.shard) }
+{
     let table = making.table;
     // The nonces of its sessions end with the greatest.
     let later = table.next_session.saturating_sub(1).saturating_sub(number);
@@ -48,7 +53,9 @@ pub(crate) fn join_to(
     making: &mut Making,
     plan: &Plan,
     number: u32,
-) -> Result<(), RestoreFault> {
+) -> Result<(), RestoreFault>
+    ensures { OnOk result (AreOfOneShard maker.new.shard maker.old.shard) }
+{
     let first = making.begun.saturating_add(1);
     for session in first..number.saturating_add(1) {
         begin(maker, making, plan, session)?;
@@ -71,7 +78,9 @@ pub(crate) fn stale_tickets(table: &DeviceTable) -> usize {
 }
 
 /// Asks for tickets, each with its best copy as often as it has copies.
-pub(crate) fn ask(maker: &mut Maker, tickets: &[OpenTicket]) -> Result<(), RestoreFault> {
+pub(crate) fn ask(maker: &mut Maker, tickets: &[OpenTicket]) -> Result<(), RestoreFault>
+    ensures { OnOk result (AreOfOneShard maker.new.shard maker.old.shard) }
+{
     for open in tickets {
         let asked = Call::Join {
             ticket: open.ticket,

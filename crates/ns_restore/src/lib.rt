@@ -21,6 +21,5 @@ mod windows;
 
 pub use compare::has_tables;
 pub use fault::RestoreFault;
-
 pub use shard::restore;
 pub use table::{table_of, tables_of};

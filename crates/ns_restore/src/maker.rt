@@ -1,10 +1,13 @@
 //! The calls that a shard is given.
 
+ghost use Rattle.std.specs.Prelude.{◌≡◌, OnOk};
+ghost use Rattle.ns_restore.specs.Tables.{AreOfOneShard};
+
 use crate::fault::RestoreFault;
 use crate::frames::HEARD;
 use ns_calls::{Call, DataFrame, Downlink, Reply, Uplink, shard_of_call};
 use ns_shard::Shard;
-use ns_types::{Heard, WindowName, shard_of_addr};
+use ns_types::{Heard, WindowName};
 use std::alloc::Global;
 
 // A round that is asked for takes some hundred nanoseconds, and a jump looks at each entry of the shard: for fewer rounds than one for so
@@ -23,7 +26,10 @@ pub(crate) struct Maker {
 }
 
 impl Maker {
-    pub(crate) fn new(alloc: Global, shard: Shard, options: usize) -> Maker {
+    /// A maker of a shard.
+    pub(crate) fn new(alloc: Global, shard: Shard, options: usize) -> Maker
+        ensures { result.shard ≡ shard }
+    {
         Maker {
             alloc,
             shard,
@@ -34,12 +40,16 @@ impl Maker {
     }
 
     /// The shard as it is.
-    pub(crate) fn into_shard(self) -> Shard {
+    pub(crate) fn into_shard(self) -> Shard
+        ensures { result ≡ self.shard }
+    {
         self.shard
     }
 
     /// Makes a call of the shard.
-    pub(crate) fn call(&mut self, call: &Call) -> Result<Reply, RestoreFault> {
+    pub(crate) fn call(&mut self, call: &Call) -> Result<Reply, RestoreFault>
+        ensures { OnOk result (AreOfOneShard self.new.shard self.old.shard) }
+    {
         if shard_of_call(call) != self.shard.index() {
             return Err(RestoreFault::NoDevice);
         }
@@ -50,7 +60,9 @@ impl Maker {
     }
 
     /// Hears an uplink.
-    pub(crate) fn hear(&mut self, frame: &DataFrame, heard: Heard) -> Result<Reply, RestoreFault> {
+    pub(crate) fn hear(&mut self, frame: &DataFrame, heard: Heard) -> Result<Reply, RestoreFault>
+        ensures { OnOk result (AreOfOneShard self.new.shard self.old.shard) }
+    {
         self.call(&Call::Uplink {
             frame: *frame,
             heard,
@@ -63,7 +75,9 @@ impl Maker {
         frame: &DataFrame,
         heard: Heard,
         name: &WindowName,
-    ) -> Result<(), RestoreFault> {
+    ) -> Result<(), RestoreFault>
+        ensures { OnOk result (AreOfOneShard self.new.shard self.old.shard) }
+    {
         match self.hear(frame, heard)? {
             Reply::Opened { window } if window == *name => Ok(()),
             _ => Err(RestoreFault::Unreached),
@@ -71,7 +85,9 @@ impl Maker {
     }
 
     /// Closes a window.
-    pub(crate) fn close(&mut self, name: &WindowName) -> Result<(), RestoreFault> {
+    pub(crate) fn close(&mut self, name: &WindowName) -> Result<(), RestoreFault>
+        ensures { OnOk result (AreOfOneShard self.new.shard self.old.shard) }
+    {
         match self.call(&Call::Close { window: *name })? {
             Reply::Closed { .. } => Ok(()),
             _ => Err(RestoreFault::Unreached),
@@ -79,7 +95,9 @@ impl Maker {
     }
 
     // Hears an uplink again, and closes its window.
-    fn round(&mut self, frame: &DataFrame) -> Result<(), RestoreFault> {
+    fn round(&mut self, frame: &DataFrame) -> Result<(), RestoreFault>
+        ensures { OnOk result (AreOfOneShard self.new.shard self.old.shard) }
+    {
         match self.hear(frame, HEARD)? {
             Reply::Again { window } => self.close(&window),
             _ => Err(RestoreFault::Unreached),
@@ -87,14 +105,20 @@ impl Maker {
     }
 
     /// Hears an uplink again and closes its window, so many times.
-    pub(crate) fn repeat(&mut self, frame: &DataFrame, rounds: u32) -> Result<(), RestoreFault> {
+    pub(crate) fn repeat(&mut self, frame: &DataFrame, rounds: u32) -> Result<(), RestoreFault>
+        ensures { OnOk result (AreOfOneShard self.new.shard self.old.shard) }
+    {
         if rounds as usize <= self.shard.entries().len() / ENTRIES_OF_A_ROUND {
             for _ in 0..rounds {
                 self.round(frame)?;
             }
             return Ok(());
         }
-        if shard_of_addr(frame.view().dev_addr()) != self.shard.index() {
+        let call = Call::Uplink {
+            frame: *frame,
+            heard: HEARD,
+        };
+        if shard_of_call(&call) != self.shard.index() {
             return Err(RestoreFault::NoDevice);
         }
         self.shard.jump(self.alloc, frame, &HEARD, rounds)?;

@@ -73,8 +73,7 @@ fn copies_of(alloc: Global, windows: &Windows) -> Result<Vec<Window>, AllocError
 }
 
 /// The tables of a shard. `NoMemory` (`AllocError`) if a growth was refused.
-pub fn tables_of(alloc: Global, shard: &Shard) -> Result<Tables, AllocError>
-{
+pub fn tables_of(alloc: Global, shard: &Shard) -> Result<Tables, AllocError> {
     Ok(Tables {
         devices: device_tables(alloc, shard.devices())?,
         windows: copies_of(alloc, shard.windows())?,

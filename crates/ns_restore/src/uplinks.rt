@@ -1,5 +1,8 @@
 //! Uplinks that nobody sent: they use counters and acknowledgement numbers.
 
+ghost use Rattle.std.specs.Prelude.{OnOk};
+ghost use Rattle.ns_restore.specs.Tables.{AreOfOneShard};
+
 use crate::fault::RestoreFault;
 use crate::frames::{HEARD, uplink};
 use crate::maker::Maker;
@@ -22,9 +25,12 @@ pub(crate) fn use_counter(
     link: Link,
     counter: u32,
     confirmed: bool,
-) -> Result<DataFrame, RestoreFault> {
-    let frame = uplink(making.addr, link.nwk, counter, confirmed, maker.options)
-        .ok_or(RestoreFault::Unreached)?;
+) -> Result<DataFrame, RestoreFault>
+    ensures { OnOk result (AreOfOneShard maker.new.shard maker.old.shard) }
+{
+    let frame = uplink(making.addr, link.nwk, counter, confirmed, maker.options).ok_or(
+        RestoreFault::Unreached,
+    )?;
     let name = making.window(link.session, counter);
     maker.open(&frame, HEARD, &name)?;
     making.opened = Some((link.session, counter));
@@ -36,7 +42,9 @@ pub(crate) fn use_counter(
 fn next_counter(greatest: Option<u32>, counter: u32) -> u32 {
     match greatest {
         None => 65_535,
-        Some(greatest) => greatest.saturating_add(65_536).min(counter.saturating_sub(1)),
+        Some(greatest) => greatest
+            .saturating_add(65_536)
+            .min(counter.saturating_sub(1)),
     }
 }
 
@@ -46,7 +54,9 @@ pub(crate) fn climb(
     making: &mut Making,
     link: Link,
     counter: u32,
-) -> Result<(), RestoreFault> {
+) -> Result<(), RestoreFault>
+    ensures { OnOk result (AreOfOneShard maker.new.shard maker.old.shard) }
+{
     for _ in 0..=65_536u32 {
         let greatest = making.greatest(link.session);
         if above(greatest, (counter % 65_536) as u16) == Some(counter) {
@@ -64,7 +74,9 @@ pub(crate) fn spend(
     making: &mut Making,
     link: Link,
     limit: u32,
-) -> Result<(), RestoreFault> {
+) -> Result<(), RestoreFault>
+    ensures { OnOk result (AreOfOneShard maker.new.shard maker.old.shard) }
+{
     let free = match making.greatest(link.session) {
         None => 0,
         Some(greatest) => greatest.saturating_add(1),

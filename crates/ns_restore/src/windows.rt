@@ -1,5 +1,8 @@
 //! The open windows.
 
+ghost use Rattle.std.specs.Prelude.{OnOk};
+ghost use Rattle.ns_restore.specs.Tables.{AreOfOneShard};
+
 use crate::fault::RestoreFault;
 use crate::joins::join_to;
 use crate::maker::Maker;
@@ -17,7 +20,9 @@ fn close_rounds(
     link: Link,
     window: &Window,
     first: Heard,
-) -> Result<(), RestoreFault> {
+) -> Result<(), RestoreFault>
+    ensures { OnOk result (AreOfOneShard maker.new.shard maker.old.shard) }
+{
     let (session, counter) = (window.name.session, window.name.fcnt);
     if making.active(session).is_some() && making.unconfirmed > 0 {
         making.unconfirmed -= 1;
@@ -32,7 +37,9 @@ fn close_rounds(
 }
 
 // Opens a window with its copies.
-fn hear_copies(maker: &mut Maker, window: &Window) -> Result<(), RestoreFault> {
+fn hear_copies(maker: &mut Maker, window: &Window) -> Result<(), RestoreFault>
+    ensures { OnOk result (AreOfOneShard maker.new.shard maker.old.shard) }
+{
     for (place, heard) in window.copies.iter().enumerate() {
         let reply = maker.hear(&window.frame, *heard)?;
         let is_there = match reply {
@@ -55,7 +62,9 @@ fn open_window(
     making: &mut Making,
     plan: &Plan,
     window: &Window,
-) -> Result<(), RestoreFault> {
+) -> Result<(), RestoreFault>
+    ensures { OnOk result (AreOfOneShard maker.new.shard maker.old.shard) }
+{
     let name = &window.name;
     let first = *window.copies.first().ok_or(RestoreFault::Unreached)?;
     let link = Link {
@@ -79,7 +88,9 @@ pub(crate) fn open_windows(
     maker: &mut Maker,
     makings: &mut Vec<Making>,
     plan: &Plan,
-) -> Result<(), RestoreFault> {
+) -> Result<(), RestoreFault>
+    ensures { OnOk result (AreOfOneShard maker.new.shard maker.old.shard) }
+{
     for window in plan.tables.windows.as_slice() {
         let place = plan.place(window.name.eui).ok_or(RestoreFault::NoDevice)?;
         let making = makings.get_mut(place).ok_or(RestoreFault::NoDevice)?;

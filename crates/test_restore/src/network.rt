@@ -15,7 +15,11 @@ pub const INDEX: u8 = 5;
 
 /// The EUI of a device.
 pub fn eui(device: usize) -> DevEui {
-    DevEui((device as u64).wrapping_mul(16).wrapping_add(u64::from(INDEX)))
+    DevEui(
+        (device as u64)
+            .wrapping_mul(16)
+            .wrapping_add(u64::from(INDEX)),
+    )
 }
 
 // A device of a roster. Every third one has a last nonce.
@@ -23,7 +27,11 @@ fn put_device(alloc: Global, text: &mut String, device: usize) -> Option<()> {
     if device > 0 {
         text.push_str(",").ok()?;
     }
-    let last = if device % 3 == 2 { r#""last_nonce":3,"# } else { "" };
+    let last = if device % 3 == 2 {
+        r#""last_nonce":3,"#
+    } else {
+        ""
+    };
     let (eui, slot) = (eui(device).0, device / 2);
     let line = format!(in alloc;
         r#"{{"dev_eui":"{eui:016x}","join_eui":"0102030401020304",{last}"slot":{slot}}}"#
@@ -87,7 +95,13 @@ pub fn outcome(random: &mut Random, ticket: &Ticket) -> Outcome {
 }
 
 /// An uplink.
-pub fn frame(addr: DevAddr, nwk: Key, counter: u32, confirmed: bool, payload: u8) -> Option<DataFrame> {
+pub fn frame(
+    addr: DevAddr,
+    nwk: Key,
+    counter: u32,
+    confirmed: bool,
+    payload: u8,
+) -> Option<DataFrame> {
     let keys = Keys {
         nwk,
         app: nwk,

@@ -49,7 +49,11 @@ impl Traffic {
         };
         let step = [0u16, 1, 1, 2, 3, 5][self.random.below(6) as usize % 6];
         Some(Call::Join {
-            ticket: ticket(device, greatest.wrapping_add(step), self.random.below(2) as u8),
+            ticket: ticket(
+                device,
+                greatest.wrapping_add(step),
+                self.random.below(2) as u8,
+            ),
             heard: heard(&mut self.random),
         })
     }
@@ -68,8 +72,7 @@ impl Traffic {
     fn send(&mut self, shard: &Shard, device: usize) -> Option<Call> {
         let (addr, session) = session(&mut self.random, shard, device)?;
         let kinds = if self.is_wide { 8 } else { 5 };
-        let step = [1u32, 1, 1, 2, 3, 4464, 65_536, 40_000]
-            [self.random.below(kinds) as usize % 8];
+        let step = [1u32, 1, 1, 2, 3, 4464, 65_536, 40_000][self.random.below(kinds) as usize % 8];
         let counter = match session.greatest_counter {
             Some(greatest) => greatest.wrapping_add(step),
             None => step - 1,
@@ -129,7 +132,12 @@ fn left(traffic: &mut Traffic, roster: &Arc<Roster>, calls: u32) -> Option<Shard
 }
 
 // Whether both shards answer so many further calls alike.
-fn go_on_alike(traffic: &mut Traffic, one: &mut Shard, other: &mut Shard, calls: u32) -> Option<bool> {
+fn go_on_alike(
+    traffic: &mut Traffic,
+    one: &mut Shard,
+    other: &mut Shard,
+    calls: u32,
+) -> Option<bool> {
     for _ in 0..calls {
         if let Some(call) = traffic.call(one) {
             if answer(one, call)? != answer(other, call)? {
