@@ -61,7 +61,7 @@ fn are_open(windows: &Windows, tables: &[Window]) -> bool
     let mut rest = tables;
     for window in windows.iter() {
         match rest.split_first() {
-            Some((first, after)) if *first == *window => rest = after,
+            Some((first, after)) if first.is_same(window) => rest = after,
             _ => return false,
         }
     }
