@@ -33,7 +33,7 @@ use Rattle.ns_shard.specs.declared.parts.Parts.{Parts}
 use Rattle.ns_shard.specs.State.{State, Keeps, remains, seen, answer_in, after_call, after_trim}
 use Rattle.ns_shard.specs.Rounds.{round_calls, after_calls, after_jump}
 use Rattle.ns_shard.specs.Private.Parts.{AreParts, state_of}
-use Rattle.ns_shard.specs.Private.Jump.{EndsWithRound}
+use Rattle.ns_shard.specs.Private.Jump.{IsRun, EndsWithRound}
 use Rattle.ns_shard.proofs.Entries.{keeps-more}
 use Rattle.ns_shard.proofs.RoundCalls.{IsRound, reply-is, opened-is, next-round, jump-is}
 use Rattle.ns_shard.proofs.Jumped.{trim-keeps}
@@ -80,11 +80,6 @@ some-when n ack is = step (nat_lt n (2 ^ 32)) refl is
     step true less some = (cc some, (let same : ack ≡ n = cc some in grind (arith, nat_tests)))
     step false more some = absurd (cc some)
 
--- a round that was run: its window, and the number of its closing
-pub record IsRun (s : State) (frame : List ℕ) (heard : Heard) (w : WindowName) (ack : ℕ) : Type 0 where
-  pub again : (answer_in s (call.Uplink frame heard)).reply ≡ reply.Again w
-  pub closed : (answer_in (after_call s (call.Uplink frame heard)) (call.Close w)).reply ≡ reply.Closed w (Some ack)
-
 module _ (s : State) (h : List Entry) (keeps : Keeps h s) (frame : List ℕ) (heard : Heard) (w : WindowName) (ack : ℕ) (run : IsRun s frame heard w ack) where
   abbrev up : Call
   up = call.Uplink frame heard
@@ -95,12 +90,11 @@ module _ (s : State) (h : List Entry) (keeps : Keeps h s) (frame : List ℕ) (he
   numbered : (next_ack h w.eui w.session ≡ ack) × (ack < 2 ^ 32)
   numbered =
       let next = again-next s.roster h keeps.left.legal frame heard w told in
-      let first : IsRound s h frame heard w (next_ack h w.eui w.session) = record { keeps = keeps; again = told; next = refl } in
       let n : ℕ = next_ack h w.eui w.session in
       let by : reply_to s.roster (with_call s.roster h (length h) up) (call.Close w) ≡ reply.Closed w (when (nat_lt n (2 ^ 32)) n) =
       ap (λ (r : Reply). reply_to s.roster (h ++ (let e : Entry = record { number = length h; call = up; reply = r } in e) ∷ []) (call.Close w)) told
       ∙ closed-by s.roster h (length h) frame heard w n next.closed next.confirmed next.session refl in
-      let here : reply.Closed w (Some ack) ≡ reply.Closed w (when (nat_lt n (2 ^ 32)) n) =
+      let here : reply.Closed run.window (Some ack) ≡ reply.Closed w (when (nat_lt n (2 ^ 32)) n) =
       sym run.closed ∙ (reply-is (with_call s.roster h (length h) up) (after_call s up) (keeps-more h s up keeps) (call.Close w) ∙ by) in
       some-when n ack (cc here)
 
@@ -170,7 +164,8 @@ module _ (s : State) (h : List Entry) (keeps : Keeps h s) (frame : List ℕ) (he
   -- there are two entries at least: those of the round
   pub two-entries : w.round + 1 < 2 ^ 32 → 2 ≤ length trimmed.entries
   two-entries rounds =
-      let long = ap length (first-entries rounds) ∙ length-append (kept_before (seen s) s.entries (one_round s.made frame heard w ack)) (one_round s.made frame heard w ack) in
+      let front : List Entry = kept_before (seen s) s.entries (one_round s.made frame heard w ack) in
+      let long : length trimmed.entries ≡ length front + 2 = ap length (first-entries rounds) ∙ length-append front (one_round s.made frame heard w ack) in
       omega (arith, long)
 
   -- so many rounds more, which were not run
@@ -186,3 +181,22 @@ module _ (s : State) (h : List Entry) (keeps : Keeps h s) (frame : List ℕ) (he
       ∙ (sym go
       ∙ (trims-same (round_calls (suc n) frame heard (rounds_later 1 w)) trimmed once later refl refl (trim-keeps later once run.keeps) run.keeps
       ∙ ap (λ m. after_trim (after_calls once (round_calls m frame heard (rounds_later 1 w)))) count))
+
+-- ---- of parts
+
+module _ (p : Parts) (are : AreParts p) (frame : List ℕ) (heard : Heard) (own : shard_of_call (call.Uplink frame heard) ≡ p.index) (w : WindowName) (ack : ℕ) (run : IsRun (state_of p) frame heard w ack) (q : Parts)
+    (is : state_of q ≡ after_trim (after_calls (state_of p) (round_calls 1 frame heard w))) where
+  pub parts-end : w.round + 1 < 2 ^ 32 → EndsWithRound (state_of q) frame heard w ack
+  parts-end rounds =
+      subst (λ (s : State). EndsWithRound s frame heard w ack) (sym is)
+      (ends (state_of p) are.history are.keeps frame heard w ack run rounds own (again-own p are frame heard w own run.again))
+
+  pub parts-two : w.round + 1 < 2 ^ 32 → 2 ≤ length q.journal.entries
+  parts-two rounds = subst (λ (s : State). 2 ≤ length s.entries) (sym is) (two-entries (state_of p) are.history are.keeps frame heard w ack run rounds)
+
+  pub parts-jump : (more rounds : ℕ) → 0 < more → rounds ≡ suc more → w.round + more < 2 ^ 32 → ack + more < 2 ^ 32 → (s : State) → s ≡ after_jump (more - 1) frame heard (rounds_later 1 w) (ack + 1) (state_of q)
+      → s ≡ after_trim (after_calls (state_of p) (round_calls rounds frame heard w))
+  parts-jump more rounds some count fits acks s go =
+      jumped (state_of p) are.history are.keeps frame heard w ack run more some fits acks s
+      (go ∙ ap (after_jump (more - 1) frame heard (rounds_later 1 w) (ack + 1)) is)
+      ∙ ap (λ n. after_trim (after_calls (state_of p) (round_calls n frame heard w))) (sym count)

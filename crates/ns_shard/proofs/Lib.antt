@@ -21,3 +21,5 @@ pub mod ManyRounds
 pub mod RoundCalls
 pub mod Jumped
 pub mod JumpSteps
+pub mod Jumps
+pub mod TablesAlike

@@ -1,10 +1,14 @@
 //! Rounds of an uplink that are not run.
 
-ghost use Rattle.std.specs.Prelude.{◌≡◌, ◌<◌, ◌≤◌, ◌+◌, ◌-◌, ◌*◌, ◌^◌, length};
+ghost use Rattle.std.specs.Prelude.{◌≡◌, ◌<◌, ◌≤◌, ◌+◌, ◌-◌, ◌*◌, ◌^◌, length, IfOk};
+ghost use Rattle.ns_calls.specs.declared.call.Call.TheVariants.{Uplink};
+ghost use Rattle.ns_calls.specs.Shards.{shard_of_call};
 ghost use Rattle.ns_kept.specs.Rounds.{rounds_later};
-ghost use Rattle.ns_shard.specs.Rounds.{after_jump};
+ghost use Rattle.ns_shard.specs.declared.jump.JumpFault.TheVariants.{NoMemory};
+ghost use Rattle.ns_shard.specs.Rounds.{round_calls, after_calls, after_jump};
+ghost use Rattle.ns_shard.specs.State.{after_trim};
 ghost use Rattle.ns_shard.specs.Private.Parts.{AreParts, state_of};
-ghost use Rattle.ns_shard.specs.Private.Jump.{EndsWithRound};
+ghost use Rattle.ns_shard.specs.Private.Jump.{jump_fault, IsRun, EndsWithRound};
 
 use crate::parts::Parts;
 use crate::trim::TrimFault;
@@ -55,8 +59,7 @@ impl Parts {
         requires own { shard_of_call (Uplink frame.now heard.now) ≡ self.old.index }
         requires agree { AreParts self.old }
         ensures state { IfOk result (λ r. state_of self.new ≡ after_calls (state_of self.old) (round_calls 1 frame.now heard.now r.0)) }
-        ensures again { IfOk result (λ r. (answer_in (state_of self.old) (Uplink frame.now heard.now)).reply ≡ Again r.0) }
-        ensures closed { IfOk result (λ r. (answer_in (after_call (state_of self.old) (Uplink frame.now heard.now)) (Close r.0)).reply ≡ Closed r.0 (Some r.1)) }
+        ensures run { IfOk result (λ r. IsRun (state_of self.old) frame.now heard.now r.0 r.1) }
         ensures agree { AreParts self.new }
     {
         let (mut reply, mut uplink, mut downlink) = (Reply::NoWindow, None, None);
@@ -105,7 +108,7 @@ impl Parts {
             return Ok(window);
         }
         let kept = self.journal.entries().len() as u64;
-        if self.journal.made() - kept > MOST_DROPPED - u64::from(more) * 2 {
+        if self.journal.made() > MOST_DROPPED + kept - u64::from(more) * 2 {
             return Err(JumpFault::Full);
         }
         self.go_on(frame, heard, &window, ack, more);

@@ -1,12 +1,15 @@
 //! One shard.
 
-ghost use Rattle.std.specs.Prelude.{◌≡◌, ◌==◌, ◌+◌, ◌*◌, ◌<◌, ◌≤◌, ◌^◌, ◌%◌, true, Err, length, map, count_by, IsOk, IfOk, IfSome, OnOk, OnErr, option_map};
+ghost use Rattle.std.specs.Prelude.{List, ◌≡◌, ◌==◌, ◌+◌, ◌*◌, ◌<◌, ◌≤◌, ◌^◌, ◌%◌, true, Err, length, map, count_by, IsOk, IfOk, IfSome, OnOk, OnErr, option_map};
 ghost use Rattle.std.specs.Arc.{arc_value};
 ghost use Rattle.ns_types.specs.Identity.{shard_count, shard_of};
-ghost use Rattle.ns_calls.specs.declared.call.Call.TheVariants.{JoinReply, Close};
+ghost use Rattle.ns_calls.specs.declared.call.Call.TheVariants.{Uplink, JoinReply, Close};
+ghost use Rattle.ns_calls.specs.declared.call.Entry.{Entry};
 ghost use Rattle.ns_calls.specs.Shards.{shard_of_call};
 ghost use Rattle.ns_calls.specs.Entries.{open_windows};
-ghost use Rattle.ns_shard.specs.State.{no_entries, after_call, answer_in, finds_open, answer_if_open, after_if_open, after_trim, dropped, oldest_in, IsState, greatest_in, seen, open_tickets_in};
+ghost use Rattle.ns_shard.specs.Rounds.{round_calls, after_calls};
+ghost use Rattle.ns_shard.specs.Tables.{devices_in, windows_in};
+ghost use Rattle.ns_shard.specs.State.{Keeps, no_entries, after_call, answer_in, finds_open, answer_if_open, after_if_open, after_trim, dropped, oldest_in, IsState, greatest_in, seen, open_tickets_in};
 ghost use Rattle.ns_kept.specs.Bound.{most_kept};
 ghost use Rattle.ns_shard.specs.declared.trim.TrimFault.TheVariants.{Full};
 ghost use Rattle.ns_shard.specs.Private.Parts.{AreParts, state_of};
