@@ -107,7 +107,7 @@ impl<'a> Fields<'a> {
     pub(crate) fn sessions(&mut self) -> Option<ArrayVec<Session, MOST_SESSIONS>> {
         let mut sessions = ArrayVec::new();
         'sessions: for _ in 0..MOST_SESSIONS {
-            if self.rest.is_empty() {
+            if self.rest.is_empty() || sessions.is_full() {
                 break;
             }
             sessions.push(self.session()?);

@@ -12,8 +12,10 @@ use crate::lines::{end_line, shard_line};
 use crate::parse::{copy_in, device_in, head_in, ticket_in, window_in};
 use crate::sum::{finish, new_sum};
 use crate::tables::{Checkpoint, DeviceTable, Head, Tables};
+use arrayvec::ArrayVec;
 use memchr::memchr;
 use ns_aes_cmac::Cmac;
+use ns_calls::{MOST_COPIES, MOST_TICKETS};
 use ns_lines::Line;
 use ns_sessions::OpenTicket;
 use ns_types::{Heard, SHARDS};
@@ -149,8 +151,7 @@ impl Reading {
 
     // Reads the line of a device.
     fn read_device_alone<S: BufRead>(&mut self, source: &mut S) -> Result<DeviceTable, CheckpointFault>
-        ensures line { IfOk result (λ d. HasRead (S.remaining source.old) (S.remaining source.new) self.old self.new (device_line d ∷ [])) }
-        ensures no_tickets { IfOk result (λ d. d.tickets.items ≡ []) }
+        ensures { IfOk result (λ d. HasRead (S.remaining source.old) (S.remaining source.new) self.old self.new (device_line d ∷ [])) }
     {
         self.read_summed(source)?;
         match device_in(self.line.as_slice()) {
@@ -161,8 +162,7 @@ impl Reading {
 
     // Reads the line of a window.
     fn read_window_alone<S: BufRead>(&mut self, source: &mut S) -> Result<Window, CheckpointFault>
-        ensures line { IfOk result (λ w. HasRead (S.remaining source.old) (S.remaining source.new) self.old self.new (window_line w ∷ [])) }
-        ensures no_copies { IfOk result (λ w. w.copies.items ≡ []) }
+        ensures { IfOk result (λ w. HasRead (S.remaining source.old) (S.remaining source.new) self.old self.new (window_line w ∷ [])) }
     {
         self.read_summed(source)?;
         match window_in(self.line.as_slice()) {
@@ -176,13 +176,22 @@ impl Reading {
         ensures { IfOk result (λ d. HasRead (S.remaining source.old) (S.remaining source.new) self.old self.new (device_lines d)) }
     {
         let mut device = self.read_device_alone(source)?;
-        'tickets: while !device.tickets.is_full() {
-            if !begins_with(source, b't')? {
-                return Ok(device);
-            }
-            device.tickets.push(self.read_ticket(source)?);
-        }
+        device.tickets = self.read_tickets(source)?;
         Ok(device)
+    }
+
+    // Reads the tickets of a device.
+    fn read_tickets<S: BufRead>(&mut self, source: &mut S) -> Result<ArrayVec<OpenTicket, MOST_TICKETS>, CheckpointFault>
+        ensures { IfOk result (λ v. HasRead (S.remaining source.old) (S.remaining source.new) self.old self.new (map ticket_line v.items)) }
+    {
+        let mut tickets = ArrayVec::new();
+        'tickets: while !tickets.is_full() {
+            if !begins_with(source, b't')? {
+                return Ok(tickets);
+            }
+            tickets.push(self.read_ticket(source)?);
+        }
+        Ok(tickets)
     }
 
     // Reads a window and its copies.
@@ -190,13 +199,22 @@ impl Reading {
         ensures { IfOk result (λ w. HasRead (S.remaining source.old) (S.remaining source.new) self.old self.new (window_lines w)) }
     {
         let mut window = self.read_window_alone(source)?;
-        'copies: while !window.copies.is_full() {
-            if !begins_with(source, b'c')? {
-                return Ok(window);
-            }
-            window.copies.push(self.read_copy(source)?);
-        }
+        window.copies = self.read_copies(source)?;
         Ok(window)
+    }
+
+    // Reads the copies of a window.
+    fn read_copies<S: BufRead>(&mut self, source: &mut S) -> Result<ArrayVec<Heard, MOST_COPIES>, CheckpointFault>
+        ensures { IfOk result (λ v. HasRead (S.remaining source.old) (S.remaining source.new) self.old self.new (map copy_line v.items)) }
+    {
+        let mut copies = ArrayVec::new();
+        'copies: while !copies.is_full() {
+            if !begins_with(source, b'c')? {
+                return Ok(copies);
+            }
+            copies.push(self.read_copy(source)?);
+        }
+        Ok(copies)
     }
 
     // Reads the line of a shard.

@@ -1,10 +1,10 @@
 //! A checkpoint, written to a sink.
 
-ghost use Rattle.std.specs.Prelude.{◌≡◌, ℕ, ◌∷◌, [], List, length, flat_map, IfOk, OnOk, IfSome};
+ghost use Rattle.std.specs.Prelude.{◌≡◌, ℕ, ◌∷◌, [], List, length, map, flat_map, IfOk, OnOk, IfSome};
 ghost use Rattle.std.specs.Io.KnownBytes.{Appends};
 ghost use Rattle.ns_types.specs.Identity.{shard_count};
 ghost use Rattle.ns_aes_cmac.specs.CmacState.{state_of};
-ghost use Rattle.ns_checkpoint.specs.Text.{sum_key, checksum, head_line, end_line, device_lines, window_lines, tables_lines, shards_lines, lines_text, checkpoint_text};
+ghost use Rattle.ns_checkpoint.specs.Text.{sum_key, checksum, head_line, ticket_line, copy_line, end_line, device_lines, window_lines, tables_lines, shards_lines, lines_text, checkpoint_text};
 ghost use Rattle.ns_checkpoint.specs.Written.{HasWritten};
 
 use crate::lines::{
@@ -14,7 +14,8 @@ use crate::sum::{finish, new_sum};
 use crate::tables::{Checkpoint, DeviceTable, Head, Tables};
 use ns_aes_cmac::Cmac;
 use ns_lines::Line;
-use ns_types::SHARDS;
+use ns_sessions::OpenTicket;
+use ns_types::{Heard, SHARDS};
 use ns_windows::Window;
 use std::io;
 use std::io::Write;
@@ -55,7 +56,8 @@ impl CheckpointWriter {
     {
         self.put(out, &shard_line(number))?;
         self.put_devices(out, tables.devices.as_slice())?;
-        self.put_windows(out, tables.windows.as_slice())
+        self.put_windows(out, tables.windows.as_slice())?;
+        Ok(())
     }
 
     /// Writes the last line.
@@ -64,7 +66,8 @@ impl CheckpointWriter {
     {
         let line = end_line(&finish(self.mac));
         out.write_all(line.as_str().as_bytes())?;
-        out.write_all(b"\n")
+        out.write_all(b"\n")?;
+        Ok(())
     }
 
     // Writes a line with its line feed.
@@ -83,7 +86,15 @@ impl CheckpointWriter {
         ensures { OnOk result (HasWritten (W.contents out.old) (W.contents out.new) self.old self.new (device_lines device.now)) }
     {
         self.put(out, &device_line(device))?;
-        for ticket in device.tickets.as_slice() {
+        self.put_tickets(out, device.tickets.as_slice())?;
+        Ok(())
+    }
+
+    // Writes the tickets of a device.
+    fn put_tickets<W: Write>(&mut self, out: &mut W, tickets: &[OpenTicket]) -> Result<(), io::Error>
+        ensures { OnOk result (HasWritten (W.contents out.old) (W.contents out.new) self.old self.new (map ticket_line tickets.now)) }
+    {
+        for ticket in tickets {
             self.put(out, &ticket_line(ticket))?;
         }
         Ok(())
@@ -104,7 +115,15 @@ impl CheckpointWriter {
         ensures { OnOk result (HasWritten (W.contents out.old) (W.contents out.new) self.old self.new (window_lines window.now)) }
     {
         self.put(out, &window_line(window))?;
-        for heard in window.copies.as_slice() {
+        self.put_copies(out, window.copies.as_slice())?;
+        Ok(())
+    }
+
+    // Writes the copies of a window.
+    fn put_copies<W: Write>(&mut self, out: &mut W, copies: &[Heard]) -> Result<(), io::Error>
+        ensures { OnOk result (HasWritten (W.contents out.old) (W.contents out.new) self.old self.new (map copy_line copies.now)) }
+    {
+        for heard in copies {
             self.put(out, &copy_line(heard))?;
         }
         Ok(())
@@ -121,19 +140,36 @@ impl CheckpointWriter {
     }
 }
 
+// The number of lines of devices.
+fn device_count(devices: &[DeviceTable]) -> Option<u64>
+    ensures { IfSome result (λ n. n ≡ length (flat_map device_lines devices.now)) }
+{
+    let mut lines: u64 = 0;
+    for device in devices {
+        lines = lines.checked_add(1 + device.tickets.len() as u64)?;
+    }
+    Some(lines)
+}
+
+// The number of lines of windows.
+fn window_count(windows: &[Window]) -> Option<u64>
+    ensures { IfSome result (λ n. n ≡ length (flat_map window_lines windows.now)) }
+{
+    let mut lines: u64 = 0;
+    for window in windows {
+        lines = lines.checked_add(1 + window.copies.len() as u64)?;
+    }
+    Some(lines)
+}
+
 impl Tables {
     /// The number of lines of these tables. There is none of 64 bits if there are too many.
     pub fn lines(&self) -> Option<u64>
         ensures { IfSome result (λ n. (number : ℕ) → n ≡ length (tables_lines number self.now)) }
     {
-        let mut lines: u64 = 1;
-        for device in self.devices.as_slice() {
-            lines = lines.checked_add(1 + device.tickets.len() as u64)?;
-        }
-        for window in self.windows.as_slice() {
-            lines = lines.checked_add(1 + window.copies.len() as u64)?;
-        }
-        Some(lines)
+        let devices = device_count(self.devices.as_slice())?;
+        let windows = window_count(self.windows.as_slice())?;
+        devices.checked_add(windows)?.checked_add(1)
     }
 }
 

@@ -1,0 +1,3 @@
+mod ReadLines
+mod WrittenLines
+mod Shards
