@@ -13,6 +13,7 @@ mod frames;
 mod joins;
 mod maker;
 mod making;
+mod other_roster;
 mod plan;
 mod shard;
 mod table;
@@ -21,5 +22,6 @@ mod windows;
 
 pub use compare::has_tables;
 pub use fault::RestoreFault;
+pub use other_roster::{Fitted, fitting};
 pub use shard::restore;
-pub use table::{table_of, tables_of};
+pub use table::tables_of;
