@@ -35,7 +35,7 @@ use Rattle.ns_shard.specs.Rounds.{round_calls, after_calls, after_jump}
 use Rattle.ns_shard.specs.Private.Parts.{AreParts, state_of}
 use Rattle.ns_shard.specs.Private.Jump.{IsRun, EndsWithRound}
 use Rattle.ns_shard.proofs.Entries.{keeps-more}
-use Rattle.ns_shard.proofs.RoundCalls.{IsRound, reply-is, opened-is, next-round, jump-is}
+use Rattle.ns_shard.proofs.RoundCalls.{IsRound, reply-is, next-round, jump-is}
 use Rattle.ns_shard.proofs.Jumped.{trim-keeps}
 
 -- ---- trims between calls

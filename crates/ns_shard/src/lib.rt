@@ -7,6 +7,7 @@
 #![tactic(auto)]
 
 mod closing;
+mod compare;
 mod event;
 mod joining;
 mod jump;
@@ -17,10 +18,10 @@ mod parts;
 mod room;
 mod sending;
 mod shard;
-mod tables;
 mod trim;
 mod uplink;
 
+pub use compare::same_tables;
 pub use jump::JumpFault;
 pub use laws::{
     answers_rest_on_tables, lives_are_one_run, many_rounds_are_a_jump,
@@ -29,5 +30,4 @@ pub use laws::{
 pub use ns_uplinks::BoxedUplink;
 pub use packed::BoxedAnswer;
 pub use shard::Shard;
-pub use tables::same_tables;
 pub use trim::{Dropped, TrimFault};

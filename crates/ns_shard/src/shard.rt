@@ -3,7 +3,8 @@
 ghost use Rattle.std.specs.Prelude.{List, ◌≡◌, ◌==◌, ◌+◌, ◌*◌, ◌<◌, ◌≤◌, ◌^◌, ◌%◌, true, Err, length, map, count_by, IsOk, IfOk, IfSome, OnOk, OnErr, option_map};
 ghost use Rattle.std.specs.Arc.{arc_value};
 ghost use Rattle.ns_types.specs.Identity.{shard_count, shard_of};
-ghost use Rattle.ns_calls.specs.declared.call.Call.TheVariants.{Uplink, JoinReply, Close};
+ghost use Rattle.ns_calls.specs.declared.call.Call.TheVariants.{JoinReply, Close};
+ghost use Rattle.ns_calls.specs.declared.call.Call.TheVariants as of_call;
 ghost use Rattle.ns_calls.specs.declared.call.Entry.{Entry};
 ghost use Rattle.ns_calls.specs.Shards.{shard_of_call};
 ghost use Rattle.ns_calls.specs.Entries.{open_windows};
@@ -193,7 +194,7 @@ impl Shard {
         heard: &Heard,
         rounds: u32,
     ) -> Result<WindowName, JumpFault>
-        requires { shard_of_call (Uplink frame.now heard.now) ≡ self.old.index }
+        requires { shard_of_call (of_call.Uplink frame.now heard.now) ≡ self.old.index }
         ensures rounds { IfOk result (λ w. self.new ≡ after_trim (after_calls self.old (round_calls rounds frame.now heard.now w))) }
         ensures state { IsState self.new }
     {
