@@ -1,3 +1,5 @@
+mod Codes
+mod OneReading
 mod ReadLines
-mod WrittenLines
 mod Shards
+mod WrittenLines

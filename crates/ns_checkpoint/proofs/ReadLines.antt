@@ -10,6 +10,7 @@ use Rattle.arrayvec.specs.ArrayVec.{ArrayVec}
 use Rattle.ns_types.specs.declared.heard.Heard.{Heard}
 use Rattle.ns_sessions.specs.declared.ticket.OpenTicket.{OpenTicket}
 use Rattle.ns_windows.specs.declared.window.Window.{Window}
+use Rattle.ns_checkpoint.specs.declared.tables.Checkpoint.{Checkpoint}
 use Rattle.ns_checkpoint.specs.declared.tables.DeviceTable.{DeviceTable}
 use Rattle.ns_checkpoint.specs.declared.tables.Head.{Head}
 use Rattle.ns_checkpoint.specs.declared.tables.Tables.{Tables}
@@ -100,20 +101,24 @@ pub shards-read : (a b c : Option (List ℕ)) (x y z : Reading) (old new : List 
     → HasRead a b x y (shards_lines 0 old) → length old ≡ n → HasRead b c y z (tables_lines n t) → new ≡ old ++ t ∷ [] → HasRead a c x z (shards_lines 0 new)
 shards-read a b c x y z old new n t p long q is =
     let more : shards_lines 0 new ≡ shards_lines 0 old ++ tables_lines n t =
-        ap (shards_lines 0) is ∙ shards-more 0 old t ∙ ap (λ k. shards_lines 0 old ++ tables_lines k t) (omega (arith, long)) in
+    ap (shards_lines 0) is ∙ shards-more 0 old t ∙ ap (λ k. shards_lines 0 old ++ tables_lines k t) (omega (arith, long)) in
     subst (HasRead a c x z) (sym more) (read-then a b c x y z (shards_lines 0 old) (tables_lines n t) p q)
 
+abbrev head_with : ℕ → ℕ → Head
+head_with lines ups = record { lines = lines; ups = ups }
+
 -- the whole: the head, the tables, and the sum of both
-pub read-whole : (a b c d : Option (List ℕ)) (x y z : Reading) (head : Head) (shards : List Tables)
-    → x.number ≡ 0 → x.mac ≡ state_of sum_key [] → HasRead a b x y (head_line head ∷ []) → HasRead b c y z (shards_lines 0 shards) → z.number - 1 ≡ head.lines
+pub read-whole : (a b c d : Option (List ℕ)) (x y z : Reading) (head : Head) (w : Checkpoint)
+    → x.number ≡ 0 → x.mac ≡ state_of sum_key [] → HasRead a b x y (head_line head ∷ []) → HasRead b c y z (shards_lines 0 w.shards.items)
+    → z.number ≡ head.lines + 1 → head.ups ≡ w.ups
     → ((text : List ℕ) → z.mac ≡ state_of sum_key text → Consumes c d (end_line (checksum text) ++ 10 ∷ []))
-    → Consumes a d (checkpoint_text (record { ups = head.ups; shards = record { items = shards } }))
-read-whole a b c d x y z head shards none sum p q count end =
-    let lines = shards_lines 0 shards in
+    → Consumes a d (checkpoint_text w)
+read-whole a b c d x y z head w none sum p q count ups end =
+    let lines = shards_lines 0 w.shards.items in
     let body : HasRead a c x z (head_line head ∷ lines) = read-then a b c x y z (head_line head ∷ []) lines p q in
     let counted : head.lines ≡ length lines = omega (arith, none, p.number, q.number, count) in
-    let is : head ≡ record { lines = length lines; ups = head.ups } = ap (λ n. record { lines = n; ups = head.ups }) counted in
-    let named : HasRead a c x z (head_line (record { lines = length lines; ups = head.ups }) ∷ lines) = subst (λ h. HasRead a c x z (head_line h ∷ lines)) is body in
-    let text = lines_text (head_line (record { lines = length lines; ups = head.ups }) ∷ lines) in
+    let is : head ≡ head_with (length lines) w.ups = ap (λ n. head_with n head.ups) counted ∙ ap (head_with (length lines)) ups in
+    let named : HasRead a c x z (head_line (record { lines = length lines; ups = w.ups }) ∷ lines) = subst (λ h. HasRead a c x z (head_line h ∷ lines)) is body in
+    let text = lines_text (head_line (record { lines = length lines; ups = w.ups }) ∷ lines) in
     subst (λ l. Consumes a d (text ++ l)) (sym (append-nil (end_line (checksum text) ++ 10 ∷ [])))
     (Consumes-trans a c d text (end_line (checksum text) ++ 10 ∷ []) named.bytes (end text (named.sum [] sum)))

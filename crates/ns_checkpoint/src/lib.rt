@@ -7,6 +7,7 @@
 
 mod fault;
 mod fields;
+mod laws;
 mod lines;
 mod parse;
 mod read;
@@ -15,7 +16,10 @@ mod tables;
 mod write;
 
 pub use fault::CheckpointFault;
-pub use lines::{copy_line, device_line, end_line, head_line, shard_line, ticket_line, window_line};
+pub use laws::lines_have_one_reading;
+pub use lines::{
+    copy_line, device_line, end_line, head_line, shard_line, ticket_line, window_line,
+};
 pub use parse::{copy_in, device_in, head_in, ticket_in, window_in};
 pub use read::read_checkpoint;
 pub use sum::{line_sum, text_sum};

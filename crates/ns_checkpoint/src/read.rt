@@ -80,6 +80,16 @@ fn begins_with<S: BufRead>(source: &mut S, letter: u8) -> Result<bool, Checkpoin
     Ok(source.fill_buf()?.first() == Some(&letter))
 }
 
+// Adds an element at the end of a list.
+fn append<T: Drop>(list: &mut Vec<T>, element: T) -> Result<(), CheckpointFault>
+    ensures { OnOk result (list.new.items ≡ list.old.items ++ element ∷ []) }
+{
+    match list.push(element) {
+        Ok(()) => Ok(()),
+        Err(_) => Err(CheckpointFault::NoMemory),
+    }
+}
+
 impl Reading {
     // Nothing is read yet.
     fn new(alloc: Global) -> Reading
@@ -150,7 +160,10 @@ impl Reading {
     }
 
     // Reads the line of a device.
-    fn read_device_alone<S: BufRead>(&mut self, source: &mut S) -> Result<DeviceTable, CheckpointFault>
+    fn read_device_alone<S: BufRead>(
+        &mut self,
+        source: &mut S,
+    ) -> Result<DeviceTable, CheckpointFault>
         ensures { IfOk result (λ d. HasRead (S.remaining source.old) (S.remaining source.new) self.old self.new (device_line d ∷ [])) }
     {
         self.read_summed(source)?;
@@ -181,7 +194,10 @@ impl Reading {
     }
 
     // Reads the tickets of a device.
-    fn read_tickets<S: BufRead>(&mut self, source: &mut S) -> Result<ArrayVec<OpenTicket, MOST_TICKETS>, CheckpointFault>
+    fn read_tickets<S: BufRead>(
+        &mut self,
+        source: &mut S,
+    ) -> Result<ArrayVec<OpenTicket, MOST_TICKETS>, CheckpointFault>
         ensures { IfOk result (λ v. HasRead (S.remaining source.old) (S.remaining source.new) self.old self.new (map ticket_line v.items)) }
     {
         let mut tickets = ArrayVec::new();
@@ -204,7 +220,10 @@ impl Reading {
     }
 
     // Reads the copies of a window.
-    fn read_copies<S: BufRead>(&mut self, source: &mut S) -> Result<ArrayVec<Heard, MOST_COPIES>, CheckpointFault>
+    fn read_copies<S: BufRead>(
+        &mut self,
+        source: &mut S,
+    ) -> Result<ArrayVec<Heard, MOST_COPIES>, CheckpointFault>
         ensures { IfOk result (λ v. HasRead (S.remaining source.old) (S.remaining source.new) self.old self.new (map copy_line v.items)) }
     {
         let mut copies = ArrayVec::new();
@@ -230,7 +249,11 @@ impl Reading {
     }
 
     // Reads the devices of a shard.
-    fn read_devices<S: BufRead>(&mut self, alloc: Global, source: &mut S) -> Result<Vec<DeviceTable>, CheckpointFault>
+    fn read_devices<S: BufRead>(
+        &mut self,
+        alloc: Global,
+        source: &mut S,
+    ) -> Result<Vec<DeviceTable>, CheckpointFault>
         ensures { IfOk result (λ v. HasRead (S.remaining source.old) (S.remaining source.new) self.old self.new (flat_map device_lines v.items)) }
     {
         let mut devices = Vec::new(alloc);
@@ -239,15 +262,17 @@ impl Reading {
                 return Ok(devices);
             }
             let device = self.read_device(source)?;
-            if devices.push(device).is_err() {
-                return Err(CheckpointFault::NoMemory);
-            }
+            append(&mut devices, device)?;
         }
         Ok(devices)
     }
 
     // Reads the windows of a shard.
-    fn read_windows<S: BufRead>(&mut self, alloc: Global, source: &mut S) -> Result<Vec<Window>, CheckpointFault>
+    fn read_windows<S: BufRead>(
+        &mut self,
+        alloc: Global,
+        source: &mut S,
+    ) -> Result<Vec<Window>, CheckpointFault>
         ensures { IfOk result (λ v. HasRead (S.remaining source.old) (S.remaining source.new) self.old self.new (flat_map window_lines v.items)) }
     {
         let mut windows = Vec::new(alloc);
@@ -256,15 +281,18 @@ impl Reading {
                 return Ok(windows);
             }
             let window = self.read_window(source)?;
-            if windows.push(window).is_err() {
-                return Err(CheckpointFault::NoMemory);
-            }
+            append(&mut windows, window)?;
         }
         Ok(windows)
     }
 
     // Reads the tables of a shard.
-    fn read_tables<S: BufRead>(&mut self, alloc: Global, source: &mut S, number: u8) -> Result<Tables, CheckpointFault>
+    fn read_tables<S: BufRead>(
+        &mut self,
+        alloc: Global,
+        source: &mut S,
+        number: u8,
+    ) -> Result<Tables, CheckpointFault>
         ensures { IfOk result (λ t. HasRead (S.remaining source.old) (S.remaining source.new) self.old self.new (tables_lines number t)) }
     {
         self.read_shard(source, number)?;
@@ -274,18 +302,31 @@ impl Reading {
     }
 
     // Reads the tables of sixteen shards.
-    fn read_shards<S: BufRead>(&mut self, alloc: Global, source: &mut S) -> Result<Vec<Tables>, CheckpointFault>
+    fn read_shards<S: BufRead>(
+        &mut self,
+        alloc: Global,
+        source: &mut S,
+    ) -> Result<Vec<Tables>, CheckpointFault>
         ensures lines { IfOk result (λ v. HasRead (S.remaining source.old) (S.remaining source.new) self.old self.new (shards_lines 0 v.items)) }
         ensures sixteen { IfOk result (λ v. length v.items ≡ shard_count) }
     {
         let mut shards = Vec::new(alloc);
         'shards: for number in 0..SHARDS {
             let tables = self.read_tables(alloc, source, number)?;
-            if shards.push(tables).is_err() {
-                return Err(CheckpointFault::NoMemory);
-            }
+            append(&mut shards, tables)?;
         }
         Ok(shards)
+    }
+
+    // Whether the head announces as many lines as came after it.
+    fn check_count(&self, head: &Head) -> Result<(), CheckpointFault>
+        ensures { OnOk result (self.now.number ≡ head.now.lines + 1) }
+    {
+        if self.number > 0 && self.number - 1 == head.lines {
+            Ok(())
+        } else {
+            Err(CheckpointFault::BadCount(self.number))
+        }
     }
 
     // Reads the last line, which has the sum of those before it.
@@ -324,9 +365,7 @@ pub fn read_checkpoint<S: BufRead>(
     let mut reading = Reading::new(alloc);
     let head = reading.read_head(source)?;
     let shards = reading.read_shards(alloc, source)?;
-    if reading.number - 1 != head.lines {
-        return Err(CheckpointFault::BadCount(reading.number));
-    }
+    reading.check_count(&head)?;
     reading.read_end(source)?;
     Ok(Checkpoint {
         ups: head.ups,

@@ -1,6 +1,6 @@
 //! A checkpoint, written to a sink.
 
-ghost use Rattle.std.specs.Prelude.{◌≡◌, ℕ, ◌∷◌, [], List, length, map, flat_map, IfOk, OnOk, IfSome};
+ghost use Rattle.std.specs.Prelude.{◌≡◌, ℕ, ◌+◌, ◌∷◌, [], List, length, map, flat_map, IfOk, OnOk, IfSome};
 ghost use Rattle.std.specs.Io.KnownBytes.{Appends};
 ghost use Rattle.ns_types.specs.Identity.{shard_count};
 ghost use Rattle.ns_aes_cmac.specs.CmacState.{state_of};
@@ -91,7 +91,11 @@ impl CheckpointWriter {
     }
 
     // Writes the tickets of a device.
-    fn put_tickets<W: Write>(&mut self, out: &mut W, tickets: &[OpenTicket]) -> Result<(), io::Error>
+    fn put_tickets<W: Write>(
+        &mut self,
+        out: &mut W,
+        tickets: &[OpenTicket],
+    ) -> Result<(), io::Error>
         ensures { OnOk result (HasWritten (W.contents out.old) (W.contents out.new) self.old self.new (map ticket_line tickets.now)) }
     {
         for ticket in tickets {
@@ -101,7 +105,11 @@ impl CheckpointWriter {
     }
 
     // Writes devices.
-    fn put_devices<W: Write>(&mut self, out: &mut W, devices: &[DeviceTable]) -> Result<(), io::Error>
+    fn put_devices<W: Write>(
+        &mut self,
+        out: &mut W,
+        devices: &[DeviceTable],
+    ) -> Result<(), io::Error>
         ensures { OnOk result (HasWritten (W.contents out.old) (W.contents out.new) self.old self.new (flat_map device_lines devices.now)) }
     {
         for device in devices {
@@ -173,13 +181,21 @@ impl Tables {
     }
 }
 
+// The sum of two numbers, if it has 64 bits.
+fn sum_of(a: u64, b: u64) -> Option<u64>
+    ensures { IfSome result (λ n. n ≡ a + b) }
+{
+    a.checked_add(b)
+}
+
 // The number of lines of the tables of shards.
 fn lines_of(shards: &[Tables]) -> Option<u64>
     ensures { IfSome result (λ n. n ≡ length (shards_lines 0 shards.now)) }
 {
     let mut lines: u64 = 0;
     for tables in shards {
-        lines = lines.checked_add(tables.lines()?)?;
+        let more = tables.lines()?;
+        lines = sum_of(lines, more)?;
     }
     Some(lines)
 }
@@ -197,5 +213,6 @@ pub fn write_checkpoint<W: Write>(out: &mut W, checkpoint: &Checkpoint) -> Resul
     'shards: for number in 0..SHARDS {
         writer.put_tables(out, number, &checkpoint.shards[usize::from(number)])?;
     }
-    writer.end(out)
+    writer.end(out)?;
+    Ok(())
 }
