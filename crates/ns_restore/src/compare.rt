@@ -41,8 +41,8 @@ fn has_table(own: &Own, table: &DeviceTable) -> bool
 fn have_tables(devices: &Devices, tables: &[DeviceTable]) -> bool
     ensures { IsTrue result → tables.now ≡ tables_of devices.now }
 {
-    let mut rest = tables;
-    for own in devices.iter() {
+    let (mut ours, mut rest) = (devices.iter(), tables);
+    'ours: while let Some(own) = ours.next() {
         if !is_told(own) {
             continue;
         }
@@ -58,8 +58,8 @@ fn have_tables(devices: &Devices, tables: &[DeviceTable]) -> bool
 fn are_open(windows: &Windows, tables: &[Window]) -> bool
     ensures { IsTrue result → tables.now ≡ windows.now }
 {
-    let mut rest = tables;
-    for window in windows.iter() {
+    let (mut ours, mut rest) = (windows.iter(), tables);
+    'ours: while let Some(window) = ours.next() {
         match rest.split_first() {
             Some((first, after)) if first.is_same(window) => rest = after,
             _ => return false,

@@ -16,7 +16,7 @@ use ns_sessions::Session;
 pub(crate) fn ask_first(maker: &mut Maker, makings: &[Making]) -> Result<(), RestoreFault>
     ensures { OnOk result (AreOfOneShard maker.new.shard maker.old.shard) }
 {
-    for making in makings {
+    'devices: for making in makings {
         let table = making.table;
         let (first, _) = table.tickets.as_slice().split_at(stale_tickets(table));
         ask(maker, first)?;
@@ -86,7 +86,7 @@ pub(crate) fn finish_all(
 ) -> Result<(), RestoreFault>
     ensures { OnOk result (AreOfOneShard maker.new.shard maker.old.shard) }
 {
-    for making in makings.iter_mut().rev() {
+    'devices: for making in makings.iter_mut().rev() {
         finish(maker, making, plan)?;
     }
     Ok(())

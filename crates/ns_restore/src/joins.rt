@@ -57,7 +57,7 @@ pub(crate) fn join_to(
     ensures { OnOk result (AreOfOneShard maker.new.shard maker.old.shard) }
 {
     let first = making.begun.saturating_add(1);
-    for session in first..number.saturating_add(1) {
+    'joins: for session in first..number.saturating_add(1) {
         begin(maker, making, plan, session)?;
     }
     Ok(())
@@ -81,12 +81,12 @@ pub(crate) fn stale_tickets(table: &DeviceTable) -> usize {
 pub(crate) fn ask(maker: &mut Maker, tickets: &[OpenTicket]) -> Result<(), RestoreFault>
     ensures { OnOk result (AreOfOneShard maker.new.shard maker.old.shard) }
 {
-    for open in tickets {
+    'tickets: for open in tickets {
         let asked = Call::Join {
             ticket: open.ticket,
             heard: open.copies.best(),
         };
-        for copy in 0..open.copies.count() {
+        'copies: for copy in 0..open.copies.count() {
             match maker.call(&asked)? {
                 Reply::Ask { .. } if copy == 0 => {}
                 Reply::JoinCopied { .. } if copy > 0 => {}

@@ -109,7 +109,7 @@ impl Maker {
         ensures { OnOk result (AreOfOneShard self.new.shard self.old.shard) }
     {
         if rounds as usize <= self.shard.entries().len() / ENTRIES_OF_A_ROUND {
-            for _ in 0..rounds {
+            'rounds: for _ in 0..rounds {
                 self.round(frame)?;
             }
             return Ok(());

@@ -57,7 +57,7 @@ pub(crate) fn climb(
 ) -> Result<(), RestoreFault>
     ensures { OnOk result (AreOfOneShard maker.new.shard maker.old.shard) }
 {
-    for _ in 0..=65_536u32 {
+    'steps: for _ in 0..=65_536u32 {
         let greatest = making.greatest(link.session);
         if above(greatest, (counter % 65_536) as u16) == Some(counter) {
             return Ok(());

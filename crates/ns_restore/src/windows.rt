@@ -40,7 +40,7 @@ fn close_rounds(
 fn hear_copies(maker: &mut Maker, window: &Window) -> Result<(), RestoreFault>
     ensures { OnOk result (AreOfOneShard maker.new.shard maker.old.shard) }
 {
-    for (place, heard) in window.copies.iter().enumerate() {
+    'copies: for (place, heard) in window.copies.iter().enumerate() {
         let reply = maker.hear(&window.frame, *heard)?;
         let is_there = match reply {
             Reply::Opened { window: name } | Reply::Again { window: name } => {
@@ -91,7 +91,7 @@ pub(crate) fn open_windows(
 ) -> Result<(), RestoreFault>
     ensures { OnOk result (AreOfOneShard maker.new.shard maker.old.shard) }
 {
-    for window in plan.tables.windows.as_slice() {
+    'windows: for window in plan.tables.windows.as_slice() {
         let place = plan.place(window.name.eui).ok_or(RestoreFault::NoDevice)?;
         let making = makings.get_mut(place).ok_or(RestoreFault::NoDevice)?;
         open_window(maker, making, plan, window)?;
