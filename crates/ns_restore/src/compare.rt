@@ -1,13 +1,15 @@
 //! What a shard answers from, compared with tables.
 
-ghost use Rattle.std.specs.Prelude.{◌≡◌, IsTrue, ◌↔◌};
+ghost use Rattle.std.specs.Prelude.{◌≡◌, IsTrue, option_map};
 ghost use Rattle.ns_restore.specs.Tables.{table_of, tables_of, HasTables};
 
 use crate::table::is_told;
+use arrayvec::ArrayVec;
 use ns_checkpoint::{DeviceTable, Tables};
 use ns_devices::{Devices, Own};
-use ns_sessions::OpenTicket;
+use ns_sessions::{DeviceState, MOST_SESSIONS, OpenTicket, Session};
 use ns_shard::Shard;
+use ns_types::DevNonce;
 use ns_windows::{Window, Windows};
 
 // Whether these are the same tickets, in one order.
@@ -25,16 +27,36 @@ fn are_same(tickets: &[OpenTicket], others: &[OpenTicket]) -> bool
     true
 }
 
+// Whether a device has this greatest nonce.
+fn has_greatest(state: &DeviceState, greatest: Option<DevNonce>) -> bool
+    ensures { IsTrue result → greatest ≡ option_map (λ n. record { 0 = n }) state.now.greatest_nonce }
+{
+    match (state.greatest(), greatest) {
+        (None, None) => true,
+        (Some(own), Some(given)) => own.0 == given.0,
+        _ => false,
+    }
+}
+
+// Whether a device has these live sessions.
+fn has_sessions(state: &DeviceState, sessions: &ArrayVec<Session, MOST_SESSIONS>) -> bool
+    ensures { IsTrue result → sessions.now.items ≡ state.now.sessions }
+{
+    state.sessions() == *sessions
+}
+
 // Whether a device has this table.
 fn has_table(own: &Own, table: &DeviceTable) -> bool
     ensures { IsTrue result → table.now ≡ table_of own.now }
 {
     let state = &own.state;
-    own.device.eui == table.eui
-        && state.greatest() == table.greatest
-        && state.next_session() == table.next_session
-        && state.sessions() == table.sessions
-        && are_same(state.tickets(), table.tickets.as_slice())
+    if own.device.eui != table.eui || state.next_session() != table.next_session {
+        return false;
+    }
+    if !has_greatest(state, table.greatest) || !has_sessions(state, &table.sessions) {
+        return false;
+    }
+    are_same(state.tickets(), table.tickets.as_slice())
 }
 
 // Whether the devices that have tables have these.
