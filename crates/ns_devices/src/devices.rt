@@ -216,8 +216,7 @@ impl Devices {
         self.list[place].open_again(name.session, name.round);
     }
 
-    /// Goes on in a window's session, as if rounds of its uplink had been opened, closed and acknowledged: this is the last one then, and
-    /// this the number of the next acknowledgement.
+    /// Sets the last round and the next acknowledgement number of a window's session, as rounds of its uplink leave them.
     pub fn go_on(&mut self, name: &WindowName, round: u32, next_ack: u64)
         ensures { self.new ≡ with_change_of name.now.eui (with_rounds name.now.session round next_ack) self.old }
     {

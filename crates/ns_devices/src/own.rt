@@ -93,7 +93,7 @@ impl Own {
         self.state.open_again(session, round);
     }
 
-    /// Goes on in a session by rounds that were not run.
+    /// Sets the last round and the next acknowledgement number of a session.
     pub(crate) fn go_on(&mut self, session: u32, round: u32, next_ack: u64)
         ensures { self.new ≡ with_state (with_rounds session round next_ack) self.old }
     {

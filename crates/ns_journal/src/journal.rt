@@ -140,7 +140,7 @@ impl Journal {
         self.push_lent(call, reply)
     }
 
-    /// Takes the last two entries out, as if so many pairs more had been made in their place, and cut out. It takes no memory.
+    /// Removes the last two entries, and counts `pairs` pairs of entries in their place as made and cut out. It takes no memory.
     pub fn skip(&mut self, pairs: u32)
         requires two { 2 ≤ length self.old.entries }
         requires fits { self.old.made + pairs * 2 ≤ 2 ^ 63 + length self.old.entries }

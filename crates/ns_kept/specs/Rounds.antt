@@ -9,7 +9,7 @@ use Rattle.ns_calls.specs.Entries.{open_windows}
 use Rattle.ns_calls.specs.Legal.{entry_of}
 use Rattle.ns_kept.specs.Kept.{is_kept, filter_before}
 
--- the window of the same uplink so many rounds later
+-- the window of the same uplink n rounds later
 abbrev pub rounds_later : ℕ → WindowName → WindowName
 rounds_later n w = record w { round = w.round + n }
 
@@ -17,7 +17,7 @@ rounds_later n w = record w { round = w.round + n }
 abbrev pub one_round : ℕ → List ℕ → Heard → WindowName → ℕ → List Entry
 one_round number frame heard w ack = entry_of number (call.Uplink frame heard) (reply.Again w) ∷ entry_of (number + 1) (call.Close w) (reply.Closed w (Some ack)) ∷ []
 
--- those of so many rounds, this one the first
+-- the entries of n rounds, the first of them in this window
 abbrev pub many_rounds : ℕ → ℕ → List ℕ → Heard → WindowName → ℕ → List Entry
 many_rounds zero number frame heard w ack = []
 many_rounds (suc n) number frame heard w ack = one_round number frame heard w ack ++ many_rounds n (number + 2) frame heard (rounds_later 1 w) (ack + 1)

@@ -211,21 +211,20 @@ impl DeviceState {
         }
     }
 
-    /// Goes on in a session as if rounds of its greatest counter had been opened, closed and acknowledged: this is the last round then, and
-    /// this the number of the next acknowledgement.
-    pub fn go_on(&mut self, session: u32, round: u32, next_ack: u64)
-        ensures { self.new ≡ with_rounds session round next_ack self.old }
+    /// Sets the last round and the next acknowledgement number of a session, as rounds of its greatest counter leave them.
+    pub fn go_on(&mut self, session: u32, last_round: u32, next_ack: u64)
+        ensures { self.new ≡ with_rounds session last_round next_ack self.old }
     {
         if let Some(active) = &mut self.active {
             if active.number == session {
-                active.round = round;
+                active.round = last_round;
                 active.next_ack = next_ack;
                 return;
             }
         }
         if let Some(pending) = &mut self.pending {
             if pending.number == session {
-                pending.round = round;
+                pending.round = last_round;
                 pending.next_ack = next_ack;
             }
         }

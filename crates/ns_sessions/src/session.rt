@@ -25,7 +25,7 @@ pub struct Session {
     pub next_ack: u64,
 }
 
-// A place of an `ArrayVec` has a value before a session is there.
+// `ArrayVec` fills its empty places with this value.
 impl Default for Session {
     fn default() -> Self {
         Session {

@@ -33,7 +33,7 @@ impl Model for Copies {
 }
 
 impl Copies {
-    /// So many copies, this the best of them.
+    /// `count` copies with this best one.
     pub fn new(count: u8, best: &Heard) -> Copies
         requires some { 0 < count }
         requires few { count ≤ most_copies }

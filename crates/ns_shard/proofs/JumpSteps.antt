@@ -1,7 +1,6 @@
 -- What `Parts::go_on` writes is the state after a jump, and the parts agree.
-use Rattle.std.proofs.Common.{◌≡◌, ℕ, suc, ◌+◌, ◌*◌, ◌-◌, ◌<◌, ◌≤◌, ◌^◌, false, List, [], ◌∷◌, ◌++◌, length, take, map, Some, refl, sym, ap, ap₂, subst, ◌∙◌, arith, length-append}
+use Rattle.std.proofs.Common.{◌≡◌, ℕ, suc, ◌+◌, ◌*◌, ◌-◌, ◌<◌, ◌^◌, false, List, [], ◌∷◌, ◌++◌, length, take, Some, refl, sym, ap, ap₂, subst, ◌∙◌, arith, length-append}
 use Rattle.std.specs.List.{list_any}
-use Rattle.std.specs.Arc.{arc_value}
 use Rattle.std.proofs.lemmas.List.{append_assoc, take-append-le}
 use Rattle.std.proofs.Math.Seq.{take-length}
 use Rattle.ns_types.specs.declared.identity.WindowName.{WindowName}
@@ -10,7 +9,7 @@ use Rattle.ns_types.specs.Identity.{same_uplink}
 use Rattle.ns_calls.specs.declared.call.Call.TheVariants as call
 use Rattle.ns_calls.specs.declared.call.Reply.TheVariants as reply
 use Rattle.ns_calls.specs.declared.call.Entry.{Entry}
-use Rattle.ns_calls.specs.Entries.{Opening, open_windows}
+use Rattle.ns_calls.specs.Entries.{Opening}
 use Rattle.ns_calls.specs.History.{is_uplink_open}
 use Rattle.ns_calls.specs.Legal.{entry_of}
 use Rattle.ns_calls.proofs.FreshLemmas.{again-next}

@@ -1,5 +1,5 @@
 -- The parts of a shard after a jump agree: its history is longer by the rounds that were not run.
-use Rattle.std.proofs.Common.{◌≡◌, ℕ, zero, suc, ◌+◌, ◌*◌, ◌<◌, ◌^◌, List, [], ◌∷◌, ◌++◌, length, refl, sym, ap, ap₂, subst, ◌∙◌, arith, length-append}
+use Rattle.std.proofs.Common.{◌≡◌, ℕ, zero, suc, ◌+◌, ◌<◌, ◌^◌, List, ◌++◌, length, sym, ap, ap₂, subst, ◌∙◌, arith, length-append}
 use Rattle.std.specs.Arc.{arc_value}
 use Rattle.std.proofs.lemmas.List.{append_assoc, append-nil}
 use Rattle.ns_types.specs.declared.identity.WindowName.{WindowName}
@@ -9,7 +9,6 @@ use Rattle.ns_roster.specs.Network.{Network}
 use Rattle.ns_calls.specs.declared.call.Call.TheVariants as call
 use Rattle.ns_calls.specs.declared.call.Reply.TheVariants as reply
 use Rattle.ns_calls.specs.declared.call.Entry.{Entry}
-use Rattle.ns_calls.specs.Entries.{Opening}
 use Rattle.ns_calls.specs.History.{next_ack}
 use Rattle.ns_calls.specs.Legal.{IsHistory, with_call}
 use Rattle.ns_calls.specs.Shards.{shard_of_call}
@@ -20,8 +19,6 @@ use Rattle.ns_kept.specs.Left.{Leaves}
 use Rattle.ns_kept.specs.Rounds.{rounds_later, one_round, many_rounds}
 use Rattle.ns_kept.proofs.Law.{leaves-trim}
 use Rattle.ns_kept.proofs.ManyRounds.{open_windows-many, open_tickets-many}
-use Rattle.ns_windows.specs.declared.window.Window.{Window}
-use Rattle.ns_devices.specs.declared.own.Own.{Own}
 use Rattle.ns_devices.specs.Devices.{with_change_of}
 use Rattle.ns_shard.specs.declared.parts.Parts.{Parts}
 use Rattle.ns_shard.specs.State.{State, Keeps, remains, answer_in, after_call, after_trim}

@@ -1,30 +1,27 @@
--- A round that was run, and then so many that were not, are the rounds: what a trim between them leaves makes no difference.
-use Rattle.std.proofs.Common.{◌≡◌, ℕ, zero, suc, ◌+◌, ◌*◌, ◌-◌, ◌<◌, ◌≤◌, ◌^◌, ◌==◌, Bool, true, false, nat_lt, List, [], ◌∷◌, ◌++◌, length, map, Option, Some, None, option_map, unwrap_or, refl, sym, ap, subst, ◌∙◌, arith, length-append}
+-- One round that was run and more that were not leave what all rounds leave: a trim between them makes no difference.
+use Rattle.std.proofs.Common.{◌≡◌, ℕ, suc, ◌+◌, ◌*◌, ◌-◌, ◌<◌, ◌≤◌, ◌^◌, ◌==◌, Bool, true, false, nat_lt, List, [], ◌∷◌, ◌++◌, length, Option, Some, option_map, unwrap_or, refl, sym, ap, subst, ◌∙◌, arith, length-append}
 use Rattle.std.specs.List.{list_any}
 use Rattle.std.specs.Arc.{arc_value}
 use Rattle.std.proofs.lemmas.Bool.Decides.{nat_tests}
-use Rattle.ns_types.specs.declared.identity.DevEui.{DevEui}
 use Rattle.ns_types.specs.declared.identity.WindowName.{WindowName}
 use Rattle.ns_types.specs.declared.heard.Heard.{Heard}
 use Rattle.ns_types.specs.Cases.{when}
-use Rattle.ns_types.specs.Identity.{shard_of, same_uplink}
+use Rattle.ns_types.specs.Identity.{shard_of}
 use Rattle.ns_roster.specs.Network.{Network}
-use Rattle.ns_roster.specs.Valid.{IsRoster}
 use Rattle.ns_calls.specs.declared.call.Call.{Call}
 use Rattle.ns_calls.specs.declared.call.Call.TheVariants as call
 use Rattle.ns_calls.specs.declared.call.Reply.{Reply}
 use Rattle.ns_calls.specs.declared.call.Reply.TheVariants as reply
 use Rattle.ns_calls.specs.declared.call.Entry.{Entry}
-use Rattle.ns_calls.specs.Entries.{Opening}
-use Rattle.ns_calls.specs.History.{greatest_ack, is_live, is_uplink_open, next_ack}
-use Rattle.ns_calls.specs.Legal.{IsLegal, with_call}
+use Rattle.ns_calls.specs.History.{greatest_ack, is_live, next_ack}
+use Rattle.ns_calls.specs.Legal.{with_call}
 use Rattle.ns_calls.specs.Reply.{reply_to}
 use Rattle.ns_calls.specs.Shards.{shard_of_call, NamesOwnDevice}
 use Rattle.ns_calls.proofs.FreshLemmas.{again-next}
 use Rattle.ns_calls.proofs.Merges.{in_shards}
 use Rattle.ns_calls.proofs.PartLemmas.{names-own, legal-housed}
-use Rattle.ns_kept.specs.Kept.{Remains, whole, keep}
-use Rattle.ns_kept.specs.Rounds.{rounds_later, one_round, kept_in, kept_before}
+use Rattle.ns_kept.specs.Kept.{whole, keep}
+use Rattle.ns_kept.specs.Rounds.{rounds_later, one_round, kept_before}
 use Rattle.ns_kept.proofs.Alike.{Alike}
 use Rattle.ns_kept.proofs.Law.{keep-left, leaves-alike}
 use Rattle.ns_kept.proofs.ManyRounds.{still-lives}

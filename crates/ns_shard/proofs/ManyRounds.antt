@@ -1,9 +1,8 @@
 -- The tables of a shard after many rounds of one uplink, each closed before the next.
-use Rattle.std.proofs.Common.{◌≡◌, ℕ, zero, suc, ◌+◌, ◌<◌, ◌≤◌, ◌==◌, ◌^◌, Bool, true, false, ◌&&◌, cond, List, [], ◌∷◌, ◌++◌, length, map, filter, filter_map, find, nat_lt, Option, None, Some, option_map, refl, sym, ap, ap₂, subst, ◌∙◌, arith, inl, inr}
+use Rattle.std.proofs.Common.{◌≡◌, ℕ, zero, suc, ◌+◌, ◌<◌, ◌==◌, ◌^◌, Bool, true, false, cond, List, [], ◌∷◌, ◌++◌, map, find, nat_lt, None, Some, option_map, refl, sym, ap, ap₂, ◌∙◌, arith}
 use Rattle.std.specs.List.{AllByRecursion, list_any}
 use Rattle.std.specs.Option.{option_and_then}
 use Rattle.std.proofs.lemmas.List.{append_assoc, append-nil}
-use Rattle.std.proofs.lemmas.List.Elements.{filter_map-append}
 use Rattle.std.proofs.lemmas.Bool.{lt-ltb, or_parts, false_from_ne_true, both_ways}
 use Rattle.ns_types.specs.declared.identity.DevEui.{DevEui}
 use Rattle.ns_types.specs.declared.identity.WindowName.{WindowName}
@@ -19,17 +18,15 @@ use Rattle.ns_calls.specs.History.{is_live, is_uplink_open, next_ack, session_jo
 use Rattle.ns_types.specs.Identity.{same_uplink, same_window}
 use Rattle.ns_calls.proofs.NameLemmas.{same_uplink-apart, same_window-uplink}
 use Rattle.ns_calls.proofs.PushLemmas.{window_copies-push}
-use Rattle.ns_calls.specs.Headline.{IsNextRound}
 use Rattle.ns_calls.specs.Legal.{IsLegal, entry_of}
 use Rattle.ns_calls.specs.Reply.{reply_to}
-use Rattle.ns_calls.proofs.LocalLemmas.{bool_tells}
 use Rattle.ns_calls.proofs.LegalLemmas.{IsLegal-push}
 use Rattle.ns_calls.proofs.FreshLemmas.{again-next}
 use Rattle.ns_kept.specs.Rounds.{rounds_later, one_round, many_rounds}
 use Rattle.ns_kept.proofs.ManyRounds.{acceptances-same, open_windows-same, still-closed}
 use Rattle.ns_kept.proofs.RoundsLegal.{again-later, ack-after, round-legal, live-opened, acks-opened}
 use Rattle.ns_sessions.specs.declared.session.Session.{Session}
-use Rattle.ns_sessions.specs.Record.{DeviceRecord, session_with, with_rounds, device_record, change_session, session_in, session_in_round, session_ack, session_after_ack, with_round, with_ack, ack_in}
+use Rattle.ns_sessions.specs.Record.{session_with, with_rounds, device_record, change_session, session_in_round, session_ack, session_after_ack, with_round, with_ack, ack_in}
 use Rattle.ns_sessions.proofs.Uplinks.{record_stays, uplink_again, window_closed, ack_of_live}
 use Rattle.ns_devices.specs.Devices.{with_change_of}
 use Rattle.ns_shard.specs.Tables.{devices_in, window_from, window_of_opening, windows_in}

@@ -1,12 +1,11 @@
 -- A shard after many rounds of one uplink and a trim: what that is can be told without running them.
-use Rattle.std.proofs.Common.{◌≡◌, ◌==◌, Some, length-append, ℕ, zero, suc, ◌+◌, ◌*◌, ◌<◌, ◌≤◌, ◌^◌, Bool, true, false, List, [], ◌∷◌, ◌++◌, length, map, nat_le, refl, sym, ap, ap₂, subst, ◌∙◌, arith}
+use Rattle.std.proofs.Common.{◌≡◌, ◌==◌, Some, length-append, ℕ, zero, suc, ◌+◌, ◌*◌, ◌<◌, ◌≤◌, ◌^◌, true, false, List, [], ◌∷◌, ◌++◌, length, map, nat_le, refl, sym, ap, ap₂, subst, ◌∙◌, arith}
 use Rattle.std.specs.List.{AllByRecursion, list_any}
 use Rattle.std.proofs.lemmas.List.{append_assoc, append-nil}
 use Rattle.std.proofs.lemmas.Bool.Decides.{nat_tests}
 use Rattle.ns_types.specs.declared.identity.WindowName.{WindowName}
 use Rattle.ns_types.specs.declared.heard.Heard.{Heard}
 use Rattle.ns_types.specs.Identity.{same_uplink}
-use Rattle.ns_roster.specs.Network.{Network}
 use Rattle.ns_calls.specs.declared.call.Call.{Call}
 use Rattle.ns_calls.specs.declared.call.Call.TheVariants as call
 use Rattle.ns_calls.specs.declared.call.Reply.{Reply}
@@ -19,13 +18,13 @@ use Rattle.ns_calls.specs.Legal.{IsLegal, entry_of, entry_for, with_call}
 use Rattle.ns_calls.specs.Reply.{reply_to}
 use Rattle.ns_calls.proofs.Says.{window_in}
 use Rattle.ns_calls.proofs.FreshLemmas.{again-next}
-use Rattle.ns_kept.specs.Kept.{Remains, reading, with_closings, closing_of, keep}
-use Rattle.ns_kept.specs.Rounds.{rounds_later, one_round, many_rounds, kept_in, kept_before}
+use Rattle.ns_kept.specs.Kept.{reading, with_closings, closing_of}
+use Rattle.ns_kept.specs.Rounds.{rounds_later, one_round, many_rounds, kept_in}
 use Rattle.ns_kept.proofs.ReadLemmas.{with_closings-above}
 use Rattle.ns_kept.proofs.Alike.{Alike}
 use Rattle.ns_kept.proofs.Law.{leaves-alike}
 use Rattle.ns_kept.proofs.ManyRounds.{kept-many, open_windows-many}
-use Rattle.ns_kept.proofs.RoundsLegal.{again-later, ack-after, round-legal, closed-now}
+use Rattle.ns_kept.proofs.RoundsLegal.{again-later, ack-after, closed-now}
 use Rattle.ns_shard.specs.State.{State, Keeps, remains, seen, answer_in, after_call, after_trim}
 use Rattle.ns_shard.specs.Rounds.{round_calls, after_calls, after_jump}
 use Rattle.ns_shard.proofs.Entries.{answer-is, keeps-more}

@@ -1,6 +1,6 @@
 -- Two histories that leave one state have the same tables.
-use Rattle.std.proofs.Common.{◌≡◌, ◌==◌, ℕ, ◌+◌, true, List, [], ◌∷◌, map, filter, filter_map, Option, option_map, unwrap_or, refl, sym, ap, ap₂, ◌∙◌}
-use Rattle.std.specs.List.{AllByRecursion, list_any}
+use Rattle.std.proofs.Common.{◌≡◌, ◌==◌, ℕ, ◌+◌, true, List, [], ◌∷◌, map, filter, filter_map, option_map, unwrap_or, refl, sym, ap, ap₂, ◌∙◌}
+use Rattle.std.specs.List.{AllByRecursion}
 use Rattle.std.proofs.lemmas.Bool.{eq-eqb}
 use Rattle.ns_types.specs.declared.identity.DevEui.{DevEui}
 use Rattle.ns_types.specs.declared.ticket.Ticket.{Ticket}
@@ -10,7 +10,7 @@ use Rattle.ns_roster.specs.Network.{Network}
 use Rattle.ns_calls.specs.declared.call.JoinAns.{JoinAns}
 use Rattle.ns_calls.specs.declared.call.Entry.{Entry}
 use Rattle.ns_calls.specs.Entries.{Opening, same_device, open_windows}
-use Rattle.ns_calls.specs.History.{live, is_live, is_ticket_open, same_ticket, session_join, window_copies, ticket_copies, open_tickets}
+use Rattle.ns_calls.specs.History.{live, is_live, is_ticket_open, same_ticket, session_join, window_copies, open_tickets}
 use Rattle.ns_calls.proofs.Lists.{All-weaker, All-filter, filter_map-same}
 use Rattle.ns_calls.proofs.LocalLemmas.{All-each}
 use Rattle.ns_kept.proofs.Alike.{Alike}

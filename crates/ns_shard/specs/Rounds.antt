@@ -8,7 +8,7 @@ use Rattle.ns_calls.specs.Entries.{open_windows}
 use Rattle.ns_kept.specs.Rounds.{rounds_later, one_round, kept_before}
 use Rattle.ns_shard.specs.State.{State, seen, after_call}
 
--- the calls of so many rounds of an uplink, this window the first: each is opened again, and closed
+-- the calls of n rounds of an uplink, the first of them in this window: each is opened again, and closed
 abbrev pub round_calls : ℕ → List ℕ → Heard → WindowName → List Call
 round_calls zero frame heard w = []
 round_calls (suc n) frame heard w = Uplink frame heard ∷ Close w ∷ round_calls n frame heard (rounds_later 1 w)
@@ -18,7 +18,7 @@ abbrev pub after_calls : State → List Call → State
 after_calls s [] = s
 after_calls s (c ∷ cs) = after_calls (after_call s c) cs
 
--- the shard after one round and so many more, and a trim, told without them: of its entries those that stay behind one round, and the last round
+-- the shard after n + 1 rounds and a trim, without running them: it keeps the entries that a trim keeps before one round, and the last round
 abbrev pub after_jump : ℕ → List ℕ → Heard → WindowName → ℕ → State → State
 after_jump n frame heard w ack s = record s {
   made = s.made + suc n * 2;

@@ -17,10 +17,10 @@ use ns_types::{Heard, WindowName};
 use std::alloc::{AllocError, Global};
 use thiserror::Error;
 
-/// Why there were no rounds of an uplink. The shard may have heard the uplink once, and is lawful: it is let go by who wanted the rounds.
+/// Why a jump was refused. The shard is still one that legal calls leave, but it may have heard the uplink once: the caller drops it.
 #[derive(Clone, Copy, Debug, PartialEq, Eq, Error)]
 pub enum JumpFault {
-    /// The plain server does not acknowledge the uplink again, or not that often.
+    /// The plain server acknowledges the uplink for fewer rounds, or for none.
     #[error("no such rounds")]
     NoRounds,
     /// More than 2^63 entries would be dropped from the shard in all.
@@ -54,7 +54,7 @@ impl From<TrimFault> for JumpFault {
 const MOST_DROPPED: u64 = 1 << 63;
 
 impl Parts {
-    // Hears an uplink again and closes its window: the window, and the number of its acknowledgement.
+    // Hears an uplink again and closes its window. Returns the window, and the number of its acknowledgement.
     fn round(&mut self, frame: &DataFrame, heard: &Heard) -> Result<(WindowName, u32), JumpFault>
         requires own { shard_of_call (Uplink frame.now heard.now) ≡ self.old.index }
         requires agree { AreParts self.old }
@@ -83,7 +83,7 @@ impl Parts {
         Ok((window, ack))
     }
 
-    /// Hears an uplink again and closes its window, so many times, and trims: the window of the first round.
+    /// Hears an uplink again and closes its window, `rounds` times, and trims. Returns the window of the first round.
     pub fn jump(
         &mut self,
         alloc: Global,
@@ -115,7 +115,7 @@ impl Parts {
         Ok(window)
     }
 
-    /// Goes on behind a round of an uplink with which a trim ended, by so many rounds more that are not run, and a trim.
+    /// Writes what `more` rounds of an uplink and a trim leave, without running them. Before it, one round was run and the shard trimmed.
     pub fn go_on(
         &mut self,
         frame: &DataFrame,

@@ -184,9 +184,9 @@ impl Shard {
         self.parts.trim_in_place(alloc)
     }
 
-    /// Hears an uplink again and closes its window, so many times, and trims. It takes the time of one round, and gives the window of the
-    /// first. `NoRounds` where the plain server does not acknowledge the uplink again, or not that often; `Full` where more than 2^63 entries
-    /// would be dropped in all; `NoMemory` where a growth was refused. The shard may have heard the uplink once then, and is to be let go.
+    /// Hears an uplink again and closes its window, `rounds` times, and trims. It takes the time of one round, and returns the window of the
+    /// first. `NoRounds` if the plain server acknowledges the uplink for fewer rounds, `Full` if more than 2^63 entries would be dropped in
+    /// all, `NoMemory` if a growth was refused. The shard may then have heard the uplink once, and the caller drops it.
     pub fn jump(
         &mut self,
         alloc: Global,

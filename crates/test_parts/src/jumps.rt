@@ -1,9 +1,9 @@
-//! Rounds of an uplink that are not run, beside the rounds themselves.
+//! Rounds of an uplink that are not run, compared with the rounds themselves.
 
-use ns_calls::{Call, DataFrame, Reply, shard_of_call};
+use ns_calls::{Call, Reply, shard_of_call};
 use ns_device::traffic::{join, join_reply, roster, uplink};
 use ns_shard::{JumpFault, Shard, same_tables};
-use ns_types::{Heard, WindowName};
+use ns_types::WindowName;
 use std::alloc::Global;
 use std::sync::Arc;
 
@@ -27,7 +27,7 @@ fn heard(shard: &mut Shard, call: Call) -> Option<WindowName> {
     Some(window)
 }
 
-// A shard of one device that has joined and sent three uplinks; the window of the first is open, and the last two are closed. The last one is confirmed.
+// A shard of one device that has joined and sent three confirmed uplinks. The window of the first is open, the others are closed.
 fn begun(alloc: Global) -> Option<Shard> {
     let roster = Arc::new(alloc, roster(alloc, 14).ok()?).ok()?;
     let mut shard = Shard::new(alloc, roster, 13).ok()?;
@@ -37,14 +37,6 @@ fn begun(alloc: Global) -> Option<Shard> {
     heard(&mut shard, uplink(DEVICE, 2, true, 1)?)?;
     heard(&mut shard, uplink(DEVICE, 3, true, 1)?)?;
     Some(shard)
-}
-
-// The frame of an uplink, and its copy.
-fn frame_of(call: Call) -> Option<(DataFrame, Heard)> {
-    match call {
-        Call::Uplink { frame, heard } => Some((frame, heard)),
-        _ => None,
-    }
 }
 
 // What comes of a jump, where the call is of the shard.
@@ -124,11 +116,40 @@ fn last_round(alloc: Global) -> Option<(u32, Option<Result<WindowName, JumpFault
     let again = uplink(DEVICE, 3, true, 1)?;
     let window = jump(alloc, &mut shard, again, 0xffff_fffd)?.ok()?;
     let last = heard(&mut shard, again)?;
-    Some((last.round - window.round, jump(alloc, &mut shard, again, 1)))
+    Some((
+        last.round.wrapping_sub(window.round),
+        jump(alloc, &mut shard, again, 1),
+    ))
 }
 
 /// A jump to the last round but one.
 #[test]
 fn jump_to_the_last_round(rt: HostRuntime) {
     assert!(rt; last_round(rt.alloc()) == Some((0xffff_fffd, Some(Err(JumpFault::NoRounds)))));
+}
+
+// Whether shards that have begun have the same tables, and whether they still have after a call that one of them takes alone.
+fn compared(alloc: Global, call: Call) -> Option<(bool, bool)> {
+    let (one, mut other) = (begun(alloc)?, begun(alloc)?);
+    let before = same_tables(&one, &other);
+    reply(&mut other, call)?;
+    Some((before, same_tables(&one, &other)))
+}
+
+/// A copy, a window or a ticket more, and a call that changes nothing.
+#[test]
+fn tables_of_shards_are_compared(rt: HostRuntime) {
+    let alloc = rt.alloc();
+    for (call, is_same) in [
+        (uplink(DEVICE, 1, true, 2), false),
+        (uplink(DEVICE, 4, false, 1), false),
+        (Some(join(DEVICE, 2)), false),
+        (Some(join(DEVICE, 1)), true),
+    ] {
+        let compared = match call {
+            Some(call) => compared(alloc, call),
+            None => None,
+        };
+        assert!(rt; compared == Some((true, is_same)));
+    }
 }

@@ -1,4 +1,4 @@
--- A round of an uplink that was run, and what a shard is behind one with which a trim ended, where the next round is due.
+-- A round of an uplink that was run, and a shard after that round and a trim, if the uplink has a next round.
 use Rattle.std.specs.Prelude.{◌≡◌, ℕ, ◌+◌, List, ◌++◌, map, Some}
 use Rattle.ns_types.specs.Identity.{shard_of}
 use Rattle.ns_types.specs.declared.identity.WindowName.{WindowName}

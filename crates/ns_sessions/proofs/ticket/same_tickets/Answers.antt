@@ -1,4 +1,4 @@
-use Rattle.std.proofs.Common.{◌≡◌, take, length, get_or, refl, sym, ◌∙◌, arith, rules}
+use Rattle.std.proofs.Common.{◌≡◌, take, get_or, refl, sym, ◌∙◌, arith, rules}
 use Rattle.std.proofs.lemmas.List.{take_more_same, take_all}
 use Rattle.ns_sessions.specs.declared.ticket.OpenTicket.{OpenTicket}
 use Rattle.ns_sessions.proofs.ticket.same_tickets.Goals as goal

@@ -1,6 +1,5 @@
-use Rattle.std.proofs.Common.{◌≡◌, take, length, get_or, refl, sym, ◌∙◌, arith, rules}
+use Rattle.std.proofs.Common.{◌≡◌, take, refl, sym, ◌∙◌, arith}
 use Rattle.std.proofs.lemmas.List.{take_more_same, take_all}
-use Rattle.ns_types.specs.declared.heard.Heard.{Heard}
 use Rattle.ns_windows.proofs.window.are_same_copies.Goals as goal
 
 pub loop-place-preserved : goal.loop-place-preserved

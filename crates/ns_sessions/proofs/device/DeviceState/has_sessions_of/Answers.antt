@@ -1,4 +1,4 @@
-use Rattle.std.proofs.Common.{rules, ◌≡◌, ◌<◌, ℕ, Bool, true, false, not, cond, List, [], ◌∷◌, ◌++◌, filter, Option, None, Some, IfSome, is_some, option_to_list, refl, sym, ap, ◌∙◌}
+use Rattle.std.proofs.Common.{◌≡◌, ◌<◌, ℕ, true, false, not, cond, List, [], ◌∷◌, ◌++◌, filter, Option, None, Some, IfSome, is_some, option_to_list, refl, sym, ap, ◌∙◌}
 use Rattle.ns_calls.specs.Queries.{first}
 use Rattle.ns_sessions.specs.declared.session.Session.{Session}
 use Rattle.ns_sessions.specs.declared.device.DeviceState.TheInside.{Inside}

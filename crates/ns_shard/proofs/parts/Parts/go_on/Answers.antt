@@ -1,4 +1,4 @@
-use Rattle.std.proofs.Common.{◌≡◌, suc, ◌-◌, ◌+◌, sym, ◌∙◌, arith}
+use Rattle.std.proofs.Common.{◌≡◌, suc, ◌-◌, ◌+◌, ◌∙◌, arith}
 use Rattle.ns_kept.specs.Rounds.{rounds_later}
 use Rattle.ns_shard.proofs.JumpSteps.{AreWritten, jumped-state, jumped-agree}
 use Rattle.ns_shard.proofs.parts.Parts.go_on.Goals as goal

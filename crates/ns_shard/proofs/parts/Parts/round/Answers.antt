@@ -1,4 +1,4 @@
-use Rattle.std.proofs.Common.{◌≡◌, sym, ap, ◌∙◌}
+use Rattle.std.proofs.Common.{sym, ap, ◌∙◌}
 use Rattle.ns_shard.specs.State.{State}
 use Rattle.ns_shard.proofs.Jumps.{again-own}
 use Rattle.ns_shard.proofs.parts.Parts.round.Goals as goal

@@ -1,4 +1,4 @@
-use Rattle.std.proofs.Common.{◌≡◌, List, subst, sym, ◌∙◌}
+use Rattle.std.proofs.Common.{◌≡◌, List, subst, ◌∙◌}
 use Rattle.ns_calls.specs.declared.call.Entry.{Entry}
 use Rattle.ns_shard.specs.State.{State, Keeps}
 use Rattle.ns_shard.specs.Tables.{windows_in}
