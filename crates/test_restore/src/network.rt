@@ -22,33 +22,42 @@ pub fn eui(device: usize) -> DevEui {
     )
 }
 
-// A device of a roster. Every third one has a last nonce.
-fn put_device(alloc: Global, text: &mut String, device: usize) -> Option<()> {
-    if device > 0 {
-        text.push_str(",").ok()?;
-    }
+// A device of a roster, at a slot. Every third one has a last nonce.
+fn put_device(alloc: Global, text: &mut String, device: usize, slot: usize) -> Option<()> {
     let last = if device % 3 == 2 {
         r#""last_nonce":3,"#
     } else {
         ""
     };
-    let (eui, slot) = (eui(device).0, device / 2);
+    let eui = eui(device).0;
     let line = format!(in alloc;
         r#"{{"dev_eui":"{eui:016x}","join_eui":"0102030401020304",{last}"slot":{slot}}}"#
     );
     text.push_str(line.ok()?.as_str()).ok()
 }
 
-/// A roster of so many devices.
-pub fn roster(alloc: Global, devices: usize) -> Option<Arc<Roster>> {
+/// A roster of these devices, each with its slot.
+pub fn roster_of(alloc: Global, devices: &[(usize, usize)]) -> Option<Arc<Roster>> {
     let mut text = String::new(alloc);
     text.push_str(r#"{"version":2,"net_id":"000024","rx1_offset":0,"rx_delay":1,"devices":["#)
         .ok()?;
-    for device in 0..devices {
-        put_device(alloc, &mut text, device)?;
+    let mut comma = "";
+    for &(device, slot) in devices {
+        text.push_str(comma).ok()?;
+        put_device(alloc, &mut text, device, slot)?;
+        comma = ",";
     }
     text.push_str("]}").ok()?;
     Arc::new(alloc, Roster::read(alloc, text.as_bytes()).ok()?).ok()
+}
+
+/// A roster of so many devices, of which two share each slot.
+pub fn roster(alloc: Global, devices: usize) -> Option<Arc<Roster>> {
+    let mut list = Vec::new(alloc);
+    for device in 0..devices {
+        list.push((device, device / 2)).ok()?;
+    }
+    roster_of(alloc, list.as_slice())
 }
 
 /// How a gateway heard a frame.
