@@ -1,0 +1,10 @@
+use Rattle.ns_restore.specs.Tables.{AreOfOneShard}
+use Rattle.ns_restore.proofs.joins.ask.Given as goal
+
+-- the shard stays one of its roster and its number
+abbrev pub invariant-tickets : goal.invariant-tickets
+invariant-tickets l = AreOfOneShard l.maker.shard l.fn.maker.shard
+
+-- the shard stays one of its roster and its number
+abbrev pub invariant-copies : goal.invariant-copies
+invariant-copies l = AreOfOneShard l.maker.shard l.fn.maker.shard
