@@ -1,19 +1,20 @@
 //! A run of the step lines of a record.
 
-ghost use Rattle.std.specs.Prelude.{◌≡◌, ℕ, nat_le, List, length, IfOk, IfErr, OnOk};
+ghost use Rattle.std.specs.Prelude.{◌≡◌, ℕ, nat_le, List, [], length, IfOk, IfErr, OnOk};
 ghost use Rattle.std.specs.Arc.{arc_value};
 ghost use Rattle.ns_types.specs.Identity.{shard_count};
 ghost use Rattle.ns_calls.specs.declared.answer.Answer.{Answer};
+ghost use Rattle.ns_calls.specs.declared.call.Entry.{Entry};
 ghost use Rattle.ns_roster.specs.Network.{Network};
+ghost use Rattle.ns_roster.specs.Valid.{IsRoster};
 ghost use Rattle.ns_acts.specs.declared.step.Step.{Step};
 ghost use Rattle.ns_record.specs.StepText.{ReadsBack};
-ghost use Rattle.ns_resume.specs.Base.{first_number, lines_before};
-ghost use Rattle.ns_resume.specs.Resumed.{IsAllOf, HasRunAll, IsResumed, AreOpenIn, NamesLine, NamesLineFrom, windows_in, tickets_in};
-ghost use Rattle.ns_runs.specs.KeptSteps.{AreInPlace};
+ghost use Rattle.ns_resume.specs.Resumed.{IsAllOf, HasRunFrom, IsResumed, AreOpenIn, NamesLine, NamesLineFrom, windows_in, tickets_in};
+ghost use Rattle.ns_runs.specs.KeptSteps.{AreInPlace, AreHistories, AreKeptFrom};
 ghost use Rattle.ns_resume.specs.Private.Running.{HasAnswered, HasRun, RunsOn};
 ghost use Rattle.ns_resume.specs.Private.Faults.{MakesNoCall, DoesNotMatter, RefusesLine};
 
-use crate::base::{Base, first_number, lines_before, read_base, skip_ups, ups_before};
+use crate::base::{first_number, lines_before, read_base, skip_ups, ups_before};
 use crate::fault::RecordFault;
 use crate::line::read_line;
 use crate::open::{Open, open_in};
@@ -122,10 +123,10 @@ impl Running {
     ) -> Result<(), RecordFault>
         requires sixteen { length self.old.shards.items ≡ shard_count }
         requires in_place { AreInPlace self.old.shards.items }
-        ensures run { OnOk result ((net : Network) (before : ℕ) (steps : List Step) (read : List ℕ) → HasRun net before steps read self.old
-            → is_new ≡ nat_le before (length steps) → RunsOn (U.remaining ups.old) (U.remaining ups.new) net before steps line.now read self.new) }
-        ensures fault { IfErr result (λ e. (net : Network) (before : ℕ) (steps : List Step) (read : List ℕ) → HasRun net before steps read self.old
-            → RefusesLine net steps line.now number e) }
+        ensures run { OnOk result ((net : Network) (starts : ℕ → List Entry) (before : ℕ) (steps : List Step) (read : List ℕ) → HasRun net starts before steps read self.old
+            → is_new ≡ nat_le before (length steps) → RunsOn (U.remaining ups.old) (U.remaining ups.new) net starts before steps line.now read self.new) }
+        ensures fault { IfErr result (λ e. (net : Network) (starts : ℕ → List Entry) (before : ℕ) (steps : List Step) (read : List ℕ) → HasRun net starts before steps read self.old
+            → RefusesLine net starts steps line.now number e) }
     {
         let call = call_in(alloc, number, line, room)?;
         self.answer(alloc, number, call)?;
@@ -164,26 +165,25 @@ impl Running {
     }
 }
 
-// Runs the whole lines behind the first one of a record that has a base, and all lines of another.
+// Runs the whole lines that are left of a record at these shards, where the next one has the first number, and so many imply no `up` line.
 fn run_lines<S: BufRead, U: BufRead>(
     alloc: Global,
-    roster: Arc<Roster>,
-    base: &Option<Base>,
+    shards: Vec<Shard>,
+    first: u64,
+    before: u64,
     steps: &mut S,
     ups: &mut U,
 ) -> Result<Resumed, RecordFault>
-    ensures resumed { IfOk result (λ r. (text : List ℕ) × (there : List ℕ)
+    requires reached { (net : Network) × (starts : ℕ → List Entry) × AreKeptFrom net starts [] shards.items }
+    ensures resumed { IfOk result (λ r. (net : Network) (starts : ℕ → List Entry) → AreKeptFrom net starts [] shards.items → (text : List ℕ) × (there : List ℕ)
         × IsAllOf (S.remaining steps.old) text × IsAllOf (U.remaining ups.old) there
-        × HasRunAll (arc_value roster) (lines_before base.now) text there r) }
-    ensures open { IfOk result (λ r. AreOpenIn r.shards.items r.windows.items r.tickets.items) }
-    ensures fault { IfErr result (NamesLineFrom (arc_value roster) (first_number base.now) (S.remaining steps.old)) }
+        × HasRunFrom net starts before text there r) }
+    ensures open { IfOk result (λ r. (net : Network) (starts : ℕ → List Entry) → IsRoster net → AreHistories net starts → AreKeptFrom net starts [] shards.items
+        → AreOpenIn r.shards.items r.windows.items r.tickets.items) }
+    ensures fault { IfErr result (λ e. (net : Network) (starts : ℕ → List Entry) → AreKeptFrom net starts [] shards.items → NamesLineFrom net starts first (S.remaining steps.old) e) }
 {
-    // A roster that is read is valid: the laws of histories rest on that.
-    let _net_id = roster.net_id();
-    let first = first_number(base);
-    let before = lines_before(base);
     let mut running = Running {
-        shards: new_shards(alloc, roster)?,
+        shards,
         most: [TRIM_FROM; 16],
         ups: Ups::new(alloc),
         uplink: None,
@@ -225,7 +225,10 @@ pub fn run_record<S: BufRead, U: BufRead>(
     ensures open { IfOk result (λ r. AreOpenIn r.shards.items r.windows.items r.tickets.items) }
     ensures fault { IfErr result (NamesLine (arc_value roster) (S.remaining steps.old)) }
 {
+    // A roster that is read is valid: the laws of histories rest on that.
+    let _net_id = roster.net_id();
     let base = read_base(alloc, steps)?;
     skip_ups(alloc, ups, ups_before(&base))?;
-    run_lines(alloc, roster, &base, steps, ups)
+    let shards = new_shards(alloc, roster)?;
+    run_lines(alloc, shards, first_number(&base), lines_before(&base), steps, ups)
 }
