@@ -32,16 +32,16 @@ module _ (net : Network) (starts : ℕ → List Entry) (before : ℕ) (steps : L
   abbrev made_step : Step
   made_step = step_of back.0
 
-  abbrev number : ℕ
-  number = length (shard_history_from net starts (shard_of_call c) steps)
+  abbrev place : ℕ
+  place = length (shard_history_from net starts (shard_of_call c) steps)
 
-  taken : step_taken_from net starts steps made_step ≡ Made (shard_of_call c) number a
+  taken : step_taken_from net starts steps made_step ≡ Made (shard_of_call c) place a
   taken = taken-is net starts steps made_step old.shards.items new.shards.items c a run.shards back.2 answered
 
   has-run : (there : List ℕ) → AreUps there (ups_since_from net starts before (steps ++ made_step ∷ [])) new.ups.missing.items new.ups.torn → HasRun net starts before (steps ++ made_step ∷ []) there new
   has-run there ups = record {
     shards = kept-answered net starts steps made_step old.shards.items new.shards.items c a run.shards back.2 answered;
-    fit = fit-push net starts steps made_step (shard_of_call c) number a run.fit taken answered.matters;
+    fit = fit-push net starts steps made_step (shard_of_call c) place a run.fit taken answered.matters;
     ups = ups;
   }
 
@@ -56,7 +56,7 @@ module _ (net : Network) (starts : ℕ → List Entry) (before : ℕ) (steps : L
         is_step = back.1;
         bytes = bytes;
         consumed = consumed;
-        has_run = has-run (read ++ bytes) (rw (ups-push net starts before steps made_step (shard_of_call c) number a within taken) ups);
+        has_run = has-run (read ++ bytes) (rw (ups-push net starts before steps made_step (shard_of_call c) place a within taken) ups);
       }
 
   -- one of the first lines

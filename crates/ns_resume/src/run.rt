@@ -174,7 +174,7 @@ fn run_lines<S: BufRead, U: BufRead>(
     steps: &mut S,
     ups: &mut U,
 ) -> Result<Resumed, RecordFault>
-    requires reached { (net : Network) × (starts : ℕ → List Entry) × AreKeptFrom net starts [] shards.items }
+    requires { (net : Network) × (starts : ℕ → List Entry) × AreKeptFrom net starts [] shards.items }
     ensures resumed { IfOk result (λ r. (net : Network) (starts : ℕ → List Entry) → AreKeptFrom net starts [] shards.items → (text : List ℕ) × (there : List ℕ)
         × IsAllOf (S.remaining steps.old) text × IsAllOf (U.remaining ups.old) there
         × HasRunFrom net starts before text there r) }
@@ -230,5 +230,12 @@ pub fn run_record<S: BufRead, U: BufRead>(
     let base = read_base(alloc, steps)?;
     skip_ups(alloc, ups, ups_before(&base))?;
     let shards = new_shards(alloc, roster)?;
-    run_lines(alloc, shards, first_number(&base), lines_before(&base), steps, ups)
+    run_lines(
+        alloc,
+        shards,
+        first_number(&base),
+        lines_before(&base),
+        steps,
+        ups,
+    )
 }
