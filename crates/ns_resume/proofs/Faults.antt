@@ -1,5 +1,5 @@
 -- Why a line is not run, and which line a fault names.
-use Rattle.std.proofs.Common.{◌≡◌, ℕ, List, ◌++◌, Option, None, Some, Result, Ok, Err, sym, ap, ◌∙◌, subst}
+use Rattle.std.proofs.Common.{◌≡◌, ℕ, List, ◌++◌, Option, None, Some, Result, Ok, Err, refl, sym, ap, ◌∙◌, subst}
 use Rattle.std.specs.Prelude.{flat_map, IfSome}
 use Rattle.std.specs.Result.{IfErr, IsErrAnd}
 use Rattle.std.specs.Io.KnownBytes.{Consumes}
@@ -12,14 +12,17 @@ use Rattle.ns_recorded.specs.Recorded.{matters}
 use Rattle.ns_acts.specs.declared.step.Step.{Step}
 use Rattle.ns_shard.specs.State.{State}
 use Rattle.ns_runs.specs.KeptSteps.{AreKeptFrom}
-use Rattle.ns_runs.specs.Steps.{call_taken_from, shard_history_from}
+use Rattle.ns_runs.specs.Steps.{call_taken_from, shard_history_from, no_starts}
+use Rattle.ns_runs.proofs.RunHistories.{no_histories}
+use Rattle.std.proofs.KnownBytes.{Consumes-nil}
 use Rattle.ns_shard.proofs.Entries.{answer-is}
 use Rattle.ns_steps.specs.StepLines.{ended}
 use Rattle.ns_record.specs.StepText.{ReadsBack}
 use Rattle.ns_resume.specs.declared.fault.RecordFault.{RecordFault}
 use Rattle.ns_resume.specs.declared.fault.RecordFault.TheVariants.{NoStep, NoFit}
 use Rattle.ns_resume.specs.declared.run.Running.{Running}
-use Rattle.ns_resume.specs.Resumed.{fits, NamesLineFrom}
+use Rattle.ns_resume.specs.declared.head.RecordHead.TheVariants.{Steps}
+use Rattle.ns_resume.specs.Resumed.{fits, NamesLineFrom, NamesLine}
 use Rattle.ns_resume.specs.Private.Running.{HasRun, RunsUpTo}
 use Rattle.ns_resume.specs.Private.Faults.{NamesNoLine, DoesNotMatter, RefusesLine}
 
@@ -51,6 +54,17 @@ pub names-none : (net : Network) (starts : ℕ → List Entry) (start : ℕ) (kn
 names-none net starts start known (NoStep n) is = absurd is
 names-none net starts start known (NoFit n) is = absurd is
 names-none net starts start known _ is = tt
+
+-- a fault before the first line
+pub names-early : (net : Network) (known : Option (List ℕ)) (e : RecordFault) → NamesNoLine e → NamesLine net known e
+names-early net known e is = record {
+  head = Steps;
+  starts = no_starts;
+  begun = record { histories = no_histories net; tell = refl };
+  rest = known;
+  consumed = Consumes-nil known;
+  names = names-none net no_starts 1 known e is;
+}
 
 -- the line stands behind the others in what a source has
 stands : (first now next : Option (List ℕ)) (lines line : List ℕ) → Consumes first now lines → Consumes now next line → IfSome first (λ text. (rest : List ℕ) × (text ≡ lines ++ (line ++ rest)))

@@ -124,9 +124,9 @@ up-to-more net starts start before number first now next ups_first ups_now ups_n
 
 pub up-to-end : (net : Network) (starts : ℕ → List Entry) (start before number : ℕ) (first now ups_first ups_now : Option (List ℕ)) (run : Running) (torn : List ℕ) (r : Resumed)
     → RunsUpTo net starts start before number first now ups_first ups_now run → before + start ≤ number → has_line_feed torn ≡ false → IsAllOf now torn → IsAllOf ups_now []
-    → r.shards.items ≡ run.shards.items → r.torn ≡ length torn → r.missing.items ≡ run.ups.missing.items → r.up_torn ≡ run.ups.torn
+    → r.shards.items ≡ run.shards.items → r.lines + start ≡ number → r.torn ≡ length torn → r.missing.items ≡ run.ups.missing.items → r.up_torn ≡ run.ups.torn
     → (text : List ℕ) × (there : List ℕ) × IsAllOf first text × IsAllOf ups_first there × HasRunFrom net starts before text there r
-up-to-end net starts start before number first now ups_first ups_now run torn r up_to enough no_feed all ups_all shards torn_bytes missing up_torn =
+up-to-end net starts start before number first now ups_first ups_now run torn r up_to enough no_feed all ups_all shards many torn_bytes missing up_torn =
     let text : List ℕ = flat_map ended up_to.lines ++ torn in
     let numbered : length up_to.lines + start ≡ number = up_to.numbered in (
       text,
@@ -138,6 +138,7 @@ up-to-end net starts start before number first now ups_first ups_now run torn r 
         torn = torn;
         cut = record { joined = refl; whole = up_to.whole; no_feed = no_feed };
         torn_bytes = torn_bytes;
+        many = omega (arith, many, numbered);
         enough = omega (arith, enough, numbered);
         steps = up_to.steps;
         are_steps = up_to.are_steps;

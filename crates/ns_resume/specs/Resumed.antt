@@ -23,8 +23,8 @@ use Rattle.ns_steps.specs.StepLines.{ended, step, step_of}
 use Rattle.ns_resume.specs.declared.fault.RecordFault.{RecordFault}
 use Rattle.ns_resume.specs.declared.fault.RecordFault.TheVariants.{NoStep, NoFit}
 use Rattle.ns_resume.specs.declared.run.Resumed.{Resumed}
-use Rattle.ns_resume.specs.declared.base.Base.{Base}
-use Rattle.ns_resume.specs.Base.{head_text, first_number, lines_before, ups_before}
+use Rattle.ns_resume.specs.declared.head.RecordHead.{RecordHead}
+use Rattle.ns_resume.specs.Head.{head_text, first_number, lines_before, ups_before, AreStarts}
 
 -- the text is all that a source has, where that tells it
 abbrev pub IsAllOf : Option (List ℕ) → List ℕ → Type 0
@@ -85,6 +85,7 @@ pub record HasRunFrom (net : Network) (starts : ℕ → List Entry) (before : �
   pub torn : List ℕ
   pub cut : IsCut text lines torn
   pub torn_bytes : r.torn ≡ length torn
+  pub many : r.lines ≡ length lines
   pub enough : before ≤ length lines
   pub steps : List Step
   pub are_steps : AreStepsOf lines steps
@@ -96,17 +97,20 @@ pub record HasRunFrom (net : Network) (starts : ℕ → List Entry) (before : �
 abbrev pub HasRunAll : Network → ℕ → List ℕ → List ℕ → Resumed → Type 0
 HasRunAll net before text there r = HasRunFrom net no_starts before text there r
 
--- The record of this text, beside this text of `up` lines, leaves these shards, and these `up` lines are missing. Where it has a base, its
--- first line tells it, and the `up` lines of the lines that it tells of are so many first bytes there.
+-- The record of this text, beside this text of `up` lines, leaves these shards, and these `up` lines are missing. It begins with a head,
+-- before which so many first bytes of the `up` lines were written, and with histories that tell the tables of the head's checkpoint. Without a
+-- checkpoint no shard has an entry before the first step line.
 pub record IsResumed (net : Network) (text there : List ℕ) (r : Resumed) : Type 0 where
-  pub base : Option Base
+  pub head : RecordHead
   pub lines : List ℕ
-  pub is_text : text ≡ head_text base ++ lines
+  pub is_text : text ≡ head_text head ++ lines
+  pub starts : ℕ → List Entry
+  pub begun : AreStarts net head starts
   pub earlier : List ℕ
   pub later : List ℕ
   pub are_there : there ≡ earlier ++ later
-  pub earlier_bytes : length earlier ≡ ups_before base
-  pub run : HasRunAll net (lines_before base) lines later r
+  pub earlier_bytes : length earlier ≡ ups_before head
+  pub run : HasRunFrom net starts (lines_before head) lines later r
 
 -- ---- what is open
 
@@ -153,6 +157,15 @@ NamesLineFrom net starts first known (NoStep n) = StopsAt net starts first known
 NamesLineFrom net starts first known (NoFit n) = StopsAt net starts first known n (DoesNotFit net starts)
 NamesLineFrom net starts first known _ = Unit {0}
 
--- the fault names the first step line that is refused, behind the line that tells the base, or, as if there were no base, that line itself
+-- The fault names the first step line that is refused, after the head of the record, or, as if there were no head, its first line. The shards
+-- can have these histories before it.
+pub record NamesLineOf (net : Network) (known : Option (List ℕ)) (e : RecordFault) : Type 0 where
+  pub head : RecordHead
+  pub starts : ℕ → List Entry
+  pub begun : AreStarts net head starts
+  pub rest : Option (List ℕ)
+  pub consumed : Consumes known rest (head_text head)
+  pub names : NamesLineFrom net starts (first_number head) rest e
+
 abbrev pub NamesLine : Network → Option (List ℕ) → RecordFault → Type 0
-NamesLine net known e = (base : Option Base) × (rest : Option (List ℕ)) × Consumes known rest (head_text base) × NamesLineFrom net no_starts (first_number base) rest e
+NamesLine net known e = NamesLineOf net known e

@@ -14,8 +14,9 @@ ghost use Rattle.ns_runs.specs.KeptSteps.{AreInPlace, AreHistories, AreKeptFrom}
 ghost use Rattle.ns_resume.specs.Private.Running.{HasAnswered, HasRun, RunsOn};
 ghost use Rattle.ns_resume.specs.Private.Faults.{MakesNoCall, DoesNotMatter, RefusesLine};
 
-use crate::base::{first_number, lines_before, read_base, skip_ups, ups_before};
+use crate::base::skip_ups;
 use crate::fault::RecordFault;
+use crate::head::begin_record;
 use crate::line::read_line;
 use crate::open::{Open, open_in};
 use crate::ups::Ups;
@@ -24,7 +25,7 @@ use ns_calls::{Call, Downlink, Reply, shard_of_call};
 use ns_lines::{Line, put_lent_uplink};
 use ns_record::matters;
 use ns_roster::Roster;
-use ns_runs::{TRIM_FROM, new_shards, trim_if_due};
+use ns_runs::{TRIM_FROM, trim_if_due};
 use ns_shard::{BoxedUplink, Shard};
 use ns_steps::step;
 use ns_types::{Ticket, WindowName};
@@ -37,6 +38,8 @@ use std::sync::Arc;
 pub struct Resumed {
     /// The sixteen shards, each at its number. Each has made an entry of each line's call that is its own.
     pub shards: Vec<Shard>,
+    /// How many step lines were run.
+    pub lines: u64,
     /// How many bytes of a torn line follow the whole step lines.
     pub torn: usize,
     /// How many bytes of a torn line follow the whole `up` lines.
@@ -143,9 +146,10 @@ impl Running {
         }
     }
 
-    // What such a run leaves, where so many bytes of a torn line follow.
-    fn end(self, alloc: Global, torn: usize) -> Result<Resumed, AllocError>
+    // What such a run of so many lines leaves, where so many bytes of a torn line follow.
+    fn end(self, alloc: Global, lines: u64, torn: usize) -> Result<Resumed, AllocError>
         ensures shards { IfOk result (λ r. r.shards.items ≡ self.shards.items) }
+        ensures lines { IfOk result (λ r. r.lines ≡ lines) }
         ensures torn { IfOk result (λ r. r.torn ≡ torn) }
         ensures up_torn { IfOk result (λ r. r.up_torn ≡ self.ups.torn) }
         ensures missing { IfOk result (λ r. r.missing.items ≡ self.ups.missing.items) }
@@ -156,6 +160,7 @@ impl Running {
         let Open { windows, tickets } = open_in(alloc, shards.as_slice())?;
         Ok(Resumed {
             shards,
+            lines,
             torn,
             up_torn: ups.torn,
             missing: ups.missing,
@@ -202,17 +207,18 @@ fn run_lines<S: BufRead, U: BufRead>(
                 return Err(RecordFault::BadBase);
             }
             running.ups.finish(ups)?;
-            return Ok(running.end(alloc, line.len())?);
+            return Ok(running.end(alloc, number - first, line.len())?);
         }
         running.run_line(alloc, number, line.as_slice(), is_new, ups, &mut room)?;
     }
     Err(RecordFault::TooMany)
 }
 
-/// Runs the whole lines of a record at shards without entries, and holds the `up` lines that are there against those that go out, as
-/// far as they reach. Each line is a step line of `replay`, and its reply is one on which later answers rest; a torn last line is told,
-/// and is not run. Where the first line tells a base, the `up` lines of the lines that it tells of are the first bytes there, and are held
-/// against none. It reads both sources to their ends, line by line, and writes nothing.
+/// Runs the whole lines of a record at the shards with which it begins, and compares the `up` lines that are there with those that go out, as
+/// far as they reach. Each line is a step line of `replay`, and its reply is one on which later answers rest. An incomplete last line is
+/// reported, and is not run. A record begins with steps at shards without entries, with a checkpoint, or with the line of a base; the `up`
+/// lines that were written before a checkpoint, or are of the lines that a base counts, are the first bytes there, and are compared with
+/// none. It reads both sources to their ends, line by line, and writes nothing.
 pub fn run_record<S: BufRead, U: BufRead>(
     alloc: Global,
     roster: Arc<Roster>,
@@ -227,15 +233,10 @@ pub fn run_record<S: BufRead, U: BufRead>(
 {
     // A roster that is read is valid: the laws of histories rest on that.
     let _net_id = roster.net_id();
-    let base = read_base(alloc, steps)?;
-    skip_ups(alloc, ups, ups_before(&base))?;
-    let shards = new_shards(alloc, roster)?;
-    run_lines(
-        alloc,
-        shards,
-        first_number(&base),
-        lines_before(&base),
-        steps,
-        ups,
-    )
+    let (head, shards) = begin_record(alloc, roster, steps)?;
+    skip_ups(alloc, ups, head.ups_before())?;
+    let Some(first) = head.first_number() else {
+        return Err(RecordFault::TooMany);
+    };
+    run_lines(alloc, shards, first, head.lines_before(), steps, ups)
 }

@@ -37,7 +37,7 @@ returns-then-not-branch-clause-resumed g c = λ net starts are.
     let enough : before + first ≤ c.lines.number = omega (arith, started, c.if-not-is_new.false) in
     up-to-end net starts first before c.lines.number (g.S.Read.remaining c.args.steps.now) (g.S.Read.remaining c.lines.steps) (g.U.Read.remaining c.args.ups.now) (g.U.Read.remaining c.lines.ups)
     c.lines.running c.read_line.new.line.items c.in_ok-end.field-0 (c.lines.invariant net starts are) enough c.in_ok-read_line.ensures.feed (c.in_ok-read_line.ensures.ended c.if-not-branch.true) c.in_ok-finish.ensures.ended
-    c.in_ok-end.ensures.shards (c.in_ok-end.ensures.torn ∙ omega arith) (c.in_ok-end.ensures.missing ∙ c.finish.ensures.missing) (c.in_ok-end.ensures.up_torn ∙ c.finish.ensures.torn)
+    c.in_ok-end.ensures.shards (let lines = c.in_ok-end.ensures.lines in omega (arith, lines, started)) (c.in_ok-end.ensures.torn ∙ omega arith) (c.in_ok-end.ensures.missing ∙ c.finish.ensures.missing) (c.in_ok-end.ensures.up_torn ∙ c.finish.ensures.torn)
 
 pub returns-then-not-branch-clause-open : goal.returns-then-not-branch-clause-open
 returns-then-not-branch-clause-open g c = λ net starts valid histories are.
