@@ -1,18 +1,19 @@
 //! The devices of a shard.
 
-ghost use Rattle.std.specs.Prelude.{◌≡◌, ◌<◌, map, option_map, option_and_then, length, position, Some, None, IfOk, IfSome};
+ghost use Rattle.std.specs.Prelude.{◌≡◌, ◌<◌, map, option_map, option_and_then, option_copied, length, position, Some, None, IfOk, IfSome, IsTrue, ◌↔◌};
 ghost use Rattle.ns_types.specs.Identity.{shard_of};
 ghost use Rattle.ns_types.specs.Ticket.{dev_eui};
 ghost use Rattle.ns_roster.specs.Valid.{IsRoster};
 ghost use Rattle.ns_calls.specs.Reply.{window_of};
 ghost use Rattle.ns_sessions.specs.declared.recovery.Recovery.TheVariants.{Above};
 ghost use Rattle.ns_sessions.specs.Recovery.{recovery_counter};
-ghost use Rattle.ns_sessions.specs.Record.{with_uplink, with_round, with_ack, ack_in};
+ghost use Rattle.ns_sessions.specs.Record.{with_uplink, with_round, with_rounds, with_ack, ack_in};
 ghost use Rattle.ns_devices.specs.Devices.{joinless, devices_of, is_own, own_of, fit_at, first_own_fit, IsNew, with_change_of, after_answer, join_decision_of, with_join_of, answer_decision_of, keys_in, next_round, lives_in, has_ticket_in};
 ghost use Rattle.ns_devices.specs.Places.{AreWithin, first_fit_at};
 
 use crate::own::{Own, Placed};
 use indexmap::IndexMap;
+use indexmap::map::Values;
 use ns_calls::Outcome;
 use ns_roster::Roster;
 use ns_rows::{Rows, push_at, row_at};
@@ -62,6 +63,37 @@ impl Devices {
             list.insert(own.device.eui, own)?;
         }
         Ok(Devices { list, places })
+    }
+
+    /// Lends the devices, in the roster's order.
+    pub fn iter(&self) -> Values<'_, DevEui, Own>
+        ensures { result ≡ self.now }
+    {
+        self.list.values()
+    }
+
+    /// Lends the device of an EUI.
+    pub fn get(&self, eui: DevEui) -> Option<&Own>
+        ensures { option_copied result ≡ own_of eui self.now }
+    {
+        let place = self.place(eui)?;
+        Some(&self.list[place])
+    }
+
+    /// Whether these are the same devices in the same states.
+    pub fn is_same(&self, other: &Devices) -> bool
+        ensures { IsTrue result ↔ (self.now ≡ other.now) }
+    {
+        let (mut ours, mut theirs) = (self.iter(), other.iter());
+        'ours: while let Some(own) = ours.next() {
+            let Some(another) = theirs.next() else {
+                return false;
+            };
+            if !own.is_same(another) {
+                return false;
+            }
+        }
+        theirs.next().is_none()
     }
 
     // Where the device of an EUI stands.
@@ -182,6 +214,17 @@ impl Devices {
         ensures { self.new ≡ with_change_of name.now.eui (with_round name.now.session name.now.round) self.old }
     {
         self.list[place].open_again(name.session, name.round);
+    }
+
+    /// Goes on in a window's session, as if rounds of its uplink had been opened, closed and acknowledged: this is the last one then, and
+    /// this the number of the next acknowledgement.
+    pub fn go_on(&mut self, name: &WindowName, round: u32, next_ack: u64)
+        ensures { self.new ≡ with_change_of name.now.eui (with_rounds name.now.session round next_ack) self.old }
+    {
+        let Some(place) = self.place(name.eui) else {
+            return;
+        };
+        self.list[place].go_on(name.session, round, next_ack);
     }
 
     /// Uses the next acknowledgement number of a session.

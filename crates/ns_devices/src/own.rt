@@ -1,10 +1,10 @@
 //! One device of a shard.
 
-ghost use Rattle.std.specs.Prelude.{◌≡◌, IfSome, Contains, option_map};
+ghost use Rattle.std.specs.Prelude.{◌≡◌, IfSome, Contains, option_map, IsTrue, ◌↔◌};
 ghost use Rattle.ns_calls.specs.Reply.{window_of, in_round};
 ghost use Rattle.ns_sessions.specs.declared.recovery.Recovery.TheVariants.{Above};
 ghost use Rattle.ns_sessions.specs.Recovery.{recovery_counter};
-ghost use Rattle.ns_sessions.specs.Record.{IsNewCounter, session_in, with_uplink, with_round, ack_in, with_ack, answer_decision};
+ghost use Rattle.ns_sessions.specs.Record.{IsNewCounter, session_in, with_uplink, with_round, with_rounds, ack_in, with_ack, answer_decision};
 ghost use Rattle.ns_devices.specs.Devices.{joinless, own_fit, fit_at, with_state, after_answer, own_join_decision, with_own_join};
 
 use ns_calls::Outcome;
@@ -32,6 +32,13 @@ impl Own {
             addr: roster.device_addr(device),
             state: DeviceState::new(device.last_nonce),
         }
+    }
+
+    /// Whether these are the same device in the same state.
+    pub fn is_same(&self, other: &Own) -> bool
+        ensures { IsTrue result ↔ (self.now ≡ other.now) }
+    {
+        self.device == other.device && self.addr == other.addr && self.state.is_same(&other.state)
     }
 
     /// Where the frame fits in the sessions of the device, which stands at this place.
@@ -84,6 +91,13 @@ impl Own {
         ensures { self.new ≡ with_state (with_round session round) self.old }
     {
         self.state.open_again(session, round);
+    }
+
+    /// Goes on in a session by rounds that were not run.
+    pub(crate) fn go_on(&mut self, session: u32, round: u32, next_ack: u64)
+        ensures { self.new ≡ with_state (with_rounds session round next_ack) self.old }
+    {
+        self.state.go_on(session, round, next_ack);
     }
 
     /// Uses the next acknowledgement number of a session.

@@ -1,6 +1,6 @@
 //! Numbered entries, with room that is made before it is needed.
 
-ghost use Rattle.std.specs.Prelude.{◌≡◌, ◌<◌, ◌≤◌, ◌+◌, [], ◌∷◌, ◌++◌, length, take, slice_get, ◌↔◌, IsTrue, ◌^◌, IsOk, IfOk, OnOk, OnErr, vec_len, vec_capacity};
+ghost use Rattle.std.specs.Prelude.{◌≡◌, ◌<◌, ◌≤◌, ◌+◌, ◌-◌, ◌*◌, [], ◌∷◌, ◌++◌, length, take, slice_get, ◌↔◌, IsTrue, ◌^◌, IsOk, IfOk, OnOk, OnErr, vec_len, vec_capacity};
 ghost use Rattle.ns_calls.specs.Legal.{entry_of};
 ghost use Rattle.ns_journal.specs.State.{next_entry, AreNumbersOf, with_numbers, without_numbers};
 
@@ -138,6 +138,20 @@ impl Journal {
     {
         self.reserved -= 1;
         self.push_lent(call, reply)
+    }
+
+    /// Takes the last two entries out, as if so many pairs more had been made in their place, and cut out. It takes no memory.
+    pub fn skip(&mut self, pairs: u32)
+        requires two { 2 ≤ length self.old.entries }
+        requires fits { self.old.made + pairs * 2 ≤ 2 ^ 63 + length self.old.entries }
+        ensures made { self.new.made + 2 ≡ self.old.made + pairs * 2 }
+        ensures entries { self.new.entries ≡ take (length self.old.entries - 2) self.old.entries }
+        ensures reserved { self.new.reserved ≡ self.old.reserved }
+        ensures room { self.new.room ≡ self.old.room + 2 }
+        ensures free { self.new.reserved + 2 ≤ self.new.room }
+    {
+        self.len -= 2;
+        self.cut += u64::from(pairs) * 2;
     }
 
     /// Cuts entries out: those of these numbers stay, and the others are handed out, in order. The reserved room stays. Where the growth

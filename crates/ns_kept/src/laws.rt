@@ -1,15 +1,18 @@
 //! Laws of kept histories, as contracts of functions that do nothing.
 
-ghost use Rattle.std.specs.Prelude.{◌≡◌, ◌==◌, ℕ, ◌*◌, ◌≤◌, List, [], Some, length, map, take, slice_get, count_by};
+ghost use Rattle.std.specs.Prelude.{◌≡◌, ◌==◌, ℕ, suc, ◌+◌, ◌*◌, ◌^◌, ◌<◌, ◌≤◌, false, true, List, [], ◌++◌, Some, length, map, take, slice_get, count_by};
+ghost use Rattle.ns_types.specs.declared.heard.Heard.{Heard};
 ghost use Rattle.ns_types.specs.declared.identity.DevEui.{DevEui};
 ghost use Rattle.ns_types.specs.declared.identity.WindowName.{WindowName};
 ghost use Rattle.ns_types.specs.Identity.{shard_of};
 ghost use Rattle.ns_roster.specs.Network.{Network};
 ghost use Rattle.ns_roster.specs.Valid.{IsRoster};
 ghost use Rattle.ns_calls.specs.declared.call.Call.{Call};
+ghost use Rattle.ns_calls.specs.declared.call.Call.TheVariants.{Uplink};
+ghost use Rattle.ns_calls.specs.declared.call.Reply.TheVariants.{Again};
 ghost use Rattle.ns_calls.specs.declared.call.Entry.{Entry};
 ghost use Rattle.ns_calls.specs.Entries.{open_windows};
-ghost use Rattle.ns_calls.specs.History.{greatest_nonce};
+ghost use Rattle.ns_calls.specs.History.{greatest_nonce, is_live, is_uplink_open, next_ack};
 ghost use Rattle.ns_calls.specs.Reply.{reply_to};
 ghost use Rattle.ns_calls.specs.Out.{answer};
 ghost use Rattle.ns_calls.specs.Runs.{answers_after};
@@ -18,6 +21,7 @@ ghost use Rattle.ns_calls.specs.Laws.{Rises, opening_count, closing_count};
 ghost use Rattle.ns_calls.specs.Merges.{MergesAreLegal, out};
 ghost use Rattle.ns_kept.specs.Kept.{Remains, whole, reading, counted_windows, keep};
 ghost use Rattle.ns_kept.specs.Bound.{is_of};
+ghost use Rattle.ns_kept.specs.Rounds.{rounds_later, one_round, many_rounds, kept_in, kept_before};
 ghost use Rattle.ns_kept.specs.Left.{Leaves, Act, AreLeft, with_call, first_entries, answers_over, calls_in};
 
 /// A history that was never trimmed reads as it is.
@@ -91,4 +95,26 @@ pub fn few_entries_are_kept()
 pub fn drained_histories_closed_all()
     ensures { (net : Network) (h : List Entry) (k : Remains) → Leaves net h k → open_windows (reading k) ≡ []
         → (w : WindowName) → closing_count h w ≡ opening_count h w }
+{}
+
+/// Of many rounds of one uplink, each closed before the next, a trim keeps the last alone, and of what was before them what it keeps
+/// before one round. Behind a trim that ends with a round, one round more takes its place, and all before it stays.
+pub fn the_last_of_many_rounds_is_kept()
+    ensures trimmed { (h entries : List Entry) (number next : ℕ) (frame : List ℕ) (heard : Heard) (w : WindowName) (ack : ℕ)
+        → is_uplink_open h w ≡ false
+        → kept_in h (entries ++ one_round number frame heard w ack) ≡ entries ++ one_round number frame heard w ack
+        → kept_before h (entries ++ one_round number frame heard w ack) (one_round next frame heard (rounds_later 1 w) (ack + 1)) ≡ entries }
+    ensures many { (h entries : List Entry) (n number : ℕ) (frame : List ℕ) (heard : Heard) (w : WindowName) (ack : ℕ)
+        → is_uplink_open h w ≡ false → is_live h w.eui w.session ≡ true
+        → kept_in (h ++ many_rounds (suc n) number frame heard w ack) (entries ++ many_rounds (suc n) number frame heard w ack)
+        ≡ kept_before h entries (one_round number frame heard w ack) ++ one_round (number + n * 2) frame heard (rounds_later n w) (ack + n) }
+{}
+
+/// Rounds of one uplink, each closed before the next, are what the plain server replies to its frame heard again and again, as long as
+/// there are numbers of 32 bits for them.
+pub fn many_rounds_are_legal()
+    ensures { (net : Network) (h : List Entry) (n number : ℕ) (frame : List ℕ) (heard : Heard) (w : WindowName)
+        → calls.IsLegal net h → reply_to net h (Uplink frame heard) ≡ Again w
+        → w.round + n < 2 ^ 32 → next_ack h w.eui w.session + n < 2 ^ 32
+        → calls.IsLegal net (h ++ many_rounds (suc n) number frame heard w (next_ack h w.eui w.session)) }
 {}

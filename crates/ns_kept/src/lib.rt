@@ -8,6 +8,7 @@ mod laws;
 
 pub use laws::{
     drained_histories_closed_all, entries_from_the_mark_are_legal, few_entries_are_kept,
-    merges_of_what_leaves_are_legal, only_named_windows_stay_open, runs_with_trims_answer_alike,
-    trims_leave_the_answers, untrimmed_histories_read_as_they_are, what_histories_leave,
+    many_rounds_are_legal, merges_of_what_leaves_are_legal, only_named_windows_stay_open,
+    runs_with_trims_answer_alike, the_last_of_many_rounds_is_kept, trims_leave_the_answers,
+    untrimmed_histories_read_as_they_are, what_histories_leave,
 };

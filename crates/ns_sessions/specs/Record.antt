@@ -103,6 +103,15 @@ session_after_ack s = if nat_lt s.next_ack (2 ^ 32) then record s { next_ack = s
 abbrev pub with_ack : ℕ → DeviceRecord → DeviceRecord
 with_ack number r = record r { sessions = change_session number session_after_ack r.sessions }
 
+-- ---- rounds that were not run
+
+-- the session with this last round and this next acknowledgement number
+abbrev pub session_with : ℕ → ℕ → Session → Session
+session_with round next s = record s { round = round; next_ack = next }
+
+abbrev pub with_rounds : ℕ → ℕ → ℕ → DeviceRecord → DeviceRecord
+with_rounds number round next r = record r { sessions = change_session number (session_with round next) r.sessions }
+
 -- ---- joins
 
 -- the greatest nonce, where the ticket's is at most that

@@ -1,23 +1,26 @@
 //! The state of one device.
 
-ghost use Rattle.std.specs.Prelude.{◌≡◌, ◌<◌, IfSome, IfNone, option_map, is_some};
+ghost use Rattle.std.specs.Prelude.{◌≡◌, ◌<◌, IfSome, IfNone, option_map, is_some, IsTrue, ◌↔◌};
 ghost use Rattle.std.specs.List.{list_any};
 ghost use Rattle.ns_types.specs.Ticket.{nonce};
 ghost use Rattle.ns_secure.specs.Counter.{Exceeds, above, below};
 ghost use Rattle.ns_calls.specs.History.{same_ticket};
 ghost use Rattle.ns_sessions.specs.declared.recovery.Recovery.TheVariants.{Above};
 ghost use Rattle.ns_sessions.specs.Recovery.{recovery_counter};
-ghost use Rattle.ns_sessions.specs.Record.{no_joins, session_in, device_fit, IsNewCounter, with_uplink, next_round_in, with_round, ack_in, with_ack, nonce_at_or_above, join_decision, with_join, after_acceptance, answer_decision, with_reply};
+ghost use Rattle.ns_sessions.specs.Record.{no_joins, session_in, device_fit, IsNewCounter, with_uplink, next_round_in, with_round, with_rounds, ack_in, with_ack, nonce_at_or_above, join_decision, with_join, after_acceptance, answer_decision, with_reply};
 
 use crate::decision::{AnswerDecision, JoinDecision};
 use crate::recovery::Recovery;
-use crate::session::Session;
-use crate::ticket::{OpenTicket, add_copy, has_ticket, remove_ticket};
+use crate::session::{Session, is_same_session};
+use crate::ticket::{OpenTicket, add_copy, has_ticket, remove_ticket, same_tickets};
 use arrayvec::ArrayVec;
 use ns_calls::{JoinAns, MOST_TICKETS, Outcome};
 use ns_types::{DevNonce, Heard, Key, Ticket};
 use ns_views::DataView;
 use std::marker::Model;
+
+/// The greatest number of live sessions of a device.
+pub const MOST_SESSIONS: usize = 2;
 
 /// What a server keeps of one device: its greatest nonce, its live sessions, and its open tickets, each with the count of its copies and the best of them.
 #[derive(Drop)]
@@ -65,6 +68,60 @@ impl DeviceState {
             Some(greatest) => Some(DevNonce(greatest)),
             None => None,
         }
+    }
+
+    /// The number of the next session.
+    pub fn next_session(&self) -> u32
+        ensures { result ≡ self.now.next_session }
+    {
+        self.next_session
+    }
+
+    /// The live sessions, the oldest first.
+    pub fn sessions(&self) -> ArrayVec<Session, MOST_SESSIONS>
+        ensures { result.items ≡ self.now.sessions }
+    {
+        let mut sessions = ArrayVec::new();
+        if let Some(active) = self.active {
+            sessions.push(active);
+        }
+        if let Some(pending) = self.pending {
+            sessions.push(pending);
+        }
+        sessions
+    }
+
+    /// Lends the open tickets, in the order in which they were asked for.
+    pub fn tickets(&self) -> &[OpenTicket]
+        ensures { result.now ≡ self.now.tickets }
+    {
+        self.tickets.as_slice()
+    }
+
+    // Whether the live sessions are the same.
+    fn has_sessions_of(&self, other: &DeviceState) -> bool
+        ensures { IsTrue result ↔ (self.now.sessions ≡ other.now.sessions) }
+    {
+        let active = is_same_session(&self.active, &other.active);
+        let pending = is_same_session(&self.pending, &other.pending);
+        active && pending
+    }
+
+    // Whether the numbers are the same: the greatest nonce, and the number of the next session.
+    fn has_numbers_of(&self, other: &DeviceState) -> bool
+        ensures { IsTrue result ↔ ((self.now.greatest_nonce ≡ other.now.greatest_nonce) × (self.now.next_session ≡ other.now.next_session)) }
+    {
+        self.greatest_nonce == other.greatest_nonce && self.next_session == other.next_session
+    }
+
+    /// Whether these are the same state.
+    pub fn is_same(&self, other: &DeviceState) -> bool
+        ensures { IsTrue result ↔ (self.now ≡ other.now) }
+    {
+        if !self.has_numbers_of(other) || !self.has_sessions_of(other) {
+            return false;
+        }
+        same_tickets(self.tickets(), other.tickets())
     }
 
     /// The NwkSKey of a live session, and its AppSKey where the join server told it.
@@ -150,6 +207,26 @@ impl DeviceState {
         if let Some(pending) = &mut self.pending {
             if pending.number == session {
                 pending.round = round;
+            }
+        }
+    }
+
+    /// Goes on in a session as if rounds of its greatest counter had been opened, closed and acknowledged: this is the last round then, and
+    /// this the number of the next acknowledgement.
+    pub fn go_on(&mut self, session: u32, round: u32, next_ack: u64)
+        ensures { self.new ≡ with_rounds session round next_ack self.old }
+    {
+        if let Some(active) = &mut self.active {
+            if active.number == session {
+                active.round = round;
+                active.next_ack = next_ack;
+                return;
+            }
+        }
+        if let Some(pending) = &mut self.pending {
+            if pending.number == session {
+                pending.round = round;
+                pending.next_ack = next_ack;
             }
         }
     }

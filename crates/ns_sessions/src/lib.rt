@@ -19,8 +19,10 @@ mod session;
 mod ticket;
 
 pub use decision::{AnswerDecision, JoinDecision};
-pub use device::DeviceState;
+pub use device::{DeviceState, MOST_SESSIONS};
 pub use laws::{
     answers_agree, closings_agree, joins_agree, joins_in_turn, others_stay, uplinks_agree,
 };
 pub use recovery::Recovery;
+pub use session::Session;
+pub use ticket::{Copies, OpenTicket};

@@ -1,6 +1,6 @@
 //! One live session.
 
-ghost use Rattle.std.specs.Prelude.{◌≡◌, ◌<◌, IfSome};
+ghost use Rattle.std.specs.Prelude.{◌≡◌, ◌<◌, IfSome, IsTrue, ◌↔◌};
 ghost use Rattle.ns_sessions.specs.Recovery.{recovery_counter};
 ghost use Rattle.ns_sessions.specs.Record.{session_fit, session_next_round, session_ack, session_after_ack, new_session};
 
@@ -11,7 +11,7 @@ use ns_types::Key;
 use ns_views::DataView;
 
 /// A live session.
-#[derive(Clone, Copy)]
+#[derive(Clone, Copy, PartialEq, Eq)]
 pub struct Session {
     /// Its number, from 1.
     pub number: u32,
@@ -23,6 +23,20 @@ pub struct Session {
     pub round: u32,
     /// The number of the next acknowledgement. From 2^32 on there is none.
     pub next_ack: u64,
+}
+
+// A place of an `ArrayVec` has a value before a session is there.
+impl Default for Session {
+    fn default() -> Self {
+        Session {
+            number: 0,
+            nwk: Key([0; 16]),
+            app: None,
+            greatest_counter: None,
+            round: 0,
+            next_ack: 0,
+        }
+    }
 }
 
 impl Session {
@@ -74,5 +88,16 @@ impl Session {
         let number = self.next_ack as u32;
         self.next_ack += 1;
         Some(number)
+    }
+}
+
+/// Whether these are the same session, or none.
+pub(crate) fn is_same_session(one: &Option<Session>, other: &Option<Session>) -> bool
+    ensures { IsTrue result ↔ (one.now ≡ other.now) }
+{
+    match (one, other) {
+        (Some(one), Some(other)) => *one == *other,
+        (None, None) => true,
+        _ => false,
     }
 }

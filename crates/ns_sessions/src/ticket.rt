@@ -1,6 +1,6 @@
 //! One open ticket and its copies.
 
-ghost use Rattle.std.specs.Prelude.{◌≡◌, ◌<◌, ◌≤◌, [], ◌∷◌, Some, length, position, IfSome, IfNone, option_map};
+ghost use Rattle.std.specs.Prelude.{◌≡◌, ◌<◌, ◌≤◌, [], ◌∷◌, Some, length, position, IfSome, IfNone, option_map, IsTrue, ◌↔◌};
 ghost use Rattle.std.specs.List.{list_any};
 ghost use Rattle.ns_calls.specs.History.{same_ticket};
 ghost use Rattle.ns_calls.specs.Entries.{most_copies};
@@ -33,6 +33,15 @@ impl Model for Copies {
 }
 
 impl Copies {
+    /// So many copies, this the best of them.
+    pub fn new(count: u8, best: &Heard) -> Copies
+        requires some { 0 < count }
+        requires few { count ≤ most_copies }
+        ensures { result ≡ record { count = count; best = Some best.now } }
+    {
+        Copies { count, best: *best }
+    }
+
     /// The first copy.
     fn of(heard: &Heard) -> Copies
         ensures { result ≡ copies_record (heard.now ∷ []) }
@@ -43,7 +52,8 @@ impl Copies {
         }
     }
 
-    pub(crate) fn count(&self) -> u8
+    /// The number of copies.
+    pub fn count(&self) -> u8
         ensures is { result ≡ self.now.count }
         ensures within { result ≤ most_copies }
     {
@@ -58,8 +68,15 @@ impl Copies {
         self.best = better(&self.best, heard);
     }
 
+    /// Whether these are the same copies: their number, and the best of them.
+    pub fn is_same(&self, other: &Copies) -> bool
+        ensures { IsTrue result ↔ (self.now ≡ other.now) }
+    {
+        self.count == other.count && self.best == other.best
+    }
+
     /// The best copy.
-    pub(crate) fn best(&self) -> Heard
+    pub fn best(&self) -> Heard
         ensures { self.now.best ≡ Some result }
     {
         self.best
@@ -74,6 +91,13 @@ pub struct OpenTicket {
 }
 
 impl OpenTicket {
+    /// Whether these are the same ticket with the same copies.
+    pub fn is_same(&self, other: &OpenTicket) -> bool
+        ensures { IsTrue result ↔ (self.now ≡ other.now) }
+    {
+        self.ticket == other.ticket && self.copies.is_same(&other.copies)
+    }
+
     /// A ticket with its first copy.
     pub(crate) fn new(ticket: &Ticket, heard: &Heard) -> OpenTicket
         ensures ticket { result.ticket ≡ ticket.now }
@@ -152,4 +176,19 @@ pub(crate) fn remove_ticket(
 {
     let place = place_of(tickets.as_slice(), ticket)?;
     Some(tickets.remove(place))
+}
+
+/// Whether these are the same tickets, in one order.
+pub(crate) fn same_tickets(tickets: &[OpenTicket], others: &[OpenTicket]) -> bool
+    ensures { IsTrue result ↔ (tickets.now ≡ others.now) }
+{
+    if tickets.len() != others.len() {
+        return false;
+    }
+    for place in 0..tickets.len() {
+        if !tickets[place].is_same(&others[place]) {
+            return false;
+        }
+    }
+    true
 }

@@ -41,7 +41,7 @@ use Rattle.ns_sessions.specs.Laws.{OthersStay, AnswersAgree, concerns, answer_de
 use Rattle.ns_sessions.proofs.OpenTickets.{at_member}
 use Rattle.ns_windows.specs.declared.window.Window.{Window}
 use Rattle.ns_devices.specs.declared.own.Own.{Own}
-use Rattle.ns_shard.specs.Private.Devices.{own_in}
+use Rattle.ns_shard.specs.Tables.{own_in}
 use Rattle.ns_devices.specs.Devices.{own_of, with_change_of, after_answer}
 use Rattle.ns_shard.specs.State.{quiet}
 use Rattle.ns_shard.specs.Private.Reaction.{answer_ended, own_answer_ended, shard_answer_ended}

@@ -41,8 +41,7 @@ use Rattle.ns_sessions.specs.Laws.{OthersStay, ClosingsAgree, concerns}
 use Rattle.ns_windows.specs.declared.window.Window.{Window}
 use Rattle.ns_windows.specs.Windows.{window_named, without}
 use Rattle.ns_devices.specs.declared.own.Own.{Own}
-use Rattle.ns_shard.specs.Private.Held.{window_of_opening, windows_in}
-use Rattle.ns_shard.specs.Private.Devices.{own_in, devices_in}
+use Rattle.ns_shard.specs.Tables.{window_of_opening, windows_in, own_in, devices_in}
 use Rattle.ns_devices.specs.Devices.{own_of, with_change_of}
 use Rattle.ns_uplinks.specs.Uplinks.{uplink_from, first_uplink_from}
 use Rattle.ns_shard.specs.Private.Sending.{ack_from}

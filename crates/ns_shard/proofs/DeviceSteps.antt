@@ -11,7 +11,7 @@ use Rattle.ns_calls.proofs.Lists.{All-weaker}
 use Rattle.ns_calls.proofs.JoinLemmas.{same_device-eq}
 use Rattle.ns_sessions.specs.Record.{DeviceRecord, device_record}
 use Rattle.ns_devices.specs.declared.own.Own.{Own}
-use Rattle.ns_shard.specs.Private.Devices.{own_in, devices_in}
+use Rattle.ns_shard.specs.Tables.{own_in, devices_in}
 use Rattle.ns_devices.specs.Devices.{devices_of, own, is_own, with_state, change_first, with_change_of}
 use Rattle.ns_shard.proofs.Maps.{map-same}
 use Rattle.ns_shard.proofs.Roster.{AreDistinct, own-distinct}

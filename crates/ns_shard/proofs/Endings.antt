@@ -45,9 +45,8 @@ use Rattle.ns_windows.specs.declared.window.Window.{Window}
 use Rattle.ns_windows.specs.Windows.{window_named, is_named, without}
 use Rattle.ns_windows.proofs.Passing.{filter-none, none_found}
 use Rattle.ns_devices.specs.declared.own.Own.{Own}
-use Rattle.ns_shard.specs.Private.Devices.{own_in, devices_in}
+use Rattle.ns_shard.specs.Tables.{own_in, devices_in, window_of_opening}
 use Rattle.ns_devices.specs.Devices.{devices_of, is_own, own_of, with_state, with_change_of, after_answer}
-use Rattle.ns_shard.specs.Private.Held.{window_of_opening}
 use Rattle.ns_shard.specs.State.{ends_open}
 use Rattle.ns_shard.specs.declared.event.Ended.{Ended}
 use Rattle.ns_shard.specs.declared.event.Ended.TheVariants.{Closed}

@@ -16,3 +16,10 @@ pub mod Openings
 pub mod Live
 pub mod Trimmed
 pub mod Asked
+pub mod Tables
+pub mod ManyRounds
+pub mod RoundCalls
+pub mod Jumped
+pub mod JumpSteps
+pub mod Jumps
+pub mod TablesAlike

@@ -35,7 +35,7 @@ use Rattle.ns_sessions.specs.declared.ticket.OpenTicket.{OpenTicket}
 use Rattle.ns_sessions.specs.Record.{device_record, session_record, ticket_record, tickets_of, session_in}
 use Rattle.ns_sessions.proofs.OpenTickets.{same_device-refl, other_device}
 use Rattle.ns_devices.specs.declared.own.Own.{Own}
-use Rattle.ns_shard.specs.Private.Devices.{own_in, devices_in}
+use Rattle.ns_shard.specs.Tables.{own_in, devices_in}
 use Rattle.ns_devices.specs.Devices.{own_of}
 use Rattle.ns_devices.specs.Devices.{lives_in, has_ticket_in}
 use Rattle.ns_shard.proofs.Roster.{own-found}

@@ -30,7 +30,7 @@ use Rattle.ns_sessions.specs.Record.{no_joins, device_record, join_decision}
 use Rattle.ns_sessions.specs.Laws.{OthersStay, JoinsAgree, concerns, join_decision_reply}
 use Rattle.ns_windows.specs.declared.window.Window.{Window}
 use Rattle.ns_devices.specs.declared.own.Own.{Own}
-use Rattle.ns_shard.specs.Private.Devices.{own_in, devices_in}
+use Rattle.ns_shard.specs.Tables.{own_in, devices_in}
 use Rattle.ns_devices.specs.Devices.{devices_of, own, joinless, is_own, own_of, with_state, after_join, with_own_join, with_join_of}
 use Rattle.ns_shard.specs.declared.event.Ended.{Ended}
 use Rattle.ns_shard.specs.declared.event.Event.TheVariants as event

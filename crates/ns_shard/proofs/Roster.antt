@@ -23,7 +23,7 @@ use Rattle.ns_calls.proofs.LocalLemmas.{bool_tells, All-each}
 use Rattle.ns_calls.proofs.Lists.{All-weaker, find-own, filter_map-same}
 use Rattle.ns_calls.proofs.JoinLemmas.{same_device-eq}
 use Rattle.ns_sessions.specs.Record.{device_fit, device_record}
-use Rattle.ns_shard.specs.Private.Devices.{own_in, devices_in}
+use Rattle.ns_shard.specs.Tables.{own_in, devices_in}
 use Rattle.ns_devices.specs.Devices.{devices_of, is_own, own_of, own_fit, is_addressed, first_own_fit}
 use Rattle.ns_shard.proofs.Maps.{find-map, filter-map}
 use Rattle.std.proofs.lemmas.Bool.{ne_eqb, eq-eqb, eqb-true}

@@ -19,7 +19,7 @@ use Rattle.ns_keep.specs.Tables.{AreOf, numbers_kept}
 use Rattle.ns_journal.specs.State.{is_numbered, with_numbers, without_numbers, AreNumbersOf, JournalState}
 use Rattle.ns_windows.specs.declared.window.Window.{Window}
 use Rattle.ns_devices.specs.declared.own.Own.{Own}
-use Rattle.ns_shard.specs.Private.Held.{window_of_opening}
+use Rattle.ns_shard.specs.Tables.{window_of_opening}
 use Rattle.ns_devices.specs.Devices.{lives_in, has_ticket_in}
 use Rattle.ns_shard.specs.State.{State, Keeps, remains, seen, after_trim, dropped}
 use Rattle.ns_shard.specs.Private.Parts.{Agrees, AreParts, state_of}

@@ -45,8 +45,7 @@ use Rattle.ns_sessions.proofs.Facts.{IsFit, first_fit-live}
 use Rattle.ns_windows.specs.declared.window.Window.{Window}
 use Rattle.ns_windows.specs.Windows.{window_named, count}
 use Rattle.ns_devices.specs.declared.own.Own.{Own}
-use Rattle.ns_shard.specs.Private.Held.{window_of_opening, windows_in, nwk_of, app_of}
-use Rattle.ns_shard.specs.Private.Devices.{devices_in}
+use Rattle.ns_shard.specs.Tables.{window_of_opening, windows_in, nwk_of, app_of, devices_in}
 use Rattle.ns_devices.specs.Devices as table
 use Rattle.ns_devices.specs.Devices.{keys_in, first_own_fit}
 use Rattle.ns_shard.specs.Private.Reaction as kept

@@ -23,7 +23,7 @@ use Rattle.ns_windows.specs.declared.window.Window.{Window}
 use Rattle.ns_windows.specs.Windows.{with_copy, with_copy_in, without, is_named, is_of, window_named, window_of_frame, count}
 use Rattle.ns_types.specs.declared.identity.DevEui.{DevEui}
 use Rattle.ns_calls.specs.Reply as plain
-use Rattle.ns_shard.specs.Private.Held.{window_from, window_of_opening, windows_in}
+use Rattle.ns_shard.specs.Tables.{window_from, window_of_opening, windows_in}
 use Rattle.ns_shard.proofs.Maps.{map-same, filter-map, map-map, find-map, count-map, some-of}
 use Rattle.std.proofs.lemmas.List.Elements.{filter_agree}
 use Rattle.ns_windows.proofs.Names.{same_window-sym}

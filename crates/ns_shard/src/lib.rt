@@ -7,8 +7,11 @@
 #![tactic(auto)]
 
 mod closing;
+mod compare;
 mod event;
 mod joining;
+mod jump;
+mod laws;
 mod open;
 mod packed;
 mod parts;
@@ -18,6 +21,12 @@ mod shard;
 mod trim;
 mod uplink;
 
+pub use compare::same_tables;
+pub use jump::JumpFault;
+pub use laws::{
+    answers_rest_on_tables, lives_are_one_run, many_rounds_are_a_jump,
+    many_rounds_change_one_session,
+};
 pub use ns_uplinks::BoxedUplink;
 pub use packed::BoxedAnswer;
 pub use shard::Shard;

@@ -1,25 +1,32 @@
 //! One shard.
 
-ghost use Rattle.std.specs.Prelude.{◌≡◌, ◌==◌, ◌+◌, ◌*◌, ◌<◌, ◌≤◌, ◌^◌, ◌%◌, true, Err, length, map, count_by, IsOk, IfOk, IfSome, OnOk, OnErr, option_map};
+ghost use Rattle.std.specs.Prelude.{List, ◌≡◌, ◌==◌, ◌+◌, ◌*◌, ◌<◌, ◌≤◌, ◌^◌, ◌%◌, true, Err, length, map, count_by, IsOk, IfOk, IfSome, OnOk, OnErr, option_map};
 ghost use Rattle.std.specs.Arc.{arc_value};
 ghost use Rattle.ns_types.specs.Identity.{shard_count, shard_of};
 ghost use Rattle.ns_calls.specs.declared.call.Call.TheVariants.{JoinReply, Close};
+ghost use Rattle.ns_calls.specs.declared.call.Call.TheVariants as of_call;
+ghost use Rattle.ns_calls.specs.declared.call.Entry.{Entry};
 ghost use Rattle.ns_calls.specs.Shards.{shard_of_call};
 ghost use Rattle.ns_calls.specs.Entries.{open_windows};
-ghost use Rattle.ns_shard.specs.State.{no_entries, after_call, answer_in, finds_open, answer_if_open, after_if_open, after_trim, dropped, oldest_in, IsState, greatest_in, seen, open_tickets_in};
+ghost use Rattle.ns_shard.specs.Rounds.{round_calls, after_calls};
+ghost use Rattle.ns_shard.specs.Tables.{devices_in, windows_in};
+ghost use Rattle.ns_shard.specs.State.{Keeps, no_entries, after_call, answer_in, finds_open, answer_if_open, after_if_open, after_trim, dropped, oldest_in, IsState, greatest_in, seen, open_tickets_in};
 ghost use Rattle.ns_kept.specs.Bound.{most_kept};
 ghost use Rattle.ns_shard.specs.declared.trim.TrimFault.TheVariants.{Full};
 ghost use Rattle.ns_shard.specs.Private.Parts.{AreParts, state_of};
 
+use crate::jump::JumpFault;
 use crate::open::open_tickets;
 use crate::packed::BoxedAnswer;
 use crate::parts::Parts;
 use crate::sending::put_uplink;
 use crate::trim::{Dropped, TrimFault};
-use ns_calls::{Answer, Call, Downlink, Entry, Outcome, Reply, Uplink};
+use ns_calls::{Answer, Call, DataFrame, Downlink, Entry, Outcome, Reply, Uplink};
+use ns_devices::Devices;
 use ns_roster::Roster;
-use ns_types::{DevEui, DevNonce, Ticket, WindowName, shard_of};
+use ns_types::{DevEui, DevNonce, Heard, Ticket, WindowName, shard_of};
 use ns_uplinks::BoxedUplink;
+use ns_windows::Windows;
 use std::alloc::{AllocError, Global};
 use std::marker::Model;
 use std::sync::Arc;
@@ -177,6 +184,23 @@ impl Shard {
         self.parts.trim_in_place(alloc)
     }
 
+    /// Hears an uplink again and closes its window, so many times, and trims. It takes the time of one round, and gives the window of the
+    /// first. `NoRounds` where the plain server does not acknowledge the uplink again, or not that often; `Full` where more than 2^63 entries
+    /// would be dropped in all; `NoMemory` where a growth was refused. The shard may have heard the uplink once then, and is to be let go.
+    pub fn jump(
+        &mut self,
+        alloc: Global,
+        frame: &DataFrame,
+        heard: &Heard,
+        rounds: u32,
+    ) -> Result<WindowName, JumpFault>
+        requires { shard_of_call (of_call.Uplink frame.now heard.now) ≡ self.old.index }
+        ensures rounds { IfOk result (λ w. self.new ≡ after_trim (after_calls self.old (round_calls rounds frame.now heard.now w))) }
+        ensures state { IsState self.new }
+    {
+        self.parts.jump(alloc, frame, heard, rounds)
+    }
+
     /// Makes room for so many more entries, which then are not moved by a growth each time that there are twice as many. `NoMemory`
     /// (`AllocError`) where it was refused. Contracts see no change.
     pub fn reserve(&mut self, entries: usize) -> Result<(), AllocError>
@@ -252,6 +276,20 @@ impl Shard {
         ensures open { IfSome result (λ w. finds_open self.now (Close w) ≡ true) }
     {
         self.parts.windows.oldest()
+    }
+
+    /// Lends the devices, in the roster's order: what a shard answers from, with its open windows.
+    pub fn devices(&self) -> &Devices
+        ensures { (h : List Entry) → Keeps h self.now → result.now ≡ devices_in self.now.roster self.now.index h }
+    {
+        &self.parts.devices
+    }
+
+    /// Lends the open windows, in the order of their opening.
+    pub fn windows(&self) -> &Windows
+        ensures { (h : List Entry) → Keeps h self.now → result.now ≡ windows_in h }
+    {
+        &self.parts.windows
     }
 
     /// The names of the open windows, in the order of their opening. `NoMemory` (`AllocError`) where a growth was refused.

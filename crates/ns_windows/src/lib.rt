@@ -8,9 +8,11 @@
 
 mod counts;
 mod frame_key;
+mod iter;
 mod places;
 mod window;
 mod windows;
 
+pub use iter::OpenWindows;
 pub use window::{Added, Addition, BoxedWindow, Window};
 pub use windows::Windows;

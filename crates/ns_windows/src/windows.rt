@@ -1,11 +1,12 @@
 //! The open windows of a shard: by name in the order of their opening, and by frame.
 
-ghost use Rattle.std.specs.Prelude.{◌≡◌, [], ◌∷◌, ◌++◌, None, is_some, nat_le, map, option_map, IfOk, OnOk, OnErr};
+ghost use Rattle.std.specs.Prelude.{◌≡◌, [], ◌∷◌, ◌++◌, None, is_some, nat_le, map, option_map, IfOk, OnOk, OnErr, IsTrue, ◌↔◌};
 ghost use Rattle.ns_calls.specs.Queries.{first};
 ghost use Rattle.ns_windows.specs.Windows.{window_named, window_of_frame, new_window, count, added, addition, with_copy_named, with_copy_of, without};
 
 use crate::counts::{Counts, count_at, count_down, count_up};
 use crate::frame_key::{FrameKey, LentFrame};
+use crate::iter::OpenWindows;
 use crate::places::{
     Frames, Names, Sought, add_at, clear, first_from, name_at, place_of, push, put_name, take_at,
 };
@@ -75,6 +76,29 @@ impl Windows {
         ensures { result ≡ option_map (λ w. w.name) (first self.now) }
     {
         name_at(&self.names, self.first)
+    }
+
+    /// Lends the windows, in the order of their opening.
+    pub fn iter(&self) -> OpenWindows<'_>
+        ensures { result ≡ self.now }
+    {
+        OpenWindows::new(self.names.values())
+    }
+
+    /// Whether these are the same windows, in one order.
+    pub fn is_same(&self, other: &Windows) -> bool
+        ensures { IsTrue result ↔ (self.now ≡ other.now) }
+    {
+        let (mut ours, mut theirs) = (self.iter(), other.iter());
+        'ours: while let Some(window) = ours.next() {
+            let Some(another) = theirs.next() else {
+                return false;
+            };
+            if !window.is_same(another) {
+                return false;
+            }
+        }
+        theirs.next().is_none()
     }
 
     /// The names of the windows, in the order of their opening. `NoMemory` (`AllocError`) where a growth was refused.

@@ -32,6 +32,8 @@ mod joins;
 #[cfg(test)]
 mod journal;
 #[cfg(test)]
+mod jumps;
+#[cfg(test)]
 mod keys;
 #[cfg(test)]
 mod lates;

@@ -14,8 +14,7 @@ use Rattle.ns_shard.specs.declared.event.Event.{Event}
 use Rattle.ns_shard.specs.State.{State, Keeps, answer_in}
 use Rattle.ns_shard.specs.Private.Sending.{answer_of}
 use Rattle.ns_shard.specs.Private.Room.{open_total, room_of, IsRoomFor, reserved_after}
-use Rattle.ns_shard.specs.Private.Held.{windows_in}
-use Rattle.ns_shard.specs.Private.Devices.{devices_in}
+use Rattle.ns_shard.specs.Tables.{windows_in, devices_in}
 
 -- these devices and windows are those that the history tells, and it is one of the shard
 pub record Agrees (net : Network) (index : ℕ) (h : List Entry) (devices : List Own) (windows : List Window) : Type 0 where

@@ -1,0 +1,5 @@
+mod Codes
+mod OneReading
+mod ReadLines
+mod Shards
+mod WrittenLines

@@ -1,0 +1,4 @@
+pub mod Text
+pub mod Whole
+pub mod Written
+pub mod Private

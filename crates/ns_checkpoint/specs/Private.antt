@@ -1,0 +1,2 @@
+-- For private clauses.
+pub mod Reading
