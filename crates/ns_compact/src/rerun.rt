@@ -83,7 +83,11 @@ impl Rerun {
 
     /// The NwkSKey and the address of a live session.
     pub fn session(&self, eui: DevEui, session: u32) -> Option<(Key, DevAddr)> {
-        let own = self.shards.get(usize::from(shard_of(eui)))?.devices().get(eui)?;
+        let own = self
+            .shards
+            .get(usize::from(shard_of(eui)))?
+            .devices()
+            .get(eui)?;
         let (nwk, _app) = own.state.keys(session)?;
         Some((nwk, own.addr))
     }

@@ -47,7 +47,7 @@ pub fn serves_as_well<S: BufRead, U: BufRead>(
     ensures { IfOk result (λ same. same ≡ true → (text : List ℕ) × (starts : ℕ → List Entry) × (steps_left : List Step) × IsAllOf (S.remaining steps.old) text
         × TellsSteps (arc_value roster) text starts steps_left
         × ((before : ℕ → List Entry) (told : List Step) → AreHistories (arc_value roster) before → AreKeptFrom (arc_value roster) before told old.now
-            → GoOnTheSame (arc_value roster) (λ k. shard_history_from (arc_value roster) before k told) (λ k. shard_history_from (arc_value roster) starts k steps_left))) }
+        → GoOnTheSame (arc_value roster) (λ k. shard_history_from (arc_value roster) before k told) (λ k. shard_history_from (arc_value roster) starts k steps_left))) }
 {
     // A roster that is read is valid: the laws of histories rest on that.
     let _net_id = roster.net_id();

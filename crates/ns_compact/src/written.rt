@@ -6,8 +6,8 @@ ghost use Rattle.ns_checkpoint.specs.Text.{checkpoint_text};
 ghost use Rattle.ns_checkpoint.specs.declared.tables.Checkpoint.{Checkpoint};
 
 use ns_checkpoint::{Checkpoint, write_checkpoint};
-use ns_resume::RecordFault;
 use ns_restore::tables_of;
+use ns_resume::RecordFault;
 use ns_shard::Shard;
 use ns_types::SHARDS;
 use std::alloc::{AllocError, Global};
