@@ -200,6 +200,15 @@ fn lines_of(shards: &[Tables]) -> Option<u64>
     Some(lines)
 }
 
+impl Checkpoint {
+    /// The number of lines of its tables, without the first line and the last one. There is none of 64 bits if there are too many.
+    pub fn lines(&self) -> Option<u64>
+        ensures { IfSome result (λ n. n ≡ length (shards_lines 0 self.now.shards.items)) }
+    {
+        lines_of(self.shards.as_slice())
+    }
+}
+
 /// Writes a checkpoint.
 pub fn write_checkpoint<W: Write>(out: &mut W, checkpoint: &Checkpoint) -> Result<(), io::Error>
     requires sixteen { length checkpoint.now.shards.items ≡ shard_count }

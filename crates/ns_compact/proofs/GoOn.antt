@@ -1,18 +1,17 @@
--- Fewer lines that leave the same answer the same.
-use Rattle.std.proofs.Common.{◌≡◌, ℕ, ◌<◌, zero, suc, List, [], ◌∷◌, length, slice_get, Some, refl, sym, subst, arith}
+-- Shards with the same tables have the same answers to all later calls.
+use Rattle.std.proofs.Common.{◌≡◌, ℕ, ◌<◌, zero, suc, List, [], ◌∷◌, length, slice_get, Some, refl, sym, ◌∙◌, subst, arith}
 use Rattle.ns_types.specs.Identity.{shard_count}
 use Rattle.ns_roster.specs.Network.{Network}
-use Rattle.ns_kept.specs.Kept.{keep}
-use Rattle.ns_kept.specs.Left.{Leaves}
-use Rattle.ns_compacted.specs.Compacted.{LeaveTheSame, LookTheSame}
-use Rattle.ns_compacted.proofs.Trimmed.{look-same, same_answers}
+use Rattle.ns_roster.specs.Valid.{IsRoster}
+use Rattle.ns_calls.specs.declared.call.Entry.{Entry}
 use Rattle.ns_acts.specs.declared.step.Step.{Step}
-use Rattle.ns_shard.specs.State.{State, remains, after_trim}
-use Rattle.ns_runs.specs.KeptSteps.{IsKeptAfter}
-use Rattle.ns_runs.specs.Steps.{shard_history}
-use Rattle.ns_resume.specs.declared.run.Resumed.{Resumed}
-use Rattle.ns_resume.specs.Resumed.{IsResumed}
-use Rattle.ns_compact.specs.Compact.{TellsSteps, AreLeftBy, AllLookTheSame, GoOnTheSame}
+use Rattle.ns_shard.specs.State.{State}
+use Rattle.ns_shard.specs.Tables.{TellTheSame}
+use Rattle.ns_shard.proofs.Tables.{later-same}
+use Rattle.ns_runs.specs.KeptSteps.{AreHistories, IsKeptFrom, AreKeptFrom}
+use Rattle.ns_runs.specs.Steps.{shard_history_from}
+use Rattle.ns_runs.proofs.RunHistories.{history_from-is}
+use Rattle.ns_compact.specs.Compact.{HaveSameTables, AllTellTheSame, GoOnTheSame}
 
 -- the shard at a place
 shard-at : {X : Type 0} (xs : List X) (k : ℕ) → k < length xs → (x : X) × (slice_get xs k ≡ Some x)
@@ -20,46 +19,37 @@ shard-at [] k within = absurd (omega (arith, within))
 shard-at (x ∷ xs) zero within = (x, refl)
 shard-at (x ∷ xs) (suc k) within = shard-at xs k (omega (arith, within))
 
-look-at : (ss ts : List State) (k : ℕ) (s t : State) → AllLookTheSame ss ts → slice_get ss k ≡ Some s → slice_get ts k ≡ Some t → LookTheSame (remains s) (remains t)
-look-at [] [] k s t all at_s at_t = absurd (cc at_s)
-look-at [] (y ∷ ts) k s t all at_s at_t = absurd all
-look-at (x ∷ ss) [] k s t all at_s at_t = absurd all
-look-at (x ∷ ss) (y ∷ ts) zero s t all at_s at_t = subst (λ a. LookTheSame (remains a) (remains t)) (same_some x s at_s) (subst (λ b. LookTheSame (remains x) (remains b)) (same_some y t at_t) all.0)
+same-at : (ss ts : List State) (k : ℕ) (s t : State) → AllTellTheSame ss ts → slice_get ss k ≡ Some s → slice_get ts k ≡ Some t → HaveSameTables s t
+same-at [] [] k s t all at_s at_t = absurd (cc at_s)
+same-at [] (y ∷ ts) k s t all at_s at_t = absurd all
+same-at (x ∷ ss) [] k s t all at_s at_t = absurd all
+same-at (x ∷ ss) (y ∷ ts) zero s t all at_s at_t = subst (λ a. HaveSameTables a t) (same_some x s at_s) (subst (λ b. HaveSameTables x b) (same_some y t at_t) all.0)
   where
     same_some : (a b : State) → Some a ≡ Some b → a ≡ b
     same_some a b e = cc
-look-at (x ∷ ss) (y ∷ ts) (suc k) s t all at_s at_t = look-at ss ts k s t all.1 at_s at_t
+same-at (x ∷ ss) (y ∷ ts) (suc k) s t all at_s at_t = same-at ss ts k s t all.1 at_s at_t
 
--- trims of two shards that look the same
-leave-same : (net : Network) (g h : List Step) (k : ℕ) (s t : State) → IsKeptAfter net g k s → IsKeptAfter net h k t → LookTheSame (remains (after_trim s)) (remains (after_trim t))
-    → LeaveTheSame (shard_history net k g) (shard_history net k h)
-leave-same net g h k s t is_s is_t same =
-    look-same net (shard_history net k g) (shard_history net k h) (remains s) (remains t)
-    (subst (λ n. Leaves n (shard_history net k g) (remains s)) is_s.roster is_s.keeps.left)
-    (subst (λ n. Leaves n (shard_history net k h) (remains t)) is_t.roster is_t.keeps.left)
-    (subst (λ n. LookTheSame (keep n (remains s)) (keep (length (shard_history net k h)) (remains t))) is_s.keeps.made
-    (subst (λ n. LookTheSame (keep s.made (remains s)) (keep n (remains t))) is_t.keeps.made same))
+-- two shards of one place
+same-tables : (net : Network) (before starts : ℕ → List Entry) (told left : List Step) (k : ℕ) (s t : State) → IsKeptFrom net before told k s → IsKeptFrom net starts left k t → HaveSameTables s t
+    → TellTheSame net k (shard_history_from net before k told) (shard_history_from net starts k left)
+same-tables net before starts told left k s t is_s is_t same =
+    let g : List Entry = shard_history_from net before k told in
+    let h : List Entry = shard_history_from net starts k left in
+    subst (λ n. TellTheSame n k g h) is_s.roster
+    (subst (λ m. TellTheSame s.roster m g h) is_s.index (same (is_s.roster ∙ sym is_t.roster) (is_s.index ∙ sym is_t.index) g h is_s.keeps is_t.keeps))
 
--- of two runs of steps, whose shards were trimmed and look the same
-pub go-on : (net : Network) (told shorter : List Step) (old new : List State) → AreLeftBy net told old → AreLeftBy net shorter new → AllLookTheSame old new → GoOnTheSame net told shorter
-go-on net told shorter old new (ss, of_told, trimmed_old) (ts, of_shorter, trimmed_new) all = record {
-  left = left;
-  answers = λ k within calls.
-      let s = (shard-at ss k (subst (λ n. k < n) (sym of_told.sixteen) within)) in
-      let t = (shard-at ts k (subst (λ n. k < n) (sym of_shorter.sixteen) within)) in
-      let is_s = of_told.each k s.0 s.1 in
-      let is_t = of_shorter.each k t.0 t.1 in
-      same_answers net (shard_history net k told) (shard_history net k shorter)
-      (subst (λ n. Leaves n (shard_history net k told) (remains s.0)) is_s.roster is_s.keeps.left).legal
-      (subst (λ n. Leaves n (shard_history net k told) (remains s.0)) is_s.roster is_s.keeps.left).numbered
-      (subst (λ n. Leaves n (shard_history net k shorter) (remains t.0)) is_t.roster is_t.keeps.left).legal
-      (subst (λ n. Leaves n (shard_history net k shorter) (remains t.0)) is_t.roster is_t.keeps.left).numbered
-      (left k within) calls;
+pub go-on : (net : Network) → IsRoster net → (before starts : ℕ → List Entry) (told left : List Step) (old new : List State) → AreHistories net before → AreHistories net starts
+    → AreKeptFrom net before told old → AreKeptFrom net starts left new → AllTellTheSame old new
+    → GoOnTheSame net (λ k. shard_history_from net before k told) (λ k. shard_history_from net starts k left)
+go-on net valid before starts told left old new of_before of_starts are_old are_new all = record {
+  tables = tables;
+  answers = λ k within calls own.
+      later-same net valid k (shard_history_from net before k told) (shard_history_from net starts k left)
+      (history_from-is net before of_before k told) (history_from-is net starts of_starts k left) (tables k within) calls own;
 }
   where
-    left : (k : ℕ) → k < shard_count → LeaveTheSame (shard_history net k told) (shard_history net k shorter)
-    left k within =
-        let (s, at_s) = shard-at ss k (subst (λ n. k < n) (sym of_told.sixteen) within) in
-        let (t, at_t) = shard-at ts k (subst (λ n. k < n) (sym of_shorter.sixteen) within) in
-        leave-same net told shorter k s t (of_told.each k s at_s) (of_shorter.each k t at_t)
-        (look-at old new k (after_trim s) (after_trim t) all (trimmed_old.each k s at_s) (trimmed_new.each k t at_t))
+    tables : (k : ℕ) → k < shard_count → TellTheSame net k (shard_history_from net before k told) (shard_history_from net starts k left)
+    tables k within =
+        let (s, at_s) = shard-at old k (subst (λ n. k < n) (sym are_old.sixteen) within) in
+        let (t, at_t) = shard-at new k (subst (λ n. k < n) (sym are_new.sixteen) within) in
+        same-tables net before starts told left k s t (are_old.each k s at_s) (are_new.each k t at_t) (same-at old new k s t all at_s at_t)

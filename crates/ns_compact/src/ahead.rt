@@ -1,19 +1,18 @@
 //! `up` lines of a record that no step of it implies: the end of the machine may leave them, where steps are not brought to the disk before.
 
-use crate::lines::put;
 use crate::rerun::Rerun;
 use ns_acts::call_of;
 use ns_calls::{Call, DataFrame, JoinAccept, JoinAns, Outcome, Reply};
 use ns_creator::{DataCreator, Keys};
-use ns_record::{matters, step_line};
-use ns_resume::{Base, RecordFault, read_base};
+use ns_resume::{RecordFault, RecordHead, begin_record};
 use ns_roster::Roster;
 use ns_secure::Dir;
+use ns_shard::Shard;
 use ns_steps::step;
 use ns_types::{DevAddr, DevEui, GatewayId, Heard, JoinEui, Key, Ticket, WindowName};
 use ns_views::{PhyView, view};
 use std::alloc::Global;
-use std::io::{BufRead, Write};
+use std::io::BufRead;
 use std::sync::Arc;
 
 // How an uplink was heard of which no step tells: by no gateway.
@@ -32,8 +31,8 @@ const MOST_JOINS: u32 = 64;
 /// What was found of a record whose `up` lines are ahead of its steps.
 #[derive(Drop)]
 pub struct Ahead {
-    /// How many step lines were written.
-    pub written: u64,
+    /// The shards that have caught up.
+    pub shards: Vec<Shard>,
     /// How many `up` lines no step implied, and how many of these are of sessions that no step began.
     pub lines: u64,
     pub unknown: u64,
@@ -43,17 +42,15 @@ pub struct Ahead {
 
 // A run of the steps of a record, and of uplinks that were handed out and are not in them.
 #[derive(Drop)]
-struct Catching<'a, W> {
+struct Catching {
     alloc: Global,
     roster: Arc<Roster>,
     rerun: Rerun,
     // The key of sessions that are made up.
     secret: Option<Key>,
-    out: &'a mut W,
     line: Vec<u8>,
     // Room for a datagram.
     room: Vec<u8>,
-    written: u64,
 }
 
 // A Confirmed Data Up without port and payload, which has this counter in the session of this key.
@@ -110,7 +107,7 @@ fn words_of(line: &[u8]) -> Option<&[u8]> {
     None
 }
 
-impl<'a, W: Write> Catching<'a, W> {
+impl Catching {
     // Reads the next line, and says whether it is whole.
     fn read<S: BufRead>(&mut self, source: &mut S) -> Result<bool, RecordFault> {
         self.line.clear();
@@ -125,41 +122,35 @@ impl<'a, W: Write> Catching<'a, W> {
         }
     }
 
-    // Runs and writes all whole steps. Gives how many `up` lines those behind the base imply.
+    // Runs all whole steps. Returns how many `up` lines those imply that no compaction left.
     fn run_steps<S: BufRead>(
         &mut self,
-        base: &Option<Base>,
+        head: &RecordHead,
         steps: &mut S,
     ) -> Result<u64, RecordFault> {
-        let before = match base {
-            Some(base) => base.lines,
-            None => 0,
-        };
+        let before = head.lines_before();
         let mut implied = 0u64;
-        for number in 1..u64::MAX {
+        for place in 0..u64::MAX {
             if !self.read(steps)? {
                 return Ok(implied);
             }
+            let number = head.first_number().saturating_add(place);
             let made = self.rerun.run(number, self.line.as_slice())?;
-            put(self.out, &mut self.written, self.line.as_slice())?;
-            if made.goes_up && number > before {
+            if made.goes_up && place >= before {
                 implied = implied.saturating_add(1);
             }
         }
         Err(RecordFault::TooMany)
     }
 
-    // Reads the `up` lines of the base, and so many behind them.
+    // Reads the `up` lines that were written before the head, and so many more.
     fn skip_ups<U: BufRead>(
         &mut self,
-        base: &Option<Base>,
+        head: &RecordHead,
         implied: u64,
         ups: &mut U,
     ) -> Result<(), RecordFault> {
-        let bytes = match base {
-            Some(base) => base.ups,
-            None => 0,
-        };
+        let bytes = head.ups_before();
         let mut left = bytes;
         for _line in 0..u64::MAX {
             if left == 0 {
@@ -180,16 +171,12 @@ impl<'a, W: Write> Catching<'a, W> {
         Ok(())
     }
 
-    // Makes a call, and writes its step line where later answers rest on the reply.
+    // Makes a call.
     fn make(&mut self, call: Call) -> Result<Reply, RecordFault> {
-        let Some(made) = self.rerun.make(call)? else {
-            return Ok(Reply::NoWindow);
-        };
-        if matters(&made.reply) {
-            let line = step_line(&made.call);
-            put(self.out, &mut self.written, line.as_str().as_bytes())?;
+        match self.rerun.make(call)? {
+            Some(made) => Ok(made.reply),
+            None => Ok(Reply::NoWindow),
         }
-        Ok(made.reply)
     }
 
     // The window that the line names that was read, if it is an `up` line.
@@ -274,10 +261,10 @@ impl<'a, W: Write> Catching<'a, W> {
         for _line in 0..u64::MAX {
             if !self.read(ups)? {
                 return Ok(Ahead {
-                    written: self.written,
+                    up_torn: self.line.len(),
+                    shards: self.rerun.into_shards(),
                     lines,
                     unknown,
-                    up_torn: self.line.len(),
                 });
             }
             lines = lines.saturating_add(1);
@@ -289,30 +276,27 @@ impl<'a, W: Write> Catching<'a, W> {
     }
 }
 
-/// Writes the whole steps of a record, and behind them, for each `up` line that they do not imply, an uplink in the place of the one that
+/// Runs the whole steps of a record, and after them, for each `up` line that they do not imply, an uplink in the place of the one that
 /// went up: so it does not go up again, and the number of its acknowledgement is not used again. The `up` lines that the steps imply are
-/// taken to be there: `run_record` is to be asked before, and of what was written after. A session that no step began is put down under
-/// `secret`, a key that nobody knows, where there is one, so that its number is not used again.
-pub fn catch_up<S: BufRead, U: BufRead, W: Write>(
+/// taken to be there: `run_record` is to be asked before, and of the checkpoint of these shards after. A session that no step began is made up
+/// under `secret`, a key that nobody knows, where there is one, so that its number is not used again.
+pub fn catch_up<S: BufRead, U: BufRead>(
     alloc: Global,
     roster: Arc<Roster>,
     steps: &mut S,
     ups: &mut U,
     secret: Option<Key>,
-    out: &mut W,
 ) -> Result<Ahead, RecordFault> {
-    let base = read_base(alloc, steps)?;
+    let (head, shards) = begin_record(alloc, roster.clone()?, steps)?;
     let mut catching = Catching {
         alloc,
-        rerun: Rerun::new(alloc, roster.clone()?)?,
+        rerun: Rerun::new(alloc, shards),
         roster,
         secret,
-        out,
         line: Vec::new(alloc),
         room: Vec::new(alloc),
-        written: 0,
     };
-    let implied = catching.run_steps(&base, steps)?;
-    catching.skip_ups(&base, implied, ups)?;
+    let implied = catching.run_steps(&head, steps)?;
+    catching.skip_ups(&head, implied, ups)?;
     catching.catch_all(ups)
 }

@@ -3,11 +3,12 @@
 use crate::ahead::{Ahead, catch_up};
 use crate::part::{NewSteps, Part, PartFile, logged};
 use crate::same::serves_as_well;
-use crate::shortening::{Shortened, shorten};
+use crate::written::write_shards;
 use ns_log::{Log, error, warn};
 use ns_record_files::{FilesFault, LaterLines, RecordFiles, Recorder, ShorterSteps, read_again};
-use ns_resume::{Base, RecordFault, base_line, run_record};
+use ns_resume::{RecordFault, Resumed, run_record};
 use ns_roster::Roster;
+use ns_shard::Shard;
 use ns_types::Key;
 use std::alloc::Global;
 use std::fs::File;
@@ -18,7 +19,7 @@ use std::sync::{Arc, Wait};
 // How many bytes of a file are read or written at once.
 const BLOCK: usize = 262_144;
 
-/// How many step lines a record had, and how many it has.
+/// How many step lines a record had, and how many lines the checkpoint has that took their place.
 #[derive(Clone, Copy)]
 pub struct Compacted {
     pub before: u64,
@@ -33,14 +34,6 @@ pub struct Folder<'a, R, L> {
     pub alloc: Global,
     pub path: &'a str,
     pub roster: &'a Arc<Roster>,
-}
-
-// The step lines of a record, its `up` lines, and its step lines once more.
-#[derive(Drop)]
-struct Sources<'a> {
-    steps: BufReader<PartFile<'a>>,
-    ups: BufReader<PartFile<'a>>,
-    again: BufReader<PartFile<'a>>,
 }
 
 // The fault of a record whose files failed.
@@ -77,82 +70,47 @@ impl<'a, R: Files<File = File>, L: Log> Folder<'a, R, L> {
         Ok(BufReader::with_capacity(self.alloc, BLOCK, file)?)
     }
 
-    // The record, to be read for a compaction.
-    fn sources<'b>(&self, part: &Part<'b>) -> Result<Sources<'b>, RecordFault> {
-        let steps = self.read("steps", part.steps, part)?;
-        let ups = self.read("up", part.ups, part)?;
-        Ok(Sources {
-            steps,
-            ups,
-            again: self.read("steps", part.steps, part)?,
-        })
+    // Runs this part of the record, as a start does.
+    fn run(&self, part: &Part<'_>) -> Result<Resumed, RecordFault> {
+        let mut steps = self.read("steps", part.steps, part)?;
+        let mut ups = self.read("up", part.ups, part)?;
+        run_record(self.alloc, self.roster.clone()?, &mut steps, &mut ups)
     }
 
-    // Writes the lines that are chosen, behind room for the line that tells the base.
-    fn choose(&self, part: &Part<'_>, to: &ShorterSteps) -> Result<Shortened, RecordFault> {
-        let mut sources = self.sources(part)?;
+    // Writes the checkpoint of these shards, beside `up` lines of so many bytes. Returns the number of its lines.
+    fn write(&self, shards: &[Shard], ups: u64, to: &ShorterSteps) -> Result<u64, RecordFault> {
         let new = NewSteps {
             log: self.log,
             file: to.file(),
         };
         let mut out = BufWriter::with_capacity(self.alloc, BLOCK, new)?;
-        self.choose_into(&mut sources, &mut out)
-    }
-
-    // The same, where the writer is there.
-    fn choose_into<W: Write>(
-        &self,
-        sources: &mut Sources<'_>,
-        out: &mut W,
-    ) -> Result<Shortened, RecordFault> {
-        let none = Base { lines: 0, ups: 0 };
-        out.write_all(base_line(&none).as_str().as_bytes())?;
-        out.write_all(b"\n")?;
-        let left = shorten(
-            self.alloc,
-            self.roster.clone()?,
-            &mut sources.steps,
-            &mut sources.ups,
-            &mut sources.again,
-            out,
-        )?;
+        let lines = write_shards(self.alloc, shards, ups, &mut out)?;
         out.flush()?;
-        Ok(left)
+        Ok(lines)
     }
 
     // Whether a start from what was written leaves the same, beside the `up` lines that are there.
-    fn is_as_well(&self, part: &Part<'_>, left: &Shortened) -> Result<bool, RecordFault> {
+    fn is_as_well(&self, part: &Part<'_>, shards: &[Shard]) -> Result<bool, RecordFault> {
         let mut steps = self.read("steps.new", u64::MAX, part)?;
         let mut ups = self.read("up", part.ups, part)?;
-        serves_as_well(
-            self.alloc,
-            self.roster.clone()?,
-            left.shards.as_slice(),
-            &mut steps,
-            &mut ups,
-        )
+        let roster = self.roster.clone()?;
+        serves_as_well(self.alloc, roster, shards, &mut steps, &mut ups)
     }
 
-    // Tells the base in the first line of what was written, and tests that it serves as well.
-    fn tell(
+    // Writes the checkpoint of these shards into `steps.new`, and tests that it serves as well. Returns the number of its lines.
+    fn put(
         &self,
         part: &Part<'_>,
         shorter: &ShorterSteps,
-        left: &Shortened,
+        shards: &[Shard],
         ups: u64,
-    ) -> Result<Compacted, RecordFault> {
-        let base = Base {
-            lines: left.written,
-            ups,
-        };
-        had(shorter.begin_with(self.log, base_line(&base).as_str().as_bytes()))?;
-        if !self.is_as_well(part, left)? {
-            return Err(RecordFault::NotAsWell);
+    ) -> Result<u64, RecordFault> {
+        let lines = self.write(shards, ups, shorter)?;
+        if self.is_as_well(part, shards)? {
+            Ok(lines)
+        } else {
+            Err(RecordFault::NotAsWell)
         }
-        Ok(Compacted {
-            before: left.lines,
-            after: left.written,
-        })
     }
 
     // Mends the files of the record. Why that fails is logged.
@@ -172,31 +130,39 @@ impl<'a, R: Files<File = File>, L: Log> Folder<'a, R, L> {
         Err(RecordFault::Io)
     }
 
-    // Writes fewer lines into `steps.new`, and brings the record to the disk. First the record is mended, as a start does.
+    // Writes the checkpoint of the record into `steps.new`, and brings the record to the disk. First the record is mended, as a start does.
     fn prepare(
         &self,
         files: &mut RecordFiles,
         shorter: &ShorterSteps,
     ) -> Result<Compacted, RecordFault> {
         let part = Part::whole();
-        let left = self.choose(&part, shorter)?;
+        let left = self.run(&part)?;
         self.mend(files, left.torn, left.up_torn, left.missing.as_slice())?;
         let ups = had(files.sync_all(self.log))?;
-        self.tell(&part, shorter, &left, ups)
+        let after = self.put(&part, shorter, left.shards.as_slice(), ups)?;
+        Ok(Compacted {
+            before: left.lines,
+            after,
+        })
     }
 
-    // Writes fewer lines into `steps.new` than this part of the record has, which are whole, and brings its `up` lines to the disk.
+    // Writes the checkpoint of this part of the record, which has whole lines, into `steps.new`, and brings its `up` lines to the disk.
     fn prepare_part(
         &self,
         part: &Part<'_>,
         shorter: &ShorterSteps,
     ) -> Result<Compacted, RecordFault> {
-        let left = self.choose(part, shorter)?;
+        let left = self.run(part)?;
         if left.torn > 0 || left.up_torn > 0 || !left.missing.is_empty() {
             return Err(RecordFault::NotAsWell);
         }
         logged(self.log, self.open("up")?.sync_all())?;
-        self.tell(part, shorter, &left, part.ups)
+        let after = self.put(part, shorter, left.shards.as_slice(), part.ups)?;
+        Ok(Compacted {
+            before: left.lines,
+            after,
+        })
     }
 
     // A key that nobody knows, if the system gives one.
@@ -207,51 +173,25 @@ impl<'a, R: Files<File = File>, L: Log> Folder<'a, R, L> {
         Some(Key(bytes))
     }
 
-    // Writes the lines of the record into `steps.new`, and those that catch up with its `up` lines, behind room for the line that tells the
-    // base.
-    fn catch_up(&self, part: &Part<'_>, to: &ShorterSteps) -> Result<Ahead, RecordFault> {
+    // Runs the steps of the record, and lets them catch up with its `up` lines.
+    fn catch_up(&self, part: &Part<'_>) -> Result<Ahead, RecordFault> {
         let mut steps = self.read("steps", part.steps, part)?;
         let mut ups = self.read("up", part.ups, part)?;
-        let new = NewSteps {
-            log: self.log,
-            file: to.file(),
-        };
-        let mut out = BufWriter::with_capacity(self.alloc, BLOCK, new)?;
-        let none = Base { lines: 0, ups: 0 };
-        out.write_all(base_line(&none).as_str().as_bytes())?;
-        out.write_all(b"\n")?;
         let roster = self.roster.clone()?;
-        let secret = self.secret();
-        let ahead = catch_up(self.alloc, roster, &mut steps, &mut ups, secret, &mut out)?;
-        out.flush()?;
-        Ok(ahead)
+        catch_up(self.alloc, roster, &mut steps, &mut ups, self.secret())
     }
 
-    // Whether a start from what was written has nothing to mend, beside the `up` lines that are there.
-    fn is_whole(&self, part: &Part<'_>) -> Result<bool, RecordFault> {
-        let mut steps = self.read("steps.new", u64::MAX, part)?;
-        let mut ups = self.read("up", part.ups, part)?;
-        let resumed = run_record(self.alloc, self.roster.clone()?, &mut steps, &mut ups)?;
-        Ok(resumed.torn == 0 && resumed.up_torn == 0 && resumed.missing.is_empty())
-    }
-
-    // Writes steps into `steps.new` that are not behind the `up` lines of the record, brings these to the disk, and tests both.
+    // Writes a checkpoint into `steps.new` that is not behind the `up` lines of the record, brings these to the disk, and tests both.
     fn prepare_ahead(
         &self,
         files: &mut RecordFiles,
         shorter: &ShorterSteps,
     ) -> Result<Ahead, RecordFault> {
         let part = Part::whole();
-        let ahead = self.catch_up(&part, shorter)?;
+        let ahead = self.catch_up(&part)?;
         self.mend(files, 0, ahead.up_torn, &[])?;
-        let base = Base {
-            lines: ahead.written,
-            ups: had(files.sync_all(self.log))?,
-        };
-        had(shorter.begin_with(self.log, base_line(&base).as_str().as_bytes()))?;
-        if !self.is_whole(&part)? {
-            return Err(RecordFault::NotAsWell);
-        }
+        let ups = had(files.sync_all(self.log))?;
+        self.put(&part, shorter, ahead.shards.as_slice(), ups)?;
         Ok(ahead)
     }
 
@@ -286,8 +226,8 @@ impl<'a, R: Files<File = File>, L: Log> Folder<'a, R, L> {
         Ok(())
     }
 
-    /// Puts fewer lines in the place of the steps of its record, after which every later answer is the same, and brings them to the disk:
-    /// after a crash at any moment the folder has the ones or the others. First the record is mended, as a start does. After a fault all
+    /// Puts a checkpoint in the place of the steps of its record, after which every later answer is the same, and brings it to the disk:
+    /// after a crash at any moment the folder has the one or the others. First the record is mended, as a start does. After a fault all
     /// whole lines are there as before.
     pub fn compact(&self, mut files: RecordFiles) -> Result<Compacted, RecordFault> {
         let shorter = had(ShorterSteps::create(self.rt, self.log, self.alloc, self.path))?;
@@ -297,7 +237,7 @@ impl<'a, R: Files<File = File>, L: Log> Folder<'a, R, L> {
 }
 
 impl<'a, R: Files<File = File> + Wait, L: Log> Folder<'a, R, L> {
-    // Puts fewer lines in the place of those of this part, while the server goes on.
+    // Puts a checkpoint in the place of the lines of this part, while the server goes on.
     fn replace_part(
         &self,
         record: &Recorder<RecordFiles>,

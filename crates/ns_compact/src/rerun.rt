@@ -1,20 +1,17 @@
-//! A run of lines that were run before.
+//! Shards at which the lines of a record, and then calls that are in no line, are run.
 
-use crate::lines::Made;
 use ns_acts::call_of;
-use ns_calls::{Call, Entry, Outcome, Reply, shard_of_call};
+use ns_calls::{Call, Reply, shard_of_call};
 use ns_resume::RecordFault;
-use ns_roster::Roster;
-use ns_runs::{TRIM_FROM, new_shards, trim_if_due};
+use ns_runs::{TRIM_FROM, trim_if_due};
 use ns_shard::Shard;
 use ns_steps::step;
 use ns_types::{DevAddr, DevEui, DevNonce, Key, shard_of};
 use std::alloc::Global;
-use std::sync::Arc;
 
-/// Shards at which lines are run once more, for the reply to each.
+/// Shards at which calls are made.
 #[derive(Drop)]
-pub struct Rerun {
+pub(crate) struct Rerun {
     alloc: Global,
     shards: Vec<Shard>,
     most: [usize; 16],
@@ -22,15 +19,28 @@ pub struct Rerun {
     room: Vec<u8>,
 }
 
+/// What came of a call: the reply, and whether an uplink went up.
+#[derive(Clone, Copy)]
+pub(crate) struct Made {
+    pub reply: Reply,
+    pub goes_up: bool,
+}
+
 impl Rerun {
-    /// No line was run.
-    pub fn new(alloc: Global, roster: Arc<Roster>) -> Result<Rerun, RecordFault> {
-        Ok(Rerun {
+    /// These shards.
+    pub fn new(alloc: Global, shards: Vec<Shard>) -> Rerun {
+        Rerun {
             alloc,
-            shards: new_shards(alloc, roster)?,
+            shards,
             most: [TRIM_FROM; 16],
             room: Vec::new(alloc),
-        })
+        }
+    }
+
+    /// The shards as they are now.
+    pub fn into_shards(self) -> Vec<Shard> {
+        let Rerun { shards, .. } = self;
+        shards
     }
 
     // The call of a line.
@@ -63,66 +73,38 @@ impl Rerun {
         if shard.index() != place {
             return Ok(None);
         }
-        let made = shard.made();
         let answer = shard.apply(call)?;
         trim_if_due(self.alloc, shard, most);
         Ok(Some(Made {
-            shard: at,
-            number: made,
-            call,
             goes_up: answer.uplink.is_some(),
             reply: answer.reply,
         }))
     }
 
-    /// The NwkSKey and the address of a session, where its join was left by trims.
+    /// The NwkSKey and the address of a live session.
     pub fn session(&self, eui: DevEui, session: u32) -> Option<(Key, DevAddr)> {
-        let shard = self.shards.get(usize::from(shard_of(eui)))?;
-        for entry in shard.entries() {
-            let found = accepted(entry);
-            if let Some((of, number, nwk, addr)) = found {
-                if of == eui && number == session {
-                    return Some((nwk, addr));
-                }
-            }
-        }
-        None
+        let own = self
+            .shards
+            .get(usize::from(shard_of(eui)))?
+            .devices()
+            .get(eui)?;
+        let (nwk, _app) = own.state.keys(session)?;
+        Some((nwk, own.addr))
     }
-}
 
-impl Rerun {
-    /// The greatest session of a device of which trims left the join, or 0.
+    /// The number of the last session of a device, or 0.
     pub fn last_session(&self, eui: DevEui) -> u32 {
-        let mut last = 0;
         let Some(shard) = self.shards.get(usize::from(shard_of(eui))) else {
-            return last;
+            return 0;
         };
-        for entry in shard.entries() {
-            if let Some((of, number, _, _)) = accepted(entry) {
-                if of == eui && number > last {
-                    last = number;
-                }
-            }
+        match shard.devices().get(eui) {
+            Some(own) => own.state.next_session().saturating_sub(1),
+            None => 0,
         }
-        last
     }
 
     /// The greatest DevNonce of a device.
     pub fn greatest(&self, eui: DevEui) -> Option<DevNonce> {
         self.shards.get(usize::from(shard_of(eui)))?.greatest(eui)
-    }
-}
-
-// The device, the number, the NwkSKey and the address of the session that an entry began, if it did.
-fn accepted(entry: &Entry) -> Option<(DevEui, u32, Key, DevAddr)> {
-    match (&entry.call, &entry.reply) {
-        (
-            Call::JoinReply {
-                outcome: Outcome::Success(answer),
-                ..
-            },
-            Reply::Accepted { eui, session, addr },
-        ) => Some((*eui, *session, answer.nwk, *addr)),
-        _ => None,
     }
 }

@@ -4,3 +4,4 @@ pub mod Steps
 pub mod Runs
 pub mod Faults
 pub mod OpenIn
+pub mod Restored

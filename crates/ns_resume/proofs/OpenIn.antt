@@ -40,10 +40,10 @@ use Rattle.ns_kept.proofs.Within.{All-end}
 use Rattle.ns_sessions.proofs.OpenTickets.{open_asked, at_member, same_ticket-refl}
 use Rattle.ns_shard.specs.State.{State, remains, seen, asked_in, open_tickets_in}
 use Rattle.ns_acts.specs.declared.step.Step.{Step}
-use Rattle.ns_runs.specs.KeptSteps.{AreKeptAfter}
-use Rattle.ns_runs.specs.Steps.{shard_history}
+use Rattle.ns_runs.specs.KeptSteps.{AreHistories, AreKeptFrom}
+use Rattle.ns_runs.specs.Steps.{shard_history_from}
 use Rattle.ns_shard.proofs.Maps.{count-map}
-use Rattle.ns_runs.proofs.RunHistories.{shard_history-is}
+use Rattle.ns_runs.proofs.RunHistories.{history_from-is}
 use Rattle.ns_resume.specs.Resumed.{AreOpenIn, windows_in, tickets_in}
 
 -- ---- the open windows of one shard
@@ -229,15 +229,15 @@ all-wait t (s ∷ shards) each =
 
 -- ---- of shards that a record leaves
 
-module _ (net : Network) (steps : List Step) (shards : List State) (valid : IsRoster net) (are : AreKeptAfter net steps shards) where
-  left : (k : ℕ) (s : State) → slice_get shards k ≡ Some s → Leaves net (shard_history net k steps) (remains s)
-  left k s at = subst (λ n. Leaves n (shard_history net k steps) (remains s)) (are.each k s at).roster (are.each k s at).keeps.left
+module _ (net : Network) (starts : ℕ → List Entry) (steps : List Step) (shards : List State) (valid : IsRoster net) (histories : AreHistories net starts) (are : AreKeptFrom net starts steps shards) where
+  left : (k : ℕ) (s : State) → slice_get shards k ≡ Some s → Leaves net (shard_history_from net starts k steps) (remains s)
+  left k s at = subst (λ n. Leaves n (shard_history_from net starts k steps) (remains s)) (are.each k s at).roster (are.each k s at).keeps.left
 
   each-once : (k : ℕ) (s : State) → slice_get shards k ≡ Some s → AreOnce (0 + k) s
-  each-once k s at = subst (λ n. AreOnce n s) (omega arith) (are-once net k (shard_history net k steps) s valid (shard_history-is net k steps) (left k s at))
+  each-once k s at = subst (λ n. AreOnce n s) (omega arith) (are-once net k (shard_history_from net starts k steps) s valid (history_from-is net starts histories k steps) (left k s at))
 
   each-wait : (t : Ticket) (k : ℕ) (s : State) → slice_get shards k ≡ Some s → list_any (same_ticket t) (open_tickets_in s) ≡ is_ticket_open (seen s) t
-  each-wait t k s at = named-wait net k (shard_history net k steps) s (shard_history-is net k steps) (left k s at) t
+  each-wait t k s at = named-wait net k (shard_history_from net starts k steps) s (history_from-is net starts histories k steps) (left k s at) t
 
   pub open-in : (windows : List WindowName) (tickets : List Ticket) → windows ≡ windows_in shards → tickets ≡ tickets_in shards → AreOpenIn shards windows tickets
   open-in windows tickets windows_are tickets_are = record {

@@ -1,3 +1,4 @@
 pub mod Base
+pub mod Head
 pub mod Resumed
 pub mod Private

@@ -3,3 +3,4 @@ pub mod Lines
 pub mod Ups
 pub mod Running
 pub mod Faults
+pub mod Restored

@@ -7,6 +7,7 @@ use Rattle.ns_types.specs.Identity.{same_window}
 use Rattle.ns_types.specs.declared.identity.WindowName.{WindowName}
 use Rattle.ns_types.specs.declared.ticket.Ticket.{Ticket}
 use Rattle.ns_roster.specs.Network.{Network}
+use Rattle.ns_calls.specs.declared.call.Entry.{Entry}
 use Rattle.ns_calls.specs.Entries.{open_windows}
 use Rattle.ns_calls.specs.History.{same_ticket, is_ticket_open}
 use Rattle.ns_lines.specs.Text.{up_text, has_line_feed}
@@ -16,14 +17,14 @@ use Rattle.ns_acts.specs.declared.step.Step.{Step}
 use Rattle.ns_runs.specs.declared.run.Taken.{Taken}
 use Rattle.ns_runs.specs.declared.run.Taken.TheVariants.{Link, View, Made}
 use Rattle.ns_shard.specs.State.{State, seen, open_tickets_in}
-use Rattle.ns_runs.specs.KeptSteps.{AreKeptAfter}
-use Rattle.ns_runs.specs.Steps.{step_taken, all_taken}
+use Rattle.ns_runs.specs.KeptSteps.{AreKeptFrom}
+use Rattle.ns_runs.specs.Steps.{step_taken_from, all_taken_from, no_starts}
 use Rattle.ns_steps.specs.StepLines.{ended, step, step_of}
 use Rattle.ns_resume.specs.declared.fault.RecordFault.{RecordFault}
 use Rattle.ns_resume.specs.declared.fault.RecordFault.TheVariants.{NoStep, NoFit}
 use Rattle.ns_resume.specs.declared.run.Resumed.{Resumed}
-use Rattle.ns_resume.specs.declared.base.Base.{Base}
-use Rattle.ns_resume.specs.Base.{head_text, first_number, lines_before, ups_before}
+use Rattle.ns_resume.specs.declared.head.RecordHead.{RecordHead}
+use Rattle.ns_resume.specs.Head.{head_text, first_number, lines_before, ups_before, AreStarts}
 
 -- the text is all that a source has, where that tells it
 abbrev pub IsAllOf : Option (List ℕ) → List ℕ → Type 0
@@ -45,9 +46,13 @@ fits (Link fault) = false
 fits (View fault) = false
 fits (Made shard number answer) = matters answer.reply
 
--- each step made such a call
+-- each step made such a call, where each shard has one of these histories before them
+abbrev pub AllFitFrom : Network → (ℕ → List Entry) → List Step → Type 0
+AllFitFrom net starts steps = AllByRecursion (λ t. fits t ≡ true) (all_taken_from net starts [] steps)
+
+-- the same of steps before which no shard has an entry
 abbrev pub AllFit : Network → List Step → Type 0
-AllFit net steps = AllByRecursion (λ t. fits t ≡ true) (all_taken net [] steps)
+AllFit net steps = AllFitFrom net no_starts steps
 
 -- the `up` line of what came of a step, with its line feed, where an uplink goes out
 abbrev pub up_of : Taken → List ℕ
@@ -55,9 +60,13 @@ up_of (Link fault) = []
 up_of (View fault) = []
 up_of (Made shard number answer) = option_map_or (λ u. ended (up_text u)) answer.uplink []
 
--- the `up` lines of a run of steps, but those of so many first ones
+-- the `up` lines of a run of steps, but those of so many first ones, where each shard has one of these histories before them
+abbrev pub ups_since_from : Network → (ℕ → List Entry) → ℕ → List Step → List ℕ
+ups_since_from net starts before steps = flat_map up_of (drop before (all_taken_from net starts [] steps))
+
+-- the same of steps before which no shard has an entry
 abbrev pub ups_since : Network → ℕ → List Step → List ℕ
-ups_since net before steps = flat_map up_of (drop before (all_taken net [] steps))
+ups_since net before steps = ups_since_from net no_starts before steps
 
 -- What is there of these `up` lines ends with so many bytes of a torn one, with which the missing lines begin.
 pub record AreUps (there ups missing : List ℕ) (torn : ℕ) : Type 0 where
@@ -69,30 +78,39 @@ pub record AreUps (there ups missing : List ℕ) (torn : ℕ) : Type 0 where
   pub begins : missing ≡ rest ++ more
   pub bytes : length rest ≡ torn
 
--- The step lines of this text leave these shards, and beside this text of `up` lines these are missing, where so many first lines imply none.
-pub record HasRunAll (net : Network) (before : ℕ) (text there : List ℕ) (r : Resumed) : Type 0 where
+-- The step lines of this text leave these shards, where each has one of these histories before them. Beside this text of `up` lines these
+-- are missing, where so many first lines imply none.
+pub record HasRunFrom (net : Network) (starts : ℕ → List Entry) (before : ℕ) (text there : List ℕ) (r : Resumed) : Type 0 where
   pub lines : List (List ℕ)
   pub torn : List ℕ
   pub cut : IsCut text lines torn
   pub torn_bytes : r.torn ≡ length torn
+  pub many : r.lines ≡ length lines
   pub enough : before ≤ length lines
   pub steps : List Step
   pub are_steps : AreStepsOf lines steps
-  pub fit : AllFit net steps
-  pub shards : AreKeptAfter net steps r.shards.items
-  pub ups : AreUps there (ups_since net before steps) r.missing.items r.up_torn
+  pub fit : AllFitFrom net starts steps
+  pub shards : AreKeptFrom net starts steps r.shards.items
+  pub ups : AreUps there (ups_since_from net starts before steps) r.missing.items r.up_torn
 
--- The record of this text, beside this text of `up` lines, leaves these shards, and these `up` lines are missing. Where it has a base, its
--- first line tells it, and the `up` lines of the lines that it tells of are so many first bytes there.
+-- the same where no shard has an entry before them
+abbrev pub HasRunAll : Network → ℕ → List ℕ → List ℕ → Resumed → Type 0
+HasRunAll net before text there r = HasRunFrom net no_starts before text there r
+
+-- The record of this text, beside this text of `up` lines, leaves these shards, and these `up` lines are missing. It begins with a head,
+-- before which so many first bytes of the `up` lines were written, and with histories that tell the tables of the head's checkpoint. Without a
+-- checkpoint no shard has an entry before the first step line.
 pub record IsResumed (net : Network) (text there : List ℕ) (r : Resumed) : Type 0 where
-  pub base : Option Base
+  pub head : RecordHead
   pub lines : List ℕ
-  pub is_text : text ≡ head_text base ++ lines
+  pub is_text : text ≡ head_text head ++ lines
+  pub starts : ℕ → List Entry
+  pub begun : AreStarts net head starts
   pub earlier : List ℕ
   pub later : List ℕ
   pub are_there : there ≡ earlier ++ later
-  pub earlier_bytes : length earlier ≡ ups_before base
-  pub run : HasRunAll net (lines_before base) lines later r
+  pub earlier_bytes : length earlier ≡ ups_before head
+  pub run : HasRunFrom net starts (lines_before head) lines later r
 
 -- ---- what is open
 
@@ -113,15 +131,15 @@ pub record AreOpenIn (shards : List State) (windows : List WindowName) (tickets 
 
 -- ---- why a run ends early
 
--- The steps of these lines, with which the text begins, fit, and the line behind them has this number and is refused so, where the first
--- line has that number.
-pub record StopsAt (net : Network) (first : ℕ) (known : Option (List ℕ)) (number : ℕ) (IsRefused : List Step → List ℕ → Type 0) : Type 0 where
+-- The steps of these lines, with which the text begins, fit, and the line behind them has this number and is refused so. The first line has
+-- the first number, and each shard has one of these histories before it.
+pub record StopsAt (net : Network) (starts : ℕ → List Entry) (first : ℕ) (known : Option (List ℕ)) (number : ℕ) (IsRefused : List Step → List ℕ → Type 0) : Type 0 where
   pub lines : List (List ℕ)
   pub line : List ℕ
   pub begins : IfSome known (λ text. (rest : List ℕ) × (text ≡ flat_map ended lines ++ (ended line ++ rest)))
   pub steps : List Step
   pub are_steps : AreStepsOf lines steps
-  pub fit : AllFit net steps
+  pub fit : AllFitFrom net starts steps
   pub numbered : length lines + first ≡ number
   pub refused : IsRefused steps line
 
@@ -130,15 +148,24 @@ abbrev pub IsNoStep : List Step → List ℕ → Type 0
 IsNoStep steps line = step line ≡ None
 
 -- the line is a step line, and its step makes no call after these steps, or one on which no later answer rests
-abbrev pub DoesNotFit : Network → List Step → List ℕ → Type 0
-DoesNotFit net steps line = (act : Act) × (step line ≡ Some act) × (fits (step_taken net steps (step_of act)) ≡ false)
+abbrev pub DoesNotFit : Network → (ℕ → List Entry) → List Step → List ℕ → Type 0
+DoesNotFit net starts steps line = (act : Act) × (step line ≡ Some act) × (fits (step_taken_from net starts steps (step_of act)) ≡ false)
 
 -- the fault names the first line that is refused, where the first line has this number
-abbrev pub NamesLineFrom : Network → ℕ → Option (List ℕ) → RecordFault → Type 0
-NamesLineFrom net first known (NoStep n) = StopsAt net first known n IsNoStep
-NamesLineFrom net first known (NoFit n) = StopsAt net first known n (DoesNotFit net)
-NamesLineFrom net first known _ = Unit {0}
+abbrev pub NamesLineFrom : Network → (ℕ → List Entry) → ℕ → Option (List ℕ) → RecordFault → Type 0
+NamesLineFrom net starts first known (NoStep n) = StopsAt net starts first known n IsNoStep
+NamesLineFrom net starts first known (NoFit n) = StopsAt net starts first known n (DoesNotFit net starts)
+NamesLineFrom net starts first known _ = Unit {0}
 
--- the fault names the first step line that is refused, behind the line that tells the base, or, as if there were no base, that line itself
+-- The fault names the first step line that is refused, after the head of the record, or, as if there were no head, its first line. The shards
+-- can have these histories before it.
+pub record NamesLineOf (net : Network) (known : Option (List ℕ)) (e : RecordFault) : Type 0 where
+  pub head : RecordHead
+  pub starts : ℕ → List Entry
+  pub begun : AreStarts net head starts
+  pub rest : Option (List ℕ)
+  pub consumed : Consumes known rest (head_text head)
+  pub names : NamesLineFrom net starts (first_number head) rest e
+
 abbrev pub NamesLine : Network → Option (List ℕ) → RecordFault → Type 0
-NamesLine net known e = (base : Option Base) × (rest : Option (List ℕ)) × Consumes known rest (head_text base) × NamesLineFrom net (first_number base) rest e
+NamesLine net known e = NamesLineOf net known e

@@ -1,8 +1,9 @@
-//! The base of a record: the lines that a compaction left.
+//! The base of a record: the lines that a compaction of an older program left.
 
-ghost use Rattle.std.specs.Prelude.{◌≡◌, ◌≤◌, List, ℕ, length, IfOk, IfErr, IfSome, OnOk};
+ghost use Rattle.std.specs.Prelude.{◌≡◌, List, ℕ, length, IfOk, IfErr, IfSome, OnOk};
 ghost use Rattle.std.specs.Io.KnownBytes.{Consumes};
-ghost use Rattle.ns_resume.specs.Base.{base_text, first_number, head_text, lines_before, ups_before};
+ghost use Rattle.ns_steps.specs.StepLines.{ended};
+ghost use Rattle.ns_resume.specs.Base.{base_text};
 ghost use Rattle.ns_resume.specs.Private.Faults.{NamesNoLine};
 
 use crate::fault::RecordFault;
@@ -41,8 +42,8 @@ fn number_in(digits: &[u8]) -> Option<u64> {
     }
 }
 
-// The base that a line tells.
-fn base_in(line: &[u8]) -> Option<Base>
+/// The base that a line says.
+pub fn base_in(line: &[u8]) -> Option<Base>
     ensures { IfSome result (λ base. line.now ≡ base_text base) }
 {
     let base = Base {
@@ -56,52 +57,18 @@ fn base_in(line: &[u8]) -> Option<Base>
     }
 }
 
-/// The number of the first step line of a record: lines are numbered from 1.
-pub fn first_number(base: &Option<Base>) -> u64
-    ensures is { result ≡ first_number base.now }
-    ensures small { result ≤ 2 }
-{
-    match base {
-        Some(_) => 2,
-        None => 1,
-    }
-}
-
-/// How many step lines a compaction left.
-pub fn lines_before(base: &Option<Base>) -> u64
-    ensures { result ≡ lines_before base.now }
-{
-    match base {
-        Some(base) => base.lines,
-        None => 0,
-    }
-}
-
-/// Reads the first line of a record where that tells a base. A step line begins with another letter, and is not read.
-pub fn read_base<S: BufRead>(alloc: Global, steps: &mut S) -> Result<Option<Base>, RecordFault>
-    ensures bytes { IfOk result (λ base. Consumes (S.remaining steps.old) (S.remaining steps.new) (head_text base)) }
+/// Reads the first line of a record, which says its base.
+pub fn read_base<S: BufRead>(alloc: Global, steps: &mut S) -> Result<Base, RecordFault>
+    ensures bytes { IfOk result (λ base. Consumes (S.remaining steps.old) (S.remaining steps.new) (ended (base_text base))) }
     ensures fault { IfErr result NamesNoLine }
 {
-    if !steps.fill_buf()?.starts_with(b"b") {
-        return Ok(None);
-    }
     let mut line = Vec::new(alloc);
     if !read_line(steps, &mut line)? {
         return Err(RecordFault::BadBase);
     }
     match base_in(line.as_slice()) {
-        Some(base) => Ok(Some(base)),
+        Some(base) => Ok(base),
         None => Err(RecordFault::BadBase),
-    }
-}
-
-/// How many bytes of the `up` lines were written before the compaction.
-pub fn ups_before(base: &Option<Base>) -> u64
-    ensures { result ≡ ups_before base.now }
-{
-    match base {
-        Some(base) => base.ups,
-        None => 0,
     }
 }
 

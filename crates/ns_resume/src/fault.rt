@@ -2,7 +2,10 @@
 
 ghost use Rattle.std.specs.Prelude.{◌≡◌};
 ghost use Rattle.ns_resume.specs.declared.fault.RecordFault.TheVariants.{NoMemory, Io};
+ghost use Rattle.ns_resume.specs.Private.Faults.{NamesNoLine};
 
+use ns_checkpoint::CheckpointFault;
+use ns_restore::RestoreFault;
 use std::alloc::AllocError;
 use std::io;
 use thiserror::Error;
@@ -38,6 +41,12 @@ pub enum RecordFault {
     /// After fewer lines of it some later answer may be another: the record stays as it is.
     #[error("record: fewer lines do not serve as well")]
     NotAsWell,
+    /// The checkpoint with which the record begins is not read.
+    #[error("record: {0}")]
+    BadCheckpoint(CheckpointFault),
+    /// The checkpoint has tables of this shard that no legal calls over this roster lead to.
+    #[error("record: checkpoint: shard {0}: {1}")]
+    BadTables(u8, RestoreFault),
     /// There are 2^64 - 2 lines and more.
     #[error("record: too many lines")]
     TooMany,
@@ -56,5 +65,26 @@ impl From<io::Error> for RecordFault {
 
     fn from(_error: io::Error) -> RecordFault {
         RecordFault::Io
+    }
+}
+
+/// Why a record with a checkpoint that is not read is not gone on with.
+pub(crate) fn of_checkpoint(fault: CheckpointFault) -> RecordFault
+    ensures { NamesNoLine result }
+{
+    match fault {
+        CheckpointFault::NoMemory => RecordFault::NoMemory,
+        CheckpointFault::Io => RecordFault::Io,
+        fault => RecordFault::BadCheckpoint(fault),
+    }
+}
+
+/// Why a record is not gone on with whose checkpoint has tables of this shard that are not reached.
+pub(crate) fn of_tables(index: u8, fault: RestoreFault) -> RecordFault
+    ensures { NamesNoLine result }
+{
+    match fault {
+        RestoreFault::NoMemory => RecordFault::NoMemory,
+        fault => RecordFault::BadTables(index, fault),
     }
 }

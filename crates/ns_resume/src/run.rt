@@ -1,20 +1,22 @@
 //! A run of the step lines of a record.
 
-ghost use Rattle.std.specs.Prelude.{◌≡◌, ℕ, nat_le, List, length, IfOk, IfErr, OnOk};
+ghost use Rattle.std.specs.Prelude.{◌≡◌, ℕ, nat_le, List, [], length, IfOk, IfErr, OnOk};
 ghost use Rattle.std.specs.Arc.{arc_value};
 ghost use Rattle.ns_types.specs.Identity.{shard_count};
 ghost use Rattle.ns_calls.specs.declared.answer.Answer.{Answer};
+ghost use Rattle.ns_calls.specs.declared.call.Entry.{Entry};
 ghost use Rattle.ns_roster.specs.Network.{Network};
+ghost use Rattle.ns_roster.specs.Valid.{IsRoster};
 ghost use Rattle.ns_acts.specs.declared.step.Step.{Step};
 ghost use Rattle.ns_record.specs.StepText.{ReadsBack};
-ghost use Rattle.ns_resume.specs.Base.{first_number, lines_before};
-ghost use Rattle.ns_resume.specs.Resumed.{IsAllOf, HasRunAll, IsResumed, AreOpenIn, NamesLine, NamesLineFrom, windows_in, tickets_in};
-ghost use Rattle.ns_runs.specs.KeptSteps.{AreInPlace};
+ghost use Rattle.ns_resume.specs.Resumed.{IsAllOf, HasRunFrom, IsResumed, AreOpenIn, NamesLine, NamesLineFrom, windows_in, tickets_in};
+ghost use Rattle.ns_runs.specs.KeptSteps.{AreInPlace, AreHistories, AreKeptFrom};
 ghost use Rattle.ns_resume.specs.Private.Running.{HasAnswered, HasRun, RunsOn};
 ghost use Rattle.ns_resume.specs.Private.Faults.{MakesNoCall, DoesNotMatter, RefusesLine};
 
-use crate::base::{Base, first_number, lines_before, read_base, skip_ups, ups_before};
+use crate::base::skip_ups;
 use crate::fault::RecordFault;
+use crate::head::begin_record;
 use crate::line::read_line;
 use crate::open::{Open, open_in};
 use crate::ups::Ups;
@@ -23,7 +25,7 @@ use ns_calls::{Call, Downlink, Reply, shard_of_call};
 use ns_lines::{Line, put_lent_uplink};
 use ns_record::matters;
 use ns_roster::Roster;
-use ns_runs::{TRIM_FROM, new_shards, trim_if_due};
+use ns_runs::{TRIM_FROM, trim_if_due};
 use ns_shard::{BoxedUplink, Shard};
 use ns_steps::step;
 use ns_types::{Ticket, WindowName};
@@ -36,6 +38,8 @@ use std::sync::Arc;
 pub struct Resumed {
     /// The sixteen shards, each at its number. Each has made an entry of each line's call that is its own.
     pub shards: Vec<Shard>,
+    /// How many step lines were run.
+    pub lines: u64,
     /// How many bytes of a torn line follow the whole step lines.
     pub torn: usize,
     /// How many bytes of a torn line follow the whole `up` lines.
@@ -122,10 +126,10 @@ impl Running {
     ) -> Result<(), RecordFault>
         requires sixteen { length self.old.shards.items ≡ shard_count }
         requires in_place { AreInPlace self.old.shards.items }
-        ensures run { OnOk result ((net : Network) (before : ℕ) (steps : List Step) (read : List ℕ) → HasRun net before steps read self.old
-            → is_new ≡ nat_le before (length steps) → RunsOn (U.remaining ups.old) (U.remaining ups.new) net before steps line.now read self.new) }
-        ensures fault { IfErr result (λ e. (net : Network) (before : ℕ) (steps : List Step) (read : List ℕ) → HasRun net before steps read self.old
-            → RefusesLine net steps line.now number e) }
+        ensures run { OnOk result ((net : Network) (starts : ℕ → List Entry) (before : ℕ) (steps : List Step) (read : List ℕ) → HasRun net starts before steps read self.old
+            → is_new ≡ nat_le before (length steps) → RunsOn (U.remaining ups.old) (U.remaining ups.new) net starts before steps line.now read self.new) }
+        ensures fault { IfErr result (λ e. (net : Network) (starts : ℕ → List Entry) (before : ℕ) (steps : List Step) (read : List ℕ) → HasRun net starts before steps read self.old
+            → RefusesLine net starts steps line.now number e) }
     {
         let call = call_in(alloc, number, line, room)?;
         self.answer(alloc, number, call)?;
@@ -142,9 +146,10 @@ impl Running {
         }
     }
 
-    // What such a run leaves, where so many bytes of a torn line follow.
-    fn end(self, alloc: Global, torn: usize) -> Result<Resumed, AllocError>
+    // What such a run of so many lines leaves, where so many bytes of a torn line follow.
+    fn end(self, alloc: Global, lines: u64, torn: usize) -> Result<Resumed, AllocError>
         ensures shards { IfOk result (λ r. r.shards.items ≡ self.shards.items) }
+        ensures lines { IfOk result (λ r. r.lines ≡ lines) }
         ensures torn { IfOk result (λ r. r.torn ≡ torn) }
         ensures up_torn { IfOk result (λ r. r.up_torn ≡ self.ups.torn) }
         ensures missing { IfOk result (λ r. r.missing.items ≡ self.ups.missing.items) }
@@ -155,6 +160,7 @@ impl Running {
         let Open { windows, tickets } = open_in(alloc, shards.as_slice())?;
         Ok(Resumed {
             shards,
+            lines,
             torn,
             up_torn: ups.torn,
             missing: ups.missing,
@@ -164,26 +170,25 @@ impl Running {
     }
 }
 
-// Runs the whole lines behind the first one of a record that has a base, and all lines of another.
+// Runs the whole lines that are left of a record at these shards, where the next one has the first number, and so many imply no `up` line.
 fn run_lines<S: BufRead, U: BufRead>(
     alloc: Global,
-    roster: Arc<Roster>,
-    base: &Option<Base>,
+    shards: Vec<Shard>,
+    first: u64,
+    before: u64,
     steps: &mut S,
     ups: &mut U,
 ) -> Result<Resumed, RecordFault>
-    ensures resumed { IfOk result (λ r. (text : List ℕ) × (there : List ℕ)
+    requires { (net : Network) × (starts : ℕ → List Entry) × AreKeptFrom net starts [] shards.items }
+    ensures resumed { IfOk result (λ r. (net : Network) (starts : ℕ → List Entry) → AreKeptFrom net starts [] shards.items → (text : List ℕ) × (there : List ℕ)
         × IsAllOf (S.remaining steps.old) text × IsAllOf (U.remaining ups.old) there
-        × HasRunAll (arc_value roster) (lines_before base.now) text there r) }
-    ensures open { IfOk result (λ r. AreOpenIn r.shards.items r.windows.items r.tickets.items) }
-    ensures fault { IfErr result (NamesLineFrom (arc_value roster) (first_number base.now) (S.remaining steps.old)) }
+        × HasRunFrom net starts before text there r) }
+    ensures open { IfOk result (λ r. (net : Network) (starts : ℕ → List Entry) → IsRoster net → AreHistories net starts → AreKeptFrom net starts [] shards.items
+        → AreOpenIn r.shards.items r.windows.items r.tickets.items) }
+    ensures fault { IfErr result (λ e. (net : Network) (starts : ℕ → List Entry) → AreKeptFrom net starts [] shards.items → NamesLineFrom net starts first (S.remaining steps.old) e) }
 {
-    // A roster that is read is valid: the laws of histories rest on that.
-    let _net_id = roster.net_id();
-    let first = first_number(base);
-    let before = lines_before(base);
     let mut running = Running {
-        shards: new_shards(alloc, roster)?,
+        shards,
         most: [TRIM_FROM; 16],
         ups: Ups::new(alloc),
         uplink: None,
@@ -202,17 +207,18 @@ fn run_lines<S: BufRead, U: BufRead>(
                 return Err(RecordFault::BadBase);
             }
             running.ups.finish(ups)?;
-            return Ok(running.end(alloc, line.len())?);
+            return Ok(running.end(alloc, number - first, line.len())?);
         }
         running.run_line(alloc, number, line.as_slice(), is_new, ups, &mut room)?;
     }
     Err(RecordFault::TooMany)
 }
 
-/// Runs the whole lines of a record at shards without entries, and holds the `up` lines that are there against those that go out, as
-/// far as they reach. Each line is a step line of `replay`, and its reply is one on which later answers rest; a torn last line is told,
-/// and is not run. Where the first line tells a base, the `up` lines of the lines that it tells of are the first bytes there, and are held
-/// against none. It reads both sources to their ends, line by line, and writes nothing.
+/// Runs the whole lines of a record at the shards with which it begins, and compares the `up` lines that are there with those that go out, as
+/// far as they reach. Each line is a step line of `replay`, and its reply is one on which later answers rest. An incomplete last line is
+/// reported, and is not run. A record begins with steps at shards without entries, with a checkpoint, or with the line of a base; the `up`
+/// lines that were written before a checkpoint, or are of the lines that a base counts, are the first bytes there, and are compared with
+/// none. It reads both sources to their ends, line by line, and writes nothing.
 pub fn run_record<S: BufRead, U: BufRead>(
     alloc: Global,
     roster: Arc<Roster>,
@@ -225,7 +231,12 @@ pub fn run_record<S: BufRead, U: BufRead>(
     ensures open { IfOk result (λ r. AreOpenIn r.shards.items r.windows.items r.tickets.items) }
     ensures fault { IfErr result (NamesLine (arc_value roster) (S.remaining steps.old)) }
 {
-    let base = read_base(alloc, steps)?;
-    skip_ups(alloc, ups, ups_before(&base))?;
-    run_lines(alloc, roster, &base, steps, ups)
+    // A roster that is read is valid: the laws of histories rest on that.
+    let _net_id = roster.net_id();
+    let (head, shards) = begin_record(alloc, roster, steps)?;
+    skip_ups(alloc, ups, head.ups_before())?;
+    let Some(first) = head.first_number() else {
+        return Err(RecordFault::TooMany);
+    };
+    run_lines(alloc, shards, first, head.lines_before(), steps, ups)
 }

@@ -22,34 +22,36 @@ use Rattle.ns_runs.specs.declared.run.Taken.{Taken}
 use Rattle.ns_runs.specs.declared.run.Taken.TheVariants.{Made}
 use Rattle.ns_acts.specs.declared.step.Step.{Step}
 use Rattle.ns_runs.specs.NextRun.{greatest_among, greatest_after}
-use Rattle.ns_runs.specs.KeptSteps.{AreInPlace, IsKeptAfter, AreKeptAfter}
+use Rattle.ns_runs.specs.KeptSteps.{AreInPlace, IsKeptFrom, AreKeptFrom, IsKeptAfter, AreKeptAfter}
 use Rattle.ns_runs.specs.Private.Run.{refused_as, taken_in, states_after}
 use Rattle.ns_shard.specs.State.{State, Keeps, MayBeTrimmed, after_call, after_trim, answer_in, remains, seen, known_greatest, greatest_in}
-use Rattle.ns_runs.specs.Steps.{shard_history, call_taken, step_taken, state_after, AreAfter}
+use Rattle.ns_runs.specs.Steps.{shard_history_from, no_starts, shard_history, call_taken, step_taken, state_after, AreAfter}
 use Rattle.ns_acts.specs.Calls.{call_of}
 use Rattle.ns_shard.proofs.Entries.{keeps-more, answer-is}
 use Rattle.ns_runs.proofs.RunHistories.{shard_history-is}
-use Rattle.ns_runs.proofs.RunSteps.{one_call, shard_history-other, shard_history-own, shard_small}
+use Rattle.ns_runs.proofs.RunSteps.{one_call, history_from-other, history_from-own, shard_small}
 
 -- ---- one shard
 
 -- a shard on which a step makes no call
-kept-other : (net : Network) (steps : List Step) (step : Step) (k : ℕ) (s : State) → one_call k (call_of step.act) ≡ [] → IsKeptAfter net steps k s → IsKeptAfter net (steps ++ step ∷ []) k s
-kept-other net steps step k s none is = record {
+kept-other : (net : Network) (starts : ℕ → List Entry) (steps : List Step) (step : Step) (k : ℕ) (s : State) → one_call k (call_of step.act) ≡ [] → IsKeptFrom net starts steps k s
+    → IsKeptFrom net starts (steps ++ step ∷ []) k s
+kept-other net starts steps step k s none is = record {
   roster = is.roster;
   index = is.index;
-  keeps = subst (λ h. Keeps h s) (sym (shard_history-other net k steps step none)) is.keeps;
+  keeps = subst (λ h. Keeps h s) (sym (history_from-other net starts k steps step none)) is.keeps;
 }
 
 -- the shard on which it makes one
-kept-own : (net : Network) (steps : List Step) (step : Step) (c : Call) (k : ℕ) (s : State) → one_call k (call_of step.act) ≡ c ∷ [] → IsKeptAfter net steps k s → IsKeptAfter net (steps ++ step ∷ []) k (after_call s c)
-kept-own net steps step c k s one is =
-    let h : List Entry = shard_history net k steps in
+kept-own : (net : Network) (starts : ℕ → List Entry) (steps : List Step) (step : Step) (c : Call) (k : ℕ) (s : State) → one_call k (call_of step.act) ≡ c ∷ [] → IsKeptFrom net starts steps k s
+    → IsKeptFrom net starts (steps ++ step ∷ []) k (after_call s c)
+kept-own net starts steps step c k s one is =
+    let h : List Entry = shard_history_from net starts k steps in
     record {
       roster = is.roster;
       index = is.index;
       keeps =
-          subst (λ x. Keeps x (after_call s c)) (sym (shard_history-own net k steps step c one))
+          subst (λ x. Keeps x (after_call s c)) (sym (history_from-own net starts k steps step c one))
           (subst (λ n. Keeps (with_call n h (length h) c) (after_call s c)) is.roster (keeps-more h s c is.keeps));
     }
 
@@ -60,15 +62,18 @@ keeps-trim h s keeps = record {
 }
 
 -- a shard that may have been trimmed
-kept-trimmed : (net : Network) (steps : List Step) (k : ℕ) (s t : State) → MayBeTrimmed s t → IsKeptAfter net steps k s → IsKeptAfter net steps k t
-kept-trimmed net steps k s t (inl same) is = subst (IsKeptAfter net steps k) (sym same) is
-kept-trimmed net steps k s t (inr trimmed) is =
-    subst (IsKeptAfter net steps k) (sym trimmed) (record { roster = is.roster; index = is.index; keeps = keeps-trim (shard_history net k steps) s is.keeps })
+kept-trimmed : (net : Network) (starts : ℕ → List Entry) (steps : List Step) (k : ℕ) (s t : State) → MayBeTrimmed s t → IsKeptFrom net starts steps k s → IsKeptFrom net starts steps k t
+kept-trimmed net starts steps k s t (inl same) is = subst (IsKeptFrom net starts steps k) (sym same) is
+kept-trimmed net starts steps k s t (inr trimmed) is =
+    subst (IsKeptFrom net starts steps k) (sym trimmed) (record { roster = is.roster; index = is.index; keeps = keeps-trim (shard_history_from net starts k steps) s is.keeps })
 
 -- ---- all shards
 
+pub in_place_from : (net : Network) (starts : ℕ → List Entry) (steps : List Step) (shards : List State) → AreKeptFrom net starts steps shards → AreInPlace shards
+in_place_from net starts steps shards are k s at = (are.each k s at).index
+
 pub in_place : (net : Network) (steps : List Step) (shards : List State) → AreKeptAfter net steps shards → AreInPlace shards
-in_place net steps shards are k s at = (are.each k s at).index
+in_place net steps shards are = in_place_from net no_starts steps shards are
 
 keeps-whole : (net : Network) (k : ℕ) (steps : List Step) → Keeps (shard_history net k steps) (state_after net k steps)
 keeps-whole net k steps =
@@ -93,15 +98,15 @@ kept-set net steps shards own s t are at trimmed = record {
   each = λ k u found. elim (eqb_tells own k) [
     | inl same ↦
         let is : t ≡ u = same_Some t u (sym (slice_get-set_same shards own s t at) ∙ (ap (slice_get (slice_set shards own t)) same.1 ∙ found)) in
-        subst (λ n. IsKeptAfter net steps n u) same.1 (subst (IsKeptAfter net steps own) is (kept-trimmed net steps own s t trimmed (are.each own s at)))
+        subst (λ n. IsKeptAfter net steps n u) same.1 (subst (IsKeptAfter net steps own) is (kept-trimmed net no_starts steps own s t trimmed (are.each own s at)))
     | inr other ↦ are.each k u (sym (slice_get-set_other shards own k t (λ e. other.1 (sym e))) ∙ found)
   ];
 }
 
 -- the shards after a step that makes this call, whose shard may have been trimmed then
-pub kept-called : (net : Network) (steps : List Step) (step : Step) (shards : List State) (c : Call) (s t : State) → AreKeptAfter net steps shards → call_of step.act ≡ Ok c
-    → slice_get shards (shard_of_call c) ≡ Some s → MayBeTrimmed (after_call s c) t → AreKeptAfter net (steps ++ step ∷ []) (slice_set shards (shard_of_call c) t)
-kept-called net steps step shards c s t are made at trimmed =
+pub kept_from-called : (net : Network) (starts : ℕ → List Entry) (steps : List Step) (step : Step) (shards : List State) (c : Call) (s t : State) → AreKeptFrom net starts steps shards
+    → call_of step.act ≡ Ok c → slice_get shards (shard_of_call c) ≡ Some s → MayBeTrimmed (after_call s c) t → AreKeptFrom net starts (steps ++ step ∷ []) (slice_set shards (shard_of_call c) t)
+kept_from-called net starts steps step shards c s t are made at trimmed =
     let own : ℕ = shard_of_call c in
     let all : List Step = steps ++ step ∷ [] in
     let calls : (k : ℕ) → one_call k (call_of step.act) ≡ cond (eqb own k) (c ∷ []) [] = λ k. ap (one_call k) made in
@@ -111,13 +116,17 @@ kept-called net steps step shards c s t are made at trimmed =
         | inl same ↦
             let one : one_call own (call_of step.act) ≡ c ∷ [] = calls own ∙ ap (λ b. cond {A = List Call} b (c ∷ []) []) (eq-eqb own own refl) in
             let is : t ≡ u = same_Some t u (sym (slice_get-set_same shards own s t at) ∙ (ap (slice_get (slice_set shards own t)) same.1 ∙ found)) in
-            subst (λ n. IsKeptAfter net all n u) same.1
-            (subst (IsKeptAfter net all own) is (kept-trimmed net all own (after_call s c) t trimmed (kept-own net steps step c own s one (are.each own s at))))
+            subst (λ n. IsKeptFrom net starts all n u) same.1
+            (subst (IsKeptFrom net starts all own) is (kept-trimmed net starts all own (after_call s c) t trimmed (kept-own net starts steps step c own s one (are.each own s at))))
         | inr other ↦
             let none : one_call k (call_of step.act) ≡ [] = calls k ∙ ap (λ b. cond {A = List Call} b (c ∷ []) []) other.0 in
-            kept-other net steps step k u none (are.each k u (sym (slice_get-set_other shards own k t (λ e. other.1 (sym e))) ∙ found))
+            kept-other net starts steps step k u none (are.each k u (sym (slice_get-set_other shards own k t (λ e. other.1 (sym e))) ∙ found))
       ];
     }
+
+pub kept-called : (net : Network) (steps : List Step) (step : Step) (shards : List State) (c : Call) (s t : State) → AreKeptAfter net steps shards → call_of step.act ≡ Ok c
+    → slice_get shards (shard_of_call c) ≡ Some s → MayBeTrimmed (after_call s c) t → AreKeptAfter net (steps ++ step ∷ []) (slice_set shards (shard_of_call c) t)
+kept-called net steps step shards c s t are made at trimmed = kept_from-called net no_starts steps step shards c s t are made at trimmed
 
 -- the shards after a step that makes no call
 kept-refused : (net : Network) (before : List Step) (step : Step) (shards : List State) → AreKeptAfter net before shards → result_ok (call_of step.act) ≡ None → AreKeptAfter net (before ++ step ∷ []) shards
@@ -125,7 +134,7 @@ kept-refused net before step shards are none = record {
   sixteen = are.sixteen;
   each = λ k s at.
       let no_call : one_call k (call_of step.act) ≡ [] = ap (λ o. filter (λ c. eqb (shard_of_call c) k) (option_to_list o)) none in
-      kept-other net before step k s no_call (are.each k s at);
+      kept-other net no_starts before step k s no_call (are.each k s at);
 }
 
 -- the shard of this number is there

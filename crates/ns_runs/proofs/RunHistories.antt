@@ -33,7 +33,8 @@ use Rattle.ns_runs.specs.declared.run.Taken.{Taken}
 use Rattle.ns_shard.specs.State.{State}
 use Rattle.ns_acts.specs.Calls.{call_of}
 use Rattle.ns_runs.specs.Taken.{calls_of, OfEach, HandsOut}
-use Rattle.ns_runs.specs.Steps.{shard_history, call_taken, all_taken, state_after, AreAfter}
+use Rattle.ns_runs.specs.KeptSteps.{AreHistories}
+use Rattle.ns_runs.specs.Steps.{shard_history_from, no_starts, shard_history, call_taken, all_taken, state_after, AreAfter}
 use Rattle.ns_runs.specs.NextRun.{greatest_after, closing_roster, accepted_by}
 use Rattle.ns_calls.proofs.Lists.{All-weaker}
 use Rattle.std.proofs.lemmas.Bool.{eqb-true}
@@ -54,8 +55,14 @@ own_calls shard calls =
     let own : Call → Bool = λ c. eqb (shard_of_call c) shard in
     All-weaker (λ (c : Call). own c ≡ true) (λ (c : Call). shard_of_call c ≡ shard) (λ c is. eqb-true (shard_of_call c) shard is) (filter own calls) (recursion_from_All (λ (c : Call). own c ≡ true) (filter own calls) (filter_passes own calls))
 
+pub history_from-is : (net : Network) (starts : ℕ → List Entry) → AreHistories net starts → (shard : ℕ) (steps : List Step) → IsHistory net shard (shard_history_from net starts shard steps)
+history_from-is net starts are shard steps = is_history net shard (starts shard) (calls_of shard steps) (own_calls shard _) (are shard)
+
+pub no_histories : (net : Network) → AreHistories net no_starts
+no_histories net shard = history_none net shard
+
 pub shard_history-is : (net : Network) (shard : ℕ) (steps : List Step) → IsHistory net shard (shard_history net shard steps)
-shard_history-is net shard steps = is_history net shard [] (calls_of shard steps) (own_calls shard _) (history_none net shard)
+shard_history-is net shard steps = history_from-is net no_starts (no_histories net) shard steps
 
 -- the entries of a shard after steps
 pub entries-after : (net : Network) (steps : List Step) (shards : List State) → AreAfter net steps shards → (shard : ℕ) (s : State) → slice_get shards shard ≡ Some s → shard_history net shard steps ≡ s.entries

@@ -12,14 +12,14 @@ use Rattle.ns_calls.specs.Steps.{Refusal, link, view}
 use Rattle.ns_calls.specs.Shards.{shard_of_call}
 use Rattle.ns_calls.specs.Legal.{entry_for, with_call}
 use Rattle.ns_kept.proofs.ReadLemmas.{reading-whole}
-use Rattle.ns_calls.specs.Runs.{history_after, history_of}
+use Rattle.ns_calls.specs.Runs.{history_after}
 use Rattle.ns_calls.proofs.MergeLemmas.{slice_get-set_other, slice_get-set_same}
 use Rattle.ns_runs.specs.declared.run.Taken.{Taken}
 use Rattle.ns_acts.specs.declared.step.Step.{Step}
 use Rattle.ns_shard.specs.State.{State, after_call}
 use Rattle.ns_acts.specs.Calls.{call_of}
 use Rattle.ns_runs.specs.Taken.{calls_of}
-use Rattle.ns_runs.specs.Steps.{shard_history, step_taken, all_taken, state_after, AreAfter}
+use Rattle.ns_runs.specs.Steps.{shard_history_from, no_starts, shard_history, step_taken, all_taken, state_after, AreAfter}
 use Rattle.ns_runs.specs.Private.Run.{refused_as, states_after}
 use Rattle.ns_calls.proofs.Lists.{one_more}
 
@@ -46,15 +46,23 @@ calls_of-push shard steps step =
     ∙ ap (λ cs. calls_of shard steps ++ filter own cs) (one_more (λ (s : Step). result_ok (call_of s.act)) step)
 
 -- a step that makes no call on a shard
+pub history_from-other : (net : Network) (starts : ℕ → List Entry) (shard : ℕ) (steps : List Step) (step : Step) → one_call shard (call_of step.act) ≡ []
+    → shard_history_from net starts shard (steps ++ step ∷ []) ≡ shard_history_from net starts shard steps
+history_from-other net starts shard steps step none =
+    ap (history_after net (starts shard)) (calls_of-push shard steps step ∙ (ap (λ cs. calls_of shard steps ++ cs) none ∙ append-nil (calls_of shard steps)))
+
 pub shard_history-other : (net : Network) (shard : ℕ) (steps : List Step) (step : Step) → one_call shard (call_of step.act) ≡ [] → shard_history net shard (steps ++ step ∷ []) ≡ shard_history net shard steps
-shard_history-other net shard steps step none =
-    ap (history_of net) (calls_of-push shard steps step ∙ (ap (λ cs. calls_of shard steps ++ cs) none ∙ append-nil (calls_of shard steps)))
+shard_history-other net shard steps step none = history_from-other net no_starts shard steps step none
 
 -- a step that makes a call on a shard
+pub history_from-own : (net : Network) (starts : ℕ → List Entry) (shard : ℕ) (steps : List Step) (step : Step) (c : Call) → one_call shard (call_of step.act) ≡ c ∷ [] →
+    let h = shard_history_from net starts shard steps in shard_history_from net starts shard (steps ++ step ∷ []) ≡ with_call net h (length h) c
+history_from-own net starts shard steps step c one =
+    ap (history_after net (starts shard)) (calls_of-push shard steps step ∙ ap (λ cs. calls_of shard steps ++ cs) one) ∙ history-joined net (starts shard) (calls_of shard steps) (c ∷ [])
+
 pub shard_history-own : (net : Network) (shard : ℕ) (steps : List Step) (step : Step) (c : Call) → one_call shard (call_of step.act) ≡ c ∷ [] →
     let h = shard_history net shard steps in shard_history net shard (steps ++ step ∷ []) ≡ with_call net h (length h) c
-shard_history-own net shard steps step c one =
-    ap (history_of net) (calls_of-push shard steps step ∙ ap (λ cs. calls_of shard steps ++ cs) one) ∙ history-joined net [] (calls_of shard steps) (c ∷ [])
+shard_history-own net shard steps step c one = history_from-own net no_starts shard steps step c one
 
 state_after-other : (net : Network) (shard : ℕ) (steps : List Step) (step : Step) → one_call shard (call_of step.act) ≡ [] → state_after net shard (steps ++ step ∷ []) ≡ state_after net shard steps
 state_after-other net shard steps step none =

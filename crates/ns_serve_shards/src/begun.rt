@@ -81,6 +81,7 @@ impl Begun {
         log_resumed(log, &resumed);
         let Resumed {
             shards,
+            lines: _,
             torn,
             up_torn,
             missing,

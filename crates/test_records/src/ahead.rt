@@ -3,7 +3,7 @@
 use crate::folder::{has, make};
 use crate::place;
 use crate::rows::holds;
-use crate::worked::{BASE, TORN, TORN_UP, roster_of};
+use crate::worked::{BASE, CHECKPOINT, TORN, TORN_UP, roster_of};
 use ns_compact::Folder;
 use ns_device::worked::{CLOSE, CONFIRMED, JOIN, KEPT_ANSWER, ROSTER, UP};
 use ns_log::Discard;
@@ -12,10 +12,6 @@ use ns_resume::RecordFault;
 use std::fs::File;
 use std::io;
 use std::rt::Files;
-
-// The confirmed uplink with counter 2, without port and payload, heard by no gateway, as `tools/device.py` makes its frame.
-const MADE_UP: &str =
-    "heard 01010000000000000000000000000000000033be27a000000000000c80f17dbe49000200b473f19e\n";
 
 // Lets the steps of a folder catch up.
 fn recovered<R: Files<File = File> + AllocGlobal>(rt: &R, path: &str) -> Result<(), RecordFault> {
@@ -44,26 +40,22 @@ type Row = (
 
 const ROWS: &[Row] = &[
     // The window is open: it is closed.
-    (
-        &[JOIN, KEPT_ANSWER, CONFIRMED],
-        &[UP],
-        &[BASE, JOIN, KEPT_ANSWER, CONFIRMED, CLOSE],
-        &[UP],
-    ),
+    (&[JOIN, KEPT_ANSWER, CONFIRMED], &[UP], &[CHECKPOINT], &[UP]),
     // No step tells the uplink.
     (
         &[JOIN, KEPT_ANSWER, TORN],
         &[UP, TORN_UP],
-        &[BASE, JOIN, KEPT_ANSWER, MADE_UP, CLOSE],
+        &[CHECKPOINT],
         &[UP],
     ),
-    // The base has the line already.
+    // The base has the line already, or the checkpoint.
     (
         &[BASE, JOIN, KEPT_ANSWER, CONFIRMED, CLOSE],
         &[UP, TORN_UP],
-        &[BASE, JOIN, KEPT_ANSWER, CONFIRMED, CLOSE],
+        &[CHECKPOINT],
         &[UP],
     ),
+    (&[CHECKPOINT], &[UP, TORN_UP], &[CHECKPOINT], &[UP]),
 ];
 
 // Whether a record becomes what its row says.

@@ -1,7 +1,7 @@
 //! The record of a folder with which no server goes on, made shorter.
 
 use crate::rows::holds;
-use crate::worked::{ASKED, BASE, TORN, TORN_UP, roster_of};
+use crate::worked::{ASKED, BASE, CHECKPOINT, TORN, TORN_UP, roster_of};
 use ns_compact::Folder;
 use ns_device::worked::{CLOSE, CONFIRMED, JOIN, KEPT_ANSWER, ROSTER, UP};
 use ns_log::Discard;
@@ -145,12 +145,27 @@ const OF_80: &[&str] = &[
 ];
 
 const ROWS: &[Row] = &[
-    // Lines that are not needed and torn ends are gone, the `up` line that was missing is there, and it is told how many lines there were.
+    // A checkpoint is in the place of the steps, incomplete ends are gone, the missing `up` line is there, and the lines are counted.
     (
         &[JOIN, KEPT_ANSWER, CONFIRMED, CLOSE, ASKED, "x\n", TORN],
         &[TORN_UP],
-        Ok((6, 4)),
+        Ok((6, 19)),
+        &[CHECKPOINT],
+        &[UP],
+    ),
+    // So it is of a record that has a checkpoint or a base, with and without steps after it.
+    (
+        &[CHECKPOINT, ASKED, "x\n"],
+        &[UP],
+        Ok((2, 19)),
+        &[CHECKPOINT],
+        &[UP],
+    ),
+    (
         &[BASE, JOIN, KEPT_ANSWER, CONFIRMED, CLOSE],
+        &[UP],
+        Ok((4, 19)),
+        &[CHECKPOINT],
         &[UP],
     ),
     // A record whose `up` lines end, or go on, where its base tells of another number of bytes stays as it is.

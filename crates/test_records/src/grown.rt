@@ -2,10 +2,10 @@
 
 use crate::folder::{Place, bytes_of, make, text_of};
 use crate::place;
-use crate::worked::{ASKED, BASE, roster_of};
+use crate::worked::{ASKED, BASE, CHECKPOINT, roster_of};
 use ns_compact::{Folder, Keeper};
 use ns_device::logged::{Kept, Lines};
-use ns_device::worked::{CLOSE, CONFIRMED, JOIN, KEPT_ANSWER, ROSTER, UP};
+use ns_device::worked::{CLOSE, CONFIRMED, JOIN, KEPT_ANSWER, ROSTER, UNKNOWN, UP};
 use ns_record_files::{RecordFiles, RecordWriter, Recorder, Upkeep};
 use std::alloc::{AllocError, Global};
 use std::fs::File;
@@ -189,8 +189,7 @@ fn others_stay(rt: HostRuntime) {
 // What was logged where a record that has grown becomes small.
 fn log_of_grown<R: Files<File = File> + Wait + AllocGlobal>(rt: &R) -> Option<Vec<u8>> {
     let steps = joins(rt.alloc(), BASE, 64).ok()?;
-    let mut wanted = joins(rt.alloc(), BASE, 0).ok()?;
-    wanted.extend_from_slice(CONFIRMED.as_bytes()).ok()?;
+    let wanted = text_of(rt.alloc(), &[CHECKPOINT, CONFIRMED]).ok()?;
     let grown = Grown {
         place: place!("test_records_grown"),
         before: &[],
@@ -204,7 +203,7 @@ fn log_of_grown<R: Files<File = File> + Wait + AllocGlobal>(rt: &R) -> Option<Ve
 /// Those of 4 MiB behind what a compaction left become few, once, and lines that come in the meantime follow them.
 #[test]
 fn grown_records_become_small(rt: HostRuntime) {
-    let wanted = b"[INFO  ns_compact::keeper] record: compacted 132 4\n";
+    let wanted = b"[INFO  ns_compact::keeper] record: compacted 132 19\n";
     let is_so = match log_of_grown(&rt) {
         Some(log) => log.as_slice() == wanted.as_slice(),
         None => false,
@@ -212,9 +211,9 @@ fn grown_records_become_small(rt: HostRuntime) {
     assert!(rt; is_so);
 }
 
-// The closing of a window that is not open, which fits no record, and these bytes.
+// The Join-Request of a device that the roster does not have, which fits no record, and these bytes.
 fn unfit(alloc: Global, steps: &[u8]) -> Result<Vec<u8>, AllocError> {
-    let mut unfit = text_of(alloc, &[CLOSE])?;
+    let mut unfit = text_of(alloc, &[UNKNOWN])?;
     unfit.extend_from_slice(steps)?;
     Ok(unfit)
 }
@@ -226,7 +225,7 @@ fn log_of_unfit<R: Files<File = File> + Wait + AllocGlobal>(
     steps: &[u8],
 ) -> Option<Vec<u8>> {
     let unfit = unfit(rt.alloc(), steps).ok()?;
-    let wanted = joins(rt.alloc(), BASE, 0).ok()?;
+    let wanted = text_of(rt.alloc(), &[CHECKPOINT]).ok()?;
     let grown = Grown {
         place: place!("test_records_unfit"),
         before: &[
@@ -246,7 +245,7 @@ fn log_of_unfit<R: Files<File = File> + Wait + AllocGlobal>(
 const LOG_OF_UNFIT: &str =
     "[ERROR ns_compact::keeper] test_records_unfit: not compacted: record: line 1 does not fit the roster, 1 in a row
 [ERROR ns_compact::keeper] test_records_unfit: not compacted: record: line 1 does not fit the roster, 2 in a row
-[INFO  ns_compact::keeper] record: compacted 132 4
+[INFO  ns_compact::keeper] record: compacted 132 19
 ";
 
 /// Where it cannot be done they stay as they are, an error is logged, and it is tried again after a minute of looks, then after two.

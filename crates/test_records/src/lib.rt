@@ -1,7 +1,7 @@
 //! Tests of records, of what no text of a worked run can say.
 //!
-//! The lines of calls (ns_record), a start from a record (ns_resume), and compactions (ns_compact): which lines stay, that a
-//! server goes on the same after them, that too few lines are told as such, what is left of the files of a folder, also where `up` lines
+//! The lines of calls (ns_record), a start from a record (ns_resume), and compactions (ns_compact): that a
+//! server goes on the same after them, that the checkpoint of another server is not taken, what is left of the files of a folder, also where `up` lines
 //! are missing or ahead of the steps, and when the record of a server that runs is compacted, and tried again. Also streams that fail and memory that is refused to
 //! a whole `replay`, and the texts of faults and keys.
 //!
@@ -12,8 +12,6 @@
 mod ahead;
 #[cfg(test)]
 mod checkpoint;
-#[cfg(test)]
-mod chosen;
 #[cfg(test)]
 mod folder;
 #[cfg(test)]
@@ -30,6 +28,8 @@ mod rows;
 mod start;
 #[cfg(test)]
 mod streams;
+#[cfg(test)]
+mod taken;
 #[cfg(test)]
 mod texts;
 #[cfg(test)]

@@ -2,15 +2,14 @@
 
 use crate::worked::roster_of;
 use ns_calls::{Answer, Call, Reply, shard_of_call};
-use ns_compact::{Shortened, serves_as_well, shorten};
+use ns_compact::{serves_as_well, write_shards};
 use ns_lines::{lines, up_line};
 use ns_record::{matters, step_line};
-use ns_resume::{Base, RecordFault, Resumed, base_line, run_record};
+use ns_resume::{RecordFault, Resumed, run_record};
 use ns_roster::Roster;
 use ns_shard::Shard;
 use std::alloc::Global;
 use std::io::BufReader;
-use std::str;
 use std::sync::Arc;
 
 // How many bytes of a file are read at once: few, so that lines stand in several pieces.
@@ -30,14 +29,6 @@ pub struct Life {
     pub ups: Vec<u8>,
     /// The lines of all answers.
     pub said: String,
-}
-
-/// Fewer lines than those of a record, without the line that tells the base.
-#[derive(Drop)]
-pub struct Fewer {
-    left: Shortened,
-    /// The lines.
-    pub lines: Vec<u8>,
 }
 
 // The roster, and readers of the files of a record.
@@ -136,67 +127,42 @@ impl Life {
         }
     }
 
-    /// Fewer lines that serve as well as those of the record.
-    pub fn fewer(&self) -> Result<Fewer, RecordFault> {
-        let mut lines = Vec::new(self.alloc);
-        let left = self.shortened(&mut lines)?;
-        Ok(Fewer { left, lines })
-    }
-
-    // Writes the fewer lines.
-    fn shortened(&self, lines: &mut Vec<u8>) -> Result<Shortened, RecordFault> {
-        let (steps, ups) = (self.steps.as_slice(), self.ups.as_slice());
-        let mut again = BufReader::with_capacity(self.alloc, PIECE, steps)?;
-        let Ready {
-            roster,
-            mut steps,
-            mut ups,
-        } = begin(self.alloc, &self.roster, PIECE, steps, ups)?;
-        shorten(self.alloc, roster, &mut steps, &mut ups, &mut again, lines)
-    }
-
-    // The record that these lines begin, of which so many bytes are left out.
-    fn text_of(&self, lines: &str) -> Result<Vec<u8>, RecordFault> {
-        let base = Base {
-            lines: lines.lines().count() as u64,
-            ups: self.ups.len() as u64,
-        };
+    /// The checkpoint of the server.
+    pub fn checkpoint(&self) -> Result<Vec<u8>, RecordFault> {
         let mut text = Vec::new(self.alloc);
-        Life::put(&mut text, base_line(&base).as_str())?;
-        text.extend_from_slice(lines.as_bytes())?;
+        let ups = self.ups.len() as u64;
+        write_shards(self.alloc, self.shards.as_slice(), ups, &mut text)?;
         Ok(text)
     }
 
-    /// Whether these lines serve as well as those of the record, of which `fewer` is what is left. Where they do they are taken.
-    pub fn take(&mut self, fewer: &Fewer, lines: &str) -> Result<bool, RecordFault> {
-        let text = self.text_of(lines)?;
-        if !self.serves(fewer, text.as_slice())? {
-            return Ok(false);
-        }
-        self.steps = text;
-        Ok(true)
-    }
-
-    // Whether these steps serve as well.
-    fn serves(&self, fewer: &Fewer, steps: &[u8]) -> Result<bool, RecordFault> {
+    // Whether a start from these steps serves as well as the server.
+    fn serves(&self, steps: &[u8]) -> Result<bool, RecordFault> {
         let Ready {
             roster,
             mut steps,
             mut ups,
         } = begin(self.alloc, &self.roster, PIECE, steps, self.ups.as_slice())?;
-        let old = fewer.left.shards.as_slice();
-        serves_as_well(self.alloc, roster, old, &mut steps, &mut ups)
-    }
-}
-
-impl Fewer {
-    /// The lines as text.
-    pub fn text(&self) -> &str {
-        str::from_utf8(self.lines.as_slice()).unwrap_or("")
+        let shards = self.shards.as_slice();
+        serves_as_well(self.alloc, roster, shards, &mut steps, &mut ups)
     }
 
-    /// How many lines the record has more than these.
-    pub fn saved(&self) -> u64 {
-        self.left.lines.saturating_sub(self.left.written)
+    /// Takes this text in the place of the record, if a start from it serves as well, and says so.
+    pub fn take(&mut self, text: Vec<u8>) -> Result<bool, RecordFault> {
+        let is_as_well = self.serves(text.as_slice())?;
+        if is_as_well {
+            self.steps = text;
+        }
+        Ok(is_as_well)
+    }
+
+    /// The number of lines of the steps.
+    pub fn lines(&self) -> u64 {
+        let mut lines = 0u64;
+        for byte in &self.steps {
+            if *byte == b'\n' {
+                lines = lines.saturating_add(1);
+            }
+        }
+        lines
     }
 }

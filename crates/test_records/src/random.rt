@@ -190,14 +190,15 @@ impl Network {
         }
     }
 
-    // Compacts the record, and goes on with it. Gives how many lines it has less, if the fewer serve as well.
+    // Puts a checkpoint in the place of the record, and goes on with it. Gives how many lines it has less, if that serves as well.
     fn compact(&mut self) -> Result<Option<u64>, RecordFault> {
-        let fewer = self.life.fewer()?;
-        if !self.life.take(&fewer, fewer.text())? {
+        let before = self.life.lines();
+        let text = self.life.checkpoint()?;
+        if !self.life.take(text)? {
             return Ok(None);
         }
         self.life.restart()?;
-        Ok(Some(fewer.saved()))
+        Ok(Some(before.saturating_sub(self.life.lines())))
     }
 }
 
@@ -225,7 +226,7 @@ impl Both {
     }
 }
 
-// How many lines four compactions leave out. None where a later answer changed, or fewer lines did not serve as well.
+// How many lines four compactions leave out. None if a later answer changed, or a checkpoint did not serve as well.
 fn saved(alloc: Global, seed: u32) -> Result<Option<u64>, RecordFault> {
     let plain = Network::new(alloc, seed)?;
     let other = Network::new(alloc, seed)?;

@@ -3,6 +3,7 @@ use Rattle.std.specs.Prelude.{◌≡◌, ℕ, false, List, slice_get, None, Some
 use Rattle.std.specs.Result.{result_ok}
 use Rattle.ns_roster.specs.Network.{Network}
 use Rattle.ns_calls.specs.declared.call.Call.{Call}
+use Rattle.ns_calls.specs.declared.call.Entry.{Entry}
 use Rattle.ns_calls.specs.Shards.{shard_of_call}
 use Rattle.ns_recorded.specs.Recorded.{matters}
 use Rattle.ns_acts.specs.declared.step.Act.{Act}
@@ -33,7 +34,7 @@ DoesNotMatter shards c number (NoFit n) = (n ≡ number) × ((s : State) × (sli
 DoesNotMatter shards c number _ = Unit {0}
 
 -- where it names one, the line of this number is not run after these steps
-abbrev pub RefusesLine : Network → List Step → List ℕ → ℕ → RecordFault → Type 0
-RefusesLine net steps line number (NoStep n) = (n ≡ number) × IsNoStep steps line
-RefusesLine net steps line number (NoFit n) = (n ≡ number) × DoesNotFit net steps line
-RefusesLine net steps line number _ = Unit {0}
+abbrev pub RefusesLine : Network → (ℕ → List Entry) → List Step → List ℕ → ℕ → RecordFault → Type 0
+RefusesLine net starts steps line number (NoStep n) = (n ≡ number) × IsNoStep steps line
+RefusesLine net starts steps line number (NoFit n) = (n ≡ number) × DoesNotFit net starts steps line
+RefusesLine net starts steps line number _ = Unit {0}

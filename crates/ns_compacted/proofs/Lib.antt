@@ -1,2 +1,0 @@
-pub mod Trimmed
-pub mod Lives
