@@ -53,10 +53,8 @@ class Function:
     end: int
 
     def path(self):
-        """How a check names it, without the crate, as far as its end goes."""
-        module = re.sub(r"\.rt$", "", self.file).removeprefix("src/").replace("/", "::")
-        parts = ([] if module in ("lib", "main") else [module]) + ([self.owner] if self.owner else []) + [self.name]
-        return "::".join(parts)
+        """Its name with that of its type, or of its type and trait, if it has one."""
+        return f"{self.owner}::{self.name}" if self.owner else self.name
 
 
 @dataclass(frozen=True)
