@@ -1,6 +1,7 @@
 //! What is known of gateways whose forwarders were heard.
 
-ghost use Rattle.std.specs.Prelude.{◌≡◌, [], Some, nat_eq, IfOk, OnOk, OnErr};
+ghost use Rattle.std.specs.Prelude.{◌≡◌, [], Some, nat_eq, IfOk, IfSome, OnOk, OnErr};
+ghost use Rattle.std.specs.Option.{option_map};
 ghost use Rattle.std.specs.NonZero.{non_zero_usize_get};
 ghost use Rattle.ns_forwarder_socket.specs.Gateways.{known, most_known, gateway_at, with_gateway, after_reading, after_asking, after_taking};
 
@@ -21,6 +22,13 @@ const MOST: usize = 65_536;
 pub struct Route {
     pub addr: SocketAddr,
     pub version: u8,
+}
+
+/// Where downlinks for a gateway go, with its whole number. Only the look-up of that number makes one.
+#[derive(Clone, Copy)]
+pub struct RouteTo {
+    gateway: GatewayId,
+    pub(crate) route: Route,
 }
 
 /// What is known of a gateway.
@@ -69,6 +77,15 @@ impl Gateways {
                 route: None,
             },
         }
+    }
+
+    /// Where downlinks for a gateway go, if it has asked for any.
+    pub fn route_to(&self, gateway: GatewayId) -> Option<RouteTo>
+        ensures gateway { IfSome result (λ r. r.gateway ≡ gateway) }
+        ensures route { option_map (λ r. r.route) result ≡ (gateway_at self.now gateway.0).route }
+    {
+        let route = self.gateway(gateway).route?;
+        Some(RouteTo { gateway, route })
     }
 
     // This is known of a gateway from now on.

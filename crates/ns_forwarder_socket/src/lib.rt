@@ -14,7 +14,7 @@ mod socket;
 mod taken;
 
 pub use crate::counts::{ForwarderCounts, outcome_name};
-pub use crate::gateways::{Gateway, Gateways, Route};
+pub use crate::gateways::{Gateway, Gateways, Route, RouteTo};
 pub use crate::pending::{Heard, Pending};
 pub use crate::socket::{Event, Forwarders};
 pub use crate::taken::{Taken, take};

@@ -5,7 +5,7 @@ ghost use Rattle.ns_forwarder_socket.specs.Event.{FitsBuffer, IsEventOf};
 ghost use Rattle.ns_forwarder_socket.specs.Token.{token_of};
 
 use crate::counts::ForwarderCounts;
-use crate::gateways::{Gateways, Route};
+use crate::gateways::{Gateways, RouteTo};
 use crate::pending::{Heard, Pending};
 use crate::taken::{Taken, take};
 use ns_forwarder::{ForwarderFault, Head, Outcome, pull_resp, read_message};
@@ -210,15 +210,19 @@ impl Forwarders {
     }
 
     /// Where downlinks for a gateway go, where it has asked for any.
-    pub fn route<R: Wait>(&self, rt: &R, gateway: GatewayId) -> Option<Route> {
-        self.gateways.lock(rt).gateway(gateway).route
+    pub fn route<R: Wait>(&self, rt: &R, gateway: GatewayId) -> Option<RouteTo>
+        ensures { IfSome result (λ r. r.gateway ≡ gateway) }
+    {
+        self.gateways.lock(rt).route_to(gateway)
     }
 
-    /// Sends a frame of at most 255 bytes there, and says whether it was sent: not where its frequency or its data rate is not of EU868,
-    /// where memory ran out, or the socket failed.
-    pub fn send(&self, alloc: Global, route: Route, target: &Target, frame: &[u8]) -> bool
-        requires { length frame.now ≤ 255 }
+    /// Sends a frame of at most 255 bytes by the route of its gateway, and says whether it was sent: not where its frequency or its data
+    /// rate is not of EU868, where memory ran out, or the socket failed.
+    pub fn send(&self, alloc: Global, to: RouteTo, target: &Target, frame: &[u8]) -> bool
+        requires gateway { to.gateway ≡ target.now.gateway }
+        requires fits { length frame.now ≤ 255 }
     {
+        let route = to.route;
         let count = self.sent.fetch_add(1, Ordering::SeqCst);
         let token = token_of(route.version, count);
         let Ok(message) = pull_resp(alloc, route.version, token, target, self.power, frame) else {

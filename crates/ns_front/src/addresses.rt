@@ -1,15 +1,32 @@
 //! The table of the gateways' addresses with how often it has changed, by which workers see that what they noted is still right.
 
-ghost use Rattle.std.specs.Prelude.{◌≡◌, ◌-◌, ◌^◌, ◌<◌, Some, None, OnOk, OnErr};
+ghost use Rattle.std.specs.Prelude.{◌≡◌, ◌-◌, ◌^◌, ◌<◌, Some, None, IfSome, OnOk, OnErr};
+ghost use Rattle.std.specs.Option.{option_map};
 ghost use Rattle.ns_front.specs.declared.noted.NotedPeers.{NotedPeers as NotedSoFar};
 ghost use Rattle.ns_front.specs.Peers.{known_peers, addr_of, after_hearing};
 ghost use Rattle.ns_front.specs.Noted.{IsNoted, IsRight, NotesOnly};
 
 use crate::noted::NotedPeers;
 use crate::peers::Peers;
-use ns_types::Target;
+use ns_types::{GatewayId, Target};
 use std::alloc::AllocError;
 use std::net::SocketAddr;
+
+/// Where a gateway was last heard, with its whole number. Only the look-up of that number makes one.
+#[derive(Clone, Copy)]
+pub struct PeerAddr {
+    gateway: GatewayId,
+    addr: SocketAddr,
+}
+
+impl PeerAddr {
+    /// The address.
+    pub fn addr(&self) -> SocketAddr
+        ensures { result ≡ self.now.addr }
+    {
+        self.addr
+    }
+}
 
 /// Where gateways were heard last, and how often an address changed or came.
 #[derive(Drop)]
@@ -34,10 +51,13 @@ impl Addresses {
     }
 
     /// Where the gateway of a downlink was last heard.
-    pub fn addr_for(&self, target: &Target) -> Option<SocketAddr>
-        ensures { result ≡ addr_of self.now.peers target.now.gateway.0 }
+    pub fn addr_for(&self, target: &Target) -> Option<PeerAddr>
+        ensures gateway { IfSome result (λ p. p.gateway ≡ target.now.gateway) }
+        ensures addr { option_map (λ p. p.addr) result ≡ addr_of self.now.peers target.now.gateway.0 }
     {
-        self.peers.addr(target.gateway.0)
+        let gateway = target.gateway;
+        let addr = self.peers.addr(gateway.0)?;
+        Some(PeerAddr { gateway, addr })
     }
 
     // The same without what a worker noted.

@@ -13,7 +13,7 @@ mod late;
 mod noted;
 mod peers;
 
-pub use addresses::Addresses;
+pub use addresses::{Addresses, PeerAddr};
 pub use front::{FrameName, Seen, front_of, read_seen};
 pub use late::Lates;
 pub use noted::NotedPeers;

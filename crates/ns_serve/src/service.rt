@@ -1,5 +1,5 @@
 //! A server from its start to what it settled.
-ghost use Rattle.std.specs.Prelude.{◌≡◌, ◌+◌, ◌≤◌, ◌<◌, All, vec_len, Err, IfOk, IfErr};
+ghost use Rattle.std.specs.Prelude.{◌≡◌, ◌+◌, ◌≤◌, ◌<◌, ◌⊎◌, All, vec_len, Err, IfOk, IfErr};
 ghost use Rattle.std.specs.Arc.{arc_value};
 ghost use Rattle.ns_types.specs.Identity.{shard_count};
 ghost use Rattle.ns_server.specs.Begun.{ArePlaced, states_at};
@@ -218,7 +218,9 @@ fn end_of<R: Log>(
     rt: &R,
     mut state: State,
     outcome: Result<u128, ServeFault>,
-) -> Result<u128, ServeFault> {
+) -> Result<u128, ServeFault>
+    ensures { (result ≡ outcome) ⊎ (result ≡ Err ServeFault.Io) }
+{
     let is_lost = has_failed(rt, state.record.take());
     drop(state);
     if is_lost {

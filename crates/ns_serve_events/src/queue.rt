@@ -1,5 +1,6 @@
 //! How tickets come to join workers.
-ghost use Rattle.std.specs.Prelude.{None};
+ghost use Rattle.std.specs.Prelude.{◌≤◌, ◌*◌, None, IfSome};
+ghost use Rattle.std.specs.Duration.{as_nanos};
 
 use ns_outside::{AskJob, JobSource, Next};
 use ns_serve_state::{State, now_ms};
@@ -8,6 +9,14 @@ use std::time::{Clock, Duration};
 
 // How long a join worker sleeps at most before it looks whether the server stops.
 const NAP_MS: u64 = 100;
+
+// How long a join worker sleeps whose next ticket is due in so many milliseconds, if there is one.
+fn nap_of(wait_ms: Option<u64>) -> Duration
+    ensures longest { as_nanos result ≤ 100_000_000 }
+    ensures due { IfSome wait_ms (λ ms. as_nanos result ≤ ms * 1_000_000) }
+{
+    Duration::from_millis(wait_ms.unwrap_or(NAP_MS).min(NAP_MS))
+}
 
 // The next ticket to be answered. It is waited for until the server stops, or no gateway worker is left and no ticket.
 fn next_ticket<R: Wait + Clock>(rt: &R, state: &State) -> Next<AskJob> {
@@ -21,10 +30,8 @@ fn next_ticket<R: Wait + Clock>(rt: &R, state: &State) -> Next<AskJob> {
         if let Some(job) = asks.take(now) {
             return Next::Job(job);
         }
-        let nap = asks.wait_ms(now).unwrap_or(NAP_MS).min(NAP_MS);
-        let (woken, _) = queue
-            .bell
-            .wait_timeout(rt, asks, Duration::from_millis(nap));
+        let nap = nap_of(asks.wait_ms(now));
+        let (woken, _) = queue.bell.wait_timeout(rt, asks, nap);
         asks = woken;
     }
     unreachable!()

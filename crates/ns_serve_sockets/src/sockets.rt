@@ -1,5 +1,6 @@
 //! Datagrams from gateways, and downlinks to them, by the socket of this server's own datagrams and by that of packet forwarders.
 ghost use Rattle.std.specs.Prelude.{◌≡◌, ◌≢◌, ◌<◌, ◌≤◌, ◌⊎◌, ◌↔◌, ℕ, None, IsTrue, IfSome, Some, take};
+ghost use Rattle.std.specs.Duration.{as_nanos};
 ghost use Rattle.ns_outside.specs.Datagrams.{FitsBuffer};
 ghost use Rattle.ns_front.specs.declared.front.Seen.{Seen};
 ghost use Rattle.ns_front.specs.Front.{seen_of, NamesFrame};
@@ -9,7 +10,7 @@ ghost use Rattle.ns_serve_sockets.specs.Front.{NotesAt, NotesNamed};
 use crate::pace::Pace;
 use ns_calls::Downlink;
 use ns_forwarder_socket::{Event, Pending};
-use ns_front::{NotedPeers, front_of, read_seen};
+use ns_front::{NotedPeers, PeerAddr, front_of, read_seen};
 use ns_link::write_down;
 use ns_log::{Log, error, warn};
 use ns_outside::{Datagrams, Downlinks, Received};
@@ -49,6 +50,13 @@ pub struct FromSocket<'a> {
     pace: Pace,
     // Where it counts them.
     place: usize,
+}
+
+// How long a worker waits after a receive that failed.
+fn failure_nap() -> Duration
+    ensures { as_nanos result ≡ 100_000_000 }
+{
+    Duration::from_millis(FAILURE_MS)
 }
 
 // What the clock tells, if it does.
@@ -196,7 +204,7 @@ impl<'a> FromSocket<'a> {
                 if let Some(count) = state.seldoms.receive.happened(now_ms(rt, state)) {
                     warn!(rt; "receiving from {} failed: {error}, {count} since the line before", self.senders());
                 }
-                thread::sleep(rt, Duration::from_millis(FAILURE_MS));
+                thread::sleep(rt, failure_nap());
                 Received::Idle
             }
             Without::Lost => {
@@ -403,19 +411,23 @@ fn send_now<R: Wait>(rt: &R, state: &State, downlink: &Downlink) -> bool {
 }
 
 // Sends a downlink as a datagram of this server's own, and says whether it was sent.
-fn send_own(socket: &UdpSocket, peer: SocketAddr, downlink: &Downlink) -> bool {
+fn send_own(socket: &UdpSocket, peer: PeerAddr, downlink: &Downlink) -> bool
+    requires { peer.gateway ≡ downlink.now.target.gateway }
+{
     let mut buf = [0u8; 61];
     let Ok(datagram) = write_down(&downlink.target, downlink.frame.as_slice(), &mut buf) else {
         return false;
     };
-    match socket.send_to(datagram, peer) {
+    match socket.send_to(datagram, peer.addr()) {
         Ok(n) => n == datagram.len(),
         Err(_) => false,
     }
 }
 
 // Where the gateway of a downlink was heard last.
-fn peer_of<R: Wait>(rt: &R, state: &State, target: &Target) -> Option<SocketAddr> {
+fn peer_of<R: Wait>(rt: &R, state: &State, target: &Target) -> Option<PeerAddr>
+    ensures { IfSome result (λ p. p.gateway ≡ target.now.gateway) }
+{
     let addresses = state.addresses.lock(rt);
     addresses.addr_for(target)
 }

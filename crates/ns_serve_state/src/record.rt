@@ -1,4 +1,6 @@
 //! The record of a server while its threads run: when it is written and looked after, and how it failed.
+ghost use Rattle.std.specs.Prelude.{◌≡◌};
+ghost use Rattle.std.specs.Duration.{as_nanos};
 
 use crate::state::State;
 use ns_log::{Log, error};
@@ -28,6 +30,13 @@ pub fn write_record<R: Wait>(rt: &R, state: &State) -> Result<(), Failed> {
     written
 }
 
+// How long it is waited from one write to the next.
+fn write_nap() -> Duration
+    ensures { as_nanos result ≡ 50_000_000 }
+{
+    Duration::from_millis(WRITE_MS)
+}
+
 /// Writes each line within 50 ms of when it was put down, whatever else the server does, until no gateway worker is left.
 pub fn write_in_time<R: Clock + Wait>(rt: &R, state: &State) {
     for _turn in rt.forever() {
@@ -35,7 +44,7 @@ pub fn write_in_time<R: Clock + Wait>(rt: &R, state: &State) {
         if write_record(rt, state).is_err() || is_last {
             return;
         }
-        thread::sleep(rt, Duration::from_millis(WRITE_MS));
+        thread::sleep(rt, write_nap());
     }
 }
 

@@ -1,11 +1,19 @@
 //! Gateway workers that rest while the others are enough.
 ghost use Rattle.std.specs.Prelude.{◌≡◌, true, ◌+◌, ◌<◌, ◌↔◌};
+ghost use Rattle.std.specs.Duration.{as_nanos};
 
 use std::sync::{Condvar, Mutex, Wait};
 use std::time::{Clock, Duration};
 
 // For how long a worker rests at most, so that the datagrams that come while all others are held up find room in the socket.
 const REST_MS: u64 = 5;
+
+// For how long a worker rests.
+fn longest_rest() -> Duration
+    ensures { as_nanos result ≡ 5_000_000 }
+{
+    Duration::from_millis(REST_MS)
+}
 
 // Whether one of so many workers may rest beside those that do: one at least does not.
 fn may_rest(resting: u64, workers: u64) -> bool
@@ -38,9 +46,7 @@ impl Resting {
             return;
         }
         *count += 1;
-        let (mut count, _) = self
-            .bell
-            .wait_timeout(rt, count, Duration::from_millis(REST_MS));
+        let (mut count, _) = self.bell.wait_timeout(rt, count, longest_rest());
         *count = count.saturating_sub(1);
     }
 

@@ -1,12 +1,13 @@
 //! What the closer does in a turn: windows are closed as they become due, and their lines written.
-ghost use Rattle.std.specs.Prelude.{◌≡◌, ◌≢◌, ◌+◌, ◌^◌, ◌<◌, ◌≤◌, ◌⊎◌, ◌↔◌, ◌++◌, List, All, Some, None, true, false, IsNone, IsTrue, IfOk, slice_get, vec_len};
+ghost use Rattle.std.specs.Prelude.{◌≡◌, ◌≢◌, ◌+◌, ◌-◌, ◌*◌, ◌^◌, ◌<◌, ◌≤◌, min, max, ◌⊎◌, ◌↔◌, ◌++◌, List, All, Some, None, true, false, IsNone, IsTrue, IfOk, slice_get, vec_len};
+ghost use Rattle.std.specs.Duration.{as_nanos};
 ghost use Rattle.ns_outside.specs.declared.receipt.Receipt.{Receipt as receipt};
 ghost use Rattle.ns_outside.specs.declared.job.CloseJob.{CloseJob as close_job};
 ghost use Rattle.ns_outside.specs.Notice.{call_replied};
 ghost use Rattle.ns_workers.specs.Closing.{AreAnswered, AreClosed, calls_made, closings};
 ghost use Rattle.ns_workers.specs.Counts.{RisesByReceipts};
 ghost use Rattle.ns_workers.specs.Lines.{AppendsLines, AppendsLinesFront};
-ghost use Rattle.ns_serve_workers.specs.Turns.{HasClosed, HasReceipts, IsTurn, IsTurnWith};
+ghost use Rattle.ns_serve_workers.specs.Turns.{AreWritten, HasClosed, HasReceipts, IsTurn, IsTurnWith};
 
 use crate::around::Around;
 use crate::workers::log_end;
@@ -67,6 +68,20 @@ fn has_come(due: u64, moment: Moment) -> bool
     due <= moment.at || moment.is_deaf
 }
 
+// How long the closer sleeps where a window is not due yet.
+fn nap_until(due: u64, now: u64) -> Duration
+    ensures { as_nanos result ≡ max (min (due - now) 100) 3 * 1_000_000 }
+{
+    Duration::from_millis(nap_ms(due, now).max(LEAST_NAP_MS))
+}
+
+// How long it waits for a window where none is open.
+fn longest_wait() -> Duration
+    ensures { as_nanos result ≡ 100_000_000 }
+{
+    Duration::from_millis(NAP_MS)
+}
+
 /// Waits for times.
 pub(crate) trait Watch<R> {
     // Waits a while for a time, and gives the moment then, if it has come.
@@ -79,8 +94,7 @@ impl<R: Clock> Watch<R> for State {
         if has_come(due, begun) {
             return Some(begun);
         }
-        let nap = nap_ms(due, begun.at).max(LEAST_NAP_MS);
-        thread::sleep(rt, Duration::from_millis(nap));
+        thread::sleep(rt, nap_until(due, begun.at));
         let now = Moment::now(rt, self);
         if has_come(due, now) { Some(now) } else { None }
     }
@@ -129,10 +143,7 @@ impl<'a> Closings<'a> {
         if let Some(first) = self.held.take() {
             return self.turn_with(rt, alloc, watch, first);
         }
-        match self
-            .receiver
-            .recv_timeout(rt, Duration::from_millis(NAP_MS))
-        {
+        match self.receiver.recv_timeout(rt, longest_wait()) {
             Ok(first) => self.turn_with(rt, alloc, watch, first),
             Err(RecvTimeoutError::Timeout) => Ok(Turn::Idle),
             Err(RecvTimeoutError::Disconnected) => Ok(Turn::End),
@@ -296,6 +307,7 @@ pub(crate) fn close_and_write<
     ensures sound { closer.new.held.failed ≡ false }
     ensures receipts { HasReceipts S.roster (M.has_heard around.now.monitor.now) (S.made pass.old) (S.made pass.new) }
     ensures closed { result ≡ None → vec_len jobs < 2 ^ 32 → HasClosed S.roster (M.has_heard around.now.monitor.now) jobs.items (S.made pass.old) (S.made pass.new) }
+    ensures written { result ≡ None → AreWritten around.now.state.now.uplinks W.taken closer.new.receipts.items }
 {
     let (rt, state) = (around.rt, around.state);
     let timer = SinceMoment::now(rt, state);

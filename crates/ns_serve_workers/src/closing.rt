@@ -1,5 +1,5 @@
 //! The closer, from its start to its end.
-ghost use Rattle.std.specs.Prelude.{◌≡◌, false};
+ghost use Rattle.std.specs.Prelude.{◌≡◌, false, Err, IfSome};
 ghost use Rattle.ns_tally.specs.Tally.{none_made};
 ghost use Rattle.ns_serve_workers.specs.Turns.{HasReceipts};
 
@@ -76,7 +76,9 @@ impl<
 fn go_on<S, R: Wait + Log, G, M, W: Sink>(
     around: &Around<'_, S, R, G, M, W>,
     fault: Option<ServeFault>,
-) -> Result<bool, ServeFault> {
+) -> Result<bool, ServeFault>
+    ensures { IfSome fault (λ f. result ≡ Err f) }
+{
     if let Some(fault) = fault {
         return Err(fault);
     }

@@ -2,7 +2,9 @@
 
 mod cases;
 mod counted;
+mod exchanges;
 mod parts;
+mod raised;
 mod resting;
 mod shared;
 mod sockets;

@@ -7,7 +7,9 @@ use crate::rows::{filled, joined};
 use crate::sockets::Message::{Last, Spaced, These};
 use crate::sockets::Turn::{Down, Heard, Lost, Unsent};
 use ns_forwarder::{Clock, ForwarderFault, Head, Outcome, read_message};
-use ns_forwarder_socket::{Event, Forwarders, Gateways, Pending, Route, Taken, outcome_name, take};
+use ns_forwarder_socket::{
+    Event, Forwarders, Gateways, Pending, Route, RouteTo, Taken, outcome_name, take,
+};
 use ns_types::{GatewayId, Target};
 use std::alloc::{AllocError, Global};
 use std::net::{IpAddr, Ipv4Addr, Net, SocketAddr, UdpSocket};
@@ -289,20 +291,44 @@ impl Exchange<'_> {
         }
     }
 
-    // Whether a downlink reaches the gateway by this route, with this head.
-    fn is_reached(&self, route: Route, head: [u8; 4]) -> bool {
-        self.forwarders.send(self.alloc, route, &TARGET, &[1]) && self.is_answered(head, DOWNLINK)
+    // Whether a downlink for a gateway is sent by its route, where it has one.
+    fn has_sent_down<R: Wait>(&self, rt: &R, target: &Target) -> bool {
+        match self.forwarders.route(rt, target.gateway) {
+            Some(route) => self.forwarders.send(self.alloc, route, target, &[1]),
+            None => false,
+        }
     }
 
-    // Whether no downlink is sent by this route outside the band, or to port 0.
-    fn is_unsent(&self, route: Route) -> bool {
-        let outside = Target { freq: 1, ..TARGET };
-        let nowhere = Route {
+    // Whether a downlink reaches the gateway of this number, with this head.
+    fn is_reached<R: Wait>(&self, rt: &R, gateway: GatewayId, head: [u8; 4]) -> bool {
+        self.has_sent_down(rt, &Target { gateway, ..TARGET }) && self.is_answered(head, DOWNLINK)
+    }
+
+    // A route to port 0.
+    fn nowhere(&self, gateway: GatewayId) -> Option<RouteTo>
+        ensures { IfSome result (λ r. r.gateway ≡ gateway) }
+    {
+        let mut known = Gateways::of(self.alloc, zero_keys()?, NonZeroUsize::new(1)?).ok()?;
+        let route = Route {
             addr: SocketAddr::new(self.server.ip(), 0),
             version: 2,
         };
-        !self.forwarders.send(self.alloc, route, &outside, &[1])
-            && !self.forwarders.send(self.alloc, nowhere, &TARGET, &[1])
+        known.ask(gateway, route).ok()?;
+        known.route_to(gateway)
+    }
+
+    // Whether no downlink is sent to port 0.
+    fn is_lost_nowhere(&self, target: &Target) -> bool {
+        match self.nowhere(target.gateway) {
+            Some(route) => !self.forwarders.send(self.alloc, route, target, &[1]),
+            None => false,
+        }
+    }
+
+    // Whether no downlink is sent to the gateway of this number outside the band, or to port 0.
+    fn is_unsent<R: Wait>(&self, rt: &R, gateway: GatewayId) -> bool {
+        let target = Target { gateway, ..TARGET };
+        !self.has_sent_down(rt, &Target { freq: 1, ..target }) && self.is_lost_nowhere(&target)
     }
 
     // Whether the counts are those of the whole exchange.
@@ -337,14 +363,8 @@ impl Exchange<'_> {
                     && self.is_acknowledged(ack)
             }
             Lost(gateway) => self.forwarders.route(rt, GatewayId(gateway)).is_none(),
-            Down(gateway, head) => match self.forwarders.route(rt, GatewayId(gateway)) {
-                Some(route) => self.is_reached(route, head),
-                None => false,
-            },
-            Unsent(gateway) => match self.forwarders.route(rt, GatewayId(gateway)) {
-                Some(route) => self.is_unsent(route),
-                None => false,
-            },
+            Down(gateway, head) => self.is_reached(rt, GatewayId(gateway), head),
+            Unsent(gateway) => self.is_unsent(rt, GatewayId(gateway)),
         }
     }
 

@@ -1,6 +1,8 @@
 //! What is tried on a state.
 
 use crate::served::counted::count_all;
+use crate::served::exchanges::are_over_in_time;
+use crate::served::raised::are_raised_alone;
 use crate::served::resting::some_rest;
 use crate::served::shared::{are_handed_on, is_sent_once, line_has_its_times};
 use crate::served::sockets::{are_late_for_a_while, is_waited_out, longest_leaves, own_socket};
@@ -32,6 +34,10 @@ enum Case {
     Failures,
     // The only gateway worker never rests, and of two one rests until it is woken; as its datagrams come, a worker rests or wakes another.
     Resting,
+    // Each event raises the count of its own kind, and no other.
+    Raised,
+    // Connecting to the join server and the exchange take 4 s together at most.
+    Exchanges,
     // The counts are logged by their names, all datagrams but those that were too many.
     Logged,
     // All devices that have joined are told, and no others, where none of the first 64 has; and each number under its name.
@@ -46,6 +52,8 @@ const CASES: &[Case] = &[
     Case::LongestDownlink,
     Case::Failures,
     Case::Resting,
+    Case::Raised,
+    Case::Exchanges,
     Case::Logged,
     Case::Told,
 ];
@@ -80,6 +88,8 @@ impl Case {
             Case::LongestDownlink => longest_leaves(rt, state),
             Case::Failures => is_waited_out(rt, state),
             Case::Resting => some_rest(rt, state),
+            Case::Raised => are_raised_alone(rt, state),
+            Case::Exchanges => are_over_in_time(rt, state),
             Case::Logged => {
                 count_all(state);
                 log_counts(rt, state);

@@ -32,8 +32,8 @@ pub fn accepted(eui: DevEui) -> Reply {
     }
 }
 
-// Refusals, and how often each comes, from 21 times on.
-const REFUSALS: &[(Refused, u32)] = &[
+/// Refusals in the order of their counts, and how often each comes, from 21 times on.
+pub const REFUSALS: &[(Refused, u32)] = &[
     (Refused::Link(LinkFault::Short), 21),
     (Refused::Link(LinkFault::Version), 22),
     (Refused::Link(LinkFault::Kind), 23),
@@ -48,8 +48,8 @@ const REFUSALS: &[(Refused, u32)] = &[
     (Refused::View(ViewFault::TooLong), 32),
 ];
 
-// Replies, and how often each comes: 42 windows and 18 tickets are open then.
-const REPLIES: &[(Reply, u32)] = &[
+/// Replies in the order of their counts, and how often each comes: 42 windows and 18 tickets are open then.
+pub const REPLIES: &[(Reply, u32)] = &[
     (Reply::Opened { window: WINDOW }, 40),
     (
         Reply::Copied {
@@ -128,6 +128,12 @@ fn count_others(counts: &Counts) {
     ];
     for (counter, n) in others.iter().zip(101..) {
         counter.store(n, Ordering::SeqCst);
+    }
+    for ms in [25, 26, 5001] {
+        counts.exchanges.add(ms);
+    }
+    for ms in [5, 6, 7, 8] {
+        counts.closings.add(ms);
     }
 }
 

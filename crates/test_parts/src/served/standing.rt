@@ -92,6 +92,13 @@ impl<'a, R: Wait + Net<Stream = TcpStream, Listener = TcpListener>> Net for Stan
     fn connect(&self, addr: SocketAddr) -> io::Result<TcpStream> {
         self.rt.connect(addr)
     }
+
+    // Connecting takes as long as it may.
+    fn connect_timeout(&self, addr: SocketAddr, timeout: Duration) -> io::Result<TcpStream> {
+        let us = u64::try_from(timeout.as_micros()).unwrap_or(u64::MAX);
+        self.us.fetch_add(us, Ordering::SeqCst);
+        self.rt.connect_timeout(addr, timeout)
+    }
 }
 
 impl<'a, R: Wait> Log for Standing<'a, R> {

@@ -89,8 +89,10 @@ const METRICS: &[&str] = &[
     "\nlorawan_entries_total{shard=\"2\"} 24\n",
     "\nlorawan_device_last_heard_age_seconds_bucket{le=\"90000\"} 0\n",
     "\nlorawan_device_last_heard_age_seconds_count 0\n",
-    "\nlorawan_join_server_answer_seconds_bucket{le=\"+Inf\"} 0\n",
-    "\nlorawan_acknowledgement_delay_seconds_sum 0.000\n",
+    "_seconds_bucket{le=\"0.005\"} 0\nlorawan_join_server_answer_seconds_bucket{le=\"0.025\"} 1\nlorawan_join_server_answer_seconds_bucket{le=\"0.1\"} 2\n",
+    "\nlorawan_join_server_answer_seconds_bucket{le=\"5.0\"} 2\nlorawan_join_server_answer_seconds_bucket{le=\"+Inf\"} 3\nlorawan_join_server_answer_seconds_sum 5.052\nlorawan_join_server_answer_seconds_count 3\n",
+    "\nlorawan_acknowledgement_delay_seconds_bucket{le=\"0.005\"} 1\nlorawan_acknowledgement_delay_seconds_bucket{le=\"0.025\"} 4\n",
+    "\nlorawan_acknowledgement_delay_seconds_sum 0.026\n",
 ];
 
 // Whether a text has each of these.
