@@ -307,7 +307,9 @@ def asked_of_status(text):
     if path not in ROUTES:
         return '404 Not Found'
     part = part_of(query.decode('latin-1')) if path == b'/devices' else ''
-    return ('head of ' if words[1] == b'HEAD' else '') + ROUTES[path] + part
+    tags = [it.partition(b':')[2].strip() for it in fields if it[:14].lower() == b'if-none-match:']
+    known = re.fullmatch(rb'(?:W/)?"([0-9]{1,19})"', tags[0]) if tags else None
+    return ('head of ' if words[1] == b'HEAD' else '') + ROUTES[path] + part + (' known %d' % int(known[1]) if known else '')
 
 
 # ---------------------------------------------------------------- the status
@@ -325,7 +327,7 @@ GATEWAY = ['airtimeMs', 'frames', 'gatewayId', 'heardMs', 'pullMs', 'refused', '
 def status_faults(lines):
     """How the texts of the status differ from FORMATS. The numbers are the reader's own, so only their form is looked at, and which are null."""
     end = lines.index(']}') + 1
-    gateway, metrics, head = lines[end + 1], lines[end + 2:-1], json.loads(lines[-1])
+    gateway, metrics, (same, head) = lines[end + 1], lines[end + 2:-1], json.loads('[%s]' % lines[-1])
     lists, faults = json.loads('\n'.join(lines[:end])), []
     silent, heard, absent = lists['devices']
     faults += ['devices'] * (list(lists) != ['nowMs', 'startMs', 'devices'] or any(tuple(row) != ROW for row in lists['devices']))
@@ -341,7 +343,8 @@ def status_faults(lines):
     fields = dict(re.findall(r'(\S+): ([^\r]*)\r\n', head))
     body = '404 Not Found\n'
     is_head = head.startswith('HTTP/1.1 404 Not Found\r\n') and head.endswith('\r\n\r\n') and fields.get('Content-Length') == str(len(body))
-    return faults + ['the head of a refusal'] * (not is_head)
+    is_same = same.startswith('HTTP/1.1 304 Not Modified\r\n') and same.endswith('\r\n\r\n') and '\r\nETag: W/"1764017000123456"\r\n' in same
+    return faults + ['the head of a refusal'] * (not is_head) + ['the head of a list that is the same'] * (not is_same or 'Content-Length' in same)
 
 
 # ---------------------------------------------------------------- the lines of the file

@@ -1,12 +1,15 @@
 """What an operator does with the Debian package, by docs/OPERATOR.md alone, in a machine that systemd has started: test_package.py has it run
 there. It writes `ok`, or what went wrong, to /result."""
 import glob
+import gzip
 import json
 import os
 import subprocess
 import sys
 import time
 import traceback
+import urllib.parse
+import urllib.request
 
 sys.path[:0] = ['/tools', '/tools/tests']
 from live import APP_KEY, JOIN_EUI, Forwarder, rxpk  # noqa: E402
@@ -86,6 +89,49 @@ def ups():
         return []
 
 
+def commands_of(first):
+    """The commands of OPERATOR's block, from this one on."""
+    with gzip.open('/usr/share/doc/lorawan-ns/OPERATOR.md.gz', 'rt', encoding='utf-8') as file:
+        lines = file.read().splitlines()
+    lines = lines[lines.index('    ' + first):]
+    return [line.strip() for line in lines[:next(place for place, line in enumerate(lines) if not line.startswith('    '))]]
+
+
+def got(address, **query):
+    with urllib.request.urlopen(address + ('?' + urllib.parse.urlencode(query) if query else ''), timeout=20) as answer:
+        return answer.read().decode()
+
+
+def answers(query):
+    """What Prometheus answers to a query: the values, by the labels that are not the job's."""
+    try:
+        rows = json.loads(got('http://127.0.0.1:9090/api/v1/query', query=query))['data']['result']
+    except OSError:
+        return None
+    return [row['value'][1] for row in rows]
+
+
+def watches():
+    """Prometheus as OPERATOR sets it up, where it is installed: it has the counts, and a rule that fires once the server is not there."""
+    assert got('http://127.0.0.1:9108/healthz') == 'ok\n'
+    if not os.path.exists('/usr/bin/prometheus'):
+        return
+    done('systemctl', 'start', 'prometheus')
+    for command in commands_of('cp /usr/share/doc/lorawan-ns/examples/monitoring/lorawan_ns.rules.yml /etc/prometheus/'):
+        done('bash', '-c', command)
+    wait_for(lambda: answers('up{job="lorawan_ns"}') == ['1'], 'the first scrape')
+    assert answers('lorawan_devices') == ['2'] and answers('lorawan_sessions') == ['2'], answers('{job="lorawan_ns"}')
+    wait_for(lambda: answers('lorawan_device_last_heard_age_seconds_bucket{le="3600"}') == ['2'], 'both devices')
+    rules = [rule for group in json.loads(got('http://127.0.0.1:9090/api/v1/rules'))['data']['groups'] for rule in group['rules']]
+    assert len(rules) >= 11, rules
+    wait_for(lambda: all(rule['health'] == 'ok' for group in json.loads(got('http://127.0.0.1:9090/api/v1/rules'))['data']['groups']
+                         for rule in group['rules']), 'each rule once')
+    done('systemctl', 'stop', 'lorawan_ns')
+    wait_for(lambda: answers('ALERTS{alertname="LorawanServerDown"}') == ['1'], 'the alert')
+    done('systemctl', 'start', 'lorawan_ns')
+    wait_for(lambda: answers('up{job="lorawan_ns"}') == ['1'], 'another scrape')
+
+
 def sends(network, device, counter):
     """A confirmed uplink, which is acknowledged and stands in the record."""
     network.heard(device.uplink(counter, 1, bytes([counter]), confirmed=True))
@@ -125,6 +171,7 @@ def scenario():
     network.join(second, 1)
     sends(network, second, 0)
 
+    watches()
     assert 'Failed with result' not in done('journalctl', '-u', 'lorawan_ns', '--no-pager'), done('journalctl', '--no-pager')
 
     # Uplinks are handed on.

@@ -70,8 +70,8 @@ def ended(child):
     return child.returncode, errors
 
 
-def wait_for(test, what):
-    end = time.monotonic() + LONGEST
+def wait_for(test, what, seconds=LONGEST):
+    end = time.monotonic() + seconds
     while not test():
         if time.monotonic() > end:
             raise AssertionError('waited in vain for ' + what)

@@ -16,7 +16,7 @@ class Check(Recorded):
     def check(self, roster, *words):
         """The status, and the last line of standard error."""
         before = self.state()
-        done = subprocess.run([PROGRAM, 'check', roster, *words], capture_output=True, text=True, timeout=LONGEST, check=False)
+        done = subprocess.run([PROGRAM, 'check', roster, *words], capture_output=True, text=True, timeout=120, check=False)
         self.assertEqual(done.stdout, '')
         if self.is_still:
             self.assertEqual(self.state(), before)
@@ -119,7 +119,7 @@ class Check(Recorded):
                 for device in devices:
                     gateway.heard(device.uplink(counter, 1, b'payload'))
                 counter += 1
-                over.wait(0.02)
+                over.wait(0.05)
         thread = threading.Thread(target=send, daemon=True)
         thread.start()
         try:

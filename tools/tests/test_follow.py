@@ -16,13 +16,19 @@ import unittest
 import urllib.parse
 import urllib.request
 
-from live import LONGEST, TOOLS, wait_for
+import live
+from live import TOOLS
 from test_serve_record import Recorded
 
 import follow
 
 KILLS = 100 if os.environ.get('LONG') else 6
 FOLLOW = os.path.join(TOOLS, 'follow.py')
+PATIENCE = 180      # seconds: a store that was killed reads its log first, which takes long on a busy machine
+
+
+def wait_for(test, what):
+    live.wait_for(test, what, PATIENCE)
 
 
 def up_line(number, device=13):
@@ -73,7 +79,7 @@ class Following(unittest.TestCase):
         for child in self.children:
             if child.poll() is None:
                 child.kill()
-            child.wait(LONGEST)
+            child.wait(PATIENCE)
             for pipe in filter(None, (child.stdout, child.stderr)):
                 pipe.close()
 
@@ -81,6 +87,17 @@ class Following(unittest.TestCase):
         child = subprocess.Popen(words, **more)
         self.children.append(child)
         return child
+
+    def run_server(self, words, where):
+        """A broker or a store, once it answers. One that ends before, since another took its port or its folder is locked still, is started
+        again."""
+        for _ in range(5):
+            child = self.run_child(words, stdout=subprocess.DEVNULL, stderr=subprocess.DEVNULL)
+            wait_for(lambda: child.poll() is not None or answers(where), words[0])
+            if child.poll() is None:
+                return child
+            time.sleep(1)
+        self.fail('%s ends with status %d' % (words[0], child.returncode))
 
     def follow(self, *words):
         with open(os.path.join(self.folder, 'log'), 'a', encoding='utf-8') as log:
@@ -94,7 +111,7 @@ class Following(unittest.TestCase):
 
     def kill(self, child, number=signal.SIGKILL):
         child.send_signal(number)
-        child.wait(LONGEST)
+        child.wait(PATIENCE)
 
 
 class ToProgram(Following):
@@ -267,7 +284,7 @@ class FromServer(Recorded):
 
         def begin():
             child = subprocess.Popen(words, stderr=subprocess.DEVNULL)
-            self.addCleanup(child.wait, LONGEST)
+            self.addCleanup(child.wait, PATIENCE)
             self.addCleanup(child.kill)
             return child
 
@@ -288,7 +305,7 @@ class FromServer(Recorded):
             time.sleep(random.random() / 5)
             self.kill(server)
             child.kill()
-            child.wait(LONGEST)
+            child.wait(PATIENCE)
             child = begin()
             server = self.life(roster, joins.where)
             gateway = self.gateway(0xa1, server)
@@ -339,7 +356,7 @@ class Subscriber(threading.Thread):
 
     def over(self):
         self.is_over = True
-        self.join(LONGEST)
+        self.join(PATIENCE)
 
 
 def free_port():
@@ -372,13 +389,12 @@ class ToBroker(Following):
         with open(self.configuration, 'w', encoding='ascii') as file:
             file.write('listener %d 127.0.0.1\nallow_anonymous %s\npersistence true\npersistence_location %s/\nmax_queued_messages 0\n'
                        'user root\n%s' % (self.where[1], 'false' if self.more else 'true', self.folder, self.more))
-        self.broker = self.run_child([MOSQUITTO, '-c', self.configuration], stdout=subprocess.DEVNULL, stderr=subprocess.DEVNULL)
-        wait_for(lambda: answers(self.where), 'the broker')
+        self.broker = self.run_server([MOSQUITTO, '-c', self.configuration], self.where)
 
     def subscribe(self, topic):
         subscriber = Subscriber(self.where, topic)
         self.addCleanup(subscriber.over)
-        self.assertTrue(subscriber.is_there.wait(LONGEST))
+        self.assertTrue(subscriber.is_there.wait(PATIENCE))
         return subscriber
 
     def mqtt(self, *words):
@@ -471,7 +487,7 @@ class ToBroker(Following):
 
 def get(where, target, **query):
     """The body of a GET."""
-    with urllib.request.urlopen('http://%s:%d%s?%s' % (*where, target, urllib.parse.urlencode(query)), timeout=LONGEST) as answer:
+    with urllib.request.urlopen('http://%s:%d%s?%s' % (*where, target, urllib.parse.urlencode(query)), timeout=PATIENCE) as answer:
         return answer.read().decode()
 
 
@@ -513,10 +529,8 @@ class ToStore(Following):
         self.words = ['--influx', 'http://127.0.0.1:%d/write?db=lorawan' % where[1]]
 
         def begin():
-            store = self.run_child(['influxd', '-config', os.path.join(self.folder, 'influxdb.conf')], stdout=subprocess.DEVNULL,
-                                   stderr=subprocess.DEVNULL)
-            wait_for(lambda: answers(where), 'influxdb')
-            urllib.request.urlopen('http://%s:%d/query' % where, data=b'q=CREATE DATABASE lorawan', timeout=LONGEST).close()
+            store = self.run_server(['influxd', '-config', os.path.join(self.folder, 'influxdb.conf')], where)
+            urllib.request.urlopen('http://%s:%d/query' % where, data=b'q=CREATE DATABASE lorawan', timeout=PATIENCE).close()
             return store
 
         def count():
@@ -534,10 +548,8 @@ class ToStore(Following):
         self.words = ['--influx', 'http://127.0.0.1:%d/write' % where[1]]
 
         def begin():
-            store = self.run_child(['victoria-metrics', '-httpListenAddr=127.0.0.1:%d' % where[1], '-storageDataPath=' + self.folder + '/vm',
-                                    '-retentionPeriod=1', '-search.latencyOffset=0s'], stdout=subprocess.DEVNULL, stderr=subprocess.DEVNULL)
-            wait_for(lambda: answers(where), 'victoria-metrics')
-            return store
+            return self.run_server(['victoria-metrics', '-httpListenAddr=127.0.0.1:%d' % where[1], '-storageDataPath=' + self.folder + '/vm',
+                                    '-retentionPeriod=1', '-search.latencyOffset=0s'], where)
 
         def count():
             try:

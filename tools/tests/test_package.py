@@ -1,5 +1,6 @@
 """`tools/package`: what is in the Debian package, that lintian finds no error, and that it is installed, upgraded and purged in a Debian of its
-own. CHROOT=FOLDER names one that debootstrap has made (with python3), of which a copy is used; without it debootstrap makes it, as root."""
+own. CHROOT=FOLDER names one that debootstrap has made (with python3 and prometheus), of which a copy is used; with LONG=1 debootstrap makes it,
+as root."""
 import functools
 import glob
 import gzip
@@ -156,7 +157,7 @@ class Chroots(Packages):
         if not os.environ.get('LONG'):
             self.skipTest('LONG=1 makes a Debian by debootstrap, CHROOT=FOLDER names one')
         if not os.path.exists(self.root):
-            done = ran(debootstrap, '--variant=minbase', '--include=systemd,python3', 'bookworm', self.root, MIRROR)
+            done = ran(debootstrap, '--variant=minbase', '--include=systemd,python3,prometheus', 'bookworm', self.root, MIRROR)
             if done.returncode:
                 shutil.rmtree(self.root, ignore_errors=True)
                 self.skipTest('the mirror is not reached: ' + done.stderr.strip()[-200:])

@@ -1,5 +1,6 @@
 """A join server that fails costs the ticket that was asked about, at most 4 s, and nothing else."""
 import socket
+import time
 import unittest
 from concurrent.futures import ThreadPoolExecutor
 
@@ -111,6 +112,22 @@ class FailingJoins(Served):
         self.assertGreater(third - second, LIMIT - SLACK)
         gateway.send(b'')
         self.assertEqual(server.lines()[-1], 'settled 6')
+
+    def test_nonces_that_begin_again(self):
+        """A new board under an old DevEUI, whose DevNonces begin again, comes back by itself, after as many tries as the old one had joins."""
+        joins = self.joins([13])
+        server = self.serve(self.roster([13]), joins.where, '--window', '20', '--stop-after', '8', level='debug')
+        gateway, old, new = self.gateway(0xa1, server), self.device(13), self.device(13)
+        for nonce in (1, 2, 3):
+            gateway.join(old, nonce)
+        time.sleep(2.5)     # before that the same Join-Request is a late copy
+        for nonce in (1, 2, 3):
+            gateway.heard(new.join_request(nonce))
+            server.log.wait('nonceold 000000000000000d gateway 00000000000000a1', nonce)
+        gateway.join(new, 4)
+        gateway.heard(new.uplink(0, 1, b'back'))
+        *ups, _ = server.lines()
+        self.assertEqual(ups, ['up 000000000000000d 4 0 1 plain - 6261636b 1 00000000000000a1'])
 
     def test_faults_that_last(self):
         """A join server that is silent, slow or not there, each beside the others."""

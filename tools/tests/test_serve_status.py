@@ -12,12 +12,13 @@ import subprocess
 import time
 import unittest
 
+from browser import CHROMIUM, Browser
 from json_schema import faults, schema
 from live import LONGEST, PROGRAM, TOOLS, Forwarder, rxpk, wait_for
 from serving import NOWHERE, Served
 
 MONITORING = os.path.join(TOOLS, 'monitoring')
-PROMTOOL, CHROMIUM = shutil.which('promtool'), shutil.which('chromium')
+PROMTOOL, CURL = shutil.which('promtool'), shutil.which('curl')
 
 EUIS = range(1, 9)
 WINDOW = ('--window', '20', '--status', '127.0.0.1:0')
@@ -94,6 +95,7 @@ class Told(Served):
         self.assertEqual([(row['devEui'], row['session'], row['heardMs']) for row in self.list_of('devices')['devices']],
                          [('%016x' % eui, None, None) for eui in EUIS])
         self.assertEqual(self.list_of('gateways')['gateways'], [])
+        self.assertEqual(self.metrics()['device_last_heard_age_seconds_count'], 0)
         self.network(server)
         devices, gateways, metrics = self.list_of('devices'), self.list_of('gateways'), self.metrics()
         self.assertLess(abs(devices['startMs'] / 1000 + 5 - before), 5)
@@ -110,7 +112,10 @@ class Told(Served):
         self.assertEqual((airtime(12), airtime(33)), (41216, 71936))
         self.assertEqual({row['gatewayId']: (row['sent'], row['airtimeMs']) for row in gateways['gateways']},
                          {'%016x' % 0xa1: (24, sum(airtime(size) for size in self.sizes) // 1000), '%016x' % 0xa2: (0, 0)})
-        self.assertEqual(metrics['heard_devices{within="1h"}'], 8)
+        ages = [metrics['device_last_heard_age_seconds_%s' % name] for name in (
+            'bucket{le="3600"}', 'bucket{le="21600"}', 'bucket{le="90000"}', 'bucket{le="604800"}', 'bucket{le="+Inf"}', 'count')]
+        self.assertEqual(ages, [8] * 6)
+        self.assertLessEqual(metrics['device_last_heard_age_seconds_sum'], 8 * devices['nowMs'] / 1000)
         self.assertEqual(metrics['join_server_answer_seconds_count'], 8)
         self.assertGreaterEqual(metrics['acknowledgement_delay_seconds_count'], 1)
         self.assertEqual(metrics['build_info{version="%s"}' % subprocess.run([PROGRAM, '--version'], capture_output=True, text=True).stdout.split()[1]], 1)
@@ -165,6 +170,38 @@ class Told(Served):
                 self.assertIn(b' %s ' % status, asker.recv(100))
         self.gateway(0xa1, server).send(b'')
         self.assertEqual(server.lines(), ['settled 0'])
+
+    @unittest.skipUnless(CURL, 'curl is not installed')
+    def test_tags(self):
+        """A program that keeps the tag of the list is sent it again only once it has changed, as curl does by its options."""
+        server, _ = self.told('--stop-after', '3')
+        tags, taken = (os.path.join(self.folder, name) for name in ('tags', 'taken'))
+
+        def fetch():
+            """The status, and whether a list came. curl keeps the tag of the last list that came."""
+            done = subprocess.run([CURL, '--silent', '--etag-save', tags, '--etag-compare', tags, '--output', taken, '--write-out',
+                                   '%{http_code} %{size_download}', 'http://%s:%d/devices' % self.where],
+                                  capture_output=True, text=True, timeout=LONGEST, check=True)
+            return tuple(int(word) for word in done.stdout.split())
+        status, size = fetch()
+        self.assertEqual((status, size), (200, os.path.getsize(taken)))
+        self.assertEqual([fetch(), fetch()], [(304, 0)] * 2)
+        near, device = self.gateway(0xa1, server), self.device(3)
+        near.join(device, 1)
+        self.assertEqual(fetch()[0], 200)
+        with open(taken, encoding='ascii') as file:
+            self.assertEqual([row['devEui'] for row in json.load(file)['devices'] if row['session']], ['%016x' % 3])
+        self.assertEqual(fetch(), (304, 0))
+        near.heard(device.uplink(0, 1, b'x', confirmed=True))
+        near.downlink()
+        self.assertEqual(fetch()[0], 200)
+        first, second = (self.asked('/devices', **{'If-None-Match': tag})[::2] for tag in ('"1"', '*'))
+        self.assertEqual((first[0], second[0]), (200, 200))
+        tag = self.asked('/devices?limit=1')[1]['ETag']
+        self.assertEqual(self.asked('/devices?limit=1', **{'If-None-Match': tag})[::2], (304, b''))
+        self.assertEqual(self.asked('/devices?limit=x', **{'If-None-Match': tag})[0], 400)
+        near.send(b'')
+        server.lines()
 
     def test_hosts(self):
         """Addresses, `localhost` and the name of an option are met; a page of another name is not, whatever it asks for (DNS rebinding)."""
@@ -229,15 +266,24 @@ class Told(Served):
         forwarder.pull()
         device = self.device(3)
         forwarder.push(rxpk(device.join_request(1), 1_000_000), rxpk(b'x', 1, stat=-1), rxpk(b'x', 1, freq=915.0))
+        # Each field of an item in turn.
+        left_out = [({'stat': -1}, 'F8, stat says that the CRC is wrong'), ({'stat': 0}, 'F9, stat says that there is no CRC'),
+                    ({'stat': '1'}, 'F7, stat is missing or wrong'), ({'freq': None}, 'F7, freq is missing or wrong'),
+                    ({'freq': 902.3}, 'F10, freq is not of EU868'), ({'modu': 'OFDM'}, 'F10, modu is not of EU868'),
+                    ({'modu': 1}, 'F7, modu is missing or wrong'), ({'datr': 'SF7BW500'}, 'F10, datr is not of EU868'),
+                    ({'datr': 7}, 'F7, datr is missing or wrong'), ({'rssi': '-95'}, 'F7, rssi is missing or wrong'),
+                    ({'lsnr': []}, 'F7, lsnr is missing or wrong'), ({'tmst': -1}, 'F7, tmst is missing or wrong'),
+                    ({'data': '?'}, 'F7, data or size is missing or wrong'), ({'size': 5}, 'F7, data or size is missing or wrong')]
+        forwarder.push(*(rxpk(b'x', 1, **changed) for changed, _ in left_out))
+        for changed, said in left_out:
+            server.log.wait('frame of gateway 00000000000000a1 refused: ' + said)
         downlink = forwarder.downlink(error='TOO_LATE')
         device.accept(base64.b64decode(downlink['data']))
-        server.log.wait('frame of gateway 00000000000000a1 refused: F8')
-        server.log.wait('frame of gateway 00000000000000a1 refused: F10, freq, modu or datr')
         wait_for(lambda: self.metrics()['forwarder_downlinks_total{outcome="TOO_LATE"}'] == 1, 'an outcome')
         metrics = self.metrics()
         self.assertEqual([metrics['forwarder_%s' % name] for name in (
             'messages_total{kind="push"}', 'messages_total{kind="pull"}', 'messages_total{kind="tx_ack"}', 'frames_total',
-            'refusals_total{fault="F8"}', 'refusals_total{fault="F10"}')], [2, 2, 1, 1, 1, 1])
+            'refusals_total{fault="F8"}', 'refusals_total{fault="F10"}')], [3, 2, 1, 1, 2, 4])
         rows = {row['gatewayId']: row for row in self.list_of('gateways')['gateways']}
         one, two = rows['%016x' % 0xa1], rows['%016x' % 0xa2]
         self.assertEqual((one['frames'], one['sent'], one['refused'], one['airtimeMs'], one['statMs']),
@@ -289,6 +335,20 @@ class Told(Served):
         self.assertEqual({*rows}, {'%016x' % number for number in (*EUIS, 0xa1, 0xa2)})
         self.assertIn('aria-sort="ascending"', done.stdout)
         self.assertNotIn('Content Security Policy', done.stderr)
+
+    @unittest.skipUnless(CHROMIUM, 'chromium is not installed (apt-get install chromium)')
+    def test_rebinding(self):
+        """A browser in which another's name has come to lead to the server (DNS rebinding) is given nothing under that name."""
+        server, _ = self.told('--status-host', 'ns.example')
+        browser = Browser('--host-resolver-rules=MAP *.example 127.0.0.1')
+        self.addCleanup(browser.over)
+        for name, shown in (('evil.example', '421 Misdirected Request'), ('ns.example', '"devEui"'), ('127.0.0.1', '"devEui"')):
+            browser.goes_to('http://%s:%d/devices' % (name, self.where[1]))
+            browser.waits_for('document.readyState === "complete" && location.hostname === "%s"' % name, name)
+            self.assertIn(shown, browser.of_page('document.body.innerText'))
+        browser.goes_to('http://evil.example:%d/' % self.where[1])
+        browser.waits_for('document.readyState === "complete" && location.hostname === "evil.example"', 'the refused page')
+        self.assertEqual(browser.of_page('fetch("/devices").then(answer => answer.status)'), 421)
 
     def test_silent_clients(self):
         """Those that send nothing or read nothing hold nobody up, also where there are many; and the server's end waits for none."""

@@ -35,7 +35,7 @@ pub record Handed : Type 0 where
   pub left_out : List ForwarderFault
 
 abbrev pub handed_view : code_handed.Handed → Handed
-handed_view h = record { datagrams = map (λ d. d.items) h.datagrams.items; left_out = h.left_out.items }
+handed_view h = record { datagrams = map (λ d. d.items) h.datagrams.items; left_out = map (λ l. l.fault) h.left_out.items }
 
 abbrev pub handed_from : Push → GatewayId → Clock → ℕ → Handed
 handed_from p gateway clock now = record { datagrams = map (λ h. up_datagram h.0 h.1) (heard_from p.items gateway clock now); left_out = p.left_out }

@@ -10,7 +10,7 @@ ghost use Rattle.ns_forwarder.specs.Held.{item_view, push_view};
 
 use crate::clock::Clock;
 use crate::push::read_push;
-use crate::{ForwarderFault, Push};
+use crate::{ForwarderFault, LeftOut, Push};
 use ns_types::GatewayId;
 use std::alloc::Global;
 
@@ -20,7 +20,7 @@ pub struct Handed {
     /// The datagrams of its frames, in the order of their items.
     pub datagrams: Vec<Vec<u8>>,
     /// Why each of the other items is left out (F7 to F10), in order.
-    pub left_out: Vec<ForwarderFault>,
+    pub left_out: Vec<LeftOut>,
 }
 
 impl Push {

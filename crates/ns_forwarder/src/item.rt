@@ -65,7 +65,7 @@ fn level_at(item: &Value, key: &str) -> Option<f64>
 }
 
 // The frequency in Hz: `freq`, in MHz.
-fn hertz_of(item: &Value) -> Option<u32>
+pub(crate) fn hertz_of(item: &Value) -> Option<u32>
     ensures { result ≡ hertz_of (view item.now) }
 {
     let megahertz = level_at(item, "freq")?;
@@ -73,7 +73,7 @@ fn hertz_of(item: &Value) -> Option<u32>
 }
 
 // A level at a key in tenths.
-fn tenths_at(item: &Value, key: &str) -> Option<i16>
+pub(crate) fn tenths_at(item: &Value, key: &str) -> Option<i16>
     ensures { result ≡ tenths_at key.now (view item.now) }
 {
     let level = level_at(item, key)?;
@@ -86,7 +86,7 @@ fn tenths_at(item: &Value, key: &str) -> Option<i16>
 }
 
 // Whether the CRC fits: `stat` is 1 where it does, -1 where it does not, and 0 where there was none.
-fn crc_of(item: &Value) -> Result<(), ForwarderFault>
+pub(crate) fn crc_of(item: &Value) -> Result<(), ForwarderFault>
     ensures { result ≡ crc_of (view item.now) }
 {
     let stat = item
@@ -122,7 +122,7 @@ fn lora_rate(name: &str) -> Option<u8>
 }
 
 // The data rate of `modu` and `datr`.
-fn rate_of(item: &Value) -> Result<u8, ForwarderFault>
+pub(crate) fn rate_of(item: &Value) -> Result<u8, ForwarderFault>
     ensures is { result ≡ rate_of (view item.now) }
     ensures most { IfOk result (λ dr. dr ≤ 7) }
 {
@@ -143,7 +143,7 @@ fn rate_of(item: &Value) -> Result<u8, ForwarderFault>
 }
 
 // The strength over the noise: `lsnr`, which FSK may leave out.
-fn snr_of(item: &Value, dr: u8) -> Option<i16>
+pub(crate) fn snr_of(item: &Value, dr: u8) -> Option<i16>
     ensures { result ≡ snr_of (view item.now) dr }
 {
     if dr == FSK_RATE && is_missing(item, "lsnr") {
@@ -181,7 +181,7 @@ fn frame_of(alloc: Global, item: &Value) -> Result<Vec<u8>, ForwarderFault>
 }
 
 // The gateway's counter: `tmst`, of 32 bits.
-fn counter_of(item: &Value) -> Option<u32>
+pub(crate) fn counter_of(item: &Value) -> Option<u32>
     ensures { result ≡ counter_of (view item.now) }
 {
     let counter = whole_at(item, "tmst")?;

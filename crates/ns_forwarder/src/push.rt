@@ -11,6 +11,7 @@ ghost use Rattle.ns_forwarder.specs.Handed.{AreOfBand};
 
 use crate::ForwarderFault;
 use crate::item::{Item, read_item};
+use crate::left_out::LeftOut;
 use ns_roster::field::value_of;
 use serde_json::Value;
 use std::alloc::Global;
@@ -24,7 +25,7 @@ pub struct Push {
     /// The frames that are handed on, in the order of their items.
     pub items: Vec<Item>,
     /// Why each of the other items is left out (F7 to F10), in order.
-    pub left_out: Vec<ForwarderFault>,
+    pub left_out: Vec<LeftOut>,
 }
 
 // The items of the list `rxpk`; none where there is no such list.
@@ -52,7 +53,7 @@ fn put(alloc: Global, push: &mut Push, value: &Value) -> Result<(), ForwarderFau
     match read_item(alloc, value) {
         Ok(item) => push.items.push(item)?,
         Err(ForwarderFault::NoMemory) => return Err(ForwarderFault::NoMemory),
-        Err(fault) => push.left_out.push(fault)?,
+        Err(fault) => push.left_out.push(LeftOut::of(value, fault))?,
     }
     Ok(())
 }

@@ -3,7 +3,7 @@
 ghost use Rattle.std.specs.Prelude.{◌≡◌, ◌≤◌, [], map, IfOk, IfSome, IfNone};
 ghost use Rattle.ns_forwarder_socket.specs.Pending.{waiting, IsGiven};
 
-use ns_forwarder::{ForwarderFault, Kind};
+use ns_forwarder::{Kind, LeftOut};
 use ns_types::GatewayId;
 use std::alloc::{AllocError, Global};
 
@@ -18,7 +18,7 @@ pub struct Heard {
     /// Whether it has the status of a gateway (`stat`).
     pub has_stat: bool,
     /// Why each of its items was left out that became no datagram (F7 to F10), in order.
-    pub left_out: Vec<ForwarderFault>,
+    pub left_out: Vec<LeftOut>,
 }
 
 /// One worker's room for a message, and the datagrams of its last one that wait to be given.

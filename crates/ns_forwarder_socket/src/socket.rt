@@ -73,8 +73,8 @@ fn has_stat(message: &[u8]) -> bool {
 fn heard_of(alloc: Global, head: &Head, has_stat: bool, taken: &Taken) -> Heard {
     let mut left_out = Vec::new(alloc);
     if let Taken::Handed(handed, _) = taken {
-        for fault in &handed.left_out {
-            let _ = left_out.push(*fault);
+        for item in &handed.left_out {
+            let _ = left_out.push(*item);
         }
     }
     Heard {
@@ -162,8 +162,8 @@ impl Forwarders {
     {
         match taken {
             Taken::Handed(handed, _) => {
-                for &fault in &handed.left_out {
-                    self.counts.refused(fault);
+                for item in &handed.left_out {
+                    self.counts.refused(item.fault);
                 }
                 pending.put(handed.datagrams);
                 match self.give(pending, buf) {

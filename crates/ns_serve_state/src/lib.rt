@@ -29,5 +29,5 @@ pub use record::{
     has_failed, log_failure, look_after_record, rest_record, write_in_time, write_record,
 };
 pub use state::State;
-pub use status::{AGES, BATCH, Status};
+pub use status::{Ages, BATCH, Status};
 pub use system::{Process, SystemFiles};

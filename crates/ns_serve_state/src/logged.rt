@@ -102,13 +102,13 @@ pub fn look_at_drops<R: Log + Clock>(rt: &R, state: &State, at_once: bool) {
     }
 }
 
-// Why an item of a message was left out, with the fields that may say so.
-fn fields_of(fault: ForwarderFault) -> &'static str {
+// What is wrong with the field for which an item of a message was left out.
+fn words_of(fault: ForwarderFault) -> &'static str {
     match fault {
-        ForwarderFault::BadCrc => "stat says that the CRC is wrong",
-        ForwarderFault::NoCrc => "stat says that there is no CRC",
-        ForwarderFault::Outside => "freq, modu or datr is not of EU868",
-        _ => "stat, freq, modu, datr, rssi, lsnr, data, size or tmst is missing or wrong",
+        ForwarderFault::BadCrc => "says that the CRC is wrong",
+        ForwarderFault::NoCrc => "says that there is no CRC",
+        ForwarderFault::Outside => "is not of EU868",
+        _ => "is missing or wrong",
     }
 }
 
@@ -116,9 +116,9 @@ fn fields_of(fault: ForwarderFault) -> &'static str {
 #[inline(never)]
 pub fn note_message<R: Log + Clock + Wait>(rt: &R, state: &State, heard: &Heard) {
     let gateway = heard.gateway.0;
-    for fault in &heard.left_out {
-        let fields = fields_of(*fault);
-        debug!(rt; "frame of gateway {gateway:016x} refused: {fault}, {fields}");
+    for item in &heard.left_out {
+        let (fault, field, words) = (item.fault, item.field, words_of(item.fault));
+        debug!(rt; "frame of gateway {gateway:016x} refused: {fault}, {field} {words}");
     }
     let Some(status) = &state.status else {
         return;

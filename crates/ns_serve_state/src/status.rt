@@ -17,14 +17,30 @@ use std::time::Clock;
 /// How many places of devices are looked at under the lock at once.
 pub const BATCH: usize = 64;
 
-/// Within which times devices that were heard are counted, in milliseconds, and their names. A device that sends once a day is heard within
-/// 25 hours.
-pub const AGES: [(u64, &str); 4] = [
-    (3_600_000, "1h"),
-    (21_600_000, "6h"),
-    (90_000_000, "25h"),
-    (604_800_000, "7d"),
+// The bounds of the histogram of ages, in milliseconds and as text in seconds: 1 h, 6 h, 25 h and 7 days. A device that sends once a day is
+// heard within 25 hours.
+const AGES: [(u64, &str); 4] = [
+    (3_600_000, "3600"),
+    (21_600_000, "21600"),
+    (90_000_000, "90000"),
+    (604_800_000, "604800"),
 ];
+
+/// How long ago devices were last heard, of those that were heard since the server began.
+#[derive(Clone, Copy)]
+pub struct Ages {
+    /// How many were heard within each bound, in seconds as text. The last bound is `+Inf`.
+    pub within: [(&'static str, u64); 5],
+    /// The ages summed, in milliseconds.
+    pub sum_ms: u64,
+}
+
+// The devices, and a number that differs after each change of them, in this run of the server and in any other.
+#[derive(Drop)]
+struct Listed {
+    devices: Devices,
+    version: u64,
+}
 
 /// What is known of devices and gateways, and where it is told.
 #[derive(Drop)]
@@ -34,7 +50,7 @@ pub struct Status {
     host: String,
     // When the server began, in milliseconds since 1970.
     start_ms: u64,
-    devices: Mutex<Devices>,
+    devices: Mutex<Listed>,
     gateways: Mutex<Gateways>,
 }
 
@@ -81,7 +97,11 @@ impl Status {
         let (Ok(since_1970), Ok(keys)) = (rt.since_1970(), keys(rt)) else {
             return Err(ServeFault::Io);
         };
-        let devices = Mutex::new(Devices::new(alloc, roster)?);
+        let devices = Mutex::new(Listed {
+            devices: Devices::new(alloc, roster)?,
+            // Changes are fewer than microseconds, so a later run begins above all versions of this one.
+            version: u64::try_from(since_1970.as_micros()).unwrap_or(u64::MAX),
+        });
         let gateways = Mutex::new(Gateways::new(alloc, keys)?);
         let mut name = String::new(alloc);
         if let Some(host) = host {
@@ -100,8 +120,9 @@ impl Status {
     pub fn note<R: Wait>(&self, rt: &R, receipt: &Receipt, now_ms: u64) {
         let entry = &receipt.entry;
         if let Some(news) = news_of(&entry.call, &entry.reply) {
-            let mut devices = self.devices.lock(rt);
-            devices.note(&news, now_ms);
+            let mut listed = self.devices.lock(rt);
+            listed.devices.note(&news, now_ms);
+            listed.version = listed.version.wrapping_add(1);
         }
         if let Some(gateway) = gateway_of(&entry.call) {
             self.note_sign(rt, gateway, Sign::Frame, now_ms);
@@ -117,8 +138,8 @@ impl Status {
     /// Notes what an entry of the record tells of a device.
     pub fn recall<R: Wait>(&self, rt: &R, call: &Call, reply: &Reply) {
         if let Some(news) = news_of(call, reply) {
-            let mut devices = self.devices.lock(rt);
-            devices.recall(&news);
+            let mut listed = self.devices.lock(rt);
+            listed.devices.recall(&news);
         }
     }
 
@@ -145,31 +166,50 @@ impl Status {
 
     /// How many devices there are.
     pub fn count_all<R: Wait>(&self, rt: &R) -> usize {
-        let devices = self.devices.lock(rt);
-        devices.len()
+        let listed = self.devices.lock(rt);
+        listed.devices.len()
+    }
+
+    /// The version of the list of devices: two lists of one version have the same rows.
+    pub fn version<R: Wait>(&self, rt: &R) -> u64 {
+        let listed = self.devices.lock(rt);
+        listed.version
     }
 
     /// How many devices there are, and how many of them have joined.
     pub fn count_devices<R: Wait>(&self, rt: &R) -> (usize, usize) {
-        let devices = self.devices.lock(rt);
-        (devices.len(), devices.joined())
+        let listed = self.devices.lock(rt);
+        (listed.devices.len(), listed.devices.joined())
     }
 
-    /// How many devices were heard within each of the times.
-    pub fn count_heard<R: Wait>(&self, rt: &R, now_ms: u64) -> [(&'static str, u64); 4] {
-        let mut counts = [("", 0); 4];
-        for (count, age) in counts.iter_mut().zip(AGES.iter()) {
-            let devices = self.devices.lock(rt);
-            let heard = devices.heard_since(now_ms.saturating_sub(age.0));
-            *count = (age.1, heard as u64);
+    // How many devices were heard since a moment.
+    fn count_heard<R: Wait>(&self, rt: &R, from_ms: u64) -> u64 {
+        let listed = self.devices.lock(rt);
+        listed.devices.heard_since(from_ms) as u64
+    }
+
+    /// How long ago the devices were last heard. The lock is let go of between the bounds, so that nobody waits for all of them. A device
+    /// that is heard meanwhile is counted within the later bounds, so no bound has fewer than the one before it.
+    pub fn ages<R: Wait>(&self, rt: &R, now_ms: u64) -> Ages {
+        let mut within = [("+Inf", 0); 5];
+        for (count, age) in within.iter_mut().zip(AGES.iter()) {
+            let heard = self.count_heard(rt, now_ms.saturating_sub(age.0));
+            *count = (age.1, heard);
         }
-        counts
+        if let Some(count) = within.last_mut() {
+            count.1 = self.count_heard(rt, 0);
+        }
+        let listed = self.devices.lock(rt);
+        Ages {
+            within,
+            sum_ms: listed.devices.sum_of_ages(now_ms),
+        }
     }
 
     /// The place of a device in the list, if it is of the roster.
     pub fn place<R: Wait>(&self, rt: &R, eui: DevEui) -> Option<usize> {
-        let devices = self.devices.lock(rt);
-        devices.place(eui)
+        let listed = self.devices.lock(rt);
+        listed.devices.place(eui)
     }
 
     /// How many gateways are known.
@@ -198,9 +238,9 @@ impl Status {
         batch: &mut Vec<(DevEui, Option<Device>)>,
     ) -> Result<(), AllocError> {
         batch.clear();
-        let devices = self.devices.lock(rt);
+        let listed = self.devices.lock(rt);
         for i in place..place.saturating_add(BATCH) {
-            match devices.at(i) {
+            match listed.devices.at(i) {
                 Some(row) if is_wanted(&row.1, since_ms) => batch.push(row)?,
                 _ => {}
             }

@@ -39,6 +39,15 @@ struct GatewayRows {
     now_ms: u64,
 }
 
+// What is written of a list before its rows: its name, its tag if it has one, the moment, and whether it is the head of the response alone.
+#[derive(Clone, Copy)]
+struct Front {
+    name: &'static str,
+    tag: Option<u64>,
+    now_ms: u64,
+    is_head: bool,
+}
+
 // The rows that follow the piece at hand.
 #[derive(Drop)]
 enum Rows {
@@ -58,7 +67,7 @@ pub(crate) struct Answer {
     is_first: bool,
 }
 
-// Puts a response of a head and a body, or the head alone.
+// Puts a response of a head and a body, or the head alone. It has no tag.
 fn put_response(
     text: &mut String,
     code: Code,
@@ -66,7 +75,7 @@ fn put_response(
     body: &str,
     is_head: bool,
 ) -> Result<(), AllocError> {
-    text.push_str(head_of(code, content, Some(body.len())).as_str())?;
+    text.push_str(head_of(code, content, Some(body.len()), None).as_str())?;
     if !is_head {
         text.push_str(body)?;
     }
@@ -153,10 +162,7 @@ impl Answer {
                 Ok(text) => Answer::whole(alloc, Content::Metrics, text.as_str(), is_head),
                 Err(_) => return Err(Code::NoMemory),
             },
-            Route::Devices => {
-                let rows = Rows::Devices(device_rows(rt, alloc, status, request.part)?);
-                Answer::list(alloc, status, rows, "devices", now_ms(rt, state), is_head)
-            }
+            Route::Devices => return Answer::devices(rt, alloc, state, status, request),
             Route::Gateways => {
                 let now_ms = now_ms(rt, state);
                 let Ok(all) = status.all_gateways(rt, alloc) else {
@@ -167,7 +173,13 @@ impl Answer {
                     from: 0,
                     now_ms,
                 });
-                Answer::list(alloc, status, rows, "gateways", now_ms, is_head)
+                let front = Front {
+                    name: "gateways",
+                    tag: None,
+                    now_ms,
+                    is_head,
+                };
+                Answer::list(alloc, status, rows, front)
             }
         };
         match answer {
@@ -188,21 +200,51 @@ impl Answer {
         Ok(Answer::of(text))
     }
 
+    // An answer with the devices, or without a body if the asker has the same rows already.
+    fn devices<R: Wait + Clock>(
+        rt: &R,
+        alloc: Global,
+        state: &State,
+        status: &Status,
+        request: Request,
+    ) -> Result<Answer, Code> {
+        // A change after this moment may be in the rows, but not in the tag, so the asker is told of it again.
+        let tag = Some(status.version(rt));
+        let rows = Rows::Devices(device_rows(rt, alloc, status, request.part)?);
+        let answer = if request.known == tag {
+            Answer::same(alloc, tag)
+        } else {
+            let front = Front {
+                name: "devices",
+                tag,
+                now_ms: now_ms(rt, state),
+                is_head: request.is_head,
+            };
+            Answer::list(alloc, status, rows, front)
+        };
+        answer.map_err(|_| Code::NoMemory)
+    }
+
+    // The answer that the list is the one of this tag.
+    fn same(alloc: Global, tag: Option<u64>) -> Result<Answer, AllocError> {
+        let mut text = String::with_capacity(alloc, 1024)?;
+        text.push_str(head_of(Code::NotModified, Content::Json, None, tag).as_str())?;
+        Ok(Answer::of(text))
+    }
+
     // An answer with a list.
     fn list(
         alloc: Global,
         status: &Status,
         rows: Rows,
-        name: &str,
-        now_ms: u64,
-        is_head: bool,
+        front: Front,
     ) -> Result<Answer, AllocError> {
         let mut text = String::with_capacity(alloc, 32_768)?;
-        text.push_str(head_of(Code::Found, Content::Json, None).as_str())?;
-        if is_head {
+        text.push_str(head_of(Code::Found, Content::Json, None, front.tag).as_str())?;
+        if front.is_head {
             return Ok(Answer::of(text));
         }
-        put_front(&mut text, name, now_ms, status.clock_start_ms())?;
+        put_front(&mut text, front.name, front.now_ms, status.clock_start_ms())?;
         let mut answer = Answer::of(text);
         answer.rows = rows;
         Ok(answer)

@@ -1,7 +1,7 @@
 //! The text of all counts.
 
 use ns_serve_parts::{Times as Counted, value};
-use ns_serve_state::{Process, State, Status, now_ms};
+use ns_serve_state::{Ages, Process, State, Status, now_ms};
 use ns_status::{
     Family, Gateway, Histogram, Kind, Lists, Times, Totals, VERSION, put_by_gateway, put_histogram,
     put_metrics, put_named, put_one, put_timed, put_timed_by_gateway,
@@ -131,14 +131,22 @@ fn put_times(text: &mut String, of: Histogram, counted: &Counted) -> Result<(), 
     put_histogram(text, of, times)
 }
 
-// Puts how many devices were heard within each time.
-fn put_heard(text: &mut String, heard: &[(&'static str, u64)]) -> Result<(), AllocError> {
-    let family = family(
-        "lorawan_heard_devices",
-        "Devices that were heard since the server began and within this time.",
-        Kind::Gauge,
-    );
-    put_named(text, family, "within", heard)
+const AGES: Histogram = Histogram {
+    name: "lorawan_device_last_heard_age_seconds",
+    bucket: "lorawan_device_last_heard_age_seconds_bucket",
+    sum: "lorawan_device_last_heard_age_seconds_sum",
+    count: "lorawan_device_last_heard_age_seconds_count",
+    help: "How long ago devices were last heard, of those that were heard since the server began.",
+};
+
+// Puts how long ago devices were last heard.
+fn put_ages(text: &mut String, ages: &Ages) -> Result<(), AllocError> {
+    let times = Times {
+        within: &ages.within,
+        sum_ms: ages.sum_ms,
+        count: ages.within.last().map_or(0, |last| last.1),
+    };
+    put_histogram(text, AGES, times)
 }
 
 // Puts what was counted of packet forwarders, where they are heard.
@@ -285,7 +293,7 @@ pub(crate) fn metrics_of<R: Wait + Clock>(
     let mut text = String::with_capacity(alloc, 16_384)?;
     put_process(&mut text, state.system.process())?;
     put_metrics(&mut text, &totals, lists)?;
-    put_heard(&mut text, &status.count_heard(rt, now_ms))?;
+    put_ages(&mut text, &status.ages(rt, now_ms))?;
     put_times(&mut text, EXCHANGES, &state.counts.exchanges)?;
     put_times(&mut text, CLOSINGS, &state.counts.closings)?;
     put_forwarders(&mut text, state)?;

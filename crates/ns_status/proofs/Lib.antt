@@ -1,3 +1,4 @@
+pub mod Ages
 pub mod MetricsLemmas
 pub mod Places
 pub mod StepLemmas

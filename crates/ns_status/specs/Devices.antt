@@ -1,5 +1,5 @@
 -- What is known of devices.
-use Rattle.std.specs.Prelude.{ℕ, ◌+◌, ◌-◌, ◌==◌, ◌^◌, ◌||◌, Bool, false, nat_lt, nat_le, min, max, List, position, Option, Some, None, option_map, if◌then◌else◌}
+use Rattle.std.specs.Prelude.{ℕ, ◌+◌, ◌-◌, ◌==◌, ◌^◌, ◌||◌, Bool, false, nat_lt, nat_le, min, max, List, [], ◌∷◌, position, Option, Some, None, option_map, if◌then◌else◌}
 use Rattle.std.specs.Map.{lookup, keys_of}
 use Rattle.std.specs.Option.{option_map_or}
 use Rattle.ns_types.specs.declared.identity.DevEui.{DevEui}
@@ -60,6 +60,19 @@ is_heard_since from d = heard_at_or_after from d.heard
 abbrev pub is_row_heard_since : ℕ → Option Device → Bool
 is_row_heard_since from None = false
 is_row_heard_since from (Some d) = is_heard_since from d
+
+-- how long ago a device was last heard, and the sum of that over all devices that were heard since the server began, in 64 bits
+abbrev pub since_heard : ℕ → Option HeardBy → ℕ
+since_heard now None = 0
+since_heard now (Some heard) = now - heard.at_ms
+
+abbrev pub age_of : ℕ → Option Device → ℕ
+age_of now None = 0
+age_of now (Some d) = since_heard now d.heard
+
+abbrev pub ages_with : ℕ → ℕ → List (DevEui × Option Device) → ℕ
+ages_with now sum [] = sum
+ages_with now sum (row ∷ rows) = ages_with now (min (sum + age_of now row.1) (2 ^ 64 - 1)) rows
 
 -- or its session began then
 abbrev pub began_at_or_after : ℕ → Option ℕ → Bool

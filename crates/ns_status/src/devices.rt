@@ -2,7 +2,7 @@
 
 ghost use Rattle.std.specs.Prelude.{◌≡◌, ◌==◌, IfOk, length, map, count_by, is_some, option_map, slice_get, if◌then◌else◌};
 ghost use Rattle.ns_types.specs.declared.identity.DevEui.{DevEui as dev_eui};
-ghost use Rattle.ns_status.specs.Devices.{fresh, renewed, with_frame, after_news, noted, recalled, recalled_row, eui_of, row_of, place_of, not_joined, missed, is_heard_since, is_row_heard_since, changed_since};
+ghost use Rattle.ns_status.specs.Devices.{fresh, renewed, with_frame, after_news, noted, recalled, recalled_row, eui_of, row_of, place_of, not_joined, missed, is_heard_since, is_row_heard_since, changed_since, age_of, ages_with};
 
 use crate::news::News;
 use indexmap::IndexMap;
@@ -240,6 +240,20 @@ impl Devices {
             .count()
     }
 
+    /// How long ago the devices were last heard, in milliseconds, summed over those that were heard since the server began.
+    #[tactic(auto, using(crate::proofs::Ages::ages_more))]
+    pub fn sum_of_ages(&self, now_ms: u64) -> u64
+        ensures { result ≡ ages_with now_ms 0 self.now }
+    {
+        let mut sum: u64 = 0;
+        for place in 0..self.len() {
+            if let Some((_, device)) = self.at(place) {
+                sum = sum.saturating_add(age_of(&device, now_ms));
+            }
+        }
+        sum
+    }
+
     /// The device at a place, and what is known of it where it has joined.
     pub fn at(&self, place: usize) -> Option<(DevEui, Option<Device>)>
         ensures { result ≡ slice_get self.now place }
@@ -263,5 +277,20 @@ fn is_row_heard(row: &Option<Device>, from_ms: u64) -> bool
     match row {
         Some(device) => device.is_heard_since(from_ms),
         None => false,
+    }
+}
+
+// How long ago a device was last heard, in milliseconds, or 0 if it was not heard since the server began.
+fn age_of(row: &Option<Device>, now_ms: u64) -> u64
+    ensures { result ≡ age_of now_ms row.now }
+{
+    match row {
+        Some(
+            Device {
+                heard: Some(heard),
+                ..
+            },
+        ) => now_ms.saturating_sub(heard.at_ms),
+        _ => 0,
     }
 }

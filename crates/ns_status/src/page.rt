@@ -55,8 +55,10 @@ a { color: inherit; }
 .hidden { position: absolute; width: 1px; height: 1px; overflow: hidden; clip-path: inset(50%); white-space: nowrap; }
 @media (max-width: 40rem) {
   body { padding: .6rem .7rem 2rem; }
-  th, td { padding: .3rem .3rem; }
-  th button { padding: .4rem .3rem; }
+  th, td { padding: .3rem .2rem; }
+  th button { padding: .4rem .2rem; }
+  td.id { font-size: .82em; }
+  #devices td:nth-child(2) { white-space: normal; min-width: 5.5rem; }
   #tiles { grid-template-columns: 1fr 1fr; }
   dl div { grid-template-columns: 1fr auto; }
   dd.why { grid-column: 1 / 3; font-size: .85rem; }
@@ -292,7 +294,7 @@ function showCounts(of) {
 }
 function showTiles(of) {
   const lost = of["lost_datagrams"] + of["dropped_datagrams"] + of["failed_receives"];
-  const tiles = [[of["heard_devices within=25h"], "of " + number(of["devices"]) + " devices heard within 25 h"], [of["gateways"], "gateways heard"],
+  const tiles = [[of["device_last_heard_age_seconds_bucket le=90000"], "of " + number(of["devices"]) + " devices heard within 25 h"], [of["gateways"], "gateways heard"],
     [of["replies reply=opened"], "new uplinks"], [of["datagrams"], "datagrams"], [of["open_windows"], "uplinks waiting for copies"],
     [of["open_tickets"], "joins waiting for the join server"], [lost, "datagrams lost", lost > 0]];
   at("tiles").replaceChildren(...tiles.map(([value, name, isBad]) => {
@@ -357,7 +359,7 @@ async function ask() {
     sinceMs = null;
     tell((e.name === "AbortError" ? "no answer within " + LIMIT / 1000 + " s" : "no answer: " + e.message) + (began ? "; what is shown is of " + clock(now) : ""), true);
   }
-  setTimeout(ask, Math.max(EVERY, 10 * (Date.now() - asked)));
+  setTimeout(ask, isGone ? EVERY : Math.max(EVERY, 10 * (Date.now() - asked)));
 }
 at("find").oninput = show;
 ask();

@@ -53,6 +53,8 @@ pub struct Request {
     pub is_head: bool,
     /// Which part of the list, by the query. None where a value of it is none that it can have.
     pub part: Option<Part>,
+    /// The tag of the list that the asker has, if it names one (If-None-Match).
+    pub known: Option<u64>,
 }
 
 /// Why a request is not met: with which status it is answered, or that nothing more comes.
@@ -247,8 +249,30 @@ fn part_of(target: &[u8]) -> Option<Part> {
     Some(part)
 }
 
+// The number of a tag as `head_of` writes it, or of a strong one.
+fn tag_of(value: &[u8]) -> Option<u64> {
+    let weak = value.strip_prefix(b"W/".as_slice());
+    let digits = weak
+        .unwrap_or(value)
+        .strip_prefix(b"\"".as_slice())?
+        .strip_suffix(b"\"".as_slice())?;
+    number_of(digits)
+}
+
+// The tag that the first header `If-None-Match` names. A list of several tags, or `*`, names none here: the answer is then whole.
+fn known_of(bytes: &[u8], headers: &[HeaderSpan]) -> Option<u64>
+    requires { All (IsHeaderWithin (length bytes.now)) headers.now }
+{
+    for header in headers {
+        if is_same_name(header.name.of(bytes), b"if-none-match") {
+            return tag_of(header.value.of(bytes));
+        }
+    }
+    None
+}
+
 /// What these bytes ask for of a server that has this name, once they have a whole head with at most 64 headers, and nothing before that.
-/// The part of a list is what its query says.
+/// The part of a list is what its query says, and the list that is known what `If-None-Match` says.
 pub fn request_in(bytes: &[u8], name: &[u8]) -> Result<Option<Request>, RequestFault>
     ensures whole { (head : RequestHead) (rest : List ℕ) → ReadsRequest bytes.now head rest → length head.fields ≤ 64
         → Asks name.now head result }
@@ -265,6 +289,7 @@ pub fn request_in(bytes: &[u8], name: &[u8]) -> Result<Option<Request>, RequestF
                 route,
                 is_head,
                 part: part_of(target),
+                known: known_of(bytes, &headers[..head.headers]),
             }))
         }
         Ok(Partial) => Ok(None),

@@ -2,20 +2,22 @@
 
 ghost use Rattle.std.specs.Prelude.{◌≡◌, ◌+◌, ◌≤◌, ◌++◌, length};
 ghost use Rattle.arrayvec.specs.ArrayString.{array_string_len};
-ghost use Rattle.ns_status.specs.Response.{status_words, media_type, length_text, head_text};
+ghost use Rattle.ns_status.specs.Response.{status_words, media_type, length_text, tag_text, head_text};
 
 use arrayvec::ArrayString;
 use itoa::Buffer;
 
 // The fields of each head, and the empty line behind them.
 const FIELDS: &str =
-    "\r\nAllow: GET, HEAD\r\nCache-Control: no-store\r\nX-Content-Type-Options: nosniff\r\nContent-Security-Policy: default-src 'none'; script-src 'sha256-9xcnh6u41bU0VC9IjiNqLPKS8s+pPmF0/vyiBZ3wpVo='; style-src 'sha256-iC89hB0PydlYUHrR7b/eUzpNa3oiXj9Ira8h5jUvNZE='; connect-src 'self'; base-uri 'none'; form-action 'none'; frame-ancestors 'none'\r\nConnection: close\r\n\r\n";
+    "\r\nAllow: GET, HEAD\r\nCache-Control: no-store\r\nX-Content-Type-Options: nosniff\r\nContent-Security-Policy: default-src 'none'; script-src 'sha256-nfpn4u/agwmbR7fIhNKE1Erb9EYMzXY01sq/KzJ40pQ='; style-src 'sha256-k2OWu7Q3zfUvLXHrBvFTF5s59RCB0x9oo1JwiZz4nUg='; connect-src 'self'; base-uri 'none'; form-action 'none'; frame-ancestors 'none'\r\nConnection: close\r\n\r\n";
 
 /// What a response says of a request.
 #[derive(Clone, Copy, PartialEq, Eq)]
 pub enum Status {
     /// 200
     Found,
+    /// 304
+    NotModified,
     /// 400
     Malformed,
     /// 404
@@ -51,6 +53,7 @@ impl Status {
     {
         match self {
             Status::Found => "200 OK",
+            Status::NotModified => "304 Not Modified",
             Status::Malformed => "400 Bad Request",
             Status::NotFound => "404 Not Found",
             Status::NoMethod => "405 Method Not Allowed",
@@ -88,12 +91,30 @@ fn put_length(head: &mut ArrayString<1024>, len: Option<usize>)
     }
 }
 
+// Puts the tag of a list, where it has one. It is weak, since two answers with the same rows differ in their moment (RFC 9110, 8.8.1).
+fn put_tag(head: &mut ArrayString<1024>, tag: Option<u64>)
+    requires { array_string_len head.old + 32 ≤ 1024 }
+    ensures bytes { head.new.bytes ≡ head.old.bytes ++ tag_text tag }
+    ensures len { array_string_len head.new ≤ array_string_len head.old + 32 }
+{
+    if let Some(tag) = tag {
+        head.push_str("\r\nETag: W/\"");
+        head.push_str(Buffer::new().format(tag));
+        head.push_str("\"");
+    }
+}
+
 /// The head of a response with a body of so many bytes, or with one that goes on to the end of the connection. The connection is closed
 /// behind it, it is not to be kept by anybody, and the page may ask this server alone, run no script and have no style but its own, which are
 /// named by their SHA-256, and stand in no other page.
 #[tactic(auto, unfolding(crate::specs::Response::fields_text))]
-pub fn head_of(status: Status, content: Content, len: Option<usize>) -> ArrayString<1024>
-    ensures { result.bytes ≡ head_text status content len }
+pub fn head_of(
+    status: Status,
+    content: Content,
+    len: Option<usize>,
+    tag: Option<u64>,
+) -> ArrayString<1024>
+    ensures { result.bytes ≡ head_text status content len tag }
 {
     let mut head = ArrayString::new();
     head.push_str("HTTP/1.1 ");
@@ -101,6 +122,7 @@ pub fn head_of(status: Status, content: Content, len: Option<usize>) -> ArrayStr
     head.push_str("\r\nContent-Type: ");
     head.push_str(content.media_type());
     put_length(&mut head, len);
+    put_tag(&mut head, tag);
     head.push_str(FIELDS);
     head
 }

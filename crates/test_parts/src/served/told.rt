@@ -53,6 +53,7 @@ fn answer<R: Net<Stream = TcpStream>>(rt: &R, alloc: Global, request: &str) -> O
 
 // Where the two devices that joined stand in the list, and what is told of the counts.
 const DEVICES: &[&str] = &[
+    "\r\nETag: W/\"1764017000123002\"\r\n",
     "\r\n\r\n{\"nowMs\":5000,\"startMs\":1764016995123,\"devices\":[\n{\"devAddr\":null,\"devEui\":\"0000000000000001\",\"fCnt\":null,\"gatewayId\":null,\"heardMs\":null,\"missed\":0,\"session\":null,\"sinceMs\":null},\n",
     ",\n{\"devAddr\":\"49be7df1\",\"devEui\":\"0000000000000046\",\"fCnt\":null,\"gatewayId\":null,\"heardMs\":null,\"missed\":0,\"session\":1,\"sinceMs\":4000},\n",
     ",\n{\"devAddr\":\"49be7df1\",\"devEui\":\"000000000000008c\",\"fCnt\":null,\"gatewayId\":null,\"heardMs\":null,\"missed\":0,\"session\":1,\"sinceMs\":4000},\n",
@@ -86,7 +87,8 @@ const METRICS: &[&str] = &[
     "\nlorawan_refusals_total{fault=\"V6\"} 32\n",
     "\nlorawan_replies_total{reply=\"again\"} 19\n",
     "\nlorawan_entries_total{shard=\"2\"} 24\n",
-    "\nlorawan_heard_devices{within=\"25h\"} 0\n",
+    "\nlorawan_device_last_heard_age_seconds_bucket{le=\"90000\"} 0\n",
+    "\nlorawan_device_last_heard_age_seconds_count 0\n",
     "\nlorawan_join_server_answer_seconds_bucket{le=\"+Inf\"} 0\n",
     "\nlorawan_acknowledgement_delay_seconds_sum 0.000\n",
 ];
@@ -123,6 +125,21 @@ fn are_parts_told<R: Net<Stream = TcpStream>>(rt: &R, alloc: Global) -> bool {
             "400 Bad Request",
         )
         && ends(rt, alloc, "GET /healthz HTTP/1.1\r\n\r\n", "ok\n")
+        && is_same_list_told(rt, alloc)
+}
+
+// Asks for the devices with the tag of the list, and with that of the list before. Whether the first answer has no body and the second does.
+fn is_same_list_told<R: Net<Stream = TcpStream>>(rt: &R, alloc: Global) -> bool {
+    let same = "GET /devices HTTP/1.1\r\nIf-None-Match: W/\"1764017000123002\"\r\n\r\n";
+    let before = "GET /devices?limit=0 HTTP/1.1\r\nIf-None-Match: W/\"1764017000123001\"\r\n\r\n";
+    match answer(rt, alloc, same) {
+        Some(text) => {
+            text.as_str().starts_with("HTTP/1.1 304 Not Modified\r\n")
+                && text.as_str().ends_with("\r\n\r\n")
+                && ends(rt, alloc, before, "\"devices\":[\n]}\n")
+        }
+        None => false,
+    }
 }
 
 // Asks for the devices and for the counts. Whether they are told.

@@ -25,6 +25,9 @@ pub fn request(stream: &mut Fuse, out: &mut String)
                 Some(part) => put_part(part, out),
                 None => put(out, " of no part"),
             }
+            if let Some(tag) = request.known {
+                let _ = write!(out, " known {tag}");
+            }
         }
         Err(RequestFault::Refused(status)) => put(out, status.words()),
         Err(RequestFault::Ended) => put(out, "ended"),
@@ -158,7 +161,8 @@ const LISTS: Lists<'static> = Lists {
     entries: &[16, 17],
 };
 
-/// Puts a list of three devices, the row of a gateway, the times on air of three downlinks of 12 bytes, metrics, and the head of a refusal.
+/// Puts a list of three devices, the row of a gateway, the times on air of three downlinks of 12 bytes, metrics, the head that says that a list
+/// is the same, and the head of a refusal.
 pub fn texts(alloc: Global, out: &mut String) {
     let _ = put_front(out, "devices", 61_000, 1_764_017_000_123);
     let _ = put_devices(alloc, out, true, &[(DevEui(13), Some(SILENT))]);
@@ -173,8 +177,14 @@ pub fn texts(alloc: Global, out: &mut String) {
     let (fast, slow, fsk) = (airtime_us(5, 12), airtime_us(0, 12), airtime_us(7, 12));
     let _ = write!(out, "\nairtime {fast} {slow} {fsk}\n");
     metrics(alloc, out);
-    let head = head_of(Status::NotFound, Content::Text, Some(14));
-    let _ = write!(out, "{:?}", head.as_str());
+    let same = head_of(
+        Status::NotModified,
+        Content::Json,
+        None,
+        Some(1_764_017_000_123_456),
+    );
+    let refused = head_of(Status::NotFound, Content::Text, Some(14), None);
+    let _ = write!(out, "{:?}, {:?}", same.as_str(), refused.as_str());
 }
 
 // Puts metrics.

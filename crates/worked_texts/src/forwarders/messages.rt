@@ -122,8 +122,8 @@ fn put_handed(alloc: Global, handed: &Handed, out: &mut String) {
         put(out, " ");
         put_hex(alloc, out, datagram.as_slice());
     }
-    for &fault in &handed.left_out {
-        put_fault(fault, out);
+    for item in &handed.left_out {
+        put_fault(item.fault, out);
     }
 }
 
