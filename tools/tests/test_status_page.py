@@ -58,6 +58,9 @@ class Stand(http.server.ThreadingHTTPServer):
         self.thread = threading.Thread(target=self.serve_forever, kwargs={'poll_interval': 0.05}, daemon=True)
         self.thread.start()
 
+    def handle_error(self, request, client_address):
+        """A page that asks no longer has closed its connection."""
+
     def over(self):
         self.shutdown()
         self.server_close()
