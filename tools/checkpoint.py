@@ -199,6 +199,91 @@ def read(text):
     return Checkpoint(ups, shards), reader.at
 
 
+# ---- the model's server
+
+def heard_by(heard):
+    return Heard(int(heard.gateway, 16), heard.moment, heard.freq, heard.dr, heard.rssi, heard.snr)
+
+
+def best_of(copies):
+    """The first of the copies with the greatest SNR, then RSSI."""
+    return max(reversed(copies), key=lambda heard: (heard.snr, heard.rssi))
+
+
+def session_table(session):
+    counter = session.greatest
+    turn = 0 if counter is None else session.rounds.get(counter, 1)
+    return Session(session.number, session.nwk, session.app, counter, turn, session.acks)
+
+
+def device_table(device):
+    tickets = [Ticket(ticket, len(copies), heard_by(best_of(copies))) for ticket, copies in device.tickets.items()]
+    return Device(device.eui, device.greatest, device.made + 1, [session_table(it) for it in device.live()], tickets)
+
+
+def window_table(window):
+    session, copies = window.session, [heard_by(it) for it in window.copies]
+    return Window(window.device.eui, session.number, window.counter, window.turn, session.nwk, session.app, window.frame.bytes, copies)
+
+
+def tables_of(server):
+    """What the sixteen shards of a server of the model answer from."""
+    shards = [Tables([], []) for _ in range(SHARDS)]
+    for device in server.roster.devices.values():
+        if device.made or device.tickets:
+            shards[device.eui % 16].devices.append(device_table(device))
+    for window in server.by_frame.values():
+        shards[window.device.eui % 16].windows.append(window_table(window))
+    return shards
+
+
+def heard_in_model(heard):
+    made = model.Heard.__new__(model.Heard)
+    for name in Heard._fields:
+        setattr(made, name, getattr(heard, name))
+    made.gateway = '%016x' % heard.gateway
+    return made
+
+
+def session_in_model(session):
+    made = model.Session(session.number, session.nwk, session.app)
+    made.greatest, made.acks = session.counter, session.ack
+    if session.round > 1:
+        made.rounds[session.counter] = session.round
+    return made
+
+
+def restore_device(device, table):
+    device.greatest, device.made = table.greatest, table.next - 1
+    sessions = [session_in_model(it) for it in table.sessions]
+    if sessions:
+        device.accepted = sessions[-1]
+        device.opened = sessions[0] if sessions[0].greatest is not None else None
+    for ticket in table.tickets:
+        device.tickets[ticket.ticket] = [heard_in_model(ticket.best)] * ticket.copies
+
+
+def restore_window(server, table):
+    device = server.roster.devices[table.eui]
+    session = next((it for it in device.live() if it.number == table.session), None)
+    if session is None:
+        session = model.Session(table.session, table.nwk, table.app)
+    copies = [heard_in_model(it) for it in table.copies]
+    server.open(device, session, table.fcnt, table.round, model.Data(table.frame), copies[0])
+    server.by_frame[table.frame].copies[:] = copies
+
+
+def server_of(roster, checkpoint):
+    """A server of the model that answers from the tables of a checkpoint. A ticket has its best copy in the place of all."""
+    server = model.Server(model.Roster(roster, True))
+    for tables in checkpoint.shards:
+        for table in tables.devices:
+            restore_device(server.roster.devices[table.eui], table)
+        for table in tables.windows:
+            restore_window(server, table)
+    return server
+
+
 def main():
     if len(sys.argv) != 2:
         sys.exit(__doc__)

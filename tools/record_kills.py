@@ -23,9 +23,9 @@ no device notices.
 
 Between two lives now and then a torn line is put behind `steps`, or bytes are cut off `up`, and for a while nobody listens. In the end
 each confirmed uplink has to be acknowledged, no number of an acknowledgement may come twice in a session, no device may have had to join
-again, `up` must have each acknowledged uplink and none twice, `replay` must say the file `up` again from `steps` byte for byte with no
-reply that changes nothing, and standard output must have told no line twice over all lives, and none that `up` has not. It prints what
-came of it, and ends with status 0 only where all is as it must be.
+again, and `up` must have each acknowledged uplink and none twice. `replay`, or after a checkpoint the independent model, must print the file
+`up` again from `steps` byte for byte, with no reply that changes nothing. Standard output must have no line twice over all lives, and none
+that `up` has not. It prints what came of it, and ends with status 0 only if all is as it must be.
 """
 import argparse
 import collections
@@ -41,6 +41,7 @@ import sys
 import tempfile
 import time
 
+import checkpoint
 from network.disks import Crashing, Folder, Small
 from network.nodes import CHANNELS, Copy, Down, Gateway, Node, app_key, roster
 from network.servers import Joins
@@ -152,7 +153,7 @@ class Trial:
     def grow(self):
         """Puts lines behind the steps on which nothing rests: joins of a device that takes no part, which failed."""
         heard = 'heard %s\n' % Copy(self.gateways[0], 0, 0, -900).datagram(CHANNELS[0], 0, self.silent_node.join_request()).hex()
-        ticket = self.replay([heard.encode()])[0].split()[1]
+        ticket = self.answers(heard.encode())[0].split()[1]
         pair = (heard + 'answer %s %s\n' % (ticket, 'x' * 100)).encode()
         with open(self.path('steps'), 'r+b') as file:
             length = file.seek(file.read().rfind(b'\n') + 1)
@@ -198,13 +199,13 @@ class Trial:
             with open(steps, 'ab') as file:
                 file.write(self.pick.choice((b'h', b'heard 0101', b'close 0000', b'answer ')))
         if self.pick.random() < 0.3 and os.path.exists(ups):
-            os.truncate(ups, max(self.base()[1], os.path.getsize(ups) - self.pick.randrange(400)))
+            os.truncate(ups, max(self.ups_before(), os.path.getsize(ups) - self.pick.randrange(400)))
 
-    def base(self):
-        """How many lines of `steps`, and bytes of `up`, are of a base, and where the lines behind its line begin."""
+    def ups_before(self):
+        """How many bytes of `up` were written before the checkpoint that the steps begin with."""
         with open(os.path.join(self.record, 'steps'), 'rb') as file:
-            found = re.match(rb'base ([0-9a-f]{16}) ([0-9a-f]{16})\n', file.readline())
-        return (int(found[1], 16), int(found[2], 16), found.end()) if found else (0, 0, 0)
+            found = re.match(rb'checkpoint 1 [0-9a-f]{16} ([0-9a-f]{16})\n', file.readline())
+        return int(found[1], 16) if found else 0
 
     def shorten(self):
         """Has the record compacted, by the command or by the next life."""
@@ -230,7 +231,7 @@ class Trial:
         if child.returncode == 0:
             self.seconds = time.monotonic() - begun
             self.compactions['whole'] += 1
-            self.compactions['lines'] += int(text.split()[-2]) - int(text.split()[-1])
+            self.compactions['lines'] += max(0, int(text.split()[-2]) - int(text.split()[-1]))
         elif self.options.full and child.returncode == 1 and 'record: ' in text:
             self.compactions['full'] += 1
             if self.files()[0] not in (before, before[:before.rfind(b'\n') + 1]):      # with the torn line or without
@@ -383,7 +384,7 @@ class Trial:
             if self.child:
                 self.child.kill()
                 self.child.wait()
-            self.kept = self.base(), *self.files()
+            self.kept = self.files()
             self.disk.close()
             self.joins.close()
             for gateway in self.gateways:
@@ -406,18 +407,27 @@ class Trial:
                 found.append(file.read())
         return found
 
-    def replay(self, lines):
-        done = subprocess.run([self.options.program, 'replay', self.roster], input=b''.join(lines), capture_output=True, check=True)
+    def answers(self, steps):
+        """What the program answers to steps of which none were compacted."""
+        done = subprocess.run([self.options.program, 'replay', self.roster], input=steps, capture_output=True, check=True)
         return done.stdout.decode().splitlines()
 
+    def answers_after(self, steps):
+        """What the model answers to steps after a checkpoint, how many bytes of `up` were before it, and the sessions that there were."""
+        with open(self.roster, 'rb') as file:
+            roster = file.read()
+        begun, size = checkpoint.read(steps)
+        server = checkpoint.server_of(roster, begun)
+        said = [line for step in steps[size:].splitlines() for line in server.line(step)]
+        return said, begun.ups, sum(device.next - 1 for tables in begun.shards for device in tables.devices)
+
     def check(self):
-        (before, earlier, begin), steps, up = self.kept
-        lines = steps[begin:].splitlines(True)
-        said = self.replay(lines)
-        ups = [line for line in said if line.startswith('up ')]
-        later = ups[sum(line.startswith('up ') for line in self.replay(lines[:before])):]
+        steps, up = self.kept
+        is_compacted = steps.startswith(b'checkpoint ')
+        said, earlier, sessions = self.answers_after(steps) if is_compacted else (self.answers(steps), 0, 0)
+        later = [line for line in said if line.startswith('up ')]
         if ''.join(line + '\n' for line in later).encode() != up[earlier:]:
-            self.fault('`up` is not what `replay` says of `steps`')
+            self.fault('`up` is not what the steps say')
         ups = up.decode().splitlines()
         for line in said:
             if line.split()[0] in WITHOUT_EFFECT:
@@ -438,7 +448,7 @@ class Trial:
                 self.fault('a line of standard output that the record has not')
         if twice or lost:
             self.faults['uplinks lost, or twice in `up`'] += twice + lost
-        sessions = sum(line.startswith('accepted ') for line in said)
+        sessions += sum(line.startswith('accepted ') for line in said)
         counts = self.compactions
         if self.options.compact:
             print('compactions %d lines less %d compactions killed %d compactions on a full disk %d while serving %d ended then %d' % (

@@ -1,4 +1,5 @@
-"""Records at random, compacted by the program: each can be, and the answers after it are those of the independent model."""
+"""Records at random, compacted by the program: each can be, and its checkpoint has the tables of the independent model, before and after
+later steps."""
 import os
 import random
 import subprocess
@@ -11,6 +12,7 @@ sys.path.insert(0, os.path.dirname(HERE))
 from check_worked_records import changes, recorded, ups_of
 from compare import Steps, roster_devices, roster_text
 from live import HAS_PROGRAM, PROGRAM
+import checkpoint
 import model
 
 SEEDS = 60
@@ -45,37 +47,44 @@ class Compactions(unittest.TestCase):
         return subprocess.run([PROGRAM, *words], input=text, capture_output=True, timeout=60)
 
     def compact(self, seed, folder):
-        """Compacts the record of a run, which then goes on. Gives how many later rounds the record had, and how many lines it has less."""
+        """Compacts the record of a run, lets the run go on, and compacts again. Gives how many later rounds the record had, and how many
+        lines it has less."""
         pick = random.Random(seed)
         devices = roster_devices(pick, True)
         text, net = roster_text(pick, devices, True, 0)
-        roster, record = os.path.join(folder, 'roster.json'), os.path.join(folder, str(seed))
+        self.roster, self.record = os.path.join(folder, 'roster.json'), os.path.join(folder, str(seed))
         run = Run(pick, devices, model.Server(model.Roster(text, True), model.STAGES, True), net)
         run.make(BEFORE)
-        os.mkdir(record)
-        done = [(line.rstrip(b'\r'), lines) for line, lines in zip(run.lines, run.printed) if changes(lines)]
-        self.write(roster, text)
-        self.write(os.path.join(record, 'steps'), b''.join(recorded(line) + b'\n' for line, _ in done))
-        self.write(os.path.join(record, 'up'), b''.join(up + b'\n' for _, lines in done for up in ups_of(lines)))
-        compacted = self.program('compact', roster, record)
-        self.assertEqual(compacted.returncode, 0, (seed, compacted.stderr))
+        os.mkdir(self.record)
+        self.write(self.roster, text)
+        done = self.append(run, 0)
+        fewer = len(done) - self.compacted(seed, run.server).count(b'\n')
         before = len(run.lines)
         run.make(AFTER)
-        with open(os.path.join(record, 'steps'), 'rb') as file:
+        self.append(run, before)
+        self.compacted(seed, run.server)
+        return sum(lines[0].startswith('again ') for _, lines in done), fewer
+
+    def append(self, run, first):
+        """Appends to the record what the model answered from this line of the run on. Gives the lines that change something."""
+        done = [(line.rstrip(b'\r'), lines) for line, lines in list(zip(run.lines, run.printed))[first:] if changes(lines)]
+        self.write(os.path.join(self.record, 'steps'), b''.join(recorded(line) + b'\n' for line, _ in done), 'ab')
+        self.write(os.path.join(self.record, 'up'), b''.join(up + b'\n' for _, lines in done for up in ups_of(lines)), 'ab')
+        return done
+
+    def compacted(self, seed, server):
+        """Compacts the record, whose checkpoint then has just the tables of the model's server."""
+        done = self.program('compact', self.roster, self.record)
+        self.assertEqual(done.returncode, 0, (seed, done.stderr))
+        with open(os.path.join(self.record, 'steps'), 'rb') as file:
             steps = file.read()
-        self.go_on(seed, roster, steps, run.lines[before:], run.printed[before:])
-        return sum(lines[0].startswith('again ') for _, lines in done), len(done) + 1 - steps.count(b'\n')
+        ups = os.path.getsize(os.path.join(self.record, 'up'))
+        self.assertEqual(steps, checkpoint.write(checkpoint.Checkpoint(ups, checkpoint.tables_of(server))), seed)
+        return steps
 
-    def write(self, path, content):
-        with open(path, 'wb') as file:
+    def write(self, path, content, how='wb'):
+        with open(path, how) as file:
             file.write(content)
-
-    def go_on(self, seed, roster, steps, lines, printed):
-        """Holds what the program answers to later lines behind the fewer ones to what the model answered behind all."""
-        said = self.program('replay', roster, text=steps + b''.join(line + b'\n' for line in lines))
-        self.assertEqual(said.returncode, 0, (seed, said.stderr))
-        wanted, got = [line for answer in printed for line in answer], said.stdout.decode().splitlines()
-        self.assertEqual(got[len(got) - len(wanted):], wanted, seed)
 
     @unittest.skipUnless(HAS_PROGRAM, 'no program')
     def test_random_records(self):

@@ -145,7 +145,7 @@ class Lives(Recorded):
         server.out.wait('up ')
         self.kill(server)
         steps = self.bytes_of(self.steps)
-        self.assertTrue(steps.startswith(b'base ') and len(steps) < 65536, steps[:200])
+        self.assertTrue(steps.startswith(b'checkpoint 1 ') and len(steps) < 65536, steps[:200])
         self.assertTrue(self.bytes_of(self.ups).startswith(ups))
         server = self.life(roster, NOWHERE)
         self.assertEqual(server.log.count('compacted'), 0)
