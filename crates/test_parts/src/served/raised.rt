@@ -20,7 +20,7 @@ const FIRST_REPLY: usize = 19;
 
 // An event that is no refusal and no reply.
 #[derive(Clone, Copy)]
-enum Happens {
+enum Happening {
     Dropped,
     Unanswered,
     Unsent,
@@ -28,11 +28,11 @@ enum Happens {
 }
 
 // Events, and the places of the counts that they raise.
-const HAPPENS: &[(Happens, usize)] = &[
-    (Happens::Dropped, 0),
-    (Happens::Unanswered, 3),
-    (Happens::Unsent, 4),
-    (Happens::Stale, 5),
+const HAPPENINGS: &[(Happening, usize)] = &[
+    (Happening::Dropped, 0),
+    (Happening::Unanswered, 3),
+    (Happening::Unsent, 4),
+    (Happening::Stale, 5),
 ];
 
 // All counts.
@@ -79,18 +79,18 @@ fn is_raised_alone(before: &[u64; COUNTS], state: &State, raised: usize) -> bool
 }
 
 // Whether an event raises just the count of a place.
-fn happens<R: Wait + Clock>(
+fn raises_its_count<R: Wait + Clock>(
     rt: &Standing<'_, R>,
     state: &State,
-    (what, place): (Happens, usize),
+    (what, place): (Happening, usize),
 ) -> bool {
     let before = all_of(state);
     let events = Events { state };
     match what {
-        Happens::Dropped => events.dropped(rt),
-        Happens::Unanswered => events.unanswered(rt, &TICKET, &JoinFault::NoConnection),
-        Happens::Unsent => events.unsent(rt, &downlink(Bytes::of(&[0x60; 12]))),
-        Happens::Stale => events.stale(rt, &TICKET),
+        Happening::Dropped => events.dropped(rt),
+        Happening::Unanswered => events.unanswered(rt, &TICKET, &JoinFault::NoConnection),
+        Happening::Unsent => events.unsent(rt, &downlink(Bytes::of(&[0x60; 12]))),
+        Happening::Stale => events.stale(rt, &TICKET),
     }
     is_raised_alone(&before, state, place)
 }
@@ -125,8 +125,8 @@ fn is_replied<R: Wait + Clock>(
 /// Whether each event raises the count of its own kind by one, and no other, and each of the 19 replies its shard's entries.
 pub fn are_raised_alone<R: Wait + Clock>(rt: &Standing<'_, R>, state: &State) -> bool {
     let mut are_so = true;
-    for &event in HAPPENS {
-        are_so = happens(rt, state, event) && are_so;
+    for &event in HAPPENINGS {
+        are_so = raises_its_count(rt, state, event) && are_so;
     }
     let mut place = FIRST_REFUSAL;
     for &(why, _) in REFUSALS {
