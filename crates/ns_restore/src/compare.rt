@@ -46,17 +46,19 @@ fn is_same(session: &Session, other: &Session) -> bool
 
 // Whether these are the same sessions, in one order.
 fn has_sessions(sessions: &[Session], others: &[Session]) -> bool
-    ensures { IsTrue result → sessions.now ≡ others.now }
+    ensures { IsTrue result → others.now ≡ sessions.now }
 {
-    if sessions.len() != others.len() {
-        return false;
-    }
-    for place in 0..sessions.len() {
-        if !is_same(&sessions[place], &others[place]) {
-            return false;
+    let (mut ours, mut rest) = (sessions, others);
+    'ours: while let Some((session, more)) = ours.split_first() {
+        match rest.split_first() {
+            Some((first, after)) if is_same(first, session) => {
+                ours = more;
+                rest = after;
+            }
+            _ => return false,
         }
     }
-    true
+    rest.is_empty()
 }
 
 // Whether a device has this table.

@@ -1,6 +1,9 @@
-use Rattle.std.proofs.Common.{◌≡◌, take}
+use Rattle.std.proofs.Common.{◌≡◌, length}
 use Rattle.ns_restore.proofs.compare.has_sessions.Given as goal
 
--- the first sessions are the same
-abbrev pub invariant-loop-place : goal.invariant-loop-place
-invariant-loop-place l = take l.place l.sessions ≡ take l.place l.others
+-- all sessions are the same if those that are left are
+abbrev pub invariant-ours : goal.invariant-ours
+invariant-ours l = l.rest ≡ l.ours → l.others ≡ l.sessions
+
+abbrev pub decreases-ours : goal.decreases-ours
+decreases-ours l = length l.ours
