@@ -1,13 +1,12 @@
 //! What a shard answers from, compared with tables.
 
-ghost use Rattle.std.specs.Prelude.{◌≡◌, IsTrue, option_map};
+ghost use Rattle.std.specs.Prelude.{◌≡◌, IsTrue, ◌↔◌, option_map};
 ghost use Rattle.ns_restore.specs.Tables.{table_of, tables_of, HasTables};
 
 use crate::table::is_told;
-use arrayvec::ArrayVec;
 use ns_checkpoint::{DeviceTable, Tables};
 use ns_devices::{Devices, Own};
-use ns_sessions::{DeviceState, MOST_SESSIONS, OpenTicket, Session};
+use ns_sessions::{DeviceState, OpenTicket, Session};
 use ns_shard::Shard;
 use ns_types::DevNonce;
 use ns_windows::{Window, Windows};
@@ -38,11 +37,28 @@ fn has_greatest(state: &DeviceState, greatest: Option<DevNonce>) -> bool
     }
 }
 
-// Whether a device has these live sessions.
-fn has_sessions(state: &DeviceState, sessions: &ArrayVec<Session, MOST_SESSIONS>) -> bool
-    ensures { IsTrue result → sessions.now.items ≡ state.now.sessions }
+// Whether these are the same session.
+fn is_same(session: &Session, other: &Session) -> bool
+    ensures { IsTrue result ↔ (session.now ≡ other.now) }
 {
-    state.sessions() == *sessions
+    *session == *other
+}
+
+// Whether these are the same sessions, in one order.
+fn has_sessions(sessions: &[Session], others: &[Session]) -> bool
+    ensures { IsTrue result → others.now ≡ sessions.now }
+{
+    let (mut ours, mut rest) = (sessions, others);
+    'ours: while let Some((session, more)) = ours.split_first() {
+        match rest.split_first() {
+            Some((first, after)) if is_same(first, session) => {
+                ours = more;
+                rest = after;
+            }
+            _ => return false,
+        }
+    }
+    rest.is_empty()
 }
 
 // Whether a device has this table.
@@ -53,7 +69,10 @@ fn has_table(own: &Own, table: &DeviceTable) -> bool
     if own.device.eui != table.eui || state.next_session() != table.next_session {
         return false;
     }
-    if !has_greatest(state, table.greatest) || !has_sessions(state, &table.sessions) {
+    let sessions = state.sessions();
+    if !has_greatest(state, table.greatest)
+        || !has_sessions(sessions.as_slice(), table.sessions.as_slice())
+    {
         return false;
     }
     are_same(state.tickets(), table.tickets.as_slice())

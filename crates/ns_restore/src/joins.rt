@@ -1,6 +1,6 @@
 //! Joins.
 
-ghost use Rattle.std.specs.Prelude.{OnOk};
+ghost use Rattle.std.specs.Prelude.{◌≤◌, length, OnOk};
 ghost use Rattle.ns_restore.specs.Tables.{AreOfOneShard};
 
 use crate::fault::RestoreFault;
@@ -64,17 +64,20 @@ pub(crate) fn join_to(
 }
 
 /// The number of tickets that were asked for before the last session began, with those before them.
-pub(crate) fn stale_tickets(table: &DeviceTable) -> usize {
+pub(crate) fn stale_tickets(table: &DeviceTable) -> usize
+    ensures { result ≤ length table.now.tickets.items }
+{
+    let tickets = table.tickets.as_slice();
     let Some(greatest) = table.greatest else {
         return 0;
     };
     let mut count = 0;
-    for (place, open) in table.tickets.iter().enumerate() {
+    for (place, open) in tickets.iter().enumerate() {
         if open.ticket.nonce().0 <= greatest.0 {
             count = place + 1;
         }
     }
-    count
+    count.min(tickets.len())
 }
 
 /// Asks for tickets, each with its best copy as often as it has copies.

@@ -104,16 +104,11 @@ impl Maker {
         }
     }
 
-    /// Hears an uplink again and closes its window, so many times.
-    pub(crate) fn repeat(&mut self, frame: &DataFrame, rounds: u32) -> Result<(), RestoreFault>
+    // What so many rounds leave, by a jump.
+    #[tactic(auto, using(crate::proofs::Stays::jump_stays))]
+    fn jump(&mut self, frame: &DataFrame, rounds: u32) -> Result<(), RestoreFault>
         ensures { OnOk result (AreOfOneShard self.new.shard self.old.shard) }
     {
-        if rounds as usize <= self.shard.entries().len() / ENTRIES_OF_A_ROUND {
-            'rounds: for _ in 0..rounds {
-                self.round(frame)?;
-            }
-            return Ok(());
-        }
         let call = Call::Uplink {
             frame: *frame,
             heard: HEARD,
@@ -122,6 +117,19 @@ impl Maker {
             return Err(RestoreFault::NoDevice);
         }
         self.shard.jump(self.alloc, frame, &HEARD, rounds)?;
+        Ok(())
+    }
+
+    /// Hears an uplink again and closes its window, so many times.
+    pub(crate) fn repeat(&mut self, frame: &DataFrame, rounds: u32) -> Result<(), RestoreFault>
+        ensures { OnOk result (AreOfOneShard self.new.shard self.old.shard) }
+    {
+        if rounds as usize > self.shard.entries().len() / ENTRIES_OF_A_ROUND {
+            return self.jump(frame, rounds);
+        }
+        'rounds: for _ in 0..rounds {
+            self.round(frame)?;
+        }
         Ok(())
     }
 }
