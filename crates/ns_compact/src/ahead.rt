@@ -128,13 +128,16 @@ impl Catching {
         head: &RecordHead,
         steps: &mut S,
     ) -> Result<u64, RecordFault> {
+        let Some(first) = head.first_number() else {
+            return Err(RecordFault::TooMany);
+        };
         let before = head.lines_before();
         let mut implied = 0u64;
         for place in 0..u64::MAX {
             if !self.read(steps)? {
                 return Ok(implied);
             }
-            let number = head.first_number().saturating_add(place);
+            let number = first.saturating_add(place);
             let made = self.rerun.run(number, self.line.as_slice())?;
             if made.goes_up && place >= before {
                 implied = implied.saturating_add(1);

@@ -5,24 +5,32 @@ ghost use Rattle.std.specs.Io.KnownBytes.{Appends};
 ghost use Rattle.ns_checkpoint.specs.Text.{checkpoint_text};
 ghost use Rattle.ns_checkpoint.specs.declared.tables.Checkpoint.{Checkpoint};
 
-use ns_checkpoint::{Checkpoint, write_checkpoint};
-use ns_restore::tables_of;
+use ns_checkpoint::{Checkpoint, Tables, write_checkpoint};
+use ns_restore::{RestoreFault, tables_of};
 use ns_resume::RecordFault;
 use ns_shard::Shard;
 use ns_types::SHARDS;
 use std::alloc::{AllocError, Global};
 use std::io::Write;
 
-// What these shards answer from, beside `up` lines of so many bytes.
-fn checkpoint_of(alloc: Global, shards: &[Shard], ups: u64) -> Result<Checkpoint, AllocError> {
-    let mut tables = Vec::with_capacity(alloc, usize::from(SHARDS))?;
-    'shards: for shard in shards {
-        tables.push(tables_of(alloc, shard)?)?;
+// What a shard answers from.
+fn tables(alloc: Global, shard: &Shard) -> Result<Tables, RecordFault> {
+    match tables_of(alloc, shard) {
+        Ok(tables) => Ok(tables),
+        Err(RestoreFault::NoMemory) => Err(RecordFault::NoMemory),
+        Err(fault) => Err(RecordFault::BadTables(shard.index(), fault)),
     }
-    Ok(Checkpoint {
-        ups,
-        shards: tables,
-    })
+}
+
+// What these shards answer from, beside `up` lines of so many bytes.
+fn checkpoint_of(alloc: Global, shards: &[Shard], ups: u64) -> Result<Checkpoint, RecordFault> {
+    let mut list = Vec::with_capacity(alloc, usize::from(SHARDS))?;
+    'shards: for shard in shards {
+        if let Err(refused) = list.push(tables(alloc, shard)?) {
+            return Err(AllocError::from(refused).into());
+        }
+    }
+    Ok(Checkpoint { ups, shards: list })
 }
 
 /// Writes the checkpoint of these sixteen shards, before which `up` lines of so many bytes were written. Returns the number of its lines.
