@@ -191,8 +191,7 @@ class Calls(unittest.TestCase):
                                   'alone::each_growth_of_a_run': 50})
 
     def test_calls_of_a_server_and_its_workers(self):
-        self.check('test_threads', {'kept_tests::each_growth_of_a_step': 1, 'kept_tests::each_growth_of_a_kept_trim': 1,
-                                    'alone_tests::each_growth_of_a_servers_calls': 10, 'alone_tests::each_growth_of_a_servers_trim': 20,
+        self.check('test_threads', {'alone_tests::each_growth_of_a_servers_calls': 10, 'alone_tests::each_growth_of_a_servers_trim': 20,
                                     'alone_tests::each_growth_of_a_new_server': 100, 'workers::alone::each_growth_of_workers': 50})
 
 

@@ -5,14 +5,12 @@ ghost use Rattle.std.specs.Arc.{arc_value};
 ghost use Rattle.ns_shard.specs.State.{no_entries};
 ghost use Rattle.ns_tally.specs.Tally.{AreNamed};
 
-use crate::alone_tests::{MOST, calls_alone, trim_alone};
 use crate::caller::{Caller, Trimmed};
 use crate::gate_tests::Visited;
-use crate::growth_tests::closed_without;
+use crate::growth_tests::{calls_refused, closed_without, trim_refused};
 use crate::series::DEVICE;
 use crate::trial::shared_roster;
 use ns_calls::{Call, Reply, shard_of_call};
-use ns_device::growths::was_refused;
 use ns_device::traffic::{closing, join, join_reply, uplink};
 use ns_outside::Receipt;
 use ns_roster::Roster;
@@ -98,10 +96,9 @@ impl<B: Naming> Caller for Alone<B> {
 #[derive(Clone, Copy)]
 enum Deed {
     Calls,
-    // Calls, or a trim, with the growth of this number refused.
-    CallsAlone(u32),
-    TrimAlone(u32),
+    Refused,
     Closings,
+    TrimRefused,
 }
 
 // The calls of a day: a join, its answer, a confirmed uplink that two gateways hear, its closing, and a closing too many.
@@ -167,9 +164,9 @@ fn done<B: Naming>(alloc: Global, roster: Arc<Roster>, blanks: Blanks, deed: Dee
     let mut alone = Alone::<B>::new(alloc, roster, blanks)?;
     let made = match deed {
         Deed::Calls => day(&mut alone)?,
-        Deed::CallsAlone(n) => calls_alone(alloc, &mut alone, n)?,
-        Deed::TrimAlone(n) => trim_alone(alloc, &mut alone, n)?,
+        Deed::Refused => calls_refused(alloc, &mut alone)?,
         Deed::Closings => closed_without(alloc, &mut alone)?,
+        Deed::TrimRefused => trim_refused(alloc, &mut alone)?,
     };
     (alone.made(13) == made && alone.kept.made() == made).then_some(made)
 }
@@ -190,33 +187,9 @@ fn steps_are_counted(rt: HostRuntime) {
     assert!(rt; made == 6, "{made}");
 }
 
-/// A step that is refused memory, each growth alone, leaves shard and pass as they were, and succeeds with memory.
-#[test]
-fn each_growth_of_a_step(rt: HostRuntime) {
-    for n in 1..MOST {
-        let made = made_by(rt.alloc(), Deed::CallsAlone(n));
-        assert!(rt; made == 6, "{n}: {made}");
-        if !was_refused(rt.alloc()) {
-            break;
-        }
-    }
-}
-
 /// Closings and join answers that find their window or ticket open take no memory.
 #[test]
 fn closing_steps_take_no_memory(rt: HostRuntime) {
     let made = made_by(rt.alloc(), Deed::Closings);
     assert!(rt; made >= 26, "{made}");
-}
-
-/// A trim that is refused memory, each growth alone, leaves windows and tickets open: the next one hands out the same entry.
-#[test]
-fn each_growth_of_a_kept_trim(rt: HostRuntime) {
-    for n in 1..MOST {
-        let made = made_by(rt.alloc(), Deed::TrimAlone(n));
-        assert!(rt; made == 26, "{n}: {made}");
-        if !was_refused(rt.alloc()) {
-            break;
-        }
-    }
 }
