@@ -105,7 +105,6 @@ impl Maker {
     }
 
     // What so many rounds leave, by a jump.
-    #[tactic(auto, using(crate::proofs::Stays::jump_stays))]
     fn jump(&mut self, frame: &DataFrame, rounds: u32) -> Result<(), RestoreFault>
         ensures { OnOk result (AreOfOneShard self.new.shard self.old.shard) }
     {
