@@ -105,18 +105,17 @@ impl Maker {
     }
 
     // What so many rounds leave, by a jump.
-    #[tactic(auto, using(crate::proofs::Stays::jump_stays))]
-    fn jump(&mut self, frame: &DataFrame, rounds: u32) -> Result<(), RestoreFault>
+    fn jump(&mut self, frame: &DataFrame, heard: &Heard, rounds: u32) -> Result<(), RestoreFault>
         ensures { OnOk result (AreOfOneShard self.new.shard self.old.shard) }
     {
         let call = Call::Uplink {
             frame: *frame,
-            heard: HEARD,
+            heard: *heard,
         };
         if shard_of_call(&call) != self.shard.index() {
             return Err(RestoreFault::NoDevice);
         }
-        self.shard.jump(self.alloc, frame, &HEARD, rounds)?;
+        self.shard.jump(self.alloc, frame, heard, rounds)?;
         Ok(())
     }
 
@@ -125,7 +124,7 @@ impl Maker {
         ensures { OnOk result (AreOfOneShard self.new.shard self.old.shard) }
     {
         if rounds as usize > self.shard.entries().len() / ENTRIES_OF_A_ROUND {
-            return self.jump(frame, rounds);
+            return self.jump(frame, &HEARD, rounds);
         }
         'rounds: for _ in 0..rounds {
             self.round(frame)?;
