@@ -15,9 +15,7 @@ use Rattle.ns_workers.specs.Answering.{Answers, IsOutcome}
 use Rattle.ns_workers.specs.Closing.{AreAnswered, calls_made, closings}
 use Rattle.ns_workers.specs.Counts.{RisesByReceipts}
 use Rattle.ns_workers.specs.Effects.{effects}
-use Rattle.ns_workers.specs.Lines.{AppendsLines}
 use Rattle.ns_workers.specs.Serving.{ServesAll}
-use Rattle.ns_serve_streams.specs.Output.{IsPut}
 use Rattle.ns_serve_workers.specs.declared.closer.Turn.{Turn}
 use Rattle.ns_serve_workers.specs.declared.closer.Turn.TheVariants.{Close, Idle, End}
 use Rattle.ns_serve_parts.specs.declared.options.ServeFault.{ServeFault}
@@ -42,13 +40,6 @@ pub record HasClosed (net : Network) (has_heard : Notice → Type 0) (jobs : Lis
   pub answered : AreAnswered net receipts
   pub told : All (λ r. has_heard (call_replied r)) receipts
   pub counted : RisesByReceipts old new receipts
-
--- the lines of these receipts, behind some others, were put to some output, whose writer has all that it was told
-pub record AreWritten {W : Type 0} (output : Output) (taken : W → Option (List ℕ)) (receipts : List Receipt) : Type 0 where
-  pub before : List ℕ
-  pub lines : List ℕ
-  pub appended : AppendsLines output (Some before) (Some lines) receipts
-  pub put : IsPut taken lines
 
 -- What a gateway worker did from its start to its end: what comes of the turns of some datagrams (nothing is said of those it was given).
 -- The counts of its pass are those of receipts of which the monitor was told, as it was of each refusal and of each call that was dropped.

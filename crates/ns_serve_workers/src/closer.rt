@@ -7,7 +7,7 @@ ghost use Rattle.ns_outside.specs.Notice.{call_replied};
 ghost use Rattle.ns_workers.specs.Closing.{AreAnswered, AreClosed, calls_made, closings};
 ghost use Rattle.ns_workers.specs.Counts.{RisesByReceipts};
 ghost use Rattle.ns_workers.specs.Lines.{AppendsLines, AppendsLinesFront};
-ghost use Rattle.ns_serve_workers.specs.Turns.{AreWritten, HasClosed, HasReceipts, IsTurn, IsTurnWith};
+ghost use Rattle.ns_serve_workers.specs.Turns.{HasClosed, HasReceipts, IsTurn, IsTurnWith};
 
 use crate::around::Around;
 use crate::workers::log_end;
@@ -307,7 +307,6 @@ pub(crate) fn close_and_write<
     ensures sound { closer.new.held.failed ≡ false }
     ensures receipts { HasReceipts S.roster (M.has_heard around.now.monitor.now) (S.made pass.old) (S.made pass.new) }
     ensures closed { result ≡ None → vec_len jobs < 2 ^ 32 → HasClosed S.roster (M.has_heard around.now.monitor.now) jobs.items (S.made pass.old) (S.made pass.new) }
-    ensures written { result ≡ None → AreWritten around.now.state.now.uplinks W.taken closer.new.receipts.items }
 {
     let (rt, state) = (around.rt, around.state);
     let timer = SinceMoment::now(rt, state);
