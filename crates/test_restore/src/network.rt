@@ -68,7 +68,7 @@ pub fn heard(random: &mut Random) -> Heard {
         freq: 868_100_000,
         dr: 5,
         rssi: -300,
-        snr: random.below(4) as i16,
+        snr: i16::from(random.below(4).to_le_bytes()[0]),
     }
 }
 

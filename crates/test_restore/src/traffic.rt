@@ -52,7 +52,7 @@ impl Traffic {
             ticket: ticket(
                 device,
                 greatest.wrapping_add(step),
-                self.random.below(2) as u8,
+                self.random.below(2).to_le_bytes()[0],
             ),
             heard: heard(&mut self.random),
         })
@@ -78,7 +78,7 @@ impl Traffic {
             None => step - 1,
         };
         let is_confirmed = self.random.percent(60);
-        let payload = self.random.below(200) as u8;
+        let payload = self.random.below(200).to_le_bytes()[0];
         let frame = frame(addr, session.nwk, counter, is_confirmed, payload)?;
         self.sent.push(frame).ok()?;
         Some(uplink(&mut self.random, frame))
@@ -88,7 +88,7 @@ impl Traffic {
     fn hear_again(&mut self) -> Option<Call> {
         let sent = self.sent.as_slice();
         let back = self.random.place(sent.len().min(12));
-        let frame = *sent.get(sent.len().checked_sub(back + 1)?)?;
+        let frame = *sent.get(sent.len().checked_sub(back.saturating_add(1))?)?;
         Some(uplink(&mut self.random, frame))
     }
 
