@@ -207,7 +207,7 @@ def heard_by(heard):
 
 def best_of(copies):
     """The first of the copies with the greatest SNR, then RSSI."""
-    return max(reversed(copies), key=lambda heard: (heard.snr, heard.rssi))
+    return max(copies, key=lambda heard: (heard.snr, heard.rssi))
 
 
 def session_table(session):
