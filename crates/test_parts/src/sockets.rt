@@ -1,6 +1,8 @@
 //! Messages as packet forwarders send them: what is known of their gateways, and two gateways over sockets, with the answers, the
 //! downlinks, and how often each thing is counted.
 
+ghost use Rattle.std.specs.Prelude.{◌≡◌, IfSome};
+
 use crate::keys::zero_keys;
 use crate::loopback::socket;
 use crate::rows::{filled, joined};
