@@ -48,17 +48,20 @@ class Judged(unittest.TestCase):
 
 
 class Run(unittest.TestCase):
-    """`.ci/run`, with other programs in the place of its two parts."""
+    """`.ci/run`, with other programs in the place of its parts."""
 
-    def ran(self, proved, status, tried, tried_status):
+    def ran(self, proved, tried, checked, fits=0):
+        """What the gate ends with: its status and its last line. Each part is what it prints last, and its status."""
         with tempfile.TemporaryDirectory() as folder:
             for name in ('.ci', 'tools', 'bin'):
                 os.mkdir(os.path.join(folder, name))
             shutil.copy(os.path.join(ROOT, '.ci', 'run'), os.path.join(folder, '.ci'))
-            for name, text, ends in (('bin/rt', proved, status), ('tools/wrong_bodies', tried, tried_status)):
+            for name, (text, ends) in (('bin/rt', proved), ('tools/wrong_bodies', tried), ('tools/check', checked)):
                 with open(os.path.join(folder, name), 'w', encoding='utf-8') as file:
                     file.write('#!/bin/sh\necho one\necho "%s"\nexit %d\n' % (text, ends))
                 os.chmod(file.name, 0o755)
+            with open(os.path.join(folder, 'tools', 'contract_index.py'), 'w', encoding='utf-8') as file:
+                file.write('raise SystemExit(%d)\n' % fits)
             path = os.path.join(folder, 'bin') + os.pathsep + os.environ['PATH']
             done = subprocess.run([os.path.join(folder, '.ci', 'run')], capture_output=True, text=True, env={**os.environ, 'PATH': path}, cwd='/')
             lines = done.stdout.splitlines()
@@ -66,14 +69,17 @@ class Run(unittest.TestCase):
             return done.returncode, lines[-1]
 
     def test_sums(self):
-        well, tried = '78 passed, 0 failed', '25 refused, 0 accepted'
-        self.assertEqual(self.ran(well, 0, tried, 0), (0, '103 passed, 0 failed'))
-        self.assertEqual(self.ran('77 passed, 1 failed', 1, tried, 0), (1, '102 passed, 1 failed'))
-        self.assertEqual(self.ran(well, 0, '24 refused, 1 accepted', 1), (1, '102 passed, 1 failed'))
-        # A part that breaks off is a failure, whatever it printed before.
-        self.assertEqual(self.ran('stopped', 2, tried, 0), (1, '25 passed, 1 failed'))
-        self.assertEqual(self.ran(well, 3, tried, 0), (1, '103 passed, 1 failed'))
-        self.assertEqual(self.ran(well, 0, 'stopped', 1), (1, '78 passed, 1 failed'))
+        well, tried, checked = ('78 passed, 0 failed', 0), ('25 refused, 0 accepted', 0), ('7 passed, 0 failed', 0)
+        self.assertEqual(self.ran(well, tried, checked), (0, '110 passed, 0 failed'))
+        self.assertEqual(self.ran(('77 passed, 1 failed', 1), tried, checked), (1, '109 passed, 1 failed'))
+        self.assertEqual(self.ran(well, ('24 refused, 1 accepted', 1), checked), (1, '109 passed, 1 failed'))
+        self.assertEqual(self.ran(well, tried, ('6 passed, 1 failed', 1)), (1, '109 passed, 1 failed'))
+        # A part that breaks off is a failure, whatever it printed before. So is a page that does not fit.
+        self.assertEqual(self.ran(('stopped', 2), tried, checked), (1, '32 passed, 1 failed'))
+        self.assertEqual(self.ran(('78 passed, 0 failed', 3), tried, checked), (1, '110 passed, 1 failed'))
+        self.assertEqual(self.ran(well, ('stopped', 1), checked), (1, '85 passed, 1 failed'))
+        self.assertEqual(self.ran(well, tried, ('stopped', 1)), (1, '103 passed, 1 failed'))
+        self.assertEqual(self.ran(well, tried, checked, fits=1), (1, '110 passed, 1 failed'))
 
 
 if __name__ == '__main__':
