@@ -106,12 +106,12 @@ fn is_compacted<R: Files<File = File> + AllocGlobal + Print>(rt: &R) -> io::Resu
     Ok(outcome.is_ok())
 }
 
-// What `compact` prints of these six lines, of which it leaves out the two copies.
+// What `compact` prints of these six lines: a checkpoint has a line for the device, one for each shard, the first and the last.
 #[test]
 fn lines_before_and_after(rt: HostRuntime) {
     let stand_in = StandIn::new(rt, b"");
     assert!(rt; matches!(is_compacted(&stand_in), Ok(true)));
-    assert!(rt; stand_in.has_printed("compacted 6 4\n"));
+    assert!(rt; stand_in.has_printed("compacted 6 19\n"));
 }
 
 // The roster with another slot, to which no address of the record belongs.
